@@ -1,0 +1,3 @@
+pub mod Mask
+pub mod Run
+pub mod State

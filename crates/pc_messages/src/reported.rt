@@ -1,0 +1,68 @@
+//! The state that a thread's messages report.
+
+ghost use Rattle.std.specs.Prelude.{◌≡◌, ◌+◌, ◌<◌, ◌^◌, List, [], ◌∷◌, ◌++◌};
+ghost use Rattle.pc_messages.specs.declared.kind.Kind.{Kind};
+ghost use Rattle.pc_messages.specs.State.{state_of, ran_given};
+
+use crate::kind::Kind;
+use crate::level::Level;
+use crate::mask::Mask;
+
+/// Whether a thread is ready to run or runs, waits, or is gone. No message tells that a thread was put on a CPU,
+/// so `Ready` covers both.
+#[derive(Clone, Copy, Debug, PartialEq, Eq)]
+pub enum Phase {
+    Ready,
+    Blocked,
+    Dead,
+}
+
+/// What the messages of a thread, in order, report of it. `ran` is in ticks.
+#[derive(Clone, Copy, Debug, PartialEq, Eq)]
+pub struct Reported {
+    pub phase: Phase,
+    pub mask: Mask,
+    pub ran: u64,
+    pub level: Level,
+}
+
+impl Reported {
+    /// The state after a first message; none where the kind is not that of a first message.
+    pub const fn first(kind: Kind) -> Option<Self>
+        ensures { result ≡ state_of (kind ∷ []) }
+    {
+        match kind {
+            Kind::Created { mask, ready } => Some(Reported {
+                phase: if ready { Phase::Ready } else { Phase::Blocked },
+                mask,
+                ran: 0,
+                level: Level::LOWEST,
+            }),
+            _ => None,
+        }
+    }
+
+    /// The state after one more message.
+    pub fn apply(&self, kind: Kind) -> Self
+        requires { self.now.ran + ran_given kind < 2 ^ 64 }
+        ensures folded { (kinds : List Kind) → state_of kinds ≡ Some self.now → state_of (kinds ++ kind ∷ []) ≡ Some result }
+        ensures ran { result.ran ≡ self.now.ran + ran_given kind }
+    {
+        let before = *self;
+        Reported {
+            phase: match kind.phase() {
+                Some(phase) => phase,
+                None => before.phase,
+            },
+            mask: match kind.mask() {
+                Some(mask) => mask,
+                None => before.mask,
+            },
+            ran: before.ran + kind.ran() as u64,
+            level: match kind.level() {
+                Some(level) => level,
+                None => before.level,
+            },
+        }
+    }
+}
