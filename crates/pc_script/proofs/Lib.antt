@@ -1,0 +1,4 @@
+pub mod Numerals
+pub mod Progress
+pub mod Readings
+pub mod Splits

@@ -1,0 +1,57 @@
+-- What a line asks for. A number is written in decimal, with neither a sign nor a zero in front.
+use Rattle.std.specs.Prelude.{◌≡◌, ℕ, ◌^◌, ◌<◌, Bool, true, false, List, [], ◌∷◌, map, Option, Some, None, ◌⊎◌, slice_get, codes, decimal}
+use Rattle.std.specs.Borrow.{Bor}
+use Rattle.pc_script.specs.Text.{words}
+use Rattle.pc_script.specs.declared.command.Command.{Command}
+use Rattle.pc_script.specs.declared.command.Command.TheVariants.{Enclave, Create, Wake, Publish, Status, Show}
+
+-- a thread is `t`, and its number
+abbrev pub thread_name : ℕ → List ℕ
+thread_name thread = 116 ∷ decimal thread
+
+-- how a new thread starts
+abbrev pub state_word : Bool → List ℕ
+state_word true = codes "ready"
+state_word false = codes "blocked"
+
+-- the words of a command
+abbrev pub command_words : Command → List (List ℕ)
+command_words (Enclave cpus threads numbers room posts) =
+    codes "enclave" ∷ decimal cpus ∷ decimal threads ∷ decimal numbers ∷ decimal room ∷ decimal posts ∷ []
+command_words (Create queue mask is_ready) =
+    codes "create" ∷ decimal queue ∷ decimal mask ∷ state_word is_ready ∷ []
+command_words (Wake thread) = codes "wake" ∷ thread_name thread ∷ []
+command_words (Publish cpu) = codes "publish" ∷ decimal cpu ∷ []
+command_words (Status thread) = codes "status" ∷ thread_name thread ∷ []
+command_words (Show cpu) = codes "show" ∷ decimal cpu ∷ []
+
+-- CPUs and queues are below 2 ^ 8, masks below 2 ^ 64, and all else is below 2 ^ 32
+abbrev pub HasNumbersInRange : Command → Type 0
+HasNumbersInRange (Enclave cpus threads numbers room posts) =
+    (cpus < 2 ^ 8) × (threads < 2 ^ 32) × (numbers < 2 ^ 32) × (room < 2 ^ 32) × (posts < 2 ^ 32)
+HasNumbersInRange (Create queue mask is_ready) = (queue < 2 ^ 8) × (mask < 2 ^ 64)
+HasNumbersInRange (Wake thread) = thread < 2 ^ 32
+HasNumbersInRange (Publish cpu) = cpu < 2 ^ 8
+HasNumbersInRange (Status thread) = thread < 2 ^ 32
+HasNumbersInRange (Show cpu) = cpu < 2 ^ 8
+
+-- these words are the command's
+abbrev pub Spells : List (List ℕ) → Command → Type 0
+Spells spelled command = HasNumbersInRange command × (spelled ≡ command_words command)
+
+-- a line without words, or whose first byte is `#`
+abbrev pub HasNoReply : List ℕ → Type 0
+HasNoReply line = (words line ≡ []) ⊎ (slice_get line 0 ≡ Some 35)
+
+-- the line should have a reply, but its words are no command's
+abbrev pub IsFault : List ℕ → Type 0
+IsFault line = (HasNoReply line → ⊥) × ((command : Command) → Spells (words line) command → ⊥)
+
+-- a command was read exactly where the words spell one
+abbrev pub IsReading : List (List ℕ) → Option Command → Type 0
+IsReading spelled None = (command : Command) → Spells spelled command → ⊥
+IsReading spelled (Some command) = Spells spelled command
+
+-- the words that references lend
+abbrev pub texts : List (Bor (List ℕ)) → List (List ℕ)
+texts lent = map (λ word. word.now) lent

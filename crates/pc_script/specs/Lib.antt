@@ -1,0 +1,6 @@
+pub mod Asked
+pub mod Left
+pub mod Replies
+pub mod Scripts
+pub mod Steps
+pub mod Text

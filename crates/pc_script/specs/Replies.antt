@@ -1,0 +1,127 @@
+-- The texts of replies.
+use Rattle.std.specs.Prelude.{ℕ, List, [], ◌∷◌, ◌++◌, Option, Some, None, flat_map, codes, decimal, ◌==◌, if◌then◌else◌}
+use Rattle.pc_script.specs.Asked.{thread_name}
+use Rattle.pc_script.specs.declared.reply.Limit.{Limit}
+use Rattle.pc_script.specs.declared.reply.Limit.TheVariants as limit
+use Rattle.pc_script.specs.declared.reply.Phase.{Phase}
+use Rattle.pc_script.specs.declared.reply.Phase.TheVariants as phase
+use Rattle.pc_script.specs.declared.reply.Posted.{Posted}
+use Rattle.pc_script.specs.declared.reply.Prefix.{Prefix}
+use Rattle.pc_script.specs.declared.reply.Refusal.{Refusal}
+use Rattle.pc_script.specs.declared.reply.Refusal.TheVariants as refusal
+use Rattle.pc_script.specs.declared.reply.Reply.{Reply}
+use Rattle.pc_script.specs.declared.reply.Reply.TheVariants as reply
+use Rattle.pc_script.specs.declared.reply.ShownThread.{ShownThread}
+use Rattle.pc_script.specs.declared.reply.Status.{Status}
+use Rattle.pc_script.specs.declared.reply.Subject.{Subject}
+use Rattle.pc_script.specs.declared.reply.Subject.TheVariants as subject
+
+-- a text, and a line feed
+abbrev pub text_line : List ℕ → List ℕ
+text_line text = text ++ 10 ∷ []
+
+-- a number, or `-`
+abbrev pub number_or_dash : Option ℕ → List ℕ
+number_or_dash None = codes "-"
+number_or_dash (Some number) = decimal number
+
+-- the names of limits
+abbrev pub limit_text : Limit → List ℕ
+limit_text limit.Cpus = codes "cpus"
+limit_text limit.Threads = codes "threads"
+limit_text limit.Numbers = codes "numbers"
+limit_text limit.Room = codes "room"
+limit_text limit.Posts = codes "posts"
+
+-- the names of refusals, and the argument of those that have one
+abbrev pub refusal_text : Refusal → List ℕ
+refusal_text refusal.NoEnclave = codes "NoEnclave"
+refusal_text refusal.HaveEnclave = codes "HaveEnclave"
+refusal_text (refusal.BadLimits limit) = codes "BadLimits " ++ limit_text limit
+refusal_text refusal.BadCpu = codes "BadCpu"
+refusal_text refusal.EmptyMask = codes "EmptyMask"
+refusal_text refusal.MaskTooWide = codes "MaskTooWide"
+refusal_text refusal.BadLevel = codes "BadLevel"
+refusal_text refusal.NamesSpent = codes "NamesSpent"
+refusal_text refusal.NumbersSpent = codes "NumbersSpent"
+refusal_text refusal.QueueFull = codes "QueueFull"
+refusal_text refusal.PostsSpent = codes "PostsSpent"
+refusal_text refusal.UnknownThread = codes "UnknownThread"
+refusal_text refusal.Dead = codes "Dead"
+refusal_text refusal.NotBlocked = codes "NotBlocked"
+refusal_text refusal.NotReady = codes "NotReady"
+refusal_text refusal.IdleCpu = codes "IdleCpu"
+refusal_text refusal.OnForbiddenCpu = codes "OnForbiddenCpu"
+refusal_text refusal.Forbidden = codes "Forbidden"
+refusal_text refusal.Busy = codes "Busy"
+refusal_text (refusal.Running cpu) = codes "Running " ++ decimal cpu
+refusal_text (refusal.NotYours queue) = codes "NotYours " ++ decimal queue
+refusal_text (refusal.Stale now) = codes "Stale " ++ decimal now
+refusal_text refusal.Pending = codes "Pending"
+refusal_text refusal.TooMany = codes "TooMany"
+refusal_text refusal.NoDelta = codes "NoDelta"
+refusal_text refusal.NothingReady = codes "NothingReady"
+refusal_text refusal.NothingToSteal = codes "NothingToSteal"
+refusal_text refusal.WireFault = codes "WireFault"
+
+-- the names of phases
+abbrev pub phase_text : Phase → List ℕ
+phase_text phase.Ready = codes "ready"
+phase_text phase.Blocked = codes "blocked"
+phase_text phase.Dead = codes "dead"
+
+-- whose item was posted, and its number: `tN nN`, or `-` for a tick
+abbrev pub subject_text : Subject → List ℕ
+subject_text (subject.Message thread number) = thread_name thread ++ (codes " n" ++ decimal number)
+subject_text subject.Tick = codes "-"
+
+-- `T nN qQ aA wake W`
+abbrev pub posted_text : Posted → List ℕ
+posted_text posted =
+    subject_text posted.subject
+    ++ (codes " q" ++ (decimal posted.queue ++ (codes " a" ++ (decimal posted.aseq ++ (codes " wake " ++ number_or_dash posted.woken)))))
+
+-- where a thread runs: ` cC`, or nothing
+abbrev pub running_text : Option ℕ → List ℕ
+running_text None = []
+running_text (Some cpu) = codes " c" ++ decimal cpu
+
+-- `T nN PHASE`, and where the thread runs
+abbrev pub status_text : Status → List ℕ
+status_text status =
+    thread_name status.thread
+    ++ (codes " n" ++ (decimal status.number ++ (codes " " ++ (phase_text status.phase ++ running_text status.running_on))))
+
+-- ` level L`, or nothing for the lowest level
+abbrev pub level_text : ℕ → List ℕ
+level_text level = if level == 0 then [] else codes " level " ++ decimal level
+
+-- `P PHASE mask M ran R`, and the level; `0 -` where the first message isn't known
+abbrev pub prefix_text : Option Prefix → List ℕ
+prefix_text None = codes "0 -"
+prefix_text (Some prefix) =
+    decimal prefix.upto
+    ++ (codes " " ++ (phase_text prefix.phase ++ (codes " mask " ++ (decimal prefix.mask ++ (codes " ran " ++ (decimal prefix.ran ++ level_text prefix.level))))))
+
+-- numbers with a space between them, or `-`
+abbrev pub numbers_text : List ℕ → List ℕ
+numbers_text [] = codes "-"
+numbers_text (first ∷ others) = decimal first ++ flat_map (λ number. 32 ∷ decimal number) others
+
+-- `T upto PREFIX early NUMBERS`
+abbrev pub shown_text : ShownThread → List ℕ
+shown_text shown =
+    thread_name shown.thread ++ (codes " upto " ++ (prefix_text shown.prefix ++ (codes " early " ++ numbers_text shown.early)))
+
+-- a line for each thread
+abbrev pub shown_lines : List ShownThread → List ℕ
+shown_lines threads = flat_map (λ shown. text_line (shown_text shown)) threads
+
+-- the text of a reply, without the line feed at its end
+abbrev pub reply_text : Reply → List ℕ
+reply_text reply.Done = codes "ok"
+reply_text (reply.Posted posted) = codes "ok " ++ posted_text posted
+reply_text (reply.Published delta items) = codes "ok d" ++ (decimal delta ++ (codes " items " ++ decimal items))
+reply_text (reply.Status status) = status_text status
+reply_text (reply.View threads) = shown_lines threads ++ codes "end"
+reply_text (reply.Refused refusal) = codes "refused " ++ refusal_text refusal

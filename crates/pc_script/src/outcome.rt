@@ -1,0 +1,29 @@
+//! How a script ends.
+
+use thiserror::Error;
+
+/// How a script that was read ended.
+#[derive(Clone, Copy, Debug, PartialEq, Eq)]
+pub enum Outcome {
+    /// Each line was answered or has no reply.
+    Finished,
+    /// The line with this number, counted from 1, isn't a command. Nothing after it was read.
+    FaultLine(u32),
+}
+
+/// Why a script did not end.
+#[derive(Clone, Copy, Debug, PartialEq, Eq, Error)]
+pub enum ScriptFault {
+    /// An allocation was refused. The replies of the whole lines so far were written.
+    #[error("out of memory")]
+    OutOfMemory,
+    /// A read failed. Nothing was written.
+    #[error("cannot read")]
+    Read,
+    /// The text has more than 16,777,216 bytes. Nothing was written.
+    #[error("the script is too long")]
+    TooLong,
+    /// A write failed.
+    #[error("cannot write")]
+    Write,
+}

@@ -1,0 +1,74 @@
+//! Running a script.
+
+ghost use Rattle.std.specs.Prelude.{◌≡◌, ◌≢◌, ◌⊎◌, ℕ, List, [], ◌<◌, ◌≤◌, length, IfOk, IfSome, OnOk};
+ghost use Rattle.std.specs.Io.KnownBytes.{Appends, Consumes};
+ghost use Rattle.pc_script.specs.Scripts.{IsOutput, IsOutputOfFirstLines, outcome_text};
+
+use crate::input::read_text;
+use crate::line::take_line;
+use crate::lines::lines_of;
+use crate::machine::Machine;
+use crate::outcome::{Outcome, ScriptFault};
+use std::alloc::Global;
+use std::io::{Read, Write};
+
+/// Writes that the line with this number is a fault.
+fn write_fault<W: Write>(number: u32, writer: &mut W) -> Result<Outcome, ScriptFault>
+    ensures ok { IfOk result (λ outcome. (outcome ≡ Outcome.FaultLine number)
+        × Appends (W.contents writer.old) (W.contents writer.new) (outcome_text (Outcome.FaultLine number))) }
+    ensures err { (result ≢ Err ScriptFault.OutOfMemory) × (result ≢ Err ScriptFault.Read) × (result ≢ Err ScriptFault.TooLong) }
+{
+    match writeln!(writer, "fault line {number}") {
+        Ok(()) => Ok(Outcome::FaultLine(number)),
+        Err(_) => Err(ScriptFault::Write),
+    }
+}
+
+/// Runs the lines of a text, up to the end or the first fault.
+fn run_lines<M: Machine, W: Write>(
+    alloc: Global,
+    text: &[u8],
+    machine: &mut M,
+    writer: &mut W,
+) -> Result<Outcome, ScriptFault>
+    requires short { length text.now ≤ 16777216 }
+    requires fresh { M.StandsAfter machine.old [] [] }
+    ensures ok { IfOk result (λ outcome. (output : List ℕ) × IsOutput M.IsRun text.now outcome output
+        × Appends (W.contents writer.old) (W.contents writer.new) output) }
+    ensures no_memory { result ≡ Err ScriptFault.OutOfMemory → (output : List ℕ) × IsOutputOfFirstLines M.IsRun text.now output
+        × Appends (W.contents writer.old) (W.contents writer.new) output }
+    ensures read_all { (result ≢ Err ScriptFault.Read) × (result ≢ Err ScriptFault.TooLong) }
+{
+    let mut number = 0u32;
+    for line in lines_of(text) {
+        number += 1;
+        if !take_line(alloc, line, machine, writer)? {
+            return write_fault(number, writer);
+        }
+    }
+    Ok(Outcome::Finished)
+}
+
+/// Reads a script, has the machine answer its commands one after another, and writes the replies.
+///
+/// The whole text is read first. Reading ends at the first read that fails (`Read`) or gives nothing, and no more
+/// than 16,777,217 bytes are read (`TooLong`); after either fault nothing was written. Replies are written line by
+/// line, so a writer without a buffer is slow; nothing is flushed. `Write` comes from the first write that fails.
+pub fn run_script<M: Machine, R: Read, W: Write>(
+    alloc: Global,
+    reader: &mut R,
+    writer: &mut W,
+) -> Result<Outcome, ScriptFault>
+    ensures ok { IfOk result (λ outcome. IfSome (R.remaining reader.old) (λ text. (output : List ℕ) × IsOutput M.IsRun text outcome output
+        × Appends (W.contents writer.old) (W.contents writer.new) output)) }
+    ensures no_memory { result ≡ Err ScriptFault.OutOfMemory → IfSome (R.remaining reader.old) (λ text. (output : List ℕ)
+        × IsOutputOfFirstLines M.IsRun text output × Appends (W.contents writer.old) (W.contents writer.new) output) }
+    ensures unread { (result ≡ Err ScriptFault.Read) ⊎ (result ≡ Err ScriptFault.TooLong) → writer.new ≡ writer.old }
+    ensures too_long { result ≡ Err ScriptFault.TooLong → IfSome (R.remaining reader.old) (λ text. 16777216 < length text) }
+    ensures short { OnOk result (IfSome (R.remaining reader.old) (λ text. length text ≤ 16777216)) }
+    ensures reads { (bytes : List ℕ) × (length bytes ≤ 16777217) × Consumes (R.remaining reader.old) (R.remaining reader.new) bytes }
+{
+    let mut machine = M::start(alloc);
+    let text = read_text(alloc, reader)?;
+    run_lines(alloc, text.as_slice(), &mut machine, writer)
+}
