@@ -1,0 +1,6 @@
+pub mod Apart
+pub mod Counts
+pub mod Joins
+pub mod Names
+pub mod Puts
+pub mod Walks

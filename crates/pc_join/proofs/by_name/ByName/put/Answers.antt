@@ -1,0 +1,34 @@
+use Rattle.std.proofs.Common.{subst, ◌<◌, ◌^◌, Some}
+use Rattle.std.proofs.lemmas.Bool.{false≢true}
+use Rattle.std.proofs.Common.{sym, ◌∙◌}
+use Rattle.std.specs.BTreeMap.{get}
+use Rattle.std.specs.Ordering.{nat_cmp}
+use Rattle.pc_join.specs.Sets.{IsVoid}
+use Rattle.pc_join.specs.ByName.{IsPut, IsWholeAt}
+use Rattle.pc_join.proofs.Puts.{OnOk_then, put_union, put_between, put_kept, put_short, put_of_source}
+use Rattle.pc_join.proofs.by_name.ByName.put.Goals as goal
+use Rattle.pc_join.proofs.by_name.ByName.put.Goals.{After-put_value}
+
+module _ (g : _) (c : After-put_value g) where
+  put : IsPut g.V.Join.known g.V.Join.is_of (get nat_cmp c.self.inside.values) c.args.name c.args.value (get nat_cmp c.put_value.new.values)
+  put = subst (λ k. IsPut g.V.Join.known g.V.Join.is_of (get nat_cmp c.self.inside.values) k c.args.value (get nat_cmp c.put_value.new.values)) c.index.ensures c.put_value.ensures.put
+
+  nonvoid : ¬ IsVoid (g.V.Join.known c.args.value)
+  nonvoid void = false≢true (sym c.if-is_empty.false ∙ c.is_empty.ensures.1 void)
+
+pub invariant_of-self : goal.invariant_of-self
+invariant_of-self g c = (
+  put_kept g.V.Join.known g.V.Join.is_of c.self.inside.values c.put_value.new.values c.args.self.now c.self.view_is c.args.name c.args.value (put g c) c.self.invariant.0 (nonvoid g c),
+  put_short g.V.Join.known g.V.Join.is_of c.self.inside.values c.put_value.new.values c.args.self.now c.self.view_is c.args.name c.args.value (put g c) c.self.invariant.1 (subst (λ k. k < 2 ^ 32) c.index.ensures c.index.type_inv),
+)
+
+pub returns-clause-union : goal.returns-clause-union
+returns-clause-union g c = OnOk_then c.put_value.result c.put_value.ensures.whole (λ w. put_union g.V.Join.known g.V.Join.is_of c.self.inside.values c.put_value.new.values c.args.self.now c.self.view_is c.args.name c.args.value (put g c)
+    (subst (λ k. IsWholeAt g.V.Join.known (get nat_cmp c.self.inside.values k) (Some c.args.value) (get nat_cmp c.put_value.new.values k)) c.index.ensures w))
+
+pub returns-clause-between : goal.returns-clause-between
+returns-clause-between g c = put_between g.V.Join.known g.V.Join.is_of c.self.inside.values c.put_value.new.values c.args.self.now c.self.view_is c.args.name c.args.value (put g c)
+
+pub returns-clause-of_source : goal.returns-clause-of_source
+returns-clause-of_source g c = put_of_source g.V.Join.known g.V.Join.is_of c.self.inside.values c.put_value.new.values c.args.self.now c.self.view_is c.args.name c.args.value (put g c)
+    (put_kept g.V.Join.known g.V.Join.is_of c.self.inside.values c.put_value.new.values c.args.self.now c.self.view_is c.args.name c.args.value (put g c) c.self.invariant.0 (nonvoid g c))

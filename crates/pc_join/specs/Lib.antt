@@ -1,0 +1,7 @@
+pub mod Sets
+pub mod Ranges
+pub mod Turns
+pub mod Upto
+pub mod RangeLaws
+pub mod ByName
+pub mod NameLaws

@@ -1,0 +1,220 @@
+//! Values by the name of the thread that they are about.
+
+ghost use Rattle.std.specs.Prelude.{ℕ, ◌≡◌, ◌↔◌, ◌<◌, ◌^◌, Bool, true, false, List, [], ◌∷◌, Some, None, IsTrue, IfOk, OnOk, OnErr, IfSome, MatchOption, IsSome, option_copied};
+ghost use Rattle.std.specs.FinMap as map;
+ghost use Rattle.std.specs.BTreeMap.{get};
+ghost use Rattle.std.specs.Ordering.{nat_cmp};
+ghost use Rattle.pc_join.specs.Sets.{Members, Source, IsUnion, IsBetween, IsWithin, IsVoid, members_at, source_at};
+ghost use Rattle.pc_join.specs.ByName.{members_by_name, IsOfByName, HoldsNoEmpty, HasShortNames, IsNextName, known_in, IsJoinedAt, IsPut, IsWholeAt, IsLeastFrom, HasNoVoid, IsCovered};
+ghost use Rattle.pc_join.specs.NameLaws.{unique_by_name, stays_by_name};
+
+use crate::join::{Join, OutOfMemory};
+use pc_messages::names::Tid;
+use std::alloc::Global;
+use std::collections::BTreeMap;
+use std::marker::Model;
+
+/// One value for each name, of which none is empty. A name that is not held stands for the empty value.
+///
+/// A join searches here for each name of the other: the other is mostly the smaller by far.
+#[derive(Drop)]
+pub struct ByName<V: Join> {
+    values: BTreeMap<u32, V>,
+    alloc: Global,
+}
+
+impl<V: Join> Model for ByName<V> {
+    ghost use Rattle.std.specs.FinMap as map;
+    ghost use Rattle.std.specs.Ordering.{nat_cmp};
+    ghost use Rattle.std.specs.Coded.{coded_ℕ};
+
+    ghost Value = { map.FinMap nat_cmp V };
+
+    ghost coded = { map.code coded_ℕ V.code };
+
+    ghost use Rattle.pc_join.specs.ByName.{HoldsNoEmpty, HasShortNames};
+
+    ghost view = { λ held. map.from_entries held.values.entries };
+
+    ghost invariant = { λ held. HoldsNoEmpty V.known (map.from_entries held.values.entries) × HasShortNames (map.from_entries {R = nat_cmp} held.values.entries) };
+}
+
+impl<V: Join> ByName<V> {
+    /// No names.
+    pub fn new(alloc: Global) -> Self
+        ensures { result ≡ map.empty }
+    {
+        ByName {
+            values: BTreeMap::new(alloc),
+            alloc,
+        }
+    }
+
+    /// The allocator that new names take their memory from.
+    pub fn allocator(&self) -> Global {
+        self.alloc
+    }
+
+    /// What is held under the name; it is not empty.
+    pub fn get(&self, name: Tid) -> Option<&V>
+        ensures value { option_copied result ≡ map.get self.now name }
+        ensures some { IfSome result (λ value. ¬ IsVoid (V.known value.now)) }
+    {
+        self.values.get(&name.index())
+    }
+
+    /// Joins the value to what is held under the name. An empty value changes nothing.
+    pub fn put(&mut self, name: Tid, value: V) -> Result<(), OutOfMemory>
+        ensures union { OnOk result (IsUnion (members_by_name V.known self.old) (members_at name (V.known value)) (members_by_name V.known self.new)) }
+        ensures between { IsBetween (members_by_name V.known self.old) (members_at name (V.known value)) (members_by_name V.known self.new) }
+        ensures of_source { (s : Source) → IsOfByName V.known V.is_of self.old s → V.is_of value (source_at s name) → IsOfByName V.known V.is_of self.new s }
+    {
+        if value.is_empty() {
+            return Ok(());
+        }
+        put_value(&mut self.values, name.index(), value)
+    }
+
+    /// The least name that is held, from this one on.
+    pub fn next(&self, from: Tid) -> Option<Tid>
+        ensures least { MatchOption result ((name : ℕ) → IsSome (map.get self.now name) → name < from) (IsNextName self.now from) }
+        ensures short { HasShortNames self.now }
+    {
+        match next_name(&self.values, from.index()) {
+            None => None,
+            Some(name) => Some(Tid(name)),
+        }
+    }
+}
+
+impl<V: Join> Join for ByName<V> {
+    ghost known = { members_by_name V.known };
+
+    ghost is_of = { IsOfByName V.known V.is_of };
+
+    fn join_from(&mut self, other: &ByName<V>) -> Result<(), OutOfMemory> {
+        join_all(&mut self.values, &other.values)
+    }
+
+    fn covers(&self, other: &ByName<V>) -> bool {
+        covers_all(&self.values, &other.values)
+    }
+
+    fn is_empty(&self) -> bool {
+        self.values.is_empty()
+    }
+
+    fn try_copy(&self) -> Result<ByName<V>, OutOfMemory> {
+        let values = copy_all(self.alloc, &self.values)?;
+        Ok(ByName {
+            values,
+            alloc: self.alloc,
+        })
+    }
+
+    ghost unique = { unique_by_name V.known V.is_of V.unique };
+
+    ghost stays = { stays_by_name V.known V.is_of V.stays };
+}
+
+/// Holds a value under a new name.
+fn hold<V: Join>(values: &mut BTreeMap<u32, V>, name: u32, value: V) -> Result<(), OutOfMemory>
+    requires { get nat_cmp values.old name ≡ None }
+    ensures put { IsPut V.known V.is_of (get nat_cmp values.old) name value (get nat_cmp values.new) }
+    ensures whole { OnOk result (IsWholeAt V.known (get nat_cmp values.old name) (Some value) (get nat_cmp values.new name)) }
+{
+    values.insert(name, value)?;
+    Ok(())
+}
+
+/// Joins a value to what is held under the name.
+fn put_value<V: Join>(values: &mut BTreeMap<u32, V>, name: u32, value: V) -> Result<(), OutOfMemory>
+    ensures put { IsPut V.known V.is_of (get nat_cmp values.old) name value (get nat_cmp values.new) }
+    ensures whole { OnOk result (IsWholeAt V.known (get nat_cmp values.old name) (Some value) (get nat_cmp values.new name)) }
+{
+    match values.get_mut(&name) {
+        Some(held) => held.join_from(&value),
+        None => hold(values, name, value),
+    }
+}
+
+/// Joins a value, of which a copy is held where the name is new.
+fn join_value<V: Join>(
+    values: &mut BTreeMap<u32, V>,
+    name: u32,
+    value: &V,
+) -> Result<(), OutOfMemory>
+    ensures put { IsPut V.known V.is_of (get nat_cmp values.old) name value.now (get nat_cmp values.new) }
+    ensures whole { OnOk result (IsWholeAt V.known (get nat_cmp values.old name) (Some value.now) (get nat_cmp values.new name)) }
+{
+    match values.get_mut(&name) {
+        Some(held) => held.join_from(value),
+        None => {
+            let copy = value.try_copy()?;
+            hold(values, name, copy)
+        }
+    }
+}
+
+/// The least name in the map, from one on.
+fn next_name<V: Join>(values: &BTreeMap<u32, V>, from: u32) -> Option<u32>
+    ensures { MatchOption result ((name : ℕ) → IsSome (get nat_cmp values.now name) → name < from) (IsLeastFrom (get nat_cmp values.now) from) }
+{
+    match values.range(from..).next() {
+        None => None,
+        Some((name, _)) => Some(*name),
+    }
+}
+
+/// Joins each value of the other to what is held under its name.
+fn join_all<V: Join>(
+    values: &mut BTreeMap<u32, V>,
+    other: &BTreeMap<u32, V>,
+) -> Result<(), OutOfMemory>
+    ensures part { (name : ℕ) → IsJoinedAt V.known V.is_of (get nat_cmp values.old name) (get nat_cmp other.now name) (get nat_cmp values.new name) }
+    ensures whole { OnOk result ((name : ℕ) → IsWholeAt V.known (get nat_cmp values.old name) (get nat_cmp other.now name) (get nat_cmp values.new name)) }
+{
+    for (name, value) in other.iter() {
+        join_value(values, *name, value)?;
+    }
+    Ok(())
+}
+
+/// Whether what is held under the name knows all that the value knows.
+fn covers_at<V: Join>(values: &BTreeMap<u32, V>, name: u32, value: &V) -> bool
+    ensures covered { IsTrue result → IsWithin (V.known value.now) (known_in V.known (get nat_cmp values.now name)) }
+    ensures not_covered { ¬ IsVoid (V.known value.now) → IsWithin (V.known value.now) (known_in V.known (get nat_cmp values.now name)) → IsTrue result }
+{
+    match values.get(&name) {
+        Some(held) => held.covers(value),
+        None => false,
+    }
+}
+
+/// Whether what is held under each name knows all that the other holds there.
+fn covers_all<V: Join>(values: &BTreeMap<u32, V>, other: &BTreeMap<u32, V>) -> bool
+    requires { HasNoVoid V.known (get nat_cmp other.now) }
+    ensures { IsTrue result ↔ IsCovered V.known (get nat_cmp other.now) (get nat_cmp values.now) }
+{
+    for (name, value) in other.iter() {
+        if !covers_at(values, *name, value) {
+            return false;
+        }
+    }
+    true
+}
+
+/// A map with equal values.
+fn copy_all<V: Join>(
+    alloc: Global,
+    values: &BTreeMap<u32, V>,
+) -> Result<BTreeMap<u32, V>, OutOfMemory>
+    ensures { IfOk result (λ copy. (name : ℕ) → get nat_cmp copy name ≡ get nat_cmp values.now name) }
+{
+    let mut copy = BTreeMap::new(alloc);
+    for (name, value) in values.iter() {
+        let one = value.try_copy()?;
+        copy.insert(*name, one)?;
+    }
+    Ok(copy)
+}

@@ -1,0 +1,17 @@
+mod Begin
+mod PostAt
+mod Shown
+mod Slots
+pub mod Always
+pub mod AlwaysAgents
+pub mod AlwaysCalls
+pub mod AlwaysEvery
+pub mod AlwaysTold
+pub mod Posting
+pub mod Refusals
+pub mod ShownReads
+mod CpuPosting
+mod Grows
+mod Told
+mod Added
+mod Stepped

@@ -1,0 +1,196 @@
+-- A thread's next message: what the code does, and what it is to a plain kernel.
+use Rattle.std.proofs.Common.{◌≡◌, ◌∙◌, ℕ, suc, zero, ◌+◌, ◌<◌, ◌≤◌, ◌^◌, true, false, cond, nat_lt, List, [], ◌∷◌, ◌++◌, length, set, get_or, Option, Some, None, slice_get, IsFalse, Result, Ok, Err, IfOk, OnErr, refl, sym, ap, subst, arith, inl, inr, length-set, if◌then◌else◌}
+use Rattle.std.specs.Option.{option_map, option_map_or}
+use Rattle.std.proofs.lemmas.Bool.{lt-ltb}
+use Rattle.std.proofs.lemmas.Bool.Decides.{eqb_tells}
+use Rattle.std.proofs.lemmas.List.{length_push, append-nil}
+use Rattle.std.proofs.lemmas.List.Elements.{All-push}
+use Rattle.std.proofs.lemmas.List.Sums.{sum_by_push}
+use Rattle.std.proofs.lemmas.Option.{same_Some, slice_get-map, slice_get_read}
+use Rattle.std.specs.declared.alloc.AllocError.{AllocError}
+use Rattle.pc_messages.specs.State.{ran_given, ran_of}
+use Rattle.pc_messages.specs.Run.{is_created, IsBegun}
+use Rattle.pc_messages.specs.declared.kind.Kind.{Kind}
+use Rattle.pc_messages.specs.declared.message.Message.{Message}
+use Rattle.pc_messages.specs.declared.message.Item.{Item}
+use Rattle.pc_messages.specs.declared.message.Item.TheVariants as item
+use Rattle.pc_kernel.specs.declared.calls.Posted.{Posted}
+use Rattle.pc_kernel.specs.declared.cpus.CpuEntry.{CpuEntry}
+use Rattle.pc_kernel.specs.declared.limits.Limits.{Limits}
+use Rattle.pc_kernel.specs.PlainKernel.{PlainKernel}
+use Rattle.pc_kernel.specs.PlainKernel as plain
+use Rattle.pc_kernel.specs.Rows.{ThreadRow, KernelRows}
+use Rattle.pc_kernel.specs.Reads.{thread_row, shown, seen, number}
+use Rattle.pc_kernel.specs.Entries.{row_of, rows, IsKernel}
+use Rattle.pc_kernel.specs.ThreadEntry.{IsTold}
+use Rattle.pc_kernel.specs.Sound.{IsThreadRow, IsOfRun}
+use Rattle.pc_kernel.specs.Answers.{Shows}
+use Rattle.pc_kernel.specs.Sends.{Sends}
+use Rattle.pc_kernel.specs.Steps.{posted, telling, receipt}
+use Rattle.pc_kernel.proofs.Slots.{slice_get_set, slice_get_set_same, slice_get_set_other}
+use Rattle.pc_kernel.proofs.Shown.{ShowsParts, shows_from, shows_parts}
+use Rattle.pc_kernel.proofs.Grows.{Grows, kinds_in, kind_at_last, kernel_posted}
+use Rattle.pc_kernel.proofs.CpuPosting.{cpus_posted, landed}
+use Rattle.pc_kernel.proofs.Posting.{telling_same, quiet_other, kinds_told, kinds_quiet, threads-posted_known, aseq-posted_le}
+
+-- the row with one more message
+abbrev pub told_row : ThreadRow → Kind → ThreadRow
+told_row row kind = record row { kinds = row.kinds ++ kind ∷ [] }
+
+grows_at : (threads : List ThreadRow) (t : ℕ) (row : ThreadRow) (kind : Kind) → slice_get threads t ≡ Some row → (s : ℕ) → (more : List Kind) × (kinds_in (set threads t (told_row row kind)) s ≡ kinds_in threads s ++ more)
+grows_at threads t row kind there s = elim (eqb_tells s t) [
+  | inl at ↦ (
+    kind ∷ [],
+    ap (λ (o : Option ThreadRow). option_map_or (λ row. row.kinds) o []) (slice_get_set threads t (told_row row kind) row s there ∙ ap (λ b. cond b (Some (told_row row kind)) (slice_get threads s)) at.0)
+        ∙ sym (ap (λ (o : Option ThreadRow). option_map_or (λ row. row.kinds) o [] ++ kind ∷ []) (ap (slice_get threads) at.1 ∙ there)),
+  )
+  | inr at ↦ (
+    [],
+    ap (λ (o : Option ThreadRow). option_map_or (λ row. row.kinds) o []) (slice_get_set threads t (told_row row kind) row s there ∙ ap (λ b. cond b (Some (told_row row kind)) (slice_get threads s)) at.0)
+        ∙ sym (append-nil (kinds_in threads s)),
+  )
+]
+
+pub grows : (threads : List ThreadRow) (t : ℕ) (row : ThreadRow) (kind : Kind) → slice_get threads t ≡ Some row → Grows threads (set threads t (told_row row kind))
+grows threads t row kind there = record { count = let l = length-set threads t (told_row row kind) in omega arith; each = grows_at threads t row kind there }
+
+-- a history goes on with any kind but a Created
+begun_more : (ks : List Kind) (kind : Kind) → IsBegun ks → 1 ≤ length ks → is_created kind ≡ false → IsBegun (ks ++ kind ∷ [])
+begun_more [] kind h one e = absurd (omega arith)
+begun_more (k ∷ ks) kind h one e = (h.0, All-push (λ k. IsFalse (is_created k)) ks kind h.1 e)
+
+told_row_sound : (k new : KernelRows) (row : ThreadRow) (kind : Kind) → new.limits ≡ k.limits → IsThreadRow k row → length row.kinds < k.limits.numbers → is_created kind ≡ false → ran_given kind < 2 ^ 32 → IsThreadRow new (told_row row kind)
+told_row_sound k new row kind same h spare e small =
+    let n : length (row.kinds ++ kind ∷ []) ≡ length row.kinds + 1 = length_push row.kinds kind in
+    let s : ran_of (row.kinds ++ kind ∷ []) ≡ ran_of row.kinds + ran_given kind = sum_by_push ran_given row.kinds kind in
+    let home = h.home in
+    let ran = h.ran in
+    record {
+      home = rw same h.home;
+      told = omega arith;
+      numbers = rw same (omega arith);
+      begun = begun_more row.kinds kind h.begun h.told e;
+      ran = rw (s, n) (omega arith);
+    }
+
+kept_row_sound : (k new : KernelRows) (row : ThreadRow) → new.limits ≡ k.limits → IsThreadRow k row → IsThreadRow new row
+kept_row_sound k new row same h = record { home = rw same h.home; told = h.told; numbers = rw same h.numbers; begun = h.begun; ran = h.ran }
+
+-- the message is the run's
+told_of_run : (limits : Limits) (threads : List ThreadRow) (cpus : List CpuEntry) (t : ℕ) (row : ThreadRow) (kind : Kind) → slice_get threads t ≡ Some row → is_created kind ≡ false → 1 ≤ length row.kinds → length row.kinds + 1 ≤ 16000000
+    → IsOfRun (rows limits (set threads t (told_row row kind)) cpus) record { thread = t; number = length row.kinds + 1; kind = kind }
+told_of_run limits threads cpus t row kind there e one few = record {
+  kind = rw (slice_get_set_same threads t (told_row row kind) row there) (kind_at_last row.kinds kind (length row.kinds + 1) refl);
+  well_formed = record {
+    from_one = omega arith;
+    greatest = few;
+    created = (λ yes. let bad : true ≡ false = sym yes ∙ e in cc, λ is. absurd (omega arith));
+  };
+}
+
+-- what holds of every kernel holds after the message
+pub kernel_told : (limits : Limits) (threads : List ThreadRow) (old new : List CpuEntry) (t : ℕ) (row : ThreadRow) (kind : Kind) (answer : Posted) → IsKernel limits threads old → slice_get threads t ≡ Some row → IsTold old new row t kind answer
+    → length row.kinds < limits.numbers → is_created kind ≡ false → ran_given kind < 2 ^ 32 → IsKernel limits (set threads t (told_row row kind)) new
+kernel_told limits threads old new t row kind answer k there h spare e small =
+    let before = k.sound.thread t row there in
+    let n = k.sound.limits.few_numbers in
+    kernel_posted limits threads (set threads t (told_row row kind)) old new row.home (item.Thread record { thread = t; number = length row.kinds + 1; kind = kind }) h.landing k h.lands
+    (grows threads t row kind there)
+    (let l = length-set threads t (told_row row kind) in let f = k.sound.threads in omega arith)
+    (λ s other is. elim (eqb_tells s t) [
+      | inl at ↦
+          let same : told_row row kind ≡ other = same_Some (told_row row kind) other (sym (slice_get_set_same threads t (told_row row kind) row there) ∙ ap (slice_get (set threads t (told_row row kind))) (sym at.1) ∙ is) in
+          let P : ThreadRow → Type 0 = IsThreadRow (rows limits (set threads t (told_row row kind)) new) in
+          subst P same (told_row_sound (rows limits threads old) (rows limits (set threads t (told_row row kind)) new) row kind refl before spare e small)
+      | inr at ↦ kept_row_sound (rows limits threads old) (rows limits (set threads t (told_row row kind)) new) other refl (k.sound.thread s other (sym (slice_get_set_other threads t (told_row row kind) row s there at.0) ∙ is))
+    ])
+    (λ m is.
+    let P : Message → Type 0 = IsOfRun (rows limits (set threads t (told_row row kind)) new) in
+    subst P (same_message record { thread = t; number = length row.kinds + 1; kind = kind } m is) (told_of_run limits threads new t row kind there e before.told (omega arith)))
+  where
+    same_message : (m n : Message) → ◌≡◌ {A = Item} (item.Thread m) (item.Thread n) → m ≡ n
+    same_message m n e = cc
+
+-- a thread's row, as a plain kernel has it
+pub thread_shown : (threads : List ThreadRow) (P : PlainKernel) (t : ℕ) (row : ThreadRow) → slice_get threads t ≡ (shown P).thread t → slice_get threads t ≡ Some row → (plain.is_known P t ≡ true) × (row ≡ thread_row P t)
+thread_shown threads P t row shows there =
+    elim (plain.is_known P t) as (λ b. Some row ≡ (if b then Some (thread_row P t) else None) → (b ≡ true) × (row ≡ thread_row P t)) [
+      | true ↦ λ h. (refl, same_Some row (thread_row P t) h)
+      | false ↦ λ h. cc
+    ] (sym there ∙ shows)
+
+-- what is shown of a thread with these kinds
+abbrev shown_with : PlainKernel → ℕ → List Kind → Option ThreadRow
+shown_with P s ks = if nat_lt 0 (length ks) then Some record { home = P.home s; kinds = ks; on = plain.place_of P s } else None
+
+-- the rows of threads after the message
+thread_told : (threads : List ThreadRow) (P : PlainKernel) (t q : ℕ) (kind : Kind) (n : ℕ) → ((s : ℕ) → slice_get threads s ≡ (shown P).thread s) → slice_get threads t ≡ Some (thread_row P t)
+    → (s : ℕ) → slice_get (set threads t (told_row (thread_row P t) kind)) s ≡ (shown (posted P q (item.Thread record { thread = t; number = n; kind = kind }))).thread s
+thread_told threads P t q kind n shows there s =
+    let m : Message = record { thread = t; number = n; kind = kind } in
+    let row = told_row (thread_row P t) kind in
+    elim (eqb_tells s t) [
+      | inl at ↦
+          let F : ℕ → Type 0 = λ s. slice_get (set threads t row) s ≡ (shown (posted P q (item.Thread m))).thread s in
+          let some : nat_lt 0 (length (plain.kinds P t ++ kind ∷ [])) ≡ true = lt-ltb 0 _ (let l = length_push (plain.kinds P t) kind in omega arith) in
+          subst F (sym at.1) (
+          slice_get_set_same threads t row (thread_row P t) there
+          ∙ sym (ap (shown_with P t) (kinds_told P q (item.Thread m) t m (telling_same m)) ∙ ap (λ b. if b then Some row else None) some))
+      | inr at ↦
+          slice_get_set_other threads t row (thread_row P t) s there at.0
+          ∙ shows s
+          ∙ sym (ap (shown_with P s) (kinds_quiet P q (item.Thread m) s (quiet_other s m (λ e. at.1 (sym e)))))
+    ]
+
+told_at : (limits : Limits) (threads : List ThreadRow) (old new : List CpuEntry) (t : ℕ) (kind : Kind) (answer : Posted) (P : PlainKernel) → IsKernel limits threads old → ShowsParts (rows limits threads old) P → plain.is_known P t ≡ true
+    → slice_get threads t ≡ Some (thread_row P t) → IsTold old new (thread_row P t) t kind answer
+    → (answer ≡ receipt (telling P t kind)) × Shows (rows limits (set threads t (told_row (thread_row P t) kind)) new) (let p = telling P t kind in posted p.before p.queue p.item)
+told_at limits threads old new t kind answer P k shows known there h =
+    let m : Message = record { thread = t; number = plain.number P t + 1; kind = kind } in
+    let lands = landed old new P (P.home t) (item.Thread m) h.landing h.lands shows.cpu (λ c is. subst (λ (l : Limits). c < l.cpus) shows.limits ((k.sound.cpu (P.home t) (row_of h.lands.entry) (slice_get-map row_of old (P.home t) ∙ ap (option_map row_of) h.lands.there)).target c is)) in (
+      h.answer ∙ (λ i. record { thread = Some t; number = Some (plain.number P t + 1); queue = P.home t; aseq = lands.0 i; woken = lands.1 i }),
+      shows_from (rows limits (set threads t (told_row (thread_row P t) kind)) new) (posted P (P.home t) (item.Thread m)) record {
+        limits = shows.limits;
+        count = length-set threads t (told_row (thread_row P t) kind) ∙ shows.count ∙ sym (threads-posted_known P (P.home t) m known);
+        thread = thread_told threads P t (P.home t) kind (plain.number P t + 1) shows.thread there;
+        cpu = cpus_posted old new P (P.home t) (item.Thread m) h.landing h.lands shows.cpu shows.eaten;
+        eaten = λ q. let before = shows.eaten q in let more = aseq-posted_le P (P.home t) q (item.Thread m) in omega arith;
+      },
+    )
+
+-- the code's step for a thread's message is the plain kernel's
+pub told_sends : (limits : Limits) (threads : List ThreadRow) (old new : List CpuEntry) (t : ℕ) (row : ThreadRow) (kind : Kind) (answer : Posted) → IsKernel limits threads old → slice_get threads t ≡ Some row → IsTold old new row t kind answer
+    → Sends (λ P. telling P t kind) answer (rows limits threads old) (rows limits (set threads t (told_row row kind)) new)
+told_sends limits threads old new t row kind answer k there h P shows =
+    let parts = shows_parts (rows limits threads old) P shows in
+    let as_shown = thread_shown threads P t row (parts.thread t) there in
+    let F : ThreadRow → Type 0 = λ row. slice_get threads t ≡ Some row → IsTold old new row t kind answer
+    → (answer ≡ receipt (telling P t kind)) × Shows (rows limits (set threads t (told_row row kind)) new) (let p = telling P t kind in posted p.before p.queue p.item) in
+    subst F (sym as_shown.1) (told_at limits threads old new t kind answer P k parts as_shown.0) there h
+
+-- however the code's step ended
+keep : (threads : List ThreadRow) (t : ℕ) (row : ThreadRow) → slice_get threads t ≡ Some row → set threads t row ≡ threads
+keep [] t row e = refl
+keep (r ∷ threads) zero row e = ap (λ r. r ∷ threads) (same_Some row r (sym e))
+keep (r ∷ threads) (suc t) row e = ap (λ l. r ∷ l) (keep threads t row e)
+
+pub kernel_tell : (r : Result Posted AllocError) (limits : Limits) (threads : List ThreadRow) (old new : List CpuEntry) (i t : ℕ) (row after : ThreadRow) (kind : Kind) → IsKernel limits threads old → i ≡ t → t < length threads → row ≡ get_or threads i row
+    → IfOk r (λ _. after ≡ told_row row kind) → IfOk r (λ answer. IsTold old new row t kind answer) → OnErr r (after ≡ row) → OnErr r (new ≡ old)
+    → length row.kinds < limits.numbers → is_created kind ≡ false → ran_given kind < 2 ^ 32 → IsKernel limits (set threads i after) new
+kernel_tell (Ok answer) limits threads old new i t row after kind k at within read is told same kept spare e small =
+    rw (at, is) (kernel_told limits threads old new t row kind answer k (slice_get_read threads (length threads) t row refl within (rw (← at) read)) told spare e small)
+kernel_tell (Err error) limits threads old new i t row after kind k at within read is told same kept spare e small =
+    rw (at, same, keep threads t row (slice_get_read threads (length threads) t row refl within (rw (← at) read)), kept) k
+
+pub sends_tell : (r : Result Posted AllocError) (limits : Limits) (threads : List ThreadRow) (old new : List CpuEntry) (i t : ℕ) (row after : ThreadRow) (kind : Kind) → IsKernel limits threads old → i ≡ t → t < length threads → row ≡ get_or threads i row
+    → IfOk r (λ _. after ≡ told_row row kind) → IfOk r (λ answer. IsTold old new row t kind answer)
+    → IfOk r (λ answer. Sends (λ P. telling P t kind) answer (rows limits threads old) (rows limits (set threads i after) new))
+sends_tell (Ok answer) limits threads old new i t row after kind k at within read is told =
+    rw (at, is) (told_sends limits threads old new t row kind answer k (slice_get_read threads (length threads) t row refl within (rw (← at) read)) told)
+sends_tell (Err error) limits threads old new i t row after kind k at within read is told = tt
+
+-- the thread's numbers are not spent
+pub spare_of : (limits : Limits) (threads : List ThreadRow) (cpus : List CpuEntry) (i t : ℕ) (row : ThreadRow) → i ≡ t → t < length threads → row ≡ get_or threads i row → number (seen (rows limits threads cpus)) t < limits.numbers → length row.kinds < limits.numbers
+spare_of limits threads cpus i t row at within read spare =
+    let there : slice_get threads t ≡ Some row = slice_get_read threads (length threads) t row refl within (rw (← at) read) in
+    subst (λ (o : Option ThreadRow). length (option_map_or (λ row. row.kinds) o []) < limits.numbers) there spare

@@ -1,0 +1,21 @@
+use Rattle.std.proofs.Common.{sym, refl, subst}
+use Rattle.pc_messages.specs.declared.kind.Kind.{Kind}
+use Rattle.pc_kernel.specs.declared.calls.Answer.TheVariants as answer
+use Rattle.pc_kernel.specs.declared.calls.Call.TheVariants.{Env}
+use Rattle.pc_kernel.specs.declared.calls.EnvCall.TheVariants.{Create}
+use Rattle.pc_kernel.specs.Sends.{Sends, adding}
+use Rattle.pc_kernel.proofs.Stepped.{refused_steps, starved_steps, sent_steps}
+use Rattle.pc_kernel.proofs.kernel.Kernel.create.Goals as goal
+
+pub returns-in-Err-clause-step : goal.returns-in-Err-clause-step
+returns-in-Err-clause-step c =
+    refused_steps answer.Posted (Env (Create c.args.queue c.args.mask c.args.ready)) c.in-Err.fault c.args.self.now c.args.self.now (sym c.in-Err.ensures.refused) refl
+
+pub returns-in-Ok-add-clause-step : goal.returns-in-Ok-add-clause-step
+returns-in-Ok-add-clause-step c =
+    sent_steps (Create c.args.queue c.args.mask c.args.ready) c.in-Ok-add.posted c.args.self.now c.add.new.self (sym c.in-Ok.ensures.refused)
+    (subst (λ (kind : Kind). Sends (λ P. adding P c.args.queue kind) c.in-Ok-add.posted c.args.self.now c.add.new.self) c.in-Ok.ensures.kind c.in-Ok-add.ensures.ok)
+
+pub returns-in-Err-add-clause-step : goal.returns-in-Err-add-clause-step
+returns-in-Err-add-clause-step c =
+    starved_steps answer.Posted (Env (Create c.args.queue c.args.mask c.args.ready)) c.args.self.now c.add.new.self (sym c.in-Ok.ensures.refused) c.in-Err-add.ensures.err

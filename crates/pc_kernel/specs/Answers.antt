@@ -1,0 +1,39 @@
+-- What a kernel shows, and that a call answers as the step does.
+use Rattle.std.specs.Prelude.{ℕ, ◌≤◌, ◌≡◌, Result, Ok, Err}
+use Rattle.pc_kernel.specs.declared.calls.Call.{Call}
+use Rattle.pc_kernel.specs.declared.calls.Answer.{Answer}
+use Rattle.pc_kernel.specs.declared.calls.Answer.TheVariants.{Done}
+use Rattle.pc_kernel.specs.declared.fault.KernelFault.{KernelFault}
+use Rattle.pc_kernel.specs.declared.fault.KernelFault.TheVariants.{OutOfMemory}
+use Rattle.pc_kernel.specs.PlainKernel.{PlainKernel, aseq}
+use Rattle.pc_kernel.specs.Rows.{KernelRows}
+use Rattle.pc_kernel.specs.Reads.{seen, shown}
+use Rattle.pc_kernel.specs.Steps.{reply, after}
+
+-- the kernel's reads are those of the plain kernel, in which no queue has lost more than it was given
+pub record Shows (k : KernelRows) (P : PlainKernel) : Type 0 where
+  pub reads : seen k ≡ shown P
+  pub eaten : (q : ℕ) → P.eaten q ≤ aseq P q
+
+-- the call answers this reply, and shows this plain kernel after it; refused, it changes nothing
+abbrev pub Replies : {A : Type 0} → (A → Answer) → Result A KernelFault → KernelRows → KernelRows → Result Answer KernelFault → PlainKernel → Type 0
+Replies tell (Ok a) old new (Ok answer) Q = (tell a ≡ answer) × Shows new Q
+Replies tell (Err e) old new (Err refusal) Q = (e ≡ refusal) × (new ≡ old)
+Replies tell (Ok a) old new (Err refusal) Q = ⊥
+Replies tell (Err e) old new (Ok answer) Q = ⊥
+
+-- for every plain kernel that the kernel shows, the call is its step
+abbrev pub Steps : {A : Type 0} → (A → Answer) → Call → Result A KernelFault → KernelRows → KernelRows → Type 0
+Steps tell call result old new = (P : PlainKernel) → Shows old P → Replies tell result old new (reply P call) (after P call)
+
+-- the same, or the step accepts, a growth was refused, and nothing changed
+abbrev pub RepliesInMemory : {A : Type 0} → (A → Answer) → Result A KernelFault → KernelRows → KernelRows → Result Answer KernelFault → PlainKernel → Type 0
+RepliesInMemory tell (Err OutOfMemory) old new (Ok answer) Q = new ≡ old
+RepliesInMemory tell result old new reply Q = Replies tell result old new reply Q
+
+abbrev pub StepsInMemory : {A : Type 0} → (A → Answer) → Call → Result A KernelFault → KernelRows → KernelRows → Type 0
+StepsInMemory tell call result old new = (P : PlainKernel) → Shows old P → RepliesInMemory tell result old new (reply P call) (after P call)
+
+-- every call without an answer of its own answers this
+abbrev pub done : Unit {0} → Answer
+done _ = Done

@@ -1,0 +1,12 @@
+pub mod Answers
+pub mod Entries
+pub mod Facts
+pub mod Limits
+pub mod PlainKernel
+pub mod Reads
+pub mod Rows
+pub mod Sends
+pub mod Sound
+pub mod Steps
+pub mod ThreadEntry
+pub mod Worked

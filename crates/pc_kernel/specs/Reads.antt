@@ -1,0 +1,109 @@
+-- What can be read of a kernel, and what its reads answer.
+use Rattle.std.specs.Prelude.{ℕ, ◌==◌, nat_lt, Bool, false, List, [], length, Option, Some, None, is_some, slice_get, if◌then◌else◌}
+use Rattle.std.specs.List.{list_any}
+use Rattle.std.specs.Option.{option_map, option_map_or, option_and_then}
+use Rattle.pc_messages.specs.Mask.{allows}
+use Rattle.pc_messages.specs.State.{phase_of, mask_of, state_of}
+use Rattle.pc_messages.specs.declared.kind.Kind.{Kind}
+use Rattle.pc_messages.specs.declared.message.Item.{Item}
+use Rattle.pc_messages.specs.declared.message.Item.TheVariants as item
+use Rattle.pc_messages.specs.declared.reported.Phase.{Phase}
+use Rattle.pc_messages.specs.declared.reported.Reported.{Reported}
+use Rattle.pc_kernel.specs.declared.limits.Limits.{Limits}
+use Rattle.pc_kernel.specs.declared.kernel.Status.{Status}
+use Rattle.pc_kernel.specs.Rows.{ThreadRow, CpuRow, KernelRows}
+use Rattle.pc_kernel.specs.PlainKernel as plain
+use Rattle.pc_kernel.specs.PlainKernel.{PlainKernel}
+
+-- the limits, how many threads are known, and a row for each thread that is known and each CPU that is there
+pub record Reads : Type 0 where
+  pub limits : Limits
+  pub threads : ℕ
+  pub thread : ℕ → Option ThreadRow
+  pub cpu : ℕ → Option CpuRow
+
+-- what can be read of a plain kernel
+abbrev pub thread_row : PlainKernel → ℕ → ThreadRow
+thread_row P t = record { home = P.home t; kinds = plain.kinds P t; on = plain.place_of P t }
+
+abbrev pub cpu_row : PlainKernel → ℕ → CpuRow
+cpu_row P c =
+    record { posts = plain.aseq P c; content = plain.content P c; target = P.target c; on = P.on c; asleep = is_some (P.slept c) }
+
+abbrev pub shown : PlainKernel → Reads
+shown P =
+    record {
+      limits = P.limits;
+      threads = plain.threads P;
+      thread = λ t. if plain.is_known P t then Some (thread_row P t) else None;
+      cpu = λ c. if nat_lt c P.limits.cpus then Some (cpu_row P c) else None;
+    }
+
+-- what can be read of a kernel's rows
+abbrev pub seen : KernelRows → Reads
+seen k = record { limits = k.limits; threads = length k.threads; thread = slice_get k.threads; cpu = slice_get k.cpus }
+
+-- what is read of a thread; of one that is not known, no kinds
+abbrev pub is_known : Reads → ℕ → Bool
+is_known r t = is_some (r.thread t)
+
+abbrev pub kinds : Reads → ℕ → List Kind
+kinds r t = option_map_or (λ row. row.kinds) (r.thread t) []
+
+abbrev pub number : Reads → ℕ → ℕ
+number r t = length (kinds r t)
+
+abbrev pub home : Reads → ℕ → ℕ
+home r t = option_map_or (λ row. row.home) (r.thread t) 0
+
+abbrev pub place : Reads → ℕ → Option ℕ
+place r t = option_and_then (λ row. row.on) (r.thread t)
+
+abbrev pub phase : Reads → ℕ → Option Phase
+phase r t = phase_of (kinds r t)
+
+-- the thread's mask has the CPU
+abbrev pub may_run_on : Reads → ℕ → ℕ → Bool
+may_run_on r t c = option_map_or (λ mask. allows mask c) (mask_of (kinds r t)) false
+
+-- what is read of a CPU; of one that is not there, nothing
+abbrev pub is_cpu : Reads → ℕ → Bool
+is_cpu r c = nat_lt c r.limits.cpus
+
+abbrev pub aseq : Reads → ℕ → ℕ
+aseq r c = option_map_or (λ row. row.posts) (r.cpu c) 0
+
+abbrev pub content : Reads → ℕ → List Item
+content r c = option_map_or (λ row. row.content) (r.cpu c) []
+
+abbrev pub on : Reads → ℕ → Option ℕ
+on r c = option_and_then (λ row. row.on) (r.cpu c)
+
+abbrev pub is_asleep : Reads → ℕ → Bool
+is_asleep r c = option_map_or (λ row. row.asleep) (r.cpu c) false
+
+-- the item is a message of the thread
+abbrev pub is_of : ℕ → Item → Bool
+is_of t (item.Thread message) = message.thread == t
+is_of t (item.Tick cpu) = false
+
+-- the thread's home queue holds a message of it
+abbrev pub is_pending : Reads → ℕ → Bool
+is_pending r t = list_any (is_of t) (content r (home r t))
+
+-- what the reads of a thread answer; none of one that is not known
+abbrev pub status_of : Reads → ℕ → Option Status
+status_of r t = option_map (λ row. record { number = length row.kinds; running_on = row.on }) (r.thread t)
+
+abbrev pub reported_of : Reads → ℕ → Option Reported
+reported_of r t = option_and_then (λ row. state_of row.kinds) (r.thread t)
+
+abbrev pub history_of : Reads → ℕ → Option (List Kind)
+history_of r t = option_map (λ row. row.kinds) (r.thread t)
+
+abbrev pub queue_of : Reads → ℕ → Option ℕ
+queue_of r t = option_map (λ row. row.home) (r.thread t)
+
+-- what the count of posts answers; none of a CPU that is not there
+abbrev pub aseq_of : Reads → ℕ → Option ℕ
+aseq_of r c = option_map (λ row. row.posts) (r.cpu c)

@@ -1,0 +1,207 @@
+-- The step of each call: the refusals in their order, and else what changes and what is answered.
+use Rattle.std.specs.Prelude.{ℕ, ◌+◌, ◌^◌, ◌==◌, nat_lt, nat_le, not, ◌||◌, Bool, true, false, List, [], ◌∷◌, ◌++◌, length, Option, Some, None, Result, Ok, Err, is_some, is_none, unwrap_or, if◌then◌else◌}
+use Rattle.std.specs.Option.{option_map_or, option_and_then}
+use Rattle.pc_messages.specs.Mask.{allows}
+use Rattle.pc_messages.specs.declared.kind.Kind.{Kind}
+use Rattle.pc_messages.specs.declared.kind.Kind.TheVariants as kind
+use Rattle.pc_messages.specs.declared.message.Item.{Item}
+use Rattle.pc_messages.specs.declared.message.Item.TheVariants as item
+use Rattle.pc_messages.specs.declared.reported.Phase.{Phase}
+use Rattle.pc_messages.specs.declared.reported.Phase.TheVariants as phase
+use Rattle.pc_kernel.specs.declared.calls.EnvCall.{EnvCall}
+use Rattle.pc_kernel.specs.declared.calls.EnvCall.TheVariants.{Create, Wake, Block, YieldNow, Preempt, Die, SetAffinity, SetPriority, Tick}
+use Rattle.pc_kernel.specs.declared.calls.Call.{Call}
+use Rattle.pc_kernel.specs.declared.calls.Call.TheVariants.{Env, Consume, Associate, Commit, Sleep, Rouse, Config}
+use Rattle.pc_kernel.specs.declared.calls.Posted.{Posted}
+use Rattle.pc_kernel.specs.declared.calls.Answer.{Answer}
+use Rattle.pc_kernel.specs.declared.calls.Answer.TheVariants as answer
+use Rattle.pc_kernel.specs.declared.fault.KernelFault.{KernelFault}
+use Rattle.pc_kernel.specs.declared.fault.KernelFault.TheVariants as fault
+use Rattle.pc_kernel.specs.Limits.{first_of}
+use Rattle.pc_kernel.specs.PlainKernel.{PlainKernel, Post}
+use Rattle.pc_kernel.specs.PlainKernel as plain
+use Rattle.pc_kernel.specs.Reads.{Reads, shown, is_known, number, home, place, phase, may_run_on, is_cpu, aseq, content, on, is_pending}
+
+-- tests on a phase
+abbrev pub is_dead : Option Phase → Bool
+is_dead (Some phase.Dead) = true
+is_dead (Some phase.Ready) = false
+is_dead (Some phase.Blocked) = false
+is_dead None = false
+
+abbrev pub is_blocked : Option Phase → Bool
+is_blocked (Some phase.Blocked) = true
+is_blocked (Some phase.Ready) = false
+is_blocked (Some phase.Dead) = false
+is_blocked None = false
+
+abbrev pub is_ready : Option Phase → Bool
+is_ready (Some phase.Ready) = true
+is_ready (Some phase.Blocked) = false
+is_ready (Some phase.Dead) = false
+is_ready None = false
+
+-- whether a condition holds, and the refusal that it is
+abbrev pub Condition : Type 0
+Condition = Bool × KernelFault
+
+-- of a post to a queue
+abbrev pub queue_refusals : Reads → ℕ → List Condition
+queue_refusals r q = (nat_le r.limits.room (length (content r q)), fault.QueueFull) ∷ (nat_le r.limits.posts (aseq r q), fault.PostsSpent) ∷ []
+
+-- of a post of a thread's message to its home queue
+abbrev pub post_refusals : Reads → ℕ → List Condition
+post_refusals r t = (nat_le r.limits.numbers (number r t), fault.NumbersSpent) ∷ queue_refusals r (home r t)
+
+abbrev pub mask_refusals : Reads → ℕ → List Condition
+mask_refusals r mask = (mask == 0, fault.EmptyMask) ∷ (nat_le (2 ^ r.limits.cpus) mask, fault.MaskTooWide) ∷ []
+
+-- of a call on a thread that has to be known and alive
+abbrev pub thread_refusals : Reads → ℕ → List Condition
+thread_refusals r t = (not (is_known r t), fault.UnknownThread) ∷ (is_dead (phase r t), fault.Dead) ∷ []
+
+-- of a call by which the thread on a CPU leaves it
+abbrev pub leave_refusals : Reads → ℕ → List Condition
+leave_refusals r cpu = (not (is_cpu r cpu), fault.BadCpu) ∷ (is_none (on r cpu), fault.IdleCpu) ∷ post_refusals r (unwrap_or (on r cpu) 0)
+
+-- the thread runs on a CPU that the mask excludes
+abbrev pub is_barred : Reads → ℕ → ℕ → Bool
+is_barred r t mask = option_map_or (λ c. not (allows mask c)) (place r t) false
+
+-- of each call of the environment, in order
+abbrev pub env_refusals : Reads → EnvCall → List Condition
+env_refusals r (Create queue mask ready) =
+    (not (is_cpu r queue), fault.BadCpu) ∷ mask_refusals r mask ++ (nat_le r.limits.threads r.threads, fault.NamesSpent) ∷ queue_refusals r queue
+env_refusals r (Wake t) = thread_refusals r t ++ (not (is_blocked (phase r t)), fault.NotBlocked) ∷ post_refusals r t
+env_refusals r (Block cpu ran) = leave_refusals r cpu
+env_refusals r (YieldNow cpu ran) = leave_refusals r cpu
+env_refusals r (Preempt cpu ran) = leave_refusals r cpu
+env_refusals r (Die cpu ran) = leave_refusals r cpu
+env_refusals r (SetAffinity t mask) = thread_refusals r t ++ mask_refusals r mask ++ (is_barred r t mask, fault.OnForbiddenCpu) ∷ post_refusals r t
+env_refusals r (SetPriority t level) = thread_refusals r t ++ (nat_lt 7 level, fault.BadLevel) ∷ post_refusals r t
+env_refusals r (Tick cpu) = (not (is_cpu r cpu), fault.BadCpu) ∷ queue_refusals r cpu
+
+-- of each call, in order
+abbrev pub refusals : Reads → Call → List Condition
+refusals r (Env call) = env_refusals r call
+refusals r (Consume cpu count) = (not (is_cpu r cpu), fault.BadCpu) ∷ (nat_lt (length (content r cpu)) count, fault.TooMany) ∷ []
+refusals r (Associate t queue n) =
+    (not (is_known r t), fault.UnknownThread)
+    ∷ (not (is_cpu r queue), fault.BadCpu)
+    ∷ (is_dead (phase r t), fault.Dead)
+    ∷ (not (n == number r t), fault.Stale (number r t))
+    ∷ (is_pending r t, fault.Pending)
+    ∷ (is_some (place r t), fault.Running (unwrap_or (place r t) 0))
+    ∷ []
+refusals r (Commit cpu t n) =
+    (not (is_cpu r cpu), fault.BadCpu)
+    ∷ (not (is_known r t), fault.UnknownThread)
+    ∷ (not (n == aseq r cpu), fault.Stale (aseq r cpu))
+    ∷ (not (is_ready (phase r t)), fault.NotReady)
+    ∷ (not (home r t == cpu), fault.NotYours (home r t))
+    ∷ (is_some (place r t), fault.Running (unwrap_or (place r t) 0))
+    ∷ (not (may_run_on r t cpu), fault.Forbidden)
+    ∷ (is_some (on r cpu), fault.Busy)
+    ∷ []
+refusals r (Sleep cpu n) = (not (is_cpu r cpu), fault.BadCpu) ∷ (not (n == aseq r cpu), fault.Stale (aseq r cpu)) ∷ []
+refusals r (Rouse cpu) = (not (is_cpu r cpu), fault.BadCpu) ∷ []
+refusals r (Config queue None) = (not (is_cpu r queue), fault.BadCpu) ∷ []
+refusals r (Config queue (Some cpu)) = (not (is_cpu r queue) || not (is_cpu r cpu), fault.BadCpu) ∷ []
+
+-- the first refusal of a call, where one holds
+abbrev pub refused : Reads → Call → Option KernelFault
+refused r call = first_of (refusals r call)
+
+-- f, with another value at one place
+abbrev pub at : {X : Type 0} → (ℕ → X) → ℕ → X → ℕ → X
+at f place value n = if n == place then value else f n
+
+-- the agent that a post to a queue wakes: its target, where that sleeps
+abbrev pub woken : PlainKernel → ℕ → Option ℕ
+woken P q = option_and_then (λ c. if is_some (P.slept c) then Some c else None) (P.target q)
+
+-- this agent, where there is one, is awake
+abbrev pub roused : (ℕ → Option ℕ) → Option ℕ → ℕ → Option ℕ
+roused slept None = slept
+roused slept (Some c) = at slept c None
+
+-- one more post, after which the queue's target is awake
+abbrev pub posted : PlainKernel → ℕ → Item → PlainKernel
+posted P q item = record P { posts = P.posts ++ record { queue = q; item = item } ∷ []; slept = roused P.slept (P.target q) }
+
+-- what a call of the environment posts: this item to this queue, after this change of the kernel
+pub record Posting : Type 0 where
+  pub before : PlainKernel
+  pub queue : ℕ
+  pub item : Item
+
+-- a thread's next message, to its home queue
+abbrev pub telling : PlainKernel → ℕ → Kind → Posting
+telling P t kind = record { before = P; queue = P.home t; item = item.Thread record { thread = t; number = plain.number P t + 1; kind = kind } }
+
+-- the thread on the CPU leaves it
+abbrev pub leaving : PlainKernel → ℕ → Kind → Posting
+leaving P cpu kind = telling (record P { on = at P.on cpu None }) (unwrap_or (P.on cpu) 0) kind
+
+abbrev pub posting : PlainKernel → EnvCall → Posting
+posting P (Create queue mask ready) = telling (record P { home = at P.home (plain.threads P) queue }) (plain.threads P) (kind.Created mask ready)
+posting P (Wake t) = telling P t kind.Wakeup
+posting P (Block cpu ran) = leaving P cpu (kind.Blocked ran)
+posting P (YieldNow cpu ran) = leaving P cpu (kind.Yield ran)
+posting P (Preempt cpu ran) = leaving P cpu (kind.Preempted ran)
+posting P (Die cpu ran) = leaving P cpu (kind.Dead ran)
+posting P (SetAffinity t mask) = telling P t (kind.Affinity mask)
+posting P (SetPriority t level) = telling P t (kind.Priority level)
+posting P (Tick cpu) = record { before = P; queue = cpu; item = item.Tick cpu }
+
+-- the kernel after an accepted call
+abbrev pub changed : PlainKernel → Call → PlainKernel
+changed P (Env call) = let p = posting P call in posted p.before p.queue p.item
+changed P (Consume cpu count) = record P { eaten = at P.eaten cpu (P.eaten cpu + count) }
+changed P (Associate t queue n) = record P { home = at P.home t queue }
+changed P (Commit cpu t n) = record P { on = at P.on cpu (Some t) }
+changed P (Sleep cpu n) = record P { slept = at P.slept cpu (Some n) }
+changed P (Rouse cpu) = record P { slept = at P.slept cpu None }
+changed P (Config queue None) = record P { target = at P.target queue None }
+changed P (Config queue (Some cpu)) = record P { target = at P.target queue (Some cpu); slept = at P.slept cpu None }
+
+-- what an accepted call answers
+abbrev pub thread_in : Item → Option ℕ
+thread_in (item.Thread message) = Some message.thread
+thread_in (item.Tick cpu) = None
+
+abbrev pub number_in : Item → Option ℕ
+number_in (item.Thread message) = Some message.number
+number_in (item.Tick cpu) = None
+
+abbrev pub receipt : Posting → Posted
+receipt p = record { thread = thread_in p.item; number = number_in p.item; queue = p.queue; aseq = plain.aseq p.before p.queue + 1; woken = woken p.before p.queue }
+
+abbrev pub accepted : PlainKernel → Call → Answer
+accepted P (Env call) = answer.Posted (receipt (posting P call))
+accepted P (Consume cpu count) = answer.Done
+accepted P (Associate t queue n) = answer.Done
+accepted P (Commit cpu t n) = answer.Done
+accepted P (Sleep cpu n) = answer.Done
+accepted P (Rouse cpu) = answer.Done
+accepted P (Config queue target) = answer.Done
+
+-- the step: what a call answers, and the kernel after it
+abbrev pub reply_of : Option KernelFault → Answer → Result Answer KernelFault
+reply_of None answer = Ok answer
+reply_of (Some refusal) answer = Err refusal
+
+abbrev pub after_of : Option KernelFault → PlainKernel → PlainKernel → PlainKernel
+after_of None changed same = changed
+after_of (Some refusal) changed same = same
+
+abbrev pub reply : PlainKernel → Call → Result Answer KernelFault
+reply P call = reply_of (refused (shown P) call) (accepted P call)
+
+abbrev pub after : PlainKernel → Call → PlainKernel
+after P call = after_of (refused (shown P) call) (changed P call) P
+
+-- a whole list of calls
+abbrev pub replay : PlainKernel → List Call → PlainKernel
+replay P [] = P
+replay P (call ∷ calls) = replay (after P call) calls

@@ -1,0 +1,54 @@
+//! Why a call of the kernel is refused.
+
+use pc_messages::names::Cpu;
+use thiserror::Error;
+
+/// A refusal. Where several apply, a call answers the first in the order of its definition; want of memory comes
+/// after them all. `Stale` is the ghOSt paper's ESTALE, all else is own.
+#[derive(Clone, Copy, Debug, PartialEq, Eq, Error)]
+pub enum KernelFault {
+    #[error("the CPU is not there")]
+    BadCpu,
+    #[error("the mask has no CPU")]
+    EmptyMask,
+    #[error("the mask has a CPU that is not there")]
+    MaskTooWide,
+    #[error("the level is above 7")]
+    BadLevel,
+    #[error("every name of a thread is given")]
+    NamesSpent,
+    #[error("every number of the thread is used")]
+    NumbersSpent,
+    #[error("the queue is full")]
+    QueueFull,
+    #[error("every post of the queue is used")]
+    PostsSpent,
+    #[error("the thread is not known")]
+    UnknownThread,
+    #[error("the thread is dead")]
+    Dead,
+    #[error("the thread is not blocked")]
+    NotBlocked,
+    #[error("the thread is not ready")]
+    NotReady,
+    #[error("no thread runs on the CPU")]
+    IdleCpu,
+    #[error("the thread runs on a CPU that the mask excludes")]
+    OnForbiddenCpu,
+    #[error("the queue holds fewer items")]
+    TooMany,
+    #[error("the number is stale: it is {0} now")]
+    Stale(u32),
+    #[error("a message of the thread is pending")]
+    Pending,
+    #[error("the thread runs on CPU {0:?}")]
+    Running(Cpu),
+    #[error("the thread belongs to queue {0:?}")]
+    NotYours(Cpu),
+    #[error("the thread's mask excludes the CPU")]
+    Forbidden,
+    #[error("another thread runs on the CPU")]
+    Busy,
+    #[error("out of memory")]
+    OutOfMemory,
+}

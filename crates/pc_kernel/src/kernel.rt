@@ -1,0 +1,216 @@
+//! The kernel model.
+
+ghost use Rattle.std.specs.Prelude.{◌≡◌, ◌≤◌, ◌↔◌, Some, None, length, is_some, slice_get, IfOk, IfErr, IsFalse, ◌⊎◌};
+ghost use Rattle.std.specs.Option.{option_map, option_copied};
+ghost use Rattle.pc_kernel.specs.Limits.{bad_field};
+ghost use Rattle.pc_kernel.specs.PlainKernel.{start};
+
+mod environment;
+
+use crate::cpus::{CpuEntry, fresh};
+use crate::fault::KernelFault;
+use crate::limits::{LimitField, Limits, LimitsFault, Profile};
+use crate::threads::ThreadEntry;
+use pc_messages::kind::Kind;
+use pc_messages::message::Item;
+use pc_messages::names::{Cpu, Tid};
+use pc_messages::reported::Reported;
+use std::alloc::Global;
+use std::marker::Model;
+
+/// A status word: the number of the thread's last message, and the CPU that it runs on (the ghOSt paper's status
+/// words carry the like).
+#[derive(Clone, Copy, Debug, PartialEq, Eq)]
+pub struct Status {
+    pub number: u32,
+    pub running_on: Option<Cpu>,
+}
+
+/// The kernel of one enclave: its threads, and its CPUs with a queue each.
+#[derive(Drop)]
+pub struct Kernel {
+    limits: Limits,
+    threads: Vec<ThreadEntry>,
+    cpus: Vec<CpuEntry>,
+}
+
+impl Model for Kernel {
+    ghost use Rattle.pc_kernel.specs.Rows.{KernelRows};
+    ghost use Rattle.pc_kernel.specs.Entries.{rows, IsKernel};
+
+    ghost Value = { KernelRows };
+
+    ghost view = { λ k. rows k.limits k.threads.items k.cpus.items };
+
+    ghost invariant = { λ k. IsKernel k.limits k.threads.items k.cpus.items };
+}
+
+impl Kernel {
+    ghost use Rattle.pc_kernel.specs.Answers.{Shows};
+    ghost use Rattle.pc_kernel.specs.Entries.{row_of};
+    ghost use Rattle.pc_kernel.specs.Sound.{IsSound};
+    ghost use Rattle.pc_kernel.specs.declared.limits.LimitField.{LimitField};
+    ghost use Rattle.pc_kernel.specs.Reads.{seen, status_of, reported_of, history_of, queue_of, aseq_of, aseq, content, is_cpu, on, is_asleep};
+
+    /// The kernel at the start, with limits of profile One.
+    pub fn new(alloc: Global, limits: Limits) -> Result<Self, LimitsFault>
+        ensures ok { IfOk result (λ kernel. Shows kernel (start limits)) }
+        ensures within { IfOk result (λ _. bad_field Profile.One limits ≡ None) }
+        ensures refused { (field : LimitField) → (result ≡ Err (LimitsFault.BadLimits field)) ↔ (bad_field Profile.One limits ≡ Some field) }
+        ensures memory_last { result ≡ Err LimitsFault.OutOfMemory → bad_field Profile.One limits ≡ None }
+    {
+        Self::new_in(alloc, Profile::One, limits)
+    }
+
+    /// The kernel at the start, with limits of the profile.
+    pub fn new_in(alloc: Global, profile: Profile, limits: Limits) -> Result<Self, LimitsFault>
+        ensures ok { IfOk result (λ kernel. Shows kernel (start limits)) }
+        ensures within { IfOk result (λ _. bad_field profile limits ≡ None) }
+        ensures refused { (field : LimitField) → (result ≡ Err (LimitsFault.BadLimits field)) ↔ (bad_field profile limits ≡ Some field) }
+        ensures memory_last { result ≡ Err LimitsFault.OutOfMemory → bad_field profile limits ≡ None }
+    {
+        match limits.bad_field(profile) {
+            Some(field) => return Err(LimitsFault::BadLimits(field)),
+            None => {}
+        }
+        match fresh(alloc, limits) {
+            Ok(cpus) => Ok(Kernel {
+                limits,
+                threads: Vec::new(alloc),
+                cpus,
+            }),
+            Err(_) => Err(LimitsFault::OutOfMemory),
+        }
+    }
+
+    /// What holds of every kernel, for its callers. It does nothing.
+    pub fn is_sound(&self)
+        ensures { IsSound self.now }
+    {
+        let _ = &self.limits;
+    }
+
+    /// The limits.
+    pub fn limits(&self) -> Limits
+        ensures { result ≡ self.now.limits }
+    {
+        self.limits
+    }
+
+    /// How many CPUs there are.
+    pub fn cpus(&self) -> u8
+        ensures count { result ≡ self.now.limits.cpus }
+        ensures some { 1 ≤ result }
+        ensures few { result ≤ 64 }
+    {
+        self.limits.cpus
+    }
+
+    /// How many threads are known, which is the next name.
+    pub fn threads(&self) -> u32
+        ensures { result ≡ length self.now.threads }
+    {
+        self.threads.len() as u32
+    }
+
+    /// The thread's row.
+    fn thread(&self, thread: Tid) -> Option<&ThreadEntry>
+        ensures { option_copied result ≡ slice_get self.now.threads thread }
+    {
+        self.threads.get(thread.index() as usize)
+    }
+
+    /// The CPU's row.
+    fn cpu(&self, cpu: Cpu) -> Option<&CpuEntry>
+        ensures row { option_map row_of (option_copied result) ≡ slice_get self.now.cpus cpu }
+        ensures there { is_some result ≡ is_cpu (seen self.now) cpu }
+    {
+        self.cpus.get(cpu.index() as usize)
+    }
+
+    /// The thread's status word; none of a thread that is not known.
+    pub fn status(&self, thread: Tid) -> Option<Status>
+        ensures { result ≡ status_of (seen self.now) thread }
+    {
+        let entry = self.thread(thread)?;
+        Some(Status {
+            number: entry.number(),
+            running_on: entry.on(),
+        })
+    }
+
+    /// The state that the thread's messages report; none of a thread that is not known.
+    pub fn reported(&self, thread: Tid) -> Option<Reported>
+        ensures { result ≡ reported_of (seen self.now) thread }
+    {
+        self.state(thread).copied()
+    }
+
+    /// The same, lent.
+    pub fn state(&self, thread: Tid) -> Option<&Reported>
+        ensures { option_copied result ≡ reported_of (seen self.now) thread }
+    {
+        let entry = self.thread(thread)?;
+        Some(entry.state())
+    }
+
+    /// The thread's home queue; none of a thread that is not known.
+    pub fn queue_of(&self, thread: Tid) -> Option<Cpu>
+        ensures { result ≡ queue_of (seen self.now) thread }
+    {
+        let entry = self.thread(thread)?;
+        Some(entry.home())
+    }
+
+    /// The kinds of the thread's messages, in order; none of a thread that is not known.
+    pub fn history(&self, thread: Tid) -> Option<&[Kind]>
+        ensures { option_copied result ≡ history_of (seen self.now) thread }
+    {
+        let entry = self.thread(thread)?;
+        Some(entry.kinds())
+    }
+
+    /// The count of posts to the CPU's queue, its agent's sequence number (the ghOSt paper's Aseq); none of a CPU
+    /// that is not there.
+    pub fn aseq(&self, cpu: Cpu) -> Option<u32>
+        ensures { result ≡ aseq_of (seen self.now) cpu }
+    {
+        let entry = self.cpu(cpu)?;
+        Some(entry.queue.aseq())
+    }
+
+    /// The count of posts to the CPU's queue, and all that the queue holds, the oldest first. The items stay.
+    pub fn peek(&self, cpu: Cpu) -> Result<(u32, Vec<Item>), KernelFault>
+        ensures posts { IfOk result (λ read. read.0 ≡ aseq (seen self.now) cpu) }
+        ensures content { IfOk result (λ read. read.1.items ≡ content (seen self.now) cpu) }
+        ensures bad_cpu { (result ≡ Err KernelFault.BadCpu) ↔ IsFalse (is_cpu (seen self.now) cpu) }
+        ensures memory { IfErr result (λ fault. (fault ≡ KernelFault.BadCpu) ⊎ (fault ≡ KernelFault.OutOfMemory)) }
+    {
+        let entry = match self.cpu(cpu) {
+            Some(entry) => entry,
+            None => return Err(KernelFault::BadCpu),
+        };
+        match entry.queue.peek(entry.queue.len()) {
+            Ok(items) => Ok((entry.queue.aseq(), items)),
+            Err(_) => Err(KernelFault::OutOfMemory),
+        }
+    }
+
+    /// The thread that runs on the CPU.
+    pub fn running(&self, cpu: Cpu) -> Option<Tid>
+        ensures { result ≡ on (seen self.now) cpu }
+    {
+        let entry = self.cpu(cpu)?;
+        entry.running
+    }
+
+    /// Whether the CPU's agent sleeps; never one of a CPU that is not there.
+    pub fn is_asleep(&self, cpu: Cpu) -> bool
+        ensures { result ≡ is_asleep (seen self.now) cpu }
+    {
+        match self.cpu(cpu) {
+            Some(entry) => entry.asleep,
+            None => false,
+        }
+    }
+}

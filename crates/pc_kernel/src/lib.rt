@@ -1,0 +1,16 @@
+//! The kernel model: threads, CPUs and queues, and the calls by which the environment and the agents change them.
+//!
+//! What a kernel is and what each call does is defined over lists in `specs/PlainKernel.antt`, from one list of
+//! posts. The code keeps rows with queues, caches and counts, which no contract names.
+#![tactic(auto)]
+
+pub mod calls;
+mod cpus;
+pub mod fault;
+pub mod kernel;
+pub mod laws;
+pub mod limits;
+#[cfg(test)]
+mod tests;
+mod threads;
+pub mod worked;

@@ -1,0 +1,245 @@
+use crate::calls::Posted;
+use crate::fault::KernelFault;
+use crate::kernel::{Kernel, Status};
+use crate::limits::{LimitField, Limits, LimitsFault, Profile};
+use pc_messages::kind::Kind;
+use pc_messages::mask::Mask;
+use pc_messages::message::{Item, Message};
+use pc_messages::names::{Cpu, Tid};
+use pc_messages::reported::{Phase, Reported};
+use std::alloc::Global;
+use std::test::Fail;
+
+const fn limits(cpus: u8, threads: u32, numbers: u32, room: u32, posts: u32) -> Limits {
+    Limits {
+        cpus,
+        threads,
+        numbers,
+        room,
+        posts,
+    }
+}
+
+/// What a thread's post answers where no agent is woken.
+const fn posted(thread: u32, number: u32, queue: u8, aseq: u32) -> Posted {
+    Posted {
+        thread: Some(Tid(thread)),
+        number: Some(number),
+        queue: Cpu(queue),
+        aseq,
+        woken: None,
+    }
+}
+
+/// The fault of limits that are refused.
+fn fault(alloc: Global, profile: Profile, limits: Limits) -> Option<LimitsFault> {
+    match Kernel::new_in(alloc, profile, limits) {
+        Ok(_) => None,
+        Err(fault) => Some(fault),
+    }
+}
+
+#[test]
+fn ranges_of_limits(rt: HostRuntime) {
+    let bad = |field| Some(LimitsFault::BadLimits(field));
+    let alloc = rt.alloc();
+    assert_eq!(rt;
+        fault(alloc, Profile::One, limits(65, 0, 0, 0, 0)),
+        bad(LimitField::Cpus)
+    );
+    assert_eq!(rt;
+        fault(alloc, Profile::One, limits(0, 1, 1, 1, 1)),
+        bad(LimitField::Cpus)
+    );
+    assert_eq!(rt;
+        fault(alloc, Profile::One, limits(1, 4_097, 1, 1, 1)),
+        bad(LimitField::Threads)
+    );
+    assert_eq!(rt;
+        fault(alloc, Profile::One, limits(1, 1, 1_000_001, 1, 1)),
+        bad(LimitField::Numbers)
+    );
+    assert_eq!(rt;
+        fault(alloc, Profile::One, limits(1, 1, 1, 65_537, 1)),
+        bad(LimitField::Room)
+    );
+    assert_eq!(rt;
+        fault(alloc, Profile::One, limits(1, 1, 1, 1, 0)),
+        bad(LimitField::Posts)
+    );
+    assert_eq!(rt;
+        fault(alloc, Profile::Two, limits(1, 65_535, 16_000_000, 16, 100)),
+        None
+    );
+    assert_eq!(rt;
+        fault(alloc, Profile::One, limits(1, 65_535, 16_000_000, 16, 100)),
+        bad(LimitField::Threads)
+    );
+    assert_eq!(rt;
+        fault(alloc, Profile::Two, limits(1, 65_536, 1, 1, 1)),
+        bad(LimitField::Threads)
+    );
+    assert_eq!(rt;
+        fault(alloc, Profile::Two, limits(1, 1, 16_000_001, 1, 1)),
+        bad(LimitField::Numbers)
+    );
+}
+
+#[test]
+fn the_first_thread(rt: HostRuntime) -> Result<(), Fail> {
+    let mut kernel = Kernel::new(rt.alloc(), limits(2, 8, 100, 16, 1_000))?;
+    assert_eq!(rt; kernel.cpus(), 2);
+    assert_eq!(rt; kernel.limits(), limits(2, 8, 100, 16, 1_000));
+    assert_eq!(rt; kernel.threads(), 0);
+    assert_eq!(rt; kernel.status(Tid(0)), None);
+    assert_eq!(rt; kernel.create(Cpu(0), 3, true)?, posted(0, 1, 0, 1));
+    kernel.is_sound();
+    let kind = Kind::Created {
+        mask: Mask::new(3, 2)?,
+        ready: true,
+    };
+    let message = Item::Thread(Message {
+        thread: Tid(0),
+        number: 1,
+        kind,
+    });
+    assert_eq!(rt; kernel.threads(), 1);
+    assert_eq!(rt; kernel.queue_of(Tid(0)), Some(Cpu(0)));
+    assert_eq!(rt; kernel.queue_of(Tid(1)), None);
+    assert_eq!(rt;
+        kernel.history(Tid(0)).ok_or("no thread")?,
+        [kind].as_slice()
+    );
+    assert_eq!(rt; kernel.aseq(Cpu(0)), Some(1));
+    assert_eq!(rt; kernel.aseq(Cpu(1)), Some(0));
+    assert_eq!(rt; kernel.aseq(Cpu(2)), None);
+    assert_eq!(rt; kernel.running(Cpu(0)), None);
+    assert!(rt; !kernel.is_asleep(Cpu(0)));
+    assert!(rt; !kernel.is_asleep(Cpu(2)));
+    let (aseq, items) = kernel.peek(Cpu(0))?;
+    assert_eq!(rt; aseq, 1);
+    assert_eq!(rt; items.as_slice(), [message].as_slice());
+    let (aseq, items) = kernel.peek(Cpu(1))?;
+    assert_eq!(rt; aseq, 0);
+    assert!(rt; items.is_empty());
+    assert!(rt; matches!(kernel.peek(Cpu(2)), Err(KernelFault::BadCpu)));
+    Ok(())
+}
+
+// The highest CPU has the highest bit.
+#[test]
+fn the_last_cpu(rt: HostRuntime) -> Result<(), Fail> {
+    let mut kernel = Kernel::new(
+        rt.alloc(),
+        limits(64, 4_096, 1_000_000, 65_536, 4_294_967_295),
+    )?;
+    assert_eq!(rt;
+        kernel.create(Cpu(63), 9_223_372_036_854_775_808, true)?,
+        posted(0, 1, 63, 1)
+    );
+    assert_eq!(rt; kernel.create(Cpu(64), 1, true), Err(KernelFault::BadCpu));
+    assert_eq!(rt; kernel.running(Cpu(63)), None);
+    Ok(())
+}
+
+// Room for one item: a second message is refused, and the thread is as it was.
+#[test]
+fn a_full_queue(rt: HostRuntime) -> Result<(), Fail> {
+    let mut kernel = Kernel::new(rt.alloc(), limits(1, 2, 9, 1, 10))?;
+    assert_eq!(rt; kernel.create(Cpu(0), 1, false)?, posted(0, 1, 0, 1));
+    assert_eq!(rt; kernel.wake(Tid(0)), Err(KernelFault::QueueFull));
+    let status = Status {
+        number: 1,
+        running_on: None,
+    };
+    assert_eq!(rt; kernel.status(Tid(0)), Some(status));
+    assert_eq!(rt;
+        kernel.reported(Tid(0)).ok_or("no thread")?.phase,
+        Phase::Blocked
+    );
+    assert_eq!(rt; kernel.create(Cpu(0), 1, true), Err(KernelFault::QueueFull));
+    assert_eq!(rt; kernel.threads(), 1);
+    Ok(())
+}
+
+#[test]
+fn names_are_spent_before_the_queue_is_full(rt: HostRuntime) -> Result<(), Fail> {
+    let mut kernel = Kernel::new(rt.alloc(), limits(1, 1, 2, 2, 10))?;
+    assert_eq!(rt; kernel.create(Cpu(0), 1, false)?, posted(0, 1, 0, 1));
+    assert_eq!(rt; kernel.wake(Tid(0))?, posted(0, 2, 0, 2));
+    assert_eq!(rt;
+        kernel.create(Cpu(0), 1, true),
+        Err(KernelFault::NamesSpent)
+    );
+    assert_eq!(rt; kernel.wake(Tid(0)), Err(KernelFault::NotBlocked));
+    assert_eq!(rt; kernel.aseq(Cpu(0)), Some(2));
+    Ok(())
+}
+
+// Two posts in all: the refusals of a mask and of a thread come before that of the posts.
+#[test]
+fn spent_posts_come_last(rt: HostRuntime) -> Result<(), Fail> {
+    let mut kernel = Kernel::new(rt.alloc(), limits(1, 2, 9, 5, 2))?;
+    assert_eq!(rt; kernel.create(Cpu(0), 1, false)?, posted(0, 1, 0, 1));
+    assert_eq!(rt; kernel.wake(Tid(0))?, posted(0, 2, 0, 2));
+    assert_eq!(rt;
+        kernel.create(Cpu(0), 1, true),
+        Err(KernelFault::PostsSpent)
+    );
+    assert_eq!(rt;
+        kernel.create(Cpu(0), 2, true),
+        Err(KernelFault::MaskTooWide)
+    );
+    assert_eq!(rt; kernel.create(Cpu(0), 0, true), Err(KernelFault::EmptyMask));
+    assert_eq!(rt; kernel.wake(Tid(0)), Err(KernelFault::NotBlocked));
+    assert_eq!(rt; kernel.wake(Tid(1)), Err(KernelFault::UnknownThread));
+    assert_eq!(rt; kernel.aseq(Cpu(0)), Some(2));
+    Ok(())
+}
+
+// A message that does not fit the thread's numbers: one number alone.
+#[test]
+fn spent_numbers(rt: HostRuntime) -> Result<(), Fail> {
+    let mut kernel = Kernel::new(rt.alloc(), limits(1, 2, 1, 1, 1))?;
+    assert_eq!(rt; kernel.create(Cpu(0), 1, false)?, posted(0, 1, 0, 1));
+    assert_eq!(rt; kernel.wake(Tid(0)), Err(KernelFault::NumbersSpent));
+    assert_eq!(rt; kernel.aseq(Cpu(0)), Some(1));
+    Ok(())
+}
+
+// The state of a thread is that of its history.
+#[test]
+fn histories_report_states(rt: HostRuntime) -> Result<(), Fail> {
+    let mut kernel = Kernel::new(rt.alloc(), limits(2, 2, 9, 9, 9))?;
+    kernel.create(Cpu(1), 2, false)?;
+    kernel.create(Cpu(1), 3, true)?;
+    kernel.wake(Tid(0))?;
+    let mut state = None;
+    for kind in kernel.history(Tid(0)).ok_or("no thread")? {
+        state = match state {
+            None => Reported::first(*kind),
+            Some(before) => Some(applied(before, *kind)),
+        };
+    }
+    let wanted = Reported {
+        phase: Phase::Ready,
+        mask: Mask::new(2, 2)?,
+        ran: 0,
+        level: pc_messages::level::Level::LOWEST,
+    };
+    assert_eq!(rt; state, Some(wanted));
+    assert_eq!(rt; kernel.reported(Tid(0)), Some(wanted));
+    assert_eq!(rt; kernel.state(Tid(0)).copied(), Some(wanted));
+    assert_eq!(rt; kernel.state(Tid(2)), None);
+    assert_eq!(rt; kernel.history(Tid(2)), None);
+    Ok(())
+}
+
+/// `apply`, where the sum of ticks fits, which it does in every test here.
+fn applied(before: Reported, kind: Kind) -> Reported {
+    if before.ran < 1_000_000 {
+        before.apply(kind)
+    } else {
+        before
+    }
+}

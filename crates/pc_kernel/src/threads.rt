@@ -1,0 +1,143 @@
+//! What the kernel keeps of each thread.
+
+ghost use Rattle.std.specs.Prelude.{◌≡◌, ◌+◌, ◌<◌, ◌≤◌, ◌^◌, ℕ, Some, [], ◌∷◌, ◌++◌, length, IfOk, OnErr, IsTrue};
+ghost use Rattle.pc_messages.specs.State.{ran_given, state_of};
+ghost use Rattle.pc_messages.specs.Run.{is_created};
+ghost use Rattle.std.specs.Vec.{vec_len, vec_capacity};
+ghost use Rattle.pc_kernel.specs.Entries.{AreTargets};
+
+use crate::calls::Posted;
+use crate::cpus::{CpuEntry, post};
+use pc_messages::kind::Kind;
+use pc_messages::message::{Item, Message};
+use pc_messages::names::{Cpu, Tid};
+use pc_messages::reported::Reported;
+use std::alloc::{AllocError, Global};
+use std::marker::Model;
+
+/// A thread: its home queue, the kinds of its messages, the state that they report, and the CPU that it runs on.
+#[derive(Drop)]
+pub(crate) struct ThreadEntry {
+    home: Cpu,
+    kinds: Vec<Kind>,
+    state: Reported,
+    on: Option<Cpu>,
+}
+
+impl Model for ThreadEntry {
+    ghost use Rattle.pc_kernel.specs.Rows.{ThreadRow};
+    ghost use Rattle.pc_kernel.specs.ThreadEntry.{IsEntry};
+
+    ghost Value = { ThreadRow };
+
+    ghost view = { λ e. record { home = e.home; kinds = e.kinds.items; on = e.on } };
+
+    ghost invariant = { λ e. IsEntry e.kinds.items e.state };
+}
+
+impl ThreadEntry {
+    ghost use Rattle.pc_kernel.specs.ThreadEntry.{IsTold};
+
+    /// A thread with its first message, on no CPU.
+    pub(crate) fn first(alloc: Global, home: Cpu, kind: &Kind) -> Result<Self, AllocError>
+        requires { IsTrue (is_created kind.now) }
+        ensures { IfOk result (λ e. e ≡ record { home = home; kinds = kind.now ∷ []; on = None }) }
+    {
+        let state = match Reported::first(*kind) {
+            Some(state) => state,
+            None => unreachable!(),
+        };
+        let mut kinds = Vec::with_capacity(alloc, 1)?;
+        append(&mut kinds, kind);
+        Ok(ThreadEntry {
+            home,
+            kinds,
+            state,
+            on: None,
+        })
+    }
+
+    /// The home queue.
+    pub(crate) fn home(&self) -> Cpu
+        ensures { result ≡ self.now.home }
+    {
+        self.home
+    }
+
+    /// The number of the last message.
+    pub(crate) fn number(&self) -> u32
+        ensures number { result ≡ length self.now.kinds }
+        ensures greatest { result ≤ 16000000 }
+    {
+        self.kinds.len() as u32
+    }
+
+    /// The kinds of the messages, in order.
+    pub(crate) fn kinds(&self) -> &[Kind]
+        ensures { result.now ≡ self.now.kinds }
+    {
+        &self.kinds
+    }
+
+    /// The state that the messages report.
+    pub(crate) fn state(&self) -> &Reported
+        ensures { state_of self.now.kinds ≡ Some result.now }
+    {
+        &self.state
+    }
+
+    /// The CPU that the thread runs on.
+    pub(crate) fn on(&self) -> Option<Cpu>
+        ensures { result ≡ self.now.on }
+    {
+        self.on
+    }
+
+    /// Tells of one more message: posts it to the home queue, and adds it to the history. Both growths come before
+    /// any change.
+    pub(crate) fn tell(
+        &mut self,
+        thread: Tid,
+        kind: Kind,
+        cpus: &mut Vec<CpuEntry>,
+    ) -> Result<Posted, AllocError>
+        requires home { self.old.home < length cpus.old.items }
+        requires targets { AreTargets cpus.old.items }
+        requires number { length self.old.kinds < 16000000 }
+        requires ran { ran_given kind < 2 ^ 32 }
+        ensures row { IfOk result (λ _. self.new ≡ record self.old { kinds = self.old.kinds ++ kind ∷ [] }) }
+        ensures ok { IfOk result (λ posted. IsTold cpus.old.items cpus.new.items self.old thread kind posted) }
+        ensures err { OnErr result (self.new ≡ self.old) }
+        ensures err_cpus { OnErr result (cpus.new.items ≡ cpus.old.items) }
+    {
+        self.kinds.reserve(1)?;
+        let number = self.kinds.len() as u32 + 1;
+        let home = self.home;
+        let landing = post(
+            cpus,
+            home,
+            Item::Thread(Message {
+                thread,
+                number,
+                kind,
+            }),
+        )?;
+        append(&mut self.kinds, &kind);
+        self.state = self.state.apply(kind);
+        Ok(Posted {
+            thread: Some(thread),
+            number: Some(number),
+            queue: home,
+            aseq: landing.aseq,
+            woken: landing.woken,
+        })
+    }
+}
+
+/// Puts an element at the end, where a place is reserved for it.
+fn append<T: Copy>(items: &mut Vec<T>, item: &T)
+    requires { vec_len items.old < vec_capacity items.old }
+    ensures { items.new.items ≡ items.old.items ++ item.now ∷ [] }
+{
+    let _ = items.push(*item);
+}

@@ -1,0 +1,147 @@
+-- What a machine shows after an agent published or was shown.
+use Rattle.std.proofs.Common.{◌≡◌, ℕ, zero, suc, ◌+◌, ◌≤◌, ◌<◌, ◌==◌, ◌||◌, ◌⊎◌, Bool, true, false, List, [], ◌∷◌, ◌++◌, length, All, Option, Some, None, MatchBool, IfOk, Result, slice_get, get_or, set, nat_lt, Contains, refl, sym, ◌∙◌, ap, subst, inl, inr, arith, length-append, if◌then◌else◌}
+use Rattle.std.specs.Option.{option_map_or}
+use Rattle.std.proofs.lemmas.Bool.{cases_eq, lt-ltb, ltb-true}
+use Rattle.std.proofs.lemmas.Bool.Decides.{eqb_tells}
+use Rattle.std.proofs.lemmas.Option.{slice_get_within, same_Some}
+use Rattle.std.proofs.lemmas.List.Elements.{Contains-get_or, All-from_get_or}
+use Rattle.pc_messages.specs.Run.{Run, kind_at}
+use Rattle.pc_messages.specs.declared.message.Item.{Item}
+use Rattle.pc_messages.specs.declared.message.Item.TheVariants.{Thread, Tick}
+use Rattle.pc_join.specs.Sets.{as_members, IsSameSet, IsUnion}
+use Rattle.pc_kernel.specs.Answers.{Shows}
+use Rattle.pc_kernel.specs.PlainKernel.{PlainKernel, kinds, content}
+use Rattle.pc_kernel.specs.Reads.{seen, shown, is_cpu}
+use Rattle.pc_kernel.specs.Reads as reads
+use Rattle.pc_kernel.specs.Rows.{KernelRows, CpuRow}
+use Rattle.pc_kernel.specs.Sound.{IsSound, IsCpuRow}
+use Rattle.pc_kernel.specs.Steps.{at}
+use Rattle.pc_kernel.proofs.ShownReads.{shown-kinds, shown-content}
+use Rattle.pc_script.specs.declared.reply.Reply.{Reply}
+use Rattle.pc_script.specs.declared.reply.Reply.TheVariants as replies
+use Rattle.pc_script.specs.declared.reply.ShownThread.{ShownThread}
+use Rattle.pc_view.specs.Views.{pairs_of, thread_of, source_of, IsOfRun}
+use Rattle.pc_sim.specs.declared.agents.Agent.{Agent}
+use Rattle.pc_sim.specs.declared.world.World.{World}
+use Rattle.pc_sim.specs.Items.{AreOfRun, IsItemOf}
+use Rattle.pc_sim.specs.PlainWorld.{PlainWorld, pairs_in, published}
+use Rattle.pc_sim.specs.Session.{IsPublish, IsPublishing, IsShow, IsShowing}
+use Rattle.pc_sim.specs.Showing.{ShowsAll}
+use Rattle.pc_sim.specs.Shows.{ShowsAgent, ShowsWorld, Does, Sends}
+use Rattle.pc_sim.proofs.Items.{as_members-append}
+use Rattle.pc_sim.proofs.Shown.{rows_shown}
+
+pub at_same : {X : Type 0} (f : ℕ → X) (n : ℕ) (x : X) → at f n x n ≡ x
+at_same f n x = elim (eqb_tells n n) [ inl h ↦ rw h.0 refl | inr h ↦ absurd (h.1 refl) ]
+
+at_other : {X : Type 0} (f : ℕ → X) (place n : ℕ) (x : X) → (n ≡ place → ⊥) → at f place x n ≡ f n
+at_other f place n x o = elim (eqb_tells n place) [ inl e ↦ absurd (o e.1) | inr e ↦ rw e.0 refl ]
+
+get_set_same : (xs : List Agent) (i : ℕ) (y a : Agent) → slice_get (set xs i y) i ≡ Some a → a ≡ y
+get_set_same [] i y a e = cc
+get_set_same (x ∷ xs) zero y a e = sym (same_Some y a e)
+get_set_same (x ∷ xs) (suc i) y a e = get_set_same xs i y a e
+
+get_set_other : (xs : List Agent) (i j : ℕ) (y : Agent) → (j ≡ i → ⊥) → slice_get (set xs i y) j ≡ slice_get xs j
+get_set_other [] i j y o = refl
+get_set_other (x ∷ xs) zero zero y o = absurd (o refl)
+get_set_other (x ∷ xs) zero (suc j) y o = refl
+get_set_other (x ∷ xs) (suc i) zero y o = refl
+get_set_other (x ∷ xs) (suc i) (suc j) y o = get_set_other xs i j y (λ e. o (ap suc e))
+
+match_true : (b : Bool) (P Q : Type 0) → b ≡ true → P → MatchBool b P Q
+match_true b P Q e p = subst (λ c. MatchBool c P Q) (sym e) p
+
+pub item_at : (xs : List Agent) (i : ℕ) (a d : Agent) → i < length xs → a ≡ get_or xs i d → slice_get xs i ≡ Some a
+item_at [] i a d low e = absurd (omega arith)
+item_at (x ∷ xs) zero a d low e = ap Some (sym e)
+item_at (x ∷ xs) (suc i) a d low e = item_at xs i a d (omega arith) e
+
+-- what a queue holds is of the run
+held_in : Option CpuRow → List Item
+held_in None = []
+held_in (Some row) = row.content
+
+item_of : (k : KernelRows) (row : CpuRow) → IsCpuRow k row → (it : Item) → Contains row.content it → IsItemOf (λ t. reads.kinds (seen k) t) it
+item_of k row h (Thread message) there = (h.messages message there).kind
+item_of k row h (Tick cpu) there = tt
+
+row_items : (k : KernelRows) → IsSound k → (c : ℕ) (o : Option CpuRow) → slice_get k.cpus c ≡ o → All (IsItemOf (λ t. reads.kinds (seen k) t)) (option_map_or (λ (row : CpuRow). row.content) o [])
+row_items k sound c None e i d low = absurd (omega arith)
+row_items k sound c (Some row) e i d low = item_of k row (sound.cpu c row e) (get_or row.content i d) (Contains-get_or row.content i d low)
+
+pub kernel_items : (k : KernelRows) (P : PlainKernel) → IsSound k → Shows k P → (c : ℕ) → AreOfRun (kinds P) (reads.content (seen k) c)
+kernel_items k P sound shows c =
+    let same : (λ t. reads.kinds (seen k) t) ≡ kinds P = λ i t. (ap (λ r. reads.kinds r t) shows.reads ∙ shown-kinds P t) i in
+    subst (λ run. AreOfRun run (reads.content (seen k) c)) same (row_items k sound c (slice_get k.cpus c) refl)
+
+pub kernel_content : (k : KernelRows) (P : PlainKernel) → Shows k P → (c : ℕ) → c < k.limits.cpus → content P c ≡ reads.content (seen k) c
+kernel_content k P shows c low =
+    let there : is_cpu (shown P) c ≡ true = ap (λ r. is_cpu r c) (sym shows.reads) ∙ lt-ltb c k.limits.cpus low in
+    sym (shown-content P c there) ∙ ap (λ r. reads.content r c) (sym shows.reads)
+
+pub cpu_there : (world : World) (w : PlainWorld) → ShowsWorld world w → (c : ℕ) → c < world.kernel.limits.cpus → is_cpu (shown w.kernel) c ≡ true
+cpu_there world w h c low = ap (λ r. is_cpu r c) (sym h.kernel.reads) ∙ lt-ltb c world.kernel.limits.cpus low
+
+-- a view is shown
+pub show_did : (world : World) (c : ℕ) (agent : Agent) (rows : List ShownThread) → slice_get world.agents.items c ≡ Some agent → ShowsAll (thread_of agent.view) rows
+    → Does (IsShowing c) world world (replies.View rows)
+show_did world c agent rows there all w h =
+    let known = h.agents c agent there in
+    let low : c < length world.agents.items = slice_get_within world.agents.items c agent there in
+    let many : length world.agents.items ≡ world.kernel.limits.cpus = world.as_many in (
+      w,
+      match_true (is_cpu (shown w.kernel) c) _ _ (cpu_there world w h c (omega arith)) record {
+        rows = rows;
+        tells = refl;
+        shown = rows_shown agent.view.threads (kinds w.kernel) (source_of (kinds w.kernel)) (w.seen c) (λ t n. refl) known.of_run known.seen rows all;
+        same = refl;
+      },
+      h,
+    )
+
+-- an agent took in what its queue held, and sent it
+pub send_did : (old new : World) (c : ℕ) (items : List Item) (agent : Agent) (mark : ℕ) → slice_get old.agents.items c ≡ Some agent
+    → new.kernel ≡ old.kernel → (more : Agent) → new.agents.items ≡ set old.agents.items c more → new.sent.items ≡ old.sent.items ++ mark ∷ []
+    → IsUnion (pairs_of agent.view) (as_members (pairs_in items)) (pairs_of more.view)
+    → ((run : Run) → IsOfRun run agent.view → AreOfRun run items → IsOfRun run more.view) → more.shown ≡ length items
+    → (delta : ℕ) → delta ≡ length old.sent.items
+    → Sends c items old new (replies.Published delta (length items))
+send_did old new c items agent mark there kernel more agents sent union of_run count delta index w h holds all =
+    let was = h.agents c agent there in (
+      record {
+        tells = (λ i. replies.Published ((index ∙ h.sent) i) (length (sym holds i)));
+        after = refl;
+      },
+      record {
+        kernel = subst (λ k. Shows k w.kernel) (sym kernel) h.kernel;
+        agents = λ d a e. elim (cases_eq d c) [
+          | inl same ↦
+              let is : a ≡ more = get_set_same old.agents.items c more a (ap (λ l. slice_get l c) (sym agents) ∙ subst (λ n. slice_get new.agents.items n ≡ Some a) same e) in
+              subst (λ n. ShowsAgent (kinds w.kernel) ((published w c).seen n) ((published w c).shown n) a) (sym same)
+              (subst (ShowsAgent (kinds w.kernel) ((published w c).seen c) ((published w c).shown c)) (sym is) record {
+                of_run = of_run (kinds w.kernel) was.of_run all;
+                seen = λ m. union m ∙ ap (λ b. b || as_members (pairs_in items) m) (was.seen m) ∙ sym (as_members-append (w.seen c) (pairs_in items) m)
+                    ∙ ap (λ l. as_members (w.seen c ++ pairs_in l) m) (sym holds) ∙ ap (λ l. as_members l m) (sym (at_same w.seen c (w.seen c ++ pairs_in (content w.kernel c))));
+                shown = count ∙ ap length (sym holds) ∙ sym (at_same w.shown c (length (content w.kernel c)));
+              })
+          | inr other ↦
+              let was' = h.agents d a (sym (get_set_other old.agents.items c d more other) ∙ ap (λ l. slice_get l d) (sym agents) ∙ e) in
+              record {
+                of_run = was'.of_run;
+                seen = λ m. was'.seen m ∙ ap (λ l. as_members l m) (sym (at_other w.seen c d (w.seen c ++ pairs_in (content w.kernel c)) other));
+                shown = was'.shown ∙ sym (at_other w.shown c d (length (content w.kernel c)) other);
+              }
+        ];
+        sent = ap length sent ∙ length-append old.sent.items (mark ∷ []) ∙ ap (λ n. n + 1) h.sent ∙ sym (length-append w.sent (pairs_in (content w.kernel c) ∷ []));
+      },
+    )
+
+-- so it does where its queue is read
+pub publish_did : (old new : World) (c : ℕ) (items : List Item) (told : Reply) → IsSound old.kernel → is_cpu (seen old.kernel) c ≡ true → items ≡ reads.content (seen old.kernel) c
+    → Sends c items old new told → Does (IsPublishing c) old new told
+publish_did old new c items told sound there is sends w h =
+    let low : c < old.kernel.limits.cpus = ltb-true c old.kernel.limits.cpus there in
+    let holds : content w.kernel c ≡ items = kernel_content old.kernel w.kernel h.kernel c low ∙ sym is in
+    let did = sends w h holds (subst (AreOfRun (kinds w.kernel)) (sym is) (kernel_items old.kernel w.kernel sound h.kernel c)) in
+    (published w c, match_true (is_cpu (shown w.kernel) c) _ _ (cpu_there old w h c low) did.0, did.1)

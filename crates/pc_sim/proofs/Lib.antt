@@ -1,0 +1,9 @@
+pub mod Telling
+pub mod Calls
+pub mod Shown
+pub mod Showing
+pub mod Items
+pub mod Worlds
+pub mod Statuses
+pub mod Acting
+pub mod Standing

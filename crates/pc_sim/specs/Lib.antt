@@ -1,0 +1,9 @@
+pub mod Agents
+pub mod Items
+pub mod Keeping
+pub mod PlainWorld
+pub mod Session
+pub mod Sessions
+pub mod Showing
+pub mod Shows
+pub mod Views

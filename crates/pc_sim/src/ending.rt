@@ -1,0 +1,52 @@
+//! How the program ends.
+
+use pc_script::outcome::{Outcome, ScriptFault};
+
+/// How a run of the program ended.
+#[derive(Clone, Copy, Debug, PartialEq, Eq)]
+pub enum Ending {
+    /// All was done.
+    Finished,
+    /// The script has a line that is no command; its output says which.
+    FaultLine,
+    /// A file, a read or a write failed, or the text is too long.
+    CannotRead,
+    /// The words of the command line are no command.
+    BadCommandLine,
+    /// A growth was refused.
+    OutOfMemory,
+}
+
+impl Ending {
+    /// The exit status.
+    pub fn status(self) -> u8 {
+        match self {
+            Ending::Finished => 0,
+            Ending::FaultLine | Ending::CannotRead => 1,
+            Ending::BadCommandLine => 2,
+            Ending::OutOfMemory => 4,
+        }
+    }
+
+    /// What is said on standard error.
+    pub fn message(self) -> Option<&'static str> {
+        match self {
+            Ending::Finished | Ending::FaultLine => None,
+            Ending::CannotRead => Some("pc-sim: cannot read"),
+            Ending::BadCommandLine => Some("pc-sim: bad command line"),
+            Ending::OutOfMemory => Some("pc-sim: out of memory"),
+        }
+    }
+}
+
+impl From<Result<Outcome, ScriptFault>> for Ending {
+    fn from(run: Result<Outcome, ScriptFault>) -> Ending {
+        match run {
+            Ok(Outcome::Finished) => Ending::Finished,
+            Ok(Outcome::FaultLine(_)) => Ending::FaultLine,
+            Err(ScriptFault::OutOfMemory) => Ending::OutOfMemory,
+            Err(ScriptFault::Read | ScriptFault::TooLong | ScriptFault::Write) =>
+                Ending::CannotRead,
+        }
+    }
+}

@@ -1,0 +1,75 @@
+//! The machine that answers a script's commands: no world before an accepted `enclave`, and one from then on.
+
+ghost use Rattle.std.specs.Prelude.{◌≡◌, List, [], ◌∷◌, ◌++◌, IfOk};
+ghost use Rattle.pc_script.specs.declared.command.Command.{Command};
+ghost use Rattle.pc_script.specs.declared.reply.Reply.{Reply};
+ghost use Rattle.pc_sim.specs.Session.{IsSession, IsStep};
+ghost use Rattle.pc_sim.specs.Sessions.{StandsAfter, Steps, is_session};
+
+use crate::names::limit_of;
+use crate::world::World;
+use pc_kernel::limits::{Limits, LimitsFault};
+use pc_script::command::Command;
+use pc_script::machine::Machine;
+use pc_script::reply::{Refusal, Reply};
+use std::alloc::{AllocError, Global};
+
+/// What a script's commands are answered by.
+#[derive(Drop)]
+pub struct Session {
+    alloc: Global,
+    world: Option<World>,
+}
+
+/// Answers a command that meets no world.
+fn open(alloc: Global, world: &mut Option<World>, command: Command) -> Result<Reply, AllocError>
+    requires { world.old ≡ None }
+    ensures { IfOk result (Steps command world.old world.new) }
+{
+    let Command::Enclave {
+        cpus,
+        threads,
+        numbers,
+        room,
+        posts,
+    } = command
+    else {
+        return Ok(Reply::Refused(Refusal::NoEnclave));
+    };
+    let limits = Limits {
+        cpus,
+        threads,
+        numbers,
+        room,
+        posts,
+    };
+    match World::open(alloc, limits) {
+        Ok(opened) => {
+            *world = Some(opened);
+            Ok(Reply::Done)
+        }
+        Err(LimitsFault::BadLimits(field)) => Ok(Reply::Refused(Refusal::BadLimits(limit_of(
+            field,
+        )))),
+        Err(LimitsFault::OutOfMemory) => Err(AllocError),
+    }
+}
+
+impl Machine for Session {
+    ghost IsRun = { IsSession };
+
+    ghost StandsAfter = { λ session. StandsAfter session.world };
+
+    fn start(alloc: Global) -> Session {
+        Session { alloc, world: None }
+    }
+
+    fn answer(&mut self, command: Command) -> Result<Reply, AllocError> {
+        match &mut self.world {
+            None => open(self.alloc, &mut self.world, command),
+            Some(world) => world.answer(self.alloc, command),
+        }
+    }
+
+    ghost is_run_after = { λ session commands replies stands. is_session session.world commands replies stands };
+}

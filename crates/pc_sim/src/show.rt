@@ -1,0 +1,85 @@
+//! What `show` tells of a view.
+
+ghost use Rattle.std.specs.Prelude.{◌≡◌, [], ◌∷◌, ◌++◌, map, IfOk, IfSome, OnOk};
+ghost use Rattle.pc_view.specs.Views.{thread_of};
+ghost use Rattle.pc_sim.specs.Showing.{row_told, ShowsAll};
+
+use crate::names::phase_of;
+use pc_messages::kind::Kind;
+use pc_messages::names::Tid;
+use pc_script::lists::{Numbers, ShownThreads};
+use pc_script::reply::{Prefix, ShownThread};
+use pc_thread_view::view::ThreadView;
+use pc_view::view::View;
+use std::alloc::{AllocError, Global};
+
+/// The numbers of early messages.
+fn numbers_of(alloc: Global, early: &[(u32, Kind)]) -> Result<Numbers, AllocError>
+    ensures { IfOk result (λ numbers. numbers ≡ map (λ e. e.0) early.now) }
+{
+    let mut numbers = Numbers::new(alloc);
+    for (number, _) in early {
+        numbers.push(*number)?;
+    }
+    Ok(numbers)
+}
+
+/// The row of one thread.
+fn row_of(alloc: Global, thread: Tid, known: &ThreadView) -> Result<ShownThread, AllocError>
+    ensures { IfOk result (λ row. row ≡ row_told thread known.now) }
+{
+    let prefix = match known.reported() {
+        None => None,
+        Some(state) => Some(Prefix {
+            upto: known.upto(),
+            phase: phase_of(state.phase),
+            mask: state.mask.bits(),
+            ran: state.ran,
+            level: state.level.get(),
+        }),
+    };
+    let early = numbers_of(alloc, known.early())?;
+    Ok(ShownThread {
+        thread: thread.index(),
+        prefix,
+        early,
+    })
+}
+
+/// Adds the row of a thread that the view knows of.
+fn push_row(
+    alloc: Global,
+    view: &View,
+    thread: Tid,
+    rows: &mut ShownThreads,
+) -> Result<(), AllocError>
+    ensures { OnOk result (IfSome (thread_of view.now thread) (λ told. rows.new ≡ rows.old ++ row_told thread told ∷ [])) }
+{
+    match view.thread(thread) {
+        None => Ok(()),
+        Some(known) => {
+            let row = row_of(alloc, thread, known)?;
+            rows.push(row)
+        }
+    }
+}
+
+/// The rows of all threads that the view knows of, in the order of their names.
+pub fn shown_threads(alloc: Global, view: &View) -> Result<ShownThreads, AllocError>
+    ensures { IfOk result (ShowsAll (thread_of view.now)) }
+{
+    let mut rows = ShownThreads::new(alloc);
+    let mut from = 0;
+    'names: loop {
+        match view.next(Tid(from)) {
+            None => return Ok(rows),
+            Some(thread) => {
+                push_row(alloc, view, thread, &mut rows)?;
+                match thread.index().checked_add(1) {
+                    None => return Ok(rows),
+                    Some(after) => from = after,
+                }
+            }
+        }
+    }
+}

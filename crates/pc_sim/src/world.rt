@@ -1,0 +1,176 @@
+//! What an accepted `enclave` starts: the kernel, and an agent for each CPU.
+//!
+//! It stands where the world of events will stand, with the contract that the world will have.
+
+ghost use Rattle.std.specs.Prelude.{◌≡◌, ◌<◌, ◌^◌, length, IfOk, IsTrue, IsFalse};
+ghost use Rattle.pc_kernel.specs.Limits.{bad_field};
+ghost use Rattle.pc_kernel.specs.Reads.{seen, is_cpu};
+ghost use Rattle.pc_sim.specs.PlainWorld.{opened};
+ghost use Rattle.pc_sim.specs.Keeping.{KeepsViews};
+ghost use Rattle.pc_sim.specs.Items.{AreWellFormed};
+ghost use Rattle.pc_sim.specs.Session.{Tells, as_answer, IsCall, IsPublish, IsShow, IsBadCpu, IsStatus, IsWorldStep, IsPublishing, IsShowing};
+
+use crate::agents::{Agent, copy_items, new_agents};
+use crate::names::{phase_of, posted_of, refusal_of};
+use crate::show::shown_threads;
+use pc_kernel::calls::{Call, EnvCall, Posted};
+use pc_kernel::fault::KernelFault;
+use pc_kernel::kernel::Kernel;
+use pc_kernel::laws::calls_extend_the_run;
+use pc_kernel::limits::{LimitField, Limits, LimitsFault, Profile};
+use pc_messages::message::Item;
+use pc_messages::names::{Cpu, Tid};
+use pc_script::command::Command;
+use pc_script::reply::{Refusal, Reply, Status};
+use pc_view::view::views_stay_as_the_run_goes_on;
+use std::alloc::{AllocError, Global};
+
+/// The kernel, its agents, and what they sent.
+#[derive(Drop)]
+pub struct World {
+    kernel: Kernel,
+    /// The agents of CPUs 0, 1, ..
+    agents: Vec<Agent>,
+    /// Of each delta that was sent, how many items it had. What it tells is of no use before deltas can be delivered.
+    sent: Vec<u32>,
+    ghost as_many: { length agents.items ≡ kernel.limits.cpus },
+}
+
+/// The reply that tells of a call of the kernel.
+fn told(answered: Result<Posted, KernelFault>) -> Result<Reply, AllocError>
+    ensures { IfOk result (λ reply. Tells reply (as_answer answered)) }
+{
+    match answered {
+        Ok(posted) => Ok(Reply::Posted(posted_of(posted))),
+        Err(fault) => match refusal_of(fault) {
+            Some(refusal) => Ok(Reply::Refused(refusal)),
+            None => Err(AllocError),
+        },
+    }
+}
+
+/// A call of the kernel leaves each agent's view a view of the kernel's run.
+fn calls_keep_views()
+    ensures { KeepsViews }
+{
+    calls_extend_the_run();
+    views_stay_as_the_run_goes_on();
+}
+
+impl World {
+    ghost use Rattle.pc_sim.specs.Shows.{ShowsWorld, Does, Sends};
+
+    /// The world at the start, or why there is none.
+    pub fn open(alloc: Global, limits: Limits) -> Result<World, LimitsFault>
+        ensures ok { IfOk result (λ world. ShowsWorld world (opened limits)) }
+        ensures within { IfOk result (λ _. bad_field Profile.One limits ≡ None) }
+        ensures refused { (field : LimitField) → result ≡ Err (LimitsFault.BadLimits field) → bad_field Profile.One limits ≡ Some field }
+    {
+        match Kernel::new(alloc, limits) {
+            Err(fault) => Err(fault),
+            Ok(kernel) => match new_agents(alloc, kernel.cpus()) {
+                Err(_) => Err(LimitsFault::OutOfMemory),
+                Ok(agents) => Ok(World {
+                    kernel,
+                    agents,
+                    sent: Vec::new(alloc),
+                }),
+            },
+        }
+    }
+
+    fn create(&mut self, queue: Cpu, mask: u64, ready: bool) -> Result<Reply, AllocError>
+        ensures { IfOk result (Does (λ w. IsCall w (Call.Env (EnvCall.Create queue mask ready))) self.old self.new) }
+    {
+        calls_keep_views();
+        told(self.kernel.create(queue, mask, ready))
+    }
+
+    fn wake(&mut self, thread: Tid) -> Result<Reply, AllocError>
+        ensures { IfOk result (Does (λ w. IsCall w (Call.Env (EnvCall.Wake thread))) self.old self.new) }
+    {
+        calls_keep_views();
+        told(self.kernel.wake(thread))
+    }
+
+    fn status(&self, thread: Tid) -> Reply
+        ensures { IsStatus thread ((seen self.now.kernel).thread thread) result }
+    {
+        self.kernel.is_sound();
+        match (self.kernel.status(thread), self.kernel.reported(thread)) {
+            (Some(status), Some(state)) => Reply::Status(Status {
+                thread: thread.index(),
+                number: status.number,
+                phase: phase_of(state.phase),
+                running_on: match status.running_on {
+                    Some(cpu) => Some(cpu.index()),
+                    None => None,
+                },
+            }),
+            _ => Reply::Refused(Refusal::UnknownThread),
+        }
+    }
+
+    /// The agent takes in what its queue holds, and sends it.
+    fn publish(&mut self, cpu: Cpu) -> Result<Reply, AllocError>
+        ensures { IfOk result (Does (IsPublishing cpu) self.old self.new) }
+    {
+        self.kernel.is_sound();
+        match self.kernel.peek(cpu) {
+            Err(KernelFault::BadCpu) => Ok(Reply::Refused(Refusal::BadCpu)),
+            Err(_) => Err(AllocError),
+            Ok((_, items)) => self.send(cpu, items.as_slice()),
+        }
+    }
+
+    /// The agent takes in these items, which are all that its queue holds, and sends them.
+    fn send(&mut self, cpu: Cpu, items: &[Item]) -> Result<Reply, AllocError>
+        requires there { cpu < self.old.kernel.limits.cpus }
+        requires well_formed { AreWellFormed items.now }
+        requires few { length items.now < 2 ^ 32 }
+        ensures { IfOk result (Sends cpu items.now self.old self.new) }
+    {
+        let count = items.len() as u32;
+        let delta = self.sent.len() as u64;
+        self.sent.push(count)?;
+        let agent = &mut self.agents[cpu.index() as usize];
+        match copy_items(&mut agent.view, items) {
+            Err(_) => Err(AllocError),
+            Ok(()) => {
+                agent.shown = count;
+                Ok(Reply::Published {
+                    delta,
+                    items: count,
+                })
+            }
+        }
+    }
+
+    /// What the agent knows.
+    fn show(&self, alloc: Global, cpu: Cpu) -> Result<Reply, AllocError>
+        ensures { IfOk result (Does (IsShowing cpu) self.now self.now) }
+    {
+        match self.agents.get(cpu.index() as usize) {
+            None => Ok(Reply::Refused(Refusal::BadCpu)),
+            Some(agent) => Ok(Reply::View(shown_threads(alloc, &agent.view)?)),
+        }
+    }
+
+    /// Answers a command.
+    pub fn answer(&mut self, alloc: Global, command: Command) -> Result<Reply, AllocError>
+        ensures { IfOk result (Does (λ w. IsWorldStep w command) self.old self.new) }
+    {
+        match command {
+            Command::Enclave { .. } => Ok(Reply::Refused(Refusal::HaveEnclave)),
+            Command::Create {
+                queue,
+                mask,
+                is_ready,
+            } => self.create(Cpu(queue), mask, is_ready),
+            Command::Wake { thread } => self.wake(Tid(thread)),
+            Command::Publish { cpu } => self.publish(Cpu(cpu)),
+            Command::Status { thread } => Ok(self.status(Tid(thread))),
+            Command::Show { cpu } => self.show(alloc, Cpu(cpu)),
+        }
+    }
+}

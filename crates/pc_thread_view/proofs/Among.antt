@@ -1,0 +1,255 @@
+-- Whether messages are among others that ascend.
+use Rattle.std.proofs.Common.{ℕ, ◌+◌, ◌-◌, ◌<◌, ◌≤◌, ◌≡◌, ◌≢◌, ◌==◌, ◌⊎◌, ◌||◌, nat_le, Bool, true, false, IsTrue, ◌↔◌, List, [], ◌∷◌, ◌++◌, length, take, drop, get_or, take-append-drop, refl, sym, ap, ◌∙◌, subst, arith, inl, inr, None}
+use Rattle.std.proofs.lemmas.Bool.{false≢true}
+use Rattle.std.proofs.lemmas.Bool.Decides.{nat_tests}
+use Rattle.pc_messages.specs.declared.kind.Kind.{Kind}
+use Rattle.pc_thread_view.specs.Told.{Told, RiseAbove, AreAmong, IsSound, is_early, in_prefix, tells, numbers_of, IsOfThread}
+use Rattle.pc_join.specs.Sets.{Source, IsWithin, IsVoid}
+use Rattle.pc_thread_view.specs.ToldLaws.{lacks_below}
+use Rattle.pc_thread_view.proofs.Gaining.{rise_from}
+
+-- by halves
+lacks_later : (n : ℕ) (low : List (ℕ × Kind)) (e : ℕ × Kind) (high : List (ℕ × Kind)) (m : ℕ) → RiseAbove n (low ++ e ∷ high) → m < e.0 → is_early (low ++ e ∷ high) m ≡ is_early low m
+lacks_later n [] e high m h lt = lacks_below (e.0 - 1) (e ∷ high) m (omega arith, h.1) (omega arith)
+lacks_later n (d ∷ low) e high m h lt = ap (λ b. (d.0 == m) || b) (lacks_later d.0 low e high m h.1 lt)
+
+first_above : (n : ℕ) (low : List (ℕ × Kind)) (e : ℕ × Kind) (high : List (ℕ × Kind)) → RiseAbove n (low ++ e ∷ high) → n < e.0
+first_above n [] e high h = h.0
+first_above n (d ∷ low) e high h = let g = first_above d.0 low e high h.1 in omega arith
+
+other_number : (a b : ℕ) → a < b → (a == b) ≡ false
+other_number a b h = grind (arith, nat_tests)
+
+lacks_earlier : (n : ℕ) (low : List (ℕ × Kind)) (e : ℕ × Kind) (high : List (ℕ × Kind)) (m : ℕ) → RiseAbove n (low ++ e ∷ high) → e.0 ≤ m → is_early (low ++ e ∷ high) m ≡ is_early (e ∷ high) m
+lacks_earlier n [] e high m h le = refl
+lacks_earlier n (d ∷ low) e high m h le =
+    let g = first_above d.0 low e high h.1 in
+    ap (λ b. b || is_early (low ++ e ∷ high) m) (other_number d.0 m (omega arith)) ∙ lacks_earlier d.0 low e high m h.1 le
+
+rise_low : (n : ℕ) (low high : List (ℕ × Kind)) → RiseAbove n (low ++ high) → RiseAbove n low
+rise_low n [] high h = tt
+rise_low n (d ∷ low) high h = (h.0, rise_low d.0 low high h.1)
+
+rise_high : (n : ℕ) (low high : List (ℕ × Kind)) → RiseAbove n (low ++ high) → RiseAbove 0 high
+rise_high n [] high h = rise_from n 0 high (omega arith) h
+rise_high n (d ∷ low) high h = rise_high d.0 low high h.1
+
+-- the part has the number where the messages have it
+pub record IsPart (early part : List (ℕ × Kind)) (m : ℕ) : Type 0 where
+  pub same : is_early early m ≡ is_early part m
+  pub rise : RiseAbove 0 part
+
+halves : (part low high : List (ℕ × Kind)) (k : ℕ) → low ≡ take k part → high ≡ drop k part → part ≡ low ++ high
+halves part low high k e f = sym (take-append-drop k part) ∙ ap (λ x. x ++ drop k part) (sym e) ∙ ap (λ x. low ++ x) (sym f)
+
+pub half_low : (early part low high : List (ℕ × Kind)) (d : ℕ × Kind) (k m : ℕ) → IsPart early part m → low ≡ take k part → high ≡ drop k part → 0 < length high → m < (get_or high 0 d).0 → IsPart early low m
+half_low early part low [] d k m p e f some lt = absurd (omega arith)
+half_low early part low (r ∷ high) d k m p e f some lt =
+    let there : IsPart early (low ++ r ∷ high) m = subst (λ x. IsPart early x m) (halves part low (r ∷ high) k e f) p in
+    record { same = there.same ∙ lacks_later 0 low r high m there.rise lt; rise = rise_low 0 low (r ∷ high) there.rise }
+
+pub half_high : (early part low high : List (ℕ × Kind)) (d : ℕ × Kind) (k m : ℕ) → IsPart early part m → low ≡ take k part → high ≡ drop k part → 0 < length high → (get_or high 0 d).0 ≤ m → IsPart early high m
+half_high early part low [] d k m p e f some le = absurd (omega arith)
+half_high early part low (r ∷ high) d k m p e f some le =
+    let there : IsPart early (low ++ r ∷ high) m = subst (λ x. IsPart early x m) (halves part low (r ∷ high) k e f) p in
+    record { same = there.same ∙ lacks_earlier 0 low r high m there.rise le; rise = rise_high 0 low (r ∷ high) there.rise }
+
+or_none : (b : Bool) → b ≡ (b || false)
+or_none true = refl
+or_none false = refl
+
+one_left : (e : ℕ × Kind) (rest : List (ℕ × Kind)) (m : ℕ) → length (e ∷ rest) ≤ 1 → (e.0 == m) ≡ is_early (e ∷ rest) m
+one_left e [] m h = or_none (e.0 == m)
+one_left e (d ∷ ds) m h = absurd (omega arith)
+
+pub part_one : (early part rest : List (ℕ × Kind)) (e : ℕ × Kind) (m : ℕ) → IsPart early part m → part ≡ e ∷ rest → length part ≤ 1 → (e.0 == m) ≡ is_early early m
+part_one early part rest e m p f h = one_left e rest m (subst (λ x. length x ≤ 1) f h) ∙ sym (ap (λ x. is_early x m) f) ∙ sym p.same
+
+pub no_items : (xs : List (ℕ × Kind)) → length xs ≡ 0 → xs ≡ []
+no_items [] e = refl
+no_items (x ∷ xs) e = absurd (omega arith)
+
+pub part_none : (early part : List (ℕ × Kind)) (m : ℕ) → IsPart early part m → length part ≡ 0 → false ≡ is_early early m
+part_none early part m p e = sym (p.same ∙ ap (λ x. is_early x m) (no_items part e))
+
+-- by one walk
+pub record IsWalk (upto : ℕ) (mine others held asked : List (ℕ × Kind)) : Type 0 where
+  pub same : AreAmong others upto mine ↔ AreAmong asked upto held
+  pub held_rise : RiseAbove 0 held
+  pub asked_rise : RiseAbove 0 asked
+
+pub walk_start : (upto : ℕ) (mine others : List (ℕ × Kind)) → RiseAbove 0 mine → RiseAbove 0 others → IsWalk upto mine others mine others
+walk_start upto mine others h a = record { same = (λ f. f, λ f. f); held_rise = h; asked_rise = a }
+
+after : {A B C : Type 0} → A ↔ B → B ↔ C → A ↔ C
+after f g = (λ a. g.0 (f.0 a), λ c. f.1 (g.1 c))
+
+here : (d : ℕ × Kind) (ds : List (ℕ × Kind)) → is_early (d ∷ ds) d.0 ≡ true
+here d ds = ap (λ b. b || is_early ds d.0) (itself d.0)
+  where
+    itself : (n : ℕ) → (n == n) ≡ true
+    itself n = grind (arith, nat_tests)
+
+or_left : (a b : Bool) → a ≡ true → (a || b) ≡ true
+or_left true b h = refl
+or_left false b h = absurd (false≢true h)
+
+or_right : (a b : Bool) → b ≡ true → (a || b) ≡ true
+or_right true b h = refl
+or_right false b h = h
+
+-- the next one asked for is there
+next_there : (upto : ℕ) (next : ℕ × Kind) (more held : List (ℕ × Kind)) → (in_prefix upto next.0 || is_early held next.0) ≡ true → AreAmong (next ∷ more) upto held ↔ AreAmong more upto held
+next_there upto next more held there = (λ f n e. f n (or_right (next.0 == n) (is_early more n) e), λ f n e. by_test f n (next.0 == n) refl e)
+  where
+    eq_true : (a b : ℕ) → (a == b) ≡ true → a ≡ b
+    eq_true a b e = grind (arith, nat_tests)
+
+    by_test : AreAmong more upto held → (n : ℕ) (b : Bool) → (next.0 == n) ≡ b → (b || is_early more n) ≡ true → (in_prefix upto n || is_early held n) ≡ true
+    by_test f n true e h = subst (λ m. (in_prefix upto m || is_early held m) ≡ true) (eq_true next.0 n e) there
+    by_test f n false e h = f n h
+
+-- the first one held comes before all that are asked for
+first_passed : (upto : ℕ) (first next : ℕ × Kind) (rest more : List (ℕ × Kind)) → RiseAbove 0 (next ∷ more) → first.0 < next.0 → AreAmong (next ∷ more) upto (first ∷ rest) ↔ AreAmong (next ∷ more) upto rest
+first_passed upto first next rest more asked lt = (
+  λ f n e. drop_it n (at_least n e) (f n e),
+  λ f n e. keep_it n (f n e),
+)
+  where
+    cases : (a b : ℕ) → (a < b) ⊎ (b ≤ a)
+    cases a b = grind arith
+
+    at_least : (n : ℕ) → is_early (next ∷ more) n ≡ true → next.0 ≤ n
+    at_least n e = elim (cases n next.0) [ inl k ↦ absurd (false≢true (sym (lacks_below (next.0 - 1) (next ∷ more) n (omega arith, asked.1) (omega arith)) ∙ e)) | inr k ↦ k ]
+
+    drop_it : (n : ℕ) → next.0 ≤ n → (in_prefix upto n || is_early (first ∷ rest) n) ≡ true → (in_prefix upto n || is_early rest n) ≡ true
+    drop_it n le e = ap (λ b. in_prefix upto n || (b || is_early rest n)) (sym (other_number first.0 n (omega arith))) ∙ e
+
+    insert : (p a b : Bool) → (p || b) ≡ true → (p || (a || b)) ≡ true
+    insert true a b e = refl
+    insert false true b e = refl
+    insert false false b e = e
+
+    keep_it : (n : ℕ) → (in_prefix upto n || is_early rest n) ≡ true → (in_prefix upto n || is_early (first ∷ rest) n) ≡ true
+    keep_it n e = insert (in_prefix upto n) (first.0 == n) (is_early rest n) e
+
+not_prefix : (upto n : ℕ) → upto < n → in_prefix upto n ≡ false
+not_prefix upto n h = grind (arith, nat_tests)
+
+module _ (upto : ℕ) (mine others held asked : List (ℕ × Kind)) (walk : IsWalk upto mine others held asked) (next : ℕ × Kind) (more : List (ℕ × Kind)) (a : asked ≡ next ∷ more) where
+  at_next : IsWalk upto mine others held (next ∷ more)
+  at_next = subst (λ x. IsWalk upto mine others held x) a walk
+
+  pub walk_prefix : 1 ≤ next.0 → next.0 ≤ upto → IsWalk upto mine others held more
+  walk_prefix h e = record {
+    same = after at_next.same (next_there upto next more held (or_left (in_prefix upto next.0) (is_early held next.0) (yes upto next.0 h e)));
+    held_rise = at_next.held_rise;
+    asked_rise = rise_from next.0 0 more (omega arith) at_next.asked_rise.1;
+  }
+    where
+      yes : (u n : ℕ) → 1 ≤ n → n ≤ u → in_prefix u n ≡ true
+      yes u n h e = grind (arith, nat_tests)
+
+  pub next_positive : 1 ≤ next.0
+  next_positive = at_next.asked_rise.0
+
+  pub walk_none : upto < next.0 → held ≡ [] → ¬ AreAmong others upto mine
+  walk_none lt h all =
+      let there : IsWalk upto mine others [] (next ∷ more) = subst (λ x. IsWalk upto mine others x (next ∷ more)) h at_next in
+      false≢true (sym (ap (λ b. b || false) (not_prefix upto next.0 lt)) ∙ there.same.0 all next.0 (here next more))
+
+  module _ (first : ℕ × Kind) (rest : List (ℕ × Kind)) (h : held ≡ first ∷ rest) where
+    at_both : IsWalk upto mine others (first ∷ rest) (next ∷ more)
+    at_both = subst (λ x. IsWalk upto mine others x (next ∷ more)) h at_next
+
+    pub walk_on : first.0 < next.0 → IsWalk upto mine others rest asked
+    walk_on lt = subst (λ x. IsWalk upto mine others rest x) (sym a) (record {
+      same = after at_both.same (first_passed upto first next rest more at_both.asked_rise lt);
+      held_rise = rise_from first.0 0 rest (omega arith) at_both.held_rise.1;
+      asked_rise = at_both.asked_rise;
+    })
+
+    pub walk_found : first.0 ≡ next.0 → IsWalk upto mine others held more
+    walk_found e = subst (λ x. IsWalk upto mine others x more) (sym h) (record {
+      same = after at_both.same (next_there upto next more (first ∷ rest) (or_right (in_prefix upto next.0) (is_early (first ∷ rest) next.0) (subst (λ m. is_early (first ∷ rest) m ≡ true) e (here first rest))));
+      held_rise = at_both.held_rise;
+      asked_rise = rise_from next.0 0 more (omega arith) at_both.asked_rise.1;
+    })
+
+    pub walk_missing : upto < next.0 → next.0 < first.0 → ¬ AreAmong others upto mine
+    walk_missing lt gt all =
+        false≢true (sym (ap (λ b. b || is_early (first ∷ rest) next.0) (not_prefix upto next.0 lt) ∙ lacks_below next.0 (first ∷ rest) next.0 (gt, at_both.held_rise.1) (omega arith)) ∙ at_both.same.0 all next.0 (here next more))
+
+pub walk_all : (upto : ℕ) (mine others held asked : List (ℕ × Kind)) → IsWalk upto mine others held asked → asked ≡ [] → AreAmong others upto mine
+walk_all upto mine others held asked walk e =
+    let there : IsWalk upto mine others held [] = subst (λ x. IsWalk upto mine others held x) e walk in
+    there.same.1 (λ n f. absurd (false≢true f))
+
+-- of two views
+wider : (t u n : ℕ) → t ≤ u → in_prefix t n ≡ true → in_prefix u n ≡ true
+wider t u n h e = grind (arith, nat_tests)
+
+or_cases : {P : Type 0} (a b : Bool) → (a || b) ≡ true → (a ≡ true → P) → (b ≡ true → P) → P
+or_cases true b e f g = f refl
+or_cases false b e f g = g e
+
+pub covers_told : (v w : Told) (mine others : List (ℕ × Kind)) (r : Bool) → mine ≡ v.early → others ≡ w.early → w.upto ≤ v.upto → IsTrue r ↔ AreAmong others v.upto mine → IsTrue r ↔ ((n : ℕ) → tells w n ≡ true → tells v n ≡ true)
+covers_told v w mine others r e f h d =
+    let there : IsTrue r ↔ AreAmong w.early v.upto v.early = subst (λ x. IsTrue r ↔ AreAmong w.early v.upto x) e (subst (λ x. IsTrue r ↔ AreAmong x v.upto mine) f d) in (
+      λ t n k. or_cases (in_prefix w.upto n) (is_early w.early n) k (λ p. or_left (in_prefix v.upto n) (is_early v.early n) (wider w.upto v.upto n h p)) (λ q. there.0 t n q),
+      λ all. there.1 (λ n k. all n (or_right (in_prefix w.upto n) (is_early w.early n) k)),
+    )
+
+pub exceeds : (v w : Told) → IsSound v → v.upto < w.upto → ¬ ((n : ℕ) → tells w n ≡ true → tells v n ≡ true)
+exceeds v w sound lt all =
+    false≢true (sym (ap (λ b. b || is_early v.early (v.upto + 1)) (not_prefix v.upto (v.upto + 1) (omega arith)) ∙ lacks_below (v.upto + 1) v.early (v.upto + 1) sound.gap (omega arith))
+    ∙ all (v.upto + 1) (or_left (in_prefix w.upto (v.upto + 1)) (is_early w.early (v.upto + 1)) (yes w.upto (v.upto + 1) (omega arith) (omega arith))))
+  where
+    yes : (u n : ℕ) → 1 ≤ n → n ≤ u → in_prefix u n ≡ true
+    yes u n h e = grind (arith, nat_tests)
+
+pub exceeds_test : (t u : ℕ) → u < t → IsTrue (nat_le t u) → ⊥
+exceeds_test t u h e = grind (arith, nat_tests)
+
+-- of what is told, as sets
+pub covers_numbers : (v w a b : Told) (r : Bool) → v ≡ a → w ≡ b → IsTrue r ↔ ((n : ℕ) → tells w n ≡ true → tells v n ≡ true) → IsTrue r ↔ IsWithin (numbers_of b) (numbers_of a)
+covers_numbers v w a b r e f h =
+    let P : Told → Told → Type 0 = λ x y. IsTrue r ↔ IsWithin (numbers_of y) (numbers_of x) in
+    subst (λ x. P x b) e (subst (P v) f (λ t. within (h.0 t), λ all. h.1 (λ n. all (n ∷ []))))
+  where
+    within : ((n : ℕ) → tells w n ≡ true → tells v n ≡ true) → IsWithin (numbers_of w) (numbers_of v)
+    within g [] k = k
+    within g (n ∷ []) k = g n k
+    within g (n ∷ d ∷ m) k = k
+
+pub void_numbers : (v a : Told) (r : Bool) → v ≡ a → IsTrue r ↔ ((n : ℕ) → tells v n ≡ false) → IsTrue r ↔ IsVoid (numbers_of a)
+void_numbers v a r e h = subst (λ x. IsTrue r ↔ IsVoid (numbers_of x)) e (λ t. void (h.0 t), λ all. h.1 (λ n. all (n ∷ [])))
+  where
+    void : ((n : ℕ) → tells v n ≡ false) → IsVoid (numbers_of v)
+    void g [] = refl
+    void g (n ∷ []) = g n
+    void g (n ∷ d ∷ m) = refl
+
+-- nothing is told
+none_told : (n : ℕ) → (in_prefix 0 n || false) ≡ false
+none_told n = grind (arith, nat_tests)
+
+pub tells_none : (v : Told) (early : List (ℕ × Kind)) (b : Bool) → v.upto ≡ 0 → early ≡ v.early → b ≡ (length early == 0) → IsTrue b ↔ ((n : ℕ) → tells v n ≡ false)
+tells_none v early b e f h = (λ t n. ap (λ u. in_prefix u n || is_early v.early n) e ∙ ap (λ es. in_prefix 0 n || is_early es n) (sym f ∙ no_items early (zero (length early) (sym h ∙ t))) ∙ none_told n, λ all. by_cases early f h all)
+  where
+    zero : (n : ℕ) → (n == 0) ≡ true → n ≡ 0
+    zero n e = grind (arith, nat_tests)
+
+    by_cases : (es : List (ℕ × Kind)) → es ≡ v.early → b ≡ (length es == 0) → ((n : ℕ) → tells v n ≡ false) → IsTrue b
+    by_cases [] f h all = h
+    by_cases (d ∷ ds) f h all = absurd (false≢true (sym (all d.0) ∙ or_right (in_prefix v.upto d.0) (is_early v.early d.0) (ap (λ es. is_early es d.0) (sym f) ∙ here d ds)))
+
+pub tells_some : (v : Told) → v.upto ≢ 0 → ¬ ((n : ℕ) → tells v n ≡ false)
+tells_some v ne all = false≢true (sym (all 1) ∙ or_left (in_prefix v.upto 1) (is_early v.early 1) (one v.upto ne))
+  where
+    one : (u : ℕ) → u ≢ 0 → in_prefix u 1 ≡ true
+    one u ne = grind (arith, nat_tests)
+
+-- a view of nothing
+pub of_nothing : (s : Source) → IsOfThread (record { upto = 0; state = None; early = [] }) s
+of_nothing s = record { prefix = record { kinds = []; count = refl; of_source = tt; folded = refl }; gap = tt; early = tt }

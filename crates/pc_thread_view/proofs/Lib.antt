@@ -1,0 +1,3 @@
+pub mod Among
+pub mod Gaining
+pub mod Taking

@@ -1,0 +1,175 @@
+//! The view of one thread.
+
+ghost use Rattle.std.specs.Prelude.{ℕ, ◌+◌, ◌*◌, ◌≡◌, ◌≤◌, ◌<◌, ◌↔◌, ◌==◌, ◌||◌, Bool, true, false, List, [], ◌∷◌, Some, None, IsTrue, IsOk, IfOk, OnOk, OnErr};
+ghost use Rattle.pc_messages.specs.Run.{IsWellFormed};
+ghost use Rattle.pc_join.specs.Sets.{Members, Source, IsUnion, IsBetween, IsWithin, IsVoid, IsSameSet};
+ghost use Rattle.pc_thread_view.specs.Told.{Told, IsSound, IsOfThread, numbers_of, only, tells, written};
+ghost use Rattle.pc_thread_view.specs.ToldLaws.{unique_told, stays_told};
+ghost use Rattle.pc_thread_view.specs.Same.{is_same_told, told_partial, told_equivalence};
+
+use crate::held::{Held, append, covers_held, has_held, holds_none, is_same_held, join_held};
+use pc_join::join::{Join, OutOfMemory};
+use pc_messages::kind::Kind;
+use pc_messages::reported::Reported;
+use smallvec::SmallVec;
+use std::alloc::Global;
+use std::marker::Model;
+
+/// What is known of one thread: the state that its first messages report, up to the first that is missing, and the
+/// messages past that one, which are early.
+#[derive(Drop)]
+pub struct ThreadView {
+    held: Held,
+}
+
+impl Model for ThreadView {
+    ghost use Rattle.pc_thread_view.specs.Told.{Told, IsSound};
+
+    ghost Value = { Told };
+
+    ghost use Rattle.pc_thread_view.specs.Held.{told};
+
+    ghost view = { λ view. told view.held };
+
+    ghost invariant = { λ view. IsSound (told view.held) };
+}
+
+impl ThreadView {
+    /// The view of one message. It takes no memory.
+    pub fn of(alloc: Global, number: u32, kind: Kind) -> Self
+        requires { IsWellFormed number kind }
+        ensures known { IsSameSet (numbers_of result) (only number) }
+        ensures of_source { (s : Source) → s (number ∷ []) ≡ written kind → IsOfThread result s }
+        ensures sound { IsSound result }
+    {
+        let mut held = Held {
+            upto: 0,
+            state: None,
+            early: SmallVec::new(alloc),
+        };
+        append(&mut held, number, kind).unwrap();
+        ThreadView { held }
+    }
+
+    /// The view of all messages up to a number, which report this state. It takes no memory.
+    pub fn folded(alloc: Global, upto: u32, reported: Reported) -> Self
+        requires positive { 1 ≤ upto }
+        requires fits { upto ≤ 16000000 }
+        requires ran { reported.ran ≤ upto * 4294967295 }
+        ensures { result ≡ record { upto = upto; state = Some reported; early = [] } }
+    {
+        ThreadView {
+            held: Held {
+                upto,
+                state: Some(reported),
+                early: SmallVec::new(alloc),
+            },
+        }
+    }
+
+    /// Takes in one message. A number that is known changes nothing. Where memory runs out, the view is as before or
+    /// has taken the message in.
+    pub fn insert(&mut self, number: u32, kind: Kind) -> Result<(), OutOfMemory>
+        requires { IsWellFormed number kind }
+        ensures union { OnOk result (IsUnion (numbers_of self.old) (only number) (numbers_of self.new)) }
+        ensures between { IsBetween (numbers_of self.old) (only number) (numbers_of self.new) }
+        ensures of_source { (s : Source) → IsOfThread self.old s → s (number ∷ []) ≡ written kind → IsOfThread self.new s }
+        ensures known { IsTrue (tells self.old number) → self.new ≡ self.old }
+        ensures known_succeeds { IsTrue (tells self.old number) → IsOk result }
+        ensures sound { IsSound self.new }
+    {
+        if self.has(number) {
+            return Ok(());
+        }
+        let one = ThreadView::of(*self.held.early.allocator(), number, kind);
+        self.join_from(&one)
+    }
+
+    /// The last number of the messages that are all known; 0 where the first message is not.
+    pub fn upto(&self) -> u32
+        ensures value { result ≡ self.now.upto }
+        ensures sound { IsSound self.now }
+    {
+        self.held.upto
+    }
+
+    /// The state that these messages report.
+    pub fn reported(&self) -> Option<Reported>
+        ensures value { result ≡ self.now.state }
+        ensures sound { IsSound self.now }
+    {
+        self.held.state
+    }
+
+    /// The messages past the first that is missing, with their numbers, ascending.
+    pub fn early(&self) -> &[(u32, Kind)]
+        ensures value { result.now ≡ self.now.early }
+        ensures sound { IsSound self.now }
+    {
+        self.held.early.as_slice()
+    }
+
+    /// Whether the message with this number is known.
+    pub fn has(&self, number: u32) -> bool
+        ensures { result ≡ tells self.now number }
+    {
+        has_held(&self.held, number)
+    }
+}
+
+impl Join for ThreadView {
+    ghost known = { numbers_of };
+
+    ghost is_of = { IsOfThread };
+
+    fn join_from(&mut self, other: &ThreadView) -> Result<(), OutOfMemory>
+        ensures union { OnOk result (IsUnion (numbers_of self.old) (numbers_of other.now) (numbers_of self.new)) }
+        ensures between { IsBetween (numbers_of self.old) (numbers_of other.now) (numbers_of self.new) }
+        ensures of_source { (s : Source) → IsOfThread self.old s → IsOfThread other.now s → IsOfThread self.new s }
+        ensures sound { IsSound self.new }
+    {
+        join_held(&mut self.held, &other.held)
+    }
+
+    fn covers(&self, other: &ThreadView) -> bool {
+        covers_held(&self.held, &other.held)
+    }
+
+    fn is_empty(&self) -> bool {
+        holds_none(&self.held)
+    }
+
+    fn try_copy(&self) -> Result<ThreadView, OutOfMemory> {
+        let early = SmallVec::from_slice(*self.held.early.allocator(), self.held.early.as_slice())?;
+        Ok(ThreadView {
+            held: Held {
+                upto: self.held.upto,
+                state: self.held.state,
+                early,
+            },
+        })
+    }
+
+    ghost unique = { λ s a b of_a of_b same. unique_told s a b of_a of_b same };
+
+    ghost stays = { λ s t a agrees of_s. stays_told s t a agrees of_s };
+}
+
+impl PartialEq for ThreadView {
+    ghost eq = { is_same_told };
+
+    ghost laws = { told_partial };
+
+    fn eq(&self, other: &ThreadView) -> bool {
+        is_same_held(&self.held, &other.held)
+    }
+}
+
+impl Eq for ThreadView {
+    ghost laws = { told_equivalence };
+}
+
+/// Two views are equal exactly where they tell the same.
+pub fn equality_is_exact()
+    ensures { (a b : Told) → IsTrue (is_same_told a b) ↔ (a ≡ b) }
+{}

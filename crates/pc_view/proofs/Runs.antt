@@ -1,0 +1,160 @@
+-- Views and the runs that they are of.
+use Rattle.std.proofs.Common.{ℕ, suc, zero, ◌+◌, ◌-◌, ◌<◌, ◌≤◌, ◌≡◌, ◌==◌, ◌⊎◌, ◌^◌, cond, Bool, true, false, IsTrue, ◌↔◌, List, [], ◌∷◌, ◌++◌, ◌||◌, length, take, drop, Option, Some, None, IsSome, refl, sym, ap, ◌∙◌, subst, arith, inl, inr}
+use Rattle.std.specs.List.{slice_get}
+use Rattle.std.specs.Bool.{Decides}
+use Rattle.std.specs.Ordering.{nat_cmp}
+use Rattle.std.specs.Cmp.{nat_cmp_total}
+use Rattle.std.specs.FinMap as map
+use Rattle.std.proofs.lemmas.Bool.Decides.{nat_tests}
+use Rattle.pc_messages.specs.State.{state_of}
+use Rattle.pc_thread_view.specs.ToldLaws.{same_kind, written_some, lacks_next}
+use Rattle.pc_messages.specs.declared.kind.Kind.{Kind}
+use Rattle.pc_messages.specs.declared.reported.Reported.{Reported}
+use Rattle.pc_messages.specs.Run.{Run, Extends, kind_at}
+use Rattle.pc_join.specs.Sets.{Source, IsVoid, source_at}
+use Rattle.pc_join.specs.ByName.{members_by_name, known_in, IsOfByName, HasShortNames, IsNextName}
+use Rattle.pc_thread_view.specs.Told.{Told, IsOfThread, IsPrefix, HasKinds, numbers_of, is_early, in_prefix, written}
+use Rattle.pc_thread_view.specs.Same.{is_same_told, told_Decides}
+use Rattle.pc_view.specs.declared.view.View.{View}
+use Rattle.pc_view.specs.Views.{source_of, written_at, AgreesAtNames, IsOfRun, thread_of, pairs_of}
+
+-- a run that goes on gives what it gave
+got_append : {A : Type 0} (xs ys : List A) (i : ℕ) → ¬ (slice_get xs i ≡ None) → slice_get (xs ++ ys) i ≡ slice_get xs i
+got_append [] ys i h = absurd (h refl)
+got_append (x ∷ xs) ys zero h = refl
+got_append (x ∷ xs) ys (suc i) h = got_append xs ys i h
+
+kind_on : (xs ys : List Kind) (n : ℕ) → ¬ (kind_at xs n ≡ None) → kind_at (xs ++ ys) n ≡ kind_at xs n
+kind_on xs ys n h = by_test (n == 0) h
+  where
+    by_test : (b : Bool) → ¬ (cond b None (slice_get xs (n - 1)) ≡ None) → cond b None (slice_get (xs ++ ys) (n - 1)) ≡ cond b None (slice_get xs (n - 1))
+    by_test true h = refl
+    by_test false h = got_append xs ys (n - 1) h
+
+pub goes_on : (longer shorter : Run) → Extends longer shorter → (m : List ℕ) → ¬ (source_of shorter m ≡ []) → source_of longer m ≡ source_of shorter m
+goes_on longer shorter extends [] h = refl
+goes_on longer shorter extends (t ∷ []) h = refl
+goes_on longer shorter extends (t ∷ n ∷ []) h =
+    let more = extends t in
+    ap (λ kinds. written_at (kind_at kinds n)) more.1 ∙ ap written_at (kind_on (shorter t) more.0 n (λ e. h (ap written_at e)))
+goes_on longer shorter extends (t ∷ n ∷ k ∷ m) h = refl
+
+-- a folded prefix
+pub folded_of : (s : Source) (upto : ℕ) (reported : Reported) → IsPrefix s upto (Some reported) → IsOfThread (record { upto = upto; state = Some reported; early = [] }) s
+folded_of s upto reported p = record { prefix = p; gap = tt; early = tt }
+
+-- no names
+none_at : (x : map.FinMap nat_cmp Told) → x ≡ map.empty → (q : ℕ) → map.get x q ≡ None
+none_at x e q = ap (λ y. map.get y q) e ∙ map.get-empty nat_cmp q
+
+pub nothing_known : (x : map.FinMap nat_cmp Told) → x ≡ map.empty → IsVoid (members_by_name numbers_of x)
+nothing_known x e [] = refl
+nothing_known x e (t ∷ m) = ap (λ o. known_in numbers_of o m) (none_at x e t)
+
+pub nothing_of : (x : map.FinMap nat_cmp Told) → x ≡ map.empty → (s : Source) → IsOfByName numbers_of IsOfThread x s
+nothing_of x e s = record { kept = λ q v some. absurd (clash (map.get x q) v (none_at x e q) some); each = λ q v some. absurd (clash (map.get x q) v (none_at x e q) some) }
+  where
+    clash : (o : Option Told) (v : Told) → o ≡ None → o ≡ Some v → ⊥
+    clash o v e f = cc
+
+-- the same under a name
+pub same_at : (x y : Option Told) (v w : Told) (r : Bool) → Some v ≡ x → Some w ≡ y → r ≡ is_same_told v w → IsTrue r ↔ (x ≡ y)
+same_at x y v w r e f h = (
+  λ t. sym e ∙ ap (λ u. Some u) ((told_Decides v w).0 (sym h ∙ t)) ∙ f,
+  λ g. h ∙ (told_Decides v w).1 (inside v w (e ∙ g ∙ sym f)),
+)
+  where
+    inside : (v w : Told) → ◌≡◌ {A = Option Told} (Some v) (Some w) → v ≡ w
+    inside v w e = cc
+
+-- the same under all names
+none_of : (o : Option Told) → (IsSome o → ⊥) → o ≡ None
+none_of None h = refl
+none_of (Some v) h = absurd (h refl)
+
+cases : (a b : ℕ) → (a < b) ⊎ (b ≤ a)
+cases a b = grind arith
+
+-- under each name below one, where the first has something, the other has the same
+abbrev pub AgreesBelow : map.FinMap nat_cmp Told → map.FinMap nat_cmp Told → ℕ → Type 0
+AgreesBelow a b from = (q : ℕ) → q < from → IsSome (map.get a q) → map.get a q ≡ map.get b q
+
+pub agrees_none : (a b : map.FinMap nat_cmp Told) (from : ℕ) → AgreesBelow a b from → ((q : ℕ) → IsSome (map.get a q) → q < from) → AgreesAtNames a b
+agrees_none a b from below none q some = below q (none q some) some
+
+pub agrees_on : (a b : map.FinMap nat_cmp Told) (from name : ℕ) → AgreesBelow a b from → IsNextName a from name → map.get a name ≡ map.get b name → AgreesBelow a b (name + 1)
+agrees_on a b from name below next here q lt some =
+    elim (cases q from) [
+      | inl less ↦ below q less some
+      | inr le ↦ let least : name ≤ q = next.least.least q some le in let at : q ≡ name = omega arith in ap (map.get a) at ∙ here ∙ sym (ap (map.get b) at)
+    ]
+
+pub agrees_all : (a b : map.FinMap nat_cmp Told) (name : ℕ) → AgreesBelow a b (name + 1) → HasShortNames a → ¬ (name + 1 < 2 ^ 32) → AgreesAtNames a b
+agrees_all a b name below short last q some = below q (let fits = short q some in omega (arith, last)) some
+
+pub agrees_both : (a b : map.FinMap nat_cmp Told) → AgreesAtNames a b → AgreesAtNames b a → a ≡ b
+agrees_both a b f g = map.same_map nat_cmp_total map.nat_cmp-IsAntisymmetric a b (λ q. by_cases q (map.get a q) (map.get b q) refl refl)
+  where
+    by_cases : (q : ℕ) (x y : Option Told) → map.get a q ≡ x → map.get b q ≡ y → map.get a q ≡ map.get b q
+    by_cases q None None e h = e ∙ sym h
+    by_cases q (Some v) y e h = f q (subst (λ o. IsSome o) (sym e) refl)
+    by_cases q None (Some w) e h = sym (g q (subst (λ o. IsSome o) (sym h) refl))
+
+pub agrees_same : (a b : map.FinMap nat_cmp Told) → a ≡ b → AgreesAtNames a b
+agrees_same a b e q some = ap (λ m. map.get m q) e
+
+pub same_threads : (a b : View) (r : Bool) → IsTrue r ↔ (a.threads ≡ b.threads) → Decides r (a ≡ b)
+same_threads a b r h = (λ t. let e = h.0 t in λ i. record { threads = e i }, λ e. h.1 (ap (λ v. v.threads) e))
+
+-- what a view of a run tells of a thread
+nothing_written : (o : Option Kind) (kind : Kind) → written_at o ≡ written kind → o ≡ Some kind
+nothing_written None kind e = absurd (written_some kind (sym e))
+nothing_written (Some k) kind e = ap (λ x. Some x) (same_kind k kind e)
+
+dropped : {A : Type 0} (xs : List A) (i : ℕ) (x : A) → slice_get xs i ≡ Some x → drop i xs ≡ x ∷ drop (suc i) xs
+dropped [] i x e = cc
+dropped (y ∷ ys) zero x e = let h : y ≡ x = cc in λ i. h i ∷ ys
+dropped (y ∷ ys) (suc i) x e = dropped ys i x e
+
+kind_after : (kinds : List Kind) (n : ℕ) → kind_at kinds (n + 1) ≡ slice_get kinds n
+kind_after kinds n = ap (λ b. cond b None (slice_get kinds (n + 1 - 1))) (not_zero n) ∙ ap (slice_get kinds) (back n)
+  where
+    not_zero : (n : ℕ) → (n + 1 == 0) ≡ false
+    not_zero n = grind (arith, nat_tests)
+
+    back : (n : ℕ) → n + 1 - 1 ≡ n
+    back n = omega arith
+
+prefix_kinds : (run : Run) (t n : ℕ) (kinds : List Kind) → HasKinds (source_at (source_of run) t) n kinds → (take (length kinds) (drop n (run t)) ≡ kinds) × (length kinds ≤ length (drop n (run t)))
+prefix_kinds run t n [] h = (refl, omega arith)
+prefix_kinds run t n (k ∷ ks) h =
+    let got : slice_get (run t) n ≡ Some k = sym (kind_after (run t) n) ∙ nothing_written (kind_at (run t) (n + 1)) k h.0 in
+    let cut : drop n (run t) ≡ k ∷ drop (n + 1) (run t) = dropped (run t) n k got ∙ ap (λ m. k ∷ drop m (run t)) (one n) in
+    let rest = prefix_kinds run t (n + 1) ks h.1 in
+    (ap (take (suc (length ks))) cut ∙ ap (λ xs. k ∷ xs) rest.0, subst (λ xs. suc (length ks) ≤ length xs) (sym cut) (let le = rest.1 in omega arith))
+  where
+    one : (n : ℕ) → suc n ≡ n + 1
+    one n = omega arith
+
+module _ (run : Run) (view : View) (thread : ℕ) (told : Told) (of_run : IsOfRun run view) (there : thread_of view thread ≡ Some told) where
+  prefix : IsPrefix (source_at (source_of run) thread) told.upto told.state
+  prefix = (of_run.each thread told there).prefix
+
+  pub state_of_run : told.state ≡ state_of (take told.upto (run thread))
+  state_of_run =
+      let p = prefix_kinds run thread 0 prefix.kinds prefix.of_source in
+      prefix.folded ∙ ap state_of (sym p.0 ∙ ap (λ n. take n (run thread)) prefix.count)
+
+  pub within_run : told.upto ≤ length (run thread)
+  within_run =
+      let p = prefix_kinds run thread 0 prefix.kinds prefix.of_source in
+      subst (λ n. n ≤ length (run thread)) prefix.count p.1
+
+  pub missing_next : pairs_of view (thread ∷ (told.upto + 1) ∷ []) ≡ false
+  missing_next = ap (λ o. known_in numbers_of o ((told.upto + 1) ∷ [])) there ∙ lacks_next told (of_run.each thread told there).gap
+
+pub has_prefix : (view : View) (thread n : ℕ) (told : Told) → thread_of view thread ≡ Some told → 1 ≤ n → n ≤ told.upto → pairs_of view (thread ∷ n ∷ []) ≡ true
+has_prefix view thread n told there h e = ap (λ o. known_in numbers_of o (n ∷ [])) there ∙ ap (λ b. b || is_early told.early n) (yes told.upto n h e)
+  where
+    yes : (u n : ℕ) → 1 ≤ n → n ≤ u → in_prefix u n ≡ true
+    yes u n h e = grind (arith, nat_tests)

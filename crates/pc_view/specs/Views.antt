@@ -1,0 +1,55 @@
+-- Views of many threads, and the runs that they are of.
+use Rattle.std.specs.Prelude.{ℕ, ◌≡◌, List, [], ◌∷◌, Option, Some, None, IsSome}
+use Rattle.std.specs.FinMap as map
+use Rattle.std.specs.Ordering.{nat_cmp}
+use Rattle.pc_messages.specs.declared.kind.Kind.{Kind}
+use Rattle.pc_messages.specs.declared.reported.Reported.{Reported}
+use Rattle.pc_messages.specs.Run.{Run, kind_at}
+use Rattle.pc_join.specs.Sets.{Members, Source, members_at, source_at}
+use Rattle.pc_join.specs.ByName.{members_by_name, IsOfByName}
+use Rattle.pc_thread_view.specs.Told.{Told, IsOfThread, IsPrefix, numbers_of, only, prefix_to, written}
+use Rattle.pc_view.specs.declared.view.View.{View}
+
+-- the messages that are known, as pairs of a thread's name and a number
+abbrev pub pairs_of : View → Members
+pairs_of view = members_by_name numbers_of view.threads
+
+-- what is known of one thread
+abbrev pub thread_of : View → ℕ → Option Told
+thread_of view thread = map.get view.threads thread
+
+-- one pair, as a set
+abbrev pub pair : ℕ → ℕ → Members
+pair thread number = members_at thread (only number)
+
+-- the pairs of a thread up to a number, as a set
+abbrev pub prefix_pairs : ℕ → ℕ → Members
+prefix_pairs thread upto = members_at thread (prefix_to upto)
+
+-- a kind as numbers, where there is one
+abbrev pub written_at : Option Kind → List ℕ
+written_at None = []
+written_at (Some kind) = written kind
+
+-- the kind of each message of the run
+abbrev pub source_of : Run → Source
+source_of run [] = []
+source_of run (t ∷ []) = []
+source_of run (t ∷ n ∷ []) = written_at (kind_at (run t) n)
+source_of run (t ∷ n ∷ k ∷ m) = []
+
+-- each thing that the view tells is what the source gives
+abbrev pub IsOfSource : View → Source → Type 0
+IsOfSource view s = IsOfByName numbers_of IsOfThread view.threads s
+
+-- each thing that the view tells is as in the run
+abbrev pub IsOfRun : Run → View → Type 0
+IsOfRun run view = IsOfSource view (source_of run)
+
+-- the state is that of the run's first messages of the thread
+abbrev pub IsPrefixOfRun : Run → ℕ → ℕ → Option Reported → Type 0
+IsPrefixOfRun run thread upto state = IsPrefix (source_at (source_of run) thread) upto state
+
+-- under each name of the first map, the other has the same
+abbrev pub AgreesAtNames : map.FinMap nat_cmp Told → map.FinMap nat_cmp Told → Type 0
+AgreesAtNames first other = (name : ℕ) → IsSome (map.get first name) → map.get first name ≡ map.get other name

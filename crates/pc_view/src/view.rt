@@ -1,0 +1,210 @@
+//! The view of all threads.
+
+ghost use Rattle.std.specs.Prelude.{ℕ, ◌+◌, ◌*◌, ◌≡◌, ◌≤◌, ◌<◌, ◌↔◌, Bool, true, false, List, [], ◌∷◌, Some, None, IsTrue, IsOk, IsSome, IfSome, IfOk, OnOk, MatchOption, option_copied, take, length};
+ghost use Rattle.pc_messages.specs.State.{state_of};
+ghost use Rattle.std.specs.FinMap as map;
+ghost use Rattle.pc_messages.specs.Run.{Run, IsWellFormed, kind_at, Extends};
+ghost use Rattle.pc_join.specs.Sets.{Members, Source, IsUnion, IsBetween, IsWithin, IsVoid, IsSameSet};
+ghost use Rattle.pc_join.specs.ByName.{IsNextName, HasShortNames};
+ghost use Rattle.pc_thread_view.specs.Told.{Told, numbers_of};
+ghost use Rattle.pc_view.specs.declared.view.View.{View};
+ghost use Rattle.pc_view.specs.Views.{AgreesAtNames, pairs_of, thread_of, pair, prefix_pairs, IsOfRun, IsOfSource, IsPrefixOfRun};
+ghost use Rattle.pc_view.specs.ViewLaws.{unique_view, stays_view, is_same_view, view_partial, view_equivalence};
+
+use pc_join::by_name::ByName;
+use pc_join::join::{Join, OutOfMemory};
+use pc_messages::message::Message;
+use pc_messages::names::Tid;
+use pc_messages::reported::Reported;
+use pc_thread_view::view::ThreadView;
+use std::alloc::Global;
+
+/// What is known of all threads: for each, a folded prefix of its messages, and early ones past a gap.
+#[derive(Drop)]
+pub struct View {
+    threads: ByName<ThreadView>,
+}
+
+impl View {
+    /// A view of no message.
+    pub fn new(alloc: Global) -> Self
+        ensures nothing { IsVoid (pairs_of result) }
+        ensures of_run { (run : Run) → IsOfRun run result }
+    {
+        View {
+            threads: ByName::new(alloc),
+        }
+    }
+
+    /// Takes in one message. One that is known changes nothing. Where memory runs out, the view is as before or has
+    /// taken it in.
+    pub fn insert(&mut self, message: Message) -> Result<(), OutOfMemory>
+        requires { IsWellFormed message.number message.kind }
+        ensures union { OnOk result (IsUnion (pairs_of self.old) (pair message.thread message.number) (pairs_of self.new)) }
+        ensures between { IsBetween (pairs_of self.old) (pair message.thread message.number) (pairs_of self.new) }
+        ensures of_run { (run : Run) → IsOfRun run self.old → kind_at (run message.thread) message.number ≡ Some message.kind → IsOfRun run self.new }
+        ensures known { IsTrue (pairs_of self.old (message.thread ∷ message.number ∷ [])) → self.new ≡ self.old }
+        ensures known_succeeds { IsTrue (pairs_of self.old (message.thread ∷ message.number ∷ [])) → IsOk result }
+    {
+        if self.knows(message.thread, message.number) {
+            return Ok(());
+        }
+        let one = ThreadView::of(self.threads.allocator(), message.number, message.kind);
+        self.threads.put(message.thread, one)
+    }
+
+    /// Takes in all messages of a thread up to a number, which report this state. Where memory runs out, the view
+    /// has a part of them.
+    pub fn fold(&mut self, thread: Tid, upto: u32, reported: Reported) -> Result<(), OutOfMemory>
+        requires positive { 1 ≤ upto }
+        requires fits { upto ≤ 16000000 }
+        requires ran { reported.ran ≤ upto * 4294967295 }
+        ensures union { OnOk result (IsUnion (pairs_of self.old) (prefix_pairs thread upto) (pairs_of self.new)) }
+        ensures between { IsBetween (pairs_of self.old) (prefix_pairs thread upto) (pairs_of self.new) }
+        ensures of_run { (run : Run) → IsOfRun run self.old → IsPrefixOfRun run thread upto (Some reported) → IsOfRun run self.new }
+    {
+        let prefix = ThreadView::folded(self.threads.allocator(), upto, reported);
+        self.threads.put(thread, prefix)
+    }
+
+    /// Takes in all that the other view knows. Where memory runs out, a part of it may have been taken in; merging
+    /// again completes it.
+    pub fn merge(&mut self, other: &View) -> Result<(), OutOfMemory>
+        ensures union { OnOk result (IsUnion (pairs_of self.old) (pairs_of other.now) (pairs_of self.new)) }
+        ensures between { IsBetween (pairs_of self.old) (pairs_of other.now) (pairs_of self.new) }
+        ensures of_run { (run : Run) → IsOfRun run self.old → IsOfRun run other.now → IsOfRun run self.new }
+    {
+        self.join_from(other)
+    }
+
+    /// What is known of the thread; none where nothing is.
+    pub fn thread(&self, thread: Tid) -> Option<&ThreadView>
+        ensures value { option_copied result ≡ thread_of self.now thread }
+        ensures some { IfSome result (λ held. ¬ IsVoid (numbers_of held.now)) }
+    {
+        self.threads.get(thread)
+    }
+
+    /// Whether the message of this thread with this number is known.
+    pub fn knows(&self, thread: Tid, number: u32) -> bool
+        ensures { result ≡ pairs_of self.now (thread ∷ number ∷ []) }
+    {
+        match self.threads.get(thread) {
+            Some(held) => held.has(number),
+            None => false,
+        }
+    }
+
+    /// The least name of a thread of which something is known, from this one on.
+    pub fn next(&self, from: Tid) -> Option<Tid>
+        ensures least { MatchOption result ((name : ℕ) → IsSome (thread_of self.now name) → name < from) (IsNextName self.now.threads from) }
+        ensures short { HasShortNames self.now.threads }
+    {
+        self.threads.next(from)
+    }
+}
+
+impl Join for View {
+    ghost known = { pairs_of };
+
+    ghost is_of = { IsOfSource };
+
+    fn join_from(&mut self, other: &View) -> Result<(), OutOfMemory> {
+        self.threads.join_from(&other.threads)
+    }
+
+    fn covers(&self, other: &View) -> bool {
+        self.threads.covers(&other.threads)
+    }
+
+    fn is_empty(&self) -> bool {
+        self.threads.is_empty()
+    }
+
+    fn try_copy(&self) -> Result<View, OutOfMemory> {
+        let threads = self.threads.try_copy()?;
+        Ok(View { threads })
+    }
+
+    ghost unique = { unique_view };
+
+    ghost stays = { stays_view };
+}
+
+impl PartialEq for View {
+    ghost eq = { is_same_view };
+
+    ghost laws = { view_partial };
+
+    fn eq(&self, other: &View) -> bool {
+        is_same(&self.threads, &other.threads)
+    }
+}
+
+impl Eq for View {
+    ghost laws = { view_equivalence };
+}
+
+/// Whether the same is known under the name.
+fn is_same_at(first: &ByName<ThreadView>, other: &ByName<ThreadView>, name: Tid) -> bool
+    ensures { IsTrue result ↔ (map.get first.now name ≡ map.get other.now name) }
+{
+    match (first.get(name), other.get(name)) {
+        (None, None) => true,
+        (Some(mine), Some(theirs)) => *mine == *theirs,
+        _ => false,
+    }
+}
+
+/// Whether the same is known under each name of the first.
+fn agrees(first: &ByName<ThreadView>, other: &ByName<ThreadView>) -> bool
+    ensures { IsTrue result ↔ AgreesAtNames first.now other.now }
+{
+    let mut from = 0;
+    'names: loop {
+        let Some(name) = first.next(Tid(from)) else {
+            return true;
+        };
+        if !is_same_at(first, other, name) {
+            return false;
+        }
+        let Some(next) = name.index().checked_add(1) else {
+            return true;
+        };
+        from = next;
+    }
+}
+
+/// Whether the same is known under every name.
+fn is_same(first: &ByName<ThreadView>, other: &ByName<ThreadView>) -> bool
+    ensures { IsTrue result ↔ (first.now ≡ other.now) }
+{
+    if !agrees(first, other) {
+        return false;
+    }
+    agrees(other, first)
+}
+
+/// Two views are equal exactly where the same is known.
+pub fn equality_is_exact()
+    ensures { (a b : View) → IsTrue (is_same_view a b) ↔ (a ≡ b) }
+{}
+
+/// Views of one run with the same messages are equal.
+pub fn views_of_the_same_messages_are_equal()
+    ensures { (run : Run) (a b : View) → IsOfRun run a → IsOfRun run b → IsSameSet (pairs_of a) (pairs_of b) → a ≡ b }
+{}
+
+/// A view of a run is a view of each run that goes on from it.
+pub fn views_stay_as_the_run_goes_on()
+    ensures { (longer shorter : Run) (view : View) → Extends longer shorter → IsOfRun shorter view → IsOfRun longer view }
+{}
+
+/// What a view of a run tells of a thread: the state of the run's messages up to the number, which it has, and it
+/// has not the next.
+pub fn reads_are_those_of_the_run()
+    ensures reported { (run : Run) (view : View) (thread : ℕ) (told : Told) → IsOfRun run view → thread_of view thread ≡ Some told → told.state ≡ state_of (take told.upto (run thread)) }
+    ensures within { (run : Run) (view : View) (thread : ℕ) (told : Told) → IsOfRun run view → thread_of view thread ≡ Some told → told.upto ≤ length (run thread) }
+    ensures prefix { (view : View) (thread n : ℕ) (told : Told) → thread_of view thread ≡ Some told → 1 ≤ n → n ≤ told.upto → pairs_of view (thread ∷ n ∷ []) ≡ true }
+    ensures missing { (run : Run) (view : View) (thread : ℕ) (told : Told) → IsOfRun run view → thread_of view thread ≡ Some told → pairs_of view (thread ∷ (told.upto + 1) ∷ []) ≡ false }
+{}

@@ -1,0 +1,85 @@
+#!/usr/bin/env python3
+"""Runs the built program on every case, as both compilers built it, and compares bytes.
+
+A case is a folder of tests/cases:
+  args      the arguments, one a line (none: `replay`)
+  stdin     the standard input, or make-stdin, a shell script that writes it (none: empty)
+  stdout    what the program has to write (none: nothing), or stdout-is-not-fixed where only its being there is wanted
+  stderr    what it has to write on standard error (none: nothing)
+  status    its exit status (none: 0)
+Every other file of the folder lies where the program runs.
+"""
+import argparse
+import pathlib
+import re
+import shutil
+import subprocess
+import sys
+import tempfile
+
+ROOT = pathlib.Path(__file__).resolve().parent.parent
+PROGRAMS = [ROOT / "crates/pc_sim/out/pc_sim", ROOT / "crates/pc_sim/out/pc_sim.by-rattle"]
+SECONDS = 120
+
+
+def content(path):
+    return path.read_bytes() if path.is_file() else b""
+
+
+def standard_input(case, folder):
+    script = case / "make-stdin"
+    if script.is_file():
+        return subprocess.run(["bash", str(script)], cwd=folder, stdout=subprocess.PIPE, check=True).stdout
+    return content(case / "stdin")
+
+
+def faults_of(case, program):
+    """What differs from the wanted, as a list of texts."""
+    args = (case / "args").read_text().splitlines() if (case / "args").is_file() else ["replay"]
+    status = int((case / "status").read_text()) if (case / "status").is_file() else 0
+    with tempfile.TemporaryDirectory() as folder:
+        shutil.copytree(case, folder, dirs_exist_ok=True)
+        run = subprocess.run(
+            [str(program), *args], cwd=folder, input=standard_input(case, folder), capture_output=True, timeout=SECONDS
+        )
+    faults = []
+    if run.returncode != status:
+        faults.append(f"status {run.returncode}, wanted {status}")
+    if (case / "stdout-is-not-fixed").exists():
+        if not run.stdout:
+            faults.append("nothing on standard output")
+    elif run.stdout != content(case / "stdout"):
+        faults.append(f"standard output {run.stdout[:400]!r}, wanted {content(case / 'stdout')[:400]!r}")
+    if run.stderr != content(case / "stderr"):
+        faults.append(f"standard error {run.stderr[:400]!r}, wanted {content(case / 'stderr')[:400]!r}")
+    return faults
+
+
+def main():
+    parser = argparse.ArgumentParser(description=__doc__, formatter_class=argparse.RawDescriptionHelpFormatter)
+    parser.add_argument("--gate-status", type=int, default=0, help="the exit status of the gate, to be counted too")
+    parser.add_argument("--gate-line", default="0 passed, 0 failed", help="the gate's last line")
+    options = parser.parse_args()
+    counted = re.fullmatch(r"(\d+) passed, (\d+) failed", options.gate_line.strip())
+    passed, failed = (int(counted[1]), int(counted[2])) if counted else (0, 1)
+    if options.gate_status != 0 and failed == 0:
+        failed = 1
+    cases = sorted(path for path in (ROOT / "tests/cases").iterdir() if path.is_dir())
+    if not cases:
+        print("no case in tests/cases")
+        failed += 1
+    for case in cases:
+        for program in PROGRAMS:
+            try:
+                faults = faults_of(case, program)
+            except (OSError, subprocess.SubprocessError) as error:
+                faults = [str(error)]
+            passed, failed = (passed, failed + 1) if faults else (passed + 1, failed)
+            for fault in faults:
+                print(f"case {case.name} ({program.name}): {fault}")
+    print(f"{passed} passed, {failed} failed")
+    return 1 if failed else 0
+
+
+if __name__ == "__main__":
+    sys.exit(main())
