@@ -1,14 +1,80 @@
-//! What the kernel answers, in the words of a script's replies.
+//! Commands in the words of the kernel, and what it answers in the words of replies.
 
 ghost use Rattle.std.specs.Prelude.{◌≡◌};
-ghost use Rattle.pc_sim.specs.Session.{refusal_named, limit_named, posted_named};
+ghost use Rattle.pc_sim.specs.Session.{call_asked, done_told, env_asked, limit_named, posted_named, profile_of, refusal_named};
 ghost use Rattle.pc_sim.specs.Views.{phase_named};
 
-use pc_kernel::calls::Posted;
+use pc_kernel::calls::{Call, EnvCall, Posted};
 use pc_kernel::fault::KernelFault;
-use pc_kernel::limits::LimitField;
+use pc_kernel::limits::{LimitField, Profile};
+use pc_messages::names::{Cpu, Tid};
 use pc_messages::reported::Phase;
-use pc_script::reply::{self, Limit, Refusal, Subject};
+use pc_script::command::Command;
+use pc_script::reply::{self, Limit, Refusal, Reply, Subject};
+use pc_script::version::Version;
+
+/// The call of the environment that a command asks for.
+fn env_call_of(command: Command) -> Option<EnvCall>
+    ensures { result ≡ env_asked command }
+{
+    Some(match command {
+        Command::Create { queue, mask, is_ready } => EnvCall::Create { queue: Cpu(queue), mask, ready: is_ready },
+        Command::Wake { thread } => EnvCall::Wake { thread: Tid(thread) },
+        Command::Affinity { thread, mask } => EnvCall::SetAffinity { thread: Tid(thread), mask },
+        Command::Priority { thread, level } => EnvCall::SetPriority { thread: Tid(thread), level },
+        Command::Tick { cpu } => EnvCall::Tick { cpu: Cpu(cpu) },
+        Command::Block { cpu, ran } => EnvCall::Block { cpu: Cpu(cpu), ran },
+        Command::Yield { cpu, ran } => EnvCall::YieldNow { cpu: Cpu(cpu), ran },
+        Command::Preempt { cpu, ran } => EnvCall::Preempt { cpu: Cpu(cpu), ran },
+        Command::Die { cpu, ran } => EnvCall::Die { cpu: Cpu(cpu), ran },
+        _ => return None,
+    })
+}
+
+/// The call of the kernel that a command asks for.
+pub fn call_of(command: Command) -> Option<Call>
+    ensures { result ≡ call_asked command }
+{
+    Some(match command {
+        Command::Associate { thread, queue, number } => Call::Associate { thread: Tid(thread), queue: Cpu(queue), number },
+        Command::Commit { cpu, thread, aseq } => Call::Commit { cpu: Cpu(cpu), thread: Tid(thread), aseq },
+        Command::Sleep { cpu, aseq } => Call::Sleep { cpu: Cpu(cpu), aseq },
+        Command::Rouse { cpu } => Call::Rouse { cpu: Cpu(cpu) },
+        Command::Config { queue, cpu } => Call::Config { queue: Cpu(queue), target: target_of(cpu) },
+        _ => Call::Env(env_call_of(command)?),
+    })
+}
+
+/// The agent that a queue is to wake.
+fn target_of(cpu: Option<u8>) -> Option<Cpu>
+    ensures { result ≡ cpu }
+{
+    match cpu {
+        Some(cpu) => Some(Cpu(cpu)),
+        None => None,
+    }
+}
+
+/// How a command is told that its call is done.
+pub fn done_of(command: Command) -> Reply
+    ensures { result ≡ done_told command }
+{
+    match command {
+        Command::Associate { thread, queue, .. } => Reply::Associated { thread, queue },
+        Command::Commit { cpu, thread, .. } => Reply::Committed { thread, cpu },
+        _ => Reply::Done,
+    }
+}
+
+/// The profile by which the limits of a script of this version are judged.
+pub fn profile(version: Version) -> Profile
+    ensures { result ≡ profile_of version }
+{
+    match version {
+        Version::One => Profile::One,
+        Version::Two => Profile::Two,
+    }
+}
 
 /// The refusal, as a reply names it; none for want of memory, which ends the script.
 pub fn refusal_of(fault: KernelFault) -> Option<Refusal>

@@ -3,28 +3,36 @@
 ghost use Rattle.std.specs.Prelude.{◌≡◌, List, [], ◌∷◌, ◌++◌, IfOk};
 ghost use Rattle.pc_script.specs.declared.command.Command.{Command};
 ghost use Rattle.pc_script.specs.declared.reply.Reply.{Reply};
-ghost use Rattle.pc_sim.specs.Session.{IsSession, IsStep};
-ghost use Rattle.pc_sim.specs.Sessions.{StandsAfter, Steps, is_session};
+ghost use Rattle.pc_sim.specs.Session.{IsSession};
+ghost use Rattle.pc_sim.specs.Sessions.{StandsAfter, Steps, is_session, is_session_of_none};
 
-use crate::names::limit_of;
+use crate::names::{limit_of, profile};
 use crate::world::World;
-use pc_kernel::limits::{Limits, LimitsFault};
+use pc_kernel::limits::{Limits, LimitsFault, Profile};
 use pc_script::command::Command;
 use pc_script::machine::Machine;
 use pc_script::reply::{Refusal, Reply};
+use pc_script::version::Version;
 use std::alloc::{AllocError, Global};
 
 /// What a script's commands are answered by.
 #[derive(Drop)]
 pub struct Session {
     alloc: Global,
+    /// By which the limits of an enclave are judged.
+    profile: Profile,
     world: Option<World>,
 }
 
 /// Answers a command that meets no world.
-fn open(alloc: Global, world: &mut Option<World>, command: Command) -> Result<Reply, AllocError>
+fn open(
+    alloc: Global,
+    profile: Profile,
+    world: &mut Option<World>,
+    command: Command,
+) -> Result<Reply, AllocError>
     requires { world.old ≡ None }
-    ensures { IfOk result (Steps command world.old world.new) }
+    ensures { IfOk result (Steps profile command world.old world.new) }
 {
     let Command::Enclave {
         cpus,
@@ -43,7 +51,7 @@ fn open(alloc: Global, world: &mut Option<World>, command: Command) -> Result<Re
         room,
         posts,
     };
-    match World::open(alloc, limits) {
+    match World::open(alloc, profile, limits) {
         Ok(opened) => {
             *world = Some(opened);
             Ok(Reply::Done)
@@ -58,18 +66,24 @@ fn open(alloc: Global, world: &mut Option<World>, command: Command) -> Result<Re
 impl Machine for Session {
     ghost IsRun = { IsSession };
 
-    ghost StandsAfter = { λ session. StandsAfter session.world };
+    ghost StandsAfter = { λ version session. StandsAfter version session.profile session.world };
 
-    fn start(alloc: Global) -> Session {
-        Session { alloc, world: None }
+    fn start(alloc: Global, version: Version) -> Session {
+        Session {
+            alloc,
+            profile: profile(version),
+            world: None,
+        }
     }
 
     fn answer(&mut self, command: Command) -> Result<Reply, AllocError> {
         match &mut self.world {
-            None => open(self.alloc, &mut self.world, command),
+            None => open(self.alloc, self.profile, &mut self.world, command),
             Some(world) => world.answer(self.alloc, command),
         }
     }
 
-    ghost is_run_after = { λ session commands replies stands. is_session session.world commands replies stands };
+    ghost is_run_of_none = { is_session_of_none };
+
+    ghost is_run_after = { λ version session commands replies stands. is_session version session.profile session.world commands replies stands };
 }

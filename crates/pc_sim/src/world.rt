@@ -5,15 +5,15 @@
 ghost use Rattle.std.specs.Prelude.{◌≡◌, ◌<◌, ◌^◌, length, IfOk, IsTrue, IsFalse};
 ghost use Rattle.pc_kernel.specs.Limits.{bad_field};
 ghost use Rattle.pc_kernel.specs.Reads.{seen, is_cpu};
-ghost use Rattle.pc_sim.specs.PlainWorld.{opened};
+ghost use Rattle.pc_sim.specs.PlainWorld.{PlainWorld, opened};
 ghost use Rattle.pc_sim.specs.Keeping.{KeepsViews};
 ghost use Rattle.pc_sim.specs.Items.{AreWellFormed};
-ghost use Rattle.pc_sim.specs.Session.{Tells, as_answer, IsCall, IsPublish, IsShow, IsBadCpu, IsStatus, IsWorldStep, IsPublishing, IsShowing};
+ghost use Rattle.pc_sim.specs.Session.{Tells, call_asked, IsAsleep, IsCall, IsConsuming, IsOwnStep, IsPublish, IsPublishing, IsRefusal, IsShow, IsShowing, IsStatus, IsWorldStep};
 
 use crate::agents::{Agent, copy_items, new_agents};
-use crate::names::{phase_of, posted_of, refusal_of};
+use crate::names::{call_of, done_of, phase_of, posted_of, refusal_of};
 use crate::show::shown_threads;
-use pc_kernel::calls::{Call, EnvCall, Posted};
+use pc_kernel::calls::{Answer, Call};
 use pc_kernel::fault::KernelFault;
 use pc_kernel::kernel::Kernel;
 use pc_kernel::laws::calls_extend_the_run;
@@ -36,16 +36,24 @@ pub struct World {
     ghost as_many: { length agents.items ≡ kernel.limits.cpus },
 }
 
+/// The reply that names a refusal; none for want of memory.
+fn refused(fault: KernelFault) -> Result<Reply, AllocError>
+    ensures { IfOk result (IsRefusal fault) }
+{
+    match refusal_of(fault) {
+        Some(refusal) => Ok(Reply::Refused(refusal)),
+        None => Err(AllocError),
+    }
+}
+
 /// The reply that tells of a call of the kernel.
-fn told(answered: Result<Posted, KernelFault>) -> Result<Reply, AllocError>
-    ensures { IfOk result (λ reply. Tells reply (as_answer answered)) }
+fn told(answered: Result<Answer, KernelFault>, done: Reply) -> Result<Reply, AllocError>
+    ensures { IfOk result (λ reply. Tells done reply answered) }
 {
     match answered {
-        Ok(posted) => Ok(Reply::Posted(posted_of(posted))),
-        Err(fault) => match refusal_of(fault) {
-            Some(refusal) => Ok(Reply::Refused(refusal)),
-            None => Err(AllocError),
-        },
+        Ok(Answer::Posted(posted)) => Ok(Reply::Posted(posted_of(posted))),
+        Ok(Answer::Done) => Ok(done),
+        Err(fault) => refused(fault),
     }
 }
 
@@ -61,12 +69,12 @@ impl World {
     ghost use Rattle.pc_sim.specs.Shows.{ShowsWorld, Does, Sends};
 
     /// The world at the start, or why there is none.
-    pub fn open(alloc: Global, limits: Limits) -> Result<World, LimitsFault>
+    pub fn open(alloc: Global, profile: Profile, limits: Limits) -> Result<World, LimitsFault>
         ensures ok { IfOk result (λ world. ShowsWorld world (opened limits)) }
-        ensures within { IfOk result (λ _. bad_field Profile.One limits ≡ None) }
-        ensures refused { (field : LimitField) → result ≡ Err (LimitsFault.BadLimits field) → bad_field Profile.One limits ≡ Some field }
+        ensures within { IfOk result (λ _. bad_field profile limits ≡ None) }
+        ensures refused { (field : LimitField) → result ≡ Err (LimitsFault.BadLimits field) → bad_field profile limits ≡ Some field }
     {
-        match Kernel::new(alloc, limits) {
+        match Kernel::new_in(alloc, profile, limits) {
             Err(fault) => Err(fault),
             Ok(kernel) => match new_agents(alloc, kernel.cpus()) {
                 Err(_) => Err(LimitsFault::OutOfMemory),
@@ -79,18 +87,42 @@ impl World {
         }
     }
 
-    fn create(&mut self, queue: Cpu, mask: u64, ready: bool) -> Result<Reply, AllocError>
-        ensures { IfOk result (Does (λ w. IsCall w (Call.Env (EnvCall.Create queue mask ready))) self.old self.new) }
+    /// A call of the kernel.
+    fn call(&mut self, call: Call, done: Reply) -> Result<Reply, AllocError>
+        ensures { IfOk result (Does (λ w. IsCall w call done) self.old self.new) }
     {
         calls_keep_views();
-        told(self.kernel.create(queue, mask, ready))
+        told(self.kernel.apply(call), done)
     }
 
-    fn wake(&mut self, thread: Tid) -> Result<Reply, AllocError>
-        ensures { IfOk result (Does (λ w. IsCall w (Call.Env (EnvCall.Wake thread))) self.old self.new) }
+    /// The agent removes from its queue what it has sent.
+    fn consume(&mut self, cpu: Cpu) -> Result<Reply, AllocError>
+        ensures { IfOk result (Does (IsConsuming cpu) self.old self.new) }
     {
         calls_keep_views();
-        told(self.kernel.wake(thread))
+        let items = match self.agents.get(cpu.index() as usize) {
+            None => return Ok(Reply::Refused(Refusal::BadCpu)),
+            Some(agent) => agent.shown,
+        };
+        match self.kernel.consume(cpu, items) {
+            Err(fault) => refused(fault),
+            Ok(()) => {
+                let agent = &mut self.agents[cpu.index() as usize];
+                agent.shown = 0;
+                Ok(Reply::Consumed { items })
+            }
+        }
+    }
+
+    /// Whether the CPU's agent sleeps.
+    fn asleep(&self, cpu: Cpu) -> Reply
+        ensures { (w : PlainWorld) → ShowsWorld self.now w → IsAsleep w cpu result }
+    {
+        if cpu.index() < self.kernel.cpus() {
+            Reply::Truth(self.kernel.is_asleep(cpu))
+        } else {
+            Reply::Refused(Refusal::BadCpu)
+        }
     }
 
     fn status(&self, thread: Tid) -> Reply
@@ -156,21 +188,29 @@ impl World {
         }
     }
 
+    /// Answers a command that is no call of the kernel.
+    fn act(&mut self, alloc: Global, command: Command) -> Result<Reply, AllocError>
+        requires { call_asked command ≡ None }
+        ensures { IfOk result (Does (λ w. IsOwnStep w command) self.old self.new) }
+    {
+        match command {
+            Command::Enclave { .. } => Ok(Reply::Refused(Refusal::HaveEnclave)),
+            Command::Publish { cpu } => self.publish(Cpu(cpu)),
+            Command::Consume { cpu } => self.consume(Cpu(cpu)),
+            Command::Status { thread } => Ok(self.status(Tid(thread))),
+            Command::Asleep { cpu } => Ok(self.asleep(Cpu(cpu))),
+            Command::Show { cpu } => self.show(alloc, Cpu(cpu)),
+            _ => unreachable!(),
+        }
+    }
+
     /// Answers a command.
     pub fn answer(&mut self, alloc: Global, command: Command) -> Result<Reply, AllocError>
         ensures { IfOk result (Does (λ w. IsWorldStep w command) self.old self.new) }
     {
-        match command {
-            Command::Enclave { .. } => Ok(Reply::Refused(Refusal::HaveEnclave)),
-            Command::Create {
-                queue,
-                mask,
-                is_ready,
-            } => self.create(Cpu(queue), mask, is_ready),
-            Command::Wake { thread } => self.wake(Tid(thread)),
-            Command::Publish { cpu } => self.publish(Cpu(cpu)),
-            Command::Status { thread } => Ok(self.status(Tid(thread))),
-            Command::Show { cpu } => self.show(alloc, Cpu(cpu)),
+        match call_of(command) {
+            Some(call) => self.call(call, done_of(command)),
+            None => self.act(alloc, command),
         }
     }
 }
