@@ -1,6 +1,6 @@
 -- A thread's next message: what the code does, and what it is to a plain kernel.
 use Rattle.std.proofs.Common.{◌≡◌, ◌∙◌, ℕ, suc, zero, ◌+◌, ◌<◌, ◌≤◌, ◌^◌, true, false, cond, nat_lt, List, [], ◌∷◌, ◌++◌, length, set, get_or, Option, Some, None, slice_get, IsFalse, Result, Ok, Err, IfOk, OnErr, refl, sym, ap, subst, arith, inl, inr, length-set, if◌then◌else◌}
-use Rattle.std.specs.Option.{option_map, option_map_or}
+use Rattle.std.specs.Option.{option_map, option_map_or, option_and_then}
 use Rattle.std.proofs.lemmas.Bool.{lt-ltb}
 use Rattle.std.proofs.lemmas.Bool.Decides.{eqb_tells}
 use Rattle.std.proofs.lemmas.List.{length_push, append-nil}
@@ -21,7 +21,7 @@ use Rattle.pc_kernel.specs.PlainKernel.{PlainKernel}
 use Rattle.pc_kernel.specs.PlainKernel as plain
 use Rattle.pc_kernel.specs.Rows.{ThreadRow, KernelRows}
 use Rattle.pc_kernel.specs.Reads.{thread_row, shown, seen, number}
-use Rattle.pc_kernel.specs.Entries.{row_of, rows, IsKernel}
+use Rattle.pc_kernel.specs.Entries.{row_of, rows, place_in, IsKernel}
 use Rattle.pc_kernel.specs.ThreadEntry.{IsTold}
 use Rattle.pc_kernel.specs.Sound.{IsThreadRow, IsOfRun}
 use Rattle.pc_kernel.specs.Answers.{Shows}
@@ -51,8 +51,17 @@ grows_at threads t row kind there s = elim (eqb_tells s t) [
   )
 ]
 
+place_told : (threads : List ThreadRow) (t : ℕ) (row : ThreadRow) (kind : Kind) → slice_get threads t ≡ Some row → (s c : ℕ) → place_in threads s ≡ Some c → place_in (set threads t (told_row row kind)) s ≡ Some c
+place_told threads t row kind there s c is = elim (eqb_tells s t) [
+  | inl at ↦
+      ap (option_and_then (λ (row : ThreadRow). row.on)) (ap (slice_get (set threads t (told_row row kind))) at.1 ∙ slice_get_set_same threads t (told_row row kind) row there)
+      ∙ sym (ap (option_and_then (λ (row : ThreadRow). row.on)) (ap (slice_get threads) at.1 ∙ there))
+      ∙ is
+  | inr at ↦ ap (option_and_then (λ (row : ThreadRow). row.on)) (slice_get_set_other threads t (told_row row kind) row s there at.0) ∙ is
+]
+
 pub grows : (threads : List ThreadRow) (t : ℕ) (row : ThreadRow) (kind : Kind) → slice_get threads t ≡ Some row → Grows threads (set threads t (told_row row kind))
-grows threads t row kind there = record { count = let l = length-set threads t (told_row row kind) in omega arith; each = grows_at threads t row kind there }
+grows threads t row kind there = record { count = let l = length-set threads t (told_row row kind) in omega arith; each = grows_at threads t row kind there; place = place_told threads t row kind there }
 
 -- a history goes on with any kind but a Created
 begun_more : (ks : List Kind) (kind : Kind) → IsBegun ks → 1 ≤ length ks → is_created kind ≡ false → IsBegun (ks ++ kind ∷ [])
