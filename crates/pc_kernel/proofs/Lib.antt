@@ -15,3 +15,7 @@ mod Grows
 mod Told
 mod Added
 mod Stepped
+mod Moves
+mod Becoming
+mod TickSent
+mod Marked
