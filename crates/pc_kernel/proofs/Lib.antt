@@ -19,3 +19,4 @@ mod Moves
 mod Becoming
 mod TickSent
 mod Marked
+mod Pending

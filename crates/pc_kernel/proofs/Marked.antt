@@ -67,8 +67,7 @@ off_at : (limits : Limits) (threads : List ThreadRow) (cpus : List CpuEntry) (t 
     → Moved (λ P. record P { on = at P.on c None }) (rows limits threads cpus) limits (set threads t (record row { on = None })) (set cpus c (record e { running = None }))
 off_at limits threads cpus t c row e k there cpu runs =
     let idle : CpuEntry = record e { running = None } in
-    let left = kernel_cpu limits threads cpus c e idle k cpu (running_row (rows limits threads cpus) e None (cpu_of limits threads cpus c e k cpu) (λ s is. cc)) refl refl (λ s is. cc) in
-    (
+    let left = kernel_cpu limits threads cpus c e idle k cpu (running_row (rows limits threads cpus) e None (cpu_of limits threads cpus c e k cpu) (λ s is. cc)) refl refl (λ s is. cc) in (
       kernel_thread limits threads (set cpus c idle) t row (record row { on = None }) left there refl (k.sound.thread t row there).home (λ d f get on_it. elim (eqb_tells d c) [
         | inl h ↦
             let same : idle ≡ f = same_Some idle f (sym (slice_get_set_same cpus c idle e cpu) ∙ ap (slice_get (set cpus c idle)) (sym h.1) ∙ get) in
@@ -98,12 +97,11 @@ on_at limits threads cpus t c row e k known there cpu nowhere idle =
     let new : ThreadRow = record row { on = Some c } in
     let count : length (set threads t new) ≡ length threads = length-set threads t new in
     let come = kernel_thread limits threads cpus t row new k there refl (k.sound.thread t row there).home (λ d f get on_it. let bad : None ≡ Some d = sym place ∙ k.placed d t f get on_it in cc) in
-    let here : (s : ℕ) → busy.running ≡ Some s → t ≡ s = λ s on_it. same_Some t s on_it in
-    (
+    let here : (s : ℕ) → busy.running ≡ Some s → t ≡ s = λ s on_it. same_Some t s on_it in (
       kernel_cpu limits (set threads t new) cpus c e busy come cpu
-      (running_row (rows limits (set threads t new) cpus) e (Some t) (cpu_of limits (set threads t new) cpus c e come cpu) (λ s on_it. rw (← here s on_it) (omega arith)))
-      refl refl
-      (λ s on_it. subst (λ (s : ℕ). place_in (set threads t new) s ≡ Some c) (here s on_it) (ap (option_and_then (λ (row : ThreadRow). row.on)) (slice_get_set_same threads t new row there))),
+          (running_row (rows limits (set threads t new) cpus) e (Some t) (cpu_of limits (set threads t new) cpus c e come cpu) (λ s on_it. rw (← here s on_it) (omega arith)))
+          refl refl
+          (λ s on_it. subst (λ (s : ℕ). place_in (set threads t new) s ≡ Some c) (here s on_it) (ap (option_and_then (λ (row : ThreadRow). row.on)) (slice_get_set_same threads t new row there))),
       becomes_on limits threads cpus c t row e k there cpu nowhere idle,
     )
 

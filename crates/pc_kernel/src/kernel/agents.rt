@@ -1,7 +1,8 @@
 //! The agents' calls. None takes memory, and each costs a few look-ups, however many threads, CPUs, items and messages
 //! there are; only `consume` costs more, by the items that it removes.
 
-ghost use Rattle.std.specs.Prelude.{◌≡◌, ◌<◌, length, OnErr};
+ghost use Rattle.std.specs.Prelude.{◌≡◌, OnErr};
+ghost use Rattle.std.specs.List.{list_any};
 
 use crate::calls::{Answer, Call};
 use crate::fault::KernelFault;
@@ -11,7 +12,7 @@ use pc_messages::reported::Phase;
 
 impl Kernel {
     ghost use Rattle.pc_kernel.specs.Answers.{Steps, done};
-    ghost use Rattle.pc_kernel.specs.Reads.{seen, is_pending};
+    ghost use Rattle.pc_kernel.specs.Reads.{seen, content, is_of};
     ghost use Rattle.pc_kernel.specs.Steps.{refused};
 
     /// Removes the first items of the CPU's queue.
@@ -97,16 +98,19 @@ impl Kernel {
         ensures limits { self.new.limits ≡ self.old.limits }
         ensures err { OnErr result (self.new ≡ self.old) }
     {
-        match self.config_fault(queue, target) {
+        match self.config_fault(queue, &target) {
             Some(fault) => Err(fault),
-            None => {
-                self.aim(queue, target);
-                match target {
-                    Some(cpu) => self.awaken(cpu),
-                    None => {}
+            None => match target {
+                Some(cpu) => {
+                    self.aim(queue, Some(cpu));
+                    self.awaken(cpu);
+                    Ok(())
                 }
-                Ok(())
-            }
+                None => {
+                    self.aim(queue, None);
+                    Ok(())
+                }
+            },
         }
     }
 
@@ -139,7 +143,7 @@ impl Kernel {
         if number != entry.number() {
             return Some(KernelFault::Stale(entry.number()));
         }
-        if self.is_pending(thread) {
+        if self.holds(entry.home(), thread) {
             return Some(KernelFault::Pending);
         }
         match entry.on() {
@@ -208,24 +212,25 @@ impl Kernel {
     }
 
     /// Why a queue gets no such target.
-    fn config_fault(&self, queue: Cpu, target: Option<Cpu>) -> Option<KernelFault>
-        ensures { result ≡ refused (seen self.now) (Call.Config queue target) }
+    fn config_fault(&self, queue: Cpu, target: &Option<Cpu>) -> Option<KernelFault>
+        ensures { result ≡ refused (seen self.now) (Call.Config queue target.now) }
     {
         if queue.index() >= self.cpus() {
             return Some(KernelFault::BadCpu);
         }
-        match target {
+        match *target {
             Some(cpu) if cpu.index() >= self.cpus() => Some(KernelFault::BadCpu),
             _ => None,
         }
     }
 
-    /// Whether the thread's home queue holds a message of it.
-    fn is_pending(&self, thread: Tid) -> bool
-        requires { thread < length self.now.threads }
-        ensures { result ≡ is_pending (seen self.now) thread }
+    /// Whether the queue holds a message of the thread.
+    fn holds(&self, queue: Cpu, thread: Tid) -> bool
+        ensures { result ≡ list_any (is_of thread) (content (seen self.now) queue) }
     {
-        let home = self.threads[thread.index() as usize].home();
-        self.cpus[home.index() as usize].queue.pending(thread)
+        match self.cpu(queue) {
+            Some(entry) => entry.queue.pending(thread),
+            None => false,
+        }
     }
 }

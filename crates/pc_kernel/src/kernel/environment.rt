@@ -202,6 +202,7 @@ impl Kernel {
         ensures numbers { IfOk result (λ thread. number (seen self.now) thread < self.now.limits.numbers) }
         ensures refused { result_err result ≡ first_of (leave_refusals (seen self.now) cpu) }
     {
+        self.is_sound();
         match self.cpu(cpu) {
             None => Err(KernelFault::BadCpu),
             Some(entry) => match entry.running {
@@ -340,6 +341,7 @@ impl Kernel {
         requires ran { ran_given kind < 2 ^ 32 }
         ensures ok { IfOk result (λ posted. Sends (λ P. telling P thread kind) posted self.old self.new) }
         ensures stay { (c : ℕ) → on (seen self.new) c ≡ on (seen self.old) c }
+        ensures threads { length self.new.threads ≡ length self.old.threads }
         ensures limits { self.new.limits ≡ self.old.limits }
         ensures err { OnErr result (self.new ≡ self.old) }
     {
