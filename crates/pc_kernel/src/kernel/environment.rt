@@ -1,6 +1,6 @@
 //! The environment's calls: each posts one item.
 
-ghost use Rattle.std.specs.Prelude.{◌≡◌, ◌+◌, ◌<◌, ◌≤◌, ◌^◌, ℕ, Some, None, [], ◌∷◌, ◌++◌, length, IfOk, OnErr, IsTrue, IsFalse};
+ghost use Rattle.std.specs.Prelude.{◌≡◌, ◌+◌, ◌<◌, ◌≤◌, ◌^◌, ℕ, Some, None, [], ◌∷◌, ◌++◌, length, slice_get, IfOk, OnErr, IsTrue, IsFalse};
 ghost use Rattle.std.specs.Result.{result_err};
 ghost use Rattle.std.specs.Vec.{vec_len, vec_capacity};
 ghost use Rattle.pc_messages.specs.State.{ran_given};
@@ -25,7 +25,7 @@ impl Kernel {
     ghost use Rattle.pc_kernel.specs.Answers.{StepsInMemory};
     ghost use Rattle.pc_kernel.specs.Reads.{seen, number, on};
     ghost use Rattle.pc_kernel.specs.Sends.{Sends, Leaves, adding, ticking};
-    ghost use Rattle.pc_kernel.specs.Steps.{refused, queue_refusals, post_refusals, leave_refusals, telling};
+    ghost use Rattle.pc_kernel.specs.Steps.{refused, queue_refusals, post_refusals, mask_refusals, thread_refusals, leave_refusals, telling};
 
     /// Creates a thread, whose name is the next one and whose home is the queue.
     pub fn create(&mut self, queue: Cpu, mask: u64, ready: bool) -> Result<Posted, KernelFault>
@@ -167,11 +167,7 @@ impl Kernel {
         if queue.index() >= self.cpus() {
             return Err(KernelFault::BadCpu);
         }
-        let mask = match Mask::new(mask, self.cpus()) {
-            Ok(mask) => mask,
-            Err(MaskFault::EmptyMask) => return Err(KernelFault::EmptyMask),
-            Err(MaskFault::MaskTooWide) => return Err(KernelFault::MaskTooWide),
-        };
+        let mask = self.mask(mask)?;
         if self.threads() >= self.limits().threads {
             return Err(KernelFault::NamesSpent);
         }
@@ -220,19 +216,8 @@ impl Kernel {
         ensures kind { IfOk result (λ kind. kind ≡ Kind.Affinity mask) }
         ensures refused { result_err result ≡ refused (seen self.now) (Call.Env (EnvCall.SetAffinity thread mask)) }
     {
-        let entry = match self.thread(thread) {
-            None => return Err(KernelFault::UnknownThread),
-            Some(entry) => entry,
-        };
-        match entry.state().phase {
-            Phase::Dead => return Err(KernelFault::Dead),
-            Phase::Ready | Phase::Blocked => {}
-        }
-        let mask = match Mask::new(mask, self.cpus()) {
-            Ok(mask) => mask,
-            Err(MaskFault::EmptyMask) => return Err(KernelFault::EmptyMask),
-            Err(MaskFault::MaskTooWide) => return Err(KernelFault::MaskTooWide),
-        };
+        let entry = self.living(thread)?;
+        let mask = self.mask(mask)?;
         match entry.on() {
             Some(cpu) if !mask.allows(cpu) => return Err(KernelFault::OnForbiddenCpu),
             _ => {}
@@ -248,14 +233,7 @@ impl Kernel {
         ensures kind { IfOk result (λ kind. kind ≡ Kind.Priority level) }
         ensures refused { result_err result ≡ refused (seen self.now) (Call.Env (EnvCall.SetPriority thread level)) }
     {
-        let entry = match self.thread(thread) {
-            None => return Err(KernelFault::UnknownThread),
-            Some(entry) => entry,
-        };
-        match entry.state().phase {
-            Phase::Dead => return Err(KernelFault::Dead),
-            Phase::Ready | Phase::Blocked => {}
-        }
+        self.living(thread)?;
         let level = match Level::new(level) {
             Ok(level) => level,
             Err(LevelFault::BadLevel) => return Err(KernelFault::BadLevel),
@@ -263,6 +241,32 @@ impl Kernel {
         match self.post_fault(thread) {
             Some(fault) => Err(fault),
             None => Ok(Kind::Priority { level }),
+        }
+    }
+
+    /// The thread's row, where it is known and alive.
+    fn living(&self, thread: Tid) -> Result<&ThreadEntry, KernelFault>
+        ensures row { IfOk result (λ entry. slice_get self.now.threads thread ≡ Some entry.now) }
+        ensures refused { result_err result ≡ first_of (thread_refusals (seen self.now) thread) }
+    {
+        match self.thread(thread) {
+            None => Err(KernelFault::UnknownThread),
+            Some(entry) => match entry.state().phase {
+                Phase::Dead => Err(KernelFault::Dead),
+                Phase::Ready | Phase::Blocked => Ok(entry),
+            },
+        }
+    }
+
+    /// The mask with these bits.
+    fn mask(&self, bits: u64) -> Result<Mask, KernelFault>
+        ensures ok { IfOk result (λ mask. mask ≡ bits) }
+        ensures refused { result_err result ≡ first_of (mask_refusals (seen self.now) bits) }
+    {
+        match Mask::new(bits, self.cpus()) {
+            Ok(mask) => Ok(mask),
+            Err(MaskFault::EmptyMask) => Err(KernelFault::EmptyMask),
+            Err(MaskFault::MaskTooWide) => Err(KernelFault::MaskTooWide),
         }
     }
 
