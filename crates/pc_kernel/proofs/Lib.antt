@@ -20,3 +20,4 @@ mod Becoming
 mod TickSent
 mod Marked
 mod Pending
+pub mod Answered

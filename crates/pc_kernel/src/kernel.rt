@@ -6,6 +6,7 @@ ghost use Rattle.pc_kernel.specs.Limits.{bad_field};
 ghost use Rattle.pc_kernel.specs.PlainKernel.{start};
 
 mod agents;
+mod apply;
 mod environment;
 mod marks;
 
