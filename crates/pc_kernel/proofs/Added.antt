@@ -1,7 +1,7 @@
 -- The first message of a new thread: what the code does, and what it is to a plain kernel.
 use Rattle.std.proofs.Common.{◌≡◌, ◌∙◌, ℕ, suc, zero, ◌+◌, ◌<◌, ◌≤◌, ◌==◌, Bool, true, false, nat_lt, find, List, [], ◌∷◌, ◌++◌, length, Option, Some, None, slice_get, refl, sym, ap, subst, arith, inl, inr, zero-add, if◌then◌else◌}
 use Rattle.std.specs.List.{range_with_len}
-use Rattle.std.specs.Option.{option_map, option_map_or}
+use Rattle.std.specs.Option.{option_map, option_map_or, option_and_then}
 use Rattle.std.proofs.lemmas.Bool.Decides.{eqb_tells, nat_tests}
 use Rattle.std.proofs.lemmas.List.{length_push, length-map, append-nil}
 use Rattle.std.proofs.lemmas.Option.{same_Some, slice_get-map, slice_get_past, slice_get_cases}
@@ -20,7 +20,7 @@ use Rattle.pc_kernel.specs.PlainKernel.{PlainKernel, is_on}
 use Rattle.pc_kernel.specs.PlainKernel as plain
 use Rattle.pc_kernel.specs.Rows.{ThreadRow, CpuRow, KernelRows}
 use Rattle.pc_kernel.specs.Reads.{thread_row, shown}
-use Rattle.pc_kernel.specs.Entries.{row_of, rows, IsKernel, IsPosted}
+use Rattle.pc_kernel.specs.Entries.{row_of, rows, place_in, IsKernel, IsPosted}
 use Rattle.pc_kernel.specs.Sound.{IsThreadRow, IsOfRun}
 use Rattle.pc_kernel.specs.Answers.{Shows}
 use Rattle.pc_kernel.specs.Sends.{Sends, adding}
@@ -28,7 +28,7 @@ use Rattle.pc_kernel.specs.Steps.{at, posted, receipt}
 use Rattle.pc_kernel.proofs.Slots.{slice_get_push}
 use Rattle.pc_kernel.proofs.Shown.{ShowsParts, shows_from, shows_parts}
 use Rattle.pc_kernel.proofs.ShownReads.{unknown_kinds}
-use Rattle.pc_kernel.proofs.Grows.{kinds_in, kernel_posted}
+use Rattle.pc_kernel.proofs.Grows.{kinds_in, slice_get_append, kernel_posted}
 use Rattle.pc_kernel.proofs.CpuPosting.{cpu_shown, cpus_posted, landed}
 use Rattle.pc_kernel.proofs.Posting.{telling_same, quiet_other, kinds_told, kinds_quiet, threads-posted_new, aseq-posted_le}
 
@@ -56,6 +56,14 @@ grows_at threads row s = elim (eqb_tells s (length threads)) [
   | inr at ↦
       ([], ap (λ (o : Option ThreadRow). option_map_or (λ row. row.kinds) o []) (push_other threads row s at.0) ∙ sym (append-nil (kinds_in threads s)))
 ]
+
+place_pushed : (threads : List ThreadRow) (row : ThreadRow) (s c : ℕ) → place_in threads s ≡ Some c → place_in (threads ++ row ∷ []) s ≡ Some c
+place_pushed threads row s c is =
+    go (slice_get threads s) (slice_get (threads ++ row ∷ []) s) (λ r there. slice_get_append threads (row ∷ []) s r there) is
+  where
+    go : (o p : Option ThreadRow) → ((r : ThreadRow) → o ≡ Some r → p ≡ Some r) → option_and_then (λ row. row.on) o ≡ Some c → option_and_then (λ row. row.on) p ≡ Some c
+    go None p h e = cc
+    go (Some r) p h e = ap (option_and_then (λ (row : ThreadRow). row.on)) (h r refl) ∙ e
 
 created_ran : (kind : Kind) → is_created kind ≡ true → ran_given kind ≡ 0
 created_ran (Created mask ready) e = refl
@@ -88,7 +96,7 @@ kernel_added limits threads old new queue kind landing k h there few e =
     let row = first_row queue kind in
     let l : length (threads ++ row ∷ []) ≡ length threads + 1 = length_push threads row in
     kernel_posted limits threads (threads ++ row ∷ []) old new queue (item.Thread (first_message (length threads) kind)) landing k h
-    record { count = omega arith; each = grows_at threads row }
+    record { count = omega arith; each = grows_at threads row; place = place_pushed threads row }
     (omega arith)
     (λ s other is. elim (eqb_tells s (length threads)) [
       | inl at ↦
@@ -108,7 +116,7 @@ kernel_added limits threads old new queue kind landing k h there few e =
     same_message m n e = cc
 
 -- nothing is found where nothing passes
-find_none : (p : ℕ → Bool) (a n : ℕ) → ((c : ℕ) → a ≤ c → c < a + n → p c ≡ false) → find p (range_with_len a n) ≡ None
+pub find_none : (p : ℕ → Bool) (a n : ℕ) → ((c : ℕ) → a ≤ c → c < a + n → p c ≡ false) → find p (range_with_len a n) ≡ None
 find_none p a zero h = refl
 find_none p a (suc n) h = rw (h a (omega arith) (omega arith)) (find_none p (a + 1) n (λ c l m. h c (omega arith) (omega arith)))
 

@@ -100,6 +100,7 @@ begins limits cpus h count each = record {
         subst P (ap row_of (sym at.1) ∙ from.2) (fresh_row limits [] cpus c h at.0);
   };
   queues = λ c e is. let at = fresh_at limits cpus count each c e is in rw at.1 (refl, refl);
+  placed = λ c t e is on. let at = fresh_at limits cpus count each c e is in let none : None ≡ Some t = sym (ap (λ (e : CpuEntry). e.running) at.1) ∙ on in cc;
 }
 
 pub begins_shows : (limits : Limits) (cpus : List CpuEntry) → length cpus ≡ limits.cpus → ((c : ℕ) → c < limits.cpus → slice_get cpus c ≡ Some (fresh_cpu limits c)) → Shows (rows limits [] cpus) (start limits)

@@ -14,7 +14,7 @@ use Rattle.pc_kernel.specs.declared.cpus.CpuEntry.{CpuEntry}
 use Rattle.pc_kernel.specs.declared.cpus.Landing.{Landing}
 use Rattle.pc_kernel.specs.declared.limits.Limits.{Limits}
 use Rattle.pc_kernel.specs.Rows.{ThreadRow, CpuRow}
-use Rattle.pc_kernel.specs.Entries.{row_of, rows, roused_entry, given_entry, IsKernel, IsPosted, AreTargets}
+use Rattle.pc_kernel.specs.Entries.{row_of, rows, roused_entry, given_entry, place_in, IsKernel, IsPosted, AreTargets}
 use Rattle.pc_kernel.specs.Sound.{IsThreadRow, IsCpuRow, IsOfRun}
 use Rattle.pc_kernel.proofs.Slots.{slice_get_map_some}
 
@@ -22,10 +22,11 @@ use Rattle.pc_kernel.proofs.Slots.{slice_get_map_some}
 abbrev pub kinds_in : List ThreadRow → ℕ → List Kind
 kinds_in threads t = option_map_or (λ row. row.kinds) (slice_get threads t) []
 
--- every history goes on from the old one
+-- every history goes on from the old one, and no thread leaves a CPU
 pub record Grows (old new : List ThreadRow) : Type 0 where
   pub count : length old ≤ length new
   pub each : (t : ℕ) → (more : List Kind) × (kinds_in new t ≡ kinds_in old t ++ more)
+  pub place : (t c : ℕ) → place_in old t ≡ Some c → place_in new t ≡ Some c
 
 pub slice_get_append : {X : Type 0} (xs ys : List X) (i : ℕ) (x : X) → slice_get xs i ≡ Some x → slice_get (xs ++ ys) i ≡ Some x
 slice_get_append [] ys i x e = cc
@@ -121,6 +122,10 @@ limits_kept : (agent : Option ℕ) (q : ℕ) (it : Item) (c : ℕ) (e : CpuEntry
     → ((roused_entry agent c (given_entry q it c e)).queue.room ≡ limits.room) × ((roused_entry agent c (given_entry q it c e)).queue.most ≡ limits.posts)
 limits_kept agent q it c e limits h = elim (eqb_tells c q) [ inl at ↦ rw at.0 h | inr at ↦ rw at.0 h ]
 
+-- a post moves no thread
+pub running_kept : (agent : Option ℕ) (q : ℕ) (it : Item) (c : ℕ) (e : CpuEntry) → e.running ≡ (roused_entry agent c (given_entry q it c e)).running
+running_kept agent q it c e = elim (eqb_tells c q) [ inl at ↦ rw at.0 refl | inr at ↦ rw at.0 refl ]
+
 -- what holds of a kernel holds after a post, where its histories go on and hold what was told
 pub kernel_posted : (limits : Limits) (old new : List ThreadRow) (cpus others : List CpuEntry) (q : ℕ) (it : Item) (landing : Landing) → IsKernel limits old cpus → IsPosted cpus others q it landing
     → Grows old new → length new ≤ limits.threads → ((t : ℕ) (row : ThreadRow) → slice_get new t ≡ Some row → IsThreadRow (rows limits new others) row)
@@ -146,6 +151,9 @@ kernel_posted limits old new cpus others q it landing k h g few threads told =
           let before = posted_at cpus others q it landing h c f e in
           let P : CpuEntry → Type 0 = λ f. (f.queue.room ≡ limits.room) × (f.queue.most ≡ limits.posts) in
           subst P before.2 (limits_kept h.entry.target q it c before.0 limits (k.queues c before.0 before.1));
+      placed = λ c t f e on.
+          let before = posted_at cpus others q it landing h c f e in
+          g.place t c (k.placed c t before.0 before.1 (running_kept h.entry.target q it c before.0 ∙ ap (λ (e : CpuEntry). e.running) before.2 ∙ on));
     }
 
 -- whom each queue wakes is there

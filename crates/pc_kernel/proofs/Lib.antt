@@ -15,3 +15,9 @@ mod Grows
 mod Told
 mod Added
 mod Stepped
+mod Moves
+mod Becoming
+mod TickSent
+mod Marked
+mod Pending
+pub mod Answered

@@ -1,5 +1,6 @@
 -- That a call of the code is its step, from the first refusal that it met and what it did.
-use Rattle.std.proofs.Common.{◌≡◌, Some, None, Ok, Err, refl, ap, subst}
+use Rattle.std.proofs.Common.{◌≡◌, ◌∙◌, ℕ, Bool, true, false, not, List, ◌∷◌, Option, Some, None, Ok, Err, is_none, unwrap_or, refl, sym, ap, subst}
+use Rattle.pc_messages.specs.declared.kind.Kind.{Kind}
 use Rattle.pc_kernel.specs.declared.calls.Call.{Call}
 use Rattle.pc_kernel.specs.declared.calls.Call.TheVariants.{Env}
 use Rattle.pc_kernel.specs.declared.calls.EnvCall.{EnvCall}
@@ -8,12 +9,16 @@ use Rattle.pc_kernel.specs.declared.calls.Answer.{Answer}
 use Rattle.pc_kernel.specs.declared.calls.Answer.TheVariants as answer
 use Rattle.pc_kernel.specs.declared.fault.KernelFault.{KernelFault}
 use Rattle.pc_kernel.specs.declared.fault.KernelFault.TheVariants.{OutOfMemory}
+use Rattle.pc_kernel.specs.declared.fault.KernelFault.TheVariants as fault
 use Rattle.pc_kernel.specs.PlainKernel.{PlainKernel}
 use Rattle.pc_kernel.specs.Rows.{KernelRows}
-use Rattle.pc_kernel.specs.Reads.{Reads, seen, shown}
-use Rattle.pc_kernel.specs.Answers.{RepliesInMemory, StepsInMemory}
-use Rattle.pc_kernel.specs.Sends.{Sends}
-use Rattle.pc_kernel.specs.Steps.{refused, posting}
+use Rattle.pc_kernel.specs.Reads.{Reads, seen, shown, on, is_cpu}
+use Rattle.pc_kernel.specs.Answers.{Shows, Replies, RepliesInMemory, Steps, StepsInMemory, done}
+use Rattle.pc_kernel.specs.Limits.{first_of}
+use Rattle.pc_kernel.specs.Sends.{Sends, Becomes, Leaves}
+use Rattle.pc_kernel.specs.Steps.{Condition, refused, posting, telling, receipt, at, post_refusals, leave_refusals, changed, accepted}
+use Rattle.pc_kernel.specs.Steps.{posted as after_post}
+use Rattle.pc_kernel.proofs.ShownReads.{shown-on}
 
 refused_reply : {A : Type 0} (tell : A → Answer) (fault : KernelFault) (k : KernelRows) (P : PlainKernel) → RepliesInMemory tell (Err fault) k k (Err fault) P
 refused_reply tell OutOfMemory k P = (refl, refl)
@@ -37,3 +42,45 @@ sent_steps call posted old new h sends P shows =
     let e : refused (shown P) (Env call) ≡ None = subst (λ (r : Reads). refused r (Env call) ≡ None) shows.reads h in
     let s = sends P shows in
     rw e (ap answer.Posted s.0, s.1)
+
+-- the thread on a CPU leaves it, or not
+pub stays : (cpu : ℕ) (kind : Kind) (fault : KernelFault) (old new : KernelRows) → first_of (leave_refusals (seen old) cpu) ≡ Some fault → new ≡ old → Leaves cpu kind (Err fault) old new
+stays cpu kind fault old new h same P shows =
+    let e : first_of (leave_refusals (shown P) cpu) ≡ Some fault = subst (λ (r : Reads). first_of (leave_refusals r cpu) ≡ Some fault) shows.reads h in
+    rw (same, e) (refused_reply answer.Posted fault old P)
+
+pub starves : (cpu : ℕ) (kind : Kind) (old new : KernelRows) → first_of (leave_refusals (seen old) cpu) ≡ None → new ≡ old → Leaves cpu kind (Err OutOfMemory) old new
+starves cpu kind old new h same P shows =
+    let e : first_of (leave_refusals (shown P) cpu) ≡ None = subst (λ (r : Reads). first_of (leave_refusals r cpu) ≡ None) shows.reads h in
+    rw e same
+
+first_holds : (b : Bool) (fault : KernelFault) (cs : List Condition) → first_of ((not b, fault) ∷ cs) ≡ None → b ≡ true
+first_holds true fault cs e = refl
+first_holds false fault cs e = cc
+
+-- it told of it and then left
+pub left : (cpu t : ℕ) (kind : Kind) (posted : Posted) (old told new : KernelRows) → first_of (leave_refusals (seen old) cpu) ≡ None → on (seen old) cpu ≡ Some t
+    → Sends (λ P. telling P t kind) posted old told → Becomes (λ P. record P { on = at P.on cpu None }) told new → Leaves cpu kind (Ok posted) old new
+left cpu t kind posted old told new h runs sends leaves P shows =
+    let e : first_of (leave_refusals (shown P) cpu) ≡ None = subst (λ (r : Reads). first_of (leave_refusals r cpu) ≡ None) shows.reads h in
+    let there : is_cpu (shown P) cpu ≡ true = first_holds (is_cpu (shown P) cpu) fault.BadCpu ((is_none (on (shown P) cpu), fault.IdleCpu) ∷ post_refusals (shown P) (unwrap_or (on (shown P) cpu) 0)) e in
+    let on_it : P.on cpu ≡ Some t = sym (shown-on P cpu there) ∙ subst (λ (r : Reads). on r cpu ≡ Some t) shows.reads runs in
+    let s = sends P shows in
+    let M : PlainKernel = record P { on = at P.on cpu None } in
+    let F : ℕ → Type 0 = λ n. let p = telling M n kind in (answer.Posted posted ≡ answer.Posted (receipt p)) × Shows new (after_post p.before p.queue p.item) in
+    let base : F t = (ap answer.Posted s.0, leaves (let p = telling P t kind in after_post p.before p.queue p.item) s.1) in
+    rw e (subst F (sym (ap (λ (o : Option ℕ). unwrap_or o 0) on_it)) base)
+
+-- a call of an agent that the reads refuse, and one that they accept
+refused_plainly : {A : Type 0} (tell : A → Answer) (fault : KernelFault) (k : KernelRows) (P : PlainKernel) → Replies tell (Err fault) k k (Err fault) P
+refused_plainly tell fault k P = (refl, refl)
+
+pub refuses : (call : Call) (fault : KernelFault) (old new : KernelRows) → refused (seen old) call ≡ Some fault → new ≡ old → Steps done call (Err fault) old new
+refuses call fault old new h same P shows =
+    let e : refused (shown P) call ≡ Some fault = subst (λ (r : Reads). refused r call ≡ Some fault) shows.reads h in
+    rw (same, e) (refused_plainly done fault old P)
+
+pub does : (call : Call) (unit : Unit {0}) (old new : KernelRows) → refused (seen old) call ≡ None → ((P : PlainKernel) → accepted P call ≡ answer.Done) → Becomes (λ P. changed P call) old new → Steps done call (Ok unit) old new
+does call unit old new h answers becomes P shows =
+    let e : refused (shown P) call ≡ None = subst (λ (r : Reads). refused r call ≡ None) shows.reads h in
+    rw e (sym (answers P), becomes P shows)

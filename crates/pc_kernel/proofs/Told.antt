@@ -1,6 +1,6 @@
 -- A thread's next message: what the code does, and what it is to a plain kernel.
 use Rattle.std.proofs.Common.{◌≡◌, ◌∙◌, ℕ, suc, zero, ◌+◌, ◌<◌, ◌≤◌, ◌^◌, true, false, cond, nat_lt, List, [], ◌∷◌, ◌++◌, length, set, get_or, Option, Some, None, slice_get, IsFalse, Result, Ok, Err, IfOk, OnErr, refl, sym, ap, subst, arith, inl, inr, length-set, if◌then◌else◌}
-use Rattle.std.specs.Option.{option_map, option_map_or}
+use Rattle.std.specs.Option.{option_map, option_map_or, option_and_then}
 use Rattle.std.proofs.lemmas.Bool.{lt-ltb}
 use Rattle.std.proofs.lemmas.Bool.Decides.{eqb_tells}
 use Rattle.std.proofs.lemmas.List.{length_push, append-nil}
@@ -19,9 +19,9 @@ use Rattle.pc_kernel.specs.declared.cpus.CpuEntry.{CpuEntry}
 use Rattle.pc_kernel.specs.declared.limits.Limits.{Limits}
 use Rattle.pc_kernel.specs.PlainKernel.{PlainKernel}
 use Rattle.pc_kernel.specs.PlainKernel as plain
-use Rattle.pc_kernel.specs.Rows.{ThreadRow, KernelRows}
-use Rattle.pc_kernel.specs.Reads.{thread_row, shown, seen, number}
-use Rattle.pc_kernel.specs.Entries.{row_of, rows, IsKernel}
+use Rattle.pc_kernel.specs.Rows.{ThreadRow, CpuRow, KernelRows}
+use Rattle.pc_kernel.specs.Reads.{thread_row, shown, seen, number, on}
+use Rattle.pc_kernel.specs.Entries.{row_of, rows, roused_entry, given_entry, place_in, IsKernel}
 use Rattle.pc_kernel.specs.ThreadEntry.{IsTold}
 use Rattle.pc_kernel.specs.Sound.{IsThreadRow, IsOfRun}
 use Rattle.pc_kernel.specs.Answers.{Shows}
@@ -29,7 +29,7 @@ use Rattle.pc_kernel.specs.Sends.{Sends}
 use Rattle.pc_kernel.specs.Steps.{posted, telling, receipt}
 use Rattle.pc_kernel.proofs.Slots.{slice_get_set, slice_get_set_same, slice_get_set_other}
 use Rattle.pc_kernel.proofs.Shown.{ShowsParts, shows_from, shows_parts}
-use Rattle.pc_kernel.proofs.Grows.{Grows, kinds_in, kind_at_last, kernel_posted}
+use Rattle.pc_kernel.proofs.Grows.{Grows, kinds_in, kind_at_last, running_kept, kernel_posted}
 use Rattle.pc_kernel.proofs.CpuPosting.{cpus_posted, landed}
 use Rattle.pc_kernel.proofs.Posting.{telling_same, quiet_other, kinds_told, kinds_quiet, threads-posted_known, aseq-posted_le}
 
@@ -51,8 +51,17 @@ grows_at threads t row kind there s = elim (eqb_tells s t) [
   )
 ]
 
+place_told : (threads : List ThreadRow) (t : ℕ) (row : ThreadRow) (kind : Kind) → slice_get threads t ≡ Some row → (s c : ℕ) → place_in threads s ≡ Some c → place_in (set threads t (told_row row kind)) s ≡ Some c
+place_told threads t row kind there s c is = elim (eqb_tells s t) [
+  | inl at ↦
+      ap (option_and_then (λ (row : ThreadRow). row.on)) (ap (slice_get (set threads t (told_row row kind))) at.1 ∙ slice_get_set_same threads t (told_row row kind) row there)
+      ∙ sym (ap (option_and_then (λ (row : ThreadRow). row.on)) (ap (slice_get threads) at.1 ∙ there))
+      ∙ is
+  | inr at ↦ ap (option_and_then (λ (row : ThreadRow). row.on)) (slice_get_set_other threads t (told_row row kind) row s there at.0) ∙ is
+]
+
 pub grows : (threads : List ThreadRow) (t : ℕ) (row : ThreadRow) (kind : Kind) → slice_get threads t ≡ Some row → Grows threads (set threads t (told_row row kind))
-grows threads t row kind there = record { count = let l = length-set threads t (told_row row kind) in omega arith; each = grows_at threads t row kind there }
+grows threads t row kind there = record { count = let l = length-set threads t (told_row row kind) in omega arith; each = grows_at threads t row kind there; place = place_told threads t row kind there }
 
 -- a history goes on with any kind but a Created
 begun_more : (ks : List Kind) (kind : Kind) → IsBegun ks → 1 ≤ length ks → is_created kind ≡ false → IsBegun (ks ++ kind ∷ [])
@@ -188,6 +197,20 @@ pub sends_tell : (r : Result Posted AllocError) (limits : Limits) (threads : Lis
 sends_tell (Ok answer) limits threads old new i t row after kind k at within read is told =
     rw (at, is) (told_sends limits threads old new t row kind answer k (slice_get_read threads (length threads) t row refl within (rw (← at) read)) told)
 sends_tell (Err error) limits threads old new i t row after kind k at within read is told = tt
+
+-- no thread comes to a CPU or leaves one
+pub on_told : (r : Result Posted AllocError) (limits : Limits) (threads others : List ThreadRow) (old new : List CpuEntry) (row : ThreadRow) (t : ℕ) (kind : Kind) → IfOk r (λ answer. IsTold old new row t kind answer) → OnErr r (new ≡ old)
+    → (c : ℕ) → on (seen (rows limits others new)) c ≡ on (seen (rows limits threads old)) c
+on_told (Ok answer) limits threads others old new row t kind h kept c =
+    ap (option_and_then (λ (row : CpuRow). row.on)) (slice_get-map row_of new c ∙ ap (option_map row_of) (h.lands.each c))
+    ∙ same (slice_get old c)
+    ∙ ap (option_and_then (λ (row : CpuRow). row.on)) (sym (slice_get-map row_of old c))
+  where
+    same : (o : Option CpuEntry)
+        → option_and_then (λ (row : CpuRow). row.on) (option_map row_of (option_map (λ e. roused_entry h.lands.entry.target c (given_entry row.home (item.Thread record { thread = t; number = length row.kinds + 1; kind = kind }) c e)) o)) ≡ option_and_then (λ (row : CpuRow). row.on) (option_map row_of o)
+    same None = refl
+    same (Some e) = sym (running_kept h.lands.entry.target row.home (item.Thread record { thread = t; number = length row.kinds + 1; kind = kind }) c e)
+on_told (Err error) limits threads others old new row t kind h kept c = rw kept refl
 
 -- the thread's numbers are not spent
 pub spare_of : (limits : Limits) (threads : List ThreadRow) (cpus : List CpuEntry) (i t : ℕ) (row : ThreadRow) → i ≡ t → t < length threads → row ≡ get_or threads i row → number (seen (rows limits threads cpus)) t < limits.numbers → length row.kinds < limits.numbers

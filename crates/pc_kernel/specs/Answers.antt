@@ -1,5 +1,5 @@
 -- What a kernel shows, and that a call answers as the step does.
-use Rattle.std.specs.Prelude.{ℕ, ◌≤◌, ◌≡◌, Result, Ok, Err}
+use Rattle.std.specs.Prelude.{ℕ, ◌≤◌, ◌≡◌, List, Result, Ok, Err}
 use Rattle.pc_kernel.specs.declared.calls.Call.{Call}
 use Rattle.pc_kernel.specs.declared.calls.Answer.{Answer}
 use Rattle.pc_kernel.specs.declared.calls.Answer.TheVariants.{Done}
@@ -8,7 +8,7 @@ use Rattle.pc_kernel.specs.declared.fault.KernelFault.TheVariants.{OutOfMemory}
 use Rattle.pc_kernel.specs.PlainKernel.{PlainKernel, aseq}
 use Rattle.pc_kernel.specs.Rows.{KernelRows}
 use Rattle.pc_kernel.specs.Reads.{seen, shown}
-use Rattle.pc_kernel.specs.Steps.{reply, after}
+use Rattle.pc_kernel.specs.Steps.{reply, after, replay}
 
 -- the kernel's reads are those of the plain kernel, in which no queue has lost more than it was given
 pub record Shows (k : KernelRows) (P : PlainKernel) : Type 0 where
@@ -37,3 +37,19 @@ StepsInMemory tell call result old new = (P : PlainKernel) → Shows old P → R
 -- every call without an answer of its own answers this
 abbrev pub done : Unit {0} → Answer
 done _ = Done
+
+-- the answer itself
+abbrev pub itself : Answer → Answer
+itself answer = answer
+
+-- every plain kernel that the kernel shows accepts the call with this answer, and the kernel then shows what it is after it
+abbrev pub Accepts : Call → Answer → KernelRows → KernelRows → Type 0
+Accepts call answer old new = (P : PlainKernel) → Shows old P → (reply P call ≡ Ok answer) × Shows new (after P call)
+
+-- every plain kernel that the kernel shows refuses the call like this, and the kernel is as it was
+abbrev pub Refuses : Call → KernelFault → KernelRows → KernelRows → Type 0
+Refuses call refusal old new = (P : PlainKernel) → Shows old P → (reply P call ≡ Err refusal) × (new ≡ old)
+
+-- the calls, one after another, lead from what the one kernel shows to what the other shows
+abbrev pub Replays : List Call → KernelRows → KernelRows → Type 0
+Replays calls old new = (P : PlainKernel) → Shows old P → Shows new (replay P calls)

@@ -18,10 +18,19 @@ rows limits threads cpus = record { limits = limits; threads = threads; cpus = m
 abbrev pub HaveLimits : Limits → List CpuEntry → Type 0
 HaveLimits limits cpus = (c : ℕ) (e : CpuEntry) → slice_get cpus c ≡ Some e → (e.queue.room ≡ limits.room) × (e.queue.most ≡ limits.posts)
 
+-- the CPU that a thread's row has it on
+abbrev pub place_in : List ThreadRow → ℕ → Option ℕ
+place_in threads t = option_and_then (λ row. row.on) (slice_get threads t)
+
+-- a thread that runs on a CPU has that CPU in its row
+abbrev pub ArePlaced : List ThreadRow → List CpuEntry → Type 0
+ArePlaced threads cpus = (c t : ℕ) (e : CpuEntry) → slice_get cpus c ≡ Some e → e.running ≡ Some t → place_in threads t ≡ Some c
+
 -- what holds of every kernel and its rows
 pub record IsKernel (limits : Limits) (threads : List ThreadRow) (cpus : List CpuEntry) : Type 0 where
   pub sound : IsSound (rows limits threads cpus)
   pub queues : HaveLimits limits cpus
+  pub placed : ArePlaced threads cpus
 
 -- a CPU with nothing posted or running, whose queue wakes its own agent
 abbrev pub fresh_cpu : Limits → ℕ → CpuEntry

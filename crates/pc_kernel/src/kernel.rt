@@ -5,7 +5,10 @@ ghost use Rattle.std.specs.Option.{option_map, option_copied};
 ghost use Rattle.pc_kernel.specs.Limits.{bad_field};
 ghost use Rattle.pc_kernel.specs.PlainKernel.{start};
 
+mod agents;
+mod apply;
 mod environment;
+mod marks;
 
 use crate::cpus::{CpuEntry, fresh};
 use crate::fault::KernelFault;

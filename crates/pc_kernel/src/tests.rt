@@ -1,3 +1,9 @@
+mod caller;
+mod calls;
+mod refusals;
+mod rows;
+mod table;
+
 use crate::calls::Posted;
 use crate::fault::KernelFault;
 use crate::kernel::{Kernel, Status};
@@ -6,7 +12,7 @@ use pc_messages::kind::Kind;
 use pc_messages::mask::Mask;
 use pc_messages::message::{Item, Message};
 use pc_messages::names::{Cpu, Tid};
-use pc_messages::reported::{Phase, Reported};
+use pc_messages::reported::Phase;
 use std::alloc::Global;
 use std::test::Fail;
 
@@ -21,7 +27,7 @@ const fn limits(cpus: u8, threads: u32, numbers: u32, room: u32, posts: u32) -> 
 }
 
 /// What a thread's post answers where no agent is woken.
-const fn posted(thread: u32, number: u32, queue: u8, aseq: u32) -> Posted {
+pub(crate) const fn posted(thread: u32, number: u32, queue: u8, aseq: u32) -> Posted {
     Posted {
         thread: Some(Tid(thread)),
         number: Some(number),
@@ -205,41 +211,4 @@ fn spent_numbers(rt: HostRuntime) -> Result<(), Fail> {
     assert_eq!(rt; kernel.wake(Tid(0)), Err(KernelFault::NumbersSpent));
     assert_eq!(rt; kernel.aseq(Cpu(0)), Some(1));
     Ok(())
-}
-
-// The state of a thread is that of its history.
-#[test]
-fn histories_report_states(rt: HostRuntime) -> Result<(), Fail> {
-    let mut kernel = Kernel::new(rt.alloc(), limits(2, 2, 9, 9, 9))?;
-    kernel.create(Cpu(1), 2, false)?;
-    kernel.create(Cpu(1), 3, true)?;
-    kernel.wake(Tid(0))?;
-    let mut state = None;
-    for kind in kernel.history(Tid(0)).ok_or("no thread")? {
-        state = match state {
-            None => Reported::first(*kind),
-            Some(before) => Some(applied(before, *kind)),
-        };
-    }
-    let wanted = Reported {
-        phase: Phase::Ready,
-        mask: Mask::new(2, 2)?,
-        ran: 0,
-        level: pc_messages::level::Level::LOWEST,
-    };
-    assert_eq!(rt; state, Some(wanted));
-    assert_eq!(rt; kernel.reported(Tid(0)), Some(wanted));
-    assert_eq!(rt; kernel.state(Tid(0)).copied(), Some(wanted));
-    assert_eq!(rt; kernel.state(Tid(2)), None);
-    assert_eq!(rt; kernel.history(Tid(2)), None);
-    Ok(())
-}
-
-/// `apply`, where the sum of ticks fits, which it does in every test here.
-fn applied(before: Reported, kind: Kind) -> Reported {
-    if before.ran < 1_000_000 {
-        before.apply(kind)
-    } else {
-        before
-    }
 }

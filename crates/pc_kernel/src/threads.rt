@@ -93,6 +93,20 @@ impl ThreadEntry {
         self.on
     }
 
+    /// Puts the thread on a CPU, or on none.
+    pub(crate) fn set_on(&mut self, on: Option<Cpu>)
+        ensures { self.new ≡ record self.old { on = on } }
+    {
+        self.on = on;
+    }
+
+    /// Gives the thread another home queue.
+    pub(crate) fn set_home(&mut self, home: Cpu)
+        ensures { self.new ≡ record self.old { home = home } }
+    {
+        self.home = home;
+    }
+
     /// Tells of one more message: posts it to the home queue, and adds it to the history. Both growths come before
     /// any change.
     pub(crate) fn tell(

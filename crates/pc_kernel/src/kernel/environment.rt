@@ -1,6 +1,6 @@
 //! The environment's calls: each posts one item.
 
-ghost use Rattle.std.specs.Prelude.{◌≡◌, ◌+◌, ◌<◌, ◌≤◌, ◌^◌, None, [], ◌∷◌, ◌++◌, length, IfOk, OnErr, IsTrue, IsFalse};
+ghost use Rattle.std.specs.Prelude.{◌≡◌, ◌+◌, ◌<◌, ◌≤◌, ◌^◌, ℕ, Some, None, [], ◌∷◌, ◌++◌, length, slice_get, IfOk, OnErr, IsTrue, IsFalse};
 ghost use Rattle.std.specs.Result.{result_err};
 ghost use Rattle.std.specs.Vec.{vec_len, vec_capacity};
 ghost use Rattle.pc_messages.specs.State.{ran_given};
@@ -13,6 +13,7 @@ use crate::fault::KernelFault;
 use crate::kernel::Kernel;
 use crate::threads::ThreadEntry;
 use pc_messages::kind::Kind;
+use pc_messages::level::{Level, LevelFault};
 use pc_messages::mask::{Mask, MaskFault};
 use pc_messages::message::{Item, Message};
 use pc_messages::names::{Cpu, Tid};
@@ -22,9 +23,9 @@ use std::alloc::AllocError;
 
 impl Kernel {
     ghost use Rattle.pc_kernel.specs.Answers.{StepsInMemory};
-    ghost use Rattle.pc_kernel.specs.Reads.{seen, number};
-    ghost use Rattle.pc_kernel.specs.Sends.{Sends, adding};
-    ghost use Rattle.pc_kernel.specs.Steps.{refused, queue_refusals, post_refusals, telling};
+    ghost use Rattle.pc_kernel.specs.Reads.{seen, number, on};
+    ghost use Rattle.pc_kernel.specs.Sends.{Sends, Leaves, adding, ticking};
+    ghost use Rattle.pc_kernel.specs.Steps.{refused, queue_refusals, post_refusals, mask_refusals, thread_refusals, leave_refusals, telling};
 
     /// Creates a thread, whose name is the next one and whose home is the queue.
     pub fn create(&mut self, queue: Cpu, mask: u64, ready: bool) -> Result<Posted, KernelFault>
@@ -56,6 +57,108 @@ impl Kernel {
         }
     }
 
+    /// Blocks the thread on the CPU, which it leaves after so many ticks.
+    pub fn block(&mut self, cpu: Cpu, ran: u32) -> Result<Posted, KernelFault>
+        ensures step { StepsInMemory Answer.Posted (Call.Env (EnvCall.Block cpu ran)) result self.old self.new }
+        ensures limits { self.new.limits ≡ self.old.limits }
+        ensures err { OnErr result (self.new ≡ self.old) }
+    {
+        self.leave(cpu, Kind::Blocked { ran })
+    }
+
+    /// Takes the thread off the CPU by its own will; it is ready to run.
+    pub fn yield_now(&mut self, cpu: Cpu, ran: u32) -> Result<Posted, KernelFault>
+        ensures step { StepsInMemory Answer.Posted (Call.Env (EnvCall.YieldNow cpu ran)) result self.old self.new }
+        ensures limits { self.new.limits ≡ self.old.limits }
+        ensures err { OnErr result (self.new ≡ self.old) }
+    {
+        self.leave(cpu, Kind::Yield { ran })
+    }
+
+    /// Takes the thread off the CPU against its will; it is ready to run.
+    pub fn preempt(&mut self, cpu: Cpu, ran: u32) -> Result<Posted, KernelFault>
+        ensures step { StepsInMemory Answer.Posted (Call.Env (EnvCall.Preempt cpu ran)) result self.old self.new }
+        ensures limits { self.new.limits ≡ self.old.limits }
+        ensures err { OnErr result (self.new ≡ self.old) }
+    {
+        self.leave(cpu, Kind::Preempted { ran })
+    }
+
+    /// Ends the thread on the CPU.
+    pub fn die(&mut self, cpu: Cpu, ran: u32) -> Result<Posted, KernelFault>
+        ensures step { StepsInMemory Answer.Posted (Call.Env (EnvCall.Die cpu ran)) result self.old self.new }
+        ensures limits { self.new.limits ≡ self.old.limits }
+        ensures err { OnErr result (self.new ≡ self.old) }
+    {
+        self.leave(cpu, Kind::Dead { ran })
+    }
+
+    /// Changes the CPUs on which a thread may run; a running thread keeps the CPU that it runs on.
+    pub fn set_affinity(&mut self, thread: Tid, mask: u64) -> Result<Posted, KernelFault>
+        ensures step { StepsInMemory Answer.Posted (Call.Env (EnvCall.SetAffinity thread mask)) result self.old self.new }
+        ensures limits { self.new.limits ≡ self.old.limits }
+        ensures err { OnErr result (self.new ≡ self.old) }
+    {
+        match self.affinity(thread, mask) {
+            Err(fault) => Err(fault),
+            Ok(kind) => match self.tell(thread, kind) {
+                Ok(posted) => Ok(posted),
+                Err(_) => Err(KernelFault::OutOfMemory),
+            },
+        }
+    }
+
+    /// Changes a thread's level.
+    pub fn set_priority(&mut self, thread: Tid, level: u8) -> Result<Posted, KernelFault>
+        ensures step { StepsInMemory Answer.Posted (Call.Env (EnvCall.SetPriority thread level)) result self.old self.new }
+        ensures limits { self.new.limits ≡ self.old.limits }
+        ensures err { OnErr result (self.new ≡ self.old) }
+    {
+        match self.priority(thread, level) {
+            Err(fault) => Err(fault),
+            Ok(kind) => match self.tell(thread, kind) {
+                Ok(posted) => Ok(posted),
+                Err(_) => Err(KernelFault::OutOfMemory),
+            },
+        }
+    }
+
+    /// Posts a tick of the CPU to its own queue.
+    pub fn tick(&mut self, cpu: Cpu) -> Result<Posted, KernelFault>
+        ensures step { StepsInMemory Answer.Posted (Call.Env (EnvCall.Tick cpu)) result self.old self.new }
+        ensures limits { self.new.limits ≡ self.old.limits }
+        ensures err { OnErr result (self.new ≡ self.old) }
+    {
+        match self.tick_fault(cpu) {
+            Some(fault) => Err(fault),
+            None => match self.post_tick(cpu) {
+                Ok(posted) => Ok(posted),
+                Err(_) => Err(KernelFault::OutOfMemory),
+            },
+        }
+    }
+
+    /// Takes the thread on the CPU off it, with a message of this kind. The message comes first, since only it can
+    /// fail.
+    fn leave(&mut self, cpu: Cpu, kind: Kind) -> Result<Posted, KernelFault>
+        requires not_first { IsFalse (is_created kind) }
+        requires ran { ran_given kind < 2 ^ 32 }
+        ensures step { Leaves cpu kind result self.old self.new }
+        ensures limits { self.new.limits ≡ self.old.limits }
+        ensures err { OnErr result (self.new ≡ self.old) }
+    {
+        match self.leaver(cpu) {
+            Err(fault) => Err(fault),
+            Ok(thread) => match self.tell(thread, kind) {
+                Ok(posted) => {
+                    self.take_off(cpu, thread);
+                    Ok(posted)
+                }
+                Err(_) => Err(KernelFault::OutOfMemory),
+            },
+        }
+    }
+
     /// The first message of a new thread, or why there is none.
     fn first_kind(&self, queue: Cpu, mask: u64, ready: bool) -> Result<Kind, KernelFault>
         ensures kind { IfOk result (λ kind. kind ≡ Kind.Created mask ready) }
@@ -64,11 +167,7 @@ impl Kernel {
         if queue.index() >= self.cpus() {
             return Err(KernelFault::BadCpu);
         }
-        let mask = match Mask::new(mask, self.cpus()) {
-            Ok(mask) => mask,
-            Err(MaskFault::EmptyMask) => return Err(KernelFault::EmptyMask),
-            Err(MaskFault::MaskTooWide) => return Err(KernelFault::MaskTooWide),
-        };
+        let mask = self.mask(mask)?;
         if self.threads() >= self.limits().threads {
             return Err(KernelFault::NamesSpent);
         }
@@ -90,6 +189,95 @@ impl Kernel {
                 Phase::Blocked => self.post_fault(thread),
             },
         }
+    }
+
+    /// The thread that can leave the CPU, or why none can.
+    fn leaver(&self, cpu: Cpu) -> Result<Tid, KernelFault>
+        ensures runs { IfOk result (λ thread. on (seen self.now) cpu ≡ Some thread) }
+        ensures known { IfOk result (λ thread. thread < length self.now.threads) }
+        ensures numbers { IfOk result (λ thread. number (seen self.now) thread < self.now.limits.numbers) }
+        ensures refused { result_err result ≡ first_of (leave_refusals (seen self.now) cpu) }
+    {
+        self.is_sound();
+        match self.cpu(cpu) {
+            None => Err(KernelFault::BadCpu),
+            Some(entry) => match entry.running {
+                None => Err(KernelFault::IdleCpu),
+                Some(thread) => match self.post_fault(thread) {
+                    Some(fault) => Err(fault),
+                    None => Ok(thread),
+                },
+            },
+        }
+    }
+
+    /// The message of a thread's new mask, or why there is none.
+    fn affinity(&self, thread: Tid, mask: u64) -> Result<Kind, KernelFault>
+        ensures kind { IfOk result (λ kind. kind ≡ Kind.Affinity mask) }
+        ensures refused { result_err result ≡ refused (seen self.now) (Call.Env (EnvCall.SetAffinity thread mask)) }
+    {
+        let entry = self.living(thread)?;
+        let mask = self.mask(mask)?;
+        match entry.on() {
+            Some(cpu) if !mask.allows(cpu) => return Err(KernelFault::OnForbiddenCpu),
+            _ => {}
+        }
+        match self.post_fault(thread) {
+            Some(fault) => Err(fault),
+            None => Ok(Kind::Affinity { mask }),
+        }
+    }
+
+    /// The message of a thread's new level, or why there is none.
+    fn priority(&self, thread: Tid, level: u8) -> Result<Kind, KernelFault>
+        ensures kind { IfOk result (λ kind. kind ≡ Kind.Priority level) }
+        ensures refused { result_err result ≡ refused (seen self.now) (Call.Env (EnvCall.SetPriority thread level)) }
+    {
+        self.living(thread)?;
+        let level = match Level::new(level) {
+            Ok(level) => level,
+            Err(LevelFault::BadLevel) => return Err(KernelFault::BadLevel),
+        };
+        match self.post_fault(thread) {
+            Some(fault) => Err(fault),
+            None => Ok(Kind::Priority { level }),
+        }
+    }
+
+    /// The thread's row, where it is known and alive.
+    fn living(&self, thread: Tid) -> Result<&ThreadEntry, KernelFault>
+        ensures row { IfOk result (λ entry. slice_get self.now.threads thread ≡ Some entry.now) }
+        ensures refused { result_err result ≡ first_of (thread_refusals (seen self.now) thread) }
+    {
+        match self.thread(thread) {
+            None => Err(KernelFault::UnknownThread),
+            Some(entry) => match entry.state().phase {
+                Phase::Dead => Err(KernelFault::Dead),
+                Phase::Ready | Phase::Blocked => Ok(entry),
+            },
+        }
+    }
+
+    /// The mask with these bits.
+    fn mask(&self, bits: u64) -> Result<Mask, KernelFault>
+        ensures ok { IfOk result (λ mask. mask ≡ bits) }
+        ensures refused { result_err result ≡ first_of (mask_refusals (seen self.now) bits) }
+    {
+        match Mask::new(bits, self.cpus()) {
+            Ok(mask) => Ok(mask),
+            Err(MaskFault::EmptyMask) => Err(KernelFault::EmptyMask),
+            Err(MaskFault::MaskTooWide) => Err(KernelFault::MaskTooWide),
+        }
+    }
+
+    /// Why a CPU's tick is not posted.
+    fn tick_fault(&self, cpu: Cpu) -> Option<KernelFault>
+        ensures { result ≡ refused (seen self.now) (Call.Env (EnvCall.Tick cpu)) }
+    {
+        if cpu.index() >= self.cpus() {
+            return Some(KernelFault::BadCpu);
+        }
+        self.queue_fault(cpu)
     }
 
     /// Why no further message of a thread is posted.
@@ -156,10 +344,29 @@ impl Kernel {
         requires not_first { IsFalse (is_created kind) }
         requires ran { ran_given kind < 2 ^ 32 }
         ensures ok { IfOk result (λ posted. Sends (λ P. telling P thread kind) posted self.old self.new) }
+        ensures stay { (c : ℕ) → on (seen self.new) c ≡ on (seen self.old) c }
+        ensures threads { length self.new.threads ≡ length self.old.threads }
         ensures limits { self.new.limits ≡ self.old.limits }
         ensures err { OnErr result (self.new ≡ self.old) }
     {
         self.threads[thread.index() as usize].tell(thread, kind, &mut self.cpus)
+    }
+
+    /// Posts a CPU's tick to its own queue.
+    fn post_tick(&mut self, cpu: Cpu) -> Result<Posted, AllocError>
+        requires there { cpu < self.old.limits.cpus }
+        ensures ok { IfOk result (λ posted. Sends (λ P. ticking P cpu) posted self.old self.new) }
+        ensures limits { self.new.limits ≡ self.old.limits }
+        ensures err { OnErr result (self.new ≡ self.old) }
+    {
+        let landing = post(&mut self.cpus, cpu, Item::Tick(cpu))?;
+        Ok(Posted {
+            thread: None,
+            number: None,
+            queue: cpu,
+            aseq: landing.aseq,
+            woken: landing.woken,
+        })
     }
 }
 

@@ -1,11 +1,11 @@
-use Rattle.std.proofs.Common.{◌<◌, sym, subst, length, IfOk, slice_set}
+use Rattle.std.proofs.Common.{◌≡◌, ◌<◌, ℕ, sym, subst, length, IfOk, slice_set}
 use Rattle.pc_kernel.specs.Entries.{rows}
-use Rattle.pc_kernel.specs.Reads.{seen, number}
+use Rattle.pc_kernel.specs.Reads.{seen, number, on}
 use Rattle.pc_kernel.specs.Rows.{KernelRows}
 use Rattle.pc_kernel.specs.Sends.{Sends}
 use Rattle.pc_kernel.specs.Steps.{telling}
 use Rattle.pc_kernel.proofs.Grows.{are_targets}
-use Rattle.pc_kernel.proofs.Told.{kernel_tell, sends_tell, spare_of}
+use Rattle.pc_kernel.proofs.Told.{kernel_tell, sends_tell, spare_of, on_told}
 use Rattle.pc_kernel.proofs.kernel.Kernel.tell.Goals as goal
 
 pub tell-requires-clause-targets : goal.tell-requires-clause-targets
@@ -30,3 +30,10 @@ returns-clause-ok c =
     c.self.view_is
     (sends_tell c.tell.result k.limits k.threads.items k.cpus.items c.tell.new.cpus.items c.index.result t c.index_mut.result.now c.tell.new.self c.args.kind c.self.invariant
     c.index.ensures known c.index_mut.ensures.value c.tell.ensures.row c.tell.ensures.ok)
+
+pub returns-clause-stay : goal.returns-clause-stay
+returns-clause-stay c =
+    let k = c.self.inside in
+    let after = rows k.limits (slice_set k.threads.items c.index.result c.tell.new.self) c.tell.new.cpus.items in
+    subst (λ (old : KernelRows). (cpu : ℕ) → on (seen after) cpu ≡ on (seen old) cpu) c.self.view_is
+    (on_told c.tell.result k.limits k.threads.items (slice_set k.threads.items c.index.result c.tell.new.self) k.cpus.items c.tell.new.cpus.items c.index_mut.result.now c.args.thread c.args.kind c.tell.ensures.ok c.tell.ensures.err_cpus)

@@ -1,0 +1,21 @@
+use Rattle.std.proofs.Common.{sym, refl, subst}
+use Rattle.pc_messages.specs.declared.kind.Kind.{Kind}
+use Rattle.pc_kernel.specs.declared.calls.Answer.TheVariants as answer
+use Rattle.pc_kernel.specs.declared.calls.Call.TheVariants.{Env}
+use Rattle.pc_kernel.specs.declared.calls.EnvCall.TheVariants.{SetPriority}
+use Rattle.pc_kernel.specs.Sends.{Sends}
+use Rattle.pc_kernel.specs.Steps.{telling}
+use Rattle.pc_kernel.proofs.Stepped.{refused_steps, starved_steps, sent_steps}
+use Rattle.pc_kernel.proofs.kernel.Kernel.set_priority.Goals as goal
+
+pub returns-in-Err-clause-step : goal.returns-in-Err-clause-step
+returns-in-Err-clause-step c = refused_steps answer.Posted (Env (SetPriority c.args.thread c.args.level)) c.in-Err.fault c.args.self.now c.args.self.now (sym c.in-Err.ensures.refused) refl
+
+pub returns-in-Ok-tell-clause-step : goal.returns-in-Ok-tell-clause-step
+returns-in-Ok-tell-clause-step c =
+    sent_steps (SetPriority c.args.thread c.args.level) c.in-Ok-tell.posted c.args.self.now c.tell.new.self (sym c.in-Ok.ensures.refused)
+    (subst (λ (kind : Kind). Sends (λ P. telling P c.args.thread kind) c.in-Ok-tell.posted c.args.self.now c.tell.new.self) c.in-Ok.ensures.kind c.in-Ok-tell.ensures.ok)
+
+pub returns-in-Err-tell-clause-step : goal.returns-in-Err-tell-clause-step
+returns-in-Err-tell-clause-step c =
+    starved_steps answer.Posted (Env (SetPriority c.args.thread c.args.level)) c.args.self.now c.tell.new.self (sym c.in-Ok.ensures.refused) c.in-Err-tell.ensures.err

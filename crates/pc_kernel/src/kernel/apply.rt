@@ -1,0 +1,72 @@
+//! Calls as values.
+
+ghost use Rattle.std.specs.Prelude.{◌≡◌, OnErr};
+ghost use Rattle.std.specs.Result.{result_map_both};
+
+use crate::calls::{Answer, Call, EnvCall, Posted};
+use crate::fault::KernelFault;
+use crate::kernel::Kernel;
+
+impl Kernel {
+    ghost use Rattle.pc_kernel.specs.Answers.{StepsInMemory, itself};
+
+    /// Makes the call.
+    pub fn apply(&mut self, call: Call) -> Result<Answer, KernelFault>
+        ensures step { StepsInMemory itself call result self.old self.new }
+        ensures limits { self.new.limits ≡ self.old.limits }
+        ensures err { OnErr result (self.new ≡ self.old) }
+    {
+        match call {
+            Call::Env(call) => posted(self.apply_env(call)),
+            Call::Consume { cpu, count } => done(self.consume(cpu, count)),
+            Call::Associate {
+                thread,
+                queue,
+                number,
+            } => done(self.associate(thread, queue, number)),
+            Call::Commit { cpu, thread, aseq } => done(self.commit(cpu, thread, aseq)),
+            Call::Sleep { cpu, aseq } => done(self.sleep(cpu, aseq)),
+            Call::Rouse { cpu } => done(self.rouse(cpu)),
+            Call::Config { queue, target } => done(self.config_wakeup(queue, target)),
+        }
+    }
+
+    /// Makes the environment's call.
+    fn apply_env(&mut self, call: EnvCall) -> Result<Posted, KernelFault>
+        ensures step { StepsInMemory Answer.Posted (Call.Env call) result self.old self.new }
+        ensures limits { self.new.limits ≡ self.old.limits }
+        ensures err { OnErr result (self.new ≡ self.old) }
+    {
+        match call {
+            EnvCall::Create { queue, mask, ready } => self.create(queue, mask, ready),
+            EnvCall::Wake { thread } => self.wake(thread),
+            EnvCall::Block { cpu, ran } => self.block(cpu, ran),
+            EnvCall::YieldNow { cpu, ran } => self.yield_now(cpu, ran),
+            EnvCall::Preempt { cpu, ran } => self.preempt(cpu, ran),
+            EnvCall::Die { cpu, ran } => self.die(cpu, ran),
+            EnvCall::SetAffinity { thread, mask } => self.set_affinity(thread, mask),
+            EnvCall::SetPriority { thread, level } => self.set_priority(thread, level),
+            EnvCall::Tick { cpu } => self.tick(cpu),
+        }
+    }
+}
+
+/// What a call of the environment answers.
+fn posted(outcome: Result<Posted, KernelFault>) -> Result<Answer, KernelFault>
+    ensures { result ≡ result_map_both Answer.Posted (λ fault. fault) outcome }
+{
+    match outcome {
+        Ok(posted) => Ok(Answer::Posted(posted)),
+        Err(fault) => Err(fault),
+    }
+}
+
+/// What an agent's call answers.
+fn done(outcome: Result<(), KernelFault>) -> Result<Answer, KernelFault>
+    ensures { result ≡ result_map_both (λ _. Answer.Done) (λ fault. fault) outcome }
+{
+    match outcome {
+        Ok(()) => Ok(Answer::Done),
+        Err(fault) => Err(fault),
+    }
+}

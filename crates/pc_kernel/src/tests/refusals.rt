@@ -1,0 +1,193 @@
+//! Each refusal of each call; and of two refusals that stand beside each other in the written order and can hold
+//! together, that the first is answered. An unknown thread is never dead, an empty mask never too wide, the queue of
+//! a CPU that is not there never full, and a thread that runs on its home queue's CPU is never forbidden there.
+
+use crate::fault::KernelFault;
+use crate::limits::Profile;
+use crate::tests::table::{
+    DONE, SMALL, associate, block, commit, config, consume, create, die, first_wrong, limits,
+    preempt, rouse, sent, set_affinity, set_priority, sleep, tick, wake, yield_now,
+};
+use pc_messages::names::Cpu;
+use std::test::Fail;
+
+// One of everything: names, numbers, room and posts are all spent by the first thread.
+#[test]
+fn all_is_spent(rt: HostRuntime) -> Result<(), Fail> {
+    let rows = [
+        (create(0, 1, false), sent(0, 1, 0, 1)),
+        (create(9, 0, true), Err(KernelFault::BadCpu)),
+        (create(0, 0, true), Err(KernelFault::EmptyMask)),
+        (create(0, 2, true), Err(KernelFault::MaskTooWide)),
+        (create(0, 1, true), Err(KernelFault::NamesSpent)),
+        (wake(0), Err(KernelFault::NumbersSpent)),
+        (set_affinity(0, 1), Err(KernelFault::NumbersSpent)),
+        (set_affinity(1, 0), Err(KernelFault::UnknownThread)),
+        (set_priority(0, 1), Err(KernelFault::NumbersSpent)),
+        (set_priority(0, 8), Err(KernelFault::BadLevel)),
+        (set_priority(1, 8), Err(KernelFault::UnknownThread)),
+    ];
+    let wrong = first_wrong(rt.alloc(), Profile::One, limits(1, 1, 1, 1, 1), &rows)?;
+    assert_eq!(rt; wrong, None);
+    Ok(())
+}
+
+// Room for one item and one post: both are spent by the first thread, then the posts alone.
+#[test]
+fn room_and_posts_are_spent(rt: HostRuntime) -> Result<(), Fail> {
+    let rows = [
+        (create(0, 1, false), sent(0, 1, 0, 1)),
+        (create(0, 1, true), Err(KernelFault::QueueFull)),
+        (wake(0), Err(KernelFault::QueueFull)),
+        (set_affinity(0, 1), Err(KernelFault::QueueFull)),
+        (set_priority(0, 1), Err(KernelFault::QueueFull)),
+        (tick(0), Err(KernelFault::QueueFull)),
+        (consume(0, 1), DONE),
+        (create(0, 1, true), Err(KernelFault::PostsSpent)),
+        (wake(0), Err(KernelFault::PostsSpent)),
+        (set_affinity(0, 1), Err(KernelFault::PostsSpent)),
+        (set_priority(0, 1), Err(KernelFault::PostsSpent)),
+        (tick(0), Err(KernelFault::PostsSpent)),
+    ];
+    let wrong = first_wrong(rt.alloc(), Profile::One, limits(1, 2, 9, 1, 1), &rows)?;
+    assert_eq!(rt; wrong, None);
+    Ok(())
+}
+
+// The same of the calls by which a thread leaves its CPU: refused, it stays there.
+#[test]
+fn leaving_with_room_and_posts_spent(rt: HostRuntime) -> Result<(), Fail> {
+    let rows = [
+        (create(0, 1, true), sent(0, 1, 0, 1)),
+        (commit(0, 0, 1), DONE),
+        (block(0, 1), Err(KernelFault::QueueFull)),
+        (yield_now(0, 1), Err(KernelFault::QueueFull)),
+        (preempt(0, 1), Err(KernelFault::QueueFull)),
+        (die(0, 1), Err(KernelFault::QueueFull)),
+        (consume(0, 1), DONE),
+        (block(0, 1), Err(KernelFault::PostsSpent)),
+        (yield_now(0, 1), Err(KernelFault::PostsSpent)),
+        (preempt(0, 1), Err(KernelFault::PostsSpent)),
+        (die(0, 1), Err(KernelFault::PostsSpent)),
+        (commit(0, 0, 1), Err(KernelFault::Running(Cpu(0)))),
+    ];
+    let wrong = first_wrong(rt.alloc(), Profile::One, limits(1, 2, 9, 1, 1), &rows)?;
+    assert_eq!(rt; wrong, None);
+    Ok(())
+}
+
+// The first thread's numbers are spent, too.
+#[test]
+fn leaving_with_numbers_spent(rt: HostRuntime) -> Result<(), Fail> {
+    let rows = [
+        (create(0, 1, true), sent(0, 1, 0, 1)),
+        (wake(0), Err(KernelFault::NotBlocked)),
+        (block(0, 1), Err(KernelFault::IdleCpu)),
+        (yield_now(0, 1), Err(KernelFault::IdleCpu)),
+        (preempt(0, 1), Err(KernelFault::IdleCpu)),
+        (die(0, 1), Err(KernelFault::IdleCpu)),
+        (commit(0, 0, 1), DONE),
+        (block(0, 1), Err(KernelFault::NumbersSpent)),
+        (yield_now(0, 1), Err(KernelFault::NumbersSpent)),
+        (preempt(0, 1), Err(KernelFault::NumbersSpent)),
+        (die(0, 1), Err(KernelFault::NumbersSpent)),
+    ];
+    let wrong = first_wrong(rt.alloc(), Profile::One, limits(1, 2, 1, 1, 1), &rows)?;
+    assert_eq!(rt; wrong, None);
+    Ok(())
+}
+
+// Nothing runs on a CPU that is not there, its queue holds nothing and had no post, and nobody wakes it.
+#[test]
+fn a_cpu_that_is_not_there(rt: HostRuntime) -> Result<(), Fail> {
+    let rows = [
+        (block(2, 1), Err(KernelFault::BadCpu)),
+        (yield_now(2, 1), Err(KernelFault::BadCpu)),
+        (preempt(2, 1), Err(KernelFault::BadCpu)),
+        (die(2, 1), Err(KernelFault::BadCpu)),
+        (tick(2), Err(KernelFault::BadCpu)),
+        (consume(2, 1), Err(KernelFault::BadCpu)),
+        (consume(0, 1), Err(KernelFault::TooMany)),
+        (sleep(2, 5), Err(KernelFault::BadCpu)),
+        (rouse(2), Err(KernelFault::BadCpu)),
+        (config(2, None), Err(KernelFault::BadCpu)),
+        (config(2, Some(Cpu(0))), Err(KernelFault::BadCpu)),
+        (config(0, Some(Cpu(2))), Err(KernelFault::BadCpu)),
+    ];
+    let wrong = first_wrong(rt.alloc(), Profile::One, SMALL, &rows)?;
+    assert_eq!(rt; wrong, None);
+    Ok(())
+}
+
+#[test]
+fn masks_of_a_running_thread(rt: HostRuntime) -> Result<(), Fail> {
+    let rows = [
+        (create(0, 3, true), sent(0, 1, 0, 1)),
+        (commit(0, 0, 1), DONE),
+        (set_affinity(0, 0), Err(KernelFault::EmptyMask)),
+        (set_affinity(0, 4), Err(KernelFault::MaskTooWide)),
+        (set_affinity(0, 2), Err(KernelFault::OnForbiddenCpu)),
+        (set_affinity(0, 3), Err(KernelFault::NumbersSpent)),
+    ];
+    let wrong = first_wrong(rt.alloc(), Profile::One, limits(2, 2, 1, 1, 1), &rows)?;
+    assert_eq!(rt; wrong, None);
+    Ok(())
+}
+
+#[test]
+fn calls_on_the_dead(rt: HostRuntime) -> Result<(), Fail> {
+    let rows = [
+        (create(0, 1, true), sent(0, 1, 0, 1)),
+        (commit(0, 0, 1), DONE),
+        (die(0, 5), sent(0, 2, 0, 2)),
+        (wake(0), Err(KernelFault::Dead)),
+        (set_affinity(0, 0), Err(KernelFault::Dead)),
+        (set_priority(0, 8), Err(KernelFault::Dead)),
+        (associate(9, 9, 2), Err(KernelFault::UnknownThread)),
+        (associate(0, 9, 2), Err(KernelFault::BadCpu)),
+        (associate(0, 1, 7), Err(KernelFault::Dead)),
+        (commit(0, 0, 2), Err(KernelFault::NotReady)),
+    ];
+    let wrong = first_wrong(rt.alloc(), Profile::One, SMALL, &rows)?;
+    assert_eq!(rt; wrong, None);
+    Ok(())
+}
+
+#[test]
+fn associating_a_running_thread(rt: HostRuntime) -> Result<(), Fail> {
+    let rows = [
+        (create(0, 3, true), sent(0, 1, 0, 1)),
+        (commit(0, 0, 1), DONE),
+        (associate(0, 1, 2), Err(KernelFault::Stale(1))),
+        (associate(0, 1, 0), Err(KernelFault::Stale(1))),
+        (associate(0, 1, 1), Err(KernelFault::Pending)),
+        (consume(0, 1), DONE),
+        (associate(0, 1, 1), Err(KernelFault::Running(Cpu(0)))),
+    ];
+    let wrong = first_wrong(rt.alloc(), Profile::One, SMALL, &rows)?;
+    assert_eq!(rt; wrong, None);
+    Ok(())
+}
+
+// Thread 0 is blocked; 1 and 3 may run on CPU 0 alone, 2 on CPU 1 alone.
+#[test]
+fn commits(rt: HostRuntime) -> Result<(), Fail> {
+    let rows = [
+        (create(0, 3, false), sent(0, 1, 0, 1)),
+        (commit(2, 9, 0), Err(KernelFault::BadCpu)),
+        (commit(0, 9, 5), Err(KernelFault::UnknownThread)),
+        (commit(0, 0, 0), Err(KernelFault::Stale(1))),
+        (commit(1, 0, 0), Err(KernelFault::NotReady)),
+        (create(0, 1, true), sent(1, 1, 0, 2)),
+        (commit(0, 1, 2), DONE),
+        (commit(1, 1, 0), Err(KernelFault::NotYours(Cpu(0)))),
+        (commit(0, 1, 2), Err(KernelFault::Running(Cpu(0)))),
+        (create(0, 2, true), sent(2, 1, 0, 3)),
+        (commit(0, 2, 3), Err(KernelFault::Forbidden)),
+        (create(0, 1, true), sent(3, 1, 0, 4)),
+        (commit(0, 3, 4), Err(KernelFault::Busy)),
+    ];
+    let wrong = first_wrong(rt.alloc(), Profile::One, SMALL, &rows)?;
+    assert_eq!(rt; wrong, None);
+    Ok(())
+}
