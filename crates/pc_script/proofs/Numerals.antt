@@ -19,7 +19,7 @@ IsPlain-decimal (suc n) h =
     let f : 48 < get_or (decimal (suc n)) 0 0 = first_decimal (suc n) (omega arith) h in
     (decimal_nonempty (suc n) h, (λ q. omega arith), (λ q. absurd (omega arith)))
 
-own : IsNumeralModel (AllDigits 10) (digits_value 10)
+pub own : IsNumeralModel (AllDigits 10) (digits_value 10)
 own = numerals_by_value (AllDigits 10) tells_digits
 
 -- a plain word is parsed exactly where it is a number

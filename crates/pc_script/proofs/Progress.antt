@@ -1,34 +1,35 @@
 -- What the lines of a script do, one after another.
-use Rattle.std.proofs.Common.{◌≡◌, ℕ, suc, ◌+◌, List, [], ◌∷◌, ◌++◌, Option, Some, None, Result, Ok, Err, IfOk, IfSome, length, take, refl, sym, subst, arith, append-nil}
+use Rattle.std.proofs.Common.{◌≡◌, ℕ, suc, ◌+◌, List, [], ◌∷◌, ◌++◌, Option, Result, Ok, Err, IfOk, length, take, refl, sym, subst, arith, append-nil}
 use Rattle.std.specs.Io.KnownBytes.{Appends}
 use Rattle.std.proofs.KnownBytes.{Appends-nil, Appends-trans}
 use Rattle.std.proofs.lemmas.Grind.{flat_map-append}
 use Rattle.pc_script.specs.Asked.{Spells, HasNoReply, IsFault}
 use Rattle.pc_script.specs.Replies.{reply_text, text_line}
-use Rattle.pc_script.specs.Scripts.{Script, at_end, no_reply, command, fault, replies_text, outcome_text, IsOutput, IsOutputOfFirstLines}
-use Rattle.pc_script.specs.Steps.{TakesLine}
-use Rattle.pc_script.specs.Text.{lines, words}
+use Rattle.pc_script.specs.Scripts.{Script, at_end, no_reply, command, fault, replies_text, outcome_text, IsTold}
+use Rattle.pc_script.specs.Steps.{TakesLine, IsToldOfFirstLines}
+use Rattle.pc_script.specs.Text.{words}
 use Rattle.pc_script.specs.declared.command.Command.{Command}
 use Rattle.pc_script.specs.declared.outcome.Outcome.{Outcome}
 use Rattle.pc_script.specs.declared.outcome.Outcome.TheVariants.{Finished, FaultLine}
 use Rattle.pc_script.specs.declared.outcome.ScriptFault.{ScriptFault}
 use Rattle.pc_script.specs.declared.reply.Reply.{Reply}
+use Rattle.pc_script.specs.declared.version.Version.{Version}
 
 -- ---- one line
 
-pub takes_nothing : {M : Type 0} (StandsAfter : M → List Command → List Reply → Type 0) (line : List ℕ) (machine : M) (known : Option (List ℕ))
+pub takes_nothing : {M : Type 0} (StandsAfter : Version → M → List Command → List Reply → Type 0) (line : List ℕ) (machine : M) (known : Option (List ℕ))
     → HasNoReply line → TakesLine StandsAfter line machine machine known known
 takes_nothing StandsAfter line machine known silent = record {
   commands = [];
   replies = [];
   asks = no_reply silent at_end;
-  stands = λ past told h. rw (append-nil past, append-nil told) h;
+  stands = λ version past told h. rw (append-nil past, append-nil told) h;
   text = Appends-nil known;
 }
 
-pub takes_command : {M : Type 0} (StandsAfter : M → List Command → List Reply → Type 0) (line : List ℕ) (old new : M) (before after : Option (List ℕ)) (asked : Command) (reply : Reply)
+pub takes_command : {M : Type 0} (StandsAfter : Version → M → List Command → List Reply → Type 0) (line : List ℕ) (old new : M) (before after : Option (List ℕ)) (asked : Command) (reply : Reply)
     → Spells (words line) asked
-    → ((commands : List Command) (replies : List Reply) → StandsAfter old commands replies → StandsAfter new (commands ++ asked ∷ []) (replies ++ reply ∷ []))
+    → ((version : Version) (commands : List Command) (replies : List Reply) → StandsAfter version old commands replies → StandsAfter version new (commands ++ asked ∷ []) (replies ++ reply ∷ []))
     → Appends before after (text_line (reply_text reply)) → TakesLine StandsAfter line old new before after
 takes_command StandsAfter line old new before after asked reply spelled stands written = record {
   commands = asked ∷ [];
@@ -62,89 +63,81 @@ Script-append (command h more) e after = command h (Script-append more e (Script
 Script-append (fault h) e after = cc
 
 -- The first lines were taken and their replies were written, by this machine
-pub record HasRun {M : Type 0} (StandsAfter : M → List Command → List Reply → Type 0) (script : List (List ℕ)) (machine : M) (before now : Option (List ℕ)) : Type 0 where
+pub record HasRun {M : Type 0} (StandsAfter : M → List Command → List Reply → Type 0) (number : ℕ) (script : List (List ℕ)) (machine : M) (before now : Option (List ℕ)) : Type 0 where
   pub commands : List Command
   pub replies : List Reply
-  pub asks : Script 1 script commands Finished
+  pub asks : Script number script commands Finished
   pub stands : StandsAfter machine commands replies
   pub text : Appends before now (replies_text replies)
 
-pub HasRun-none : {M : Type 0} (StandsAfter : M → List Command → List Reply → Type 0) (machine : M) (known : Option (List ℕ))
-    → StandsAfter machine [] [] → HasRun StandsAfter [] machine known known
-HasRun-none StandsAfter machine known h = record { commands = []; replies = []; asks = at_end; stands = h; text = Appends-nil known }
+pub HasRun-none : {M : Type 0} (StandsAfter : M → List Command → List Reply → Type 0) (number : ℕ) (machine : M) (known : Option (List ℕ))
+    → StandsAfter machine [] [] → HasRun StandsAfter number [] machine known known
+HasRun-none StandsAfter number machine known h = record { commands = []; replies = []; asks = at_end; stands = h; text = Appends-nil known }
 
-pub HasRun-more : {M : Type 0} {StandsAfter : M → List Command → List Reply → Type 0} {script : List (List ℕ)} {line : List ℕ} {old new : M} {before now after : Option (List ℕ)}
-    → HasRun StandsAfter script old before now → TakesLine StandsAfter line old new now after → HasRun StandsAfter (script ++ line ∷ []) new before after
-HasRun-more {script} {before} {now} {after} ran taken = record {
+pub HasRun-more : {M : Type 0} {StandsAfter : Version → M → List Command → List Reply → Type 0} (version : Version) {number : ℕ} {script : List (List ℕ)} {line : List ℕ} {old new : M} {before now after : Option (List ℕ)}
+    → HasRun (StandsAfter version) number script old before now → TakesLine StandsAfter line old new now after
+    → HasRun (StandsAfter version) number (script ++ line ∷ []) new before after
+HasRun-more version {number} {script} {before} {now} {after} ran taken = record {
   commands = ran.commands ++ taken.commands;
   replies = ran.replies ++ taken.replies;
-  asks = Script-append ran.asks refl (Script-renumbered (1 + length script) taken.asks refl);
-  stands = taken.stands ran.commands ran.replies ran.stands;
+  asks = Script-append ran.asks refl (Script-renumbered (number + length script) taken.asks refl);
+  stands = taken.stands version ran.commands ran.replies ran.stands;
   text = rw (flat_map-append (λ reply. text_line (reply_text reply)) ran.replies taken.replies) (Appends-trans before now after _ _ ran.text taken.text);
 }
 
 -- ---- what was written
 
--- what was told of the first lines of a text
-pub output_so_far : {M : Type 0} {StandsAfter : M → List Command → List Reply → Type 0} (IsRun : List Command → List Reply → Type 0) (text : List ℕ) (count : ℕ) {script : List (List ℕ)} {machine : M} {before now : Option (List ℕ)}
+-- what was told of the first of some lines
+pub told_so_far : {M : Type 0} {StandsAfter : M → List Command → List Reply → Type 0} (IsRun : List Command → List Reply → Type 0) (all : List (List ℕ)) (count : ℕ) {number : ℕ} {script : List (List ℕ)} {machine : M} {before now : Option (List ℕ)}
     → ((m : M) (commands : List Command) (replies : List Reply) → StandsAfter m commands replies → IsRun commands replies)
-    → script ≡ take count (lines text) → HasRun StandsAfter script machine before now
-    → (output : List ℕ) × IsOutputOfFirstLines IsRun text output × Appends before now output
-output_so_far IsRun text count {machine} law is ran =
-    let asks = subst (λ s. Script 1 s ran.commands Finished) is ran.asks in (
+    → script ≡ take count all → HasRun StandsAfter number script machine before now
+    → (told : List ℕ) × IsToldOfFirstLines IsRun number all told × Appends before now told
+told_so_far IsRun all count {number} {machine} law is ran =
+    let asks = subst (λ s. Script number s ran.commands Finished) is ran.asks in (
       replies_text ran.replies,
       (count, record { commands = ran.commands; replies = ran.replies; asks = asks; run = law machine ran.commands ran.replies ran.stands; text = sym (append-nil (replies_text ran.replies)) }),
       ran.text,
     )
 
--- what was told of a whole text
-pub output_at_end : {M : Type 0} {StandsAfter : M → List Command → List Reply → Type 0} (IsRun : List Command → List Reply → Type 0) (text : List ℕ) {script : List (List ℕ)} {machine : M} {before now : Option (List ℕ)}
+-- what was told of all of them
+pub told_at_end : {M : Type 0} {StandsAfter : M → List Command → List Reply → Type 0} (IsRun : List Command → List Reply → Type 0) (all : List (List ℕ)) {number : ℕ} {script : List (List ℕ)} {machine : M} {before now : Option (List ℕ)}
     → ((m : M) (commands : List Command) (replies : List Reply) → StandsAfter m commands replies → IsRun commands replies)
-    → script ≡ lines text → HasRun StandsAfter script machine before now
-    → (output : List ℕ) × IsOutput IsRun text Finished output × Appends before now output
-output_at_end IsRun text {machine} law is ran =
-    let asks = subst (λ s. Script 1 s ran.commands Finished) is ran.asks in (
+    → script ≡ all → HasRun StandsAfter number script machine before now
+    → (told : List ℕ) × IsTold IsRun number all Finished told × Appends before now told
+told_at_end IsRun all {number} {machine} law is ran =
+    let asks = subst (λ s. Script number s ran.commands Finished) is ran.asks in (
       replies_text ran.replies,
       record { commands = ran.commands; replies = ran.replies; asks = asks; run = law machine ran.commands ran.replies ran.stands; text = sym (append-nil (replies_text ran.replies)) },
       ran.text,
     )
 
--- what was told of a text up to a fault
-output_up_to_fault : {M : Type 0} {StandsAfter : M → List Command → List Reply → Type 0} (IsRun : List Command → List Reply → Type 0) (text : List ℕ) {script : List (List ℕ)} {machine : M} {before now : Option (List ℕ)}
-    (after : Option (List ℕ)) (line : List ℕ) (others : List (List ℕ)) (number : ℕ)
+-- what was told of them up to a fault
+told_up_to_fault : {M : Type 0} {StandsAfter : M → List Command → List Reply → Type 0} (IsRun : List Command → List Reply → Type 0) (all : List (List ℕ)) {number : ℕ} {script : List (List ℕ)} {machine : M} {before now : Option (List ℕ)}
+    (after : Option (List ℕ)) (line : List ℕ) (others : List (List ℕ)) (here : ℕ)
     → ((m : M) (commands : List Command) (replies : List Reply) → StandsAfter m commands replies → IsRun commands replies)
-    → script ++ line ∷ others ≡ lines text → HasRun StandsAfter script machine before now → IsFault line → number ≡ length script + 1
-    → Appends now after (outcome_text (FaultLine number))
-    → (output : List ℕ) × IsOutput IsRun text (FaultLine number) output × Appends before after output
-output_up_to_fault IsRun text {script} {machine} {before} {now} after line others number law is ran bad numbered written =
-    let stop : Script (1 + length script) (line ∷ others) [] (FaultLine number) = Script-at (fault bad) (omega arith) in
-    let all = rw (append-nil ran.commands) at (Script-append ran.asks refl stop) in
-    let asks = subst (λ s. Script 1 s ran.commands (FaultLine number)) is all in (
-      replies_text ran.replies ++ outcome_text (FaultLine number),
+    → script ++ line ∷ others ≡ all → HasRun StandsAfter number script machine before now → IsFault line → here ≡ number + length script
+    → Appends now after (outcome_text (FaultLine here))
+    → (told : List ℕ) × IsTold IsRun number all (FaultLine here) told × Appends before after told
+told_up_to_fault IsRun all {number} {script} {machine} {before} {now} after line others here law is ran bad numbered written =
+    let stop : Script (number + length script) (line ∷ others) [] (FaultLine here) = Script-at (fault bad) numbered in
+    let whole = rw (append-nil ran.commands) at (Script-append ran.asks refl stop) in
+    let asks = subst (λ s. Script number s ran.commands (FaultLine here)) is whole in (
+      replies_text ran.replies ++ outcome_text (FaultLine here),
       record { commands = ran.commands; replies = ran.replies; asks = asks; run = law machine ran.commands ran.replies ran.stands; text = refl },
       Appends-trans before now after _ _ ran.text written,
     )
 
 -- the same of the answer of the call that writes the fault
-pub output_at_fault : {M : Type 0} {StandsAfter : M → List Command → List Reply → Type 0} (IsRun : List Command → List Reply → Type 0) (text : List ℕ) {script : List (List ℕ)} {machine : M} {before now : Option (List ℕ)}
-    (after : Option (List ℕ)) (line : List ℕ) (others : List (List ℕ)) (number : ℕ) (answer : Result Outcome ScriptFault)
+pub told_at_fault : {M : Type 0} {StandsAfter : M → List Command → List Reply → Type 0} (IsRun : List Command → List Reply → Type 0) (all : List (List ℕ)) {number : ℕ} {script : List (List ℕ)} {machine : M} {before now : Option (List ℕ)}
+    (after : Option (List ℕ)) (line : List ℕ) (others : List (List ℕ)) (here : ℕ) (answer : Result Outcome ScriptFault)
     → ((m : M) (commands : List Command) (replies : List Reply) → StandsAfter m commands replies → IsRun commands replies)
-    → script ++ line ∷ others ≡ lines text → HasRun StandsAfter script machine before now → IsFault line → number ≡ length script + 1
-    → IfOk answer (λ outcome. (outcome ≡ FaultLine number) × Appends now after (outcome_text (FaultLine number)))
-    → IfOk answer (λ outcome. (output : List ℕ) × IsOutput IsRun text outcome output × Appends before after output)
-output_at_fault IsRun text {before} after line others number (Ok outcome) law is ran bad numbered h =
-    subst (λ outcome. (output : List ℕ) × IsOutput IsRun text outcome output × Appends before after output) (sym h.0)
-    (output_up_to_fault IsRun text after line others number law is ran bad numbered h.1)
-output_at_fault IsRun text after line others number (Err e) law is ran bad numbered h = tt
-
--- before the first line nothing was told, whatever the text
-pub nothing_told : {M : Type 0} (StandsAfter : M → List Command → List Reply → Type 0) (IsRun : List Command → List Reply → Type 0) (machine : M) (text known : Option (List ℕ))
-    → ((m : M) (commands : List Command) (replies : List Reply) → StandsAfter m commands replies → IsRun commands replies)
-    → StandsAfter machine [] []
-    → IfSome text (λ bytes. (output : List ℕ) × IsOutputOfFirstLines IsRun bytes output × Appends known known output)
-nothing_told StandsAfter IsRun machine None known law fresh = tt
-nothing_told StandsAfter IsRun machine (Some bytes) known law fresh =
-    output_so_far IsRun bytes 0 law refl (HasRun-none StandsAfter machine known fresh)
+    → script ++ line ∷ others ≡ all → HasRun StandsAfter number script machine before now → IsFault line → here ≡ number + length script
+    → IfOk answer (λ outcome. (outcome ≡ FaultLine here) × Appends now after (outcome_text (FaultLine here)))
+    → IfOk answer (λ outcome. (told : List ℕ) × IsTold IsRun number all outcome told × Appends before after told)
+told_at_fault IsRun all {number} {before} after line others here (Ok outcome) law is ran bad numbered h =
+    subst (λ outcome. (told : List ℕ) × IsTold IsRun number all outcome told × Appends before after told) (sym h.0)
+    (told_up_to_fault IsRun all after line others here law is ran bad numbered h.1)
+told_at_fault IsRun all after line others here (Err e) law is ran bad numbered h = tt
 
 -- ---- faults that are passed on
 

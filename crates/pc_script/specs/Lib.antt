@@ -4,3 +4,4 @@ pub mod Replies
 pub mod Scripts
 pub mod Steps
 pub mod Text
+pub mod Versions

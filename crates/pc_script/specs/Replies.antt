@@ -1,5 +1,5 @@
 -- The texts of replies.
-use Rattle.std.specs.Prelude.{ℕ, List, [], ◌∷◌, ◌++◌, Option, Some, None, flat_map, codes, decimal, ◌==◌, if◌then◌else◌}
+use Rattle.std.specs.Prelude.{ℕ, Bool, true, false, List, [], ◌∷◌, ◌++◌, Option, Some, None, flat_map, codes, decimal, ◌==◌, if◌then◌else◌}
 use Rattle.pc_script.specs.Asked.{thread_name}
 use Rattle.pc_script.specs.declared.reply.Limit.{Limit}
 use Rattle.pc_script.specs.declared.reply.Limit.TheVariants as limit
@@ -92,6 +92,11 @@ status_text status =
     thread_name status.thread
     ++ (codes " n" ++ (decimal status.number ++ (codes " " ++ (phase_text status.phase ++ running_text status.running_on))))
 
+-- `yes` or `no`
+abbrev pub truth_text : Bool → List ℕ
+truth_text true = codes "yes"
+truth_text false = codes "no"
+
 -- ` level L`, or nothing for the lowest level
 abbrev pub level_text : ℕ → List ℕ
 level_text level = if level == 0 then [] else codes " level " ++ decimal level
@@ -122,6 +127,10 @@ abbrev pub reply_text : Reply → List ℕ
 reply_text reply.Done = codes "ok"
 reply_text (reply.Posted posted) = codes "ok " ++ posted_text posted
 reply_text (reply.Published delta items) = codes "ok d" ++ (decimal delta ++ (codes " items " ++ decimal items))
+reply_text (reply.Associated thread queue) = codes "ok " ++ (thread_name thread ++ (codes " q" ++ decimal queue))
+reply_text (reply.Committed thread cpu) = codes "ok " ++ (thread_name thread ++ (codes " c" ++ decimal cpu))
+reply_text (reply.Consumed items) = codes "ok " ++ decimal items
 reply_text (reply.Status status) = status_text status
+reply_text (reply.Truth truth) = truth_text truth
 reply_text (reply.View threads) = shown_lines threads ++ codes "end"
 reply_text (reply.Refused refusal) = codes "refused " ++ refusal_text refusal

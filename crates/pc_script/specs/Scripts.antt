@@ -7,6 +7,8 @@ use Rattle.pc_script.specs.declared.command.Command.{Command}
 use Rattle.pc_script.specs.declared.outcome.Outcome.{Outcome}
 use Rattle.pc_script.specs.declared.outcome.Outcome.TheVariants.{Finished, FaultLine}
 use Rattle.pc_script.specs.declared.reply.Reply.{Reply}
+use Rattle.pc_script.specs.declared.version.Version.{Version}
+use Rattle.pc_script.specs.Versions.{Opens, version_text}
 
 -- Lines, of which the first has this number, ask for these commands, up to their end or to the first fault
 pub data Script : ℕ → List (List ℕ) → List Command → Outcome → Type 0 where
@@ -27,18 +29,28 @@ outcome_text (FaultLine number) = codes "fault line " ++ (decimal number ++ 10 �
 abbrev pub replies_text : List Reply → List ℕ
 replies_text replies = flat_map (λ reply. text_line (reply_text reply)) replies
 
--- The output is that of some run over the commands that these lines ask for
-pub record IsOutputOf (IsRun : List Command → List Reply → Type 0) (script : List (List ℕ)) (outcome : Outcome) (output : List ℕ) : Type 0 where
+-- What is told of lines, of which the first has this number: the replies of some run over the commands that they ask for, and their fault
+pub record IsTold (IsRun : List Command → List Reply → Type 0) (number : ℕ) (script : List (List ℕ)) (outcome : Outcome) (told : List ℕ) : Type 0 where
   pub commands : List Command
   pub replies : List Reply
-  pub asks : Script 1 script commands outcome
+  pub asks : Script number script commands outcome
   pub run : IsRun commands replies
-  pub text : output ≡ replies_text replies ++ outcome_text outcome
+  pub text : told ≡ replies_text replies ++ outcome_text outcome
+
+-- The output is the answer to the line that names the version, if there is one, and what is told of the rest in that version
+pub record IsOutputOf (IsRun : Version → List Command → List Reply → Type 0) (script : List (List ℕ)) (outcome : Outcome) (output : List ℕ) : Type 0 where
+  pub version : Version
+  pub passed : ℕ
+  pub rest : List (List ℕ)
+  pub told : List ℕ
+  pub opens : Opens version passed rest script
+  pub tells : IsTold (IsRun version) (suc passed) rest outcome told
+  pub text : output ≡ version_text version ++ told
 
 -- a text's output
-abbrev pub IsOutput : (List Command → List Reply → Type 0) → List ℕ → Outcome → List ℕ → Type 0
+abbrev pub IsOutput : (Version → List Command → List Reply → Type 0) → List ℕ → Outcome → List ℕ → Type 0
 IsOutput IsRun text outcome output = IsOutputOf IsRun (lines text) outcome output
 
 -- the replies of a text's first lines
-abbrev pub IsOutputOfFirstLines : (List Command → List Reply → Type 0) → List ℕ → List ℕ → Type 0
+abbrev pub IsOutputOfFirstLines : (Version → List Command → List Reply → Type 0) → List ℕ → List ℕ → Type 0
 IsOutputOfFirstLines IsRun text output = (count : ℕ) × IsOutputOf IsRun (take count (lines text)) Finished output

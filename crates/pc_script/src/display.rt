@@ -229,7 +229,12 @@ impl fmt::Display for Reply {
             Reply::Done => write!(f, "ok"),
             Reply::Posted(posted) => write!(f, "ok {posted}"),
             Reply::Published { delta, items } => write!(f, "ok d{delta} items {items}"),
+            Reply::Associated { thread, queue } => write!(f, "ok t{thread} q{queue}"),
+            Reply::Committed { thread, cpu } => write!(f, "ok t{thread} c{cpu}"),
+            Reply::Consumed { items } => write!(f, "ok {items}"),
             Reply::Status(status) => write!(f, "{status}"),
+            Reply::Truth(true) => write!(f, "yes"),
+            Reply::Truth(false) => write!(f, "no"),
             Reply::View(threads) => write!(f, "{threads}end"),
             Reply::Refused(refusal) => write!(f, "refused {refusal}"),
         }

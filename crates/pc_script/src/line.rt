@@ -8,6 +8,7 @@ ghost use Rattle.pc_script.specs.Replies.{reply_text, text_line};
 ghost use Rattle.pc_script.specs.Steps.{IsAsked, TakesLine};
 ghost use Rattle.pc_script.specs.declared.command.Command.{Command};
 ghost use Rattle.pc_script.specs.declared.reply.Reply.{Reply};
+ghost use Rattle.pc_script.specs.declared.version.Version.{Version};
 
 use crate::command::Command;
 use crate::lines::split_words;
@@ -51,8 +52,8 @@ fn answer<M: Machine, W: Write>(
     writer: &mut W,
 ) -> Result<(), ScriptFault>
     ensures ok { OnOk result ((reply : Reply)
-        × ((commands : List Command) (replies : List Reply) → M.StandsAfter machine.old commands replies
-        → M.StandsAfter machine.new (commands ++ command ∷ []) (replies ++ reply ∷ []))
+        × ((version : Version) (commands : List Command) (replies : List Reply) → M.StandsAfter version machine.old commands replies
+        → M.StandsAfter version machine.new (commands ++ command ∷ []) (replies ++ reply ∷ []))
         × Appends (W.contents writer.old) (W.contents writer.new) (text_line (reply_text reply))) }
     ensures no_memory { result ≡ Err ScriptFault.OutOfMemory → writer.new ≡ writer.old }
     ensures read_all { (result ≢ Err ScriptFault.Read) × (result ≢ Err ScriptFault.TooLong) }

@@ -14,11 +14,11 @@ pub(crate) struct Lines<'a> {
     rest: Option<&'a [u8]>,
 }
 
-/// The lines of this text.
-pub(crate) fn lines_of(text: &[u8]) -> Lines<'_>
-    ensures { lines_left result ≡ lines text.now }
+/// The lines of this rest of a text.
+pub(crate) fn lines_of(rest: Option<&[u8]>) -> Lines<'_>
+    ensures { lines_left result ≡ lines_of_rest rest.entry }
 {
-    Lines { rest: Some(text) }
+    Lines { rest }
 }
 
 impl<'a> Iterator for Lines<'a> {
@@ -36,7 +36,7 @@ impl<'a> Iterator for Lines<'a> {
 }
 
 /// The first line of a text, and the text after it.
-fn first_line(text: &[u8]) -> (&[u8], Option<&[u8]>)
+pub(crate) fn first_line(text: &[u8]) -> (&[u8], Option<&[u8]>)
     ensures { lines text.now ≡ result.0.now ∷ lines_of_rest result.1 }
 {
     let Some(end) = text.iter().position(|b| *b == b'\n') else {

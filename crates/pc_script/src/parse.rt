@@ -1,45 +1,11 @@
 //! From the words of a line to the command that they spell.
 
-ghost use Rattle.std.specs.Prelude.{◌≡◌, ℕ, ◌<◌, ◌^◌, Bool, [], ◌∷◌, MatchOption, codes, decimal};
-ghost use Rattle.pc_script.specs.Asked.{IsReading, state_word, texts, thread_name};
+ghost use Rattle.std.specs.Prelude.{◌≢◌, ◌∷◌, codes};
+ghost use Rattle.pc_script.specs.Asked.{IsReading, texts};
 
+use crate::arguments::{cpu_and_count, is_ready_of, one_cpu, one_thread, target_of};
 use crate::command::Command;
 use crate::numbers::{byte, count, number, thread};
-
-/// The one argument, a CPU's or a queue's number.
-fn one_cpu(arguments: &[&[u8]]) -> Option<u8>
-    ensures { MatchOption result ((n : ℕ) → n < 2 ^ 8 → texts arguments.now ≡ decimal n ∷ [] → ⊥)
-        (λ n. (n < 2 ^ 8) × (texts arguments.now ≡ decimal n ∷ [])) }
-{
-    let [cpu] = arguments else {
-        return None;
-    };
-    byte(cpu)
-}
-
-/// The one argument, a thread.
-fn one_thread(arguments: &[&[u8]]) -> Option<u32>
-    ensures { MatchOption result ((n : ℕ) → n < 2 ^ 32 → texts arguments.now ≡ thread_name n ∷ [] → ⊥)
-        (λ n. (n < 2 ^ 32) × (texts arguments.now ≡ thread_name n ∷ [])) }
-{
-    let [name] = arguments else {
-        return None;
-    };
-    thread(name)
-}
-
-/// How a new thread starts.
-fn is_ready_of(word: &[u8]) -> Option<bool>
-    ensures { MatchOption result ((is_ready : Bool) → word.now ≡ state_word is_ready → ⊥) (λ is_ready. word.now ≡ state_word is_ready) }
-{
-    if word == b"ready".as_slice() {
-        return Some(true);
-    }
-    if word == b"blocked".as_slice() {
-        return Some(false);
-    }
-    None
-}
 
 /// The command `enclave` with these arguments.
 fn enclave(arguments: &[&[u8]]) -> Option<Command>
@@ -87,12 +53,142 @@ fn wake(arguments: &[&[u8]]) -> Option<Command>
     Some(Command::Wake { thread })
 }
 
+/// The command `affinity` with these arguments.
+fn affinity(arguments: &[&[u8]]) -> Option<Command>
+    ensures { IsReading (codes "affinity" ∷ texts arguments.now) result }
+{
+    let [name, mask] = arguments else {
+        return None;
+    };
+    let thread = thread(name)?;
+    let mask = number(mask)?;
+    Some(Command::Affinity { thread, mask })
+}
+
+/// The command `priority` with these arguments.
+fn priority(arguments: &[&[u8]]) -> Option<Command>
+    ensures { IsReading (codes "priority" ∷ texts arguments.now) result }
+{
+    let [name, level] = arguments else {
+        return None;
+    };
+    let thread = thread(name)?;
+    let level = byte(level)?;
+    Some(Command::Priority { thread, level })
+}
+
+/// The command `tick` with these arguments.
+fn tick(arguments: &[&[u8]]) -> Option<Command>
+    ensures { IsReading (codes "tick" ∷ texts arguments.now) result }
+{
+    let cpu = one_cpu(arguments)?;
+    Some(Command::Tick { cpu })
+}
+
+/// The command `block` with these arguments.
+fn block(arguments: &[&[u8]]) -> Option<Command>
+    ensures { IsReading (codes "block" ∷ texts arguments.now) result }
+{
+    let (cpu, ran) = cpu_and_count(arguments)?;
+    Some(Command::Block { cpu, ran })
+}
+
+/// The command `yield` with these arguments.
+fn yield_now(arguments: &[&[u8]]) -> Option<Command>
+    ensures { IsReading (codes "yield" ∷ texts arguments.now) result }
+{
+    let (cpu, ran) = cpu_and_count(arguments)?;
+    Some(Command::Yield { cpu, ran })
+}
+
+/// The command `preempt` with these arguments.
+fn preempt(arguments: &[&[u8]]) -> Option<Command>
+    ensures { IsReading (codes "preempt" ∷ texts arguments.now) result }
+{
+    let (cpu, ran) = cpu_and_count(arguments)?;
+    Some(Command::Preempt { cpu, ran })
+}
+
+/// The command `die` with these arguments.
+fn die(arguments: &[&[u8]]) -> Option<Command>
+    ensures { IsReading (codes "die" ∷ texts arguments.now) result }
+{
+    let (cpu, ran) = cpu_and_count(arguments)?;
+    Some(Command::Die { cpu, ran })
+}
+
+/// The command `associate` with these arguments.
+fn associate(arguments: &[&[u8]]) -> Option<Command>
+    ensures { IsReading (codes "associate" ∷ texts arguments.now) result }
+{
+    let [name, queue, number] = arguments else {
+        return None;
+    };
+    let thread = thread(name)?;
+    let queue = byte(queue)?;
+    let number = count(number)?;
+    Some(Command::Associate {
+        thread,
+        queue,
+        number,
+    })
+}
+
+/// The command `commit` with these arguments.
+fn commit(arguments: &[&[u8]]) -> Option<Command>
+    ensures { IsReading (codes "commit" ∷ texts arguments.now) result }
+{
+    let [cpu, name, aseq] = arguments else {
+        return None;
+    };
+    let cpu = byte(cpu)?;
+    let thread = thread(name)?;
+    let aseq = count(aseq)?;
+    Some(Command::Commit { cpu, thread, aseq })
+}
+
+/// The command `sleep` with these arguments.
+fn sleep(arguments: &[&[u8]]) -> Option<Command>
+    ensures { IsReading (codes "sleep" ∷ texts arguments.now) result }
+{
+    let (cpu, aseq) = cpu_and_count(arguments)?;
+    Some(Command::Sleep { cpu, aseq })
+}
+
+/// The command `rouse` with these arguments.
+fn rouse(arguments: &[&[u8]]) -> Option<Command>
+    ensures { IsReading (codes "rouse" ∷ texts arguments.now) result }
+{
+    let cpu = one_cpu(arguments)?;
+    Some(Command::Rouse { cpu })
+}
+
+/// The command `config` with these arguments.
+fn config(arguments: &[&[u8]]) -> Option<Command>
+    ensures { IsReading (codes "config" ∷ texts arguments.now) result }
+{
+    let [queue, target] = arguments else {
+        return None;
+    };
+    let queue = byte(queue)?;
+    let cpu = target_of(target)?;
+    Some(Command::Config { queue, cpu })
+}
+
 /// The command `publish` with these arguments.
 fn publish(arguments: &[&[u8]]) -> Option<Command>
     ensures { IsReading (codes "publish" ∷ texts arguments.now) result }
 {
     let cpu = one_cpu(arguments)?;
     Some(Command::Publish { cpu })
+}
+
+/// The command `consume` with these arguments.
+fn consume(arguments: &[&[u8]]) -> Option<Command>
+    ensures { IsReading (codes "consume" ∷ texts arguments.now) result }
+{
+    let cpu = one_cpu(arguments)?;
+    Some(Command::Consume { cpu })
 }
 
 /// The command `status` with these arguments.
@@ -103,12 +199,67 @@ fn status(arguments: &[&[u8]]) -> Option<Command>
     Some(Command::Status { thread })
 }
 
+/// The command `asleep` with these arguments.
+fn asleep(arguments: &[&[u8]]) -> Option<Command>
+    ensures { IsReading (codes "asleep" ∷ texts arguments.now) result }
+{
+    let cpu = one_cpu(arguments)?;
+    Some(Command::Asleep { cpu })
+}
+
 /// The command `show` with these arguments.
 fn show(arguments: &[&[u8]]) -> Option<Command>
     ensures { IsReading (codes "show" ∷ texts arguments.now) result }
 {
     let cpu = one_cpu(arguments)?;
     Some(Command::Show { cpu })
+}
+
+/// The command with this name, of those that ask the agents, or read.
+fn agent_command(name: &[u8], arguments: &[&[u8]]) -> Option<Command>
+    requires no_event { (name.now ≢ codes "enclave") × (name.now ≢ codes "create") × (name.now ≢ codes "wake") × (name.now ≢ codes "affinity") × (name.now ≢ codes "priority") × (name.now ≢ codes "tick") × (name.now ≢ codes "block") × (name.now ≢ codes "yield") × (name.now ≢ codes "preempt") × (name.now ≢ codes "die") }
+    requires no_call { (name.now ≢ codes "associate") × (name.now ≢ codes "commit") × (name.now ≢ codes "sleep") × (name.now ≢ codes "rouse") × (name.now ≢ codes "config") }
+    ensures { IsReading (name.now ∷ texts arguments.now) result }
+{
+    if name == b"publish".as_slice() {
+        return publish(arguments);
+    }
+    if name == b"consume".as_slice() {
+        return consume(arguments);
+    }
+    if name == b"status".as_slice() {
+        return status(arguments);
+    }
+    if name == b"asleep".as_slice() {
+        return asleep(arguments);
+    }
+    if name == b"show".as_slice() {
+        return show(arguments);
+    }
+    None
+}
+
+/// The command with this name, of those that agents give to the kernel, and those after them.
+fn kernel_call(name: &[u8], arguments: &[&[u8]]) -> Option<Command>
+    requires no_event { (name.now ≢ codes "enclave") × (name.now ≢ codes "create") × (name.now ≢ codes "wake") × (name.now ≢ codes "affinity") × (name.now ≢ codes "priority") × (name.now ≢ codes "tick") × (name.now ≢ codes "block") × (name.now ≢ codes "yield") × (name.now ≢ codes "preempt") × (name.now ≢ codes "die") }
+    ensures { IsReading (name.now ∷ texts arguments.now) result }
+{
+    if name == b"associate".as_slice() {
+        return associate(arguments);
+    }
+    if name == b"commit".as_slice() {
+        return commit(arguments);
+    }
+    if name == b"sleep".as_slice() {
+        return sleep(arguments);
+    }
+    if name == b"rouse".as_slice() {
+        return rouse(arguments);
+    }
+    if name == b"config".as_slice() {
+        return config(arguments);
+    }
+    agent_command(name, arguments)
 }
 
 /// The command with this name and these arguments.
@@ -124,16 +275,28 @@ fn named(name: &[u8], arguments: &[&[u8]]) -> Option<Command>
     if name == b"wake".as_slice() {
         return wake(arguments);
     }
-    if name == b"publish".as_slice() {
-        return publish(arguments);
+    if name == b"affinity".as_slice() {
+        return affinity(arguments);
     }
-    if name == b"status".as_slice() {
-        return status(arguments);
+    if name == b"priority".as_slice() {
+        return priority(arguments);
     }
-    if name == b"show".as_slice() {
-        return show(arguments);
+    if name == b"tick".as_slice() {
+        return tick(arguments);
     }
-    None
+    if name == b"block".as_slice() {
+        return block(arguments);
+    }
+    if name == b"yield".as_slice() {
+        return yield_now(arguments);
+    }
+    if name == b"preempt".as_slice() {
+        return preempt(arguments);
+    }
+    if name == b"die".as_slice() {
+        return die(arguments);
+    }
+    kernel_call(name, arguments)
 }
 
 /// The command that these words spell.

@@ -11,8 +11,16 @@ pub enum Reply {
     Posted(Posted),
     /// `ok dK items H`: the delta with this index was sent, and has this many items.
     Published { delta: u64, items: u32 },
+    /// `ok T qQ`: the thread's messages go to this queue from now on.
+    Associated { thread: u32, queue: u8 },
+    /// `ok T cC`: the thread runs on this CPU from now on.
+    Committed { thread: u32, cpu: u8 },
+    /// `ok N`: so many items were removed.
+    Consumed { items: u32 },
     /// `T nN PHASE`, and ` cC` where the thread runs.
     Status(Status),
+    /// `yes` or `no`.
+    Truth(bool),
     /// A line for each known thread, then `end`.
     View(ShownThreads),
     /// `refused NAME`, and the refusal's argument where it has one.

@@ -1,14 +1,20 @@
 //! Running a script.
 
-ghost use Rattle.std.specs.Prelude.{◌≡◌, ◌≢◌, ◌⊎◌, ℕ, List, [], ◌<◌, ◌≤◌, length, IfOk, IfSome, OnOk};
+ghost use Rattle.std.specs.Prelude.{◌≡◌, ◌≢◌, ◌⊎◌, ◌+◌, ℕ, suc, List, [], ◌<◌, ◌≤◌, length, IfOk, IfSome, OnOk};
 ghost use Rattle.std.specs.Io.KnownBytes.{Appends, Consumes};
-ghost use Rattle.pc_script.specs.Scripts.{IsOutput, IsOutputOfFirstLines, outcome_text};
+ghost use Rattle.pc_script.specs.Left.{lines_of_rest};
+ghost use Rattle.pc_script.specs.Scripts.{IsOutput, IsOutputOfFirstLines, IsTold, outcome_text};
+ghost use Rattle.pc_script.specs.Steps.{IsToldOfFirstLines};
+ghost use Rattle.pc_script.specs.Versions.{version_text};
 
 use crate::input::read_text;
 use crate::line::take_line;
 use crate::lines::lines_of;
 use crate::machine::Machine;
+use crate::opening::{Opening, opening_of};
 use crate::outcome::{Outcome, ScriptFault};
+use crate::reply::Reply;
+use crate::version::Version;
 use std::alloc::Global;
 use std::io::{Read, Write};
 
@@ -24,23 +30,42 @@ fn write_fault<W: Write>(number: u32, writer: &mut W) -> Result<Outcome, ScriptF
     }
 }
 
-/// Runs the lines of a text, up to the end or the first fault.
+/// Answers the line `version 2`, if the script is of that version.
+fn write_version<W: Write>(version: Version, writer: &mut W) -> Result<(), ScriptFault>
+    ensures ok { OnOk result (Appends (W.contents writer.old) (W.contents writer.new) (version_text version)) }
+    ensures err { (result ≢ Err ScriptFault.OutOfMemory) × (result ≢ Err ScriptFault.Read) × (result ≢ Err ScriptFault.TooLong) }
+{
+    match version {
+        Version::One => Ok(()),
+        Version::Two => {
+            let reply = Reply::Done;
+            match writeln!(writer, "{reply}") {
+                Ok(()) => Ok(()),
+                Err(_) => Err(ScriptFault::Write),
+            }
+        }
+    }
+}
+
+/// Runs the lines that are left of a text, up to the end or the first fault.
 fn run_lines<M: Machine, W: Write>(
     alloc: Global,
-    text: &[u8],
+    opening: &Opening<'_>,
     machine: &mut M,
     writer: &mut W,
 ) -> Result<Outcome, ScriptFault>
-    requires short { length text.now ≤ 16777216 }
-    requires fresh { M.StandsAfter machine.old [] [] }
-    ensures ok { IfOk result (λ outcome. (output : List ℕ) × IsOutput M.IsRun text.now outcome output
-        × Appends (W.contents writer.old) (W.contents writer.new) output) }
-    ensures no_memory { result ≡ Err ScriptFault.OutOfMemory → (output : List ℕ) × IsOutputOfFirstLines M.IsRun text.now output
-        × Appends (W.contents writer.old) (W.contents writer.new) output }
+    requires short { opening.now.passed + length (lines_of_rest opening.now.rest) ≤ 16777217 }
+    requires fresh { M.StandsAfter opening.now.version machine.old [] [] }
+    ensures ok { IfOk result (λ outcome. (told : List ℕ)
+        × IsTold (M.IsRun opening.now.version) (suc opening.now.passed) (lines_of_rest opening.now.rest) outcome told
+        × Appends (W.contents writer.old) (W.contents writer.new) told) }
+    ensures no_memory { result ≡ Err ScriptFault.OutOfMemory → (told : List ℕ)
+        × IsToldOfFirstLines (M.IsRun opening.now.version) (suc opening.now.passed) (lines_of_rest opening.now.rest) told
+        × Appends (W.contents writer.old) (W.contents writer.new) told }
     ensures read_all { (result ≢ Err ScriptFault.Read) × (result ≢ Err ScriptFault.TooLong) }
 {
-    let mut number = 0u32;
-    for line in lines_of(text) {
+    let mut number = opening.passed;
+    for line in lines_of(opening.rest) {
         number += 1;
         if !take_line(alloc, line, machine, writer)? {
             return write_fault(number, writer);
@@ -68,7 +93,11 @@ pub fn run_script<M: Machine, R: Read, W: Write>(
     ensures short { OnOk result (IfSome (R.remaining reader.old) (λ text. length text ≤ 16777216)) }
     ensures reads { (bytes : List ℕ) × (length bytes ≤ 16777217) × Consumes (R.remaining reader.old) (R.remaining reader.new) bytes }
 {
-    let mut machine = M::start(alloc);
     let text = read_text(alloc, reader)?;
-    run_lines(alloc, text.as_slice(), &mut machine, writer)
+    let Ok(opening) = opening_of(alloc, text.as_slice()) else {
+        return Err(ScriptFault::OutOfMemory);
+    };
+    write_version(opening.version, writer)?;
+    let mut machine = M::start(alloc, opening.version);
+    run_lines(alloc, &opening, &mut machine, writer)
 }

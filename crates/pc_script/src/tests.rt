@@ -1,11 +1,15 @@
 //! Scripts over memory, with a machine whose replies are fixed by the command.
 
 use crate::command::Command;
+use crate::laws::words_spell_one_command;
+use crate::lines::split_words;
 use crate::lists::{Numbers, ShownThreads};
 use crate::machine::Machine;
 use crate::outcome::{Outcome, ScriptFault};
+use crate::parse::command_of;
 use crate::reply::{Limit, Phase, Posted, Prefix, Refusal, Reply, ShownThread, Status, Subject};
 use crate::run::run_script;
+use crate::version::Version;
 use std::alloc::{AllocError, Global};
 use std::io;
 use std::io::{Error, ErrorKind, Read, Write};
@@ -16,22 +20,54 @@ use std::test::Fail;
 #[derive(Drop)]
 struct Echo {
     alloc: Global,
+    version: Version,
+}
+
+/// What is answered to an enclave with so many threads.
+fn enclave(version: Version, threads: u32) -> Reply {
+    if version == Version::One && threads == 65_535 {
+        return Reply::Refused(Refusal::BadLimits(Limit::Threads));
+    }
+    Reply::Done
+}
+
+/// What is answered to a tick, where there are two CPUs.
+fn tick(cpu: u8) -> Reply {
+    if cpu > 1 {
+        return Reply::Refused(Refusal::BadCpu);
+    }
+    Reply::Posted(Posted {
+        subject: Subject::Tick,
+        queue: cpu,
+        aseq: 1,
+        woken: None,
+    })
+}
+
+/// What is answered where a thread's second message was posted.
+fn message(thread: u32, aseq: u32) -> Reply {
+    Reply::Posted(Posted {
+        subject: Subject::Message { thread, number: 2 },
+        queue: 0,
+        aseq,
+        woken: Some(1),
+    })
 }
 
 impl Machine for Echo {
-    ghost use Rattle.std.specs.Prelude.{◌≡◌, length};
+    ghost use Rattle.std.specs.Prelude.{◌≡◌, length, refl};
 
-    ghost IsRun = { λ commands replies. length commands ≡ length replies };
+    ghost IsRun = { λ _ commands replies. length commands ≡ length replies };
 
-    ghost StandsAfter = { λ _ commands replies. length commands ≡ length replies };
+    ghost StandsAfter = { λ _ _ commands replies. length commands ≡ length replies };
 
-    fn start(alloc: Global) -> Self {
-        Echo { alloc }
+    fn start(alloc: Global, version: Version) -> Self {
+        Echo { alloc, version }
     }
 
     fn answer(&mut self, command: Command) -> Result<Reply, AllocError> {
         match command {
-            Command::Enclave { .. } => Ok(Reply::Done),
+            Command::Enclave { threads, .. } => Ok(enclave(self.version, threads)),
             Command::Create { queue, .. } => Ok(Reply::Posted(Posted {
                 subject: Subject::Message {
                     thread: 0,
@@ -42,6 +78,22 @@ impl Machine for Echo {
                 woken: None,
             })),
             Command::Wake { thread } => Ok(Reply::Refused(Refusal::Stale(thread))),
+            Command::Affinity { thread, .. } => Ok(message(thread, 3)),
+            Command::Priority { thread, level } => Ok(message(thread, u32::from(level))),
+            Command::Tick { cpu } => Ok(tick(cpu)),
+            Command::Block { ran, .. } => Ok(message(1, ran)),
+            Command::Yield { ran, .. } => Ok(message(2, ran)),
+            Command::Preempt { ran, .. } => Ok(message(3, ran)),
+            Command::Die { ran, .. } => Ok(message(4, ran)),
+            Command::Associate { thread, queue, .. } => Ok(Reply::Associated { thread, queue }),
+            Command::Commit { cpu, thread, .. } => Ok(Reply::Committed { thread, cpu }),
+            Command::Sleep { .. } => Ok(Reply::Done),
+            Command::Rouse { .. } => Ok(Reply::Done),
+            Command::Config { .. } => Ok(Reply::Done),
+            Command::Consume { cpu } => Ok(Reply::Consumed {
+                items: u32::from(cpu),
+            }),
+            Command::Asleep { cpu } => Ok(Reply::Truth(cpu == 0)),
             Command::Publish { cpu } => Ok(Reply::Published {
                 delta: 0,
                 items: u32::from(cpu),
@@ -56,7 +108,9 @@ impl Machine for Echo {
         }
     }
 
-    ghost is_run_after = { λ _ _ _ h. h };
+    ghost is_run_of_none = { λ _. refl };
+
+    ghost is_run_after = { λ _ _ _ _ h. h };
 }
 
 /// Two threads, the second without its first message.
@@ -121,6 +175,295 @@ fn each_command_is_read(rt: HostRuntime) {
     ] {
         gives(&rt, alloc, script, output, Outcome::Finished);
     }
+}
+
+/// Asserts that a line spells a command.
+fn reads(rt: &impl Abort, alloc: Global, line: &[u8], command: Command) -> Result<(), AllocError> {
+    let words = split_words(alloc, line)?;
+    assert_eq!(rt; command_of(words.as_slice()), Some(command));
+    Ok(())
+}
+
+#[test]
+fn a_thread_s_mask_and_level_are_read(rt: HostRuntime) -> Result<(), Fail> {
+    let affinity = Command::Affinity {
+        thread: 4_294_967_295,
+        mask: 18_446_744_073_709_551_615,
+    };
+    reads(
+        &rt,
+        rt.alloc(),
+        b"affinity t4294967295 18446744073709551615",
+        affinity,
+    )?;
+    let priority = Command::Priority {
+        thread: 0,
+        level: 255,
+    };
+    reads(&rt, rt.alloc(), b"priority t0 255", priority)?;
+    Ok(())
+}
+
+#[test]
+fn a_tick_and_a_rouse_are_read(rt: HostRuntime) -> Result<(), Fail> {
+    reads(&rt, rt.alloc(), b"tick 255", Command::Tick { cpu: 255 })?;
+    reads(&rt, rt.alloc(), b"rouse 0", Command::Rouse { cpu: 0 })?;
+    Ok(())
+}
+
+#[test]
+fn a_block_and_a_yield_are_read(rt: HostRuntime) -> Result<(), Fail> {
+    let block = Command::Block {
+        cpu: 255,
+        ran: 4_294_967_295,
+    };
+    reads(&rt, rt.alloc(), b"block 255 4294967295", block)?;
+    let yielded = Command::Yield { cpu: 1, ran: 2 };
+    reads(&rt, rt.alloc(), b"yield 1 2", yielded)?;
+    Ok(())
+}
+
+#[test]
+fn a_preempt_and_a_die_are_read(rt: HostRuntime) -> Result<(), Fail> {
+    let preempt = Command::Preempt { cpu: 0, ran: 4 };
+    reads(&rt, rt.alloc(), b"preempt 0 4", preempt)?;
+    let die = Command::Die { cpu: 0, ran: 0 };
+    reads(&rt, rt.alloc(), b"die 0 0", die)?;
+    Ok(())
+}
+
+#[test]
+fn an_associate_is_read(rt: HostRuntime) -> Result<(), Fail> {
+    let associate = Command::Associate {
+        thread: 4_294_967_295,
+        queue: 255,
+        number: 16,
+    };
+    reads(&rt, rt.alloc(), b"associate t4294967295 255 16", associate)?;
+    Ok(())
+}
+
+#[test]
+fn a_commit_and_a_sleep_are_read(rt: HostRuntime) -> Result<(), Fail> {
+    let commit = Command::Commit {
+        cpu: 255,
+        thread: 7,
+        aseq: 4_294_967_295,
+    };
+    reads(&rt, rt.alloc(), b"commit 255 t7 4294967295", commit)?;
+    let sleep = Command::Sleep {
+        cpu: 1,
+        aseq: 4_294_967_295,
+    };
+    reads(&rt, rt.alloc(), b"sleep 1 4294967295", sleep)?;
+    Ok(())
+}
+
+#[test]
+fn a_queue_s_target_is_read(rt: HostRuntime) -> Result<(), Fail> {
+    let set = Command::Config {
+        queue: 0,
+        cpu: Some(255),
+    };
+    reads(&rt, rt.alloc(), b"config 0 255", set)?;
+    let unset = Command::Config {
+        queue: 255,
+        cpu: None,
+    };
+    reads(&rt, rt.alloc(), b"config 255 -", unset)?;
+    Ok(())
+}
+
+#[test]
+fn a_consume_and_an_asleep_are_read(rt: HostRuntime) -> Result<(), Fail> {
+    reads(
+        &rt,
+        rt.alloc(),
+        b"consume 255",
+        Command::Consume { cpu: 255 },
+    )?;
+    reads(&rt, rt.alloc(), b"asleep 0", Command::Asleep { cpu: 0 })?;
+    Ok(())
+}
+
+#[test]
+fn the_kernel_s_answers_are_written(rt: HostRuntime) {
+    let alloc = rt.alloc();
+    for (script, output) in [
+        (
+            b"priority t1 5\ndie 0 2".as_slice(),
+            b"ok t1 n2 q0 a5 wake 1\nok t4 n2 q0 a2 wake 1\n".as_slice(),
+        ),
+        (b"associate t0 1 1", b"ok t0 q1\n"),
+        (b"commit 1 t0 0", b"ok t0 c1\n"),
+        (b"sleep 0 1\nrouse 0\nconfig 0 -", b"ok\nok\nok\n"),
+        (b"consume 0\nconsume 2", b"ok 0\nok 2\n"),
+        (b"asleep 0\nasleep 1", b"yes\nno\n"),
+        (b"\n# x\ntick 0\r\n", b"ok - q0 a1 wake -\n"),
+    ] {
+        gives(&rt, alloc, script, output, Outcome::Finished);
+    }
+}
+
+/// Asserts that a line is a fault.
+fn is_fault(rt: &impl Abort, alloc: Global, line: &[u8]) {
+    gives(rt, alloc, line, b"fault line 1\n", Outcome::FaultLine(1));
+}
+
+#[test]
+fn malformed_masks_levels_and_ticks_are_faults(rt: HostRuntime) {
+    for line in [
+        b"affinity t0 18446744073709551616".as_slice(),
+        b"affinity 0 3",
+        b"affinity t0",
+        b"priority t0 256",
+        b"priority t0 -1",
+        b"tick",
+        b"tick 0 0",
+        b"tick 256",
+    ] {
+        is_fault(&rt, rt.alloc(), line);
+    }
+}
+
+#[test]
+fn malformed_steps_are_faults(rt: HostRuntime) {
+    for line in [
+        b"block 0 4294967296".as_slice(),
+        b"block 0",
+        b"yield 256 0",
+        b"preempt 0 0 0",
+        b"die 0 -",
+        b"Die 0 0",
+    ] {
+        is_fault(&rt, rt.alloc(), line);
+    }
+}
+
+#[test]
+fn malformed_associates_and_commits_are_faults(rt: HostRuntime) {
+    for line in [
+        b"associate 0 0 1".as_slice(),
+        b"associate t0 256 1",
+        b"associate t0 0",
+        b"commit t0 0 1",
+        b"commit 0 0 1",
+        b"commit 0 1 t0",
+        b"commit 0 t0 4294967296",
+    ] {
+        is_fault(&rt, rt.alloc(), line);
+    }
+}
+
+#[test]
+fn malformed_agent_calls_are_faults(rt: HostRuntime) {
+    for line in [
+        b"sleep 0 t0".as_slice(),
+        b"rouse t0",
+        b"config 0 256",
+        b"config - 0",
+        b"config 0 --",
+        b"config 0",
+        b"consume",
+        b"asleep -",
+    ] {
+        is_fault(&rt, rt.alloc(), line);
+    }
+}
+
+#[test]
+fn commands_that_are_not_built_are_faults(rt: HostRuntime) {
+    for line in [
+        b"deliver 0 0".as_slice(),
+        b"answer 0 1",
+        b"same 0 1",
+        b"complete 0 t0",
+        b"pick 0 1",
+        b"steal 0",
+        b"crash 0",
+        b"publish 0 fail",
+    ] {
+        is_fault(&rt, rt.alloc(), line);
+    }
+}
+
+#[test]
+fn a_tick_out_of_range_ends_the_script(rt: HostRuntime) {
+    gives(
+        &rt,
+        rt.alloc(),
+        b"enclave 2 8 100 16 1000\ntick 255\ntick 256",
+        b"ok\nrefused BadCpu\nfault line 3\n",
+        Outcome::FaultLine(3),
+    );
+}
+
+#[test]
+fn the_first_line_with_words_picks_the_version(rt: HostRuntime) {
+    let alloc = rt.alloc();
+    for (script, output) in [
+        (
+            b"version 2\nenclave 1 65535 16000000 16 100".as_slice(),
+            b"ok\nok\n".as_slice(),
+        ),
+        (
+            b"enclave 1 65535 16000000 16 100",
+            b"refused BadLimits threads\n",
+        ),
+        (b"# x\nversion 2\ntick 0", b"ok\nok - q0 a1 wake -\n"),
+        (
+            b"\n  \n#version 3\n version  2 \r\n\nenclave 1 65535 1 1 1",
+            b"ok\nok\n",
+        ),
+        (b"version 2", b"ok\n"),
+        (
+            b"#version 2\nenclave 1 65535 1 1 1",
+            b"refused BadLimits threads\n",
+        ),
+    ] {
+        gives(&rt, alloc, script, output, Outcome::Finished);
+    }
+}
+
+#[test]
+fn other_version_lines_are_faults(rt: HostRuntime) {
+    for line in [
+        b"version 1".as_slice(),
+        b"version 3",
+        b"version 2 2",
+        b"version",
+        b"version 02",
+        b"version t2",
+        b"Version 2",
+    ] {
+        is_fault(&rt, rt.alloc(), line);
+    }
+}
+
+#[test]
+fn a_version_line_stands_first_alone(rt: HostRuntime) {
+    let alloc = rt.alloc();
+    for (script, output, line) in [
+        (
+            b"enclave 2 8 100 16 1000\nversion 2".as_slice(),
+            b"ok\nfault line 2\n".as_slice(),
+            2,
+        ),
+        (b"version 2\nversion 2", b"ok\nfault line 2\n", 2),
+        (b"# x\n\nversion 3", b"fault line 3\n", 3),
+        (
+            b"# x\nversion 2\n\nversion 2\ntick 0",
+            b"ok\nfault line 4\n",
+            4,
+        ),
+    ] {
+        gives(&rt, alloc, script, output, Outcome::FaultLine(line));
+    }
+}
+
+#[test]
+fn the_law_of_the_text_holds(_rt: HostRuntime) {
+    words_spell_one_command();
 }
 
 #[test]
@@ -382,6 +725,7 @@ fn a_write_that_fails_ends_the_script(rt: HostRuntime) {
         (b"wake t1", 15),
         (b"wake t1\nwake t1", 16),
         (b"x", 3),
+        (b"version 2\nwake t1", 2),
     ] {
         let mut reader = script;
         let mut writer = Filling {

@@ -1,44 +1,43 @@
-use Rattle.std.proofs.Common.{ℕ, ◌+◌, List, Bor, length, drop, sym, arith, rules}
+use Rattle.std.proofs.Common.{ℕ, ◌+◌, List, Bor, length, drop, sym, arith}
 use Rattle.std.proofs.lemmas.Iterator.Consumers.{YieldsList-from_first, YieldsList-turn, YieldsList-so_far}
 use Rattle.std.proofs.lemmas.List.{length_push, map-append, length-map}
 use Rattle.std.proofs.lemmas.Result.{err_from_is_err_and}
-use Rattle.pc_script.specs.Left.{lines_left}
-use Rattle.pc_script.specs.Text.{lines}
-use Rattle.pc_script.proofs.Progress.{HasRun-none, HasRun-more, output_so_far, output_at_fault, passed_fault}
+use Rattle.pc_script.specs.Left.{lines_left, lines_of_rest}
+use Rattle.pc_script.proofs.Progress.{HasRun-none, HasRun-more, told_so_far, told_at_fault, passed_fault}
 use Rattle.pc_script.specs.declared.outcome.ScriptFault.TheVariants.{OutOfMemory}
-use Rattle.pc_script.proofs.Splits.{lines-few, list_at}
+use Rattle.pc_script.proofs.Splits.{list_at}
 use Rattle.pc_script.proofs.run.run_lines.Goals as goal
 
 pub loop-line-init : goal.loop-line-init
-loop-line-init g c = record { counted = search rules; ran = HasRun-none _ _ _ c.requires.fresh }
+loop-line-init g c = record { counted = omega arith; ran = HasRun-none _ _ _ _ c.requires.fresh }
 
 pub overflow_add-number : goal.overflow_add-number
 overflow_add-number g c =
-    let text = c.args.text.now in
-    let road = YieldsList-from_first (λ (line : Bor (List ℕ)). line.now) lines_left {s = c.into_iter-line-iterator.result} (lines text) (cc) in
+    let all = lines_of_rest c.args.opening.now.rest in
+    let road = YieldsList-from_first (λ (line : Bor (List ℕ)). line.now) lines_left {s = c.into_iter-line-iterator.result} all (cc) in
     let turn = YieldsList-turn road c.loop-line.yielded _ c.loop-line.yielded_by c.next.result c.next.new.self c.in-Some.line c.in-Some.is c.next.ensures.steps in
-    omega (arith, turn.0, lines-few text, c.loop-line.invariant.counted, c.requires.short)
+    omega (arith, turn.0, c.loop-line.invariant.counted, c.requires.short)
 
 pub returns-in_err-take_line-clause-no_memory : goal.returns-in_err-take_line-clause-no_memory
 returns-in_err-take_line-clause-no_memory g c = λ is.
-    let text = c.args.text.now in
-    let road = YieldsList-from_first (λ (line : Bor (List ℕ)). line.now) lines_left {s = c.into_iter-line-iterator.result} (lines text) (cc) in
+    let all = lines_of_rest c.args.opening.now.rest in
+    let road = YieldsList-from_first (λ (line : Bor (List ℕ)). line.now) lines_left {s = c.into_iter-line-iterator.result} all (cc) in
     let passed = err_from_is_err_and c.from_residual.result c.from_residual.ensures.1 in
     let memory = passed_fault c.take_line.result c.from_residual.result c.in_err-take_line.field-0.0 passed.0 OutOfMemory c.in_err-take_line.was passed.2 passed.1 is in
     let front = YieldsList-so_far road c.loop-line.yielded _ c.loop-line.yielded_by in
-    let told = output_so_far g.M.Machine.IsRun text (length c.loop-line.yielded) g.met.M.Machine.is_run_after front c.loop-line.invariant.ran in
+    let told = told_so_far (g.M.Machine.IsRun c.args.opening.now.version) all (length c.loop-line.yielded) (g.met.M.Machine.is_run_after c.args.opening.now.version) front c.loop-line.invariant.ran in
     rw (c.take_line.ensures.no_memory memory) told
 
 pub returns-then-not-branch-clause-ok : goal.returns-then-not-branch-clause-ok
 returns-then-not-branch-clause-ok g c =
-    let text = c.args.text.now in
-    let road = YieldsList-from_first (λ (line : Bor (List ℕ)). line.now) lines_left {s = c.into_iter-line-iterator.result} (lines text) (cc) in
+    let all = lines_of_rest c.args.opening.now.rest in
+    let road = YieldsList-from_first (λ (line : Bor (List ℕ)). line.now) lines_left {s = c.into_iter-line-iterator.result} all (cc) in
     let turn = YieldsList-turn road c.loop-line.yielded _ c.loop-line.yielded_by c.next.result c.next.new.self c.in-Some.line c.in-Some.is c.next.ensures.steps in
     let front = YieldsList-so_far road c.loop-line.yielded _ c.loop-line.yielded_by in
-    let whole = list_at (lines text) _ c.in-Some.line.now (length c.loop-line.yielded) front turn.0 turn.1 in
+    let whole = list_at all _ c.in-Some.line.now (length c.loop-line.yielded) front turn.0 turn.1 in
     let stops = rw c.if-not-branch.true at c.in_ok-take_line.ensures.ok in
-    output_at_fault g.M.Machine.IsRun text (g.W.Write.contents c.write_fault.new.writer) c.in-Some.line.now (drop (length c.loop-line.yielded + 1) (lines text)) (c.loop-line.number + 1) c.write_fault.result
-    g.met.M.Machine.is_run_after whole c.loop-line.invariant.ran stops.0
+    told_at_fault (g.M.Machine.IsRun c.args.opening.now.version) all (g.W.Write.contents c.write_fault.new.writer) c.in-Some.line.now (drop (length c.loop-line.yielded + 1) all) (c.loop-line.number + 1) c.write_fault.result
+    (g.met.M.Machine.is_run_after c.args.opening.now.version) whole c.loop-line.invariant.ran stops.0
     (omega (arith, length-map c.loop-line.yielded (λ (line : Bor (List ℕ)). line.now), c.loop-line.invariant.counted))
     (rw (sym stops.2) c.write_fault.ensures.ok)
 
@@ -47,5 +46,5 @@ loop-line-preserved g c =
     let taken = rw c.if-not-branch.false at c.in_ok-take_line.ensures.ok in
     record {
       counted = omega (arith, length_push c.loop-line.yielded c.in-Some.line, c.loop-line.invariant.counted);
-      ran = rw map-append (HasRun-more c.loop-line.invariant.ran taken);
+      ran = rw map-append (HasRun-more _ c.loop-line.invariant.ran taken);
     }

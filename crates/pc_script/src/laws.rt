@@ -1,0 +1,10 @@
+//! Laws of the text of scripts.
+
+ghost use Rattle.std.specs.Prelude.{◌≡◌, ℕ, List};
+ghost use Rattle.pc_script.specs.Asked.{Spells};
+ghost use Rattle.pc_script.specs.declared.command.Command.{Command};
+
+/// The words of a line are those of one command at most, so a script's text says what is asked.
+pub fn words_spell_one_command()
+    ensures { (spelled : List (List ℕ)) (one other : Command) → Spells spelled one → Spells spelled other → one ≡ other }
+{}
