@@ -7,3 +7,4 @@ pub mod Worlds
 pub mod Statuses
 pub mod Acting
 pub mod Standing
+pub mod Consuming

@@ -5,11 +5,10 @@ use Rattle.std.proofs.lemmas.Option.{slice_get_within, get_or_from_slice_get}
 use Rattle.pc_messages.specs.Run.{Run}
 use Rattle.pc_join.specs.Sets.{as_members, IsVoid}
 use Rattle.pc_kernel.specs.declared.calls.Call.{Call}
-use Rattle.pc_kernel.specs.declared.calls.Posted as kernel
-use Rattle.pc_kernel.specs.declared.calls.Answer.TheVariants as answer
+use Rattle.pc_kernel.specs.declared.calls.Answer.{Answer}
 use Rattle.pc_kernel.specs.declared.fault.KernelFault.{KernelFault}
 use Rattle.pc_kernel.specs.declared.limits.Limits.{Limits}
-use Rattle.pc_kernel.specs.Answers.{Shows, StepsInMemory}
+use Rattle.pc_kernel.specs.Answers.{Shows, StepsInMemory, itself}
 use Rattle.pc_kernel.specs.PlainKernel.{PlainKernel, start, kinds}
 use Rattle.pc_kernel.specs.Steps.{after}
 use Rattle.pc_script.specs.declared.reply.Reply.{Reply}
@@ -19,7 +18,7 @@ use Rattle.pc_sim.specs.declared.agents.Agent.{Agent}
 use Rattle.pc_sim.specs.declared.world.World.{World}
 use Rattle.pc_sim.specs.Agents.{IsNew, AreNew}
 use Rattle.pc_sim.specs.PlainWorld.{PlainWorld, opened}
-use Rattle.pc_sim.specs.Session.{Tells, as_answer, IsCall}
+use Rattle.pc_sim.specs.Session.{Tells, IsCall}
 use Rattle.pc_sim.specs.Keeping.{KeepsViews}
 use Rattle.pc_sim.specs.Shows.{ShowsAgent, ShowsWorld, Does}
 use Rattle.pc_sim.proofs.Calls.{call_replied}
@@ -46,11 +45,11 @@ new_world world limits count kernel agents sent =
     none (t ∷ n ∷ k ∷ m) = refl
 
 -- a call of the kernel leaves the agents as they are
-pub call_did : (old new : World) (call : Call) (answered : Result kernel.Posted KernelFault) (told : Reply)
-    → KeepsViews → StepsInMemory answer.Posted call answered old.kernel new.kernel → Tells told (as_answer answered)
-    → new.agents ≡ old.agents → new.sent ≡ old.sent → Does (λ w. IsCall w call) old new told
-call_did old new call answered told keeps steps tells agents sent w h =
-    let replied = call_replied call answered old.kernel new.kernel told steps tells w.kernel h.kernel in (
+pub call_did : (old new : World) (call : Call) (answered : Result Answer KernelFault) (done told : Reply)
+    → KeepsViews → StepsInMemory itself call answered old.kernel new.kernel → Tells done told answered
+    → new.agents ≡ old.agents → new.sent ≡ old.sent → Does (λ w. IsCall w call done) old new told
+call_did old new call answered done told keeps steps tells agents sent w h =
+    let replied = call_replied call answered old.kernel new.kernel done told steps tells w.kernel h.kernel in (
       record w { kernel = after w.kernel call },
       record { tells = replied.0; after = refl },
       record {

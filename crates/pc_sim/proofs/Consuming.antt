@@ -1,0 +1,132 @@
+-- What a machine shows after an agent consumed what it has sent.
+use Rattle.std.proofs.Common.{◌≡◌, ℕ, zero, suc, [], ◌∷◌, MatchBool, ◌≤◌, ◌<◌, ◌⊎◌, Bool, true, false, not, List, length, Option, Some, None, Result, Ok, Err, slice_get, set, nat_lt, refl, sym, ◌∙◌, ap, subst, inl, inr, arith}
+use Rattle.std.proofs.lemmas.Bool.{cases_eq}
+use Rattle.std.proofs.lemmas.Bool.Decides.{nat_tests}
+use Rattle.pc_kernel.specs.declared.calls.Call.TheVariants.{Consume}
+use Rattle.pc_kernel.specs.declared.calls.Answer.{Answer}
+use Rattle.pc_kernel.specs.declared.fault.KernelFault.{KernelFault}
+use Rattle.pc_kernel.specs.declared.fault.KernelFault.TheVariants as fault
+use Rattle.pc_kernel.specs.Answers.{Shows, Replies, Steps, done}
+use Rattle.pc_kernel.specs.Limits.{first_of}
+use Rattle.pc_kernel.specs.PlainKernel.{PlainKernel, kinds}
+use Rattle.pc_kernel.specs.Reads.{seen, shown, is_cpu, is_asleep, content}
+use Rattle.pc_kernel.specs.Rows.{KernelRows}
+use Rattle.pc_kernel.specs.Steps.{at, reply, reply_of, accepted, after}
+use Rattle.pc_script.specs.declared.reply.Refusal.TheVariants as refusal
+use Rattle.pc_script.specs.declared.reply.Reply.{Reply}
+use Rattle.pc_script.specs.declared.reply.Reply.TheVariants as replies
+use Rattle.pc_sim.specs.declared.agents.Agent.{Agent}
+use Rattle.pc_sim.specs.declared.world.World.{World}
+use Rattle.pc_sim.specs.PlainWorld.{PlainWorld}
+use Rattle.pc_sim.specs.Keeping.{KeepsViews}
+use Rattle.pc_sim.specs.Session.{IsAsleep, IsConsumed, IsConsuming, IsRefusal}
+use Rattle.pc_sim.specs.Shows.{ShowsAgent, ShowsWorld, Does}
+use Rattle.pc_sim.proofs.Acting.{at_same, at_other, get_set_same, get_set_other, match_true, cpu_there}
+
+-- the world after an agent consumed
+abbrev consumed : PlainWorld → ℕ → PlainWorld
+consumed w c = record w { kernel = after w.kernel (Consume c (w.shown c)); shown = at w.shown c 0 }
+
+match_false : (b : Bool) (P Q : Type 0) → b ≡ false → Q → MatchBool b P Q
+match_false b P Q e q = subst (λ c. MatchBool c P Q) (sym e) q
+
+slice_get_none : {A : Type 0} (xs : List A) (i : ℕ) → slice_get xs i ≡ None → length xs ≤ i
+slice_get_none [] i e = omega arith
+slice_get_none (x ∷ xs) zero e = cc
+slice_get_none (x ∷ xs) (suc i) e = let rest : length xs ≤ i = slice_get_none xs i e in omega arith
+
+accepted_so : (w : PlainWorld) (c : ℕ) (old new : KernelRows) (r : Result Answer KernelFault) (Q : PlainKernel) → Replies done (Ok tt) old new r Q
+    → IsConsumed w c r (replies.Consumed (w.shown c)) (consumed w c) × Shows new Q
+accepted_so w c old new (Ok a) Q h = ((refl, refl), h.1)
+accepted_so w c old new (Err f) Q h = absurd h
+
+refused_so : (w : PlainWorld) (c : ℕ) (old new : KernelRows) (e : KernelFault) (told : Reply) (r : Result Answer KernelFault) (Q : PlainKernel) → Replies done (Err e) old new r Q
+    → IsRefusal e told → IsConsumed w c r told w
+refused_so w c old new e told (Ok a) Q h named = absurd h
+refused_so w c old new e told (Err f) Q h named = (subst (λ x. IsRefusal x told) h.0 named, refl)
+
+agent_consumed : (w : PlainWorld) (c : ℕ) (agent : Agent) → KeepsViews → ShowsAgent (kinds w.kernel) (w.seen c) (w.shown c) agent
+    → ShowsAgent (kinds (consumed w c).kernel) ((consumed w c).seen c) ((consumed w c).shown c) (record agent { shown = 0 })
+agent_consumed w c agent keeps was = record {
+  of_run = keeps w.kernel (Consume c (w.shown c)) agent.view was.of_run;
+  seen = was.seen;
+  shown = sym (at_same w.shown c 0);
+}
+
+agent_stays : (w : PlainWorld) (c d : ℕ) (a : Agent) → KeepsViews → (d ≡ c → ⊥) → ShowsAgent (kinds w.kernel) (w.seen d) (w.shown d) a
+    → ShowsAgent (kinds (consumed w c).kernel) ((consumed w c).seen d) ((consumed w c).shown d) a
+agent_stays w c d a keeps other was = record {
+  of_run = keeps w.kernel (Consume c (w.shown c)) a.view was.of_run;
+  seen = was.seen;
+  shown = was.shown ∙ sym (at_other w.shown c d 0 other);
+}
+
+agents_after : (old new : World) (w : PlainWorld) (c : ℕ) (agent more : Agent) → KeepsViews → ShowsWorld old w → slice_get old.agents.items c ≡ Some agent → more ≡ record agent { shown = 0 }
+    → new.agents.items ≡ set old.agents.items c more → (d : ℕ) (a : Agent) → slice_get new.agents.items d ≡ Some a
+    → ShowsAgent (kinds (consumed w c).kernel) ((consumed w c).seen d) ((consumed w c).shown d) a
+agents_after old new w c agent more keeps h there is agents d a e = elim (cases_eq d c) [
+  | inl same ↦
+      let one : a ≡ more = get_set_same old.agents.items c more a (ap (λ l. slice_get l c) (sym agents) ∙ subst (λ n. slice_get new.agents.items n ≡ Some a) same e) in
+      subst (λ n. ShowsAgent (kinds (consumed w c).kernel) ((consumed w c).seen n) ((consumed w c).shown n) a) (sym same)
+          (subst (ShowsAgent (kinds (consumed w c).kernel) ((consumed w c).seen c) ((consumed w c).shown c)) (sym (one ∙ is)) (agent_consumed w c agent keeps (h.agents c agent there)))
+  | inr other ↦ agent_stays w c d a keeps other (h.agents d a (sym (get_set_other old.agents.items c d more other) ∙ ap (λ l. slice_get l d) (sym agents) ∙ e))
+]
+
+pub consume_did : (old new : World) (c : ℕ) (agent more : Agent) → KeepsViews → slice_get old.agents.items c ≡ Some agent
+    → Steps done (Consume c agent.shown) (Ok tt) old.kernel new.kernel → more ≡ record agent { shown = 0 } → new.agents.items ≡ set old.agents.items c more → new.sent ≡ old.sent
+    → Does (IsConsuming c) old new (replies.Consumed agent.shown)
+consume_did old new c agent more keeps there steps is agents sent w h =
+    let was = h.agents c agent there in
+    let so = accepted_so w c old.kernel new.kernel (reply w.kernel (Consume c (w.shown c))) (after w.kernel (Consume c (w.shown c)))
+        (subst (λ n. Replies done (Ok tt) old.kernel new.kernel (reply w.kernel (Consume c n)) (after w.kernel (Consume c n))) was.shown (steps w.kernel h.kernel)) in (
+      consumed w c,
+      subst (λ n. IsConsumed w c (reply w.kernel (Consume c (w.shown c))) (replies.Consumed n) (consumed w c)) (sym was.shown) so.0,
+      record { kernel = so.1; agents = agents_after old new w c agent more keeps h there is agents; sent = ap (λ v. length v.items) sent ∙ h.sent },
+    )
+
+pub consume_refused : (old new : World) (c : ℕ) (agent : Agent) (e : KernelFault) (told : Reply) → slice_get old.agents.items c ≡ Some agent
+    → Steps done (Consume c agent.shown) (Err e) old.kernel new.kernel → IsRefusal e told → new.kernel ≡ old.kernel → new.agents ≡ old.agents → new.sent ≡ old.sent
+    → Does (IsConsuming c) old new told
+consume_refused old new c agent e told there steps named kernel agents sent w h =
+    let was = h.agents c agent there in (
+      w,
+      refused_so w c old.kernel new.kernel e told (reply w.kernel (Consume c (w.shown c))) (after w.kernel (Consume c (w.shown c)))
+          (subst (λ n. Replies done (Err e) old.kernel new.kernel (reply w.kernel (Consume c n)) (after w.kernel (Consume c n))) was.shown (steps w.kernel h.kernel)) named,
+      record {
+        kernel = subst (λ k. Shows k w.kernel) (sym kernel) h.kernel;
+        agents = λ d a there. h.agents d a (ap (λ v. slice_get v.items d) (sym agents) ∙ there);
+        sent = ap (λ v. length v.items) sent ∙ h.sent;
+      },
+    )
+
+-- a CPU that is not there
+bad_consume : (P : PlainKernel) (c n : ℕ) → is_cpu (shown P) c ≡ false → reply P (Consume c n) ≡ Err fault.BadCpu
+bad_consume P c n e = ap (λ b. reply_of (first_of ((not b, fault.BadCpu) ∷ (nat_lt (length (content (shown P) c)) n, fault.TooMany) ∷ [])) (accepted P (Consume c n))) e
+
+past_cpus : (world : World) (w : PlainWorld) (c : ℕ) → ShowsWorld world w → slice_get world.agents.items c ≡ None → is_cpu (shown w.kernel) c ≡ false
+past_cpus world w c h none =
+    let many : length world.agents.items ≡ world.kernel.limits.cpus = world.as_many in
+    let past : length world.agents.items ≤ c = slice_get_none world.agents.items c none in
+    ap (λ r. is_cpu r c) (sym h.kernel.reads) ∙ not_below c world.kernel.limits.cpus (omega arith)
+  where
+    not_below : (c n : ℕ) → n ≤ c → nat_lt c n ≡ false
+    not_below c n le = grind (arith, nat_tests)
+
+pub consume_nowhere : (world : World) (c : ℕ) → slice_get world.agents.items c ≡ None → Does (IsConsuming c) world world (replies.Refused refusal.BadCpu)
+consume_nowhere world c none w h = (
+  w,
+  subst (λ r. IsConsumed w c r (replies.Refused refusal.BadCpu) w) (sym (bad_consume w.kernel c (w.shown c) (past_cpus world w c h none))) ((refusal.BadCpu, refl, refl), refl),
+  h,
+)
+
+-- whether an agent sleeps
+pub asleep_told : (world : World) (c : ℕ) → c < world.kernel.limits.cpus → (w : PlainWorld) → ShowsWorld world w → IsAsleep w c (replies.Truth (is_asleep (seen world.kernel) c))
+asleep_told world c low w h =
+    match_true (is_cpu (shown w.kernel) c) _ _ (cpu_there world w h c low) (ap (λ r. replies.Truth (is_asleep r c)) h.kernel.reads)
+
+pub asleep_nowhere : (world : World) (c : ℕ) → ¬ (c < world.kernel.limits.cpus) → (w : PlainWorld) → ShowsWorld world w → IsAsleep w c (replies.Refused refusal.BadCpu)
+asleep_nowhere world c high w h =
+    match_false (is_cpu (shown w.kernel) c) _ _ (ap (λ r. is_cpu r c) (sym h.kernel.reads) ∙ not_below c world.kernel.limits.cpus high) refl
+  where
+    not_below : (c n : ℕ) → ¬ (c < n) → nat_lt c n ≡ false
+    not_below c n le = grind (arith, nat_tests)
