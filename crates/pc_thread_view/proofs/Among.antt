@@ -1,9 +1,9 @@
 -- Whether messages are among others that ascend.
-use Rattle.std.proofs.Common.{ℕ, ◌+◌, ◌-◌, ◌<◌, ◌≤◌, ◌≡◌, ◌≢◌, ◌==◌, ◌⊎◌, ◌||◌, nat_le, Bool, true, false, IsTrue, ◌↔◌, List, [], ◌∷◌, ◌++◌, length, take, drop, get_or, take-append-drop, refl, sym, ap, ◌∙◌, subst, arith, inl, inr, None}
+use Rattle.std.proofs.Common.{ℕ, ◌+◌, ◌-◌, ◌<◌, ◌≤◌, ◌≡◌, ◌==◌, ◌⊎◌, ◌||◌, nat_le, Bool, true, false, IsTrue, ◌↔◌, List, [], ◌∷◌, ◌++◌, length, take, drop, get_or, take-append-drop, refl, sym, ap, ◌∙◌, subst, arith, inl, inr, None}
 use Rattle.std.proofs.lemmas.Bool.{false≢true}
 use Rattle.std.proofs.lemmas.Bool.Decides.{nat_tests}
 use Rattle.pc_messages.specs.declared.kind.Kind.{Kind}
-use Rattle.pc_thread_view.specs.Told.{Told, RiseAbove, AreAmong, IsSound, is_early, in_prefix, tells, numbers_of, IsOfThread}
+use Rattle.pc_thread_view.specs.Told.{Told, TellsSome, RiseAbove, AreAmong, IsSound, is_early, in_prefix, tells, numbers_of, IsOfThread}
 use Rattle.pc_join.specs.Sets.{Source, IsWithin, IsVoid}
 use Rattle.pc_thread_view.specs.ToldLaws.{lacks_below}
 use Rattle.pc_thread_view.proofs.Gaining.{rise_from}
@@ -94,7 +94,7 @@ or_left : (a b : Bool) → a ≡ true → (a || b) ≡ true
 or_left true b h = refl
 or_left false b h = absurd (false≢true h)
 
-or_right : (a b : Bool) → b ≡ true → (a || b) ≡ true
+pub or_right : (a b : Bool) → b ≡ true → (a || b) ≡ true
 or_right true b h = refl
 or_right false b h = h
 
@@ -222,33 +222,8 @@ covers_numbers v w a b r e f h =
     within g (n ∷ []) k = g n k
     within g (n ∷ d ∷ m) k = k
 
-pub void_numbers : (v a : Told) (r : Bool) → v ≡ a → IsTrue r ↔ ((n : ℕ) → tells v n ≡ false) → IsTrue r ↔ IsVoid (numbers_of a)
-void_numbers v a r e h = subst (λ x. IsTrue r ↔ IsVoid (numbers_of x)) e (λ t. void (h.0 t), λ all. h.1 (λ n. all (n ∷ [])))
-  where
-    void : ((n : ℕ) → tells v n ≡ false) → IsVoid (numbers_of v)
-    void g [] = refl
-    void g (n ∷ []) = g n
-    void g (n ∷ d ∷ m) = refl
-
--- nothing is told
-none_told : (n : ℕ) → (in_prefix 0 n || false) ≡ false
-none_told n = grind (arith, nat_tests)
-
-pub tells_none : (v : Told) (early : List (ℕ × Kind)) (b : Bool) → v.upto ≡ 0 → early ≡ v.early → b ≡ (length early == 0) → IsTrue b ↔ ((n : ℕ) → tells v n ≡ false)
-tells_none v early b e f h = (λ t n. ap (λ u. in_prefix u n || is_early v.early n) e ∙ ap (λ es. in_prefix 0 n || is_early es n) (sym f ∙ no_items early (zero (length early) (sym h ∙ t))) ∙ none_told n, λ all. by_cases early f h all)
-  where
-    zero : (n : ℕ) → (n == 0) ≡ true → n ≡ 0
-    zero n e = grind (arith, nat_tests)
-
-    by_cases : (es : List (ℕ × Kind)) → es ≡ v.early → b ≡ (length es == 0) → ((n : ℕ) → tells v n ≡ false) → IsTrue b
-    by_cases [] f h all = h
-    by_cases (d ∷ ds) f h all = absurd (false≢true (sym (all d.0) ∙ or_right (in_prefix v.upto d.0) (is_early v.early d.0) (ap (λ es. is_early es d.0) (sym f) ∙ here d ds)))
-
-pub tells_some : (v : Told) → v.upto ≢ 0 → ¬ ((n : ℕ) → tells v n ≡ false)
-tells_some v ne all = false≢true (sym (all 1) ∙ or_left (in_prefix v.upto 1) (is_early v.early 1) (one v.upto ne))
-  where
-    one : (u : ℕ) → u ≢ 0 → in_prefix u 1 ≡ true
-    one u ne = grind (arith, nat_tests)
+pub not_void : (v : Told) → TellsSome v → ¬ IsVoid (numbers_of v)
+not_void v some void = false≢true (sym (void (some.0 ∷ [])) ∙ some.1)
 
 -- a view of nothing
 pub of_nothing : (s : Source) → IsOfThread (record { upto = 0; state = None; early = [] }) s

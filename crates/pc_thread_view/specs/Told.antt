@@ -93,6 +93,15 @@ pub record IsSound (told : Told) : Type 0 where
   pub gap : RiseAbove (told.upto + 1) told.early
   pub early : AreLater told.early
 
+-- some message is told
+abbrev pub TellsSome : Told → Type 0
+TellsSome told = (n : ℕ) × (tells told n ≡ true)
+
+-- what holds of every thread view
+pub record IsView (told : Told) : Type 0 where
+  pub sound : IsSound told
+  pub some : TellsSome told
+
 -- one more message was taken in
 pub record Gains (old : Told) (number : ℕ) (kind : Kind) (new : Told) : Type 0 where
   pub sound : IsSound new

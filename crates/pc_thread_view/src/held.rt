@@ -216,17 +216,6 @@ pub fn covers_held(held: &Held, other: &Held) -> bool
         && covers_early(held.upto, held.early.as_slice(), other.early.as_slice())
 }
 
-/// Whether no message is held.
-pub fn holds_none(held: &Held) -> bool
-    ensures { IsTrue result ↔ ((n : ℕ) → tells (told held.now) n ≡ false) }
-{
-    if held.upto == 0 {
-        held.early.is_empty()
-    } else {
-        false
-    }
-}
-
 /// Whether the kinds are equal.
 fn is_same_kind(first: Kind, other: Kind) -> bool
     ensures { IsTrue result ↔ (first ≡ other) }

@@ -29,14 +29,26 @@ fn even(alloc: Global) -> Result<ThreadView, OutOfMemory> {
     Ok(view)
 }
 
+// Both views in one, taken together from the left and from the right.
+fn both(alloc: Global) -> Result<(ThreadView, ThreadView), Fail> {
+    let first = odd(alloc, Mask::new(3, 2)?)?;
+    let other = even(alloc)?;
+    Ok((join_both(&first, &other)?, join_both(&other, &first)?))
+}
+
 #[test]
-fn gaps_are_early(rt: HostRuntime) -> Result<(), Fail> {
-    let first = odd(rt.alloc(), Mask::new(3, 2).expect(&rt, "a mask"))?;
+fn a_message_past_a_gap_is_early(rt: HostRuntime) -> Result<(), Fail> {
+    let first = odd(rt.alloc(), Mask::new(3, 2)?)?;
     assert_eq!(rt; first.upto(), 1);
     assert_eq!(rt; first.early().len(), 1);
     assert!(rt; first.has(1));
     assert!(rt; !first.has(2));
     assert!(rt; first.has(3));
+    Ok(())
+}
+
+#[test]
+fn without_the_first_all_are_early(rt: HostRuntime) -> Result<(), Fail> {
     let other = even(rt.alloc())?;
     assert_eq!(rt; other.upto(), 0);
     assert!(rt; other.reported().is_none());
@@ -46,38 +58,60 @@ fn gaps_are_early(rt: HostRuntime) -> Result<(), Fail> {
 
 #[test]
 fn a_join_closes_the_gaps(rt: HostRuntime) -> Result<(), Fail> {
-    let mask = Mask::new(3, 2).expect(&rt, "a mask");
-    let first = odd(rt.alloc(), mask)?;
-    let other = even(rt.alloc())?;
-    let joined = join_both(&first, &other)?;
+    let (joined, _) = both(rt.alloc())?;
     assert_eq!(rt; joined.upto(), 4);
     assert_eq!(rt; joined.early().len(), 0);
-    let reported = joined.reported().expect(&rt, "a state");
+    let reported = joined.reported().ok_or("no state")?;
     assert!(rt; reported.phase == Phase::Ready);
     assert_eq!(rt; reported.mask.bits(), 3);
     assert_eq!(rt; reported.ran, 2);
-    assert!(rt; joined == join_both(&other, &first)?);
-    assert!(rt; joined != first);
-    assert!(rt; joined.covers(&first));
-    assert!(rt; !first.covers(&joined));
-    assert!(rt; !joined.is_empty());
-    let folded = ThreadView::folded(rt.alloc(), 4, reported);
-    assert!(rt; joined == folded);
+    Ok(())
+}
+
+#[test]
+fn joins_from_either_side_are_equal(rt: HostRuntime) -> Result<(), Fail> {
+    let (joined, turned) = both(rt.alloc())?;
+    assert!(rt; joined == turned);
+    let reported = joined.reported().ok_or("no state")?;
+    assert_eq!(rt; reported.ran, 2);
+    assert!(rt; joined == ThreadView::folded(rt.alloc(), 4, reported));
+    Ok(())
+}
+
+#[test]
+fn a_join_covers_its_parts(rt: HostRuntime) -> Result<(), Fail> {
+    let (joined, _) = both(rt.alloc())?;
+    let part = even(rt.alloc())?;
+    assert!(rt; joined != part);
+    assert!(rt; joined.covers(&part));
+    assert!(rt; !part.covers(&joined));
+    assert!(rt; !part.is_empty());
     Ok(())
 }
 
 #[test]
 fn a_known_number_changes_nothing(rt: HostRuntime) -> Result<(), Fail> {
-    let mask = Mask::new(3, 2).expect(&rt, "a mask");
-    let mut joined = join_both(&odd(rt.alloc(), mask)?, &even(rt.alloc())?)?;
-    let before = joined.try_copy()?;
+    let (mut joined, before) = both(rt.alloc())?;
     joined.insert(3, Kind::Blocked { ran: 2 })?;
     assert!(rt; joined == before);
+    Ok(())
+}
+
+#[test]
+fn a_far_number_is_early(rt: HostRuntime) -> Result<(), Fail> {
+    let (mut joined, before) = both(rt.alloc())?;
     joined.insert(1_000_000, Kind::Wakeup)?;
     assert!(rt; joined != before);
     assert_eq!(rt; joined.upto(), 4);
-    assert_eq!(rt; joined.early().len(), 1);
-    assert_eq!(rt; joined.early().first().expect(&rt, "one").0, 1_000_000);
-    assert!(rt; joined == joined.try_copy()?);
+    let (number, kind) = joined.early().first().ok_or("none is early")?;
+    assert_eq!(rt; *number, 1_000_000);
+    assert_eq!(rt; *kind, Kind::Wakeup);
+    Ok(())
+}
+
+#[test]
+fn a_copy_is_equal(rt: HostRuntime) -> Result<(), Fail> {
+    let first = odd(rt.alloc(), Mask::new(3, 2)?)?;
+    assert!(rt; first == first.try_copy()?);
     Ok(())
 }

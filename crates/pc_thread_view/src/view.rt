@@ -1,13 +1,13 @@
 //! The view of one thread.
 
-ghost use Rattle.std.specs.Prelude.{ℕ, ◌+◌, ◌*◌, ◌≡◌, ◌≤◌, ◌<◌, ◌↔◌, ◌==◌, ◌||◌, Bool, true, false, List, [], ◌∷◌, Some, None, IsTrue, IsOk, IfOk, OnOk, OnErr};
+ghost use Rattle.std.specs.Prelude.{ℕ, ◌+◌, ◌*◌, ◌≡◌, ◌≤◌, ◌<◌, ◌↔◌, ◌==◌, ◌||◌, Bool, true, false, List, [], ◌∷◌, Some, None, IsTrue, IsFalse, IsOk, IfOk, OnOk, OnErr};
 ghost use Rattle.pc_messages.specs.Run.{IsWellFormed};
 ghost use Rattle.pc_join.specs.Sets.{Members, Source, IsUnion, IsBetween, IsWithin, IsVoid, IsSameSet};
-ghost use Rattle.pc_thread_view.specs.Told.{Told, IsSound, IsOfThread, numbers_of, only, tells, written};
+ghost use Rattle.pc_thread_view.specs.Told.{Told, IsSound, IsOfThread, TellsSome, numbers_of, only, tells, written};
 ghost use Rattle.pc_thread_view.specs.ToldLaws.{unique_told, stays_told};
 ghost use Rattle.pc_thread_view.specs.Same.{is_same_told, told_partial, told_equivalence};
 
-use crate::held::{Held, append, covers_held, has_held, holds_none, is_same_held, join_held};
+use crate::held::{Held, append, covers_held, has_held, is_same_held, join_held};
 use pc_join::join::{Join, OutOfMemory};
 use pc_messages::kind::Kind;
 use pc_messages::reported::Reported;
@@ -16,14 +16,14 @@ use std::alloc::Global;
 use std::marker::Model;
 
 /// What is known of one thread: the state that its first messages report, up to the first that is missing, and the
-/// messages past that one, which are early.
+/// messages past that one, which are early. It knows one message at least.
 #[derive(Drop)]
 pub struct ThreadView {
     held: Held,
 }
 
 impl Model for ThreadView {
-    ghost use Rattle.pc_thread_view.specs.Told.{Told, IsSound};
+    ghost use Rattle.pc_thread_view.specs.Told.{Told, IsView};
 
     ghost Value = { Told };
 
@@ -31,7 +31,7 @@ impl Model for ThreadView {
 
     ghost view = { λ view. told view.held };
 
-    ghost invariant = { λ view. IsSound (told view.held) };
+    ghost invariant = { λ view. IsView (told view.held) };
 }
 
 impl ThreadView {
@@ -89,6 +89,7 @@ impl ThreadView {
     pub fn upto(&self) -> u32
         ensures value { result ≡ self.now.upto }
         ensures sound { IsSound self.now }
+        ensures some { TellsSome self.now }
     {
         self.held.upto
     }
@@ -135,8 +136,12 @@ impl Join for ThreadView {
         covers_held(&self.held, &other.held)
     }
 
-    fn is_empty(&self) -> bool {
-        holds_none(&self.held)
+    fn is_empty(&self) -> bool
+        ensures exact { IsTrue result ↔ IsVoid (numbers_of self.now) }
+        ensures never { IsFalse result }
+    {
+        let _ = &self.held;
+        false
     }
 
     fn try_copy(&self) -> Result<ThreadView, OutOfMemory> {

@@ -72,7 +72,7 @@ none_of : (o : Option Told) → (IsSome o → ⊥) → o ≡ None
 none_of None h = refl
 none_of (Some v) h = absurd (h refl)
 
-cases : (a b : ℕ) → (a < b) ⊎ (b ≤ a)
+pub cases : (a b : ℕ) → (a < b) ⊎ (b ≤ a)
 cases a b = grind arith
 
 -- under each name below one, where the first has something, the other has the same
@@ -107,7 +107,7 @@ pub same_threads : (a b : View) (r : Bool) → IsTrue r ↔ (a.threads ≡ b.thr
 same_threads a b r h = (λ t. let e = h.0 t in λ i. record { threads = e i }, λ e. h.1 (ap (λ v. v.threads) e))
 
 -- what a view of a run tells of a thread
-nothing_written : (o : Option Kind) (kind : Kind) → written_at o ≡ written kind → o ≡ Some kind
+pub nothing_written : (o : Option Kind) (kind : Kind) → written_at o ≡ written kind → o ≡ Some kind
 nothing_written None kind e = absurd (written_some kind (sym e))
 nothing_written (Some k) kind e = ap (λ x. Some x) (same_kind k kind e)
 
@@ -116,7 +116,7 @@ dropped [] i x e = cc
 dropped (y ∷ ys) zero x e = let h : y ≡ x = cc in λ i. h i ∷ ys
 dropped (y ∷ ys) (suc i) x e = dropped ys i x e
 
-kind_after : (kinds : List Kind) (n : ℕ) → kind_at kinds (n + 1) ≡ slice_get kinds n
+pub kind_after : (kinds : List Kind) (n : ℕ) → kind_at kinds (n + 1) ≡ slice_get kinds n
 kind_after kinds n = ap (λ b. cond b None (slice_get kinds (n + 1 - 1))) (not_zero n) ∙ ap (slice_get kinds) (back n)
   where
     not_zero : (n : ℕ) → (n + 1 == 0) ≡ false

@@ -4,6 +4,7 @@
 //! on that set and on the run that the messages are of (`specs/Views.antt`).
 #![tactic(auto)]
 
+pub mod audit;
 #[cfg(test)]
 mod tests;
 pub mod view;

@@ -1,11 +1,15 @@
 //! Messages of two threads, in other orders and divisions, with ample memory.
 
+use crate::audit::{Stranger, audit, complete};
 use crate::view::View;
 use pc_join::join::{Join, OutOfMemory};
+use pc_kernel::calls::Posted;
+use pc_kernel::kernel::Kernel;
+use pc_kernel::limits::Limits;
 use pc_messages::kind::Kind;
 use pc_messages::mask::Mask;
 use pc_messages::message::Message;
-use pc_messages::names::Tid;
+use pc_messages::names::{Cpu, Tid};
 use pc_messages::reported::Phase;
 use std::alloc::Global;
 use std::test::Fail;
@@ -110,5 +114,145 @@ fn a_folded_prefix_is_its_messages(rt: HostRuntime) -> Result<(), Fail> {
         kind: Kind::Created { mask, ready: true },
     })?;
     assert!(rt; folded == all);
+    Ok(())
+}
+
+// A kernel of two CPUs whose only message is the Created of t0, ready, with a mask of both.
+fn kernel_of_one(alloc: Global) -> Result<Kernel, Fail> {
+    let limits = Limits {
+        cpus: 2,
+        threads: 8,
+        numbers: 100,
+        room: 16,
+        posts: 1_000,
+    };
+    let mut kernel = Kernel::new(alloc, limits)?;
+    match created_thread(&mut kernel, true)? {
+        Some(Tid(0)) => Ok(kernel),
+        _ => Err("not the first thread".into()),
+    }
+}
+
+// Creates a thread at queue 0, whose mask has both CPUs; its name.
+fn created_thread(kernel: &mut Kernel, ready: bool) -> Result<Option<Tid>, Fail> {
+    let posted: Posted = kernel.create(Cpu(0), 3, ready)?;
+    Ok(posted.thread)
+}
+
+// Wakes a thread; the number of its message, and the queue that it is in.
+fn woken(kernel: &mut Kernel, thread: Tid) -> Result<(Option<u32>, Cpu), Fail> {
+    let posted: Posted = kernel.wake(thread)?;
+    Ok((posted.number, posted.queue))
+}
+
+// A view of one message.
+fn view_of(alloc: Global, thread: u32, number: u32, kind: Kind) -> Result<View, Fail> {
+    let mut view = View::new(alloc);
+    let message = Message {
+        thread: Tid(thread),
+        number,
+        kind,
+    };
+    if !message.is_well_formed() {
+        return Err("not well formed".into());
+    }
+    view.insert(message)?;
+    Ok(view)
+}
+
+fn created(mask: u64) -> Result<Kind, Fail> {
+    Ok(Kind::Created {
+        mask: Mask::new(mask, 2)?,
+        ready: true,
+    })
+}
+
+fn stranger(thread: u32, number: u32) -> Result<(), Stranger> {
+    Err(Stranger {
+        thread: Tid(thread),
+        number,
+    })
+}
+
+#[test]
+fn a_view_of_the_run_has_no_stranger(rt: HostRuntime) -> Result<(), Fail> {
+    let kernel = kernel_of_one(rt.alloc())?;
+    let view = view_of(rt.alloc(), 0, 1, created(3)?)?;
+    assert_eq!(rt; audit(&view, &kernel), Ok(()));
+    assert_eq!(rt; audit(&View::new(rt.alloc()), &kernel), Ok(()));
+    Ok(())
+}
+
+#[test]
+fn another_mask_is_strange(rt: HostRuntime) -> Result<(), Fail> {
+    let kernel = kernel_of_one(rt.alloc())?;
+    let view = view_of(rt.alloc(), 0, 1, created(1)?)?;
+    assert_eq!(rt; audit(&view, &kernel), stranger(0, 1));
+    Ok(())
+}
+
+// The kernel has one message of t0: a second one that follows is past it, and so is one after a gap.
+#[test]
+fn a_message_past_the_history_is_strange(rt: HostRuntime) -> Result<(), Fail> {
+    let kernel = kernel_of_one(rt.alloc())?;
+    let mut view = view_of(rt.alloc(), 0, 1, created(3)?)?;
+    view.merge(&view_of(rt.alloc(), 0, 2, Kind::Wakeup)?)?;
+    assert_eq!(rt; audit(&view, &kernel), stranger(0, 2));
+    let early = view_of(rt.alloc(), 0, 7, Kind::Wakeup)?;
+    assert_eq!(rt; audit(&early, &kernel), stranger(0, 7));
+    Ok(())
+}
+
+// Of a thread that the kernel does not know, the first number that is told.
+#[test]
+fn an_unknown_thread_is_strange(rt: HostRuntime) -> Result<(), Fail> {
+    let kernel = kernel_of_one(rt.alloc())?;
+    let first = view_of(rt.alloc(), 9, 1, created(3)?)?;
+    assert_eq!(rt; audit(&first, &kernel), stranger(9, 1));
+    let early = view_of(rt.alloc(), 9, 5, Kind::Wakeup)?;
+    assert_eq!(rt; audit(&early, &kernel), stranger(9, 5));
+    Ok(())
+}
+
+#[test]
+fn the_least_stranger_is_named(rt: HostRuntime) -> Result<(), Fail> {
+    let kernel = kernel_of_one(rt.alloc())?;
+    let mut view = view_of(rt.alloc(), 9, 1, created(3)?)?;
+    view.merge(&view_of(rt.alloc(), 4, 3, Kind::Wakeup)?)?;
+    view.merge(&view_of(rt.alloc(), 0, 1, created(3)?)?)?;
+    assert_eq!(rt; audit(&view, &kernel), stranger(4, 3));
+    Ok(())
+}
+
+// An early message that the history has otherwise: message 2 is a Wakeup there.
+#[test]
+fn another_early_message_is_strange(rt: HostRuntime) -> Result<(), Fail> {
+    let mut kernel = kernel_of_one(rt.alloc())?;
+    assert_eq!(rt; created_thread(&mut kernel, false)?, Some(Tid(1)));
+    assert_eq!(rt; woken(&mut kernel, Tid(1))?, (Some(2), Cpu(0)));
+    let same = view_of(rt.alloc(), 1, 2, Kind::Wakeup)?;
+    assert_eq!(rt; audit(&same, &kernel), Ok(()));
+    let other = view_of(rt.alloc(), 1, 2, Kind::Yield { ran: 1 })?;
+    assert_eq!(rt; audit(&other, &kernel), stranger(1, 2));
+    Ok(())
+}
+
+#[test]
+fn a_view_is_complete_where_it_has_the_last_message(rt: HostRuntime) -> Result<(), Fail> {
+    let kernel = kernel_of_one(rt.alloc())?;
+    let view = view_of(rt.alloc(), 0, 1, created(3)?)?;
+    assert!(rt; complete(&view, &kernel, Tid(0)));
+    assert!(rt; !complete(&view, &kernel, Tid(1)));
+    assert!(rt; !complete(&View::new(rt.alloc()), &kernel, Tid(0)));
+    Ok(())
+}
+
+#[test]
+fn a_view_that_lacks_the_last_message_is_not_complete(rt: HostRuntime) -> Result<(), Fail> {
+    let mut kernel = kernel_of_one(rt.alloc())?;
+    assert_eq!(rt; created_thread(&mut kernel, false)?, Some(Tid(1)));
+    assert_eq!(rt; woken(&mut kernel, Tid(1))?, (Some(2), Cpu(0)));
+    let first = view_of(rt.alloc(), 1, 2, Kind::Wakeup)?;
+    assert!(rt; !complete(&first, &kernel, Tid(1)));
     Ok(())
 }

@@ -201,10 +201,11 @@ pub fn views_stay_as_the_run_goes_on()
 {}
 
 /// What a view of a run tells of a thread: the state of the run's messages up to the number, which it has, and it
-/// has not the next.
+/// has not the next; where that is as far as the run goes, the state that the run gives.
 pub fn reads_are_those_of_the_run()
     ensures reported { (run : Run) (view : View) (thread : ℕ) (told : Told) → IsOfRun run view → thread_of view thread ≡ Some told → told.state ≡ state_of (take told.upto (run thread)) }
     ensures within { (run : Run) (view : View) (thread : ℕ) (told : Told) → IsOfRun run view → thread_of view thread ≡ Some told → told.upto ≤ length (run thread) }
     ensures prefix { (view : View) (thread n : ℕ) (told : Told) → thread_of view thread ≡ Some told → 1 ≤ n → n ≤ told.upto → pairs_of view (thread ∷ n ∷ []) ≡ true }
+    ensures whole { (run : Run) (view : View) (thread : ℕ) (told : Told) → IsOfRun run view → thread_of view thread ≡ Some told → length (run thread) ≤ told.upto → told.state ≡ state_of (run thread) }
     ensures missing { (run : Run) (view : View) (thread : ℕ) (told : Told) → IsOfRun run view → thread_of view thread ≡ Some told → pairs_of view (thread ∷ (told.upto + 1) ∷ []) ≡ false }
 {}

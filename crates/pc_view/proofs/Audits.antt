@@ -1,0 +1,184 @@
+-- What a view tells, against the histories of a kernel.
+use Rattle.std.proofs.Common.{ℕ, suc, zero, ◌+◌, ◌<◌, ◌≤◌, ◌≡◌, ◌^◌, false, IsTrue, List, [], ◌∷◌, ◌++◌, length, take, drop, get_or, slice_get, Option, Some, None, IsSome, is_some, All, refl, sym, ap, ◌∙◌, subst, arith, inl, inr}
+use Rattle.std.proofs.lemmas.List.{take_all, length-take-le}
+use Rattle.std.specs.Option.{option_map, option_map_or, option_and_then}
+use Rattle.pc_messages.specs.declared.kind.Kind.{Kind}
+use Rattle.pc_messages.specs.Run.{Run, kind_at}
+use Rattle.pc_messages.specs.State.{state_of}
+use Rattle.pc_join.specs.Sets.{IsVoid, source_at}
+use Rattle.pc_thread_view.specs.Told.{Told, IsOfThread, HasKinds, HasEach, RiseAbove, numbers_of}
+use Rattle.pc_kernel.specs.Rows.{KernelRows, ThreadRow}
+use Rattle.pc_kernel.specs.Sound.{IsSound}
+use Rattle.pc_kernel.specs.Reads.{seen, kinds, history_of, reported_of}
+use Rattle.pc_view.specs.declared.view.View.{View}
+use Rattle.pc_join.specs.ByName.{IsNextName, HasShortNames}
+use Rattle.pc_view.specs.Views.{IsOfRun, source_of, thread_of, written_at}
+use Rattle.pc_view.specs.Audit.{Has, Departs, IsPast, IsOtherState, IsFirstOther, IsOfHistory, IsComplete, upto_of}
+use Rattle.pc_view.proofs.Runs.{kind_after, nothing_written, state_of_run, within_run, cases}
+
+-- the source of a run gives the kinds of a history's first messages
+at_drop : {A : Type 0} (xs : List A) (n : ℕ) (y : A) (ys : List A) → drop n xs ≡ y ∷ ys → (slice_get xs n ≡ Some y) × (drop (suc n) xs ≡ ys)
+at_drop [] zero y ys e = cc
+at_drop [] (suc n) y ys e = cc
+at_drop (x ∷ xs) zero y ys e = (ap (λ l. slice_get l 0) e, ap (drop 1) e)
+at_drop (x ∷ xs) (suc n) y ys e = at_drop xs n y ys e
+
+gives : (run : Run) (t n k : ℕ) (rest : List Kind) → drop n (run t) ≡ rest → HasKinds (source_at (source_of run) t) n (take k rest)
+gives run t n zero rest e = tt
+gives run t n (suc k) [] e = tt
+gives run t n (suc k) (x ∷ xs) e =
+    let at = at_drop (run t) n x xs e in
+    (ap written_at (kind_after (run t) n ∙ at.0), gives run t (n + 1) k xs (ap (λ m. drop m (run t)) (one n) ∙ at.1))
+  where
+    one : (n : ℕ) → n + 1 ≡ suc n
+    one n = omega arith
+
+-- each early message of a history is of the run
+each_of : (run : Run) (t : ℕ) (early : List (ℕ × Kind)) → All (Has (run t)) early → HasEach (source_at (source_of run) t) early
+each_of run t [] all = tt
+each_of run t (e ∷ es) all = (ap written_at (all 0 e (omega arith)), each_of run t es (λ k d less. all (suc k) d (omega arith)))
+
+pub of_history : (run : Run) (t : ℕ) (told : Told) → IsOfHistory (run t) told → RiseAbove (told.upto + 1) told.early → IsOfThread told (source_at (source_of run) t)
+of_history run t told h gap = record {
+  prefix = record {
+    kinds = take told.upto (run t);
+    count = length-take-le told.upto (run t) h.prefix.within;
+    of_source = gives run t 0 told.upto (run t) refl;
+    folded = h.prefix.state;
+  };
+  gap = gap;
+  early = each_of run t told.early h.early;
+}
+
+-- what departs from a history is not of the run
+has_of : (run : Run) (t : ℕ) (before : List (ℕ × Kind)) (n : ℕ) (kind : Kind) (after : List (ℕ × Kind)) → HasEach (source_at (source_of run) t) (before ++ (n, kind) ∷ after) → Has (run t) (n, kind)
+has_of run t [] n kind after h = nothing_written (kind_at (run t) n) kind h.0
+has_of run t (b ∷ bs) n kind after h = has_of run t bs n kind after h.1
+
+module _ (run : Run) (view : View) (thread : ℕ) (told : Told) (number : ℕ) (of_run : IsOfRun run view) (there : thread_of view thread ≡ Some told) where
+  not_past : IsPast (run thread) told number → ⊥
+  not_past (past, _) = let within = within_run run view thread told of_run there in omega arith
+
+  not_other : IsOtherState (run thread) told number → ⊥
+  not_other (_, other, _) = other (state_of_run run view thread told of_run there)
+
+  not_first : IsFirstOther (run thread) told.early number → ⊥
+  not_first f = f.other (has_of run thread f.before number f.kind f.after (subst (HasEach (source_at (source_of run) thread)) f.among (of_run.each thread told there).early))
+
+  pub departs_not : Departs (run thread) told number → ⊥
+  departs_not (inl past) = not_past past
+  departs_not (inr (inl other)) = not_other other
+  departs_not (inr (inr early)) = not_first early.1
+
+-- under every name below one, all that is told is of the history and of the run, and is not nothing
+pub record IsOfHistories (run : Run) (view : View) (thread : ℕ) (told : Told) : Type 0 where
+  pub history : IsOfHistory (run thread) told
+  pub of_thread : IsOfThread told (source_at (source_of run) thread)
+  pub not_void : ¬ IsVoid (numbers_of told)
+
+abbrev pub AreBelow : Run → View → ℕ → Type 0
+AreBelow run view from = (thread : ℕ) (told : Told) → thread < from → thread_of view thread ≡ Some told → IsOfHistories run view thread told
+
+some_at : (view : View) (thread : ℕ) (told : Told) → thread_of view thread ≡ Some told → IsSome (thread_of view thread)
+some_at view thread told e = subst (λ o. IsSome o) (sym e) refl
+
+pub all_below : (run : Run) (view : View) (from : ℕ) → AreBelow run view from → ((name : ℕ) → IsSome (thread_of view name) → name < from) → IsOfRun run view
+all_below run view from below none = record {
+  kept = λ name told e. (below name told (none name (some_at view name told e)) e).not_void;
+  each = λ name told e. (below name told (none name (some_at view name told e)) e).of_thread;
+}
+
+-- what a kernel's history is
+pub kinds_here : (k : KernelRows) (thread : ℕ) (history : List Kind) → ◌≡◌ {A = Option (List Kind)} (Some history) (history_of (seen k) thread) → history ≡ kinds (seen k) thread
+kinds_here k thread history e = here ((seen k).thread thread) e
+  where
+    here : (o : Option ThreadRow) → ◌≡◌ {A = Option (List Kind)} (Some history) (option_map (λ row. row.kinds) o) → history ≡ option_map_or (λ row. row.kinds) o []
+    here None e = cc
+    here (Some row) e = cc
+
+pub kinds_none : (k : KernelRows) (thread : ℕ) → ◌≡◌ {A = Option (List Kind)} None (history_of (seen k) thread) → [] ≡ kinds (seen k) thread
+kinds_none k thread e = none ((seen k).thread thread) e
+  where
+    none : (o : Option ThreadRow) → ◌≡◌ {A = Option (List Kind)} None (option_map (λ row. row.kinds) o) → [] ≡ option_map_or (λ row. row.kinds) o []
+    none None e = refl
+    none (Some row) e = cc
+
+pub reported_here : (k : KernelRows) (thread : ℕ) (history : List Kind) → ◌≡◌ {A = Option (List Kind)} (Some history) (history_of (seen k) thread) → reported_of (seen k) thread ≡ state_of history
+reported_here k thread history e = here ((seen k).thread thread) e
+  where
+    here : (o : Option ThreadRow) → ◌≡◌ {A = Option (List Kind)} (Some history) (option_map (λ row. row.kinds) o) → option_and_then (λ row. state_of row.kinds) o ≡ state_of history
+    here None e = cc
+    here (Some row) e = let h : row.kinds ≡ history = cc in ap state_of h
+
+-- where the whole history is told
+pub whole : (run : Run) (view : View) (thread : ℕ) (told : Told) → IsOfRun run view → thread_of view thread ≡ Some told → length (run thread) ≤ told.upto → told.state ≡ state_of (run thread)
+whole run view thread told of_run there long =
+    state_of_run run view thread told of_run there ∙ ap state_of (take_all told.upto (run thread) long)
+
+-- a list, cut at one of its elements
+pub among_at : {A : Type 0} (xs : List A) (i : ℕ) (x : A) → i < length xs → x ≡ get_or xs i x → xs ≡ take i xs ++ x ∷ drop (suc i) xs
+among_at [] i x less e = absurd (let none : ⊥ = omega arith in none)
+among_at (y ∷ ys) zero x less e = ap (λ z. z ∷ ys) (sym e)
+among_at (y ∷ ys) (suc n) x less e = ap (λ l. y ∷ l) (among_at ys n x (omega arith) e)
+
+pub first_taken : {A : Type 0} (xs : List A) (x : A) → 0 < length xs → x ≡ get_or xs 0 x → take 1 xs ≡ x ∷ []
+first_taken [] x less e = absurd (let none : ⊥ = omega arith in none)
+first_taken (y ∷ ys) x less e = ap (λ z. z ∷ []) (sym e)
+
+-- two names for one number
+pub short_not : (name index : ℕ) → index ≡ name → ¬ (index + 1 < 2 ^ 32) → ¬ (name + 1 < 2 ^ 32)
+short_not name index at last = subst (λ n. ¬ (n + 1 < 2 ^ 32)) at last
+
+-- the names below the next are those below this one, and this one
+pub below_on : (run : Run) (view : View) (from name : ℕ) → AreBelow run view from → IsNextName view.threads from name
+    → ((told : Told) → thread_of view name ≡ Some told → IsOfHistories run view name told) → AreBelow run view (name + 1)
+below_on run view from name below next here thread told less there =
+    elim (cases thread from) [
+      | inl early ↦ below thread told early there
+      | inr late ↦
+          let least : name ≤ thread = next.least.least thread (some_at view thread told there) late in
+          let at : thread ≡ name = omega arith in
+          subst (λ t. IsOfHistories run view t told) (sym at) (here told (ap (thread_of view) (sym at) ∙ there))
+    ]
+
+pub below_next : (run : Run) (view : View) (from name : ℕ) → AreBelow run view from → IsNextName view.threads from name
+    → (thread : ℕ) (told : Told) → thread < name → thread_of view thread ≡ Some told → IsOfHistory (run thread) told
+below_next run view from name below next thread told less there =
+    elim (cases thread from) [
+      | inl early ↦ (below thread told early there).history
+      | inr late ↦ let least : name ≤ thread = next.least.least thread (some_at view thread told there) late in absurd (let no_room : ⊥ = omega arith in no_room)
+    ]
+
+pub all_short : (run : Run) (view : View) (name : ℕ) → AreBelow run view (name + 1) → HasShortNames view.threads → ¬ (name + 1 < 2 ^ 32) → IsOfRun run view
+all_short run view name below short last = all_below run view (name + 1) below (λ other some. let fits : other < 2 ^ 32 = short other some in omega (arith, last))
+
+-- what is held of a thread, as what is told of it
+pub held_of : (run : Run) (view : View) (thread : ℕ) (held told : Told) (history : List Kind) → ◌≡◌ {A = Option Told} (Some held) (thread_of view thread) → thread_of view thread ≡ Some told
+    → history ≡ run thread → IsOfHistory history held → RiseAbove (held.upto + 1) held.early → IsOfThread told (source_at (source_of run) thread)
+held_of run view thread held told history value there same h gap =
+    let one : ◌≡◌ {A = Option Told} (Some held) (Some told) = value ∙ there in
+    let at : held ≡ told = cc in
+    subst (λ x. IsOfThread x (source_at (source_of run) thread)) at (of_history run thread held (subst (λ l. IsOfHistory l held) same h) gap)
+
+-- nothing is told of a thread that has a message
+pub none_complete : (k : KernelRows) (view : View) (thread : ℕ) → IsSound k → thread_of view thread ≡ None → IsComplete view (seen k) thread → ⊥
+none_complete k view thread sound none h = by_row (slice_get k.threads thread) refl
+  where
+    zero_upto : upto_of view thread ≡ 0
+    zero_upto = ap (λ o. option_map_or (λ told. told.upto) o 0) none
+
+    by_row : (o : Option ThreadRow) → slice_get k.threads thread ≡ o → ⊥
+    by_row None e = let known : IsTrue false = subst (λ o. IsTrue (is_some o)) e h.known in cc
+    by_row (Some row) e =
+        let reached : length (option_map_or (λ row. row.kinds) (slice_get k.threads thread) []) ≤ upto_of view thread = h.reached in
+        let there : length row.kinds ≤ upto_of view thread = subst (λ o. length (option_map_or (λ row. row.kinds) o []) ≤ upto_of view thread) e reached in
+        let some : 1 ≤ length row.kinds = (sound.thread thread row e).told in
+        omega (arith, zero_upto)
+
+-- what is held of a thread reports the kernel's state of it, where it is complete
+pub reports_state : (k : KernelRows) (view : View) (thread : ℕ) (held : Told) (history : List Kind) → ◌≡◌ {A = Option (List Kind)} (Some history) (history_of (seen k) thread)
+    → ◌≡◌ {A = Option Told} (Some held) (thread_of view thread) → IsOfRun (kinds (seen k)) view → length history ≤ held.upto
+    → (told : Told) × (thread_of view thread ≡ Some told) × (told.state ≡ reported_of (seen k) thread)
+reports_state k view thread held history here value of_run long =
+    let same : history ≡ kinds (seen k) thread = kinds_here k thread history here in
+    (held, sym value, whole (kinds (seen k)) view thread held of_run (sym value) (subst (λ l. length l ≤ held.upto) same long) ∙ ap state_of (sym same) ∙ sym (reported_here k thread history here))

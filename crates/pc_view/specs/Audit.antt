@@ -1,0 +1,55 @@
+-- Where a view departs from a kernel's histories.
+use Rattle.std.specs.Prelude.{ℕ, ◌+◌, ◌<◌, ◌≤◌, ◌≡◌, ◌⊎◌, IsTrue, List, ◌∷◌, ◌++◌, length, take, Some, All}
+use Rattle.std.specs.Option.{option_map_or}
+use Rattle.pc_messages.specs.declared.kind.Kind.{Kind}
+use Rattle.pc_messages.specs.Run.{kind_at}
+use Rattle.pc_messages.specs.State.{state_of}
+use Rattle.pc_thread_view.specs.Told.{Told}
+use Rattle.pc_kernel.specs.Reads.{Reads, is_known, number}
+use Rattle.pc_view.specs.declared.view.View.{View}
+use Rattle.pc_view.specs.Views.{thread_of}
+
+-- the history has this message
+abbrev pub Has : List Kind → ℕ × Kind → Type 0
+Has kinds message = kind_at kinds message.0 ≡ Some message.1
+
+-- what is told as a prefix is one of the history, with the state that it reports
+pub record IsPrefixOf (kinds : List Kind) (told : Told) : Type 0 where
+  pub within : told.upto ≤ length kinds
+  pub state : told.state ≡ state_of (take told.upto kinds)
+
+-- the number is that of the first early message that the history has not, or has otherwise
+pub record IsFirstOther (kinds : List Kind) (early : List (ℕ × Kind)) (number : ℕ) : Type 0 where
+  pub before : List (ℕ × Kind)
+  pub kind : Kind
+  pub after : List (ℕ × Kind)
+  pub among : early ≡ before ++ (number, kind) ∷ after
+  pub had : All (Has kinds) before
+  pub other : ¬ Has kinds (number, kind)
+
+-- the prefix is longer than the history, and this is the first number past it
+abbrev pub IsPast : List Kind → Told → ℕ → Type 0
+IsPast kinds told number = (length kinds < told.upto) × (number ≡ length kinds + 1)
+
+-- the prefix reports another state than so much of the history, and this is its last number
+abbrev pub IsOtherState : List Kind → Told → ℕ → Type 0
+IsOtherState kinds told number = (told.upto ≤ length kinds) × (¬ (told.state ≡ state_of (take told.upto kinds))) × (number ≡ told.upto)
+
+-- what is told of a thread is not of its history, and this is the number at which it departs from it: the first of
+-- these three that holds. A thread that a kernel does not know has an empty history.
+abbrev pub Departs : List Kind → Told → ℕ → Type 0
+Departs kinds told number = IsPast kinds told number ⊎ (IsOtherState kinds told number ⊎ (IsPrefixOf kinds told × IsFirstOther kinds told.early number))
+
+-- all that is told of a thread is of its history
+pub record IsOfHistory (kinds : List Kind) (told : Told) : Type 0 where
+  pub prefix : IsPrefixOf kinds told
+  pub early : All (Has kinds) told.early
+
+-- how long the known prefix of a thread is
+abbrev pub upto_of : View → ℕ → ℕ
+upto_of view thread = option_map_or (λ told. told.upto) (thread_of view thread) 0
+
+-- the kernel knows the thread, and the view all its messages so far
+pub record IsComplete (view : View) (reads : Reads) (thread : ℕ) : Type 0 where
+  pub known : IsTrue (is_known reads thread)
+  pub reached : number reads thread ≤ upto_of view thread
