@@ -1,5 +1,7 @@
 //! Scripts over memory, with the replies that were written down by hand.
 
+mod calls;
+
 use crate::command_line::{Command, CommandFault, read_command};
 use crate::ending::Ending;
 use crate::run_script;
