@@ -1,0 +1,7 @@
+pub mod Parts
+pub mod Faults
+pub mod Digests
+pub mod DigestLaws
+pub mod Exchange
+pub mod Answering
+pub mod Worked

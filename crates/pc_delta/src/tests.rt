@@ -1,0 +1,1 @@
+//! Deltas and digests, with ample memory.
