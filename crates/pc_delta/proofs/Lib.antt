@@ -1,1 +1,9 @@
-pub mod Sets
+pub mod Bools
+pub mod Lists
+pub mod OfRun
+pub mod Intake
+pub mod Conflicts
+pub mod Pairs
+pub mod Digesting
+pub mod Useful
+pub mod Gathering

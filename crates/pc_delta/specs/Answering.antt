@@ -7,7 +7,10 @@ use Rattle.pc_join.specs.ByName.{known_in}
 use Rattle.pc_thread_view.specs.Told.{Told, IsOfThread, numbers_of, in_prefix}
 use Rattle.pc_view.specs.declared.view.View.{View}
 use Rattle.pc_view.specs.Views.{pairs_of, source_of, IsOfRun}
+use Rattle.pc_messages.specs.declared.kind.Kind.{Kind}
+use Rattle.pc_messages.specs.declared.message.Message.{Message}
 use Rattle.pc_delta.specs.declared.part.Part.{Part}
+use Rattle.pc_delta.specs.declared.part.Part.TheVariants.{One}
 use Rattle.pc_delta.specs.Parts.{set_of_part, set_of, IsPartOfRun}
 use Rattle.pc_delta.specs.Faults.{fault_of}
 use Rattle.pc_delta.specs.Digests.{RangesByName, set_of_digest}
@@ -50,3 +53,13 @@ pub record IsLacking (known : Members) (upto : ℕ) : Type 0 where
   pub number : ℕ
   pub in_prefix : in_prefix upto number ≡ true
   pub unknown : known (number ∷ []) ≡ false
+
+-- the part is this message of the thread, whose number is not known
+pub record IsOneOf (thread : ℕ) (entry : ℕ × Kind) (known : Members) (part : Part) : Type 0 where
+  pub message : part ≡ One (record { thread = thread; number = entry.0; kind = entry.1 })
+  pub unknown : known (entry.0 ∷ []) ≡ false
+
+-- an item, where there is one, as a list
+abbrev pub listed : {X : Type 0} → Option X → List X
+listed None = []
+listed (Some x) = x ∷ []

@@ -1,16 +1,17 @@
 //! Deltas that answer a digest.
 
-ghost use Rattle.std.specs.Prelude.{ℕ, ◌≡◌, ◌<◌, ◌≤◌, List, [], ◌∷◌, None, Some, All, IfOk, OnOk, MatchOption, IsTrue, IsFalse, option_copied};
+ghost use Rattle.std.specs.Prelude.{ℕ, ◌≡◌, ◌<◌, ◌≤◌, true, List, [], ◌∷◌, ◌++◌, None, Some, All, IfOk, OnOk, MatchOption, IsTrue, IsFalse, option_copied};
 ghost use Rattle.pc_join.specs.Sets.{IsWithin};
 ghost use Rattle.pc_delta.specs.Parts.{set_of};
 ghost use Rattle.pc_delta.specs.Exchange.{IsAnswer};
-ghost use Rattle.pc_delta.specs.Answering.{IsUseful, IsToldAt, IsUsefulOf, IsLacking, KnowsPrefix, TellsPrefix, known_of};
+ghost use Rattle.pc_delta.specs.Answering.{IsUseful, IsToldAt, IsUsefulOf, IsLacking, IsOneOf, KnowsPrefix, TellsPrefix, known_of, listed};
 
 use crate::delta::Delta;
 use crate::digest::Digest;
 use crate::part::Part;
 use pc_join::join::OutOfMemory;
 use pc_join::numbers::Numbers;
+use pc_messages::kind::Kind;
 use pc_messages::message::Message;
 use pc_messages::names::Tid;
 use pc_thread_view::view::ThreadView;
@@ -52,19 +53,36 @@ fn add_thread(
         return Ok(());
     };
     let known = digest.numbers(thread);
-    if let Some(part) = folded_part(thread, held, known) {
-        parts.push(part)?;
-    }
+    append(parts, folded_part(thread, held, known))?;
     for entry in held.early() {
-        if !has(known, entry.0) {
-            parts.push(Part::One(Message {
-                thread,
-                number: entry.0,
-                kind: entry.1,
-            }))?;
-        }
+        append(parts, early_part(thread, *entry, known))?;
     }
     Ok(())
+}
+
+/// Adds an item, where there is one.
+fn append<T: Copy>(items: &mut Vec<T>, item: Option<T>) -> Result<(), OutOfMemory>
+    ensures { OnOk result (items.new.items ≡ items.old.items ++ listed item) }
+{
+    if let Some(item) = item {
+        items.push(item)?;
+    }
+    Ok(())
+}
+
+/// The part that tells an early message, where it is not known.
+fn early_part(thread: Tid, entry: (u32, Kind), known: Option<&Numbers>) -> Option<Part>
+    ensures { MatchOption result (known_of (option_copied known.entry) (entry.0 ∷ []) ≡ true) (IsOneOf thread entry (known_of (option_copied known.entry))) }
+{
+    let (number, kind) = entry;
+    if has(known, number) {
+        return None;
+    }
+    Some(Part::One(Message {
+        thread,
+        number,
+        kind,
+    }))
 }
 
 /// The part that tells a thread's first messages, where one of them is not known.

@@ -3,9 +3,9 @@
 ghost use Rattle.std.specs.Prelude.{ℕ, ◌≡◌, ◌↔◌, List, [], ◌∷◌, IsTrue, IfOk, OnOk, option_copied, IfSome};
 ghost use Rattle.std.specs.FinMap as map;
 ghost use Rattle.pc_join.specs.Sets.{Members, Source, IsUnion, IsBetween, IsWithin, IsVoid, IsSameSet, members_at};
-ghost use Rattle.pc_join.specs.Ranges.{AreApart, numbers_in};
+ghost use Rattle.pc_join.specs.Ranges.{AreApart, in_ranges, numbers_in};
 ghost use Rattle.pc_join.specs.ByName.{known_in};
-ghost use Rattle.pc_thread_view.specs.Told.{numbers_of};
+ghost use Rattle.pc_thread_view.specs.Told.{numbers_of, in_prefix};
 ghost use Rattle.pc_view.specs.Views.{pairs_of, thread_of};
 ghost use Rattle.pc_delta.specs.Digests.{RangesByName, set_of_digest, IsOfAnySource, IsDigest, is_same_digest};
 ghost use Rattle.pc_delta.specs.DigestLaws.{unique_digest, stays_digest, digest_partial, digest_equivalence};
@@ -93,7 +93,8 @@ impl Digest {
 
     /// Adds what a view knows of a thread.
     fn add_thread(&mut self, view: &View, thread: Tid) -> Result<(), OutOfMemory>
-        ensures { OnOk result (IsUnion (set_of_digest self.old) (members_at thread (known_in numbers_of (thread_of view.now thread))) (set_of_digest self.new)) }
+        ensures union { OnOk result (IsUnion (set_of_digest self.old) (members_at thread (known_in numbers_of (thread_of view.now thread))) (set_of_digest self.new)) }
+        ensures of_any_source { IsDigest self.old → IsDigest self.new }
     {
         let Some(held) = view.thread(thread) else {
             return Ok(());
@@ -156,15 +157,25 @@ fn is_same(first: &Digest, other: &Digest) -> bool
     first.numbers.covers(&other.numbers) && other.numbers.covers(&first.numbers)
 }
 
-/// The numbers that are known of a thread: the prefix as one range, and the early ones.
+/// The numbers from 1 to this one, as one range.
+fn prefix_numbers(alloc: Global, upto: u32) -> Result<Numbers, OutOfMemory>
+    ensures same { IfOk result (λ numbers. (n : ℕ) → in_ranges numbers n ≡ in_prefix upto n) }
+    ensures apart { IfOk result (λ numbers. AreApart 0 numbers) }
+{
+    let mut numbers = Numbers::new(alloc);
+    if upto == 0 {
+        return Ok(numbers);
+    }
+    numbers.add_range(1, upto)?;
+    Ok(numbers)
+}
+
+/// The numbers that are known of a thread: the prefix and the early ones.
 fn known_numbers(alloc: Global, held: &ThreadView) -> Result<Numbers, OutOfMemory>
     ensures same { IfOk result (λ numbers. IsSameSet (numbers_in numbers) (numbers_of held.now)) }
     ensures apart { IfOk result (λ numbers. AreApart 0 numbers) }
 {
-    let mut numbers = Numbers::new(alloc);
-    if held.upto() > 0 {
-        numbers.add_range(1, held.upto())?;
-    }
+    let mut numbers = prefix_numbers(alloc, held.upto())?;
     for entry in held.early() {
         numbers.insert(entry.0)?;
     }

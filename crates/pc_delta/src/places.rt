@@ -1,7 +1,9 @@
 //! What is wrong with parts.
 
-ghost use Rattle.std.specs.Prelude.{ℕ, ◌≡◌, ◌↔◌, ◌<◌, ◌≤◌, ◌⊎◌, Bool, List, None, Some, IsTrue, IfOk, MatchOption};
-ghost use Rattle.pc_delta.specs.Faults.{first_fault, fault_of, place_of, IsLeastConflict, HasNoConflict, IsLesserOf};
+ghost use Rattle.std.specs.Prelude.{ℕ, ◌≡◌, ◌↔◌, IsTrue, IfOk};
+ghost use Rattle.std.specs.BTreeMap.{get};
+ghost use Rattle.pc_delta.specs.Faults.{first_fault, fault_of, place_of, IsLesserOf};
+ghost use Rattle.pc_delta.specs.Places.{place_cmp, IsFirstSeen, IsLeast};
 
 use crate::fault::DeltaFault;
 use crate::part::Part;
@@ -95,26 +97,35 @@ fn lesser(least: Option<(u32, u32)>, thread: u32, number: u32) -> (u32, u32)
     }
 }
 
+/// What was seen first at the place: this value, where there was none.
+fn first_seen<T: Copy>(
+    seen: &mut BTreeMap<Place, T>,
+    here: Place,
+    value: T,
+) -> Result<T, OutOfMemory>
+    ensures { IfOk result (λ first. IsFirstSeen (get place_cmp seen.old) here value first (get place_cmp seen.new)) }
+{
+    if let Some(first) = seen.get(&here) {
+        return Ok(*first);
+    }
+    seen.insert(here, value)?;
+    Ok(value)
+}
+
 /// The least thread and number about which two parts of the same sort differ.
 pub fn least_conflict(
     alloc: Global,
     parts: &[Part],
 ) -> Result<Option<(u32, u32)>, OutOfMemory>
-    ensures { IfOk result (λ found. MatchOption found (HasNoConflict parts.now) (λ c. IsLeastConflict parts.now c.0 c.1)) }
+    ensures { IfOk result (λ found. IsLeast found parts.now) }
 {
-    let mut seen: BTreeMap<Place, Part> = BTreeMap::new(alloc);
+    let mut seen = BTreeMap::new(alloc);
     let mut least = None;
     for part in parts {
         let here = place(*part);
-        match seen.get(&here) {
-            None => {
-                seen.insert(here, *part)?;
-            }
-            Some(first) => {
-                if !is_same(*first, *part) {
-                    least = Some(lesser(least, here.0, here.1));
-                }
-            }
+        let first = first_seen(&mut seen, here, *part)?;
+        if !is_same(first, *part) {
+            least = Some(lesser(least, here.0, here.1));
         }
     }
     Ok(least)

@@ -1,8 +1,11 @@
 //! Views that take deltas in.
 
-ghost use Rattle.std.specs.Prelude.{◌≡◌, List, [], ◌∷◌, None, OnOk};
+ghost use Rattle.std.specs.Prelude.{◌≡◌, List, None, OnOk};
 ghost use Rattle.pc_delta.specs.Faults.{first_fault, fault_of};
-ghost use Rattle.pc_delta.specs.Parts.{all_parts};
+ghost use Rattle.pc_messages.specs.Run.{Run};
+ghost use Rattle.pc_join.specs.Sets.{IsUnion, IsBetween};
+ghost use Rattle.pc_view.specs.Views.{pairs_of, IsOfRun};
+ghost use Rattle.pc_delta.specs.Parts.{all_parts, set_of_part, IsPartOfRun};
 ghost use Rattle.pc_delta.specs.Exchange.{IsTakenIn, IsPartlyTakenIn};
 
 use crate::delta::Delta;
@@ -46,8 +49,9 @@ fn take_parts(view: &mut View, parts: &[Part]) -> Result<(), OutOfMemory>
 /// Takes in what a part tells.
 fn take_part(view: &mut View, part: Part) -> Result<(), OutOfMemory>
     requires { fault_of part ≡ None }
-    ensures done { OnOk result (IsTakenIn (part ∷ []) view.old view.new) }
-    ensures partly { IsPartlyTakenIn (part ∷ []) view.old view.new }
+    ensures union { OnOk result (IsUnion (pairs_of view.old) (set_of_part part) (pairs_of view.new)) }
+    ensures between { IsBetween (pairs_of view.old) (set_of_part part) (pairs_of view.new) }
+    ensures of_run { (run : Run) → IsOfRun run view.old → IsPartOfRun run part → IsOfRun run view.new }
 {
     match part {
         Part::One(message) => view.insert(message),
