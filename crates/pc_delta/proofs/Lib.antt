@@ -6,4 +6,5 @@ pub mod Conflicts
 pub mod Pairs
 pub mod Digesting
 pub mod Useful
+pub mod Refusals
 pub mod Gathering
