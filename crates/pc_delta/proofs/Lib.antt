@@ -1,0 +1,10 @@
+pub mod Bools
+pub mod Lists
+pub mod OfRun
+pub mod Intake
+pub mod Conflicts
+pub mod Pairs
+pub mod Digesting
+pub mod Useful
+pub mod Refusals
+pub mod Gathering

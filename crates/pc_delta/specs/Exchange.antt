@@ -1,0 +1,38 @@
+-- What an exchange of deltas does: views that take parts in, and parts that answer a digest.
+use Rattle.std.specs.Prelude.{ℕ, ◌≡◌, true, false, List, ◌∷◌, [], All}
+use Rattle.pc_messages.specs.Run.{Run}
+use Rattle.pc_join.specs.Sets.{Members, IsWithin, IsUnion, IsBetween}
+use Rattle.pc_view.specs.declared.view.View.{View}
+use Rattle.pc_view.specs.Views.{pairs_of, IsOfRun}
+use Rattle.pc_delta.specs.declared.part.Part.{Part}
+use Rattle.pc_delta.specs.Parts.{set_of_part, set_of, AreOfRun}
+use Rattle.pc_delta.specs.Digests.{RangesByName, set_of_digest}
+
+-- where the view and the parts were of a run, the view still is
+abbrev pub StaysOfRun : List Part → View → View → Type 0
+StaysOfRun parts old new = (run : Run) → IsOfRun run old → AreOfRun run parts → IsOfRun run new
+
+-- the view has taken in all the parts
+pub record IsTakenIn (parts : List Part) (old new : View) : Type 0 where
+  pub union : IsUnion (pairs_of old) (set_of parts) (pairs_of new)
+  pub of_run : StaysOfRun parts old new
+
+-- the view has taken in some of what the parts tell
+pub record IsPartlyTakenIn (parts : List Part) (old new : View) : Type 0 where
+  pub between : IsBetween (pairs_of old) (set_of parts) (pairs_of new)
+  pub of_run : StaysOfRun parts old new
+
+-- a message that the digest has not, and the set has
+pub record IsNews (digest set : Members) : Type 0 where
+  pub thread : ℕ
+  pub number : ℕ
+  pub told : set (thread ∷ number ∷ []) ≡ true
+  pub lacking : digest (thread ∷ number ∷ []) ≡ false
+
+-- the parts answer a digest from a view: they tell all that the view has and the digest has not, nothing that the
+-- view has not, and each of them tells something that the digest has not
+pub record IsAnswer (view : View) (digest : RangesByName) (parts : List Part) : Type 0 where
+  pub lacking : (m : List ℕ) → pairs_of view m ≡ true → set_of_digest digest m ≡ false → set_of parts m ≡ true
+  pub within : IsWithin (set_of parts) (pairs_of view)
+  pub none_spare : All (λ part. IsNews (set_of_digest digest) (set_of_part part)) parts
+  pub of_run : (run : Run) → IsOfRun run view → AreOfRun run parts

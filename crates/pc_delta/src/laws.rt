@@ -1,0 +1,56 @@
+//! What holds of every exchange of deltas, over the definitions alone.
+
+ghost use Rattle.std.specs.Prelude.{ℕ, ◌≡◌, ◌||◌, List};
+ghost use Rattle.pc_messages.specs.Run.{Run, Extends};
+ghost use Rattle.pc_join.specs.Sets.{IsSameSet, as_members};
+ghost use Rattle.pc_view.specs.declared.view.View.{View};
+ghost use Rattle.pc_view.specs.Views.{pairs_of, IsOfRun};
+ghost use Rattle.pc_delta.specs.declared.part.Part.{Part};
+ghost use Rattle.pc_delta.specs.Parts.{set_of, AreOfRun, all_parts, pairs_of_parts};
+ghost use Rattle.pc_delta.specs.Faults.{HasNoConflict};
+ghost use Rattle.pc_delta.specs.Digests.{RangesByName, set_of_digest};
+ghost use Rattle.pc_delta.specs.Exchange.{IsTakenIn, IsPartlyTakenIn};
+ghost use Rattle.pc_delta.specs.Worked.{NoParts, Numbers, Misplaced, Ran, FirstPart, Places, Pairs};
+
+/// Views of one run that took in lists of deltas of that run are equal where what they knew before and the deltas'
+/// sets have the same union: whatever the order, the division into deltas and the repeats.
+pub fn equal_unions_give_equal_views()
+    ensures { (run : Run) (deltas others : List (List Part)) (before after start end : View) → IsOfRun run before → IsOfRun run start → AreOfRun run (all_parts deltas) → AreOfRun run (all_parts others) → IsSameSet (λ m. pairs_of before m || set_of (all_parts deltas) m) (λ m. pairs_of start m || set_of (all_parts others) m) → IsTakenIn (all_parts deltas) before after → IsTakenIn (all_parts others) start end → after ≡ end }
+{}
+
+/// Where memory ran out, taking the same parts in again completes it.
+pub fn taking_in_again_completes()
+    ensures { (parts : List Part) (old some all : View) → IsPartlyTakenIn parts old some → IsTakenIn parts some all → IsTakenIn parts old all }
+{}
+
+/// Equal digests of views of one run mean equal views.
+pub fn digests_tell_views_apart()
+    ensures { (run : Run) (a b : View) (digest other : RangesByName) → IsOfRun run a → IsOfRun run b → IsSameSet (set_of_digest digest) (pairs_of a) → IsSameSet (set_of_digest other) (pairs_of b) → digest ≡ other → a ≡ b }
+{}
+
+/// Parts of one run do not contradict each other.
+pub fn one_run_has_no_conflict()
+    ensures { (run : Run) (parts : List Part) → AreOfRun run parts → HasNoConflict parts }
+{}
+
+/// Parts of a run are parts of each run that goes on from it.
+pub fn parts_stay_as_the_run_goes_on()
+    ensures { (longer shorter : Run) (parts : List Part) → Extends longer shorter → AreOfRun shorter parts → AreOfRun longer parts }
+{}
+
+/// The set of parts is that of their pairs.
+pub fn sets_are_pairs()
+    ensures { (parts : List Part) → IsSameSet (set_of parts) (as_members (pairs_of_parts parts)) }
+{}
+
+/// The faults of parts and the pairs that they tell, at lists that were worked by hand. It computes nothing: it shows
+/// that the definitions say what was meant.
+pub fn worked_by_hand()
+    ensures no_parts { NoParts }
+    ensures numbers { Numbers }
+    ensures misplaced { Misplaced }
+    ensures ran { Ran }
+    ensures first_part { FirstPart }
+    ensures places { Places }
+    ensures pairs { Pairs }
+{}

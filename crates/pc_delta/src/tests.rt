@@ -1,0 +1,61 @@
+//! Deltas and digests, with ample memory.
+
+use crate::answer::delta_since;
+use crate::delta::Delta;
+use crate::digest::Digest;
+use crate::fault::DeltaFault;
+use crate::part::Part;
+use crate::taking::{take_all, take_in};
+use pc_join::join::{Join, OutOfMemory};
+use pc_messages::kind::Kind;
+use pc_messages::level::Level;
+use pc_messages::mask::{Mask, MaskFault};
+use pc_messages::message::Message;
+use pc_messages::names::Tid;
+use pc_messages::reported::{Phase, Reported};
+use pc_view::view::View;
+use std::alloc::Global;
+use std::test::Fail;
+
+mod deliveries;
+mod exchange;
+mod refusals;
+
+fn one(thread: u32, number: u32, kind: Kind) -> Part {
+    Part::One(Message {
+        thread: Tid(thread),
+        number,
+        kind,
+    })
+}
+
+fn created() -> Result<Kind, MaskFault> {
+    let mask = Mask::new(3, 2)?;
+    Ok(Kind::Created { mask, ready: false })
+}
+
+// All of t0 up to a number: blocked, mask 3, with these ticks.
+fn folded(upto: u32, ran: u64) -> Result<Part, MaskFault> {
+    let mask = Mask::new(3, 2)?;
+    Ok(Part::Folded {
+        thread: Tid(0),
+        upto,
+        reported: Reported {
+            phase: Phase::Blocked,
+            mask,
+            ran,
+            level: Level::LOWEST,
+        },
+    })
+}
+
+fn delta(alloc: Global, parts: &[Part]) -> Result<Delta, DeltaFault> {
+    Delta::from_parts(parts.to_vec(alloc)?)
+}
+
+fn refusal(alloc: Global, parts: &[Part]) -> Option<DeltaFault> {
+    match delta(alloc, parts) {
+        Ok(_) => None,
+        Err(fault) => Some(fault),
+    }
+}

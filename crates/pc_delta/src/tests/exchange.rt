@@ -1,0 +1,155 @@
+//! Views and digests that are exchanged.
+
+use super::{Delta, Digest, Global, Kind, OutOfMemory, Part, View, created, delta, delta_since, folded, one, take_all, take_in};
+use crate::fault::DeltaFault;
+use pc_join::join::Join;
+use pc_messages::names::Tid;
+use pc_messages::reported::Phase;
+use std::test::Fail;
+
+fn joined<V: Join>(first: &V, other: &V) -> Result<V, OutOfMemory> {
+    let mut both = first.try_copy()?;
+    both.join_from(other)?;
+    Ok(both)
+}
+
+// A wakeup, then the created thread as a folded part, then the wakeup again.
+fn three_deltas(alloc: Global) -> Result<Vec<Delta>, Fail> {
+    let mut deltas = Vec::new(alloc);
+    deltas.push(delta(alloc, &[one(0, 2, Kind::Wakeup)])?)?;
+    deltas.push(delta(alloc, &[folded(1, 0)?])?)?;
+    deltas.push(delta(alloc, &[one(0, 2, Kind::Wakeup)])?)?;
+    Ok(deltas)
+}
+
+fn view_of_three(alloc: Global) -> Result<View, Fail> {
+    let mut view = View::new(alloc);
+    take_all(&mut view, &three_deltas(alloc)?)?;
+    Ok(view)
+}
+
+#[test]
+fn deltas_are_taken_in(rt: HostRuntime) -> Result<(), Fail> {
+    let view = view_of_three(rt.alloc())?;
+    let thread = view.thread(Tid(0)).expect(&rt, "t0");
+    assert_eq!(rt; thread.upto(), 2);
+    assert_eq!(rt; thread.early().len(), 0);
+    let reported = thread.reported().expect(&rt, "a state");
+    assert!(rt; reported.phase == Phase::Ready);
+    assert_eq!(rt; reported.mask.bits(), 3);
+    assert_eq!(rt; reported.ran, 0);
+    Ok(())
+}
+
+#[test]
+fn messages_alone_are_taken_in(rt: HostRuntime) -> Result<(), Fail> {
+    let mut view = View::new(rt.alloc());
+    take_in(&mut view, &delta(rt.alloc(), &[one(0, 2, Kind::Wakeup)])?)?;
+    take_in(&mut view, &delta(rt.alloc(), &[one(0, 1, created()?)])?)?;
+    take_in(&mut view, &delta(rt.alloc(), &[one(0, 2, Kind::Wakeup)])?)?;
+    assert!(rt; view == view_of_three(rt.alloc())?);
+    Ok(())
+}
+
+#[test]
+fn an_answer_to_an_empty_digest_tells_all(rt: HostRuntime) -> Result<(), Fail> {
+    let view = view_of_three(rt.alloc())?;
+    let answer = delta_since(rt.alloc(), &view, &Digest::new(rt.alloc()))?;
+    assert_eq!(rt; answer.parts().len(), 1);
+    let mut other = View::new(rt.alloc());
+    take_in(&mut other, &answer)?;
+    assert!(rt; other == view);
+    let copy = answer.try_copy()?;
+    assert!(rt; copy.parts() == answer.parts());
+    Ok(())
+}
+
+#[test]
+fn an_answer_tells_what_is_lacking(rt: HostRuntime) -> Result<(), Fail> {
+    let mut view = view_of_three(rt.alloc())?;
+    let digest = Digest::of(rt.alloc(), &view)?;
+    assert_eq!(rt; delta_since(rt.alloc(), &view, &digest)?.parts().len(), 0);
+    take_in(&mut view, &delta(rt.alloc(), &[one(0, 9, Kind::Wakeup), one(1, 1, created()?)])?)?;
+    let answer = delta_since(rt.alloc(), &view, &digest)?;
+    assert_eq!(rt; answer.parts().len(), 2);
+    assert!(rt; answer.parts().first() == Some(&one(0, 9, Kind::Wakeup)));
+    Ok(())
+}
+
+#[test]
+fn digests_of_equal_views_are_equal(rt: HostRuntime) -> Result<(), Fail> {
+    let first = Digest::of(rt.alloc(), &view_of_three(rt.alloc())?)?;
+    let other = Digest::of(rt.alloc(), &view_of_three(rt.alloc())?)?;
+    assert!(rt; first == other);
+    assert!(rt; joined(&first, &other)? == first);
+    assert!(rt; first != Digest::new(rt.alloc()));
+    assert!(rt; Digest::new(rt.alloc()).is_empty());
+    assert!(rt; first.covers(&Digest::new(rt.alloc())));
+    assert!(rt; !Digest::new(rt.alloc()).covers(&first));
+    Ok(())
+}
+
+#[test]
+fn what_a_digest_has(rt: HostRuntime) -> Result<(), Fail> {
+    let mut view = view_of_three(rt.alloc())?;
+    take_in(&mut view, &delta(rt.alloc(), &[one(0, 9, Kind::Wakeup)])?)?;
+    let digest = Digest::of(rt.alloc(), &view)?;
+    assert!(rt; digest.has(Tid(0), 1));
+    assert!(rt; digest.has(Tid(0), 2));
+    assert!(rt; !digest.has(Tid(0), 3));
+    assert!(rt; digest.has(Tid(0), 9));
+    assert!(rt; !digest.has(Tid(1), 1));
+    assert!(rt; !digest.is_empty());
+    assert!(rt; digest.try_copy()? == digest);
+    Ok(())
+}
+
+// The longest prefix takes one range, and one part.
+#[test]
+fn a_long_prefix_is_one_part(rt: HostRuntime) -> Result<(), Fail> {
+    let mut view = View::new(rt.alloc());
+    take_in(&mut view, &delta(rt.alloc(), &[folded(16_000_000, 5)?])?)?;
+    let digest = Digest::of(rt.alloc(), &view)?;
+    assert!(rt; digest.has(Tid(0), 16_000_000));
+    assert!(rt; !digest.has(Tid(0), 16_000_001));
+    let answer = delta_since(rt.alloc(), &view, &Digest::new(rt.alloc()))?;
+    assert!(rt; answer.parts().first() == Some(&folded(16_000_000, 5)?));
+    assert_eq!(rt; answer.parts().len(), 1);
+    Ok(())
+}
+
+// How many early messages a thread has after a view took in these parts twice.
+fn early_after(alloc: Global, parts: &[Part], thread: u32) -> Result<usize, DeltaFault> {
+    let mut view = View::new(alloc);
+    let contrary = delta(alloc, parts)?;
+    take_in(&mut view, &contrary)?;
+    take_in(&mut view, &contrary)?;
+    Ok(match view.thread(Tid(thread)) {
+        Some(held) => held.early().len(),
+        None => 0,
+    })
+}
+
+// A message that contradicts a folded part, and a folded part that contradicts early messages: nothing grows past
+// the parts.
+#[test]
+fn contradicting_parts_are_safe(rt: HostRuntime) -> Result<(), Fail> {
+    let first = [folded(3, 7)?, one(0, 2, Kind::Dead { ran: 1 }), one(0, 5, Kind::Wakeup)];
+    assert_eq!(rt; early_after(rt.alloc(), &first, 0)?, 1);
+    let other = [one(0, 5, Kind::Wakeup), one(0, 3, Kind::Dead { ran: 1 }), folded(2, 7)?];
+    assert_eq!(rt; early_after(rt.alloc(), &other, 0)?, 1);
+    assert_eq!(rt; early_after(rt.alloc(), &other, 1)?, 0);
+    Ok(())
+}
+
+#[test]
+fn a_delta_that_contradicts_a_view_is_safe(rt: HostRuntime) -> Result<(), Fail> {
+    let mut view = view_of_three(rt.alloc())?;
+    take_in(&mut view, &delta(rt.alloc(), &[one(0, 2, Kind::Dead { ran: 9 })])?)?;
+    assert!(rt; view == view_of_three(rt.alloc())?);
+    take_in(&mut view, &delta(rt.alloc(), &[folded(2, 9)?])?)?;
+    let thread = view.thread(Tid(0)).expect(&rt, "t0");
+    assert_eq!(rt; thread.upto(), 2);
+    assert_eq!(rt; thread.early().len(), 0);
+    Ok(())
+}
