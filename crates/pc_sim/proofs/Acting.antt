@@ -24,11 +24,16 @@ use Rattle.pc_view.specs.Views.{pairs_of, thread_of, source_of, IsOfRun}
 use Rattle.pc_sim.specs.declared.agents.Agent.{Agent}
 use Rattle.pc_sim.specs.declared.world.World.{World}
 use Rattle.pc_sim.specs.Items.{AreOfRun, IsItemOf}
-use Rattle.pc_sim.specs.PlainWorld.{PlainWorld, pairs_in, published}
+use Rattle.pc_delta.specs.declared.part.Part.{Part}
+use Rattle.pc_delta.specs.Exchange.{IsTakenIn}
+use Rattle.pc_delta.specs.Parts as parts
+use Rattle.pc_delta.specs.Parts.{set_of}
+use Rattle.pc_sim.specs.PlainWorld.{PlainWorld, Set, pairs_in, published}
 use Rattle.pc_sim.specs.Session.{IsPublish, IsPublishing, IsShow, IsShowing}
 use Rattle.pc_sim.specs.Showing.{ShowsAll}
-use Rattle.pc_sim.specs.Shows.{ShowsAgent, ShowsWorld, Does, Sends}
+use Rattle.pc_sim.specs.Shows.{AreSent, ShowsAgent, ShowsDelta, ShowsWorld, Does, Sends}
 use Rattle.pc_sim.proofs.Items.{as_members-append}
+use Rattle.pc_sim.proofs.Sent.{sent_length, sent_more}
 use Rattle.pc_sim.proofs.Shown.{rows_shown}
 
 pub at_same : {X : Type 0} (f : ℕ → X) (n : ℕ) (x : X) → at f n x n ≡ x
@@ -100,40 +105,55 @@ show_did world c agent rows there all w h =
       h,
     )
 
+-- where one agent is another, and what is shown of the others stays
+pub one_agent : (old new : World) (w w' : PlainWorld) (c : ℕ) (more : Agent) → ShowsWorld old w → new.agents.items ≡ set old.agents.items c more
+    → ShowsAgent (kinds w'.kernel) (w'.seen c) (w'.shown c) more
+    → ((d : ℕ) (a : Agent) → (d ≡ c → ⊥) → ShowsAgent (kinds w.kernel) (w.seen d) (w.shown d) a → ShowsAgent (kinds w'.kernel) (w'.seen d) (w'.shown d) a)
+    → (d : ℕ) (a : Agent) → slice_get new.agents.items d ≡ Some a → ShowsAgent (kinds w'.kernel) (w'.seen d) (w'.shown d) a
+one_agent old new w w' c more h agents here others d a e = elim (cases_eq d c) [
+  | inl same ↦
+      let is : a ≡ more = get_set_same old.agents.items c more a (ap (λ l. slice_get l c) (sym agents) ∙ subst (λ n. slice_get new.agents.items n ≡ Some a) same e) in
+      subst (λ n. ShowsAgent (kinds w'.kernel) (w'.seen n) (w'.shown n) a) (sym same) (subst (ShowsAgent (kinds w'.kernel) (w'.seen c) (w'.shown c)) (sym is) here)
+  | inr other ↦ others d a other (h.agents d a (sym (get_set_other old.agents.items c d more other) ∙ ap (λ l. slice_get l d) (sym agents) ∙ e))
+]
+
+-- an agent's view took in a delta that tells a set
+pub takes_in : (run : Run) (set gained : Set) (agent more : Agent) (delta : List Part) (before after : ℕ) → ShowsAgent run set before agent → IsTakenIn delta agent.view more.view
+    → ShowsDelta run gained delta → more.shown ≡ after → ShowsAgent run (set ++ gained) after more
+takes_in run set gained agent more delta before after was taken tells shown = record {
+  of_run = taken.of_run run was.of_run tells.of_run;
+  seen = λ m. taken.union m ∙ ap (λ b. pairs_of agent.view m || b) (tells.told m) ∙ ap (λ b. b || as_members gained m) (was.seen m) ∙ sym (as_members-append set gained m);
+  shown = shown;
+}
+
 -- an agent took in what its queue held, and sent it
-pub send_did : (old new : World) (c : ℕ) (items : List Item) (agent : Agent) (mark : ℕ) → slice_get old.agents.items c ≡ Some agent
-    → new.kernel ≡ old.kernel → (more : Agent) → new.agents.items ≡ set old.agents.items c more → new.sent.items ≡ old.sent.items ++ mark ∷ []
-    → IsUnion (pairs_of agent.view) (as_members (pairs_in items)) (pairs_of more.view)
-    → ((run : Run) → IsOfRun run agent.view → AreOfRun run items → IsOfRun run more.view) → more.shown ≡ length items
-    → (delta : ℕ) → delta ≡ length old.sent.items
-    → Sends c items old new (replies.Published delta (length items))
-send_did old new c items agent mark there kernel more agents sent union of_run count delta index w h holds all =
-    let was = h.agents c agent there in (
+pub send_did : (old new : World) (c : ℕ) (items : List Item) (agent more : Agent) (delta : List Part) → slice_get old.agents.items c ≡ Some agent
+    → new.kernel ≡ old.kernel → new.agents.items ≡ set old.agents.items c more → new.sent.items ≡ old.sent.items ++ delta ∷ []
+    → IsTakenIn delta agent.view more.view → IsSameSet (set_of delta) (as_members (pairs_in items))
+    → ((run : Run) → AreOfRun run items → parts.AreOfRun run delta) → more.shown ≡ length items
+    → (index : ℕ) → index ≡ length old.sent.items
+    → Sends c items old new (replies.Published index (length items))
+send_did old new c items agent more delta there kernel agents sent taken told of_run count index at_end w h holds all =
+    let was = h.agents c agent there in
+    let gained : Set = pairs_in (content w.kernel c) in
+    let tells : ShowsDelta (kinds w.kernel) gained delta = record { of_run = of_run (kinds w.kernel) all; told = λ m. told m ∙ ap (λ l. as_members (pairs_in l) m) (sym holds) } in
+    let here : ShowsAgent (kinds w.kernel) (w.seen c ++ gained) (length (content w.kernel c)) more =
+        takes_in (kinds w.kernel) (w.seen c) gained agent more delta (w.shown c) (length (content w.kernel c)) was taken tells (count ∙ ap length (sym holds)) in (
       record {
-        tells = (λ i. replies.Published ((index ∙ h.sent) i) (length (sym holds i)));
+        tells = (λ i. replies.Published ((at_end ∙ sent_length (kinds w.kernel) w.sent old.sent.items h.sent) i) (length (sym holds i)));
         after = refl;
       },
       record {
         kernel = subst (λ k. Shows k w.kernel) (sym kernel) h.kernel;
-        agents = λ d a e. elim (cases_eq d c) [
-          | inl same ↦
-              let is : a ≡ more = get_set_same old.agents.items c more a (ap (λ l. slice_get l c) (sym agents) ∙ subst (λ n. slice_get new.agents.items n ≡ Some a) same e) in
-              subst (λ n. ShowsAgent (kinds w.kernel) ((published w c).seen n) ((published w c).shown n) a) (sym same)
-              (subst (ShowsAgent (kinds w.kernel) ((published w c).seen c) ((published w c).shown c)) (sym is) record {
-                of_run = of_run (kinds w.kernel) was.of_run all;
-                seen = λ m. union m ∙ ap (λ b. b || as_members (pairs_in items) m) (was.seen m) ∙ sym (as_members-append (w.seen c) (pairs_in items) m)
-                    ∙ ap (λ l. as_members (w.seen c ++ pairs_in l) m) (sym holds) ∙ ap (λ l. as_members l m) (sym (at_same w.seen c (w.seen c ++ pairs_in (content w.kernel c))));
-                shown = count ∙ ap length (sym holds) ∙ sym (at_same w.shown c (length (content w.kernel c)));
-              })
-          | inr other ↦
-              let was' = h.agents d a (sym (get_set_other old.agents.items c d more other) ∙ ap (λ l. slice_get l d) (sym agents) ∙ e) in
-              record {
-                of_run = was'.of_run;
-                seen = λ m. was'.seen m ∙ ap (λ l. as_members l m) (sym (at_other w.seen c d (w.seen c ++ pairs_in (content w.kernel c)) other));
-                shown = was'.shown ∙ sym (at_other w.shown c d (length (content w.kernel c)) other);
-              }
-        ];
-        sent = ap length sent ∙ length-append old.sent.items (mark ∷ []) ∙ ap (λ n. n + 1) h.sent ∙ sym (length-append w.sent (pairs_in (content w.kernel c) ∷ []));
+        agents = one_agent old new w (published w c) c more h agents
+            (subst (λ s. ShowsAgent (kinds w.kernel) s ((published w c).shown c) more) (sym (at_same w.seen c (w.seen c ++ gained)))
+            (subst (λ n. ShowsAgent (kinds w.kernel) (w.seen c ++ gained) n more) (sym (at_same w.shown c (length (content w.kernel c)))) here))
+            (λ d a other was'. record {
+              of_run = was'.of_run;
+              seen = λ m. was'.seen m ∙ ap (λ l. as_members l m) (sym (at_other w.seen c d (w.seen c ++ gained) other));
+              shown = was'.shown ∙ sym (at_other w.shown c d (length (content w.kernel c)) other);
+            });
+        sent = subst (AreSent (kinds w.kernel) (w.sent ++ gained ∷ [])) (sym sent) (sent_more (kinds w.kernel) w.sent old.sent.items gained delta h.sent tells);
       },
     )
 

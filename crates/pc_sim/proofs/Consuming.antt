@@ -18,16 +18,17 @@ use Rattle.pc_script.specs.declared.reply.Reply.TheVariants as replies
 use Rattle.pc_sim.specs.declared.agents.Agent.{Agent}
 use Rattle.pc_sim.specs.declared.world.World.{World}
 use Rattle.pc_sim.specs.PlainWorld.{PlainWorld}
-use Rattle.pc_sim.specs.Keeping.{KeepsViews}
+use Rattle.pc_sim.specs.Keeping.{KeepsRun}
 use Rattle.pc_sim.specs.Session.{IsAsleep, IsConsumed, IsConsuming, IsRefusal}
-use Rattle.pc_sim.specs.Shows.{ShowsAgent, ShowsWorld, Does}
-use Rattle.pc_sim.proofs.Acting.{at_same, at_other, get_set_same, get_set_other, match_true, cpu_there}
+use Rattle.pc_sim.specs.Shows.{AreSent, ShowsAgent, ShowsWorld, Does}
+use Rattle.pc_sim.proofs.Acting.{at_same, at_other, cpu_there, match_true, one_agent}
+use Rattle.pc_sim.proofs.Sent.{sent_stays}
 
 -- the world after an agent consumed
 abbrev consumed : PlainWorld → ℕ → PlainWorld
 consumed w c = record w { kernel = after w.kernel (Consume c (w.shown c)); shown = at w.shown c 0 }
 
-match_false : (b : Bool) (P Q : Type 0) → b ≡ false → Q → MatchBool b P Q
+pub match_false : (b : Bool) (P Q : Type 0) → b ≡ false → Q → MatchBool b P Q
 match_false b P Q e q = subst (λ c. MatchBool c P Q) (sym e) q
 
 slice_get_none : {A : Type 0} (xs : List A) (i : ℕ) → slice_get xs i ≡ None → length xs ≤ i
@@ -45,34 +46,23 @@ refused_so : (w : PlainWorld) (c : ℕ) (old new : KernelRows) (e : KernelFault)
 refused_so w c old new e told (Ok a) Q h named = absurd h
 refused_so w c old new e told (Err f) Q h named = (subst (λ x. IsRefusal x told) h.0 named, refl)
 
-agent_consumed : (w : PlainWorld) (c : ℕ) (agent : Agent) → KeepsViews → ShowsAgent (kinds w.kernel) (w.seen c) (w.shown c) agent
+agent_consumed : (w : PlainWorld) (c : ℕ) (agent : Agent) → KeepsRun → ShowsAgent (kinds w.kernel) (w.seen c) (w.shown c) agent
     → ShowsAgent (kinds (consumed w c).kernel) ((consumed w c).seen c) ((consumed w c).shown c) (record agent { shown = 0 })
 agent_consumed w c agent keeps was = record {
-  of_run = keeps w.kernel (Consume c (w.shown c)) agent.view was.of_run;
+  of_run = keeps.views w.kernel (Consume c (w.shown c)) agent.view was.of_run;
   seen = was.seen;
   shown = sym (at_same w.shown c 0);
 }
 
-agent_stays : (w : PlainWorld) (c d : ℕ) (a : Agent) → KeepsViews → (d ≡ c → ⊥) → ShowsAgent (kinds w.kernel) (w.seen d) (w.shown d) a
+agent_stays : (w : PlainWorld) (c d : ℕ) (a : Agent) → KeepsRun → (d ≡ c → ⊥) → ShowsAgent (kinds w.kernel) (w.seen d) (w.shown d) a
     → ShowsAgent (kinds (consumed w c).kernel) ((consumed w c).seen d) ((consumed w c).shown d) a
 agent_stays w c d a keeps other was = record {
-  of_run = keeps w.kernel (Consume c (w.shown c)) a.view was.of_run;
+  of_run = keeps.views w.kernel (Consume c (w.shown c)) a.view was.of_run;
   seen = was.seen;
   shown = was.shown ∙ sym (at_other w.shown c d 0 other);
 }
 
-agents_after : (old new : World) (w : PlainWorld) (c : ℕ) (agent more : Agent) → KeepsViews → ShowsWorld old w → slice_get old.agents.items c ≡ Some agent → more ≡ record agent { shown = 0 }
-    → new.agents.items ≡ set old.agents.items c more → (d : ℕ) (a : Agent) → slice_get new.agents.items d ≡ Some a
-    → ShowsAgent (kinds (consumed w c).kernel) ((consumed w c).seen d) ((consumed w c).shown d) a
-agents_after old new w c agent more keeps h there is agents d a e = elim (cases_eq d c) [
-  | inl same ↦
-      let one : a ≡ more = get_set_same old.agents.items c more a (ap (λ l. slice_get l c) (sym agents) ∙ subst (λ n. slice_get new.agents.items n ≡ Some a) same e) in
-      subst (λ n. ShowsAgent (kinds (consumed w c).kernel) ((consumed w c).seen n) ((consumed w c).shown n) a) (sym same)
-          (subst (ShowsAgent (kinds (consumed w c).kernel) ((consumed w c).seen c) ((consumed w c).shown c)) (sym (one ∙ is)) (agent_consumed w c agent keeps (h.agents c agent there)))
-  | inr other ↦ agent_stays w c d a keeps other (h.agents d a (sym (get_set_other old.agents.items c d more other) ∙ ap (λ l. slice_get l d) (sym agents) ∙ e))
-]
-
-pub consume_did : (old new : World) (c : ℕ) (agent more : Agent) → KeepsViews → slice_get old.agents.items c ≡ Some agent
+pub consume_did : (old new : World) (c : ℕ) (agent more : Agent) → KeepsRun → slice_get old.agents.items c ≡ Some agent
     → Steps done (Consume c agent.shown) (Ok tt) old.kernel new.kernel → more ≡ record agent { shown = 0 } → new.agents.items ≡ set old.agents.items c more → new.sent ≡ old.sent
     → Does (IsConsuming c) old new (replies.Consumed agent.shown)
 consume_did old new c agent more keeps there steps is agents sent w h =
@@ -81,7 +71,11 @@ consume_did old new c agent more keeps there steps is agents sent w h =
         (subst (λ n. Replies done (Ok tt) old.kernel new.kernel (reply w.kernel (Consume c n)) (after w.kernel (Consume c n))) was.shown (steps w.kernel h.kernel)) in (
       consumed w c,
       subst (λ n. IsConsumed w c (reply w.kernel (Consume c (w.shown c))) (replies.Consumed n) (consumed w c)) (sym was.shown) so.0,
-      record { kernel = so.1; agents = agents_after old new w c agent more keeps h there is agents; sent = ap (λ v. length v.items) sent ∙ h.sent },
+      record { kernel = so.1; agents = one_agent old new w (consumed w c) c more h agents
+            (subst (ShowsAgent (kinds (consumed w c).kernel) ((consumed w c).seen c) ((consumed w c).shown c)) (sym is) (agent_consumed w c agent keeps was))
+            (λ d a other was'. agent_stays w c d a keeps other was');
+        sent = sent_stays (kinds w.kernel) (kinds (consumed w c).kernel) w.sent new.sent.items (keeps.deltas w.kernel (Consume c (w.shown c))) (subst (λ v. AreSent (kinds w.kernel) w.sent v.items) (sym sent) h.sent);
+      },
     )
 
 pub consume_refused : (old new : World) (c : ℕ) (agent : Agent) (e : KernelFault) (told : Reply) → slice_get old.agents.items c ≡ Some agent
@@ -95,7 +89,7 @@ consume_refused old new c agent e told there steps named kernel agents sent w h 
       record {
         kernel = subst (λ k. Shows k w.kernel) (sym kernel) h.kernel;
         agents = λ d a there. h.agents d a (ap (λ v. slice_get v.items d) (sym agents) ∙ there);
-        sent = ap (λ v. length v.items) sent ∙ h.sent;
+        sent = subst (λ v. AreSent (kinds w.kernel) w.sent v.items) (sym sent) h.sent;
       },
     )
 
@@ -103,7 +97,7 @@ consume_refused old new c agent e told there steps named kernel agents sent w h 
 bad_consume : (P : PlainKernel) (c n : ℕ) → is_cpu (shown P) c ≡ false → reply P (Consume c n) ≡ Err fault.BadCpu
 bad_consume P c n e = ap (λ b. reply_of (first_of ((not b, fault.BadCpu) ∷ (nat_lt (length (content (shown P) c)) n, fault.TooMany) ∷ [])) (accepted P (Consume c n))) e
 
-past_cpus : (world : World) (w : PlainWorld) (c : ℕ) → ShowsWorld world w → slice_get world.agents.items c ≡ None → is_cpu (shown w.kernel) c ≡ false
+pub past_cpus : (world : World) (w : PlainWorld) (c : ℕ) → ShowsWorld world w → slice_get world.agents.items c ≡ None → is_cpu (shown w.kernel) c ≡ false
 past_cpus world w c h none =
     let many : length world.agents.items ≡ world.kernel.limits.cpus = world.as_many in
     let past : length world.agents.items ≤ c = slice_get_none world.agents.items c none in

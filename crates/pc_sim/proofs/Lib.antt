@@ -7,4 +7,6 @@ pub mod Worlds
 pub mod Statuses
 pub mod Acting
 pub mod Standing
+pub mod Sent
 pub mod Consuming
+pub mod Exchanging

@@ -21,7 +21,7 @@ stands_at_start version profile judged = (judged, (None, none, tt))
 
 pub stands_after : (profile : Profile) (old new : Option World) (command : Command) (reply : Reply) → Steps profile command old new reply
     → (version : Version) (commands : List Command) (told : List Reply) → StandsAfter version profile old commands told → StandsAfter version profile new (commands ++ command ∷ []) (told ++ reply ∷ [])
-stands_after profile old new command reply steps version commands told (judged, s, run, shows) =
+stands_after profile old new command reply steps version commands told (judged, (s, run, shows)) =
     let next = steps s shows in
     (judged, (next.0, one_more commands told command reply run next.1, next.2))
 

@@ -19,9 +19,10 @@ use Rattle.pc_sim.specs.declared.world.World.{World}
 use Rattle.pc_sim.specs.Agents.{IsNew, AreNew}
 use Rattle.pc_sim.specs.PlainWorld.{PlainWorld, opened}
 use Rattle.pc_sim.specs.Session.{Tells, IsCall}
-use Rattle.pc_sim.specs.Keeping.{KeepsViews}
-use Rattle.pc_sim.specs.Shows.{ShowsAgent, ShowsWorld, Does}
+use Rattle.pc_sim.specs.Keeping.{KeepsRun}
+use Rattle.pc_sim.specs.Shows.{AreSent, ShowsAgent, ShowsWorld, Does}
 use Rattle.pc_sim.proofs.Calls.{call_replied}
+use Rattle.pc_sim.proofs.Sent.{sent_stays}
 
 pub new_more : (n : ℕ) (agents : List Agent) (agent : Agent) → AreNew n agents → IsNew agent → AreNew (n + 1) (agents ++ agent ∷ [])
 new_more n agents agent h new =
@@ -35,7 +36,7 @@ new_world world limits count kernel agents sent =
       agents = λ c agent e.
           let new : IsNew agent = subst IsNew (get_or_from_slice_get world.agents.items c agent agent e) (All-get_or IsNew world.agents.items c agent (slice_get_within world.agents.items c agent e) agents.each) in
           record { of_run = new.of_run (kinds (start limits)); seen = λ m. new.nothing m ∙ sym (none m); shown = new.shown };
-      sent = ap length sent;
+      sent = subst (AreSent (kinds (start limits)) []) (sym sent) tt;
     }
   where
     none : (m : List ℕ) → as_members [] m ≡ false
@@ -45,19 +46,19 @@ new_world world limits count kernel agents sent =
     none (t ∷ n ∷ k ∷ m) = refl
 
 -- a call of the kernel leaves the agents as they are
-pub call_did : (old new : World) (call : Call) (answered : Result Answer KernelFault) (done told : Reply)
-    → KeepsViews → StepsInMemory itself call answered old.kernel new.kernel → Tells done told answered
-    → new.agents ≡ old.agents → new.sent ≡ old.sent → Does (λ w. IsCall w call done) old new told
-call_did old new call answered done told keeps steps tells agents sent w h =
-    let replied = call_replied call answered old.kernel new.kernel done told steps tells w.kernel h.kernel in (
+pub call_did : (old new : World) (call : Call) (answered : Result Answer KernelFault) (said told : Reply)
+    → KeepsRun → StepsInMemory itself call answered old.kernel new.kernel → Tells said told answered
+    → new.agents ≡ old.agents → new.sent ≡ old.sent → Does (λ w. IsCall w call said) old new told
+call_did old new call answered said told keeps steps tells agents sent w h =
+    let replied = call_replied call answered old.kernel new.kernel said told steps tells w.kernel h.kernel in (
       record w { kernel = after w.kernel call },
       record { tells = replied.0; after = refl },
       record {
         kernel = replied.1;
         agents = λ c agent e.
             let was = h.agents c agent (ap (λ v. slice_get v.items c) (sym agents) ∙ e) in
-            record { of_run = keeps w.kernel call agent.view was.of_run; seen = was.seen; shown = was.shown };
-        sent = ap (λ v. length v.items) sent ∙ h.sent;
+            record { of_run = keeps.views w.kernel call agent.view was.of_run; seen = was.seen; shown = was.shown };
+        sent = sent_stays (kinds w.kernel) (kinds (after w.kernel call)) w.sent new.sent.items (keeps.deltas w.kernel call) (subst (λ v. AreSent (kinds w.kernel) w.sent v.items) (sym sent) h.sent);
       },
     )
 

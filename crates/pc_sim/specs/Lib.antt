@@ -1,4 +1,5 @@
 pub mod Agents
+pub mod Exchange
 pub mod Items
 pub mod Keeping
 pub mod PlainWorld

@@ -38,3 +38,11 @@ published w c =
       shown = at w.shown c (length items);
       sent = w.sent ++ pairs_in items ∷ [];
     }
+
+-- an agent has taken in what a sent delta tells
+abbrev pub delivered : PlainWorld → ℕ → Set → PlainWorld
+delivered w c set = record w { seen = at w.seen c (w.seen c ++ set) }
+
+-- a delta was sent that tells this
+abbrev pub sending : PlainWorld → Set → PlainWorld
+sending w set = record w { sent = w.sent ++ set ∷ [] }

@@ -23,7 +23,7 @@ use Rattle.pc_kernel.specs.Reads.{shown, is_cpu, is_asleep}
 use Rattle.pc_kernel.specs.Rows.{ThreadRow}
 use Rattle.pc_kernel.specs.Steps.{at, reply, after}
 use Rattle.pc_script.specs.declared.command.Command.{Command}
-use Rattle.pc_script.specs.declared.command.Command.TheVariants.{Enclave, Create, Wake, Affinity, Priority, Tick, Block, Yield, Preempt, Die, Associate, Commit, Sleep, Rouse, Config, Publish, Consume, Status, Asleep, Show}
+use Rattle.pc_script.specs.declared.command.Command.TheVariants.{Enclave, Create, Wake, Affinity, Priority, Tick, Block, Yield, Preempt, Die, Associate, Commit, Sleep, Rouse, Config, Publish, Consume, Deliver, Answer as AnswerDigest, Status, Asleep, Show, Same, Complete}
 use Rattle.pc_script.specs.declared.reply.Limit.{Limit}
 use Rattle.pc_script.specs.declared.reply.Limit.TheVariants as limit
 use Rattle.pc_script.specs.declared.reply.Posted.{Posted}
@@ -37,6 +37,7 @@ use Rattle.pc_script.specs.declared.reply.Subject.TheVariants as subject
 use Rattle.pc_script.specs.declared.version.Version.{Version}
 use Rattle.pc_script.specs.declared.version.Version.TheVariants as version
 use Rattle.pc_sim.specs.PlainWorld.{PlainWorld, opened, published}
+use Rattle.pc_sim.specs.Exchange.{IsBadCpu, IsDelivering, IsAnswering, IsComparing, IsCompleting}
 use Rattle.pc_sim.specs.Views.{IsShown, phase_named}
 
 -- a refusal of the kernel, as a reply names it; want of memory has no name, since no reply tells of it
@@ -87,9 +88,9 @@ IsRefusal fault told = (r : Refusal) × (refusal_named fault ≡ Some r) × (tol
 
 -- the reply tells what the kernel's call answered: what was posted, or else that it is done, in these words
 abbrev pub Tells : Reply → Reply → Result Answer KernelFault → Type 0
-Tells done told (Ok (answer.Posted posted)) = told ≡ replies.Posted (posted_named posted)
-Tells done told (Ok answer.Done) = told ≡ done
-Tells done told (Err fault) = IsRefusal fault told
+Tells said told (Ok (answer.Posted posted)) = told ≡ replies.Posted (posted_named posted)
+Tells said told (Ok answer.Done) = told ≡ said
+Tells said told (Err fault) = IsRefusal fault told
 
 -- the call of the environment that a command asks for
 abbrev pub env_asked : Command → Option EnvCall
@@ -120,8 +121,8 @@ done_told (Commit cpu thread aseq) = replies.Committed thread cpu
 done_told command = replies.Done
 
 -- a command that is a call of the kernel
-pub record IsCall (w : PlainWorld) (call : Call) (done told : Reply) (new : PlainWorld) : Type 0 where
-  pub tells : Tells done told (reply w.kernel call)
+pub record IsCall (w : PlainWorld) (call : Call) (said told : Reply) (new : PlainWorld) : Type 0 where
+  pub tells : Tells said told (reply w.kernel call)
   pub after : new ≡ record w { kernel = after w.kernel call }
 
 -- the agent removes from its queue what it has sent, as the kernel answers
@@ -143,11 +144,6 @@ IsStatus t None told = told ≡ replies.Refused refusal.UnknownThread
 IsStatus t (Some row) told =
     (phase : state.Phase) × (phase_of row.kinds ≡ Some phase)
     × (told ≡ replies.Status record { thread = t; number = length row.kinds; phase = phase_named phase; running_on = row.on })
-
--- refused for a CPU that is not there, and nothing changes
-pub record IsBadCpu (w : PlainWorld) (told : Reply) (new : PlainWorld) : Type 0 where
-  pub refused : told ≡ replies.Refused refusal.BadCpu
-  pub same : new ≡ w
 
 -- the agent sends what its queue holds
 pub record IsPublish (w : PlainWorld) (c : ℕ) (told : Reply) (new : PlainWorld) : Type 0 where
@@ -176,6 +172,10 @@ IsOwnStep w (Consume cpu) told new = IsConsuming cpu w told new
 IsOwnStep w (Status thread) told new = IsStatus thread ((shown w.kernel).thread thread) told × (new ≡ w)
 IsOwnStep w (Asleep cpu) told new = IsAsleep w cpu told × (new ≡ w)
 IsOwnStep w (Show cpu) told new = IsShowing cpu w told new
+IsOwnStep w (Deliver cpu delta) told new = IsDelivering cpu delta w told new
+IsOwnStep w (AnswerDigest cpu asker) told new = IsAnswering cpu asker w told new
+IsOwnStep w (Same cpu other) told new = IsComparing w cpu other told × (new ≡ w)
+IsOwnStep w (Complete cpu thread) told new = IsCompleting w cpu thread told × (new ≡ w)
 IsOwnStep w command told new = ⊥
 
 -- a command that meets a world

@@ -28,4 +28,4 @@ pub is_session_of_none : (version : Version) → IsSession version [] []
 is_session_of_none version = (None, none)
 
 pub is_session : (version : Version) (profile : Profile) (world : Option World) (commands : List Command) (replies : List Reply) → StandsAfter version profile world commands replies → IsSession version commands replies
-is_session version profile world commands replies (judged, s, run, shows) = (s, subst (λ p. IsRun p None commands replies s) judged run)
+is_session version profile world commands replies (judged, (s, run, shows)) = (s, subst (λ p. IsRun p None commands replies s) judged run)

@@ -1,5 +1,5 @@
 -- What a machine shows: its kernel the plain kernel, each agent's view the view of what it took in.
-use Rattle.std.specs.Prelude.{ℕ, ◌≡◌, List, length, Some, slice_get}
+use Rattle.std.specs.Prelude.{ℕ, ◌≡◌, List, [], ◌∷◌, Some, slice_get}
 use Rattle.pc_messages.specs.Run.{Run}
 use Rattle.pc_messages.specs.declared.message.Item.{Item}
 use Rattle.pc_join.specs.Sets.{as_members, IsSameSet}
@@ -9,7 +9,9 @@ use Rattle.pc_script.specs.declared.reply.Reply.{Reply}
 use Rattle.pc_view.specs.Views.{pairs_of, IsOfRun}
 use Rattle.pc_sim.specs.declared.agents.Agent.{Agent}
 use Rattle.pc_sim.specs.declared.world.World.{World}
-use Rattle.pc_sim.specs.Items.{AreOfRun}
+use Rattle.pc_delta.specs.declared.part.Part.{Part}
+use Rattle.pc_delta.specs.Parts.{AreOfRun, set_of}
+use Rattle.pc_sim.specs.Items as items
 use Rattle.pc_sim.specs.PlainWorld.{PlainWorld, Set, published}
 use Rattle.pc_sim.specs.Session.{IsPublish}
 
@@ -19,10 +21,22 @@ pub record ShowsAgent (run : Run) (set : Set) (count : ℕ) (agent : Agent) : Ty
   pub seen : IsSameSet (pairs_of agent.view) (as_members set)
   pub shown : agent.shown ≡ count
 
+-- the delta is of the run, and tells the set
+pub record ShowsDelta (run : Run) (set : Set) (delta : List Part) : Type 0 where
+  pub of_run : AreOfRun run delta
+  pub told : IsSameSet (set_of delta) (as_members set)
+
+-- the deltas tell these sets, one after another
+abbrev pub AreSent : Run → List Set → List (List Part) → Type 0
+AreSent run [] [] = Unit {0}
+AreSent run (set ∷ sets) (delta ∷ deltas) = ShowsDelta run set delta × AreSent run sets deltas
+AreSent run [] (delta ∷ deltas) = ⊥
+AreSent run (set ∷ sets) [] = ⊥
+
 pub record ShowsWorld (world : World) (w : PlainWorld) : Type 0 where
   pub kernel : Shows world.kernel w.kernel
   pub agents : (c : ℕ) (agent : Agent) → slice_get world.agents.items c ≡ Some agent → ShowsAgent (kinds w.kernel) (w.seen c) (w.shown c) agent
-  pub sent : length world.sent.items ≡ length w.sent
+  pub sent : AreSent (kinds w.kernel) w.sent world.sent.items
 
 -- for every plain world that is shown before, the reply is that of a step, whose result is shown after
 abbrev pub Does : (PlainWorld → Reply → PlainWorld → Type 0) → World → World → Reply → Type 0
@@ -30,4 +44,4 @@ Does step old new reply = (w : PlainWorld) → ShowsWorld old w → (w' : PlainW
 
 -- for every plain world that is shown before and whose queue holds these items, the reply is that of a publish, whose result is shown after
 abbrev pub Sends : ℕ → List Item → World → World → Reply → Type 0
-Sends c items old new reply = (w : PlainWorld) → ShowsWorld old w → content w.kernel c ≡ items → AreOfRun (kinds w.kernel) items → IsPublish w c reply (published w c) × ShowsWorld new (published w c)
+Sends c items old new reply = (w : PlainWorld) → ShowsWorld old w → content w.kernel c ≡ items → items.AreOfRun (kinds w.kernel) items → IsPublish w c reply (published w c) × ShowsWorld new (published w c)

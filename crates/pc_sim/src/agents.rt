@@ -1,15 +1,9 @@
-//! The agents' views.
+//! The agents.
 
-ghost use Rattle.std.specs.Prelude.{[], ◌∷◌, OnOk, IfOk};
-ghost use Rattle.pc_messages.specs.Run.{Run};
-ghost use Rattle.pc_join.specs.Sets.{IsUnion, as_members};
-ghost use Rattle.pc_view.specs.Views.{pairs_of, IsOfRun};
-ghost use Rattle.pc_sim.specs.PlainWorld.{pairs_in};
+ghost use Rattle.std.specs.Prelude.{IfOk};
 ghost use Rattle.pc_sim.specs.Agents.{AreNew};
-ghost use Rattle.pc_sim.specs.Items.{AreOfRun, AreWellFormed, IsItemOf, IsWellFormedItem};
 
 use pc_join::join::OutOfMemory;
-use pc_messages::message::Item;
 use pc_view::view::View;
 use std::alloc::Global;
 
@@ -34,28 +28,4 @@ pub fn new_agents(alloc: Global, cpus: u8) -> Result<Vec<Agent>, OutOfMemory>
         })?;
     }
     Ok(agents)
-}
-
-/// Takes an item's message, where it has one, into a view.
-fn copy_item(view: &mut View, item: Item) -> Result<(), OutOfMemory>
-    requires { IsWellFormedItem item }
-    ensures union { OnOk result (IsUnion (pairs_of view.old) (as_members (pairs_in (item ∷ []))) (pairs_of view.new)) }
-    ensures of_run { (run : Run) → IsOfRun run view.old → IsItemOf run item → IsOfRun run view.new }
-{
-    match item {
-        Item::Thread(message) => view.insert(message),
-        Item::Tick(_) => Ok(()),
-    }
-}
-
-/// Takes the messages among the items into a view.
-pub fn copy_items(view: &mut View, items: &[Item]) -> Result<(), OutOfMemory>
-    requires { AreWellFormed items.now }
-    ensures union { OnOk result (IsUnion (pairs_of view.old) (as_members (pairs_in items.now)) (pairs_of view.new)) }
-    ensures of_run { (run : Run) → IsOfRun run view.old → AreOfRun run items.now → IsOfRun run view.new }
-{
-    for item in items {
-        copy_item(view, *item)?;
-    }
-    Ok(())
 }

@@ -8,6 +8,7 @@ ghost use Rattle.pc_sim.specs.Session.{IsSession};
 
 mod agents;
 mod command_line;
+mod deltas;
 mod ending;
 mod names;
 mod session;

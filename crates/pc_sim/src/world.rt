@@ -2,17 +2,21 @@
 //!
 //! It stands where the world of events will stand, with the contract that the world will have.
 
-ghost use Rattle.std.specs.Prelude.{◌≡◌, ◌<◌, ◌^◌, length, IfOk, IsTrue, IsFalse};
+ghost use Rattle.std.specs.Prelude.{◌≡◌, ◌<◌, ◌^◌, length, None, IfOk, IsTrue, IsFalse, slice_get, option_copied};
 ghost use Rattle.pc_kernel.specs.Limits.{bad_field};
 ghost use Rattle.pc_kernel.specs.Reads.{seen, is_cpu};
 ghost use Rattle.pc_sim.specs.PlainWorld.{PlainWorld, opened};
-ghost use Rattle.pc_sim.specs.Keeping.{KeepsViews};
-ghost use Rattle.pc_sim.specs.Items.{AreWellFormed};
+ghost use Rattle.pc_sim.specs.Keeping.{KeepsRun};
+ghost use Rattle.pc_sim.specs.Exchange.{IsAnswering, IsComparing, IsCompleting, IsDelivering};
 ghost use Rattle.pc_sim.specs.Session.{Tells, call_asked, IsAsleep, IsCall, IsConsuming, IsOwnStep, IsPublish, IsPublishing, IsRefusal, IsShow, IsShowing, IsStatus, IsWorldStep};
 
-use crate::agents::{Agent, copy_items, new_agents};
+use crate::agents::{Agent, new_agents};
+use crate::deltas::{answer_of, delta_of};
 use crate::names::{call_of, done_of, phase_of, posted_of, refusal_of};
 use crate::show::shown_threads;
+use pc_delta::delta::Delta;
+use pc_delta::laws::{parts_stay_as_the_run_goes_on, sets_are_pairs};
+use pc_delta::taking::take_in;
 use pc_kernel::calls::{Answer, Call};
 use pc_kernel::fault::KernelFault;
 use pc_kernel::kernel::Kernel;
@@ -22,7 +26,8 @@ use pc_messages::message::Item;
 use pc_messages::names::{Cpu, Tid};
 use pc_script::command::Command;
 use pc_script::reply::{Refusal, Reply, Status};
-use pc_view::view::views_stay_as_the_run_goes_on;
+use pc_view::audit::complete;
+use pc_view::view::{reads_are_those_of_the_run, views_of_the_same_messages_are_equal, views_stay_as_the_run_goes_on};
 use std::alloc::{AllocError, Global};
 
 /// The kernel, its agents, and what they sent.
@@ -31,8 +36,8 @@ pub struct World {
     kernel: Kernel,
     /// The agents of CPUs 0, 1, ..
     agents: Vec<Agent>,
-    /// Of each delta that was sent, how many items it had. What it tells is of no use before deltas can be delivered.
-    sent: Vec<u32>,
+    /// The deltas that were sent, in order.
+    sent: Vec<Delta>,
     ghost as_many: { length agents.items ≡ kernel.limits.cpus },
 }
 
@@ -57,12 +62,13 @@ fn told(answered: Result<Answer, KernelFault>, done: Reply) -> Result<Reply, All
     }
 }
 
-/// A call of the kernel leaves each agent's view a view of the kernel's run.
-fn calls_keep_views()
-    ensures { KeepsViews }
+/// A call of the kernel leaves each view and each delta of the kernel's run one of its run.
+fn calls_keep_the_run()
+    ensures { KeepsRun }
 {
     calls_extend_the_run();
     views_stay_as_the_run_goes_on();
+    parts_stay_as_the_run_goes_on();
 }
 
 impl World {
@@ -91,7 +97,7 @@ impl World {
     fn call(&mut self, call: Call, done: Reply) -> Result<Reply, AllocError>
         ensures { IfOk result (Does (λ w. IsCall w call done) self.old self.new) }
     {
-        calls_keep_views();
+        calls_keep_the_run();
         told(self.kernel.apply(call), done)
     }
 
@@ -99,7 +105,7 @@ impl World {
     fn consume(&mut self, cpu: Cpu) -> Result<Reply, AllocError>
         ensures { IfOk result (Does (IsConsuming cpu) self.old self.new) }
     {
-        calls_keep_views();
+        calls_keep_the_run();
         let items = match self.agents.get(cpu.index() as usize) {
             None => return Ok(Reply::Refused(Refusal::BadCpu)),
             Some(agent) => agent.shown,
@@ -144,37 +150,104 @@ impl World {
     }
 
     /// The agent takes in what its queue holds, and sends it.
-    fn publish(&mut self, cpu: Cpu) -> Result<Reply, AllocError>
+    fn publish(&mut self, alloc: Global, cpu: Cpu) -> Result<Reply, AllocError>
         ensures { IfOk result (Does (IsPublishing cpu) self.old self.new) }
     {
         self.kernel.is_sound();
         match self.kernel.peek(cpu) {
             Err(KernelFault::BadCpu) => Ok(Reply::Refused(Refusal::BadCpu)),
             Err(_) => Err(AllocError),
-            Ok((_, items)) => self.send(cpu, items.as_slice()),
+            Ok((_, items)) => self.send(alloc, cpu, items.as_slice()),
         }
     }
 
     /// The agent takes in these items, which are all that its queue holds, and sends them.
-    fn send(&mut self, cpu: Cpu, items: &[Item]) -> Result<Reply, AllocError>
+    fn send(&mut self, alloc: Global, cpu: Cpu, items: &[Item]) -> Result<Reply, AllocError>
         requires there { cpu < self.old.kernel.limits.cpus }
-        requires well_formed { AreWellFormed items.now }
         requires few { length items.now < 2 ^ 32 }
         ensures { IfOk result (Sends cpu items.now self.old self.new) }
     {
         let count = items.len() as u32;
-        let delta = self.sent.len() as u64;
-        self.sent.push(count)?;
+        let index = self.sent.len() as u64;
+        let delta = delta_of(alloc, items)?;
         let agent = &mut self.agents[cpu.index() as usize];
-        match copy_items(&mut agent.view, items) {
+        match take_in(&mut agent.view, &delta) {
+            Err(_) => return Err(AllocError),
+            Ok(()) => {}
+        }
+        agent.shown = count;
+        self.sent.push(delta)?;
+        Ok(Reply::Published {
+            delta: index,
+            items: count,
+        })
+    }
+
+    /// The CPU's agent.
+    fn agent(&self, cpu: Cpu) -> Option<&Agent>
+        ensures { option_copied result ≡ slice_get self.now.agents.items cpu }
+    {
+        self.agents.get(cpu.index() as usize)
+    }
+
+    /// The agent takes in the delta with this index.
+    fn deliver(&mut self, cpu: Cpu, index: u64) -> Result<Reply, AllocError>
+        ensures { IfOk result (Does (IsDelivering cpu index) self.old self.new) }
+    {
+        if self.agent(cpu).is_none() {
+            return Ok(Reply::Refused(Refusal::BadCpu));
+        }
+        match self.sent.get(index as usize) {
+            None => Ok(Reply::Refused(Refusal::NoDelta)),
+            Some(delta) => match take_in(&mut self.agents[cpu.index() as usize].view, delta) {
+                Err(_) => Err(AllocError),
+                Ok(()) => Ok(Reply::Done),
+            },
+        }
+    }
+
+    /// The agent sends what the asker's digest lacks.
+    fn answer_digest(
+        &mut self,
+        alloc: Global,
+        cpu: Cpu,
+        asker: Cpu,
+    ) -> Result<Reply, AllocError>
+        ensures { IfOk result (Does (IsAnswering cpu asker) self.old self.new) }
+    {
+        sets_are_pairs();
+        let index = self.sent.len() as u64;
+        let (Some(agent), Some(other)) = (self.agent(cpu), self.agent(asker)) else {
+            return Ok(Reply::Refused(Refusal::BadCpu));
+        };
+        match answer_of(alloc, &agent.view, &other.view) {
             Err(_) => Err(AllocError),
-            Ok(()) => {
-                agent.shown = count;
-                Ok(Reply::Published {
-                    delta,
-                    items: count,
-                })
+            Ok(delta) => {
+                self.sent.push(delta)?;
+                Ok(Reply::Answered { delta: index })
             }
+        }
+    }
+
+    /// Whether two agents have taken in the same messages.
+    fn same(&self, cpu: Cpu, other: Cpu) -> Reply
+        ensures { (w : PlainWorld) → ShowsWorld self.now w → IsComparing w cpu other result }
+    {
+        views_of_the_same_messages_are_equal();
+        match (self.agent(cpu), self.agent(other)) {
+            (Some(mine), Some(theirs)) => Reply::Sameness(mine.view == theirs.view),
+            _ => Reply::Refused(Refusal::BadCpu),
+        }
+    }
+
+    /// Whether the agent has taken in all messages of the thread.
+    fn complete(&self, cpu: Cpu, thread: Tid) -> Reply
+        ensures { (w : PlainWorld) → ShowsWorld self.now w → IsCompleting w cpu thread result }
+    {
+        reads_are_those_of_the_run();
+        match self.agent(cpu) {
+            Some(agent) => Reply::Truth(complete(&agent.view, &self.kernel, thread)),
+            None => Reply::Refused(Refusal::BadCpu),
         }
     }
 
@@ -195,11 +268,15 @@ impl World {
     {
         match command {
             Command::Enclave { .. } => Ok(Reply::Refused(Refusal::HaveEnclave)),
-            Command::Publish { cpu } => self.publish(Cpu(cpu)),
+            Command::Publish { cpu } => self.publish(alloc, Cpu(cpu)),
             Command::Consume { cpu } => self.consume(Cpu(cpu)),
             Command::Status { thread } => Ok(self.status(Tid(thread))),
             Command::Asleep { cpu } => Ok(self.asleep(Cpu(cpu))),
             Command::Show { cpu } => self.show(alloc, Cpu(cpu)),
+            Command::Deliver { cpu, delta } => self.deliver(Cpu(cpu), delta),
+            Command::Answer { cpu, asker } => self.answer_digest(alloc, Cpu(cpu), Cpu(asker)),
+            Command::Same { cpu, other } => Ok(self.same(Cpu(cpu), Cpu(other))),
+            Command::Complete { cpu, thread } => Ok(self.complete(Cpu(cpu), Tid(thread))),
             _ => unreachable!(),
         }
     }

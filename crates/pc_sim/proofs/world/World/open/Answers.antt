@@ -8,4 +8,4 @@ returns-in-Err-clause-refused c field e = (c.in-Err.ensures.refused field).0 (cc
 
 pub returns-in-Ok-new_agents-clause-ok : goal.returns-in-Ok-new_agents-clause-ok
 returns-in-Ok-new_agents-clause-ok c =
-    new_world _ c.args.limits c.cpus.result c.in-Ok.ensures.ok c.in-Ok-new_agents.ensures c.new-in-Ok-new_agents.ensures.items
+    new_world _ c.args.limits c.cpus.result c.in-Ok.ensures.ok c.in-Ok-new_agents.ensures c.new.ensures.items
