@@ -1,14 +1,14 @@
 -- What a machine shows after an agent published or was shown.
-use Rattle.std.proofs.Common.{◌≡◌, ℕ, zero, suc, ◌+◌, ◌≤◌, ◌<◌, ◌==◌, ◌||◌, ◌⊎◌, Bool, true, false, List, [], ◌∷◌, ◌++◌, length, All, Option, Some, None, MatchBool, IfOk, Result, slice_get, get_or, set, nat_lt, Contains, refl, sym, ◌∙◌, ap, subst, inl, inr, arith, length-append, if◌then◌else◌}
+use Rattle.std.proofs.Common.{◌≡◌, ℕ, zero, suc, ◌+◌, ◌<◌, ◌||◌, Bool, true, List, [], ◌∷◌, ◌++◌, length, All, Option, Some, None, MatchBool, slice_get, get_or, set, Contains, refl, sym, ◌∙◌, ap, subst, inl, inr, arith, length-append}
 use Rattle.std.specs.Option.{option_map_or}
 use Rattle.std.proofs.lemmas.Bool.{cases_eq, lt-ltb, ltb-true}
 use Rattle.std.proofs.lemmas.Bool.Decides.{eqb_tells}
 use Rattle.std.proofs.lemmas.Option.{slice_get_within, same_Some}
-use Rattle.std.proofs.lemmas.List.Elements.{Contains-get_or, All-from_get_or}
-use Rattle.pc_messages.specs.Run.{Run, kind_at}
+use Rattle.std.proofs.lemmas.List.Elements.{Contains-get_or}
+use Rattle.pc_messages.specs.Run.{Run}
 use Rattle.pc_messages.specs.declared.message.Item.{Item}
 use Rattle.pc_messages.specs.declared.message.Item.TheVariants.{Thread, Tick}
-use Rattle.pc_join.specs.Sets.{as_members, IsSameSet, IsUnion}
+use Rattle.pc_join.specs.Sets.{as_members, IsUnion}
 use Rattle.pc_kernel.specs.Answers.{Shows}
 use Rattle.pc_kernel.specs.PlainKernel.{PlainKernel, kinds, content}
 use Rattle.pc_kernel.specs.Reads.{seen, shown, is_cpu}
@@ -25,7 +25,7 @@ use Rattle.pc_sim.specs.declared.agents.Agent.{Agent}
 use Rattle.pc_sim.specs.declared.world.World.{World}
 use Rattle.pc_sim.specs.Items.{AreOfRun, IsItemOf}
 use Rattle.pc_sim.specs.PlainWorld.{PlainWorld, pairs_in, published}
-use Rattle.pc_sim.specs.Session.{IsPublish, IsPublishing, IsShow, IsShowing}
+use Rattle.pc_sim.specs.Session.{IsPublishing, IsShowing}
 use Rattle.pc_sim.specs.Showing.{ShowsAll}
 use Rattle.pc_sim.specs.Shows.{ShowsAgent, ShowsWorld, Does, Sends}
 use Rattle.pc_sim.proofs.Items.{as_members-append}
@@ -34,22 +34,22 @@ use Rattle.pc_sim.proofs.Shown.{rows_shown}
 pub at_same : {X : Type 0} (f : ℕ → X) (n : ℕ) (x : X) → at f n x n ≡ x
 at_same f n x = elim (eqb_tells n n) [ inl h ↦ rw h.0 refl | inr h ↦ absurd (h.1 refl) ]
 
-at_other : {X : Type 0} (f : ℕ → X) (place n : ℕ) (x : X) → (n ≡ place → ⊥) → at f place x n ≡ f n
+pub at_other : {X : Type 0} (f : ℕ → X) (place n : ℕ) (x : X) → (n ≡ place → ⊥) → at f place x n ≡ f n
 at_other f place n x o = elim (eqb_tells n place) [ inl e ↦ absurd (o e.1) | inr e ↦ rw e.0 refl ]
 
-get_set_same : (xs : List Agent) (i : ℕ) (y a : Agent) → slice_get (set xs i y) i ≡ Some a → a ≡ y
+pub get_set_same : (xs : List Agent) (i : ℕ) (y a : Agent) → slice_get (set xs i y) i ≡ Some a → a ≡ y
 get_set_same [] i y a e = cc
 get_set_same (x ∷ xs) zero y a e = sym (same_Some y a e)
 get_set_same (x ∷ xs) (suc i) y a e = get_set_same xs i y a e
 
-get_set_other : (xs : List Agent) (i j : ℕ) (y : Agent) → (j ≡ i → ⊥) → slice_get (set xs i y) j ≡ slice_get xs j
+pub get_set_other : (xs : List Agent) (i j : ℕ) (y : Agent) → (j ≡ i → ⊥) → slice_get (set xs i y) j ≡ slice_get xs j
 get_set_other [] i j y o = refl
 get_set_other (x ∷ xs) zero zero y o = absurd (o refl)
 get_set_other (x ∷ xs) zero (suc j) y o = refl
 get_set_other (x ∷ xs) (suc i) zero y o = refl
 get_set_other (x ∷ xs) (suc i) (suc j) y o = get_set_other xs i j y (λ e. o (ap suc e))
 
-match_true : (b : Bool) (P Q : Type 0) → b ≡ true → P → MatchBool b P Q
+pub match_true : (b : Bool) (P Q : Type 0) → b ≡ true → P → MatchBool b P Q
 match_true b P Q e p = subst (λ c. MatchBool c P Q) (sym e) p
 
 pub item_at : (xs : List Agent) (i : ℕ) (a d : Agent) → i < length xs → a ≡ get_or xs i d → slice_get xs i ≡ Some a

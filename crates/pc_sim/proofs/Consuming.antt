@@ -1,5 +1,5 @@
 -- What a machine shows after an agent consumed what it has sent.
-use Rattle.std.proofs.Common.{◌≡◌, ℕ, zero, suc, [], ◌∷◌, MatchBool, ◌≤◌, ◌<◌, ◌⊎◌, Bool, true, false, not, List, length, Option, Some, None, Result, Ok, Err, slice_get, set, nat_lt, refl, sym, ◌∙◌, ap, subst, inl, inr, arith}
+use Rattle.std.proofs.Common.{◌≡◌, ℕ, zero, suc, [], ◌∷◌, MatchBool, ◌≤◌, ◌<◌, Bool, false, not, List, length, Some, None, Result, Ok, Err, slice_get, set, nat_lt, refl, sym, ◌∙◌, ap, subst, inl, inr, arith}
 use Rattle.std.proofs.lemmas.Bool.{cases_eq}
 use Rattle.std.proofs.lemmas.Bool.Decides.{nat_tests}
 use Rattle.pc_kernel.specs.declared.calls.Call.TheVariants.{Consume}
@@ -68,7 +68,7 @@ agents_after old new w c agent more keeps h there is agents d a e = elim (cases_
   | inl same ↦
       let one : a ≡ more = get_set_same old.agents.items c more a (ap (λ l. slice_get l c) (sym agents) ∙ subst (λ n. slice_get new.agents.items n ≡ Some a) same e) in
       subst (λ n. ShowsAgent (kinds (consumed w c).kernel) ((consumed w c).seen n) ((consumed w c).shown n) a) (sym same)
-          (subst (ShowsAgent (kinds (consumed w c).kernel) ((consumed w c).seen c) ((consumed w c).shown c)) (sym (one ∙ is)) (agent_consumed w c agent keeps (h.agents c agent there)))
+      (subst (ShowsAgent (kinds (consumed w c).kernel) ((consumed w c).seen c) ((consumed w c).shown c)) (sym (one ∙ is)) (agent_consumed w c agent keeps (h.agents c agent there)))
   | inr other ↦ agent_stays w c d a keeps other (h.agents d a (sym (get_set_other old.agents.items c d more other) ∙ ap (λ l. slice_get l d) (sym agents) ∙ e))
 ]
 
@@ -78,7 +78,7 @@ pub consume_did : (old new : World) (c : ℕ) (agent more : Agent) → KeepsView
 consume_did old new c agent more keeps there steps is agents sent w h =
     let was = h.agents c agent there in
     let so = accepted_so w c old.kernel new.kernel (reply w.kernel (Consume c (w.shown c))) (after w.kernel (Consume c (w.shown c)))
-        (subst (λ n. Replies done (Ok tt) old.kernel new.kernel (reply w.kernel (Consume c n)) (after w.kernel (Consume c n))) was.shown (steps w.kernel h.kernel)) in (
+    (subst (λ n. Replies done (Ok tt) old.kernel new.kernel (reply w.kernel (Consume c n)) (after w.kernel (Consume c n))) was.shown (steps w.kernel h.kernel)) in (
       consumed w c,
       subst (λ n. IsConsumed w c (reply w.kernel (Consume c (w.shown c))) (replies.Consumed n) (consumed w c)) (sym was.shown) so.0,
       record { kernel = so.1; agents = agents_after old new w c agent more keeps h there is agents; sent = ap (λ v. length v.items) sent ∙ h.sent },

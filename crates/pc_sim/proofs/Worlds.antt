@@ -1,26 +1,23 @@
 -- What a machine shows, after each thing that it does.
-use Rattle.std.proofs.Common.{◌≡◌, ℕ, ◌+◌, ◌<◌, ◌||◌, Bool, true, false, List, [], ◌∷◌, ◌++◌, length, All, Option, Some, None, IsSome, IfOk, Result, Ok, Err, is_some, slice_get, get_or, refl, sym, ◌∙◌, ap, subst, arith, length-append}
+use Rattle.std.proofs.Common.{◌≡◌, ℕ, ◌+◌, false, List, [], ◌∷◌, ◌++◌, length, IfOk, Result, Ok, Err, slice_get, refl, sym, ◌∙◌, ap, subst, length-append}
 use Rattle.std.proofs.lemmas.List.Elements.{All-push, All-get_or}
 use Rattle.std.proofs.lemmas.Option.{slice_get_within, get_or_from_slice_get}
-use Rattle.pc_messages.specs.Run.{Run}
-use Rattle.pc_join.specs.Sets.{as_members, IsVoid}
+use Rattle.pc_join.specs.Sets.{as_members}
 use Rattle.pc_kernel.specs.declared.calls.Call.{Call}
 use Rattle.pc_kernel.specs.declared.calls.Answer.{Answer}
 use Rattle.pc_kernel.specs.declared.fault.KernelFault.{KernelFault}
 use Rattle.pc_kernel.specs.declared.limits.Limits.{Limits}
 use Rattle.pc_kernel.specs.Answers.{Shows, StepsInMemory, itself}
-use Rattle.pc_kernel.specs.PlainKernel.{PlainKernel, start, kinds}
+use Rattle.pc_kernel.specs.PlainKernel.{start, kinds}
 use Rattle.pc_kernel.specs.Steps.{after}
 use Rattle.pc_script.specs.declared.reply.Reply.{Reply}
-use Rattle.pc_view.specs.declared.view.View.{View}
-use Rattle.pc_view.specs.Views.{pairs_of, IsOfRun}
 use Rattle.pc_sim.specs.declared.agents.Agent.{Agent}
 use Rattle.pc_sim.specs.declared.world.World.{World}
 use Rattle.pc_sim.specs.Agents.{IsNew, AreNew}
-use Rattle.pc_sim.specs.PlainWorld.{PlainWorld, opened}
+use Rattle.pc_sim.specs.PlainWorld.{opened}
 use Rattle.pc_sim.specs.Session.{Tells, IsCall}
 use Rattle.pc_sim.specs.Keeping.{KeepsViews}
-use Rattle.pc_sim.specs.Shows.{ShowsAgent, ShowsWorld, Does}
+use Rattle.pc_sim.specs.Shows.{ShowsWorld, Does}
 use Rattle.pc_sim.proofs.Calls.{call_replied}
 
 pub new_more : (n : ℕ) (agents : List Agent) (agent : Agent) → AreNew n agents → IsNew agent → AreNew (n + 1) (agents ++ agent ∷ [])
@@ -45,11 +42,11 @@ new_world world limits count kernel agents sent =
     none (t ∷ n ∷ k ∷ m) = refl
 
 -- a call of the kernel leaves the agents as they are
-pub call_did : (old new : World) (call : Call) (answered : Result Answer KernelFault) (done told : Reply)
-    → KeepsViews → StepsInMemory itself call answered old.kernel new.kernel → Tells done told answered
-    → new.agents ≡ old.agents → new.sent ≡ old.sent → Does (λ w. IsCall w call done) old new told
-call_did old new call answered done told keeps steps tells agents sent w h =
-    let replied = call_replied call answered old.kernel new.kernel done told steps tells w.kernel h.kernel in (
+pub call_did : (old new : World) (call : Call) (answered : Result Answer KernelFault) (said told : Reply)
+    → KeepsViews → StepsInMemory itself call answered old.kernel new.kernel → Tells said told answered
+    → new.agents ≡ old.agents → new.sent ≡ old.sent → Does (λ w. IsCall w call said) old new told
+call_did old new call answered said told keeps steps tells agents sent w h =
+    let replied = call_replied call answered old.kernel new.kernel said told steps tells w.kernel h.kernel in (
       record w { kernel = after w.kernel call },
       record { tells = replied.0; after = refl },
       record {

@@ -87,9 +87,9 @@ IsRefusal fault told = (r : Refusal) × (refusal_named fault ≡ Some r) × (tol
 
 -- the reply tells what the kernel's call answered: what was posted, or else that it is done, in these words
 abbrev pub Tells : Reply → Reply → Result Answer KernelFault → Type 0
-Tells done told (Ok (answer.Posted posted)) = told ≡ replies.Posted (posted_named posted)
-Tells done told (Ok answer.Done) = told ≡ done
-Tells done told (Err fault) = IsRefusal fault told
+Tells said told (Ok (answer.Posted posted)) = told ≡ replies.Posted (posted_named posted)
+Tells said told (Ok answer.Done) = told ≡ said
+Tells said told (Err fault) = IsRefusal fault told
 
 -- the call of the environment that a command asks for
 abbrev pub env_asked : Command → Option EnvCall
@@ -120,8 +120,8 @@ done_told (Commit cpu thread aseq) = replies.Committed thread cpu
 done_told command = replies.Done
 
 -- a command that is a call of the kernel
-pub record IsCall (w : PlainWorld) (call : Call) (done told : Reply) (new : PlainWorld) : Type 0 where
-  pub tells : Tells done told (reply w.kernel call)
+pub record IsCall (w : PlainWorld) (call : Call) (said told : Reply) (new : PlainWorld) : Type 0 where
+  pub tells : Tells said told (reply w.kernel call)
   pub after : new ≡ record w { kernel = after w.kernel call }
 
 -- the agent removes from its queue what it has sent, as the kernel answers

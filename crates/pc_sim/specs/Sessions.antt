@@ -1,5 +1,5 @@
 -- What a session shows after its commands.
-use Rattle.std.specs.Prelude.{ℕ, ◌≡◌, List, [], Option, Some, None}
+use Rattle.std.specs.Prelude.{◌≡◌, List, [], Option, Some, None}
 use Rattle.std.proofs.Common.{subst}
 use Rattle.pc_kernel.specs.declared.limits.Profile.{Profile}
 use Rattle.pc_script.specs.declared.command.Command.{Command}
@@ -28,4 +28,4 @@ pub is_session_of_none : (version : Version) → IsSession version [] []
 is_session_of_none version = (None, none)
 
 pub is_session : (version : Version) (profile : Profile) (world : Option World) (commands : List Command) (replies : List Reply) → StandsAfter version profile world commands replies → IsSession version commands replies
-is_session version profile world commands replies (judged, s, run, shows) = (s, subst (λ p. IsRun p None commands replies s) judged run)
+is_session version profile world commands replies (judged, (s, run, shows)) = (s, subst (λ p. IsRun p None commands replies s) judged run)

@@ -2,7 +2,7 @@
 //!
 //! It stands where the world of events will stand, with the contract that the world will have.
 
-ghost use Rattle.std.specs.Prelude.{◌≡◌, ◌<◌, ◌^◌, length, IfOk, IsTrue, IsFalse};
+ghost use Rattle.std.specs.Prelude.{◌≡◌, ◌<◌, ◌^◌, length, None, IfOk, IsTrue, IsFalse, slice_get, option_copied};
 ghost use Rattle.pc_kernel.specs.Limits.{bad_field};
 ghost use Rattle.pc_kernel.specs.Reads.{seen, is_cpu};
 ghost use Rattle.pc_sim.specs.PlainWorld.{PlainWorld, opened};
@@ -87,6 +87,13 @@ impl World {
         }
     }
 
+    /// The CPU's agent.
+    fn agent(&self, cpu: Cpu) -> Option<&Agent>
+        ensures { option_copied result ≡ slice_get self.now.agents.items cpu }
+    {
+        self.agents.get(cpu.index() as usize)
+    }
+
     /// A call of the kernel.
     fn call(&mut self, call: Call, done: Reply) -> Result<Reply, AllocError>
         ensures { IfOk result (Does (λ w. IsCall w call done) self.old self.new) }
@@ -100,7 +107,7 @@ impl World {
         ensures { IfOk result (Does (IsConsuming cpu) self.old self.new) }
     {
         calls_keep_views();
-        let items = match self.agents.get(cpu.index() as usize) {
+        let items = match self.agent(cpu) {
             None => return Ok(Reply::Refused(Refusal::BadCpu)),
             Some(agent) => agent.shown,
         };
@@ -182,7 +189,7 @@ impl World {
     fn show(&self, alloc: Global, cpu: Cpu) -> Result<Reply, AllocError>
         ensures { IfOk result (Does (IsShowing cpu) self.now self.now) }
     {
-        match self.agents.get(cpu.index() as usize) {
+        match self.agent(cpu) {
             None => Ok(Reply::Refused(Refusal::BadCpu)),
             Some(agent) => Ok(Reply::View(shown_threads(alloc, &agent.view)?)),
         }

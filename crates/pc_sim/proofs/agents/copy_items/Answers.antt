@@ -1,11 +1,10 @@
-use Rattle.std.proofs.Common.{◌≡◌, get_or, take, subst, sym}
+use Rattle.std.proofs.Common.{subst, sym}
 use Rattle.std.proofs.lemmas.List.{take_all}
 use Rattle.std.proofs.lemmas.List.Elements.{All-get_or}
-use Rattle.pc_messages.specs.Run.{Run}
 use Rattle.pc_join.specs.Sets.{IsUnion, as_members}
-use Rattle.pc_view.specs.Views.{pairs_of, IsOfRun}
+use Rattle.pc_view.specs.Views.{pairs_of}
 use Rattle.pc_sim.specs.PlainWorld.{pairs_in}
-use Rattle.pc_sim.specs.Items.{AreOfRun, IsItemOf}
+use Rattle.pc_sim.specs.Items.{IsItemOf}
 use Rattle.pc_sim.proofs.Items.{no_items, item_more}
 use Rattle.pc_sim.proofs.agents.copy_items.Goals as goal
 
