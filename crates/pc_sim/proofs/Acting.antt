@@ -39,22 +39,22 @@ use Rattle.pc_sim.proofs.Shown.{rows_shown}
 pub at_same : {X : Type 0} (f : ℕ → X) (n : ℕ) (x : X) → at f n x n ≡ x
 at_same f n x = elim (eqb_tells n n) [ inl h ↦ rw h.0 refl | inr h ↦ absurd (h.1 refl) ]
 
-at_other : {X : Type 0} (f : ℕ → X) (place n : ℕ) (x : X) → (n ≡ place → ⊥) → at f place x n ≡ f n
+pub at_other : {X : Type 0} (f : ℕ → X) (place n : ℕ) (x : X) → (n ≡ place → ⊥) → at f place x n ≡ f n
 at_other f place n x o = elim (eqb_tells n place) [ inl e ↦ absurd (o e.1) | inr e ↦ rw e.0 refl ]
 
-get_set_same : (xs : List Agent) (i : ℕ) (y a : Agent) → slice_get (set xs i y) i ≡ Some a → a ≡ y
+pub get_set_same : (xs : List Agent) (i : ℕ) (y a : Agent) → slice_get (set xs i y) i ≡ Some a → a ≡ y
 get_set_same [] i y a e = cc
 get_set_same (x ∷ xs) zero y a e = sym (same_Some y a e)
 get_set_same (x ∷ xs) (suc i) y a e = get_set_same xs i y a e
 
-get_set_other : (xs : List Agent) (i j : ℕ) (y : Agent) → (j ≡ i → ⊥) → slice_get (set xs i y) j ≡ slice_get xs j
+pub get_set_other : (xs : List Agent) (i j : ℕ) (y : Agent) → (j ≡ i → ⊥) → slice_get (set xs i y) j ≡ slice_get xs j
 get_set_other [] i j y o = refl
 get_set_other (x ∷ xs) zero zero y o = absurd (o refl)
 get_set_other (x ∷ xs) zero (suc j) y o = refl
 get_set_other (x ∷ xs) (suc i) zero y o = refl
 get_set_other (x ∷ xs) (suc i) (suc j) y o = get_set_other xs i j y (λ e. o (ap suc e))
 
-match_true : (b : Bool) (P Q : Type 0) → b ≡ true → P → MatchBool b P Q
+pub match_true : (b : Bool) (P Q : Type 0) → b ≡ true → P → MatchBool b P Q
 match_true b P Q e p = subst (λ c. MatchBool c P Q) (sym e) p
 
 pub item_at : (xs : List Agent) (i : ℕ) (a d : Agent) → i < length xs → a ≡ get_or xs i d → slice_get xs i ≡ Some a

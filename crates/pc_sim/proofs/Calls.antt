@@ -10,7 +10,7 @@ use Rattle.pc_kernel.specs.Answers.{Shows, RepliesInMemory, StepsInMemory, itsel
 use Rattle.pc_kernel.specs.Reads.{shown}
 use Rattle.pc_kernel.specs.Steps.{reply, reply_of, after, after_of, refused, accepted, changed}
 use Rattle.pc_script.specs.declared.reply.Reply.{Reply}
-use Rattle.pc_sim.specs.Session.{Tells, refusal_named}
+use Rattle.pc_sim.specs.Session.{Tells}
 
 replied : (P Q : PlainKernel) (a : Answer) (o : Option KernelFault) (answered : Result Answer KernelFault) (old new : KernelRows) (said told : Reply) → Shows old P
     → RepliesInMemory itself answered old new (reply_of o a) (after_of o Q P) → Tells said told answered

@@ -1,22 +1,20 @@
 -- The rows of a view of a set in a run are those that the set has in the run.
-use Rattle.std.proofs.Common.{◌≡◌, ℕ, suc, zero, ◌+◌, ◌≤◌, ◌<◌, ◌==◌, ◌||◌, ◌⊎◌, Bool, true, false, List, [], ◌∷◌, ◌++◌, length, take, map, All, Option, Some, None, IsSome, refl, sym, ◌∙◌, ap, subst, inl, inr, arith}
+use Rattle.std.proofs.Common.{◌≡◌, ℕ, ◌+◌, ◌≤◌, ◌==◌, ◌||◌, Bool, true, false, List, [], ◌∷◌, map, Some, None, IsSome, refl, sym, ◌∙◌, ap, subst, inl, inr, arith}
 use Rattle.std.specs.List.{list_any}
 use Rattle.std.specs.Ordering.{nat_cmp}
 use Rattle.std.specs.FinMap as map
 use Rattle.std.proofs.lemmas.Bool.{cases_lt, eq-eqb}
 use Rattle.std.proofs.lemmas.Bool.Decides.{nat_tests}
-use Rattle.std.proofs.lemmas.List.Elements.{All-weaker, All-push, All-nil}
-use Rattle.std.proofs.lemmas.List.Folds.{list_any-append}
-use Rattle.pc_messages.specs.Run.{Run, kind_at}
-use Rattle.pc_messages.specs.State.{state_of}
+use Rattle.std.proofs.lemmas.List.Elements.{All-weaker}
+use Rattle.pc_messages.specs.Run.{Run}
 use Rattle.pc_messages.specs.declared.kind.Kind.{Kind}
 use Rattle.pc_join.specs.Sets.{Source, source_at, has, as_members, IsSameSet, IsVoid}
-use Rattle.pc_join.specs.ByName.{IsOfByName, HoldsNoEmpty, members_by_name, known_in}
+use Rattle.pc_join.specs.ByName.{IsOfByName, members_by_name, known_in}
 use Rattle.pc_thread_view.specs.Told.{Told, tells, numbers_of, is_early, in_prefix, IsOfThread}
 use Rattle.pc_script.specs.declared.reply.ShownThread.{ShownThread}
 use Rattle.pc_sim.specs.PlainWorld.{Set}
-use Rattle.pc_sim.specs.Views.{IsPrefix, RiseFrom, IsShown, IsShownThread, prefix_named}
-use Rattle.pc_sim.specs.Showing.{row_told, IsRow, ShowsAll, ShowsBelow}
+use Rattle.pc_sim.specs.Views.{RiseFrom, IsShown, IsShownThread, prefix_named}
+use Rattle.pc_sim.specs.Showing.{IsRow, ShowsAll}
 use Rattle.pc_sim.proofs.Telling.{Gives, told_state, told_prefix, told_ends, told_early, numbers_rise, numbers_early}
 
 -- what is told of a thread that is known is not nothing

@@ -1,19 +1,17 @@
 -- A session, one command at a time.
 use Rattle.std.proofs.Common.{◌≡◌, ℕ, List, [], ◌∷◌, ◌++◌, Option, Some, None, refl, sym, subst}
 use Rattle.pc_kernel.specs.declared.limits.Limits.{Limits}
-use Rattle.pc_kernel.specs.declared.limits.LimitField.{LimitField}
 use Rattle.pc_kernel.specs.declared.limits.Profile.{Profile}
 use Rattle.pc_kernel.specs.Limits.{bad_field}
 use Rattle.pc_script.specs.declared.command.Command.{Command}
 use Rattle.pc_script.specs.declared.command.Command.TheVariants.{Enclave}
-use Rattle.pc_script.specs.declared.reply.Refusal.TheVariants as refusal
 use Rattle.pc_script.specs.declared.reply.Reply.{Reply}
 use Rattle.pc_script.specs.declared.reply.Reply.TheVariants as replies
 use Rattle.pc_script.specs.declared.version.Version.{Version}
 use Rattle.pc_sim.specs.declared.world.World.{World}
 use Rattle.pc_sim.specs.PlainWorld.{opened}
-use Rattle.pc_sim.specs.Session.{Session, IsStep, IsRun, IsSession, IsWorldStep, IsLimited, limit_named, profile_of, one_more, none}
-use Rattle.pc_sim.specs.Sessions.{ShowsSession, Steps, StandsAfter}
+use Rattle.pc_sim.specs.Session.{IsWorldStep, IsLimited, profile_of, one_more, none}
+use Rattle.pc_sim.specs.Sessions.{Steps, StandsAfter}
 use Rattle.pc_sim.specs.Shows.{ShowsWorld, Does}
 
 pub stands_at_start : (version : Version) (profile : Profile) → profile ≡ profile_of version → StandsAfter version profile None [] []

@@ -1,13 +1,12 @@
 -- A thread that is known has a state.
-use Rattle.std.proofs.Common.{◌≡◌, ℕ, ◌≤◌, Bool, true, false, IsTrue, List, [], ◌∷◌, length, Option, Some, None, is_some, slice_get, refl, sym, ◌∙◌, ap, subst, arith}
-use Rattle.std.specs.List.{last_or, filter_map, cons_option}
+use Rattle.std.proofs.Common.{◌≡◌, ℕ, ◌≤◌, true, false, List, [], ◌∷◌, length, Option, Some, None, is_some, slice_get, refl, sym, ◌∙◌, ap, arith}
+use Rattle.std.specs.List.{last_or, filter_map}
 use Rattle.std.specs.Option.{option_map, option_and_then}
-use Rattle.pc_messages.specs.Run.{IsBegun, is_created}
+use Rattle.pc_messages.specs.Run.{IsBegun}
 use Rattle.pc_messages.specs.State.{state_of, phase_of, mask_of, report, phase_given, mask_given}
 use Rattle.pc_messages.specs.declared.kind.Kind.{Kind}
 use Rattle.pc_messages.specs.declared.kind.Kind.TheVariants.{Created, Blocked, Preempted, Yield, Dead, Wakeup, Affinity, Priority}
 use Rattle.pc_messages.specs.declared.reported.Phase.{Phase}
-use Rattle.pc_messages.specs.declared.reported.Reported.{Reported}
 use Rattle.pc_kernel.specs.Rows.{KernelRows, ThreadRow}
 use Rattle.pc_kernel.specs.Sound.{IsSound}
 use Rattle.pc_kernel.specs.declared.kernel.Status.{Status}

@@ -1,14 +1,13 @@
 -- What a thread view of a run tells is what the set that it knows has in the run.
-use Rattle.std.proofs.Common.{◌≡◌, ℕ, suc, zero, ◌+◌, ◌-◌, ◌≤◌, ◌<◌, ◌==◌, ◌||◌, ◌&&◌, ◌⊎◌, Bool, true, false, nat_le, List, [], ◌∷◌, ◌++◌, length, take, drop, map, Option, Some, None, cond, slice_get, refl, sym, ◌∙◌, ap, subst, inl, inr, arith}
+use Rattle.std.proofs.Common.{◌≡◌, ℕ, suc, zero, ◌+◌, ◌-◌, ◌≤◌, ◌<◌, ◌==◌, ◌||◌, Bool, true, false, List, [], ◌∷◌, length, take, drop, map, Option, Some, None, cond, slice_get, refl, sym, ◌∙◌, ap, inl, inr, arith}
 use Rattle.std.specs.List.{list_any}
-use Rattle.std.proofs.lemmas.Bool.{cases_lt, lt-ltb}
 use Rattle.std.proofs.lemmas.Bool.Decides.{eqb_tells, nat_tests}
 use Rattle.std.proofs.lemmas.Option.{same_Some}
 use Rattle.pc_messages.specs.Run.{kind_at}
 use Rattle.pc_messages.specs.State.{state_of}
 use Rattle.pc_messages.specs.declared.kind.Kind.{Kind}
 use Rattle.pc_join.specs.Sets.{Source}
-use Rattle.pc_thread_view.specs.Told.{Told, written, tells, in_prefix, is_early, RiseAbove, HasKinds, IsPrefix, IsOfThread}
+use Rattle.pc_thread_view.specs.Told.{Told, written, tells, in_prefix, is_early, RiseAbove, HasKinds, IsOfThread}
 use Rattle.pc_thread_view.specs.ToldLaws.{same_kind, written_some}
 use Rattle.pc_view.specs.Views.{written_at}
 use Rattle.pc_sim.specs.Views.{RiseFrom}

@@ -1,5 +1,5 @@
 -- The rows of a view, in the words of what it holds of each thread.
-use Rattle.std.specs.Prelude.{ℕ, ◌+◌, ◌≤◌, ◌<◌, ◌≡◌, ◌==◌, true, List, map, Option, Some, None, IsSome, All}
+use Rattle.std.specs.Prelude.{ℕ, ◌<◌, ◌≡◌, ◌==◌, true, List, map, Option, Some, IsSome, All}
 use Rattle.std.specs.List.{list_any}
 use Rattle.pc_thread_view.specs.Told.{Told}
 use Rattle.pc_script.specs.declared.reply.ShownThread.{ShownThread}

@@ -18,10 +18,26 @@ fn env_call_of(command: Command) -> Option<EnvCall>
     ensures { result ≡ env_asked command }
 {
     Some(match command {
-        Command::Create { queue, mask, is_ready } => EnvCall::Create { queue: Cpu(queue), mask, ready: is_ready },
-        Command::Wake { thread } => EnvCall::Wake { thread: Tid(thread) },
-        Command::Affinity { thread, mask } => EnvCall::SetAffinity { thread: Tid(thread), mask },
-        Command::Priority { thread, level } => EnvCall::SetPriority { thread: Tid(thread), level },
+        Command::Create {
+            queue,
+            mask,
+            is_ready,
+        } => EnvCall::Create {
+            queue: Cpu(queue),
+            mask,
+            ready: is_ready,
+        },
+        Command::Wake { thread } => EnvCall::Wake {
+            thread: Tid(thread),
+        },
+        Command::Affinity { thread, mask } => EnvCall::SetAffinity {
+            thread: Tid(thread),
+            mask,
+        },
+        Command::Priority { thread, level } => EnvCall::SetPriority {
+            thread: Tid(thread),
+            level,
+        },
         Command::Tick { cpu } => EnvCall::Tick { cpu: Cpu(cpu) },
         Command::Block { cpu, ran } => EnvCall::Block { cpu: Cpu(cpu), ran },
         Command::Yield { cpu, ran } => EnvCall::YieldNow { cpu: Cpu(cpu), ran },
@@ -36,11 +52,29 @@ pub fn call_of(command: Command) -> Option<Call>
     ensures { result ≡ call_asked command }
 {
     Some(match command {
-        Command::Associate { thread, queue, number } => Call::Associate { thread: Tid(thread), queue: Cpu(queue), number },
-        Command::Commit { cpu, thread, aseq } => Call::Commit { cpu: Cpu(cpu), thread: Tid(thread), aseq },
-        Command::Sleep { cpu, aseq } => Call::Sleep { cpu: Cpu(cpu), aseq },
+        Command::Associate {
+            thread,
+            queue,
+            number,
+        } => Call::Associate {
+            thread: Tid(thread),
+            queue: Cpu(queue),
+            number,
+        },
+        Command::Commit { cpu, thread, aseq } => Call::Commit {
+            cpu: Cpu(cpu),
+            thread: Tid(thread),
+            aseq,
+        },
+        Command::Sleep { cpu, aseq } => Call::Sleep {
+            cpu: Cpu(cpu),
+            aseq,
+        },
         Command::Rouse { cpu } => Call::Rouse { cpu: Cpu(cpu) },
-        Command::Config { queue, cpu } => Call::Config { queue: Cpu(queue), target: target_of(cpu) },
+        Command::Config { queue, cpu } => Call::Config {
+            queue: Cpu(queue),
+            target: target_of(cpu),
+        },
         _ => Call::Env(env_call_of(command)?),
     })
 }

@@ -93,6 +93,13 @@ impl World {
         }
     }
 
+    /// The CPU's agent.
+    fn agent(&self, cpu: Cpu) -> Option<&Agent>
+        ensures { option_copied result ≡ slice_get self.now.agents.items cpu }
+    {
+        self.agents.get(cpu.index() as usize)
+    }
+
     /// A call of the kernel.
     fn call(&mut self, call: Call, done: Reply) -> Result<Reply, AllocError>
         ensures { IfOk result (Does (λ w. IsCall w call done) self.old self.new) }
@@ -106,7 +113,7 @@ impl World {
         ensures { IfOk result (Does (IsConsuming cpu) self.old self.new) }
     {
         calls_keep_the_run();
-        let items = match self.agents.get(cpu.index() as usize) {
+        let items = match self.agent(cpu) {
             None => return Ok(Reply::Refused(Refusal::BadCpu)),
             Some(agent) => agent.shown,
         };
@@ -183,13 +190,6 @@ impl World {
         })
     }
 
-    /// The CPU's agent.
-    fn agent(&self, cpu: Cpu) -> Option<&Agent>
-        ensures { option_copied result ≡ slice_get self.now.agents.items cpu }
-    {
-        self.agents.get(cpu.index() as usize)
-    }
-
     /// The agent takes in the delta with this index.
     fn deliver(&mut self, cpu: Cpu, index: u64) -> Result<Reply, AllocError>
         ensures { IfOk result (Does (IsDelivering cpu index) self.old self.new) }
@@ -255,7 +255,7 @@ impl World {
     fn show(&self, alloc: Global, cpu: Cpu) -> Result<Reply, AllocError>
         ensures { IfOk result (Does (IsShowing cpu) self.now self.now) }
     {
-        match self.agents.get(cpu.index() as usize) {
+        match self.agent(cpu) {
             None => Ok(Reply::Refused(Refusal::BadCpu)),
             Some(agent) => Ok(Reply::View(shown_threads(alloc, &agent.view)?)),
         }

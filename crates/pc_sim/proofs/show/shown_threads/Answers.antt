@@ -1,4 +1,4 @@
-use Rattle.std.proofs.Common.{◌≡◌, ◌+◌, ◌<◌, ℕ, arith, subst, sym, ap, ◌∙◌}
+use Rattle.std.proofs.Common.{◌≡◌, ◌+◌, arith, subst, sym, ap, ◌∙◌}
 use Rattle.pc_view.specs.Views.{thread_of}
 use Rattle.pc_sim.specs.Showing.{ShowsBelow}
 use Rattle.pc_sim.proofs.Showing.{shows_none, shows_next, shows_last, shows_all}

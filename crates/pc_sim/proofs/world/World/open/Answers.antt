@@ -1,5 +1,3 @@
-use Rattle.std.proofs.Common.{◌≡◌, Result, Ok, Err, refl}
-use Rattle.pc_kernel.specs.declared.limits.LimitsFault.{LimitsFault}
 use Rattle.pc_sim.proofs.Worlds.{new_world}
 use Rattle.pc_sim.proofs.world.World.open.Goals as goal
 
