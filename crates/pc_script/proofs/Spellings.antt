@@ -7,7 +7,7 @@ use Rattle.std.proofs.lemmas.Slice.Eq.{bytes_eq-Decides}
 use Rattle.pc_script.specs.Asked.{thread_name, state_word, target_word, command_words, HasNumbersInRange, IsTargetInRange, Spells}
 use Rattle.pc_script.proofs.Numerals.{own}
 use Rattle.pc_script.specs.declared.command.Command.{Command}
-use Rattle.pc_script.specs.declared.command.Command.TheVariants.{Enclave, Create, Wake, Affinity, Priority, Tick, Block, Yield, Preempt, Die, Associate, Commit, Sleep, Rouse, Config, Publish, Consume, Status, Asleep, Show}
+use Rattle.pc_script.specs.declared.command.Command.TheVariants.{Enclave, Create, Wake, Affinity, Priority, Tick, Block, Yield, Preempt, Die, Associate, Commit, Sleep, Rouse, Config, Publish, Consume, Deliver, Answer, Status, Asleep, Show, Same, Complete}
 
 -- ---- one word
 
@@ -92,9 +92,13 @@ read_back s =
     else if is_named (codes "config") s then Config (value (word 1 s)) (target_value (word 2 s))
     else if is_named (codes "publish") s then Publish (value (word 1 s))
     else if is_named (codes "consume") s then Consume (value (word 1 s))
+    else if is_named (codes "deliver") s then Deliver (value (word 1 s)) (value (word 2 s))
+    else if is_named (codes "answer") s then Answer (value (word 1 s)) (value (word 2 s))
     else if is_named (codes "status") s then Status (thread_value (word 1 s))
     else if is_named (codes "asleep") s then Asleep (value (word 1 s))
-    else Show (value (word 1 s))
+    else if is_named (codes "show") s then Show (value (word 1 s))
+    else if is_named (codes "same") s then Same (value (word 1 s)) (value (word 2 s))
+    else Complete (value (word 1 s)) (thread_value (word 2 s))
 
 reads_back : (command : Command) → HasNumbersInRange command → read_back (command_words command) ≡ command
 unfolding read_back is_named word
@@ -116,9 +120,13 @@ reads_back (Rouse cpu) h = rw (byte_back cpu h) refl
 reads_back (Config queue cpu) h = rw (byte_back queue h.0, target_back cpu h.1) refl
 reads_back (Publish cpu) h = rw (byte_back cpu h) refl
 reads_back (Consume cpu) h = rw (byte_back cpu h) refl
+reads_back (Deliver cpu delta) h = rw (byte_back cpu h.0, mask_back delta h.1) refl
+reads_back (Answer cpu asker) h = rw (byte_back cpu h.0, byte_back asker h.1) refl
 reads_back (Status thread) h = rw (thread_back thread h) refl
 reads_back (Asleep cpu) h = rw (byte_back cpu h) refl
 reads_back (Show cpu) h = rw (byte_back cpu h) refl
+reads_back (Same cpu other) h = rw (byte_back cpu h.0, byte_back other h.1) refl
+reads_back (Complete cpu thread) h = rw (byte_back cpu h.0, thread_back thread h.1) refl
 
 -- what words spell is what is read back from them
 pub one_spelled : (spelled : List (List ℕ)) (one other : Command) → Spells spelled one → Spells spelled other → one ≡ other

@@ -3,7 +3,7 @@ use Rattle.std.specs.Prelude.{◌≡◌, ℕ, ◌^◌, ◌<◌, Bool, true, fals
 use Rattle.std.specs.Borrow.{Bor}
 use Rattle.pc_script.specs.Text.{words}
 use Rattle.pc_script.specs.declared.command.Command.{Command}
-use Rattle.pc_script.specs.declared.command.Command.TheVariants.{Enclave, Create, Wake, Affinity, Priority, Tick, Block, Yield, Preempt, Die, Associate, Commit, Sleep, Rouse, Config, Publish, Consume, Status, Asleep, Show}
+use Rattle.pc_script.specs.declared.command.Command.TheVariants.{Enclave, Create, Wake, Affinity, Priority, Tick, Block, Yield, Preempt, Die, Associate, Commit, Sleep, Rouse, Config, Publish, Consume, Deliver, Answer, Status, Asleep, Show, Same, Complete}
 
 -- a thread is `t`, and its number
 abbrev pub thread_name : ℕ → List ℕ
@@ -41,15 +41,19 @@ command_words (Rouse cpu) = codes "rouse" ∷ decimal cpu ∷ []
 command_words (Config queue cpu) = codes "config" ∷ decimal queue ∷ target_word cpu ∷ []
 command_words (Publish cpu) = codes "publish" ∷ decimal cpu ∷ []
 command_words (Consume cpu) = codes "consume" ∷ decimal cpu ∷ []
+command_words (Deliver cpu delta) = codes "deliver" ∷ decimal cpu ∷ decimal delta ∷ []
+command_words (Answer cpu asker) = codes "answer" ∷ decimal cpu ∷ decimal asker ∷ []
 command_words (Status thread) = codes "status" ∷ thread_name thread ∷ []
 command_words (Asleep cpu) = codes "asleep" ∷ decimal cpu ∷ []
 command_words (Show cpu) = codes "show" ∷ decimal cpu ∷ []
+command_words (Same cpu other) = codes "same" ∷ decimal cpu ∷ decimal other ∷ []
+command_words (Complete cpu thread) = codes "complete" ∷ decimal cpu ∷ thread_name thread ∷ []
 
 -- whom a queue wakes is in range
 abbrev pub IsTargetInRange : Option ℕ → Type 0
 IsTargetInRange cpu = IfSome cpu (λ c. c < 2 ^ 8)
 
--- CPUs, queues and levels are below 2 ^ 8, masks below 2 ^ 64, and all else is below 2 ^ 32
+-- CPUs, queues and levels are below 2 ^ 8, masks and indexes of deltas below 2 ^ 64, and all else is below 2 ^ 32
 abbrev pub HasNumbersInRange : Command → Type 0
 HasNumbersInRange (Enclave cpus threads numbers room posts) =
     (cpus < 2 ^ 8) × (threads < 2 ^ 32) × (numbers < 2 ^ 32) × (room < 2 ^ 32) × (posts < 2 ^ 32)
@@ -69,9 +73,13 @@ HasNumbersInRange (Rouse cpu) = cpu < 2 ^ 8
 HasNumbersInRange (Config queue cpu) = (queue < 2 ^ 8) × IsTargetInRange cpu
 HasNumbersInRange (Publish cpu) = cpu < 2 ^ 8
 HasNumbersInRange (Consume cpu) = cpu < 2 ^ 8
+HasNumbersInRange (Deliver cpu delta) = (cpu < 2 ^ 8) × (delta < 2 ^ 64)
+HasNumbersInRange (Answer cpu asker) = (cpu < 2 ^ 8) × (asker < 2 ^ 8)
 HasNumbersInRange (Status thread) = thread < 2 ^ 32
 HasNumbersInRange (Asleep cpu) = cpu < 2 ^ 8
 HasNumbersInRange (Show cpu) = cpu < 2 ^ 8
+HasNumbersInRange (Same cpu other) = (cpu < 2 ^ 8) × (other < 2 ^ 8)
+HasNumbersInRange (Complete cpu thread) = (cpu < 2 ^ 8) × (thread < 2 ^ 32)
 
 -- these words are the command's
 abbrev pub Spells : List (List ℕ) → Command → Type 0

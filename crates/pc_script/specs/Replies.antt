@@ -97,6 +97,11 @@ abbrev pub truth_text : Bool → List ℕ
 truth_text true = codes "yes"
 truth_text false = codes "no"
 
+-- `equal` or `differ`
+abbrev pub sameness_text : Bool → List ℕ
+sameness_text true = codes "equal"
+sameness_text false = codes "differ"
+
 -- ` level L`, or nothing for the lowest level
 abbrev pub level_text : ℕ → List ℕ
 level_text level = if level == 0 then [] else codes " level " ++ decimal level
@@ -127,10 +132,12 @@ abbrev pub reply_text : Reply → List ℕ
 reply_text reply.Done = codes "ok"
 reply_text (reply.Posted posted) = codes "ok " ++ posted_text posted
 reply_text (reply.Published delta items) = codes "ok d" ++ (decimal delta ++ (codes " items " ++ decimal items))
+reply_text (reply.Answered delta) = codes "ok d" ++ decimal delta
 reply_text (reply.Associated thread queue) = codes "ok " ++ (thread_name thread ++ (codes " q" ++ decimal queue))
 reply_text (reply.Committed thread cpu) = codes "ok " ++ (thread_name thread ++ (codes " c" ++ decimal cpu))
 reply_text (reply.Consumed items) = codes "ok " ++ decimal items
 reply_text (reply.Status status) = status_text status
 reply_text (reply.Truth truth) = truth_text truth
+reply_text (reply.Sameness equal) = sameness_text equal
 reply_text (reply.View threads) = shown_lines threads ++ codes "end"
 reply_text (reply.Refused refusal) = codes "refused " ++ refusal_text refusal

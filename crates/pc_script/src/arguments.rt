@@ -38,6 +38,17 @@ pub(crate) fn cpu_and_count(arguments: &[&[u8]]) -> Option<(u8, u32)>
     Some((byte(cpu)?, count(amount)?))
 }
 
+/// Two CPUs.
+pub(crate) fn two_cpus(arguments: &[&[u8]]) -> Option<(u8, u8)>
+    ensures { MatchOption result ((one other : ℕ) → one < 2 ^ 8 → other < 2 ^ 8 → texts arguments.now ≡ decimal one ∷ decimal other ∷ [] → ⊥)
+        (λ read. (read.0 < 2 ^ 8) × (read.1 < 2 ^ 8) × (texts arguments.now ≡ decimal read.0 ∷ decimal read.1 ∷ [])) }
+{
+    let [one, other] = arguments else {
+        return None;
+    };
+    Some((byte(one)?, byte(other)?))
+}
+
 /// How a new thread starts.
 pub(crate) fn is_ready_of(word: &[u8]) -> Option<bool>
     ensures { MatchOption result ((is_ready : Bool) → word.now ≡ state_word is_ready → ⊥) (λ is_ready. word.now ≡ state_word is_ready) }

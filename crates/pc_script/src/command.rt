@@ -89,6 +89,16 @@ pub enum Command {
     Consume {
         cpu: u8,
     },
+    /// `deliver C K`: the agent of CPU C takes in the sent delta with index K, from 0.
+    Deliver {
+        cpu: u8,
+        delta: u64,
+    },
+    /// `answer A B`: the agent of CPU A sends what the agent of CPU B lacks, by B's digest.
+    Answer {
+        cpu: u8,
+        asker: u8,
+    },
     /// `status T`: the thread's status word and its phase.
     Status {
         thread: u32,
@@ -100,5 +110,15 @@ pub enum Command {
     /// `show C`: the view of the agent of CPU C.
     Show {
         cpu: u8,
+    },
+    /// `same A B`: whether the views of the agents of CPUs A and B are equal.
+    Same {
+        cpu: u8,
+        other: u8,
+    },
+    /// `complete C T`: whether the view of the agent of CPU C knows all of the thread's messages.
+    Complete {
+        cpu: u8,
+        thread: u32,
     },
 }

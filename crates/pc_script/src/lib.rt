@@ -26,3 +26,5 @@ pub mod run;
 #[cfg(test)]
 mod tests;
 pub mod version;
+#[cfg(test)]
+mod word_tests;

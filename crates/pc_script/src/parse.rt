@@ -3,7 +3,7 @@
 ghost use Rattle.std.specs.Prelude.{◌≢◌, ◌∷◌, codes};
 ghost use Rattle.pc_script.specs.Asked.{IsReading, texts};
 
-use crate::arguments::{cpu_and_count, is_ready_of, one_cpu, one_thread, target_of};
+use crate::arguments::{cpu_and_count, is_ready_of, one_cpu, one_thread, target_of, two_cpus};
 use crate::command::Command;
 use crate::numbers::{byte, count, number, thread};
 
@@ -191,6 +191,26 @@ fn consume(arguments: &[&[u8]]) -> Option<Command>
     Some(Command::Consume { cpu })
 }
 
+/// The command `deliver` with these arguments.
+fn deliver(arguments: &[&[u8]]) -> Option<Command>
+    ensures { IsReading (codes "deliver" ∷ texts arguments.now) result }
+{
+    let [cpu, index] = arguments else {
+        return None;
+    };
+    let cpu = byte(cpu)?;
+    let delta = number(index)?;
+    Some(Command::Deliver { cpu, delta })
+}
+
+/// The command `answer` with these arguments.
+fn answer(arguments: &[&[u8]]) -> Option<Command>
+    ensures { IsReading (codes "answer" ∷ texts arguments.now) result }
+{
+    let (cpu, asker) = two_cpus(arguments)?;
+    Some(Command::Answer { cpu, asker })
+}
+
 /// The command `status` with these arguments.
 fn status(arguments: &[&[u8]]) -> Option<Command>
     ensures { IsReading (codes "status" ∷ texts arguments.now) result }
@@ -215,6 +235,26 @@ fn show(arguments: &[&[u8]]) -> Option<Command>
     Some(Command::Show { cpu })
 }
 
+/// The command `same` with these arguments.
+fn same(arguments: &[&[u8]]) -> Option<Command>
+    ensures { IsReading (codes "same" ∷ texts arguments.now) result }
+{
+    let (cpu, other) = two_cpus(arguments)?;
+    Some(Command::Same { cpu, other })
+}
+
+/// The command `complete` with these arguments.
+fn complete(arguments: &[&[u8]]) -> Option<Command>
+    ensures { IsReading (codes "complete" ∷ texts arguments.now) result }
+{
+    let [cpu, name] = arguments else {
+        return None;
+    };
+    let cpu = byte(cpu)?;
+    let thread = thread(name)?;
+    Some(Command::Complete { cpu, thread })
+}
+
 /// The command with this name, of those that ask the agents, or read.
 fn agent_command(name: &[u8], arguments: &[&[u8]]) -> Option<Command>
     requires no_event { (name.now ≢ codes "enclave") × (name.now ≢ codes "create") × (name.now ≢ codes "wake") × (name.now ≢ codes "affinity") × (name.now ≢ codes "priority") × (name.now ≢ codes "tick") × (name.now ≢ codes "block") × (name.now ≢ codes "yield") × (name.now ≢ codes "preempt") × (name.now ≢ codes "die") }
@@ -227,6 +267,12 @@ fn agent_command(name: &[u8], arguments: &[&[u8]]) -> Option<Command>
     if name == b"consume".as_slice() {
         return consume(arguments);
     }
+    if name == b"deliver".as_slice() {
+        return deliver(arguments);
+    }
+    if name == b"answer".as_slice() {
+        return answer(arguments);
+    }
     if name == b"status".as_slice() {
         return status(arguments);
     }
@@ -235,6 +281,12 @@ fn agent_command(name: &[u8], arguments: &[&[u8]]) -> Option<Command>
     }
     if name == b"show".as_slice() {
         return show(arguments);
+    }
+    if name == b"same".as_slice() {
+        return same(arguments);
+    }
+    if name == b"complete".as_slice() {
+        return complete(arguments);
     }
     None
 }

@@ -11,6 +11,8 @@ pub enum Reply {
     Posted(Posted),
     /// `ok dK items H`: the delta with this index was sent, and has this many items.
     Published { delta: u64, items: u32 },
+    /// `ok dK`: the delta with this index was sent as the answer.
+    Answered { delta: u64 },
     /// `ok T qQ`: the thread's messages go to this queue from now on.
     Associated { thread: u32, queue: u8 },
     /// `ok T cC`: the thread runs on this CPU from now on.
@@ -21,6 +23,8 @@ pub enum Reply {
     Status(Status),
     /// `yes` or `no`.
     Truth(bool),
+    /// `equal` or `differ`.
+    Sameness(bool),
     /// A line for each known thread, then `end`.
     View(ShownThreads),
     /// `refused NAME`, and the refusal's argument where it has one.

@@ -76,9 +76,10 @@ fn run_lines<M: Machine, W: Write>(
 
 /// Reads a script, has the machine answer its commands one after another, and writes the replies.
 ///
-/// The whole text is read first. Reading ends at the first read that fails (`Read`) or gives nothing, and no more
-/// than 16,777,217 bytes are read (`TooLong`); after either fault nothing was written. Replies are written line by
-/// line, so a writer without a buffer is slow; nothing is flushed. `Write` comes from the first write that fails.
+/// The whole text is read first, and the machine is started in the version that it names. Reading ends at the
+/// first read that fails (`Read`) or gives nothing, and no more than 16,777,217 bytes are read (`TooLong`); after
+/// either fault nothing was written. Replies are written line by line, so a writer without a buffer is slow;
+/// nothing is flushed. `Write` comes from the first write that fails.
 pub fn run_script<M: Machine, R: Read, W: Write>(
     alloc: Global,
     reader: &mut R,

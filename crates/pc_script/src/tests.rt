@@ -2,11 +2,9 @@
 
 use crate::command::Command;
 use crate::laws::words_spell_one_command;
-use crate::lines::split_words;
 use crate::lists::{Numbers, ShownThreads};
 use crate::machine::Machine;
 use crate::outcome::{Outcome, ScriptFault};
-use crate::parse::command_of;
 use crate::reply::{Limit, Phase, Posted, Prefix, Refusal, Reply, ShownThread, Status, Subject};
 use crate::run::run_script;
 use crate::version::Version;
@@ -54,6 +52,14 @@ fn message(thread: u32, aseq: u32) -> Reply {
     })
 }
 
+/// What is answered to a delivery, where one delta was sent.
+fn delivered(delta: u64) -> Reply {
+    if delta == 0 {
+        return Reply::Done;
+    }
+    Reply::Refused(Refusal::NoDelta)
+}
+
 impl Machine for Echo {
     ghost use Rattle.std.specs.Prelude.{◌≡◌, length, refl};
 
@@ -93,6 +99,12 @@ impl Machine for Echo {
             Command::Consume { cpu } => Ok(Reply::Consumed {
                 items: u32::from(cpu),
             }),
+            Command::Deliver { delta, .. } => Ok(delivered(delta)),
+            Command::Answer { asker, .. } => Ok(Reply::Answered {
+                delta: u64::from(asker),
+            }),
+            Command::Same { cpu, other } => Ok(Reply::Sameness(cpu == other)),
+            Command::Complete { thread, .. } => Ok(Reply::Truth(thread == 0)),
             Command::Asleep { cpu } => Ok(Reply::Truth(cpu == 0)),
             Command::Publish { cpu } => Ok(Reply::Published {
                 delta: 0,
@@ -177,115 +189,6 @@ fn each_command_is_read(rt: HostRuntime) {
     }
 }
 
-/// Asserts that a line spells a command.
-fn reads(rt: &impl Abort, alloc: Global, line: &[u8], command: Command) -> Result<(), AllocError> {
-    let words = split_words(alloc, line)?;
-    assert_eq!(rt; command_of(words.as_slice()), Some(command));
-    Ok(())
-}
-
-#[test]
-fn a_thread_s_mask_and_level_are_read(rt: HostRuntime) -> Result<(), Fail> {
-    let affinity = Command::Affinity {
-        thread: 4_294_967_295,
-        mask: 18_446_744_073_709_551_615,
-    };
-    reads(
-        &rt,
-        rt.alloc(),
-        b"affinity t4294967295 18446744073709551615",
-        affinity,
-    )?;
-    let priority = Command::Priority {
-        thread: 0,
-        level: 255,
-    };
-    reads(&rt, rt.alloc(), b"priority t0 255", priority)?;
-    Ok(())
-}
-
-#[test]
-fn a_tick_and_a_rouse_are_read(rt: HostRuntime) -> Result<(), Fail> {
-    reads(&rt, rt.alloc(), b"tick 255", Command::Tick { cpu: 255 })?;
-    reads(&rt, rt.alloc(), b"rouse 0", Command::Rouse { cpu: 0 })?;
-    Ok(())
-}
-
-#[test]
-fn a_block_and_a_yield_are_read(rt: HostRuntime) -> Result<(), Fail> {
-    let block = Command::Block {
-        cpu: 255,
-        ran: 4_294_967_295,
-    };
-    reads(&rt, rt.alloc(), b"block 255 4294967295", block)?;
-    let yielded = Command::Yield { cpu: 1, ran: 2 };
-    reads(&rt, rt.alloc(), b"yield 1 2", yielded)?;
-    Ok(())
-}
-
-#[test]
-fn a_preempt_and_a_die_are_read(rt: HostRuntime) -> Result<(), Fail> {
-    let preempt = Command::Preempt { cpu: 0, ran: 4 };
-    reads(&rt, rt.alloc(), b"preempt 0 4", preempt)?;
-    let die = Command::Die { cpu: 0, ran: 0 };
-    reads(&rt, rt.alloc(), b"die 0 0", die)?;
-    Ok(())
-}
-
-#[test]
-fn an_associate_is_read(rt: HostRuntime) -> Result<(), Fail> {
-    let associate = Command::Associate {
-        thread: 4_294_967_295,
-        queue: 255,
-        number: 16,
-    };
-    reads(&rt, rt.alloc(), b"associate t4294967295 255 16", associate)?;
-    Ok(())
-}
-
-#[test]
-fn a_commit_and_a_sleep_are_read(rt: HostRuntime) -> Result<(), Fail> {
-    let commit = Command::Commit {
-        cpu: 255,
-        thread: 7,
-        aseq: 4_294_967_295,
-    };
-    reads(&rt, rt.alloc(), b"commit 255 t7 4294967295", commit)?;
-    let sleep = Command::Sleep {
-        cpu: 1,
-        aseq: 4_294_967_295,
-    };
-    reads(&rt, rt.alloc(), b"sleep 1 4294967295", sleep)?;
-    Ok(())
-}
-
-#[test]
-fn a_queue_s_target_is_read(rt: HostRuntime) -> Result<(), Fail> {
-    let set = Command::Config {
-        queue: 0,
-        cpu: Some(255),
-    };
-    reads(&rt, rt.alloc(), b"config 0 255", set)?;
-    let unset = Command::Config {
-        queue: 255,
-        cpu: None,
-    };
-    reads(&rt, rt.alloc(), b"config 255 -", unset)?;
-    Ok(())
-}
-
-#[test]
-fn a_consume_and_an_asleep_are_read(rt: HostRuntime) -> Result<(), Fail> {
-    reads(
-        &rt,
-        rt.alloc(),
-        b"consume 255",
-        Command::Consume { cpu: 255 },
-    )?;
-    reads(&rt, rt.alloc(), b"asleep 0", Command::Asleep { cpu: 0 })?;
-    Ok(())
-}
-
 #[test]
 fn the_kernel_s_answers_are_written(rt: HostRuntime) {
     let alloc = rt.alloc();
@@ -302,6 +205,50 @@ fn the_kernel_s_answers_are_written(rt: HostRuntime) {
         (b"\n# x\ntick 0\r\n", b"ok - q0 a1 wake -\n"),
     ] {
         gives(&rt, alloc, script, output, Outcome::Finished);
+    }
+}
+
+#[test]
+fn what_is_sent_and_compared_is_answered(rt: HostRuntime) {
+    let alloc = rt.alloc();
+    for (script, output) in [
+        (
+            b"deliver 1 0\ndeliver 1 1".as_slice(),
+            b"ok\nrefused NoDelta\n".as_slice(),
+        ),
+        (b"answer 0 1", b"ok d1\n"),
+        (b"same 0 1\nsame 1 1", b"differ\nequal\n"),
+        (b"complete 1 t0\ncomplete 1 t1", b"yes\nno\n"),
+    ] {
+        gives(&rt, alloc, script, output, Outcome::Finished);
+    }
+}
+
+#[test]
+fn an_index_out_of_range_ends_the_script(rt: HostRuntime) {
+    gives(
+        &rt,
+        rt.alloc(),
+        b"enclave 2 8 100 16 1000\ndeliver 0 18446744073709551615\ndeliver 0 18446744073709551616",
+        b"ok\nrefused NoDelta\nfault line 3\n",
+        Outcome::FaultLine(3),
+    );
+}
+
+#[test]
+fn malformed_deliveries_and_comparisons_are_faults(rt: HostRuntime) {
+    for line in [
+        b"deliver 0".as_slice(),
+        b"deliver 256 0",
+        b"deliver 0 d0",
+        b"answer 0",
+        b"answer 0 256",
+        b"same 0 1 0",
+        b"same t0 1",
+        b"complete 0 0",
+        b"complete t0 0",
+    ] {
+        is_fault(&rt, rt.alloc(), line);
     }
 }
 
@@ -374,11 +321,7 @@ fn malformed_agent_calls_are_faults(rt: HostRuntime) {
 #[test]
 fn commands_that_are_not_built_are_faults(rt: HostRuntime) {
     for line in [
-        b"deliver 0 0".as_slice(),
-        b"answer 0 1",
-        b"same 0 1",
-        b"complete 0 t0",
-        b"pick 0 1",
+        b"pick 0 1".as_slice(),
         b"steal 0",
         b"crash 0",
         b"publish 0 fail",
