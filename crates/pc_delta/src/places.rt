@@ -1,4 +1,4 @@
-//! What is wrong with parts.
+//! The faults of parts, and the least conflict among them.
 
 ghost use Rattle.std.specs.Prelude.{ℕ, ◌≡◌, ◌↔◌, IsTrue, IfOk};
 ghost use Rattle.std.specs.BTreeMap.{get};
