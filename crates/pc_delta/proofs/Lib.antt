@@ -6,5 +6,6 @@ pub mod Conflicts
 pub mod Pairs
 pub mod Digesting
 pub mod Useful
+pub mod Faultless
 pub mod Refusals
 pub mod Gathering

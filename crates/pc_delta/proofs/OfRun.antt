@@ -22,7 +22,7 @@ use Rattle.pc_delta.proofs.Lists.{all_at}
 same_state : (s : Source) (upto : ℕ) (a b : Reported) → IsPrefix s upto (Some a) → IsPrefix s upto (Some b) → a ≡ b
 same_state s upto a b p q =
     let told : ◌≡◌ {A = Told} (record { upto = upto; state = Some a; early = [] }) (record { upto = upto; state = Some b; early = [] })
-             = unique_told s (record { upto = upto; state = Some a; early = [] }) (record { upto = upto; state = Some b; early = [] }) (folded_of s upto a p) (folded_of s upto b q) (λ m. refl) in
+    = unique_told s (record { upto = upto; state = Some a; early = [] }) (record { upto = upto; state = Some b; early = [] }) (folded_of s upto a p) (folded_of s upto b q) (λ m. refl) in
     inside (ap (λ t. t.state) told)
   where
     inside : {a b : Reported} → ◌≡◌ {A = Option Reported} (Some a) (Some b) → a ≡ b
@@ -69,7 +69,7 @@ part_stays longer shorter extends (One m) of_run =
     ap (λ kinds. kind_at kinds m.number) more.1 ∙ kind_on (shorter m.thread) more.0 m.number m.kind of_run
 part_stays longer shorter extends (Folded t u r) of_run =
     (stays_told (source_at (source_of shorter) t) (source_at (source_of longer) t) (record { upto = u; state = Some r; early = [] })
-        (λ m k some. goes_on longer shorter extends (t ∷ m) some) (folded_of (source_at (source_of shorter) t) u r of_run)).prefix
+    (λ m k some. goes_on longer shorter extends (t ∷ m) some) (folded_of (source_at (source_of shorter) t) u r of_run)).prefix
 
 pub parts_stay : (longer shorter : Run) → Extends longer shorter → (parts : List Part) → AreOfRun shorter parts → AreOfRun longer parts
 parts_stay longer shorter extends parts of_run = All-weaker (IsPartOfRun shorter) (IsPartOfRun longer) (part_stays longer shorter extends) parts of_run

@@ -1,6 +1,7 @@
 -- What is wrong with parts: the faults of one, the first that is there, and two parts that contradict each other.
 use Rattle.std.specs.Prelude.{ℕ, ◌*◌, ◌<◌, ◌≤◌, ◌≡◌, ◌==◌, ◌⊎◌, nat_lt, not, Bool, true, false, if◌then◌else◌, List, [], ◌∷◌, Option, Some, None, Contains}
 use Rattle.std.specs.Option.{option_or}
+use Rattle.pc_messages.specs.declared.reported.Reported.{Reported}
 use Rattle.pc_messages.specs.Run.{is_created}
 use Rattle.pc_delta.specs.declared.part.Part.{Part}
 use Rattle.pc_delta.specs.declared.part.Part.TheVariants.{One, Folded}
@@ -37,6 +38,12 @@ fault_of part = first_of (tests part)
 abbrev pub first_fault : List Part → Option DeltaFault
 first_fault [] = None
 first_fault (part ∷ parts) = option_or (fault_of part) (first_fault parts)
+
+-- so many messages may report such a state: there is one at least, and no more ticks than they can carry
+pub record IsPossiblePrefix (upto : ℕ) (reported : Reported) : Type 0 where
+  pub positive : 1 ≤ upto
+  pub greatest : upto ≤ 16000000
+  pub ran : reported.ran ≤ upto * 4294967295
 
 -- the thread and the number that a part is about, and whether it is a folded one
 abbrev pub place_of : Part → ℕ × ℕ × Bool

@@ -1,13 +1,16 @@
 //! What holds of every exchange of deltas, over the definitions alone.
 
-ghost use Rattle.std.specs.Prelude.{ℕ, ◌≡◌, ◌||◌, List};
-ghost use Rattle.pc_messages.specs.Run.{Run, Extends};
+ghost use Rattle.std.specs.Prelude.{ℕ, ◌≡◌, ◌↔◌, ◌||◌, List, None, All};
+ghost use Rattle.pc_messages.specs.Run.{Run, Extends, IsWellFormed};
+ghost use Rattle.pc_messages.specs.declared.message.Message.{Message};
+ghost use Rattle.pc_messages.specs.declared.reported.Reported.{Reported};
 ghost use Rattle.pc_join.specs.Sets.{IsSameSet, as_members};
 ghost use Rattle.pc_view.specs.declared.view.View.{View};
 ghost use Rattle.pc_view.specs.Views.{pairs_of, IsOfRun};
 ghost use Rattle.pc_delta.specs.declared.part.Part.{Part};
+ghost use Rattle.pc_delta.specs.declared.part.Part.TheVariants.{One, Folded};
 ghost use Rattle.pc_delta.specs.Parts.{set_of, AreOfRun, all_parts, pairs_of_parts};
-ghost use Rattle.pc_delta.specs.Faults.{HasNoConflict};
+ghost use Rattle.pc_delta.specs.Faults.{HasNoConflict, IsPossiblePrefix, fault_of, first_fault};
 ghost use Rattle.pc_delta.specs.Digests.{RangesByName, set_of_digest};
 ghost use Rattle.pc_delta.specs.Exchange.{IsTakenIn, IsPartlyTakenIn};
 ghost use Rattle.pc_delta.specs.Worked.{NoParts, Numbers, Misplaced, Ran, FirstPart, Places, Pairs};
@@ -36,6 +39,14 @@ pub fn one_run_has_no_conflict()
 /// Parts of a run are parts of each run that goes on from it.
 pub fn parts_stay_as_the_run_goes_on()
     ensures { (longer shorter : Run) (parts : List Part) → Extends longer shorter → AreOfRun shorter parts → AreOfRun longer parts }
+{}
+
+/// What parts without a fault are: each message is well formed, and each folded part has a number from 1 to
+/// 16,000,000 and no more ticks than its messages can carry.
+pub fn parts_without_fault_are_well_formed()
+    ensures messages { (message : Message) → fault_of (One message) ≡ None ↔ IsWellFormed message.number message.kind }
+    ensures prefixes { (thread upto : ℕ) (reported : Reported) → fault_of (Folded thread upto reported) ≡ None ↔ IsPossiblePrefix upto reported }
+    ensures all { (parts : List Part) → first_fault parts ≡ None ↔ All (λ part. fault_of part ≡ None) parts }
 {}
 
 /// The set of parts is that of their pairs.

@@ -1,4 +1,4 @@
-//! What is wrong with parts.
+//! The faults of parts, and the least conflict among them.
 
 ghost use Rattle.std.specs.Prelude.{ℕ, ◌≡◌, ◌↔◌, IsTrue, IfOk};
 ghost use Rattle.std.specs.BTreeMap.{get};
@@ -113,10 +113,7 @@ fn first_seen<T: Copy>(
 }
 
 /// The least thread and number about which two parts of the same sort differ.
-pub fn least_conflict(
-    alloc: Global,
-    parts: &[Part],
-) -> Result<Option<(u32, u32)>, OutOfMemory>
+pub fn least_conflict(alloc: Global, parts: &[Part]) -> Result<Option<(u32, u32)>, OutOfMemory>
     ensures { IfOk result (λ found. IsLeast found parts.now) }
 {
     let mut seen = BTreeMap::new(alloc);

@@ -36,12 +36,21 @@ fn created() -> Result<Kind, MaskFault> {
 
 // All of t0 up to a number: blocked, mask 3, with these ticks.
 fn folded(upto: u32, ran: u64) -> Result<Part, MaskFault> {
+    state(Phase::Blocked, upto, ran)
+}
+
+// The same, ready.
+fn ready(upto: u32, ran: u64) -> Result<Part, MaskFault> {
+    state(Phase::Ready, upto, ran)
+}
+
+fn state(phase: Phase, upto: u32, ran: u64) -> Result<Part, MaskFault> {
     let mask = Mask::new(3, 2)?;
     Ok(Part::Folded {
         thread: Tid(0),
         upto,
         reported: Reported {
-            phase: Phase::Blocked,
+            phase,
             mask,
             ran,
             level: Level::LOWEST,
@@ -54,8 +63,15 @@ fn delta(alloc: Global, parts: &[Part]) -> Result<Delta, DeltaFault> {
 }
 
 fn refusal(alloc: Global, parts: &[Part]) -> Option<DeltaFault> {
-    match delta(alloc, parts) {
-        Ok(_) => None,
-        Err(fault) => Some(fault),
-    }
+    delta(alloc, parts).err()
+}
+
+// A wakeup of t0.
+fn wakeup(number: u32) -> Part {
+    one(0, number, Kind::Wakeup)
+}
+
+// t0 leaves its CPU.
+fn yielded(number: u32) -> Part {
+    one(0, number, Kind::Yield { ran: 1 })
 }

@@ -6,13 +6,17 @@ use std::alloc::AllocError;
 use std::test::Fail;
 
 /// A fixed sequence of numbers that are hard to foresee.
+#[derive(Drop)]
 struct Sequence {
     state: u32,
 }
 
 impl Sequence {
     fn below(&mut self, bound: usize) -> usize {
-        self.state = self.state.wrapping_mul(1_664_525).wrapping_add(1_013_904_223);
+        self.state = self
+            .state
+            .wrapping_mul(1_664_525)
+            .wrapping_add(1_013_904_223);
         let drawn = (self.state >> 16) as usize;
         if bound == 0 { 0 } else { drawn % bound }
     }

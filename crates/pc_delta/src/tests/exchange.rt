@@ -1,6 +1,9 @@
 //! Views and digests that are exchanged.
 
-use super::{Delta, Digest, Global, Kind, OutOfMemory, Part, View, created, delta, delta_since, folded, one, take_all, take_in};
+use super::{
+    Delta, Digest, Global, Kind, OutOfMemory, Part, View, created, delta, delta_since, folded, one,
+    ready, take_all, take_in,
+};
 use crate::fault::DeltaFault;
 use pc_join::join::Join;
 use pc_messages::names::Tid;
@@ -54,11 +57,12 @@ fn messages_alone_are_taken_in(rt: HostRuntime) -> Result<(), Fail> {
 #[test]
 fn an_answer_to_an_empty_digest_tells_all(rt: HostRuntime) -> Result<(), Fail> {
     let view = view_of_three(rt.alloc())?;
-    let answer = delta_since(rt.alloc(), &view, &Digest::new(rt.alloc()))?;
-    assert_eq!(rt; answer.parts().len(), 1);
+    let nothing = Digest::of(rt.alloc(), &View::new(rt.alloc()))?;
+    let answer = delta_since(rt.alloc(), &view, &nothing)?;
     let mut other = View::new(rt.alloc());
     take_in(&mut other, &answer)?;
     assert!(rt; other == view);
+    assert!(rt; Digest::of(rt.alloc(), &other)? == Digest::of(rt.alloc(), &view)?);
     let copy = answer.try_copy()?;
     assert!(rt; copy.parts() == answer.parts());
     Ok(())
@@ -69,7 +73,13 @@ fn an_answer_tells_what_is_lacking(rt: HostRuntime) -> Result<(), Fail> {
     let mut view = view_of_three(rt.alloc())?;
     let digest = Digest::of(rt.alloc(), &view)?;
     assert_eq!(rt; delta_since(rt.alloc(), &view, &digest)?.parts().len(), 0);
-    take_in(&mut view, &delta(rt.alloc(), &[one(0, 9, Kind::Wakeup), one(1, 1, created()?)])?)?;
+    take_in(
+        &mut view,
+        &delta(
+            rt.alloc(),
+            &[one(0, 9, Kind::Wakeup), one(1, 1, created()?)],
+        )?,
+    )?;
     let answer = delta_since(rt.alloc(), &view, &digest)?;
     assert_eq!(rt; answer.parts().len(), 2);
     assert!(rt; answer.parts().first() == Some(&one(0, 9, Kind::Wakeup)));
@@ -104,6 +114,22 @@ fn what_a_digest_has(rt: HostRuntime) -> Result<(), Fail> {
     Ok(())
 }
 
+// A prefix of four messages, against nothing and against all four.
+#[test]
+fn a_prefix_is_told_by_its_state(rt: HostRuntime) -> Result<(), Fail> {
+    let mut view = View::new(rt.alloc());
+    let early = [one(0, 2, Kind::Wakeup), one(0, 4, Kind::Wakeup)];
+    take_in(&mut view, &delta(rt.alloc(), &early)?)?;
+    let gaps = [one(0, 1, created()?), one(0, 3, Kind::Blocked { ran: 2 })];
+    take_in(&mut view, &delta(rt.alloc(), &gaps)?)?;
+    let answer = delta_since(rt.alloc(), &view, &Digest::new(rt.alloc()))?;
+    assert_eq!(rt; answer.parts().len(), 1);
+    assert!(rt; answer.parts().first() == Some(&ready(4, 2)?));
+    let digest = Digest::of(rt.alloc(), &view)?;
+    assert_eq!(rt; delta_since(rt.alloc(), &view, &digest)?.parts().len(), 0);
+    Ok(())
+}
+
 // The longest prefix takes one range, and one part.
 #[test]
 fn a_long_prefix_is_one_part(rt: HostRuntime) -> Result<(), Fail> {
@@ -134,9 +160,17 @@ fn early_after(alloc: Global, parts: &[Part], thread: u32) -> Result<usize, Delt
 // the parts.
 #[test]
 fn contradicting_parts_are_safe(rt: HostRuntime) -> Result<(), Fail> {
-    let first = [folded(3, 7)?, one(0, 2, Kind::Dead { ran: 1 }), one(0, 5, Kind::Wakeup)];
+    let first = [
+        folded(3, 7)?,
+        one(0, 2, Kind::Dead { ran: 1 }),
+        one(0, 5, Kind::Wakeup),
+    ];
     assert_eq!(rt; early_after(rt.alloc(), &first, 0)?, 1);
-    let other = [one(0, 5, Kind::Wakeup), one(0, 3, Kind::Dead { ran: 1 }), folded(2, 7)?];
+    let other = [
+        one(0, 5, Kind::Wakeup),
+        one(0, 3, Kind::Dead { ran: 1 }),
+        folded(2, 7)?,
+    ];
     assert_eq!(rt; early_after(rt.alloc(), &other, 0)?, 1);
     assert_eq!(rt; early_after(rt.alloc(), &other, 1)?, 0);
     Ok(())
@@ -145,7 +179,10 @@ fn contradicting_parts_are_safe(rt: HostRuntime) -> Result<(), Fail> {
 #[test]
 fn a_delta_that_contradicts_a_view_is_safe(rt: HostRuntime) -> Result<(), Fail> {
     let mut view = view_of_three(rt.alloc())?;
-    take_in(&mut view, &delta(rt.alloc(), &[one(0, 2, Kind::Dead { ran: 9 })])?)?;
+    take_in(
+        &mut view,
+        &delta(rt.alloc(), &[one(0, 2, Kind::Dead { ran: 9 })])?,
+    )?;
     assert!(rt; view == view_of_three(rt.alloc())?);
     take_in(&mut view, &delta(rt.alloc(), &[folded(2, 9)?])?)?;
     let thread = view.thread(Tid(0)).expect(&rt, "t0");
