@@ -1,5 +1,5 @@
 -- From what a call of the code says, that the step accepts the call or refuses it; and whole lists of calls.
-use Rattle.std.proofs.Common.{◌≡◌, ◌≢◌, ◌∙◌, List, [], ◌∷◌, ◌++◌, Option, Some, None, Result, Ok, Err, IfOk, refl, sym, ap, subst}
+use Rattle.std.proofs.Common.{◌≡◌, ◌≢◌, List, [], ◌∷◌, ◌++◌, Option, Some, None, Result, Ok, Err, IfOk, refl, sym, ap}
 use Rattle.std.specs.Result.{result_map_both}
 use Rattle.pc_kernel.specs.declared.calls.Call.{Call}
 use Rattle.pc_kernel.specs.declared.calls.Posted.{Posted}
@@ -10,7 +10,7 @@ use Rattle.pc_kernel.specs.declared.fault.KernelFault.TheVariants as fault
 use Rattle.pc_kernel.specs.PlainKernel.{PlainKernel}
 use Rattle.pc_kernel.specs.Rows.{KernelRows}
 use Rattle.pc_kernel.specs.Reads.{shown}
-use Rattle.pc_kernel.specs.Answers.{Shows, Replies, RepliesInMemory, Steps, StepsInMemory, done, itself, Accepts, Refuses, Replays}
+use Rattle.pc_kernel.specs.Answers.{Shows, Replies, RepliesInMemory, Steps, StepsInMemory, itself, Accepts, Refuses, Replays}
 use Rattle.pc_kernel.specs.Steps.{reply, reply_of, after, after_of, refused, replay, changed, accepted}
 
 accepted_reply : {A : Type 0} (tell : A → Answer) (a : A) (old new : KernelRows) (r : Result Answer KernelFault) (Q : PlainKernel) → RepliesInMemory tell (Ok a) old new r Q → (r ≡ Ok (tell a)) × Shows new Q

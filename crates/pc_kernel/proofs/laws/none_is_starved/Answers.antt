@@ -1,10 +1,9 @@
-use Rattle.std.proofs.Common.{◌≡◌, ◌≢◌, ℕ, true, false, List, [], ◌∷◌, ◌++◌, Option, Some, None}
+use Rattle.std.proofs.Common.{◌≢◌, ℕ, true, false, List, [], ◌∷◌, Some, None}
 use Rattle.std.proofs.lemmas.Option.{same_Some}
 use Rattle.pc_kernel.specs.declared.calls.Call.{Call}
 use Rattle.pc_kernel.specs.declared.calls.Call.TheVariants.{Env, Consume, Associate, Commit, Sleep, Rouse, Config}
 use Rattle.pc_kernel.specs.declared.calls.EnvCall.{EnvCall}
 use Rattle.pc_kernel.specs.declared.calls.EnvCall.TheVariants.{Create, Wake, Block, YieldNow, Preempt, Die, SetAffinity, SetPriority, Tick}
-use Rattle.pc_kernel.specs.declared.fault.KernelFault.{KernelFault}
 use Rattle.pc_kernel.specs.declared.fault.KernelFault.TheVariants.{OutOfMemory}
 use Rattle.pc_kernel.specs.Limits.{first_of}
 use Rattle.pc_kernel.specs.Reads.{Reads}
