@@ -1,5 +1,5 @@
 -- From what a call of the code says, that the step accepts the call or refuses it; and whole lists of calls.
-use Rattle.std.proofs.Common.{◌≡◌, ◌≢◌, ◌∙◌, List, [], ◌∷◌, ◌++◌, Option, Some, None, Result, Ok, Err, refl, sym, ap, subst}
+use Rattle.std.proofs.Common.{◌≡◌, ◌≢◌, List, [], ◌∷◌, ◌++◌, Option, Some, None, Result, Ok, Err, IfOk, refl, sym, ap}
 use Rattle.std.specs.Result.{result_map_both}
 use Rattle.pc_kernel.specs.declared.calls.Call.{Call}
 use Rattle.pc_kernel.specs.declared.calls.Posted.{Posted}
@@ -10,7 +10,7 @@ use Rattle.pc_kernel.specs.declared.fault.KernelFault.TheVariants as fault
 use Rattle.pc_kernel.specs.PlainKernel.{PlainKernel}
 use Rattle.pc_kernel.specs.Rows.{KernelRows}
 use Rattle.pc_kernel.specs.Reads.{shown}
-use Rattle.pc_kernel.specs.Answers.{Shows, Replies, RepliesInMemory, Steps, StepsInMemory, done, itself, Accepts, Refuses, Replays}
+use Rattle.pc_kernel.specs.Answers.{Shows, Replies, RepliesInMemory, Steps, StepsInMemory, itself, Accepts, Refuses, Replays}
 use Rattle.pc_kernel.specs.Steps.{reply, reply_of, after, after_of, refused, replay, changed, accepted}
 
 accepted_reply : {A : Type 0} (tell : A → Answer) (a : A) (old new : KernelRows) (r : Result Answer KernelFault) (Q : PlainKernel) → RepliesInMemory tell (Ok a) old new r Q → (r ≡ Ok (tell a)) × Shows new Q
@@ -79,3 +79,13 @@ replay_then P (call ∷ first) then' = replay_then (after P call) first then'
 
 pub replays_then : (first then' : List Call) (old middle new : KernelRows) → Replays first old middle → Replays then' middle new → Replays (first ++ then') old new
 replays_then first then' old middle new h g P shows = rw (replay_then P first then') (g (replay P first) (h P shows))
+
+-- the one call, where it was accepted
+pub replays_ok : {A : Type 0} (tell : A → Answer) (call : Call) (r : Result A KernelFault) (old new : KernelRows) → StepsInMemory tell call r old new → IfOk r (λ _. Replays (call ∷ []) old new)
+replays_ok tell call (Ok a) old new h = replays_accepted call (tell a) old new (accepts tell call a old new h)
+replays_ok tell call (Err e) old new h = tt
+
+-- the last of several calls, where it was accepted
+pub replays_last : {A : Type 0} (first : List Call) (call : Call) (r : Result A KernelFault) (old middle new : KernelRows) → Replays first old middle → IfOk r (λ _. Replays (call ∷ []) middle new) → IfOk r (λ _. Replays (first ++ call ∷ []) old new)
+replays_last first call (Ok a) old middle new h g = replays_then first (call ∷ []) old middle new h g
+replays_last first call (Err e) old middle new h g = tt

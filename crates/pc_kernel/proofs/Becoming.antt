@@ -2,7 +2,6 @@
 use Rattle.std.proofs.Common.{◌≡◌, ◌≢◌, ◌∙◌, ℕ, suc, zero, ◌+◌, ◌-◌, ◌<◌, ◌≤◌, ◌==◌, Bool, true, false, nat_lt, find, List, [], ◌∷◌, length, map, set, drop, Option, Some, None, is_some, slice_get, refl, sym, ap, subst, arith, inl, inr, length-set, if◌then◌else◌}
 use Rattle.std.specs.List.{range_with_len}
 use Rattle.std.specs.Option.{option_map, option_and_then}
-use Rattle.std.proofs.lemmas.Bool.{lt-ltb}
 use Rattle.std.proofs.lemmas.Bool.Decides.{eqb_tells}
 use Rattle.std.proofs.lemmas.List.{length-map, length-drop}
 use Rattle.std.proofs.lemmas.Option.{same_Some, slice_get-map, slice_get_within, slice_get_cases}
@@ -11,7 +10,7 @@ use Rattle.pc_kernel.specs.declared.cpus.CpuEntry.{CpuEntry}
 use Rattle.pc_kernel.specs.declared.limits.Limits.{Limits}
 use Rattle.pc_kernel.specs.PlainKernel.{PlainKernel, is_on}
 use Rattle.pc_kernel.specs.PlainKernel as plain
-use Rattle.pc_kernel.specs.Rows.{ThreadRow, CpuRow, KernelRows}
+use Rattle.pc_kernel.specs.Rows.{ThreadRow, CpuRow}
 use Rattle.pc_kernel.specs.Reads.{thread_row, cpu_row, shown}
 use Rattle.pc_kernel.specs.Entries.{row_of, rows, place_in, IsKernel}
 use Rattle.pc_kernel.specs.Sends.{Becomes}

@@ -1,5 +1,5 @@
 -- The code's changes of single rows: that what holds of every kernel still holds, and what they are to a plain kernel.
-use Rattle.std.proofs.Common.{◌≡◌, ◌∙◌, ℕ, ◌+◌, ◌<◌, ◌≤◌, Bool, true, false, List, length, set, map, drop, Option, Some, None, is_some, slice_get, get_or, Result, Ok, Err, OnOk, IsErr, ◌↔◌, refl, sym, ap, subst, arith, inl, inr, length-set}
+use Rattle.std.proofs.Common.{◌≡◌, ◌∙◌, ℕ, ◌+◌, ◌<◌, ◌≤◌, Bool, List, length, set, Option, Some, None, is_some, slice_get, get_or, Result, Ok, Err, OnOk, IsErr, ◌↔◌, refl, sym, ap, subst, arith, inl, inr, length-set}
 use Rattle.std.specs.Option.{option_map, option_and_then, ForSome}
 use Rattle.std.proofs.lemmas.Bool.Decides.{eqb_tells}
 use Rattle.std.proofs.lemmas.List.{length-map}

@@ -1,9 +1,9 @@
 -- What holds of every kernel still holds after another row of a thread or of a CPU.
-use Rattle.std.proofs.Common.{◌≡◌, ◌∙◌, ℕ, suc, zero, ◌+◌, ◌<◌, ◌≤◌, ◌-◌, Bool, true, false, cond, List, [], ◌∷◌, length, map, set, drop, Option, Some, None, slice_get, get_or, Contains, refl, sym, ap, subst, arith, inl, inr, length-set}
+use Rattle.std.proofs.Common.{◌≡◌, ◌∙◌, ℕ, suc, zero, ◌<◌, ◌-◌, Bool, List, [], ◌∷◌, length, set, drop, Option, Some, slice_get, Contains, refl, sym, ap, subst, arith, inl, inr, length-set}
 use Rattle.std.specs.Option.{option_map, option_map_or, option_and_then}
 use Rattle.std.proofs.lemmas.Bool.Decides.{eqb_tells}
 use Rattle.std.proofs.lemmas.List.{length-map, length-drop}
-use Rattle.std.proofs.lemmas.Option.{same_Some, slice_get-map, slice_get_within}
+use Rattle.std.proofs.lemmas.Option.{same_Some, slice_get-map}
 use Rattle.pc_messages.specs.declared.message.Message.{Message}
 use Rattle.pc_messages.specs.declared.message.Item.TheVariants as item
 use Rattle.pc_queue.specs.Queue.{Queue}

@@ -13,7 +13,9 @@ use Rattle.pc_messages.specs.declared.reported.Phase.TheVariants.{Ready}
 use Rattle.pc_kernel.specs.declared.calls.Call.{Call}
 use Rattle.pc_kernel.specs.declared.limits.Limits.{Limits}
 use Rattle.pc_kernel.specs.PlainKernel.{PlainKernel, start, kinds, is_known, threads, aseq, content}
-use Rattle.pc_kernel.specs.Steps.{replay, after}
+use Rattle.pc_kernel.specs.declared.fault.KernelFault.TheVariants.{OutOfMemory}
+use Rattle.pc_kernel.specs.Reads.{Reads}
+use Rattle.pc_kernel.specs.Steps.{refused, replay, after}
 
 -- the item's message, where it is one of the thread
 abbrev pub message_in : ℕ → Item → Option Message
@@ -68,3 +70,7 @@ NamesAreDense = (limits : Limits) (calls : List Call) (t : ℕ) → is_known (re
 -- every call extends the run, whatever plain kernel it is called on
 abbrev pub CallsExtend : Type 0
 CallsExtend = (P : PlainKernel) (call : Call) → Extends (kinds (after P call)) (kinds P)
+
+-- no call is refused for want of memory: where the code answers that, the step accepts
+abbrev pub NoneIsStarved : Type 0
+NoneIsStarved = (r : Reads) (call : Call) → refused r call ≢ Some OutOfMemory

@@ -1,6 +1,6 @@
 //! What holds after every list of calls, whatever they are and whether they were refused.
 
-ghost use Rattle.pc_kernel.specs.Facts.{AlwaysAtHome, AlwaysPlaced, SleepersHadNoPost, RunsAreBegun, NamesAreDense, CallsExtend};
+ghost use Rattle.pc_kernel.specs.Facts.{AlwaysAtHome, AlwaysPlaced, SleepersHadNoPost, RunsAreBegun, NamesAreDense, CallsExtend, NoneIsStarved};
 
 /// A thread's messages that were not consumed all stand in its home queue and are its last ones, in order.
 pub fn messages_stay_home()
@@ -26,4 +26,10 @@ pub fn runs_are_begun()
 /// Every call extends the kernel's run.
 pub fn calls_extend_the_run()
     ensures { CallsExtend }
+{}
+
+/// No call is refused for want of memory by its definition: where the kernel answers that, the call is one that the
+/// definition accepts.
+pub fn none_is_starved()
+    ensures { NoneIsStarved }
 {}
