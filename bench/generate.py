@@ -2,6 +2,7 @@
 """Writes a script of so many lines on standard output, the same each time (the seed is fixed).
 
     generate.py first-run LINES     creates, wakes, reads of status words, and now and then a queue published and a view shown
+    generate.py kernel-calls LINES  all calls of the kernel: threads that are committed, leave their CPU and are woken, and queues consumed
 """
 import random
 import sys
@@ -32,7 +33,102 @@ def first_run(lines):
             yield f"status t{chance.randrange(created)}"
 
 
-SCRIPTS = {"first-run": first_run}
+class Threads:
+    """What the kernel will know of its threads and queues, so that most calls are accepted."""
+
+    def __init__(self):
+        self.home, self.on, self.blocked, self.number, self.pending = [], [], [], [], []
+        self.posts, self.running, self.held = [0] * CPUS, [None] * CPUS, [[] for _ in range(CPUS)]
+
+    def post(self, thread):
+        self.number[thread] += 1
+        self.pending[thread] += 1
+        self.posts[self.home[thread]] += 1
+        self.held[self.home[thread]].append(thread)
+
+    def consume(self, cpu):
+        for thread in self.held[cpu]:
+            self.pending[thread] -= 1
+        self.held[cpu] = []
+        return f"consume {cpu}"
+
+    def associate(self, thread, queue):
+        command = f"associate t{thread} {queue} {self.number[thread]}"
+        if self.pending[thread] == 0:
+            self.home[thread] = queue
+        return command
+
+    def create(self, queue):
+        self.home.append(queue)
+        self.on.append(None)
+        self.blocked.append(False)
+        self.number.append(0)
+        self.pending.append(0)
+        self.post(len(self.home) - 1)
+
+    def leave(self, thread, blocks):
+        cpu = self.on[thread]
+        self.on[thread], self.running[cpu], self.blocked[thread] = None, None, blocks
+        self.post(thread)
+        return cpu
+
+    def commit(self, thread):
+        cpu = self.home[thread]
+        self.on[thread], self.running[cpu] = cpu, thread
+        return f"commit {cpu} t{thread} {self.posts[cpu]}"
+
+
+def thread_call(chance, threads, thread):
+    """The next call in a thread's life."""
+    if threads.blocked[thread]:
+        threads.blocked[thread] = False
+        threads.post(thread)
+        return f"wake t{thread}"
+    if threads.on[thread] is not None:
+        leave = chance.choice(["yield", "block", "preempt"])
+        return f"{leave} {threads.leave(thread, leave == 'block')} {chance.randrange(100)}"
+    if threads.running[threads.home[thread]] is None:
+        return threads.commit(thread)
+    pick = chance.random()
+    if pick < 0.4:
+        return threads.associate(thread, chance.randrange(CPUS))
+    if pick < 0.6:
+        threads.post(thread)
+        return f"priority t{thread} {chance.randrange(8)}"
+    return f"status t{thread}"
+
+
+def cpu_call(chance, threads, cpu):
+    """A call on a CPU, its queue or its agent."""
+    pick = chance.randrange(5)
+    if pick == 0:
+        threads.posts[cpu] += 1
+        return f"tick {cpu}"
+    return [f"sleep {cpu} {threads.posts[cpu]}", f"rouse {cpu}", f"config {cpu} {chance.randrange(CPUS)}", f"asleep {cpu}"][pick - 1]
+
+
+def kernel_calls(lines):
+    """All calls of the kernel on 64 CPUs and 4,096 threads. Each queue is published and consumed in its turn."""
+    chance = random.Random(20261122)
+    threads = Threads()
+    yield f"enclave {CPUS} {THREADS} 1000000 65536 4294967295"
+    for line in range(1, lines):
+        if line <= THREADS:
+            queue = chance.randrange(CPUS)
+            threads.create(queue)
+            yield f"create {queue} {2**CPUS - 1} ready"
+        elif line % 32 == 0:
+            yield f"publish {line // 32 % CPUS}"
+        elif line % 32 == 1:
+            yield threads.consume(line // 32 % CPUS)
+        elif chance.random() < 0.8:
+            running = threads.running[chance.randrange(CPUS)]
+            yield thread_call(chance, threads, chance.randrange(THREADS) if running is None or chance.random() < 0.5 else running)
+        else:
+            yield cpu_call(chance, threads, chance.randrange(CPUS))
+
+
+SCRIPTS = {"first-run": first_run, "kernel-calls": kernel_calls}
 
 
 def main():

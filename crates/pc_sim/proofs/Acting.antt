@@ -1,14 +1,14 @@
 -- What a machine shows after an agent published or was shown.
-use Rattle.std.proofs.Common.{◌≡◌, ℕ, zero, suc, ◌+◌, ◌≤◌, ◌<◌, ◌==◌, ◌||◌, ◌⊎◌, Bool, true, false, List, [], ◌∷◌, ◌++◌, length, All, Option, Some, None, MatchBool, IfOk, Result, slice_get, get_or, set, nat_lt, Contains, refl, sym, ◌∙◌, ap, subst, inl, inr, arith, length-append, if◌then◌else◌}
+use Rattle.std.proofs.Common.{◌≡◌, ℕ, zero, suc, ◌<◌, ◌||◌, Bool, true, List, [], ◌∷◌, ◌++◌, length, All, Option, Some, None, MatchBool, slice_get, get_or, set, Contains, refl, sym, ◌∙◌, ap, subst, inl, inr, arith}
 use Rattle.std.specs.Option.{option_map_or}
 use Rattle.std.proofs.lemmas.Bool.{cases_eq, lt-ltb, ltb-true}
 use Rattle.std.proofs.lemmas.Bool.Decides.{eqb_tells}
 use Rattle.std.proofs.lemmas.Option.{slice_get_within, same_Some}
-use Rattle.std.proofs.lemmas.List.Elements.{Contains-get_or, All-from_get_or}
-use Rattle.pc_messages.specs.Run.{Run, kind_at}
+use Rattle.std.proofs.lemmas.List.Elements.{Contains-get_or}
+use Rattle.pc_messages.specs.Run.{Run}
 use Rattle.pc_messages.specs.declared.message.Item.{Item}
 use Rattle.pc_messages.specs.declared.message.Item.TheVariants.{Thread, Tick}
-use Rattle.pc_join.specs.Sets.{as_members, IsSameSet, IsUnion}
+use Rattle.pc_join.specs.Sets.{as_members, IsSameSet}
 use Rattle.pc_kernel.specs.Answers.{Shows}
 use Rattle.pc_kernel.specs.PlainKernel.{PlainKernel, kinds, content}
 use Rattle.pc_kernel.specs.Reads.{seen, shown, is_cpu}
@@ -20,7 +20,7 @@ use Rattle.pc_kernel.proofs.ShownReads.{shown-kinds, shown-content}
 use Rattle.pc_script.specs.declared.reply.Reply.{Reply}
 use Rattle.pc_script.specs.declared.reply.Reply.TheVariants as replies
 use Rattle.pc_script.specs.declared.reply.ShownThread.{ShownThread}
-use Rattle.pc_view.specs.Views.{pairs_of, thread_of, source_of, IsOfRun}
+use Rattle.pc_view.specs.Views.{pairs_of, thread_of, source_of}
 use Rattle.pc_sim.specs.declared.agents.Agent.{Agent}
 use Rattle.pc_sim.specs.declared.world.World.{World}
 use Rattle.pc_sim.specs.Items.{AreOfRun, IsItemOf}
@@ -29,7 +29,7 @@ use Rattle.pc_delta.specs.Exchange.{IsTakenIn}
 use Rattle.pc_delta.specs.Parts as parts
 use Rattle.pc_delta.specs.Parts.{set_of}
 use Rattle.pc_sim.specs.PlainWorld.{PlainWorld, Set, pairs_in, published}
-use Rattle.pc_sim.specs.Session.{IsPublish, IsPublishing, IsShow, IsShowing}
+use Rattle.pc_sim.specs.Session.{IsPublishing, IsShowing}
 use Rattle.pc_sim.specs.Showing.{ShowsAll}
 use Rattle.pc_sim.specs.Shows.{AreSent, ShowsAgent, ShowsDelta, ShowsWorld, Does, Sends}
 use Rattle.pc_sim.proofs.Items.{as_members-append}
@@ -138,7 +138,7 @@ send_did old new c items agent more delta there kernel agents sent taken told of
     let gained : Set = pairs_in (content w.kernel c) in
     let tells : ShowsDelta (kinds w.kernel) gained delta = record { of_run = of_run (kinds w.kernel) all; told = λ m. told m ∙ ap (λ l. as_members (pairs_in l) m) (sym holds) } in
     let here : ShowsAgent (kinds w.kernel) (w.seen c ++ gained) (length (content w.kernel c)) more =
-        takes_in (kinds w.kernel) (w.seen c) gained agent more delta (w.shown c) (length (content w.kernel c)) was taken tells (count ∙ ap length (sym holds)) in (
+    takes_in (kinds w.kernel) (w.seen c) gained agent more delta (w.shown c) (length (content w.kernel c)) was taken tells (count ∙ ap length (sym holds)) in (
       record {
         tells = (λ i. replies.Published ((at_end ∙ sent_length (kinds w.kernel) w.sent old.sent.items h.sent) i) (length (sym holds i)));
         after = refl;

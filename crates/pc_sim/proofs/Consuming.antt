@@ -1,6 +1,5 @@
 -- What a machine shows after an agent consumed what it has sent.
-use Rattle.std.proofs.Common.{◌≡◌, ℕ, zero, suc, [], ◌∷◌, MatchBool, ◌≤◌, ◌<◌, ◌⊎◌, Bool, true, false, not, List, length, Option, Some, None, Result, Ok, Err, slice_get, set, nat_lt, refl, sym, ◌∙◌, ap, subst, inl, inr, arith}
-use Rattle.std.proofs.lemmas.Bool.{cases_eq}
+use Rattle.std.proofs.Common.{◌≡◌, ℕ, zero, suc, [], ◌∷◌, MatchBool, ◌≤◌, ◌<◌, Bool, false, not, List, length, Some, None, Result, Ok, Err, slice_get, set, nat_lt, refl, sym, ◌∙◌, ap, subst, arith}
 use Rattle.std.proofs.lemmas.Bool.Decides.{nat_tests}
 use Rattle.pc_kernel.specs.declared.calls.Call.TheVariants.{Consume}
 use Rattle.pc_kernel.specs.declared.calls.Answer.{Answer}
@@ -68,10 +67,12 @@ pub consume_did : (old new : World) (c : ℕ) (agent more : Agent) → KeepsRun 
 consume_did old new c agent more keeps there steps is agents sent w h =
     let was = h.agents c agent there in
     let so = accepted_so w c old.kernel new.kernel (reply w.kernel (Consume c (w.shown c))) (after w.kernel (Consume c (w.shown c)))
-        (subst (λ n. Replies done (Ok tt) old.kernel new.kernel (reply w.kernel (Consume c n)) (after w.kernel (Consume c n))) was.shown (steps w.kernel h.kernel)) in (
+    (subst (λ n. Replies done (Ok tt) old.kernel new.kernel (reply w.kernel (Consume c n)) (after w.kernel (Consume c n))) was.shown (steps w.kernel h.kernel)) in (
       consumed w c,
       subst (λ n. IsConsumed w c (reply w.kernel (Consume c (w.shown c))) (replies.Consumed n) (consumed w c)) (sym was.shown) so.0,
-      record { kernel = so.1; agents = one_agent old new w (consumed w c) c more h agents
+      record {
+        kernel = so.1;
+        agents = one_agent old new w (consumed w c) c more h agents
             (subst (ShowsAgent (kinds (consumed w c).kernel) ((consumed w c).seen c) ((consumed w c).shown c)) (sym is) (agent_consumed w c agent keeps was))
             (λ d a other was'. agent_stays w c d a keeps other was');
         sent = sent_stays (kinds w.kernel) (kinds (consumed w c).kernel) w.sent new.sent.items (keeps.deltas w.kernel (Consume c (w.shown c))) (subst (λ v. AreSent (kinds w.kernel) w.sent v.items) (sym sent) h.sent);

@@ -1,5 +1,5 @@
 -- What a machine shows after agents exchanged deltas, and what it tells of two views and of one.
-use Rattle.std.proofs.Common.{◌≡◌, ℕ, ◌+◌, ◌≤◌, ◌<◌, ◌||◌, ◌&&◌, ◌↔◌, ◌⊎◌, Bool, true, false, IsTrue, List, [], ◌∷◌, ◌++◌, length, All, MatchBool, Option, Some, None, slice_get, set, nat_lt, refl, sym, ◌∙◌, ap, subst, inl, inr, arith, append-nil}
+use Rattle.std.proofs.Common.{◌≡◌, ℕ, ◌+◌, ◌≤◌, ◌<◌, ◌||◌, ◌&&◌, ◌↔◌, Bool, true, false, IsTrue, List, [], ◌∷◌, ◌++◌, length, Option, Some, None, slice_get, set, nat_lt, refl, sym, ◌∙◌, ap, subst, inl, inr, arith, append-nil}
 use Rattle.std.specs.Option.{option_map_or}
 use Rattle.std.proofs.lemmas.Bool.{false≢true, cases_lt}
 use Rattle.std.proofs.lemmas.Bool.Decides.{nat_tests}
@@ -9,23 +9,23 @@ use Rattle.pc_messages.specs.Run.{Run}
 use Rattle.pc_join.specs.Sets.{as_members, has, IsSameSet}
 use Rattle.pc_kernel.specs.Answers.{Shows}
 use Rattle.pc_kernel.specs.PlainKernel.{kinds}
-use Rattle.pc_kernel.specs.Reads.{Reads, seen, shown, is_cpu, is_known, number}
-use Rattle.pc_thread_view.specs.Told.{Told}
+use Rattle.pc_kernel.specs.Reads.{Reads, seen, shown, is_cpu, number}
+use Rattle.pc_thread_view.specs.Told.{Told, numbers_of}
+use Rattle.pc_join.specs.ByName.{known_in}
 use Rattle.pc_delta.specs.declared.part.Part.{Part}
-use Rattle.pc_delta.specs.Parts.{AreOfRun, pairs_of_part, pairs_of_parts, set_of, set_of_part}
+use Rattle.pc_delta.specs.Parts.{pairs_of_part, pairs_of_parts, set_of, set_of_part}
 use Rattle.pc_delta.specs.Digests.{RangesByName, set_of_digest}
 use Rattle.pc_delta.specs.Exchange.{IsAnswer, IsNews, IsTakenIn}
 use Rattle.pc_view.specs.declared.view.View.{View}
 use Rattle.pc_view.specs.Audit.{IsComplete, upto_of}
 use Rattle.pc_view.specs.Views.{pairs_of, thread_of, IsOfRun}
-use Rattle.pc_view.specs.ViewLaws.{is_same_view}
 use Rattle.pc_script.specs.declared.reply.Refusal.TheVariants as refusal
 use Rattle.pc_script.specs.declared.reply.Reply.TheVariants as replies
 use Rattle.pc_sim.specs.declared.agents.Agent.{Agent}
 use Rattle.pc_sim.specs.declared.world.World.{World}
-use Rattle.pc_sim.specs.Exchange.{HasAll, IsAnswered, IsAnswering, IsAnswerSet, IsComparing, IsCompleting, IsDelivered, IsDelivering, IsNewTo, are_cpus}
+use Rattle.pc_sim.specs.Exchange.{HasAll, IsAnswering, IsAnswerSet, IsComparing, IsCompleting, IsDelivered, IsDelivering, IsNewTo, are_cpus}
 use Rattle.pc_sim.specs.PlainWorld.{PlainWorld, Set, delivered, sending}
-use Rattle.pc_sim.specs.Shows.{AreSent, Does, ShowsAgent, ShowsDelta, ShowsWorld}
+use Rattle.pc_sim.specs.Shows.{AreSent, Does, ShowsAgent, ShowsWorld}
 use Rattle.pc_sim.proofs.Acting.{at_same, at_other, cpu_there, match_true, one_agent, takes_in}
 use Rattle.pc_sim.proofs.Consuming.{match_false, past_cpus}
 use Rattle.pc_sim.proofs.Sent.{sent_at, sent_length, sent_more, sent_none}
@@ -45,7 +45,7 @@ deliver_did old new c k agent more delta there asked kernel agents sent taken co
     let was = h.agents c agent there in
     let told = sent_at (kinds w.kernel) w.sent old.sent.items k delta h.sent asked in
     let here : ShowsAgent (kinds w.kernel) (w.seen c ++ told.0) (w.shown c) more =
-        takes_in (kinds w.kernel) (w.seen c) told.0 agent more delta (w.shown c) (w.shown c) was taken told.2 (count ∙ was.shown) in (
+    takes_in (kinds w.kernel) (w.seen c) told.0 agent more delta (w.shown c) (w.shown c) was taken told.2 (count ∙ was.shown) in (
       delivered w c told.0,
       match_true (is_cpu (shown w.kernel) c) _ _ (agent_there old w c agent h there) (subst (λ o. IsDelivered w c o replies.Done (delivered w c told.0)) (sym told.1) (refl, refl)),
       record {
@@ -61,16 +61,37 @@ deliver_did old new c k agent more delta there asked kernel agents sent taken co
       },
     )
 
-pub deliver_none : (world : World) (c k : ℕ) (agent : Agent) → slice_get world.agents.items c ≡ Some agent → slice_get world.sent.items k ≡ None → Does (IsDelivering c k) world world (replies.Refused refusal.NoDelta)
-deliver_none world c k agent there none w h = (
+-- a world with the same kernel, agents and deltas
+stays : (old new : World) (w : PlainWorld) → new.kernel ≡ old.kernel → new.agents ≡ old.agents → new.sent ≡ old.sent → ShowsWorld old w → ShowsWorld new w
+stays old new w kernel agents sent h = record {
+  kernel = subst (λ k. Shows k w.kernel) (sym kernel) h.kernel;
+  agents = λ d a e. h.agents d a (ap (λ v. slice_get v.items d) (sym agents) ∙ e);
+  sent = subst (λ v. AreSent (kinds w.kernel) w.sent v.items) (sym sent) h.sent;
+}
+
+pub deliver_none : (old new : World) (c k : ℕ) → c < old.kernel.limits.cpus → slice_get old.sent.items k ≡ None → new.kernel ≡ old.kernel → new.agents ≡ old.agents → new.sent ≡ old.sent
+    → Does (IsDelivering c k) old new (replies.Refused refusal.NoDelta)
+deliver_none old new c k low none kernel agents sent w h = (
   w,
-  match_true (is_cpu (shown w.kernel) c) _ _ (agent_there world w c agent h there)
-      (subst (λ o. IsDelivered w c o (replies.Refused refusal.NoDelta) w) (sym (sent_none (kinds w.kernel) w.sent world.sent.items k h.sent none)) (refl, refl)),
-  h,
+  match_true (is_cpu (shown w.kernel) c) _ _ (cpu_there old w h c low)
+      (subst (λ o. IsDelivered w c o (replies.Refused refusal.NoDelta) w) (sym (sent_none (kinds w.kernel) w.sent old.sent.items k h.sent none)) (refl, refl)),
+  stays old new w kernel agents sent h,
 )
 
-pub deliver_nowhere : (world : World) (c k : ℕ) → slice_get world.agents.items c ≡ None → Does (IsDelivering c k) world world (replies.Refused refusal.BadCpu)
-deliver_nowhere world c k none w h = (w, match_false (is_cpu (shown w.kernel) c) _ _ (past_cpus world w c h none) (record { refused = refl; same = refl }), h)
+pub deliver_nowhere : (old new : World) (c k : ℕ) → old.kernel.limits.cpus ≤ c → new.kernel ≡ old.kernel → new.agents ≡ old.agents → new.sent ≡ old.sent
+    → Does (IsDelivering c k) old new (replies.Refused refusal.BadCpu)
+deliver_nowhere old new c k high kernel agents sent w h = (
+  w,
+  match_false (is_cpu (shown w.kernel) c) _ _ (ap (λ r. is_cpu r c) (sym h.kernel.reads) ∙ not_below c old.kernel.limits.cpus high) (record { refused = refl; same = refl }),
+  stays old new w kernel agents sent h,
+)
+  where
+    not_below : (c n : ℕ) → n ≤ c → nat_lt c n ≡ false
+    not_below c n le = grind (arith, nat_tests)
+
+both : (a b : Bool) → a ≡ true → b ≡ true → (a && b) ≡ true
+both true b e f = f
+both false b e f = absurd (false≢true e)
 
 -- a digest was answered
 or_false : (b : Bool) → (b || false) ≡ b
@@ -91,8 +112,12 @@ module _ (pairs_law : (parts : List Part) → IsSameSet (set_of parts) (as_membe
     lacking = λ t n v d. sym (pairs_law delta (t ∷ n ∷ [])) ∙ answer.lacking (t ∷ n ∷ []) (mine (t ∷ n ∷ []) ∙ v) (same (t ∷ n ∷ []) ∙ theirs (t ∷ n ∷ []) ∙ d);
     within = λ t n v. sym (mine (t ∷ n ∷ [])) ∙ answer.within (t ∷ n ∷ []) (pairs_law delta (t ∷ n ∷ []) ∙ v);
     none_spare = All-weaker (λ part. IsNews (set_of_digest asked) (set_of_part part)) (IsNewTo digest)
-        (λ part news. (news.thread, news.number, part_has part news.thread news.number ∙ news.told,
-          sym (theirs (news.thread ∷ news.number ∷ [])) ∙ sym (same (news.thread ∷ news.number ∷ [])) ∙ news.lacking)) delta answer.none_spare;
+        (λ part news. (
+          news.thread,
+          news.number,
+          part_has part news.thread news.number ∙ news.told,
+          sym (theirs (news.thread ∷ news.number ∷ [])) ∙ sym (same (news.thread ∷ news.number ∷ [])) ∙ news.lacking,
+        )) delta answer.none_spare;
   }
 
   pub answer_did : (old new : World) (c asker : ℕ) (agent other : Agent) (digest : RangesByName) (delta : List Part) → slice_get old.agents.items c ≡ Some agent → slice_get old.agents.items asker ≡ Some other
@@ -116,10 +141,6 @@ module _ (pairs_law : (parts : List Part) → IsSameSet (set_of parts) (as_membe
               (sent_more (kinds w.kernel) w.sent old.sent.items gained delta h.sent record { of_run = answer.of_run (kinds w.kernel) mine.of_run; told = pairs_law delta });
         },
       )
-    where
-      both : (a b : Bool) → a ≡ true → b ≡ true → (a && b) ≡ true
-      both true b e f = f
-      both false b e f = absurd (false≢true e)
 
 -- one of two CPUs is not there
 first_missing : (a b : Bool) → a ≡ false → (a && b) ≡ false
@@ -142,3 +163,67 @@ answer_to_nobody world c asker none w h = (
   match_false (are_cpus w c asker) _ _ (second_missing (is_cpu (shown w.kernel) c) (is_cpu (shown w.kernel) asker) (past_cpus world w asker h none)) (record { refused = refl; same = refl }),
   h,
 )
+
+-- two views are told equal exactly where the same was taken in
+pub same_told : (world : World) (c other : ℕ) (agent their : Agent) (truth : Bool) → slice_get world.agents.items c ≡ Some agent → slice_get world.agents.items other ≡ Some their
+    → IsTrue truth ↔ (agent.view ≡ their.view) → ((run : Run) (a b : View) → IsOfRun run a → IsOfRun run b → IsSameSet (pairs_of a) (pairs_of b) → a ≡ b)
+    → (w : PlainWorld) → ShowsWorld world w → IsComparing w c other (replies.Sameness truth)
+same_told world c other agent their truth there too exact unique w h =
+    let mine = h.agents c agent there in
+    let theirs = h.agents other their too in
+    match_true (are_cpus w c other) _ _ (both (is_cpu (shown w.kernel) c) (is_cpu (shown w.kernel) other) (agent_there world w c agent h there) (agent_there world w other their h too)) record {
+      truth = truth;
+      same = (
+        λ t m. sym (mine.seen m) ∙ ap (λ v. pairs_of v m) (exact.0 t) ∙ theirs.seen m,
+        λ s. exact.1 (unique (kinds w.kernel) agent.view their.view mine.of_run theirs.of_run (λ m. mine.seen m ∙ s m ∙ sym (theirs.seen m))),
+      );
+      tells = refl;
+    }
+
+pub same_nowhere : (world : World) (c other : ℕ) → slice_get world.agents.items c ≡ None → (w : PlainWorld) → ShowsWorld world w → IsComparing w c other (replies.Refused refusal.BadCpu)
+same_nowhere world c other none w h =
+    match_false (are_cpus w c other) _ _ (first_missing (is_cpu (shown w.kernel) c) (is_cpu (shown w.kernel) other) (past_cpus world w c h none)) refl
+
+pub same_with_nobody : (world : World) (c other : ℕ) → slice_get world.agents.items other ≡ None → (w : PlainWorld) → ShowsWorld world w → IsComparing w c other (replies.Refused refusal.BadCpu)
+same_with_nobody world c other none w h =
+    match_false (are_cpus w c other) _ _ (second_missing (is_cpu (shown w.kernel) c) (is_cpu (shown w.kernel) other) (past_cpus world w other h none)) refl
+
+-- a view is complete exactly where the set has all of the thread
+module _ (prefix : (view : View) (thread n : ℕ) (told : Told) → thread_of view thread ≡ Some told → 1 ≤ n → n ≤ told.upto → pairs_of view (thread ∷ n ∷ []) ≡ true)
+    (missing : (run : Run) (view : View) (thread : ℕ) (told : Told) → IsOfRun run view → thread_of view thread ≡ Some told → pairs_of view (thread ∷ (told.upto + 1) ∷ []) ≡ false) where
+  upto_told : (view : View) (thread n : ℕ) (o : Option Told) → thread_of view thread ≡ o → 1 ≤ n → n ≤ option_map_or (λ told. told.upto) o 0 → pairs_of view (thread ∷ n ∷ []) ≡ true
+  upto_told view thread n None e low high = absurd (let no_room : ⊥ = omega arith in no_room)
+  upto_told view thread n (Some told) e low high = prefix view thread n told e low high
+
+  next_missing : (run : Run) (view : View) (thread : ℕ) (o : Option Told) → IsOfRun run view → thread_of view thread ≡ o → pairs_of view (thread ∷ (option_map_or (λ told. told.upto) o 0 + 1) ∷ []) ≡ false
+  next_missing run view thread None of_run e = ap (λ o. known_in numbers_of o (1 ∷ [])) e
+  next_missing run view thread (Some told) of_run e = missing run view thread told of_run e
+
+  has_all : (run : Run) (reads : Reads) (view : View) (set : Set) (thread : ℕ) → IsOfRun run view → IsSameSet (pairs_of view) (as_members set) → IsComplete view reads thread ↔ HasAll reads set thread
+  has_all run reads view set thread of_run same = (
+    λ h. record {
+      known = h.known;
+      all = λ n low high. let reached : number reads thread ≤ upto_of view thread = h.reached in
+          sym (same (thread ∷ n ∷ [])) ∙ upto_told view thread n (thread_of view thread) refl low (let le : n ≤ upto_of view thread = omega arith in le);
+    },
+    λ h. record {
+      known = h.known;
+      reached = elim (cases_lt (upto_of view thread) (number reads thread)) [
+        | inl short ↦
+            absurd (false≢true (sym (next_missing run view thread (thread_of view thread) of_run refl) ∙ same (thread ∷ (upto_of view thread + 1) ∷ [])
+            ∙ h.all (upto_of view thread + 1) (omega arith) (omega arith)))
+        | inr long ↦ long
+      ];
+    },
+  )
+
+  pub complete_told : (world : World) (c thread : ℕ) (agent : Agent) (truth : Bool) → slice_get world.agents.items c ≡ Some agent → IsTrue truth ↔ IsComplete agent.view (seen world.kernel) thread
+      → (w : PlainWorld) → ShowsWorld world w → IsCompleting w c thread (replies.Truth truth)
+  complete_told world c thread agent truth there exact w h =
+      let mine = h.agents c agent there in
+      let here : IsTrue truth ↔ IsComplete agent.view (shown w.kernel) thread = subst (λ r. IsTrue truth ↔ IsComplete agent.view r thread) h.kernel.reads exact in
+      let all = has_all (kinds w.kernel) (shown w.kernel) agent.view (w.seen c) thread mine.of_run mine.seen in
+      match_true (is_cpu (shown w.kernel) c) _ _ (agent_there world w c agent h there) record { truth = truth; complete = (λ t. all.0 (here.0 t), λ g. here.1 (all.1 g)); tells = refl }
+
+pub complete_nowhere : (world : World) (c thread : ℕ) → slice_get world.agents.items c ≡ None → (w : PlainWorld) → ShowsWorld world w → IsCompleting w c thread (replies.Refused refusal.BadCpu)
+complete_nowhere world c thread none w h = match_false (is_cpu (shown w.kernel) c) _ _ (past_cpus world w c h none) refl

@@ -1,6 +1,7 @@
 -- The deltas that were sent, and the delta of what a queue holds.
-use Rattle.std.proofs.Common.{◌≡◌, ℕ, zero, suc, List, [], ◌∷◌, ◌++◌, length, Some, None, slice_get, refl, sym, ◌∙◌, ap, subst, arith}
-use Rattle.std.proofs.lemmas.List.Elements.{All-cons, All-tail}
+use Rattle.std.proofs.Common.{◌≡◌, ℕ, zero, suc, ◌+◌, ◌<◌, take, get_or, List, [], ◌∷◌, ◌++◌, length, Some, None, slice_get, refl, sym, ◌∙◌, ap, subst, arith}
+use Rattle.std.proofs.lemmas.List.{take_more}
+use Rattle.std.proofs.lemmas.List.Elements.{All-cons, All-tail, filter_map-append}
 use Rattle.pc_messages.specs.Run.{Run}
 use Rattle.pc_messages.specs.declared.message.Item.{Item}
 use Rattle.pc_messages.specs.declared.message.Item.TheVariants.{Thread, Tick}
@@ -9,7 +10,7 @@ use Rattle.pc_delta.specs.declared.part.Part.{Part}
 use Rattle.pc_delta.specs.declared.part.Part.TheVariants.{One}
 use Rattle.pc_delta.specs.Parts.{AreOfRun, IsPartOfRun, pairs_of_parts, set_of}
 use Rattle.pc_sim.specs.Items as items
-use Rattle.pc_sim.specs.Items.{IsItemOf, parts_in}
+use Rattle.pc_sim.specs.Items.{IsItemOf, part_in, parts_in}
 use Rattle.pc_sim.specs.PlainWorld.{Set, pairs_in}
 use Rattle.pc_sim.specs.Shows.{AreSent, ShowsDelta}
 
@@ -62,3 +63,8 @@ parts_of_run run (Tick cpu ∷ more) h = parts_of_run run more (All-tail (IsItem
 
 pub delta_told : ((parts : List Part) → IsSameSet (set_of parts) (as_members (pairs_of_parts parts))) → (all : List Item) (delta : List Part) → delta ≡ parts_in all → IsSameSet (set_of delta) (as_members (pairs_in all))
 delta_told same all delta e m = same delta m ∙ ap (λ ps. as_members (pairs_of_parts ps) m) e ∙ ap (λ l. as_members l m) (parts_pairs all)
+
+-- one more item
+pub parts_more : (all : List Item) (i : ℕ) (item : Item) → i < length all → item ≡ get_or all i item → parts_in (take (i + 1) all) ≡ parts_in (take i all) ++ parts_in (item ∷ [])
+parts_more all i item low is =
+    ap parts_in (take_more all i item low ∙ ap (λ x. take i all ++ x ∷ []) (sym is)) ∙ filter_map-append part_in (take i all) (item ∷ [])

@@ -1,26 +1,23 @@
 -- What a machine shows, after each thing that it does.
-use Rattle.std.proofs.Common.{◌≡◌, ℕ, ◌+◌, ◌<◌, ◌||◌, Bool, true, false, List, [], ◌∷◌, ◌++◌, length, All, Option, Some, None, IsSome, IfOk, Result, Ok, Err, is_some, slice_get, get_or, refl, sym, ◌∙◌, ap, subst, arith, length-append}
+use Rattle.std.proofs.Common.{◌≡◌, ℕ, ◌+◌, false, List, [], ◌∷◌, ◌++◌, IfOk, Result, Ok, Err, slice_get, refl, sym, ◌∙◌, ap, subst, length-append}
 use Rattle.std.proofs.lemmas.List.Elements.{All-push, All-get_or}
 use Rattle.std.proofs.lemmas.Option.{slice_get_within, get_or_from_slice_get}
-use Rattle.pc_messages.specs.Run.{Run}
-use Rattle.pc_join.specs.Sets.{as_members, IsVoid}
+use Rattle.pc_join.specs.Sets.{as_members}
 use Rattle.pc_kernel.specs.declared.calls.Call.{Call}
 use Rattle.pc_kernel.specs.declared.calls.Answer.{Answer}
 use Rattle.pc_kernel.specs.declared.fault.KernelFault.{KernelFault}
 use Rattle.pc_kernel.specs.declared.limits.Limits.{Limits}
 use Rattle.pc_kernel.specs.Answers.{Shows, StepsInMemory, itself}
-use Rattle.pc_kernel.specs.PlainKernel.{PlainKernel, start, kinds}
+use Rattle.pc_kernel.specs.PlainKernel.{start, kinds}
 use Rattle.pc_kernel.specs.Steps.{after}
 use Rattle.pc_script.specs.declared.reply.Reply.{Reply}
-use Rattle.pc_view.specs.declared.view.View.{View}
-use Rattle.pc_view.specs.Views.{pairs_of, IsOfRun}
 use Rattle.pc_sim.specs.declared.agents.Agent.{Agent}
 use Rattle.pc_sim.specs.declared.world.World.{World}
 use Rattle.pc_sim.specs.Agents.{IsNew, AreNew}
-use Rattle.pc_sim.specs.PlainWorld.{PlainWorld, opened}
+use Rattle.pc_sim.specs.PlainWorld.{opened}
 use Rattle.pc_sim.specs.Session.{Tells, IsCall}
 use Rattle.pc_sim.specs.Keeping.{KeepsRun}
-use Rattle.pc_sim.specs.Shows.{AreSent, ShowsAgent, ShowsWorld, Does}
+use Rattle.pc_sim.specs.Shows.{AreSent, ShowsWorld, Does}
 use Rattle.pc_sim.proofs.Calls.{call_replied}
 use Rattle.pc_sim.proofs.Sent.{sent_stays}
 

@@ -1,5 +1,5 @@
 -- What agents tell each other: deltas that are delivered, answers to digests, and views compared.
-use Rattle.std.specs.Prelude.{ℕ, ◌≡◌, ◌≤◌, ◌↔◌, ◌++◌, ◌∷◌, [], ◌&&◌, Bool, true, false, IsTrue, List, length, Option, Some, None, All, MatchBool, slice_get}
+use Rattle.std.specs.Prelude.{ℕ, ◌≡◌, ◌≤◌, ◌↔◌, ◌&&◌, Bool, true, false, IsTrue, List, length, Option, Some, None, All, MatchBool, slice_get}
 use Rattle.pc_messages.specs.Run.{Run}
 use Rattle.pc_join.specs.Sets.{has, as_members, IsSameSet}
 use Rattle.pc_kernel.specs.PlainKernel.{kinds}

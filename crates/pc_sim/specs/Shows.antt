@@ -11,7 +11,7 @@ use Rattle.pc_sim.specs.declared.agents.Agent.{Agent}
 use Rattle.pc_sim.specs.declared.world.World.{World}
 use Rattle.pc_delta.specs.declared.part.Part.{Part}
 use Rattle.pc_delta.specs.Parts.{AreOfRun, set_of}
-use Rattle.pc_sim.specs.Items as items
+use Rattle.pc_sim.specs.Items.{AreOfRun as AreItemsOfRun}
 use Rattle.pc_sim.specs.PlainWorld.{PlainWorld, Set, published}
 use Rattle.pc_sim.specs.Session.{IsPublish}
 
@@ -44,4 +44,4 @@ Does step old new reply = (w : PlainWorld) → ShowsWorld old w → (w' : PlainW
 
 -- for every plain world that is shown before and whose queue holds these items, the reply is that of a publish, whose result is shown after
 abbrev pub Sends : ℕ → List Item → World → World → Reply → Type 0
-Sends c items old new reply = (w : PlainWorld) → ShowsWorld old w → content w.kernel c ≡ items → items.AreOfRun (kinds w.kernel) items → IsPublish w c reply (published w c) × ShowsWorld new (published w c)
+Sends c items old new reply = (w : PlainWorld) → ShowsWorld old w → content w.kernel c ≡ items → AreItemsOfRun (kinds w.kernel) items → IsPublish w c reply (published w c) × ShowsWorld new (published w c)

@@ -1,14 +1,13 @@
 //! Deltas: of what a queue holds, and of what one view tells beyond another.
 
-ghost use Rattle.std.specs.Prelude.{◌≡◌, IfOk};
+ghost use Rattle.std.specs.Prelude.{◌≡◌, [], ◌∷◌, ◌++◌, IfOk, OnOk, slice_get, option_copied};
 ghost use Rattle.pc_messages.specs.Run.{Run};
 ghost use Rattle.pc_join.specs.Sets.{IsSameSet, as_members};
 ghost use Rattle.pc_delta.specs.Parts.{AreOfRun, set_of};
 ghost use Rattle.pc_delta.specs.Digests.{RangesByName, set_of_digest};
 ghost use Rattle.pc_delta.specs.Exchange.{IsAnswer};
 ghost use Rattle.pc_view.specs.Views.{pairs_of};
-ghost use Rattle.pc_sim.specs.Items as items;
-ghost use Rattle.pc_sim.specs.Items.{parts_in};
+ghost use Rattle.pc_sim.specs.Items.{AreOfRun as AreItemsOfRun, parts_in};
 ghost use Rattle.pc_sim.specs.PlainWorld.{pairs_in};
 
 use pc_delta::answer::delta_since;
@@ -21,16 +20,26 @@ use pc_messages::message::Item;
 use pc_view::view::View;
 use std::alloc::{AllocError, Global};
 
+/// Adds the part that tells the item's message, where it has one.
+fn add_part(parts: &mut Vec<Part>, item: Item) -> Result<(), AllocError>
+    ensures { OnOk result (parts.new.items ≡ parts.old.items ++ parts_in (item ∷ [])) }
+{
+    match item {
+        Item::Thread(message) => {
+            parts.push(Part::One(message))?;
+            Ok(())
+        }
+        Item::Tick(_) => Ok(()),
+    }
+}
+
 /// The parts that tell each message of the items.
 fn parts_of(alloc: Global, items: &[Item]) -> Result<Vec<Part>, AllocError>
     ensures { IfOk result (λ parts. parts.items ≡ parts_in items.now) }
 {
     let mut parts = Vec::new(alloc);
     for item in items {
-        match *item {
-            Item::Thread(message) => parts.push(Part::One(message))?,
-            Item::Tick(_) => {}
-        }
+        add_part(&mut parts, *item)?;
     }
     Ok(parts)
 }
@@ -38,7 +47,7 @@ fn parts_of(alloc: Global, items: &[Item]) -> Result<Vec<Part>, AllocError>
 /// The delta that tells each message of the items, which are of one run; none for want of memory.
 pub fn delta_of(alloc: Global, items: &[Item]) -> Result<Delta, AllocError>
     ensures told { IfOk result (λ delta. IsSameSet (set_of delta) (as_members (pairs_in items.now))) }
-    ensures of_run { IfOk result (λ delta. (run : Run) → items.AreOfRun run items.now → AreOfRun run delta) }
+    ensures of_run { IfOk result (λ delta. (run : Run) → AreItemsOfRun run items.now → AreOfRun run delta) }
 {
     sets_are_pairs();
     let parts = parts_of(alloc, items)?;
@@ -54,4 +63,11 @@ pub fn answer_of(alloc: Global, view: &View, asker: &View) -> Result<Delta, OutO
 {
     let digest = Digest::of(alloc, asker)?;
     delta_since(alloc, view, &digest)
+}
+
+/// The delta with this index.
+pub fn delta_at(sent: &[Delta], index: u64) -> Option<&Delta>
+    ensures { option_copied result ≡ slice_get sent.now index }
+{
+    sent.get(index as usize)
 }

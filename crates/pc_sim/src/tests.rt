@@ -1,6 +1,7 @@
 //! Scripts over memory, with the replies that were written down by hand.
 
 mod calls;
+mod exchange;
 
 use crate::command_line::{Command, CommandFault, read_command};
 use crate::ending::Ending;

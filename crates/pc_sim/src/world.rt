@@ -11,7 +11,7 @@ ghost use Rattle.pc_sim.specs.Exchange.{IsAnswering, IsComparing, IsCompleting, 
 ghost use Rattle.pc_sim.specs.Session.{Tells, call_asked, IsAsleep, IsCall, IsConsuming, IsOwnStep, IsPublish, IsPublishing, IsRefusal, IsShow, IsShowing, IsStatus, IsWorldStep};
 
 use crate::agents::{Agent, new_agents};
-use crate::deltas::{answer_of, delta_of};
+use crate::deltas::{answer_of, delta_at, delta_of};
 use crate::names::{call_of, done_of, phase_of, posted_of, refusal_of};
 use crate::show::shown_threads;
 use pc_delta::delta::Delta;
@@ -27,7 +27,10 @@ use pc_messages::names::{Cpu, Tid};
 use pc_script::command::Command;
 use pc_script::reply::{Refusal, Reply, Status};
 use pc_view::audit::complete;
-use pc_view::view::{reads_are_those_of_the_run, views_of_the_same_messages_are_equal, views_stay_as_the_run_goes_on};
+use pc_view::view::{
+    equality_is_exact, reads_are_those_of_the_run, views_of_the_same_messages_are_equal,
+    views_stay_as_the_run_goes_on,
+};
 use std::alloc::{AllocError, Global};
 
 /// The kernel, its agents, and what they sent.
@@ -194,10 +197,10 @@ impl World {
     fn deliver(&mut self, cpu: Cpu, index: u64) -> Result<Reply, AllocError>
         ensures { IfOk result (Does (IsDelivering cpu index) self.old self.new) }
     {
-        if self.agent(cpu).is_none() {
+        if cpu.index() >= self.kernel.cpus() {
             return Ok(Reply::Refused(Refusal::BadCpu));
         }
-        match self.sent.get(index as usize) {
+        match delta_at(&self.sent, index) {
             None => Ok(Reply::Refused(Refusal::NoDelta)),
             Some(delta) => match take_in(&mut self.agents[cpu.index() as usize].view, delta) {
                 Err(_) => Err(AllocError),
@@ -207,17 +210,15 @@ impl World {
     }
 
     /// The agent sends what the asker's digest lacks.
-    fn answer_digest(
-        &mut self,
-        alloc: Global,
-        cpu: Cpu,
-        asker: Cpu,
-    ) -> Result<Reply, AllocError>
+    fn answer_digest(&mut self, alloc: Global, cpu: Cpu, asker: Cpu) -> Result<Reply, AllocError>
         ensures { IfOk result (Does (IsAnswering cpu asker) self.old self.new) }
     {
         sets_are_pairs();
         let index = self.sent.len() as u64;
-        let (Some(agent), Some(other)) = (self.agent(cpu), self.agent(asker)) else {
+        let Some(agent) = self.agent(cpu) else {
+            return Ok(Reply::Refused(Refusal::BadCpu));
+        };
+        let Some(other) = self.agent(asker) else {
             return Ok(Reply::Refused(Refusal::BadCpu));
         };
         match answer_of(alloc, &agent.view, &other.view) {
@@ -234,9 +235,13 @@ impl World {
         ensures { (w : PlainWorld) → ShowsWorld self.now w → IsComparing w cpu other result }
     {
         views_of_the_same_messages_are_equal();
-        match (self.agent(cpu), self.agent(other)) {
-            (Some(mine), Some(theirs)) => Reply::Sameness(mine.view == theirs.view),
-            _ => Reply::Refused(Refusal::BadCpu),
+        equality_is_exact();
+        match self.agent(cpu) {
+            None => Reply::Refused(Refusal::BadCpu),
+            Some(mine) => match self.agent(other) {
+                None => Reply::Refused(Refusal::BadCpu),
+                Some(theirs) => Reply::Sameness(mine.view == theirs.view),
+            },
         }
     }
 

@@ -2,7 +2,8 @@ use Rattle.std.proofs.Common.{◌≡◌, ◌<◌, Some, length, refl, sym, ap, �
 use Rattle.std.proofs.lemmas.Option.{same_Some, slice_get_within}
 use Rattle.pc_sim.specs.declared.agents.Agent.{Agent}
 use Rattle.pc_sim.proofs.Acting.{item_at}
-use Rattle.pc_sim.proofs.Consuming.{consume_did}
+use Rattle.pc_sim.proofs.Consuming.{consume_did, consume_refused}
+use Rattle.pc_sim.proofs.Worlds.{if_told}
 use Rattle.pc_sim.proofs.world.World.consume.Goals as goal
 
 pub returns-in-Ok : goal.returns-in-Ok
@@ -18,3 +19,8 @@ returns-in-Ok c =
     let is : more ≡ emptied c.in-Some.agent.now = ap emptied (sym same) in
     consume_did c.args.self.now _ c.args.cpu c.in-Some.agent.now more c.calls_keep_the_run.ensures found c.in-Ok.ensures.step is
     (ap (λ i. set c.args.self.now.agents.items i more) place) refl
+
+pub returns-in-Err : goal.returns-in-Err
+returns-in-Err c =
+    if_told c.refused.result _ _ c.refused.ensures
+    (λ told named. consume_refused c.args.self.now _ c.args.cpu c.in-Some.agent.now c.in-Err.fault told (sym c.in-Some.ensures) c.in-Err.ensures.step named c.in-Err.ensures.err refl refl)
