@@ -1,12 +1,12 @@
 -- Digests, and how far one has come.
-use Rattle.std.proofs.Common.{ℕ, ◌+◌, ◌<◌, ◌≤◌, ◌≡◌, ◌==◌, ◌^◌, ◌||◌, ◌&&◌, ◌⊎◌, Bool, true, false, IsTrue, ◌↔◌, List, [], ◌∷◌, Option, Some, None, IsSome, refl, sym, ap, ◌∙◌, subst, arith, inl, inr}
+use Rattle.std.proofs.Common.{ℕ, ◌+◌, ◌<◌, ◌≤◌, ◌≡◌, ◌==◌, ◌^◌, ◌||◌, ◌&&◌, ◌⊎◌, Bool, true, false, List, [], ◌∷◌, Option, Some, None, IsSome, refl, sym, ap, ◌∙◌, arith, inl, inr}
 use Rattle.std.specs.FinMap as map
 use Rattle.std.specs.Ordering.{nat_cmp}
 use Rattle.std.proofs.lemmas.Bool.Decides.{nat_tests}
-use Rattle.pc_join.specs.Sets.{Members, Source, IsVoid, IsWithin, IsUnion, IsSameSet, members_at}
-use Rattle.pc_join.specs.Ranges.{numbers_in, AreApart}
-use Rattle.pc_join.specs.ByName.{members_by_name, known_in, IsOfByName, IsLeastFrom, IsNextName, HasShortNames}
-use Rattle.pc_thread_view.specs.Told.{Told, numbers_of}
+use Rattle.pc_join.specs.Sets.{Members, IsVoid, IsWithin, IsUnion, IsSameSet, members_at}
+use Rattle.pc_join.specs.Ranges.{numbers_in}
+use Rattle.pc_join.specs.ByName.{known_in, IsLeastFrom, HasShortNames}
+use Rattle.pc_thread_view.specs.Told.{numbers_of}
 use Rattle.pc_view.specs.declared.view.View.{View}
 use Rattle.pc_view.specs.Views.{pairs_of, thread_of}
 use Rattle.pc_delta.specs.Digests.{RangesByName, set_of_digest, IsDigest}

@@ -1,6 +1,5 @@
 -- How far parts have been taken in.
-use Rattle.std.proofs.Common.{ℕ, ◌+◌, ◌<◌, ◌≤◌, ◌≡◌, ◌||◌, Bool, true, false, List, [], ◌∷◌, ◌++◌, length, drop, get_or, Option, Some, None, refl, sym, ap, ◌∙◌, subst}
-use Rattle.std.specs.List.{list_any}
+use Rattle.std.proofs.Common.{ℕ, ◌+◌, ◌<◌, ◌≤◌, ◌≡◌, ◌||◌, List, [], ◌∷◌, ◌++◌, length, drop, get_or, Option, Some, None, refl, sym, ap, ◌∙◌, subst}
 use Rattle.std.specs.Option.{option_or}
 use Rattle.std.proofs.lemmas.List.Folds.{list_any-append}
 use Rattle.pc_messages.specs.Run.{Run}
@@ -12,7 +11,7 @@ use Rattle.pc_delta.specs.declared.fault.DeltaFault.{DeltaFault}
 use Rattle.pc_delta.specs.Parts.{set_of_part, set_of, AreOfRun, IsPartOfRun, all_parts}
 use Rattle.pc_delta.specs.Faults.{first_fault, fault_of}
 use Rattle.pc_delta.specs.Exchange.{IsTakenIn, IsPartlyTakenIn}
-use Rattle.pc_delta.proofs.Bools.{or_left, or_right, or_none, or_assoc, or_again}
+use Rattle.pc_delta.proofs.Bools.{or_left, or_none, or_assoc, or_again}
 use Rattle.pc_delta.proofs.Lists.{all_left, all_right, all_first, left_item, none_left}
 
 pub set_of-append : (xs ys : List Part) (m : List ℕ) → set_of (xs ++ ys) m ≡ (set_of xs m || set_of ys m)

@@ -1,21 +1,20 @@
 -- Parts of one run, and of runs that go on from it.
-use Rattle.std.proofs.Common.{ℕ, suc, zero, ◌+◌, ◌-◌, ◌≡◌, ◌==◌, cond, Bool, true, false, List, [], ◌∷◌, ◌++◌, length, Option, Some, None, refl, sym, ap, subst, ◌∙◌}
-use Rattle.std.specs.List.{slice_get, All, Contains}
+use Rattle.std.proofs.Common.{ℕ, suc, zero, ◌-◌, ◌≡◌, ◌==◌, cond, Bool, true, false, List, [], ◌∷◌, ◌++◌, Option, Some, None, refl, sym, ap, subst, ◌∙◌}
+use Rattle.std.specs.List.{slice_get}
 use Rattle.std.proofs.lemmas.Bool.{false≢true}
 use Rattle.std.proofs.lemmas.List.Elements.{All-weaker}
 use Rattle.pc_messages.specs.declared.kind.Kind.{Kind}
-use Rattle.pc_messages.specs.declared.message.Message.{Message}
 use Rattle.pc_messages.specs.declared.reported.Reported.{Reported}
 use Rattle.pc_messages.specs.Run.{Run, Extends, kind_at}
 use Rattle.pc_join.specs.Sets.{Source, source_at}
-use Rattle.pc_thread_view.specs.Told.{Told, IsOfThread, IsPrefix}
+use Rattle.pc_thread_view.specs.Told.{Told, IsPrefix}
 use Rattle.pc_thread_view.specs.ToldLaws.{unique_told, stays_told}
 use Rattle.pc_view.specs.Views.{source_of, IsPrefixOfRun}
 use Rattle.pc_view.proofs.Runs.{goes_on, folded_of}
 use Rattle.pc_delta.specs.declared.part.Part.{Part}
 use Rattle.pc_delta.specs.declared.part.Part.TheVariants.{One, Folded}
 use Rattle.pc_delta.specs.Parts.{IsPartOfRun, AreOfRun}
-use Rattle.pc_delta.specs.Faults.{place_of, IsConflict, HasNoConflict}
+use Rattle.pc_delta.specs.Faults.{place_of, HasNoConflict}
 use Rattle.pc_delta.proofs.Lists.{all_at}
 
 -- two states of one prefix of a run

@@ -1,5 +1,5 @@
 -- What the first fault of parts can be, and what stands where there is no conflict.
-use Rattle.std.proofs.Common.{ℕ, ◌≡◌, ◌==◌, nat_lt, ◌*◌, Bool, true, false, List, [], ◌∷◌, Option, Some, None, Result, Err, refl, sym, ap, ◌∙◌, subst}
+use Rattle.std.proofs.Common.{ℕ, ◌≡◌, ◌==◌, nat_lt, ◌*◌, Bool, true, false, List, [], ◌∷◌, Option, Some, None, Result, Err, refl, ◌∙◌, subst}
 use Rattle.std.specs.Option.{option_or}
 use Rattle.pc_messages.specs.Run.{is_created}
 use Rattle.pc_delta.specs.declared.part.Part.{Part}

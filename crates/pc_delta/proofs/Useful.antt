@@ -1,5 +1,5 @@
 -- Parts that a digest asks for.
-use Rattle.std.proofs.Common.{ℕ, ◌+◌, ◌<◌, ◌≤◌, ◌≡◌, ◌==◌, ◌⊎◌, ◌||◌, ◌&&◌, nat_le, nat_lt, Bool, true, false, IsFalse, List, [], ◌∷◌, ◌++◌, length, drop, get_or, Option, Some, None, IsSome, refl, sym, ap, ◌∙◌, subst, arith, inl, inr}
+use Rattle.std.proofs.Common.{ℕ, ◌+◌, ◌<◌, ◌≤◌, ◌≡◌, ◌==◌, ◌⊎◌, ◌||◌, nat_lt, true, false, List, [], ◌∷◌, ◌++◌, length, drop, get_or, Option, Some, None, IsSome, refl, sym, ap, ◌∙◌, subst, arith, inl, inr}
 use Rattle.std.specs.List.{All}
 use Rattle.std.specs.Option.{is_some, option_or, MatchOption}
 use Rattle.std.specs.FinMap as map
@@ -7,12 +7,11 @@ use Rattle.std.proofs.lemmas.Bool.{false≢true}
 use Rattle.std.proofs.lemmas.Bool.Decides.{nat_tests}
 use Rattle.std.proofs.lemmas.List.Elements.{All-push, All-weaker}
 use Rattle.pc_messages.specs.declared.kind.Kind.{Kind}
-use Rattle.pc_messages.specs.declared.message.Message.{Message}
 use Rattle.pc_messages.specs.Run.{Run, is_created, kind_at}
 use Rattle.pc_join.specs.Sets.{Members, IsWithin, members_at, source_at}
 use Rattle.pc_join.specs.Ranges.{in_ranges, numbers_in, IsFirstMissing}
 use Rattle.pc_join.specs.ByName.{known_in, IsLeastFrom}
-use Rattle.pc_thread_view.specs.Told.{Told, IsSound, AreTold, AreLater, RiseAbove, HasEach, numbers_of, tells, only, in_prefix, is_early, written}
+use Rattle.pc_thread_view.specs.Told.{Told, IsSound, AreTold, RiseAbove, HasEach, numbers_of, only, in_prefix, is_early, written}
 use Rattle.pc_thread_view.specs.ToldLaws.{same_kind, written_some}
 use Rattle.pc_view.specs.declared.view.View.{View}
 use Rattle.pc_view.specs.Views.{pairs_of, thread_of, pair, source_of, written_at, IsOfRun}
@@ -20,7 +19,7 @@ use Rattle.pc_delta.specs.declared.part.Part.{Part}
 use Rattle.pc_delta.specs.declared.part.Part.TheVariants.{One}
 use Rattle.pc_delta.specs.declared.fault.DeltaFault.TheVariants as fault
 use Rattle.pc_delta.specs.Faults.{first_fault, first_of, fault_of, is_misplaced}
-use Rattle.pc_delta.specs.Parts.{set_of_part, set_of, IsPartOfRun, AreOfRun}
+use Rattle.pc_delta.specs.Parts.{set_of_part, set_of, IsPartOfRun}
 use Rattle.pc_delta.specs.Digests.{RangesByName, set_of_digest}
 use Rattle.pc_delta.specs.Exchange.{IsAnswer}
 use Rattle.pc_delta.specs.Answering.{IsLacking, IsUseful, IsUsefulOf, IsToldAt, IsOneOf, KnowsPrefix, TellsPrefix, known_of, listed}

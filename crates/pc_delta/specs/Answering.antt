@@ -1,5 +1,5 @@
 -- How far an answer has come: parts that a digest asks for, and the threads that they tell.
-use Rattle.std.specs.Prelude.{ℕ, ◌≡◌, ◌<◌, true, false, List, [], ◌∷◌, None, Some, Option}
+use Rattle.std.specs.Prelude.{ℕ, ◌≡◌, true, false, List, [], ◌∷◌, None, Some, Option}
 use Rattle.pc_messages.specs.Run.{Run}
 use Rattle.pc_join.specs.Sets.{Members, IsWithin, members_at, source_at}
 use Rattle.pc_join.specs.Ranges.{numbers_in}
@@ -8,7 +8,6 @@ use Rattle.pc_thread_view.specs.Told.{Told, IsOfThread, numbers_of, in_prefix}
 use Rattle.pc_view.specs.declared.view.View.{View}
 use Rattle.pc_view.specs.Views.{pairs_of, source_of, IsOfRun}
 use Rattle.pc_messages.specs.declared.kind.Kind.{Kind}
-use Rattle.pc_messages.specs.declared.message.Message.{Message}
 use Rattle.pc_delta.specs.declared.part.Part.{Part}
 use Rattle.pc_delta.specs.declared.part.Part.TheVariants.{One}
 use Rattle.pc_delta.specs.Parts.{set_of_part, set_of, IsPartOfRun}

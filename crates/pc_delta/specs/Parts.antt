@@ -1,5 +1,5 @@
 -- Parts of a delta: the messages that they tell, and the runs that they are of.
-use Rattle.std.specs.Prelude.{ℕ, ◌≡◌, List, [], ◌∷◌, ◌++◌, map, Some, All, flat_map}
+use Rattle.std.specs.Prelude.{ℕ, ◌≡◌, List, [], ◌∷◌, map, Some, All, flat_map}
 use Rattle.std.specs.List.{list_any, range_with_len}
 use Rattle.pc_messages.specs.Run.{Run, kind_at}
 use Rattle.pc_join.specs.Sets.{Members}

@@ -1,13 +1,10 @@
 -- Parts worked by hand: the first fault of lists, and the pairs that parts tell.
-use Rattle.std.specs.Prelude.{ℕ, ◌≡◌, false, true, List, [], ◌∷◌, Some, None}
+use Rattle.std.specs.Prelude.{ℕ, ◌≡◌, false, true, [], ◌∷◌, Some, None}
 use Rattle.pc_messages.specs.declared.kind.Kind.{Kind}
 use Rattle.pc_messages.specs.declared.kind.Kind.TheVariants.{Created, Blocked, Wakeup}
-use Rattle.pc_messages.specs.declared.message.Message.{Message}
 use Rattle.pc_messages.specs.declared.reported.Phase.TheVariants as phase
-use Rattle.pc_messages.specs.declared.reported.Reported.{Reported}
 use Rattle.pc_delta.specs.declared.part.Part.{Part}
 use Rattle.pc_delta.specs.declared.part.Part.TheVariants.{One, Folded}
-use Rattle.pc_delta.specs.declared.fault.DeltaFault.{DeltaFault}
 use Rattle.pc_delta.specs.declared.fault.DeltaFault.TheVariants.{ZeroNumber, NumberTooLarge, CreatedMisplaced, RanTooLarge}
 use Rattle.pc_delta.specs.Faults.{first_fault, place_of}
 use Rattle.pc_delta.specs.Parts.{pairs_of_parts}

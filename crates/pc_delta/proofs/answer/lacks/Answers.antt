@@ -1,4 +1,4 @@
-use Rattle.std.proofs.Common.{subst, sym, ap, ◌∙◌, IsTrue, IsFalse}
+use Rattle.std.proofs.Common.{subst, sym, ◌∙◌}
 use Rattle.std.specs.Option.{option_copied}
 use Rattle.pc_delta.specs.Answering.{IsLacking, known_of}
 use Rattle.pc_delta.proofs.Useful.{lacking_of}

@@ -1,5 +1,4 @@
-use Rattle.std.proofs.Common.{subst, sym, ap, ◌∙◌, ◌≡◌}
-use Rattle.pc_delta.specs.Digests.{RangesByName}
+use Rattle.std.proofs.Common.{sym, ◌∙◌}
 use Rattle.pc_delta.proofs.Digesting.{covers_both, same_both}
 use Rattle.pc_delta.proofs.digest.is_same.Goals as goal
 
