@@ -117,9 +117,9 @@ def kernel_calls(lines):
             queue = chance.randrange(CPUS)
             threads.create(queue)
             yield f"create {queue} {2**CPUS - 1} ready"
-        elif line % 32 == 0:
-            yield f"publish {line // 32 % CPUS}"
         elif line % 32 == 1:
+            yield f"publish {line // 32 % CPUS}"
+        elif line % 32 == 2:
             yield threads.consume(line // 32 % CPUS)
         elif chance.random() < 0.8:
             running = threads.running[chance.randrange(CPUS)]
