@@ -3,6 +3,12 @@
 
     generate.py first-run LINES     creates, wakes, reads of status words, and now and then a queue published and a view shown
     generate.py kernel-calls LINES  all calls of the kernel: threads that are committed, leave their CPU and are woken, and queues consumed
+    generate.py kernel-only LINES   the same without publish and consume, so that no view grows
+    generate.py late LINES          one thread's messages, a delta each, delivered to another agent in descending order: four lines for each
+    generate.py answer-empty LINES  4,096 threads, and then answers to an agent that knows none of them
+    generate.py answer-half LINES   the same to an agent that knows half of them
+    generate.py answer-equal LINES  the same to an agent that knows all of them
+    generate.py big-delta LINES     a queue of 65,536 messages, published again and again
 """
 import random
 import sys
@@ -128,7 +134,65 @@ def kernel_calls(lines):
             yield cpu_call(chance, threads, chance.randrange(CPUS))
 
 
-SCRIPTS = {"first-run": first_run, "kernel-calls": kernel_calls}
+def kernel_only(lines):
+    """The kernel's calls without those by which agents learn."""
+    for command in kernel_calls(lines):
+        if command.startswith(("publish", "consume", "associate")):
+            yield "status t7"
+        else:
+            yield command
+
+
+def late(lines):
+    """Early messages that arrive in descending order, the first message last."""
+    yield "enclave 2 8 1000000 65536 4294967295"
+    count = lines // 4
+    for number in range(count):
+        yield "create 0 3 ready" if number == 0 else "affinity t0 3"
+        yield "publish 0"
+        yield "consume 0"
+    for number in reversed(range(count)):
+        yield f"deliver 1 {number}"
+
+
+def answers(known):
+    """Answers of an agent that knows 4,096 threads to one that knows so many of them."""
+
+    def script(lines):
+        yield f"enclave 2 {THREADS} 1000000 65536 4294967295"
+        for thread in range(THREADS):
+            yield "create 0 3 ready"
+            if thread + 1 in (THREADS // 2, THREADS):
+                yield "publish 0"
+        if known:
+            yield f"deliver 1 {known - 1}"
+        for _ in range(THREADS + 4, lines):
+            yield "answer 0 1"
+
+    return script
+
+
+def big_delta(lines):
+    """One queue as full as may be, of four threads, published as often as lines are left."""
+    yield "enclave 2 8 1000000 65536 4294967295"
+    for thread in range(4):
+        yield "create 0 3 ready"
+    for number in range(4, 65536):
+        yield f"affinity t{number % 4} 3"
+    for _ in range(65537, lines):
+        yield "publish 0"
+
+
+SCRIPTS = {
+    "first-run": first_run,
+    "kernel-calls": kernel_calls,
+    "kernel-only": kernel_only,
+    "late": late,
+    "answer-empty": answers(0),
+    "answer-half": answers(1),
+    "answer-equal": answers(2),
+    "big-delta": big_delta,
+}
 
 
 def main():
