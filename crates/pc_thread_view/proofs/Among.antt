@@ -1,5 +1,5 @@
 -- Whether messages are among others that ascend.
-use Rattle.std.proofs.Common.{ℕ, ◌+◌, ◌-◌, ◌<◌, ◌≤◌, ◌≡◌, ◌==◌, ◌⊎◌, ◌||◌, nat_le, Bool, true, false, IsTrue, ◌↔◌, List, [], ◌∷◌, ◌++◌, length, take, drop, get_or, take-append-drop, refl, sym, ap, ◌∙◌, subst, arith, inl, inr, None}
+use Rattle.std.proofs.Common.{ℕ, ◌+◌, ◌-◌, ◌<◌, ◌≤◌, ◌≡◌, ◌==◌, ◌⊎◌, ◌||◌, nat_le, Bool, true, false, IsTrue, ◌↔◌, List, [], ◌∷◌, length, refl, sym, ap, ◌∙◌, subst, arith, inl, inr, None}
 use Rattle.std.proofs.lemmas.Bool.{false≢true}
 use Rattle.std.proofs.lemmas.Bool.Decides.{nat_tests}
 use Rattle.pc_messages.specs.declared.kind.Kind.{Kind}
@@ -8,69 +8,12 @@ use Rattle.pc_join.specs.Sets.{Source, IsWithin, IsVoid}
 use Rattle.pc_thread_view.specs.ToldLaws.{lacks_below}
 use Rattle.pc_thread_view.proofs.Gaining.{rise_from}
 
--- by halves
-lacks_later : (n : ℕ) (low : List (ℕ × Kind)) (e : ℕ × Kind) (high : List (ℕ × Kind)) (m : ℕ) → RiseAbove n (low ++ e ∷ high) → m < e.0 → is_early (low ++ e ∷ high) m ≡ is_early low m
-lacks_later n [] e high m h lt = lacks_below (e.0 - 1) (e ∷ high) m (omega arith, h.1) (omega arith)
-lacks_later n (d ∷ low) e high m h lt = ap (λ b. (d.0 == m) || b) (lacks_later d.0 low e high m h.1 lt)
-
-first_above : (n : ℕ) (low : List (ℕ × Kind)) (e : ℕ × Kind) (high : List (ℕ × Kind)) → RiseAbove n (low ++ e ∷ high) → n < e.0
-first_above n [] e high h = h.0
-first_above n (d ∷ low) e high h = let g = first_above d.0 low e high h.1 in omega arith
-
 other_number : (a b : ℕ) → a < b → (a == b) ≡ false
 other_number a b h = grind (arith, nat_tests)
-
-lacks_earlier : (n : ℕ) (low : List (ℕ × Kind)) (e : ℕ × Kind) (high : List (ℕ × Kind)) (m : ℕ) → RiseAbove n (low ++ e ∷ high) → e.0 ≤ m → is_early (low ++ e ∷ high) m ≡ is_early (e ∷ high) m
-lacks_earlier n [] e high m h le = refl
-lacks_earlier n (d ∷ low) e high m h le =
-    let g = first_above d.0 low e high h.1 in
-    ap (λ b. b || is_early (low ++ e ∷ high) m) (other_number d.0 m (omega arith)) ∙ lacks_earlier d.0 low e high m h.1 le
-
-rise_low : (n : ℕ) (low high : List (ℕ × Kind)) → RiseAbove n (low ++ high) → RiseAbove n low
-rise_low n [] high h = tt
-rise_low n (d ∷ low) high h = (h.0, rise_low d.0 low high h.1)
-
-rise_high : (n : ℕ) (low high : List (ℕ × Kind)) → RiseAbove n (low ++ high) → RiseAbove 0 high
-rise_high n [] high h = rise_from n 0 high (omega arith) h
-rise_high n (d ∷ low) high h = rise_high d.0 low high h.1
-
--- the part has the number where the messages have it
-pub record IsPart (early part : List (ℕ × Kind)) (m : ℕ) : Type 0 where
-  pub same : is_early early m ≡ is_early part m
-  pub rise : RiseAbove 0 part
-
-halves : (part low high : List (ℕ × Kind)) (k : ℕ) → low ≡ take k part → high ≡ drop k part → part ≡ low ++ high
-halves part low high k e f = sym (take-append-drop k part) ∙ ap (λ x. x ++ drop k part) (sym e) ∙ ap (λ x. low ++ x) (sym f)
-
-pub half_low : (early part low high : List (ℕ × Kind)) (d : ℕ × Kind) (k m : ℕ) → IsPart early part m → low ≡ take k part → high ≡ drop k part → 0 < length high → m < (get_or high 0 d).0 → IsPart early low m
-half_low early part low [] d k m p e f some lt = absurd (omega arith)
-half_low early part low (r ∷ high) d k m p e f some lt =
-    let there : IsPart early (low ++ r ∷ high) m = subst (λ x. IsPart early x m) (halves part low (r ∷ high) k e f) p in
-    record { same = there.same ∙ lacks_later 0 low r high m there.rise lt; rise = rise_low 0 low (r ∷ high) there.rise }
-
-pub half_high : (early part low high : List (ℕ × Kind)) (d : ℕ × Kind) (k m : ℕ) → IsPart early part m → low ≡ take k part → high ≡ drop k part → 0 < length high → (get_or high 0 d).0 ≤ m → IsPart early high m
-half_high early part low [] d k m p e f some le = absurd (omega arith)
-half_high early part low (r ∷ high) d k m p e f some le =
-    let there : IsPart early (low ++ r ∷ high) m = subst (λ x. IsPart early x m) (halves part low (r ∷ high) k e f) p in
-    record { same = there.same ∙ lacks_earlier 0 low r high m there.rise le; rise = rise_high 0 low (r ∷ high) there.rise }
-
-or_none : (b : Bool) → b ≡ (b || false)
-or_none true = refl
-or_none false = refl
-
-one_left : (e : ℕ × Kind) (rest : List (ℕ × Kind)) (m : ℕ) → length (e ∷ rest) ≤ 1 → (e.0 == m) ≡ is_early (e ∷ rest) m
-one_left e [] m h = or_none (e.0 == m)
-one_left e (d ∷ ds) m h = absurd (omega arith)
-
-pub part_one : (early part rest : List (ℕ × Kind)) (e : ℕ × Kind) (m : ℕ) → IsPart early part m → part ≡ e ∷ rest → length part ≤ 1 → (e.0 == m) ≡ is_early early m
-part_one early part rest e m p f h = one_left e rest m (subst (λ x. length x ≤ 1) f h) ∙ sym (ap (λ x. is_early x m) f) ∙ sym p.same
 
 pub no_items : (xs : List (ℕ × Kind)) → length xs ≡ 0 → xs ≡ []
 no_items [] e = refl
 no_items (x ∷ xs) e = absurd (omega arith)
-
-pub part_none : (early part : List (ℕ × Kind)) (m : ℕ) → IsPart early part m → length part ≡ 0 → false ≡ is_early early m
-part_none early part m p e = sym (p.same ∙ ap (λ x. is_early x m) (no_items part e))
 
 -- by one walk
 pub record IsWalk (upto : ℕ) (mine others held asked : List (ℕ × Kind)) : Type 0 where

@@ -52,7 +52,7 @@ pub none_early : (n : ℕ) (early : List (ℕ × Kind)) → RiseAbove n early �
 none_early n [] h k = refl
 none_early n (e ∷ es) h k = absurd (omega arith)
 
-kinds_push : (s : Source) (n : ℕ) (kinds : List Kind) (kind : Kind) → HasKinds s n kinds → s ((n + length kinds + 1) ∷ []) ≡ written kind → HasKinds s n (kinds ++ kind ∷ [])
+pub kinds_push : (s : Source) (n : ℕ) (kinds : List Kind) (kind : Kind) → HasKinds s n kinds → s ((n + length kinds + 1) ∷ []) ≡ written kind → HasKinds s n (kinds ++ kind ∷ [])
 kinds_push s n [] kind h e = (subst (λ m. s (m ∷ []) ≡ written kind) (at n) e, tt)
   where
     at : (n : ℕ) → n + 0 + 1 ≡ n + 1
@@ -121,7 +121,7 @@ or_assoc false b c = refl
 pub is_early-push : (early : List (ℕ × Kind)) (e : ℕ × Kind) (n : ℕ) → is_early (early ++ e ∷ []) n ≡ (is_early early n || (n == e.0))
 is_early-push early e n = list_any-append (λ d. d.0 == n) early (e ∷ []) ∙ ap (λ b. is_early early n || b) (sym (or_none (e.0 == n)) ∙ eq_sym n e.0)
 
-not_created : (number : ℕ) (kind : Kind) → IsTrue (is_created kind) ↔ (number ≡ 1) → 2 ≤ number → IsFalse (is_created kind)
+pub not_created : (number : ℕ) (kind : Kind) → IsTrue (is_created kind) ↔ (number ≡ 1) → 2 ≤ number → IsFalse (is_created kind)
 not_created number kind h e = by_test (is_created kind) h.0
   where
     by_test : (b : Bool) → (IsTrue b → number ≡ 1) → IsFalse b

@@ -1,3 +1,6 @@
 pub mod Among
 pub mod Gaining
 pub mod Taking
+pub mod Settling
+pub mod Places
+pub mod Slots

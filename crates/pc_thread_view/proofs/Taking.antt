@@ -1,5 +1,5 @@
 -- Two lists of messages, taken in by turns.
-use Rattle.std.proofs.Common.{ℕ, ◌+◌, ◌<◌, ◌≤◌, ◌≡◌, ◌==◌, ◌||◌, Bool, true, false, List, [], ◌∷◌, ◌++◌, Option, refl, sym, ap, ◌∙◌, subst, arith, inl, inr}
+use Rattle.std.proofs.Common.{ℕ, ◌+◌, ◌<◌, ◌≤◌, ◌≡◌, ◌==◌, ◌||◌, Bool, true, false, List, [], ◌∷◌, ◌++◌, length, get_or, refl, sym, ap, ◌∙◌, subst, arith, inl, inr}
 use Rattle.std.proofs.lemmas.Bool.{false≢true}
 use Rattle.std.proofs.lemmas.Bool.Decides.{nat_tests}
 use Rattle.pc_messages.specs.declared.kind.Kind.{Kind}
@@ -7,7 +7,7 @@ use Rattle.pc_messages.specs.Run.{IsWellFormed}
 use Rattle.pc_join.specs.Sets.{Source}
 use Rattle.pc_join.specs.Ranges.{IsEither, IsAmid}
 use Rattle.pc_join.specs.Turns.{IsNotAfter, IsTurn}
-use Rattle.pc_thread_view.specs.Told.{Told, IsSound, IsOfThread, Gains, NoneAbove, NoneAfter, RiseAbove, AreTold, HasEach, IsGreaterPrefix, IsTaking, tells, is_early, in_prefix}
+use Rattle.pc_thread_view.specs.Told.{Told, IsSound, IsOfThread, Gains, NoneAbove, NoneAfter, RiseAbove, AreTold, HasEach, IsTaking, tells, is_early, in_prefix, written}
 use Rattle.pc_thread_view.proofs.Gaining.{rise_from}
 
 pub taking_start : (old : Told) (first other : List (ℕ × Kind)) → IsSound old → AreTold first → AreTold other → NoneAfter old.early first → NoneAfter old.early other → IsTaking old first other old first other
@@ -34,7 +34,7 @@ first_well_formed e es h = record {
   created = (λ t. absurd (false≢true (sym h.later.1 ∙ t)), λ one. absurd (let k = h.rise.0 in omega arith));
 }
 
-told_rest : (e : ℕ × Kind) (es : List (ℕ × Kind)) → AreTold (e ∷ es) → AreTold es
+pub told_rest : (e : ℕ × Kind) (es : List (ℕ × Kind)) → AreTold (e ∷ es) → AreTold es
 told_rest e es h = record { rise = rise_from e.0 1 es (let k = h.rise.0 in omega arith) h.rise.1; later = h.later.2 }
 
 module _ {old now : Told} {first other left right : List (ℕ × Kind)} where
@@ -141,31 +141,6 @@ after_none early e (d ∷ ds) = subst (NoneAbove d.0) (sym e) tt
 pub early_told : (v : Told) → IsSound v → AreTold v.early
 early_told v h = record { rise = rise_from (v.upto + 1) 1 v.early (omega arith) h.gap; later = h.early }
 
--- the greater prefix
-pub greater_first : (upto other_upto : ℕ) (state other_state : Option _) (early other_early : List (ℕ × Kind)) → other_upto ≤ upto → IsSound (record { upto = upto; state = state; early = early })
-    → IsGreaterPrefix (record { upto = upto; state = state; early = early }) (record { upto = other_upto; state = other_state; early = other_early }) (record { upto = upto; state = state; early = [] })
-greater_first upto other_upto state other_state early other_early h sound = record {
-  sound = record { state = sound.state; upto_fits = sound.upto_fits; gap = tt; early = tt };
-  union = λ n. wider upto other_upto n h;
-  none = refl;
-  of_source = λ s f g. record { prefix = f.prefix; gap = tt; early = tt };
-}
-  where
-    wider : (u t n : ℕ) → t ≤ u → in_prefix u n ≡ (in_prefix u n || in_prefix t n)
-    wider u t n h = grind (arith, nat_tests)
-
-pub greater_other : (upto other_upto : ℕ) (state other_state : Option _) (early other_early : List (ℕ × Kind)) → upto < other_upto → IsSound (record { upto = other_upto; state = other_state; early = other_early })
-    → IsGreaterPrefix (record { upto = upto; state = state; early = early }) (record { upto = other_upto; state = other_state; early = other_early }) (record { upto = other_upto; state = other_state; early = [] })
-greater_other upto other_upto state other_state early other_early h sound = record {
-  sound = record { state = sound.state; upto_fits = sound.upto_fits; gap = tt; early = tt };
-  union = λ n. wider upto other_upto n h;
-  none = refl;
-  of_source = λ s f g. record { prefix = g.prefix; gap = tt; early = tt };
-}
-  where
-    wider : (u t n : ℕ) → u < t → in_prefix t n ≡ (in_prefix u n || in_prefix t n)
-    wider u t n h = grind (arith, nat_tests)
-
 -- a join in place
 mid : (p q f a b : Bool) → (q ≡ true → p ≡ true) → ((p || a) || (false || b)) ≡ ((p || a) || (q || b))
 mid true q f a b h = refl
@@ -176,31 +151,55 @@ less_prefix : (t u n : ℕ) → t ≤ u → in_prefix t n ≡ true → in_prefix
 less_prefix t u n h e = grind (arith, nat_tests)
 
 module _ (a b v : Told) (h : b.upto ≤ a.upto) where
-  in_place : (n : ℕ) → (tells a n || (is_early [] n || is_early b.early n)) ≡ (tells a n || tells b n)
+  in_place : (n : ℕ) → (tells a n || is_early b.early n) ≡ (tells a n || tells b n)
   in_place n = mid (in_prefix a.upto n) (in_prefix b.upto n) false (is_early a.early n) (is_early b.early n) (less_prefix b.upto a.upto n h)
 
-  pub union_in_place : IsEither (tells a) (λ n. is_early [] n || is_early b.early n) (tells v) → IsEither (tells a) (tells b) (tells v)
+  pub union_in_place : IsEither (tells a) (is_early b.early) (tells v) → IsEither (tells a) (tells b) (tells v)
   union_in_place e n = e n ∙ in_place n
 
-  pub amid_in_place : IsAmid (tells a) (λ n. is_early [] n || is_early b.early n) (tells v) → IsAmid (tells a) (tells b) (tells v)
+  pub amid_in_place : IsAmid (tells a) (is_early b.early) (tells v) → IsAmid (tells a) (tells b) (tells v)
   amid_in_place e = record { at_least = e.at_least; at_most = λ n k. sym (in_place n) ∙ e.at_most n k }
 
+-- a join after the other's prefix was taken in
+or_assoc : (a b c : Bool) → ((a || b) || c) ≡ (a || (b || c))
+or_assoc true b c = refl
+or_assoc false b c = refl
+
+module _ (a b m v : Told) (e : IsEither (tells a) (in_prefix b.upto) (tells m)) where
+  pub union_advanced : IsEither (tells m) (is_early b.early) (tells v) → IsEither (tells a) (tells b) (tells v)
+  union_advanced f n = f n ∙ ap (λ t. t || is_early b.early n) (e n) ∙ or_assoc (tells a n) (in_prefix b.upto n) (is_early b.early n)
+
+  pub amid_advanced : IsAmid (tells m) (is_early b.early) (tells v) → IsAmid (tells a) (tells b) (tells v)
+  amid_advanced f = record {
+    at_least = λ n k. f.at_least n (e n ∙ or_left (tells a n) (in_prefix b.upto n) k);
+    at_most = λ n k. sym (or_assoc (tells a n) (in_prefix b.upto n) (is_early b.early n)) ∙ ap (λ t. t || is_early b.early n) (sym (e n)) ∙ f.at_most n k;
+  }
+
 -- a join all anew
-shuffled : (p q a b : Bool) → (((p || q) || false) || (a || b)) ≡ ((p || a) || (q || b))
-shuffled true q a b = refl
-shuffled false true true b = refl
-shuffled false true false b = refl
-shuffled false false a b = refl
+shuffled : (p a b : Bool) → ((p || false) || (a || b)) ≡ ((p || a) || b)
+shuffled true a b = refl
+shuffled false a b = refl
 
-module _ (a b p v : Told) (g : IsGreaterPrefix a b p) where
-  anew : (n : ℕ) → (tells p n || (is_early a.early n || is_early b.early n)) ≡ (tells a n || tells b n)
-  anew n =
-      ap (λ t. (t || is_early p.early n) || (is_early a.early n || is_early b.early n)) (g.union n)
-      ∙ ap (λ es. ((in_prefix a.upto n || in_prefix b.upto n) || is_early es n) || (is_early a.early n || is_early b.early n)) g.none
-      ∙ shuffled (in_prefix a.upto n) (in_prefix b.upto n) (is_early a.early n) (is_early b.early n)
+module _ (a : Told) (none more : List (ℕ × Kind)) (v : Told) (empty : none ≡ []) where
+  abbrev pub fresh : Told
+  fresh = record { upto = a.upto; state = a.state; early = none }
 
-  pub union_anew : IsEither (tells p) (λ n. is_early a.early n || is_early b.early n) (tells v) → IsEither (tells a) (tells b) (tells v)
-  union_anew e n = e n ∙ anew n
+  pub fresh_sound : IsSound a → IsSound fresh
+  fresh_sound h = subst (λ es. IsSound (record { upto = a.upto; state = a.state; early = es })) (sym empty) (record { state = h.state; upto_fits = h.upto_fits; gap = tt; early = tt })
+
+  pub fresh_source : (s : Source) → IsOfThread a s → IsOfThread fresh s
+  fresh_source s h = subst (λ es. IsOfThread (record { upto = a.upto; state = a.state; early = es }) s) (sym empty) (record { prefix = h.prefix; gap = tt; early = tt })
+
+  pub union_anew : IsEither (tells fresh) (λ n. is_early a.early n || is_early more n) (tells v) → IsEither (tells a) (is_early more) (tells v)
+  union_anew e n =
+      e n ∙ ap (λ es. (in_prefix a.upto n || is_early es n) || (is_early a.early n || is_early more n)) empty
+      ∙ shuffled (in_prefix a.upto n) (is_early a.early n) (is_early more n)
+
+-- one message
+pub one_of_source : (more : List (ℕ × Kind)) (one : ℕ × Kind) (s : Source) → 1 ≤ length more → length more < 2 → one ≡ get_or more 0 one → HasEach s more → s (one.0 ∷ []) ≡ written one.1
+one_of_source [] one s h k e each = absurd (omega arith)
+one_of_source (d ∷ []) one s h k e each = subst (λ (x : ℕ × Kind). s (x.0 ∷ []) ≡ written x.1) (sym e) each.0
+one_of_source (d ∷ e ∷ es) one s h k f each = absurd (omega arith)
 
 pub amid_nothing : (f g : ℕ → Bool) → IsAmid f g f
 amid_nothing f g = record { at_least = λ n e. e; at_most = λ n e. or_left (f n) (g n) e }

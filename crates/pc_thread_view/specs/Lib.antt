@@ -1,3 +1,4 @@
+mod Early
 pub mod Held
 pub mod Told
 pub mod ToldLaws

@@ -1,5 +1,5 @@
 -- What is told of one thread: a folded prefix of its messages, and early messages past a gap.
-use Rattle.std.specs.Prelude.{ℕ, ◌+◌, ◌*◌, ◌<◌, ◌≤◌, ◌≡◌, ◌==◌, ◌||◌, ◌&&◌, nat_le, cond, Bool, true, IsFalse, List, [], ◌∷◌, length, Option, MatchOption}
+use Rattle.std.specs.Prelude.{ℕ, ◌+◌, ◌*◌, ◌<◌, ◌≤◌, ◌≡◌, ◌==◌, ◌||◌, ◌&&◌, nat_le, cond, Bool, true, false, IsFalse, List, [], ◌∷◌, length, take, drop, Option, MatchOption}
 use Rattle.std.specs.List.{list_any}
 use Rattle.pc_messages.specs.declared.kind.Kind.{Kind}
 use Rattle.pc_messages.specs.declared.kind.Kind.TheVariants.{Created, Blocked, Preempted, Yield, Dead, Wakeup, Affinity, Priority}
@@ -118,17 +118,35 @@ abbrev pub NoneAfter : List (ℕ × Kind) → List (ℕ × Kind) → Type 0
 NoneAfter early [] = Unit {0}
 NoneAfter early (e ∷ es) = NoneAbove e.0 early
 
--- the greater of two prefixes, and no early message
-pub record IsGreaterPrefix (first other new : Told) : Type 0 where
-  pub sound : IsSound new
-  pub union : (n : ℕ) → in_prefix new.upto n ≡ (in_prefix first.upto n || in_prefix other.upto n)
-  pub none : new.early ≡ []
-  pub of_source : (s : Source) → IsOfThread first s → IsOfThread other s → IsOfThread new s
-
 -- messages that can be early ones of some thread view
 pub record AreTold (early : List (ℕ × Kind)) : Type 0 where
   pub rise : RiseAbove 1 early
   pub later : AreLater early
+
+-- what holds while a prefix grows: the early messages ascend, and it may reach some of them
+pub record IsLoose (told : Told) : Type 0 where
+  pub state : IsStateOfSome told.upto told.state
+  pub some : 1 ≤ told.upto
+  pub upto_fits : told.upto ≤ 16000000
+  pub early : AreTold told.early
+
+-- a source gives the prefix and the early messages, which the prefix may reach
+pub record IsLooselyOf (told : Told) (s : Source) : Type 0 where
+  pub prefix : IsPrefix s told.upto told.state
+  pub early : HasEach s told.early
+
+-- one early message fewer, and the same told
+pub record IsAbsorbed (old new : Told) : Type 0 where
+  pub loose : IsLoose new
+  pub same : (n : ℕ) → tells new n ≡ tells old n
+  pub of_source : (s : Source) → IsLooselyOf old s → IsLooselyOf new s
+  pub fewer : length new.early < length old.early
+
+-- the same told, and no early message that the prefix reaches
+pub record IsSettled (old new : Told) : Type 0 where
+  pub sound : IsSound new
+  pub same : (n : ℕ) → tells new n ≡ tells old n
+  pub of_source : (s : Source) → IsLooselyOf old s → IsOfThread new s
 
 -- how far two lists of messages have been taken in, when this is told and these lists are left
 pub record IsTaking (old : Told) (first other : List (ℕ × Kind)) (now : Told) (left right : List (ℕ × Kind)) : Type 0 where
@@ -144,3 +162,19 @@ pub record IsTaking (old : Told) (first other : List (ℕ × Kind)) (now : Told)
 -- each of the messages has a number of the prefix or of the others
 abbrev pub AreAmong : List (ℕ × Kind) → ℕ → List (ℕ × Kind) → Type 0
 AreAmong early upto others = (n : ℕ) → is_early early n ≡ true → (in_prefix upto n || is_early others n) ≡ true
+
+-- each number is below n
+abbrev pub AreBelow : ℕ → List (ℕ × Kind) → Type 0
+AreBelow n [] = Unit {0}
+AreBelow n (e ∷ es) = (e.0 < n) × AreBelow n es
+
+-- so many of the messages come before the number, and the others after it
+pub record IsPlace (early : List (ℕ × Kind)) (number place : ℕ) : Type 0 where
+  pub fits : place ≤ length early
+  pub before : AreBelow number (take place early)
+  pub after : RiseAbove number (drop place early)
+
+-- whether the first message has the number
+abbrev pub BeginsWith : List (ℕ × Kind) → ℕ → Bool → Type 0
+BeginsWith [] n b = b ≡ false
+BeginsWith (e ∷ es) n b = b ≡ (e.0 == n)

@@ -1,29 +1,27 @@
 //! What a thread view holds, built up in the order of the numbers: nothing is put into a gap, and nothing is taken
 //! out again.
 
-ghost use Rattle.std.specs.Prelude.{ℕ, ◌+◌, ◌≡◌, ◌≤◌, ◌<◌, ◌↔◌, ◌==◌, ◌||◌, Bool, true, false, List, [], ◌∷◌, ◌++◌, length, Some, None, IsTrue, IsOk, IfOk, OnOk, OnErr};
-ghost use Rattle.smallvec.specs.SmallVec.{HasRoomFor};
+ghost use Rattle.std.specs.Prelude.{ℕ, ◌+◌, ◌≡◌, ◌≤◌, ◌<◌, ◌↔◌, ◌==◌, ◌||◌, Bool, true, false, List, [], ◌∷◌, ◌++◌, length, Some, None, MatchOption, IsTrue, IsFalse, IsOk, IfOk, OnOk, OnErr};
 ghost use Rattle.pc_messages.specs.Run.{IsWellFormed, is_created};
 ghost use Rattle.pc_messages.specs.State.{state_of};
 ghost use Rattle.pc_messages.specs.declared.kind.Kind.{Kind};
 ghost use Rattle.pc_join.specs.Sets.{Source};
 ghost use Rattle.pc_join.specs.Ranges.{IsEither, IsAmid};
-ghost use Rattle.pc_thread_view.specs.Told.{Told, IsSound, IsOfThread, Gains, NoneAbove, NoneAfter, RiseAbove, AreLater, HasEach, IsStateOfSome, IsGreaterPrefix, AreTold, AreAmong, tells, is_early, written};
+ghost use Rattle.pc_thread_view.specs.Told.{Told, IsSound, IsOfThread, Gains, NoneAbove, NoneAfter, RiseAbove, AreLater, HasEach, IsStateOfSome, IsLoose, IsAbsorbed, IsSettled, IsPlace, BeginsWith, AreTold, AreAmong, tells, in_prefix, is_early, written};
 ghost use Rattle.pc_thread_view.specs.Held.{told};
 
+use crate::early::Early;
 use pc_join::join::OutOfMemory;
 use pc_join::turn::next_turn;
 use pc_messages::kind::Kind;
 use pc_messages::reported::Reported;
-use smallvec::SmallVec;
 
-/// A folded prefix, and messages past the first that is missing, ascending. The first four of these take no memory
-/// of their own.
+/// A folded prefix, and messages past the first that is missing, ascending.
 #[derive(Drop)]
 pub struct Held {
     pub upto: u32,
     pub state: Option<Reported>,
-    pub early: SmallVec<(u32, Kind), 4>,
+    pub early: Early,
 }
 
 /// The state after the next message of the prefix.
@@ -60,7 +58,7 @@ pub fn append(held: &mut Held, number: u32, kind: Kind) -> Result<(), OutOfMemor
     ensures ok { OnOk result (Gains (told held.old) number kind (told held.new)) }
     ensures last { OnOk result (NoneAbove number held.new.early.items) }
     ensures err { OnErr result (told held.new ≡ told held.old) }
-    ensures succeeds { HasRoomFor held.old.early 1 → IsOk result }
+    ensures succeeds { 1 ≤ held.old.early.room → IsOk result }
 {
     if number <= held.upto {
         return Ok(());
@@ -114,25 +112,125 @@ fn comes_after(early: &[(u32, Kind)], more: &[(u32, Kind)]) -> bool
     }
 }
 
-/// The greater of two prefixes, with no early message.
-fn greater_prefix(first: &Held, other: &Held) -> Held
-    requires first { IsSound (told first.now) }
-    requires other { IsSound (told other.now) }
-    ensures { IsGreaterPrefix (told first.now) (told other.now) (told result) }
+/// Folds the first early message in where it is the next of the prefix, and leaves it out where the prefix has it.
+fn absorb(held: &mut Held) -> bool
+    requires { IsLoose (told held.old) }
+    ensures done { IsTrue result → IsAbsorbed (told held.old) (told held.new) }
+    ensures none { IsFalse result → (told held.new ≡ told held.old) × RiseAbove (held.old.upto + 1) held.old.early.items }
 {
-    let (upto, state) = if first.upto < other.upto {
-        (other.upto, other.state)
-    } else {
-        (first.upto, first.state)
+    let Some((first, _)) = held.early.as_slice().split_first() else {
+        return false;
     };
-    Held {
-        upto,
-        state,
-        early: SmallVec::new(*first.early.allocator()),
+    let (number, kind) = *first;
+    if number > held.upto + 1 {
+        return false;
+    }
+    if number <= held.upto {
+        held.early.leave_first();
+        return true;
+    }
+    held.state = fold(held.upto, held.state, kind);
+    held.upto = number;
+    held.early.leave_first();
+    true
+}
+
+/// Absorbs early messages as long as the prefix reaches one. It takes no memory.
+fn settle(held: &mut Held)
+    requires { IsLoose (told held.old) }
+    ensures { IsSettled (told held.old) (told held.new) }
+{
+    while absorb(held) {}
+}
+
+/// Takes in a prefix that is greater.
+fn advance(held: &mut Held, other: &Held)
+    requires sound { IsSound (told held.old) }
+    requires other { IsSound (told other.now) }
+    requires greater { held.old.upto < other.now.upto }
+    ensures sound { IsSound (told held.new) }
+    ensures union { IsEither (tells (told held.old)) (in_prefix other.now.upto) (tells (told held.new)) }
+    ensures of_source { (s : Source) → IsOfThread (told held.old) s → IsOfThread (told other.now) s → IsOfThread (told held.new) s }
+{
+    held.upto = other.upto;
+    held.state = other.state;
+    settle(held);
+}
+
+/// How many of the messages come before the number; nothing where one of them has it.
+fn place_of(early: &[(u32, Kind)], number: u32) -> Option<usize>
+    requires { RiseAbove 0 early.now }
+    ensures { MatchOption result (is_early early.now number ≡ true) (IsPlace early.now number) }
+{
+    let place = early.partition_point(|entry| entry.0 < number);
+    let (_, after) = early.split_at(place);
+    if begins_with(after, number) {
+        return None;
+    }
+    Some(place)
+}
+
+/// Whether the number is that of the first message.
+fn begins_with(early: &[(u32, Kind)], number: u32) -> bool
+    ensures { BeginsWith early.now number result }
+{
+    match early.split_first() {
+        Some((first, _)) => first.0 == number,
+        None => false,
     }
 }
 
-/// Takes in all that the other holds: at the end where it belongs there, and else all anew.
+/// Takes in one message.
+fn take_one(held: &mut Held, number: u32, kind: Kind) -> Result<(), OutOfMemory>
+    requires sound { IsSound (told held.old) }
+    requires well_formed { IsWellFormed number kind }
+    ensures ok { OnOk result (Gains (told held.old) number kind (told held.new)) }
+    ensures err { OnErr result (told held.new ≡ told held.old) }
+{
+    let next = held.upto + 1;
+    if number < next {
+        return Ok(());
+    }
+    if number == next {
+        held.state = fold(held.upto, held.state, kind);
+        held.upto = number;
+        settle(held);
+        return Ok(());
+    }
+    let Some(place) = place_of(held.early.as_slice(), number) else {
+        return Ok(());
+    };
+    held.early.insert(place, (number, kind))?;
+    Ok(())
+}
+
+/// Takes in messages past the first: at the end where they belong there, one at its place, and else all anew.
+fn take_early(held: &mut Held, more: &[(u32, Kind)]) -> Result<(), OutOfMemory>
+    requires sound { IsSound (told held.old) }
+    requires more { AreTold more.now }
+    ensures sound { IsSound (told held.new) }
+    ensures union { OnOk result (IsEither (tells (told held.old)) (is_early more.now) (tells (told held.new))) }
+    ensures amid { IsAmid (tells (told held.old)) (is_early more.now) (tells (told held.new)) }
+    ensures of_source { (s : Source) → IsOfThread (told held.old) s → HasEach s more.now → IsOfThread (told held.new) s }
+{
+    if comes_after(held.early.as_slice(), more) {
+        return merge(held, &[], more);
+    }
+    if let [one] = more {
+        take_one(held, one.0, one.1)?;
+        return Ok(());
+    }
+    let mut joined = Held {
+        upto: held.upto,
+        state: held.state,
+        early: Early::new(held.early.allocator()),
+    };
+    merge(&mut joined, held.early.as_slice(), more)?;
+    *held = joined;
+    Ok(())
+}
+
+/// Takes in all that the other holds.
 pub fn join_held(held: &mut Held, other: &Held) -> Result<(), OutOfMemory>
     requires sound { IsSound (told held.old) }
     requires other { IsSound (told other.now) }
@@ -141,29 +239,19 @@ pub fn join_held(held: &mut Held, other: &Held) -> Result<(), OutOfMemory>
     ensures amid { IsAmid (tells (told held.old)) (tells (told other.now)) (tells (told held.new)) }
     ensures of_source { (s : Source) → IsOfThread (told held.old) s → IsOfThread (told other.now) s → IsOfThread (told held.new) s }
 {
-    if other.upto <= held.upto && comes_after(held.early.as_slice(), other.early.as_slice()) {
-        return merge(held, &[], other.early.as_slice());
+    if held.upto < other.upto {
+        advance(held, other);
+        return take_early(held, other.early.as_slice());
     }
-    let mut joined = greater_prefix(held, other);
-    merge(&mut joined, held.early.as_slice(), other.early.as_slice())?;
-    *held = joined;
-    Ok(())
+    take_early(held, other.early.as_slice())
 }
 
-/// Whether an early message has the number, by halves.
+/// Whether one of the messages has the number.
 fn is_among(early: &[(u32, Kind)], number: u32) -> bool
     requires { RiseAbove 0 early.now }
     ensures { result ≡ is_early early.now number }
 {
-    let mut part = early;
-    while part.len() > 1 {
-        let (low, high) = part.split_at(part.len() / 2);
-        part = if number < high[0].0 { low } else { high };
-    }
-    match part.split_first() {
-        Some((one, _)) => one.0 == number,
-        None => false,
-    }
+    place_of(early, number).is_none()
 }
 
 /// Whether the message with the number is held.

@@ -4,6 +4,7 @@
 //! them it has: `specs/Told.antt` defines that, and the laws of `pc_join` follow.
 #![tactic(auto)]
 
+mod early;
 mod held;
 #[cfg(test)]
 mod tests;

@@ -115,3 +115,108 @@ fn a_copy_is_equal(rt: HostRuntime) -> Result<(), Fail> {
     assert!(rt; first == first.try_copy()?);
     Ok(())
 }
+
+const ASCENDING: [u32; 12] = [1, 2, 3, 4, 5, 6, 7, 8, 9, 10, 11, 12];
+
+const DESCENDING: [u32; 12] = [12, 11, 10, 9, 8, 7, 6, 5, 4, 3, 2, 1];
+
+const OUTWARDS: [u32; 12] = [7, 6, 8, 5, 9, 4, 10, 3, 11, 2, 12, 1];
+
+const SCATTERED: [u32; 12] = [9, 2, 12, 5, 7, 3, 11, 4, 8, 6, 10, 1];
+
+const GAPS: [u32; 12] = [2, 4, 6, 8, 10, 12, 1, 3, 5, 7, 9, 11];
+
+// Takes in one of thirteen messages: Created, and then twelve that tell of one tick each.
+fn take_in(view: &mut ThreadView, number: u32) -> Result<(), Fail> {
+    if number == 1 {
+        let mask = Mask::new(3, 2)?;
+        view.insert(1, Kind::Created { mask, ready: true })?;
+        return Ok(());
+    }
+    if number < 1 || number > 13 {
+        return Err(Fail::from("no number of these tests"));
+    }
+    view.insert(number, Kind::Preempted { ran: 1 })?;
+    Ok(())
+}
+
+// The view that took in the thirteenth message, and then these.
+fn arrived(alloc: Global, numbers: &[u32]) -> Result<ThreadView, Fail> {
+    let mut view = ThreadView::of(alloc, 13, Kind::Preempted { ran: 1 });
+    for number in numbers {
+        take_in(&mut view, *number)?;
+    }
+    Ok(view)
+}
+
+// Whether the view tells the state of all thirteen messages, and nothing else.
+fn is_whole(view: &ThreadView) -> bool {
+    let ran = view.reported().map(|reported| reported.ran);
+    view.upto() == 13 && view.early().is_empty() && ran == Some(12)
+}
+
+#[test]
+fn messages_in_any_order_are_folded(rt: HostRuntime) -> Result<(), Fail> {
+    for order in [ASCENDING, DESCENDING, OUTWARDS, SCATTERED, GAPS] {
+        let view = arrived(rt.alloc(), &order)?;
+        assert!(rt; is_whole(&view));
+    }
+    Ok(())
+}
+
+#[test]
+fn early_messages_ascend_whatever_their_order(rt: HostRuntime) -> Result<(), Fail> {
+    for order in [DESCENDING, OUTWARDS, SCATTERED] {
+        let view = arrived(rt.alloc(), &order[..11])?;
+        assert_eq!(rt; view.upto(), 0);
+        assert_eq!(rt; view.early().len(), 12);
+        for (place, message) in view.early().iter().enumerate() {
+            assert_eq!(rt; message.0 as usize, place + 2);
+        }
+    }
+    Ok(())
+}
+
+#[test]
+fn a_gap_that_closes_takes_the_next_messages_along(rt: HostRuntime) -> Result<(), Fail> {
+    let mut view = arrived(rt.alloc(), &GAPS[..7])?;
+    assert_eq!(rt; view.upto(), 2);
+    assert_eq!(rt; view.early().len(), 6);
+    take_in(&mut view, 3)?;
+    assert_eq!(rt; view.upto(), 4);
+    take_in(&mut view, 7)?;
+    assert_eq!(rt; view.upto(), 4);
+    assert_eq!(rt; view.early().len(), 6);
+    take_in(&mut view, 5)?;
+    assert_eq!(rt; view.upto(), 8);
+    assert_eq!(rt; view.early().len(), 3);
+    Ok(())
+}
+
+#[test]
+fn a_greater_prefix_leaves_the_messages_past_it(rt: HostRuntime) -> Result<(), Fail> {
+    let mut view = arrived(rt.alloc(), &DESCENDING[..11])?;
+    let ready = true;
+    let mask = Mask::new(3, 2)?;
+    let mut nine = ThreadView::of(rt.alloc(), 1, Kind::Created { mask, ready });
+    for number in &ASCENDING[1..9] {
+        take_in(&mut nine, *number)?;
+    }
+    let reported = nine.reported().ok_or("no state")?;
+    assert_eq!(rt; reported.ran, 8);
+    view.join_from(&ThreadView::folded(rt.alloc(), 9, reported))?;
+    assert!(rt; is_whole(&view));
+    Ok(())
+}
+
+#[test]
+fn many_early_messages_are_joined(rt: HostRuntime) -> Result<(), Fail> {
+    let first = arrived(rt.alloc(), &[3, 5, 7, 9, 11])?;
+    let other = arrived(rt.alloc(), &[2, 4, 6, 8, 10, 12])?;
+    let mut joined = join_both(&first, &other)?;
+    assert!(rt; joined == join_both(&other, &first)?);
+    assert_eq!(rt; joined.early().len(), 12);
+    take_in(&mut joined, 1)?;
+    assert!(rt; is_whole(&joined));
+    Ok(())
+}

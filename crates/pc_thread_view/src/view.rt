@@ -7,11 +7,11 @@ ghost use Rattle.pc_thread_view.specs.Told.{Told, IsSound, IsOfThread, TellsSome
 ghost use Rattle.pc_thread_view.specs.ToldLaws.{unique_told, stays_told};
 ghost use Rattle.pc_thread_view.specs.Same.{is_same_told, told_partial, told_equivalence};
 
+use crate::early::Early;
 use crate::held::{Held, append, covers_held, has_held, is_same_held, join_held};
 use pc_join::join::{Join, OutOfMemory};
 use pc_messages::kind::Kind;
 use pc_messages::reported::Reported;
-use smallvec::SmallVec;
 use std::alloc::Global;
 use std::marker::Model;
 
@@ -45,7 +45,7 @@ impl ThreadView {
         let mut held = Held {
             upto: 0,
             state: None,
-            early: SmallVec::new(alloc),
+            early: Early::new(alloc),
         };
         append(&mut held, number, kind).unwrap();
         ThreadView { held }
@@ -62,7 +62,7 @@ impl ThreadView {
             held: Held {
                 upto,
                 state: Some(reported),
-                early: SmallVec::new(alloc),
+                early: Early::new(alloc),
             },
         }
     }
@@ -81,7 +81,7 @@ impl ThreadView {
         if self.has(number) {
             return Ok(());
         }
-        let one = ThreadView::of(*self.held.early.allocator(), number, kind);
+        let one = ThreadView::of(self.held.early.allocator(), number, kind);
         self.join_from(&one)
     }
 
@@ -145,7 +145,7 @@ impl Join for ThreadView {
     }
 
     fn try_copy(&self) -> Result<ThreadView, OutOfMemory> {
-        let early = SmallVec::from_slice(*self.held.early.allocator(), self.held.early.as_slice())?;
+        let early = Early::of_slice(self.held.early.allocator(), self.held.early.as_slice())?;
         Ok(ThreadView {
             held: Held {
                 upto: self.held.upto,

@@ -1,21 +1,17 @@
-use Rattle.std.proofs.Common.{subst, sym, arith, ◌+◌}
-use Rattle.pc_thread_view.specs.Told.{RiseAbove, AreTold, HasEach}
+use Rattle.std.proofs.Common.{subst, sym}
+use Rattle.pc_thread_view.specs.Told.{AreTold, HasEach}
 use Rattle.pc_thread_view.specs.Held.{told}
-use Rattle.pc_thread_view.proofs.Gaining.{rise_from}
 use Rattle.pc_thread_view.proofs.Taking.{early_told}
 use Rattle.pc_thread_view.proofs.held.join_held.Goals as goal
 
-pub comes_after-requires : goal.comes_after-requires
-comes_after-requires c = subst (RiseAbove 0) (sym c.as_slice.ensures) (rise_from (c.args.held.now.upto + 1) 0 c.args.held.now.early.items (omega arith) c.requires.sound.gap)
+pub take_early-requires-clause-more : goal.take_early-requires-clause-more
+take_early-requires-clause-more c = subst AreTold (sym c.as_slice.ensures) (early_told (told c.args.other.now) c.requires.other)
 
-pub returns-then-comes_after-clause-of_source : goal.returns-then-comes_after-clause-of_source
-returns-then-comes_after-clause-of_source c = λ s a b. c.merge.ensures.of_source s a tt (subst (HasEach s) (sym c.as_slice-then-comes_after.ensures) b.early)
+pub returns-then-held-other-clause-of_source : goal.returns-then-held-other-clause-of_source
+returns-then-held-other-clause-of_source c = λ s a b. c.take_early.ensures.of_source s (c.advance.ensures.of_source s a b) (subst (HasEach s) (sym c.as_slice.ensures) b.early)
 
-pub merge-requires-2-clause-first : goal.merge-requires-2-clause-first
-merge-requires-2-clause-first c = subst AreTold (sym c.as_slice-2.ensures) (early_told (told c.args.held.now) c.requires.sound)
-
-pub merge-requires-2-clause-other : goal.merge-requires-2-clause-other
-merge-requires-2-clause-other c = subst AreTold (sym c.as_slice-3.ensures) (early_told (told c.args.other.now) c.requires.other)
+pub take_early-requires-2-clause-more : goal.take_early-requires-2-clause-more
+take_early-requires-2-clause-more c = subst AreTold (sym c.as_slice-2.ensures) (early_told (told c.args.other.now) c.requires.other)
 
 pub returns-clause-of_source : goal.returns-clause-of_source
-returns-clause-of_source c = λ s a b. c.merge-2.ensures.of_source s (c.greater_prefix-joined.ensures.of_source s a b) (subst (HasEach s) (sym c.as_slice-2.ensures) a.early) (subst (HasEach s) (sym c.as_slice-3.ensures) b.early)
+returns-clause-of_source c = λ s a b. c.take_early-2.ensures.of_source s a (subst (HasEach s) (sym c.as_slice-2.ensures) b.early)

@@ -1,0 +1,25 @@
+use Rattle.std.proofs.Common.{subst, sym, arith, ◌+◌, ◌≢◌, List, ℕ}
+use Rattle.pc_messages.specs.declared.kind.Kind.{Kind}
+use Rattle.pc_thread_view.specs.Held.{told}
+use Rattle.pc_thread_view.specs.Told.{RiseAbove, Gains, IsPlace}
+use Rattle.pc_thread_view.proofs.Gaining.{rise_from}
+use Rattle.pc_thread_view.proofs.Settling.{next_loose, next_gains}
+use Rattle.pc_thread_view.proofs.Places.{gains_insert}
+use Rattle.pc_thread_view.proofs.held.take_one.Goals as goal
+
+pub settle-requires : goal.settle-requires
+settle-requires c = next_loose c.args.held.now.upto c.args.number c.args.held.now.state c.fold-held.result c.args.held.now.early.items c.args.kind c.requires.sound c.requires.well_formed c.if-number-next-2.true c.fold-held.ensures.some
+
+pub returns-then-number-next-2-clause-ok : goal.returns-then-number-next-2-clause-ok
+returns-then-number-next-2-clause-ok c = next_gains c.args.held.now.upto c.args.number c.args.held.now.state c.fold-held.result c.args.held.now.early.items c.args.kind c.requires.sound c.requires.well_formed c.if-number-next-2.true c.fold-held.ensures.some (told c.settle.new.held) c.fold-held.ensures.folded c.settle.ensures
+
+pub place_of-requires : goal.place_of-requires
+place_of-requires c = subst (RiseAbove 0) (sym c.as_slice.ensures) (rise_from (c.args.held.now.upto + 1) 0 c.args.held.now.early.items (omega arith) c.requires.sound.gap)
+
+pub returns-clause-ok : goal.returns-clause-ok
+returns-clause-ok c =
+    let early = c.args.held.now.early.items in
+    let P : List (ℕ × Kind) → Type 0 = λ es. Gains (told c.args.held.now) c.args.number c.args.kind (record { upto = c.args.held.now.upto; state = c.args.held.now.state; early = es }) in
+    subst P (sym c.in_ok-insert.ensures.ok)
+    (gains_insert c.args.held.now.upto c.args.held.now.state early c.args.number c.in-Some.place c.args.kind c.requires.sound c.requires.well_formed (let h = c.if-number-next.false in let g : c.args.number ≢ c.args.held.now.upto + 1 = c.if-number-next-2.false in omega arith)
+    (subst (λ es. IsPlace es c.args.number c.in-Some.place) c.as_slice.ensures c.in-Some.ensures))
