@@ -1,4 +1,5 @@
 pub mod Agents
+pub mod Endings
 pub mod Exchange
 pub mod Items
 pub mod Keeping

@@ -1,5 +1,8 @@
 //! How the program ends.
 
+ghost use Rattle.std.specs.Prelude.{◌≡◌, option_map};
+ghost use Rattle.pc_sim.specs.Endings.{status_of, message_of};
+
 use pc_script::outcome::{Outcome, ScriptFault};
 
 /// How a run of the program ended.
@@ -19,7 +22,9 @@ pub enum Ending {
 
 impl Ending {
     /// The exit status.
-    pub fn status(self) -> u8 {
+    pub fn status(self) -> u8
+        ensures { result ≡ status_of self }
+    {
         match self {
             Ending::Finished => 0,
             Ending::FaultLine | Ending::CannotRead => 1,
@@ -29,7 +34,9 @@ impl Ending {
     }
 
     /// What is said on standard error.
-    pub fn message(self) -> Option<&'static str> {
+    pub fn message(self) -> Option<&'static str>
+        ensures { option_map (λ text. text.now) result ≡ message_of self }
+    {
         match self {
             Ending::Finished | Ending::FaultLine => None,
             Ending::CannotRead => Some("pc-sim: cannot read"),
@@ -40,6 +47,11 @@ impl Ending {
 }
 
 impl From<Result<Outcome, ScriptFault>> for Ending {
+    ghost use Rattle.std.specs.Prelude.{◌≡◌};
+    ghost use Rattle.pc_sim.specs.Endings.{ending_of};
+
+    ghost from_gives = { λ run ending. ending ≡ ending_of run };
+
     fn from(run: Result<Outcome, ScriptFault>) -> Ending {
         match run {
             Ok(Outcome::Finished) => Ending::Finished,
