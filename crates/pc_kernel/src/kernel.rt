@@ -106,7 +106,8 @@ impl Kernel {
         ensures some { 1 ≤ result }
         ensures few { result ≤ 64 }
     {
-        self.limits.cpus
+        let Limits { cpus, .. } = self.limits;
+        cpus
     }
 
     /// How many threads are known, which is the next name.

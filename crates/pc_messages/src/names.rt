@@ -37,7 +37,8 @@ impl Tid {
     pub const fn index(self) -> u32
         ensures { result ≡ self }
     {
-        self.0
+        let Tid(index) = self;
+        index
     }
 }
 
