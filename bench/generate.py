@@ -5,6 +5,7 @@
     generate.py kernel-calls LINES  all calls of the kernel: threads that are committed, leave their CPU and are woken, and queues consumed
     generate.py kernel-only LINES   the same without publish and consume, so that no view grows
     generate.py late LINES          one thread's messages, a delta each, delivered to another agent in descending order: four lines for each
+    generate.py scattered LINES     the same in an order drawn at random
     generate.py answer-empty LINES  4,096 threads, and then answers to an agent that knows none of them
     generate.py answer-half LINES   the same to an agent that knows half of them
     generate.py answer-equal LINES  the same to an agent that knows all of them
@@ -143,16 +144,28 @@ def kernel_only(lines):
             yield command
 
 
-def late(lines):
-    """Early messages that arrive in descending order, the first message last."""
+def deliveries(lines, arrange):
+    """One thread's messages, a delta each, delivered to another agent in an order of their own."""
     yield "enclave 2 8 1000000 65536 4294967295"
     count = lines // 4
     for number in range(count):
         yield "create 0 3 ready" if number == 0 else "affinity t0 3"
         yield "publish 0"
         yield "consume 0"
-    for number in reversed(range(count)):
+    numbers = list(range(count))
+    arrange(numbers)
+    for number in numbers:
         yield f"deliver 1 {number}"
+
+
+def late(lines):
+    """Early messages that arrive in descending order, the first message last."""
+    return deliveries(lines, list.reverse)
+
+
+def scattered(lines):
+    """Early messages that arrive in any order."""
+    return deliveries(lines, random.Random(20261122).shuffle)
 
 
 def answers(known):
@@ -188,6 +201,7 @@ SCRIPTS = {
     "kernel-calls": kernel_calls,
     "kernel-only": kernel_only,
     "late": late,
+    "scattered": scattered,
     "answer-empty": answers(0),
     "answer-half": answers(1),
     "answer-equal": answers(2),

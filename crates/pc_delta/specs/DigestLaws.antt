@@ -1,11 +1,11 @@
 -- The laws of a join and of equality, of digests.
-use Rattle.std.specs.Prelude.{ℕ, ◌≡◌, ◌==◌, ◌&&◌, Bool, true, false, List, [], ◌∷◌, refl}
-use Rattle.std.proofs.Common.{sym, ap, ◌∙◌, arith}
+use Rattle.std.specs.Prelude.{ℕ, ◌≡◌, ◌==◌, ◌&&◌, true, List, [], ◌∷◌, refl}
+use Rattle.std.proofs.Common.{sym, ap, ◌∙◌}
 use Rattle.std.specs.Bool.{Decides}
 use Rattle.std.specs.Cmp.{IsEquivalence, IsPartialEquivalence, decided, partial_equiv_from_equiv}
 use Rattle.std.specs.FinMap as map
 use Rattle.std.proofs.lemmas.Bool.{false≢true}
-use Rattle.std.proofs.lemmas.Bool.Decides.{nat_tests}
+use Rattle.pc_join.specs.Equal.{and_parts, both, eq_number, number_eq}
 use Rattle.pc_join.specs.Sets.{Source, IsSameSet, AgreesOn}
 use Rattle.pc_join.specs.Ranges.{numbers_in, AreApart}
 use Rattle.pc_join.specs.RangeLaws.{unique_ranges}
@@ -19,20 +19,6 @@ pub stays_digest : (s t : Source) (a : RangesByName) → AgreesOn (set_of_digest
 stays_digest s t a agrees of_s = stays_by_name numbers_in (λ ranges u. AreApart 0 ranges) (λ s' t' xs agrees' apart. apart) s t a agrees of_s
 
 -- the tests decide that two digests are equal
-and_parts : (a b : Bool) → (a && b) ≡ true → (a ≡ true) × (b ≡ true)
-and_parts true b e = (refl, e)
-and_parts false b e = absurd (false≢true e)
-
-both : (a b : Bool) → a ≡ true → b ≡ true → (a && b) ≡ true
-both true b e f = f
-both false b e f = absurd (false≢true e)
-
-eq_number : (x y : ℕ) → (x == y) ≡ true → x ≡ y
-eq_number x y e = grind (arith, nat_tests)
-
-number_eq : (x : ℕ) → (x == x) ≡ true
-number_eq x = grind (arith, nat_tests)
-
 ranges_from : (qs rs : List (ℕ × ℕ)) → is_same_ranges qs rs ≡ true → qs ≡ rs
 ranges_from [] [] h = refl
 ranges_from [] (r ∷ rs) h = absurd (false≢true h)

@@ -1,4 +1,5 @@
 pub mod Sets
+pub mod Equal
 pub mod Ranges
 pub mod Turns
 pub mod Upto

@@ -1,5 +1,5 @@
 -- The state that a list of kinds reports: the last phase, mask and level given, and the sum of all ticks.
-use Rattle.std.specs.Prelude.{ℕ, Bool, true, false, List, [], ◌∷◌, Option, Some, None, sum_by, unwrap_or}
+use Rattle.std.specs.Prelude.{ℕ, true, false, List, Option, Some, None, sum_by, unwrap_or}
 use Rattle.std.specs.List.{filter_map, last_or}
 use Rattle.pc_messages.specs.declared.kind.Kind.{Kind}
 use Rattle.pc_messages.specs.declared.kind.Kind.TheVariants.{Created, Blocked, Preempted, Yield, Dead, Wakeup, Affinity, Priority}

@@ -11,5 +11,6 @@ pub mod mask;
 pub mod message;
 pub mod names;
 pub mod reported;
+pub mod same;
 #[cfg(test)]
 mod tests;

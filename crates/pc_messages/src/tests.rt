@@ -4,6 +4,7 @@ use crate::mask::{Mask, MaskFault};
 use crate::message::{GREATEST_NUMBER, Message};
 use crate::names::{Cpu, Tid};
 use crate::reported::{Phase, Reported};
+use crate::same::{is_same_kind, is_same_state};
 use std::test::Fail;
 
 /// The state of a list of kinds by `first` and `apply`; none of an empty one.
@@ -121,5 +122,32 @@ fn the_state_of_a_list(rt: HostRuntime) -> Result<(), Fail> {
     assert_eq!(rt; folded(&kinds), Some(wanted));
     assert_eq!(rt; folded(&[]), None);
     assert_eq!(rt; Reported::first(Kind::Wakeup), None);
+    Ok(())
+}
+
+#[test]
+fn kinds_are_compared(rt: HostRuntime) -> Result<(), Fail> {
+    let mask = Mask::new(3, 2)?;
+    assert!(rt; is_same_kind(Kind::Wakeup, Kind::Wakeup));
+    let other = Mask::new(2, 2)?;
+    assert!(rt; !is_same_kind(Kind::Affinity { mask }, Kind::Affinity { mask: other }));
+    assert!(rt; !is_same_kind(Kind::Blocked { ran: 1 }, Kind::Blocked { ran: 2 }));
+    assert!(rt; !is_same_kind(Kind::Blocked { ran: 1 }, Kind::Preempted { ran: 1 }));
+    Ok(())
+}
+
+// The state of a thread that was created, and is ready or not.
+fn created(ready: bool) -> Result<Option<Reported>, MaskFault> {
+    let mask = Mask::new(3, 2)?;
+    Ok(Reported::first(Kind::Created { mask, ready }))
+}
+
+#[test]
+fn states_are_compared(rt: HostRuntime) -> Result<(), Fail> {
+    assert!(rt; is_same_state(created(true)?, created(true)?));
+    assert!(rt; !is_same_state(created(false)?, created(true)?));
+    assert!(rt; is_same_state(None, None));
+    assert!(rt; !is_same_state(None, created(true)?));
+    assert!(rt; !is_same_state(created(true)?, None));
     Ok(())
 }

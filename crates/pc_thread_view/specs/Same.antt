@@ -1,10 +1,10 @@
 -- Whether the same is told of a thread, as a test.
 use Rattle.std.specs.Prelude.{ℕ, ◌≡◌, ◌==◌, ◌&&◌, Bool, true, false, List, [], ◌∷◌, Option, Some, None, refl}
-use Rattle.std.proofs.Common.{sym, ap, ◌∙◌, arith}
+use Rattle.std.proofs.Common.{sym, ap, ◌∙◌}
 use Rattle.std.specs.Bool.{Decides}
 use Rattle.std.specs.Cmp.{IsEquivalence, IsPartialEquivalence, decided, partial_equiv_from_equiv}
 use Rattle.std.proofs.lemmas.Bool.{false≢true}
-use Rattle.std.proofs.lemmas.Bool.Decides.{nat_tests}
+use Rattle.pc_join.specs.Equal.{and_parts, both, eq_number, number_eq}
 use Rattle.pc_messages.specs.declared.kind.Kind.{Kind}
 use Rattle.pc_messages.specs.declared.reported.Phase.{Phase}
 use Rattle.pc_messages.specs.declared.reported.Phase.TheVariants as phase
@@ -42,20 +42,6 @@ abbrev pub is_same_told : Told → Told → Bool
 is_same_told a b = (a.upto == b.upto) && (same_numbers (state_numbers a.state) (state_numbers b.state) && is_same_early a.early b.early)
 
 -- each of these tests decides that the two are equal
-and_parts : (a b : Bool) → (a && b) ≡ true → (a ≡ true) × (b ≡ true)
-and_parts true b e = (refl, e)
-and_parts false b e = absurd (false≢true e)
-
-both : (a b : Bool) → a ≡ true → b ≡ true → (a && b) ≡ true
-both true b e f = f
-both false b e f = absurd (false≢true e)
-
-eq_number : (x y : ℕ) → (x == y) ≡ true → x ≡ y
-eq_number x y e = grind (arith, nat_tests)
-
-number_eq : (x : ℕ) → (x == x) ≡ true
-number_eq x = grind (arith, nat_tests)
-
 numbers_from : (xs ys : List ℕ) → same_numbers xs ys ≡ true → xs ≡ ys
 numbers_from [] [] e = refl
 numbers_from [] (y ∷ ys) e = absurd (false≢true e)

@@ -15,6 +15,7 @@ use pc_join::join::OutOfMemory;
 use pc_join::turn::next_turn;
 use pc_messages::kind::Kind;
 use pc_messages::reported::Reported;
+use pc_messages::same::{is_same_kind, is_same_state};
 
 /// A folded prefix, and messages past the first that is missing, ascending.
 #[derive(Drop)]
@@ -302,31 +303,6 @@ pub fn covers_held(held: &Held, other: &Held) -> bool
 {
     other.upto <= held.upto
         && covers_early(held.upto, held.early.as_slice(), other.early.as_slice())
-}
-
-/// Whether the kinds are equal.
-fn is_same_kind(first: Kind, other: Kind) -> bool
-    ensures { IsTrue result ↔ (first ≡ other) }
-{
-    first == other
-}
-
-/// Whether the states are equal.
-fn is_same_state(first: Option<Reported>, other: Option<Reported>) -> bool
-    ensures { IsTrue result ↔ (first ≡ other) }
-{
-    match (first, other) {
-        (None, None) => true,
-        (Some(mine), Some(theirs)) => is_same_reported(mine, theirs),
-        _ => false,
-    }
-}
-
-/// Whether the reported states are equal.
-fn is_same_reported(first: Reported, other: Reported) -> bool
-    ensures { IsTrue result ↔ (first ≡ other) }
-{
-    first == other
 }
 
 /// Whether the messages are equal.

@@ -1,11 +1,11 @@
 -- The laws of a join and of equality, of views.
 use Rattle.std.specs.Prelude.{ℕ, ◌≡◌, ◌==◌, ◌&&◌, Bool, true, false, List, [], ◌∷◌, refl}
-use Rattle.std.proofs.Common.{sym, ap, ◌∙◌, arith}
+use Rattle.std.proofs.Common.{sym, ap, ◌∙◌}
 use Rattle.std.specs.Bool.{Decides}
 use Rattle.std.specs.Cmp.{IsEquivalence, IsPartialEquivalence, decided, partial_equiv_from_equiv}
 use Rattle.std.specs.FinMap as map
 use Rattle.std.proofs.lemmas.Bool.{false≢true}
-use Rattle.std.proofs.lemmas.Bool.Decides.{nat_tests}
+use Rattle.pc_join.specs.Equal.{and_parts, both, eq_number, number_eq}
 use Rattle.pc_join.specs.Sets.{Source, IsSameSet, AgreesOn}
 use Rattle.pc_join.specs.NameLaws.{unique_by_name, stays_by_name}
 use Rattle.pc_thread_view.specs.Told.{Told, IsOfThread, numbers_of}
@@ -31,20 +31,6 @@ is_same_entries (e ∷ es) (f ∷ fs) = (e.0 == f.0) && (is_same_told e.1 f.1 &&
 
 abbrev pub is_same_view : View → View → Bool
 is_same_view a b = is_same_entries (map.entries a.threads) (map.entries b.threads)
-
-and_parts : (a b : Bool) → (a && b) ≡ true → (a ≡ true) × (b ≡ true)
-and_parts true b e = (refl, e)
-and_parts false b e = absurd (false≢true e)
-
-both : (a b : Bool) → a ≡ true → b ≡ true → (a && b) ≡ true
-both true b e f = f
-both false b e f = absurd (false≢true e)
-
-eq_number : (x y : ℕ) → (x == y) ≡ true → x ≡ y
-eq_number x y e = grind (arith, nat_tests)
-
-number_eq : (x : ℕ) → (x == x) ≡ true
-number_eq x = grind (arith, nat_tests)
 
 entries_from : (es fs : List (ℕ × Told)) → is_same_entries es fs ≡ true → es ≡ fs
 entries_from [] [] h = refl

@@ -16,6 +16,7 @@ use pc_kernel::kernel::Kernel;
 use pc_messages::kind::Kind;
 use pc_messages::names::Tid;
 use pc_messages::reported::Reported;
+use pc_messages::same::{is_same_kind, is_same_state};
 use pc_thread_view::view::ThreadView;
 use thiserror::Error;
 
@@ -150,29 +151,4 @@ fn has(history: &[Kind], number: u32, kind: Kind) -> bool
             None => false,
         },
     }
-}
-
-/// Whether the kinds are equal.
-fn is_same_kind(first: Kind, other: Kind) -> bool
-    ensures { IsTrue result ↔ (first ≡ other) }
-{
-    first == other
-}
-
-/// Whether the states are equal.
-fn is_same_state(first: Option<Reported>, other: Option<Reported>) -> bool
-    ensures { IsTrue result ↔ (first ≡ other) }
-{
-    match (first, other) {
-        (None, None) => true,
-        (Some(mine), Some(theirs)) => is_same_reported(mine, theirs),
-        _ => false,
-    }
-}
-
-/// Whether the reported states are equal.
-fn is_same_reported(first: Reported, other: Reported) -> bool
-    ensures { IsTrue result ↔ (first ≡ other) }
-{
-    first == other
 }

@@ -1,7 +1,6 @@
-use Rattle.std.proofs.Common.{◌≡◌, ◌+◌, List, ◌∷◌, [], ◌++◌, Some, unwrap_or, ap, ◌∙◌, sym}
-use Rattle.pc_messages.specs.declared.reported.Reported.{Reported}
-use Rattle.pc_messages.specs.State.{state_of, phase_given, mask_given, level_given}
-use Rattle.pc_messages.proofs.States.{state_of-push, state_after}
+use Rattle.std.proofs.Common.{◌≡◌, unwrap_or}
+use Rattle.pc_messages.specs.State.{phase_given, mask_given, level_given}
+use Rattle.pc_messages.proofs.States.{state_of-push}
 use Rattle.pc_messages.proofs.reported.Reported.apply.Goals as goal
 use Rattle.pc_messages.proofs.reported.Reported.apply.Goals.{in-Some, in-None, in-Some-mask, in-None-mask, in-Some-level, in-None-level}
 
