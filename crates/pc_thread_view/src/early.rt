@@ -43,7 +43,7 @@ fn spread(alloc: Global, list: &[(u32, Kind)]) -> Result<SmallVec<(u32, Kind), 4
     Ok(slots)
 }
 
-/// Puts a message after so many unused slots and so many messages.
+/// Puts a message after so many unused slots and so many messages, and moves the later ones up.
 fn insert_behind(
     slots: &mut SmallVec<(u32, Kind), 4>,
     front: usize,
@@ -60,12 +60,14 @@ fn insert_behind(
     Ok(())
 }
 
-/// Writes one slot.
-fn put(slots: &mut SmallVec<(u32, Kind), 4>, index: usize, entry: (u32, Kind))
-    requires { index < length slots.old.items }
-    ensures items { slots.new.items ≡ slice_set slots.old.items index entry }
+/// Moves so many messages one slot down, into the last unused one, and writes one more behind them.
+fn lower(slots: &mut [(u32, Kind)], front: usize, place: usize, entry: (u32, Kind))
+    requires { front + 1 + place ≤ length slots.old }
+    ensures len { length slots.new ≡ length slots.old }
+    ensures lowered { drop front slots.new ≡ insert (drop (front + 1) slots.old) place entry }
 {
-    slots.as_mut_slice()[index] = entry;
+    slots.copy_within(front + 1..front + 1 + place, front);
+    slots[front + place] = entry;
 }
 
 impl Early {
@@ -140,46 +142,52 @@ impl Early {
         Ok(())
     }
 
-    /// Puts a message after so many others. At the front and at the end this moves no other, but where memory grows.
+    /// Puts a message after so many others. The fewer are before it, or after it, the fewer are moved.
     pub fn insert(&mut self, place: usize, entry: (u32, Kind)) -> Result<(), OutOfMemory>
         requires { place ≤ length self.old.items }
         ensures ok { OnOk result (self.new.items ≡ insert self.old.items place entry) }
         ensures err { OnErr result (self.new.items ≡ self.old.items) }
     {
-        if place == 0 && self.len() >= INLINE {
-            return self.push_front(entry);
+        let live = self.len();
+        if place < live - place {
+            if self.front > 0 {
+                let front = self.front - 1;
+                lower(self.slots.as_mut_slice(), front, place, entry);
+                self.front = front;
+                return Ok(());
+            }
+            if live >= INLINE {
+                return self.insert_spread(place, entry);
+            }
+        }
+        if self.is_sparse() {
+            return self.insert_packed(place, entry);
         }
         insert_behind(&mut self.slots, self.front, place, entry)
     }
 
-    /// Puts a message before all others.
-    fn push_front(&mut self, entry: (u32, Kind)) -> Result<(), OutOfMemory>
-        requires { 1 ≤ length self.old.items }
-        ensures ok { OnOk result (self.new.items ≡ entry ∷ self.old.items) }
+    /// Puts a message after so many others, and makes as many unused slots as there are messages.
+    fn insert_spread(&mut self, place: usize, entry: (u32, Kind)) -> Result<(), OutOfMemory>
+        requires { place < length self.old.items }
+        ensures ok { OnOk result (self.new.items ≡ insert self.old.items place entry) }
         ensures err { OnErr result (self.new.items ≡ self.old.items) }
     {
-        if self.front == 0 {
-            return self.push_spread(entry);
-        }
-        let before = self.front - 1;
-        put(&mut self.slots, before, entry);
-        self.front = before;
+        let front = self.len() - 1;
+        let mut slots = spread(self.allocator(), self.as_slice())?;
+        lower(slots.as_mut_slice(), front, place, entry);
+        *self = Early { slots, front };
         Ok(())
     }
 
-    /// Puts a message before all others, and makes as many unused slots as there are messages.
-    fn push_spread(&mut self, entry: (u32, Kind)) -> Result<(), OutOfMemory>
-        requires { 1 ≤ length self.old.items }
-        ensures ok { OnOk result (self.new.items ≡ entry ∷ self.old.items) }
+    /// Puts a message after so many others, and gives the unused slots back.
+    fn insert_packed(&mut self, place: usize, entry: (u32, Kind)) -> Result<(), OutOfMemory>
+        requires { place ≤ length self.old.items }
+        ensures ok { OnOk result (self.new.items ≡ insert self.old.items place entry) }
         ensures err { OnErr result (self.new.items ≡ self.old.items) }
     {
-        let before = self.len() - 1;
-        let mut slots = spread(self.allocator(), self.as_slice())?;
-        put(&mut slots, before, entry);
-        *self = Early {
-            slots,
-            front: before,
-        };
+        let mut slots = SmallVec::from_slice(self.allocator(), self.as_slice())?;
+        insert_behind(&mut slots, 0, place, entry)?;
+        *self = Early { slots, front: 0 };
         Ok(())
     }
 

@@ -182,7 +182,7 @@ fn begins_with(early: &[(u32, Kind)], number: u32) -> bool
 }
 
 /// Takes in one message.
-fn take_one(held: &mut Held, number: u32, kind: Kind) -> Result<(), OutOfMemory>
+pub fn take_one(held: &mut Held, number: u32, kind: Kind) -> Result<(), OutOfMemory>
     requires sound { IsSound (told held.old) }
     requires well_formed { IsWellFormed number kind }
     ensures ok { OnOk result (Gains (told held.old) number kind (told held.new)) }

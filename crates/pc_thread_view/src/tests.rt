@@ -53,6 +53,9 @@ fn without_the_first_all_are_early(rt: HostRuntime) -> Result<(), Fail> {
     assert_eq!(rt; other.upto(), 0);
     assert!(rt; other.reported().is_none());
     assert_eq!(rt; other.early().len(), 2);
+    assert!(rt; other.has(2));
+    assert!(rt; !other.has(3));
+    assert!(rt; other.has(4));
     Ok(())
 }
 
@@ -65,6 +68,7 @@ fn a_join_closes_the_gaps(rt: HostRuntime) -> Result<(), Fail> {
     assert!(rt; reported.phase == Phase::Ready);
     assert_eq!(rt; reported.mask.bits(), 3);
     assert_eq!(rt; reported.ran, 2);
+    assert_eq!(rt; reported.level.get(), 0);
     Ok(())
 }
 
@@ -106,6 +110,8 @@ fn a_far_number_is_early(rt: HostRuntime) -> Result<(), Fail> {
     let (number, kind) = joined.early().first().ok_or("none is early")?;
     assert_eq!(rt; *number, 1_000_000);
     assert_eq!(rt; *kind, Kind::Wakeup);
+    assert_eq!(rt; joined.early().len(), 1);
+    assert!(rt; joined == joined.try_copy()?);
     Ok(())
 }
 
@@ -123,6 +129,8 @@ const DESCENDING: [u32; 12] = [12, 11, 10, 9, 8, 7, 6, 5, 4, 3, 2, 1];
 const OUTWARDS: [u32; 12] = [7, 6, 8, 5, 9, 4, 10, 3, 11, 2, 12, 1];
 
 const SCATTERED: [u32; 12] = [9, 2, 12, 5, 7, 3, 11, 4, 8, 6, 10, 1];
+
+const BATCHES: [u32; 12] = [10, 11, 12, 7, 8, 9, 4, 5, 6, 2, 3, 1];
 
 const GAPS: [u32; 12] = [2, 4, 6, 8, 10, 12, 1, 3, 5, 7, 9, 11];
 
@@ -157,7 +165,7 @@ fn is_whole(view: &ThreadView) -> bool {
 
 #[test]
 fn messages_in_any_order_are_folded(rt: HostRuntime) -> Result<(), Fail> {
-    for order in [ASCENDING, DESCENDING, OUTWARDS, SCATTERED, GAPS] {
+    for order in [ASCENDING, DESCENDING, OUTWARDS, SCATTERED, BATCHES, GAPS] {
         let view = arrived(rt.alloc(), &order)?;
         assert!(rt; is_whole(&view));
     }
@@ -166,7 +174,7 @@ fn messages_in_any_order_are_folded(rt: HostRuntime) -> Result<(), Fail> {
 
 #[test]
 fn early_messages_ascend_whatever_their_order(rt: HostRuntime) -> Result<(), Fail> {
-    for order in [DESCENDING, OUTWARDS, SCATTERED] {
+    for order in [DESCENDING, OUTWARDS, SCATTERED, BATCHES] {
         let view = arrived(rt.alloc(), &order[..11])?;
         assert_eq!(rt; view.upto(), 0);
         assert_eq!(rt; view.early().len(), 12);
@@ -218,5 +226,21 @@ fn many_early_messages_are_joined(rt: HostRuntime) -> Result<(), Fail> {
     assert_eq!(rt; joined.early().len(), 12);
     take_in(&mut joined, 1)?;
     assert!(rt; is_whole(&joined));
+    Ok(())
+}
+
+#[test]
+fn a_far_message_waits_while_gaps_close(rt: HostRuntime) -> Result<(), Fail> {
+    let mask = Mask::new(3, 2)?;
+    let mut view = ThreadView::of(rt.alloc(), 9_000, Kind::Preempted { ran: 1 });
+    view.insert(1, Kind::Created { mask, ready: true })?;
+    for pair in 1..500u32 {
+        view.insert(2 * pair + 1, Kind::Preempted { ran: 1 })?;
+        assert_eq!(rt; view.early().len(), 2);
+        view.insert(2 * pair, Kind::Preempted { ran: 1 })?;
+        assert_eq!(rt; view.upto(), 2 * pair + 1);
+        assert_eq!(rt; view.early().len(), 1);
+    }
+    assert!(rt; view.has(9_000));
     Ok(())
 }

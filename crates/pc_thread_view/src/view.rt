@@ -8,7 +8,7 @@ ghost use Rattle.pc_thread_view.specs.ToldLaws.{unique_told, stays_told};
 ghost use Rattle.pc_thread_view.specs.Same.{is_same_told, told_partial, told_equivalence};
 
 use crate::early::Early;
-use crate::held::{Held, append, covers_held, has_held, is_same_held, join_held};
+use crate::held::{Held, append, covers_held, has_held, is_same_held, join_held, take_one};
 use pc_join::join::{Join, OutOfMemory};
 use pc_messages::kind::Kind;
 use pc_messages::reported::Reported;
@@ -67,8 +67,7 @@ impl ThreadView {
         }
     }
 
-    /// Takes in one message. A number that is known changes nothing. Where memory runs out, the view is as before or
-    /// has taken the message in.
+    /// Takes in one message. A number that is known changes nothing, and so does want of memory.
     pub fn insert(&mut self, number: u32, kind: Kind) -> Result<(), OutOfMemory>
         requires { IsWellFormed number kind }
         ensures union { OnOk result (IsUnion (numbers_of self.old) (only number) (numbers_of self.new)) }
@@ -76,13 +75,14 @@ impl ThreadView {
         ensures of_source { (s : Source) → IsOfThread self.old s → s (number ∷ []) ≡ written kind → IsOfThread self.new s }
         ensures known { IsTrue (tells self.old number) → self.new ≡ self.old }
         ensures known_succeeds { IsTrue (tells self.old number) → IsOk result }
+        ensures err { OnErr result (self.new ≡ self.old) }
         ensures sound { IsSound self.new }
     {
         if self.has(number) {
             return Ok(());
         }
-        let one = ThreadView::of(self.held.early.allocator(), number, kind);
-        self.join_from(&one)
+        take_one(&mut self.held, number, kind)?;
+        Ok(())
     }
 
     /// The last number of the messages that are all known; 0 where the first message is not.
