@@ -32,9 +32,9 @@ def first_run(lines):
             created += 1
         elif blocked and pick < 0.6:
             yield f"wake t{blocked.pop(chance.randrange(len(blocked)))}"
-        elif line % (lines // 10 + 1) == 0:
+        elif line % 100 == 0:
             yield f"publish {chance.randrange(CPUS)}"
-        elif line % (lines // 10 + 1) == 1:
+        elif line % 1000 == 1:
             yield f"show {chance.randrange(CPUS)}"
         else:
             yield f"status t{chance.randrange(created)}"

@@ -1,7 +1,7 @@
 #!/usr/bin/env python3
-"""Runs the built program on every case, as both compilers built it, and compares bytes.
+"""Runs the built program on every case and on every example, as both compilers built it, and compares bytes.
 
-A case is a folder of tests/cases:
+An example is a script of examples/ beside what it prints. A case is a folder of tests/cases:
   args      the arguments, one a line (none: `replay`)
   stdin     the standard input, or make-stdin, a shell script that writes it (none: empty)
   stdout    what the program has to write (none: nothing), or stdout-is-not-fixed where only its being there is wanted
@@ -55,6 +55,15 @@ def faults_of(case, program):
     return faults
 
 
+def faults_of_example(script, program):
+    """What differs from the output that stands beside the example's script, as a list of texts."""
+    run = subprocess.run([str(program), "replay", str(script)], capture_output=True, timeout=SECONDS)
+    wanted = script.with_suffix(".output").read_bytes()
+    if (run.returncode, run.stdout, run.stderr) == (0, wanted, b""):
+        return []
+    return [f"status {run.returncode}, standard output {run.stdout[:400]!r}, wanted {wanted[:400]!r}"]
+
+
 def main():
     parser = argparse.ArgumentParser(description=__doc__, formatter_class=argparse.RawDescriptionHelpFormatter)
     parser.add_argument("--gate-status", type=int, default=0, help="the exit status of the gate, to be counted too")
@@ -68,10 +77,11 @@ def main():
     if not cases:
         print("no case in tests/cases")
         failed += 1
-    for case in cases:
+    examples = sorted((ROOT / "examples").glob("*.script"))
+    for case in [*cases, *examples]:
         for program in PROGRAMS:
             try:
-                faults = faults_of(case, program)
+                faults = faults_of_example(case, program) if case in examples else faults_of(case, program)
             except (OSError, subprocess.SubprocessError) as error:
                 faults = [str(error)]
             passed, failed = (passed, failed + 1) if faults else (passed + 1, failed)

@@ -72,3 +72,14 @@ fn several_of_one_thread(rt: HostRuntime) -> Result<(), Fail> {
     assert!(rt; !queue.pending(Tid(0)));
     Ok(())
 }
+
+// Room and posts are wanting together: the room is told first.
+#[test]
+fn a_full_queue_comes_before_spent_posts(rt: HostRuntime) -> Result<(), Fail> {
+    let mut queue = CpuQueue::new(rt.alloc(), 1, 1);
+    queue.post(TICK)?;
+    assert_eq!(rt; queue.post(TICK), Err(QueueFault::QueueFull));
+    queue.consume(1)?;
+    assert_eq!(rt; queue.post(TICK), Err(QueueFault::PostsSpent));
+    Ok(())
+}

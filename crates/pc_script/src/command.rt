@@ -81,11 +81,11 @@ pub enum Command {
         queue: u8,
         cpu: Option<u8>,
     },
-    /// `publish C`: the agent of CPU C sends what its queue holds to its peers.
+    /// `publish C`: the agent of CPU C takes in what its queue holds, and sends it to its peers.
     Publish {
         cpu: u8,
     },
-    /// `consume C`: the agent of CPU C removes from its queue the items that its view has taken in.
+    /// `consume C`: the agent of CPU C removes from its queue the items that it has sent.
     Consume {
         cpu: u8,
     },

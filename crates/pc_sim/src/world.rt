@@ -82,6 +82,7 @@ impl World {
         ensures ok { IfOk result (λ world. ShowsWorld world (opened limits)) }
         ensures within { IfOk result (λ _. bad_field profile limits ≡ None) }
         ensures refused { (field : LimitField) → result ≡ Err (LimitsFault.BadLimits field) → bad_field profile limits ≡ Some field }
+        ensures memory_last { result ≡ Err LimitsFault.OutOfMemory → bad_field profile limits ≡ None }
     {
         match Kernel::new_in(alloc, profile, limits) {
             Err(fault) => Err(fault),
@@ -141,6 +142,7 @@ impl World {
         }
     }
 
+    /// The thread's status word, with its phase.
     fn status(&self, thread: Tid) -> Reply
         ensures { IsStatus thread ((seen self.now.kernel).thread thread) result }
     {
@@ -180,6 +182,8 @@ impl World {
         let count = items.len() as u32;
         let index = self.sent.len() as u64;
         let delta = delta_of(alloc, items)?;
+        // Room comes first: the agent counts as sent only what is.
+        self.sent.reserve(1)?;
         let agent = &mut self.agents[cpu.index() as usize];
         match take_in(&mut agent.view, &delta) {
             Err(_) => return Err(AllocError),

@@ -1,4 +1,4 @@
-use Rattle.std.proofs.Common.{◌≡◌, ◌<◌, length, ap, sym, ◌∙◌, slice_get, set, refl, arith}
+use Rattle.std.proofs.Common.{◌≡◌, ◌<◌, ◌++◌, ◌∷◌, [], length, ap, sym, ◌∙◌, slice_get, set, refl, arith}
 use Rattle.pc_sim.specs.declared.agents.Agent.{Agent}
 use Rattle.pc_sim.proofs.Acting.{send_did, item_at}
 use Rattle.pc_sim.proofs.world.World.send.Goals as goal
@@ -12,4 +12,4 @@ returns c =
     let there = ap (slice_get c.args.self.now.agents.items) (sym place) ∙ item_at c.args.self.now.agents.items c.index.result c.index_mut-agent.result.now c.index_mut-agent.result.now low c.index_mut-agent.ensures.value in
     let more : Agent = record { view = c.take_in.new.view; shown = length c.args.items.now } in
     send_did c.args.self.now _ c.args.cpu c.args.items.now c.index_mut-agent.result.now more c.in_ok-delta.delta there refl (ap (λ i. set c.args.self.now.agents.items i more) place)
-    c.in_ok-push.ensures.items c.in-Ok.ensures.done c.in_ok-delta.ensures.told c.in_ok-delta.ensures.of_run refl c.len-index.result (c.len-index.ensures ∙ c.args.self.now.sent.ok.0)
+    (c.in_ok-push.ensures.items ∙ ap (λ sent. sent ++ c.in_ok-delta.delta ∷ []) c.in_ok-reserve.ensures.items) c.in-Ok.ensures.done c.in_ok-delta.ensures.told c.in_ok-delta.ensures.of_run refl c.len-index.result (c.len-index.ensures ∙ c.args.self.now.sent.ok.0)
