@@ -5,7 +5,8 @@
     generate.py kernel-calls LINES  all calls of the kernel: threads that are committed, leave their CPU and are woken, and queues consumed
     generate.py kernel-only LINES   the same without publish and consume, so that no view grows
     generate.py late LINES          one thread's messages, a delta each, delivered to another agent in descending order: four lines for each
-    generate.py scattered LINES     the same in an order drawn at random
+    generate.py late-batches LINES  the same, eight messages to a delta: eleven lines for each delta
+    generate.py scattered LINES     as late, in an order drawn at random
     generate.py answer-empty LINES  4,096 threads, and then answers to an agent that knows none of them
     generate.py answer-half LINES   the same to an agent that knows half of them
     generate.py answer-equal LINES  the same to an agent that knows all of them
@@ -43,8 +44,9 @@ def first_run(lines):
 class Threads:
     """What the kernel will know of its threads and queues, so that most calls are accepted."""
 
-    def __init__(self):
-        self.home, self.on, self.blocked, self.number, self.pending = [], [], [], [], []
+    def __init__(self, consumes):
+        self.consumes = consumes
+        self.home, self.on, self.blocked, self.dead, self.number, self.pending = [], [], [], [], [], []
         self.posts, self.running, self.held = [0] * CPUS, [None] * CPUS, [[] for _ in range(CPUS)]
 
     def post(self, thread):
@@ -54,6 +56,8 @@ class Threads:
         self.held[self.home[thread]].append(thread)
 
     def consume(self, cpu):
+        if not self.consumes:
+            return "status t7"
         for thread in self.held[cpu]:
             self.pending[thread] -= 1
         self.held[cpu] = []
@@ -69,13 +73,15 @@ class Threads:
         self.home.append(queue)
         self.on.append(None)
         self.blocked.append(False)
+        self.dead.append(False)
         self.number.append(0)
         self.pending.append(0)
         self.post(len(self.home) - 1)
 
-    def leave(self, thread, blocks):
+    def leave(self, thread, how):
         cpu = self.on[thread]
-        self.on[thread], self.running[cpu], self.blocked[thread] = None, None, blocks
+        self.on[thread], self.running[cpu] = None, None
+        self.blocked[thread], self.dead[thread] = how == "block", how == "die"
         self.post(thread)
         return cpu
 
@@ -87,21 +93,23 @@ class Threads:
 
 def thread_call(chance, threads, thread):
     """The next call in a thread's life."""
+    if threads.dead[thread]:
+        return f"status t{thread}"
     if threads.blocked[thread]:
         threads.blocked[thread] = False
         threads.post(thread)
         return f"wake t{thread}"
     if threads.on[thread] is not None:
-        leave = chance.choice(["yield", "block", "preempt"])
-        return f"{leave} {threads.leave(thread, leave == 'block')} {chance.randrange(100)}"
+        leave = "die" if chance.random() < 0.001 else chance.choice(["yield", "block", "preempt"])
+        return f"{leave} {threads.leave(thread, leave)} {chance.randrange(100)}"
     if threads.running[threads.home[thread]] is None:
         return threads.commit(thread)
     pick = chance.random()
-    if pick < 0.4:
+    if pick < 0.3:
         return threads.associate(thread, chance.randrange(CPUS))
     if pick < 0.6:
         threads.post(thread)
-        return f"priority t{thread} {chance.randrange(8)}"
+        return f"priority t{thread} {chance.randrange(8)}" if pick < 0.45 else f"affinity t{thread} {2**CPUS - 1}"
     return f"status t{thread}"
 
 
@@ -111,13 +119,14 @@ def cpu_call(chance, threads, cpu):
     if pick == 0:
         threads.posts[cpu] += 1
         return f"tick {cpu}"
-    return [f"sleep {cpu} {threads.posts[cpu]}", f"rouse {cpu}", f"config {cpu} {chance.randrange(CPUS)}", f"asleep {cpu}"][pick - 1]
+    target = chance.choice([*range(CPUS), "-"])
+    return [f"sleep {cpu} {threads.posts[cpu]}", f"rouse {cpu}", f"config {cpu} {target}", f"asleep {cpu}"][pick - 1]
 
 
-def kernel_calls(lines):
+def kernel_calls(lines, learns=True):
     """All calls of the kernel on 64 CPUs and 4,096 threads. Each queue is published and consumed in its turn."""
     chance = random.Random(20261122)
-    threads = Threads()
+    threads = Threads(learns)
     yield f"enclave {CPUS} {THREADS} 1000000 65536 4294967295"
     for line in range(1, lines):
         if line <= THREADS:
@@ -125,7 +134,7 @@ def kernel_calls(lines):
             threads.create(queue)
             yield f"create {queue} {2**CPUS - 1} ready"
         elif line % 32 == 1:
-            yield f"publish {line // 32 % CPUS}"
+            yield f"publish {line // 32 % CPUS}" if learns else "status t7"
         elif line % 32 == 2:
             yield threads.consume(line // 32 % CPUS)
         elif chance.random() < 0.8:
@@ -136,20 +145,17 @@ def kernel_calls(lines):
 
 
 def kernel_only(lines):
-    """The kernel's calls without those by which agents learn."""
-    for command in kernel_calls(lines):
-        if command.startswith(("publish", "consume", "associate")):
-            yield "status t7"
-        else:
-            yield command
+    """The same without those calls by which agents learn, so that queues only grow and each move of a thread is refused."""
+    return kernel_calls(lines, learns=False)
 
 
-def deliveries(lines, arrange):
-    """One thread's messages, a delta each, delivered to another agent in an order of their own."""
+def deliveries(lines, arrange, batch=1):
+    """One thread's messages in deltas of so many, delivered to another agent in an order of their own."""
     yield "enclave 2 8 1000000 65536 4294967295"
-    count = lines // 4
+    count = lines // (batch + 3)
     for number in range(count):
-        yield "create 0 3 ready" if number == 0 else "affinity t0 3"
+        for message in range(batch):
+            yield "create 0 3 ready" if number == message == 0 else "affinity t0 3"
         yield "publish 0"
         yield "consume 0"
     numbers = list(range(count))
@@ -161,6 +167,11 @@ def deliveries(lines, arrange):
 def late(lines):
     """Early messages that arrive in descending order, the first message last."""
     return deliveries(lines, list.reverse)
+
+
+def late_batches(lines):
+    """The same, eight to a delta."""
+    return deliveries(lines, list.reverse, 8)
 
 
 def scattered(lines):
@@ -201,6 +212,7 @@ SCRIPTS = {
     "kernel-calls": kernel_calls,
     "kernel-only": kernel_only,
     "late": late,
+    "late-batches": late_batches,
     "scattered": scattered,
     "answer-empty": answers(0),
     "answer-half": answers(1),

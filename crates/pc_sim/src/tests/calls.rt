@@ -114,12 +114,12 @@ fn a_queue_wakes_nobody(rt: HostRuntime) {
 }
 
 #[test]
-fn levels_are_told(rt: HostRuntime) {
+fn levels_go_up_and_down(rt: HostRuntime) {
     gives(
         &rt,
         rt.alloc(),
-        b"enclave 2 8 100 16 1000\ncreate 0 3 ready\ncreate 0 3 ready\ncreate 0 3 ready\npriority t1 5\npriority t2 5\npriority t0 8\npriority t9 1\npublish 0\nconsume 0\nshow 0\n",
-        b"ok\nok t0 n1 q0 a1 wake -\nok t1 n1 q0 a2 wake -\nok t2 n1 q0 a3 wake -\nok t1 n2 q0 a4 wake -\nok t2 n2 q0 a5 wake -\nrefused BadLevel\nrefused UnknownThread\nok d0 items 5\nok 5\nt0 upto 1 ready mask 3 ran 0 early -\nt1 upto 2 ready mask 3 ran 0 level 5 early -\nt2 upto 2 ready mask 3 ran 0 level 5 early -\nend\n",
+        b"enclave 2 8 100 16 1000\ncreate 0 3 ready\ncreate 0 3 ready\ncreate 0 3 ready\npriority t1 5\npriority t2 5\npriority t0 8\npriority t9 1\npublish 0\nconsume 0\ncommit 0 t1 5\nshow 0\npriority t1 0\nyield 0 1\ncommit 0 t1 6\ncommit 0 t2 7\n",
+        b"ok\nok t0 n1 q0 a1 wake -\nok t1 n1 q0 a2 wake -\nok t2 n1 q0 a3 wake -\nok t1 n2 q0 a4 wake -\nok t2 n2 q0 a5 wake -\nrefused BadLevel\nrefused UnknownThread\nok d0 items 5\nok 5\nok t1 c0\nt0 upto 1 ready mask 3 ran 0 early -\nt1 upto 2 ready mask 3 ran 0 level 5 early -\nt2 upto 2 ready mask 3 ran 0 level 5 early -\nend\nok t1 n3 q0 a6 wake -\nok t1 n4 q0 a7 wake -\nrefused Stale 7\nok t2 c0\n",
         Outcome::Finished,
     );
 }
