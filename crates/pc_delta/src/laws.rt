@@ -1,6 +1,6 @@
 //! What holds of every exchange of deltas, over the definitions alone.
 
-ghost use Rattle.std.specs.Prelude.{ℕ, ◌≡◌, ◌↔◌, ◌||◌, List, None, All};
+ghost use Rattle.std.specs.Prelude.{ℕ, ◌≡◌, ◌↔◌, ◌||◌, List, None, All, IsTrue};
 ghost use Rattle.pc_messages.specs.Run.{Run, Extends, IsWellFormed};
 ghost use Rattle.pc_messages.specs.declared.message.Message.{Message};
 ghost use Rattle.pc_messages.specs.declared.reported.Reported.{Reported};
@@ -11,7 +11,7 @@ ghost use Rattle.pc_delta.specs.declared.part.Part.{Part};
 ghost use Rattle.pc_delta.specs.declared.part.Part.TheVariants.{One, Folded};
 ghost use Rattle.pc_delta.specs.Parts.{set_of, AreOfRun, all_parts, pairs_of_parts};
 ghost use Rattle.pc_delta.specs.Faults.{HasNoConflict, IsPossiblePrefix, fault_of, first_fault};
-ghost use Rattle.pc_delta.specs.Digests.{RangesByName, set_of_digest};
+ghost use Rattle.pc_delta.specs.Digests.{RangesByName, set_of_digest, is_same_digest};
 ghost use Rattle.pc_delta.specs.Exchange.{IsTakenIn, IsPartlyTakenIn};
 ghost use Rattle.pc_delta.specs.Worked.{NoParts, Numbers, Misplaced, Ran, FirstPart, Places, Pairs};
 
@@ -29,6 +29,11 @@ pub fn taking_in_again_completes()
 /// Equal digests of views of one run mean equal views.
 pub fn digests_tell_views_apart()
     ensures { (run : Run) (a b : View) (digest other : RangesByName) → IsOfRun run a → IsOfRun run b → IsSameSet (set_of_digest digest) (pairs_of a) → IsSameSet (set_of_digest other) (pairs_of b) → digest ≡ other → a ≡ b }
+{}
+
+/// Two digests are equal exactly where they are of the same sets of numbers.
+pub fn equality_is_exact()
+    ensures { (a b : RangesByName) → IsTrue (is_same_digest a b) ↔ (a ≡ b) }
 {}
 
 /// Parts of one run do not contradict each other.

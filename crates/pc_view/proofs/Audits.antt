@@ -55,6 +55,15 @@ has_of : (run : Run) (t : ℕ) (before : List (ℕ × Kind)) (n : ℕ) (kind : K
 has_of run t [] n kind after h = nothing_written (kind_at (run t) n) kind h.0
 has_of run t (b ∷ bs) n kind after h = has_of run t bs n kind after h.1
 
+-- each early message that is told of a run's thread is one of the run
+had_each : (run : Run) (t : ℕ) (early : List (ℕ × Kind)) → HasEach (source_at (source_of run) t) early → All (Has (run t)) early
+had_each run t [] h k d less = absurd (let none : ⊥ = omega arith in none)
+had_each run t (e ∷ es) h zero d less = nothing_written (kind_at (run t) e.0) e.1 h.0
+had_each run t (e ∷ es) h (suc k) d less = had_each run t es h.1 k d (omega (arith, less))
+
+pub early_of_run : (run : Run) (view : View) (thread : ℕ) (told : Told) → IsOfRun run view → thread_of view thread ≡ Some told → All (Has (run thread)) told.early
+early_of_run run view thread told of_run there = had_each run thread told.early (of_run.each thread told there).early
+
 module _ (run : Run) (view : View) (thread : ℕ) (told : Told) (number : ℕ) (of_run : IsOfRun run view) (there : thread_of view thread ≡ Some told) where
   not_past : IsPast (run thread) told number → ⊥
   not_past (past, _) = let within = within_run run view thread told of_run there in omega arith

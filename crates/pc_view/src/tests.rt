@@ -256,3 +256,45 @@ fn a_view_that_lacks_the_last_message_is_not_complete(rt: HostRuntime) -> Result
     assert!(rt; !complete(&first, &kernel, Tid(1)));
     Ok(())
 }
+
+// What the prefix reports is looked at before the early messages.
+#[test]
+fn another_state_comes_before_a_strange_early_message(rt: HostRuntime) -> Result<(), Fail> {
+    let kernel = kernel_of_one(rt.alloc())?;
+    let mut view = view_of(rt.alloc(), 0, 1, created(1)?)?;
+    view.merge(&view_of(rt.alloc(), 0, 7, Kind::Wakeup)?)?;
+    assert_eq!(rt; audit(&view, &kernel), stranger(0, 1));
+    Ok(())
+}
+
+// How far the prefix goes is looked at before what it reports.
+#[test]
+fn a_prefix_past_the_history_comes_before_another_state(rt: HostRuntime) -> Result<(), Fail> {
+    let kernel = kernel_of_one(rt.alloc())?;
+    let mut view = view_of(rt.alloc(), 0, 1, created(1)?)?;
+    view.merge(&view_of(rt.alloc(), 0, 2, Kind::Wakeup)?)?;
+    assert_eq!(rt; audit(&view, &kernel), stranger(0, 2));
+    Ok(())
+}
+
+// The first number past a history without a message is 1.
+#[test]
+fn the_prefix_of_an_unknown_thread_comes_before_its_early_messages(
+    rt: HostRuntime,
+) -> Result<(), Fail> {
+    let kernel = kernel_of_one(rt.alloc())?;
+    let mut view = view_of(rt.alloc(), 9, 1, created(3)?)?;
+    view.merge(&view_of(rt.alloc(), 9, 5, Kind::Wakeup)?)?;
+    assert_eq!(rt; audit(&view, &kernel), stranger(9, 1));
+    Ok(())
+}
+
+// A view that is not of the kernel's run may know more than the kernel has.
+#[test]
+fn a_view_past_the_history_is_complete(rt: HostRuntime) -> Result<(), Fail> {
+    let kernel = kernel_of_one(rt.alloc())?;
+    let mut view = view_of(rt.alloc(), 0, 1, created(3)?)?;
+    view.merge(&view_of(rt.alloc(), 0, 2, Kind::Wakeup)?)?;
+    assert!(rt; complete(&view, &kernel, Tid(0)));
+    Ok(())
+}

@@ -1,6 +1,6 @@
 //! The view of all threads.
 
-ghost use Rattle.std.specs.Prelude.{ℕ, ◌+◌, ◌*◌, ◌≡◌, ◌≤◌, ◌<◌, ◌↔◌, Bool, true, false, List, [], ◌∷◌, Some, None, IsTrue, IsOk, IsSome, IfSome, IfOk, OnOk, MatchOption, option_copied, take, length};
+ghost use Rattle.std.specs.Prelude.{ℕ, ◌+◌, ◌*◌, ◌≡◌, ◌≤◌, ◌<◌, ◌↔◌, Bool, true, false, List, [], ◌∷◌, Some, None, IsTrue, IsOk, IsSome, IfSome, IfOk, OnOk, MatchOption, option_copied, take, length, All};
 ghost use Rattle.pc_messages.specs.State.{state_of};
 ghost use Rattle.std.specs.FinMap as map;
 ghost use Rattle.pc_messages.specs.Run.{Run, IsWellFormed, kind_at, Extends};
@@ -9,6 +9,7 @@ ghost use Rattle.pc_join.specs.ByName.{IsNextName, HasShortNames};
 ghost use Rattle.pc_thread_view.specs.Told.{Told, numbers_of};
 ghost use Rattle.pc_view.specs.declared.view.View.{View};
 ghost use Rattle.pc_view.specs.Views.{AgreesAtNames, pairs_of, thread_of, pair, prefix_pairs, IsOfRun, IsOfSource, IsPrefixOfRun};
+ghost use Rattle.pc_view.specs.Audit.{Has};
 ghost use Rattle.pc_view.specs.ViewLaws.{unique_view, stays_view, is_same_view, view_partial, view_equivalence};
 
 use pc_join::by_name::ByName;
@@ -201,11 +202,13 @@ pub fn views_stay_as_the_run_goes_on()
 {}
 
 /// What a view of a run tells of a thread: the state of the run's messages up to the number, which it has, and it
-/// has not the next; where that is as far as the run goes, the state that the run gives.
+/// has not the next; where that is as far as the run goes, the state that the run gives. Each early message is one of
+/// the run.
 pub fn reads_are_those_of_the_run()
     ensures reported { (run : Run) (view : View) (thread : ℕ) (told : Told) → IsOfRun run view → thread_of view thread ≡ Some told → told.state ≡ state_of (take told.upto (run thread)) }
     ensures within { (run : Run) (view : View) (thread : ℕ) (told : Told) → IsOfRun run view → thread_of view thread ≡ Some told → told.upto ≤ length (run thread) }
     ensures prefix { (view : View) (thread n : ℕ) (told : Told) → thread_of view thread ≡ Some told → 1 ≤ n → n ≤ told.upto → pairs_of view (thread ∷ n ∷ []) ≡ true }
     ensures whole { (run : Run) (view : View) (thread : ℕ) (told : Told) → IsOfRun run view → thread_of view thread ≡ Some told → length (run thread) ≤ told.upto → told.state ≡ state_of (run thread) }
     ensures missing { (run : Run) (view : View) (thread : ℕ) (told : Told) → IsOfRun run view → thread_of view thread ≡ Some told → pairs_of view (thread ∷ (told.upto + 1) ∷ []) ≡ false }
+    ensures early { (run : Run) (view : View) (thread : ℕ) (told : Told) → IsOfRun run view → thread_of view thread ≡ Some told → All (Has (run thread)) told.early }
 {}
