@@ -42,6 +42,19 @@ fn tick(cpu: u8) -> Reply {
     })
 }
 
+/// What is answered where a thread was created.
+fn created(queue: u8) -> Reply {
+    Reply::Posted(Posted {
+        subject: Subject::Message {
+            thread: 0,
+            number: 1,
+        },
+        queue,
+        aseq: 1,
+        woken: None,
+    })
+}
+
 /// What is answered where a thread's second message was posted.
 fn message(thread: u32, aseq: u32) -> Reply {
     Reply::Posted(Posted {
@@ -74,15 +87,7 @@ impl Machine for Echo {
     fn answer(&mut self, command: Command) -> Result<Reply, AllocError> {
         match command {
             Command::Enclave { threads, .. } => Ok(enclave(self.version, threads)),
-            Command::Create { queue, .. } => Ok(Reply::Posted(Posted {
-                subject: Subject::Message {
-                    thread: 0,
-                    number: 1,
-                },
-                queue,
-                aseq: 1,
-                woken: None,
-            })),
+            Command::Create { queue, .. } => Ok(created(queue)),
             Command::Wake { thread } => Ok(Reply::Refused(Refusal::Stale(thread))),
             Command::Affinity { thread, .. } => Ok(message(thread, 3)),
             Command::Priority { thread, level } => Ok(message(thread, u32::from(level))),
@@ -460,8 +465,14 @@ fn silent_lines_are_counted(rt: HostRuntime) {
     }
 }
 
+/// What is written of a refusal.
+fn refusal_text(alloc: Global, refusal: Refusal) -> Result<String, Fail> {
+    let reply = Reply::Refused(refusal);
+    Ok(format!(in alloc; "{reply}")?)
+}
+
 #[test]
-fn each_refusal_has_its_name(rt: HostRuntime) -> Result<(), Fail> {
+fn each_refusal_of_an_argument_has_its_name(rt: HostRuntime) -> Result<(), Fail> {
     for (refusal, name) in [
         (Refusal::NoEnclave, "refused NoEnclave"),
         (Refusal::HaveEnclave, "refused HaveEnclave"),
@@ -480,11 +491,21 @@ fn each_refusal_has_its_name(rt: HostRuntime) -> Result<(), Fail> {
         (Refusal::EmptyMask, "refused EmptyMask"),
         (Refusal::MaskTooWide, "refused MaskTooWide"),
         (Refusal::BadLevel, "refused BadLevel"),
+        (Refusal::UnknownThread, "refused UnknownThread"),
+        (Refusal::NoDelta, "refused NoDelta"),
+    ] {
+        assert_eq!(rt; refusal_text(rt.alloc(), refusal)?.as_str(), name);
+    }
+    Ok(())
+}
+
+#[test]
+fn each_refusal_of_a_state_has_its_name(rt: HostRuntime) -> Result<(), Fail> {
+    for (refusal, name) in [
         (Refusal::NamesSpent, "refused NamesSpent"),
         (Refusal::NumbersSpent, "refused NumbersSpent"),
         (Refusal::QueueFull, "refused QueueFull"),
         (Refusal::PostsSpent, "refused PostsSpent"),
-        (Refusal::UnknownThread, "refused UnknownThread"),
         (Refusal::Dead, "refused Dead"),
         (Refusal::NotBlocked, "refused NotBlocked"),
         (Refusal::NotReady, "refused NotReady"),
@@ -497,20 +518,17 @@ fn each_refusal_has_its_name(rt: HostRuntime) -> Result<(), Fail> {
         (Refusal::Stale(2), "refused Stale 2"),
         (Refusal::Pending, "refused Pending"),
         (Refusal::TooMany, "refused TooMany"),
-        (Refusal::NoDelta, "refused NoDelta"),
         (Refusal::NothingReady, "refused NothingReady"),
         (Refusal::NothingToSteal, "refused NothingToSteal"),
         (Refusal::WireFault, "refused WireFault"),
     ] {
-        let reply = Reply::Refused(refusal);
-        let text = format!(in rt.alloc(); "{reply}")?;
-        assert_eq!(rt; text.as_str(), name);
+        assert_eq!(rt; refusal_text(rt.alloc(), refusal)?.as_str(), name);
     }
     Ok(())
 }
 
 #[test]
-fn posts_states_and_levels_are_shown(rt: HostRuntime) -> Result<(), Fail> {
+fn posts_are_told(rt: HostRuntime) -> Result<(), Fail> {
     let alloc = rt.alloc();
     let woken = Reply::Posted(Posted {
         subject: Subject::Message {
@@ -532,6 +550,12 @@ fn posts_states_and_levels_are_shown(rt: HostRuntime) -> Result<(), Fail> {
         woken: None,
     });
     assert_eq!(rt; format!(in alloc; "{tick}")?.as_str(), "ok - q0 a2 wake -");
+    Ok(())
+}
+
+#[test]
+fn states_and_levels_are_shown(rt: HostRuntime) -> Result<(), Fail> {
+    let alloc = rt.alloc();
     let status = Reply::Status(Status {
         thread: 0,
         number: 1,
