@@ -56,7 +56,8 @@ pub enum Call {
     Rouse {
         cpu: Cpu,
     },
-    /// Sets whose agent a post to the queue wakes; that agent is awake at once. Where `target` is None, nobody is woken.
+    /// Sets which CPU's agent a post to the queue wakes, and wakes that agent. Where `target` is None, nobody is woken,
+    /// now or by a post.
     Config {
         queue: Cpu,
         target: Option<Cpu>,
