@@ -31,8 +31,8 @@ refused_steps tell call fault old new h same P shows =
     rw (same, e) (refused_reply tell fault old P)
 
 -- a call that the reads accept, for which there was no memory
-pub starved_steps : {A : Type 0} (tell : A → Answer) (call : Call) (old new : KernelRows) → refused (seen old) call ≡ None → new ≡ old → StepsInMemory tell call (Err OutOfMemory) old new
-starved_steps tell call old new h same P shows =
+pub out_of_memory_steps : {A : Type 0} (tell : A → Answer) (call : Call) (old new : KernelRows) → refused (seen old) call ≡ None → new ≡ old → StepsInMemory tell call (Err OutOfMemory) old new
+out_of_memory_steps tell call old new h same P shows =
     let e : refused (shown P) call ≡ None = subst (λ (r : Reads). refused r call ≡ None) shows.reads h in
     rw e same
 
@@ -49,8 +49,8 @@ stays cpu kind fault old new h same P shows =
     let e : first_of (leave_refusals (shown P) cpu) ≡ Some fault = subst (λ (r : Reads). first_of (leave_refusals r cpu) ≡ Some fault) shows.reads h in
     rw (same, e) (refused_reply answer.Posted fault old P)
 
-pub starves : (cpu : ℕ) (kind : Kind) (old new : KernelRows) → first_of (leave_refusals (seen old) cpu) ≡ None → new ≡ old → Leaves cpu kind (Err OutOfMemory) old new
-starves cpu kind old new h same P shows =
+pub out_of_memory_leaves : (cpu : ℕ) (kind : Kind) (old new : KernelRows) → first_of (leave_refusals (seen old) cpu) ≡ None → new ≡ old → Leaves cpu kind (Err OutOfMemory) old new
+out_of_memory_leaves cpu kind old new h same P shows =
     let e : first_of (leave_refusals (shown P) cpu) ≡ None = subst (λ (r : Reads). first_of (leave_refusals r cpu) ≡ None) shows.reads h in
     rw e same
 

@@ -1,6 +1,7 @@
 -- What a kernel shows, and that a call answers as the step does.
 use Rattle.std.specs.Prelude.{ℕ, ◌≤◌, ◌≡◌, List, Result, Ok, Err}
 use Rattle.pc_kernel.specs.declared.calls.Call.{Call}
+use Rattle.pc_kernel.specs.declared.calls.Call.TheVariants.{Env}
 use Rattle.pc_kernel.specs.declared.calls.Answer.{Answer}
 use Rattle.pc_kernel.specs.declared.calls.Answer.TheVariants.{Done}
 use Rattle.pc_kernel.specs.declared.fault.KernelFault.{KernelFault}
@@ -41,6 +42,11 @@ done _ = Done
 -- the answer itself
 abbrev pub itself : Answer → Answer
 itself answer = answer
+
+-- a call that is none of the environment takes no memory
+abbrev pub StepsAsCalled : Call → Result Answer KernelFault → KernelRows → KernelRows → Type 0
+StepsAsCalled (Env call) result old new = Unit {0}
+StepsAsCalled call result old new = Steps itself call result old new
 
 -- every plain kernel that the kernel shows accepts the call with this answer, and the kernel then shows what it is after it
 abbrev pub Accepts : Call → Answer → KernelRows → KernelRows → Type 0

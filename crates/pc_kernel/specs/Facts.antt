@@ -72,5 +72,5 @@ abbrev pub CallsExtend : Type 0
 CallsExtend = (P : PlainKernel) (call : Call) → Extends (kinds (after P call)) (kinds P)
 
 -- no call is refused for want of memory: where the code answers that, the step accepts
-abbrev pub NoneIsStarved : Type 0
-NoneIsStarved = (r : Reads) (call : Call) → refused r call ≢ Some OutOfMemory
+abbrev pub NoStepWantsMemory : Type 0
+NoStepWantsMemory = (r : Reads) (call : Call) → refused r call ≢ Some OutOfMemory

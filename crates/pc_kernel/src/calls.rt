@@ -5,42 +5,59 @@ use pc_messages::names::{Cpu, Tid};
 /// A call of the environment, by which a thread's state changes. Each posts one item. `ran` is in ticks.
 #[derive(Clone, Copy, Debug, PartialEq, Eq)]
 pub enum EnvCall {
+    /// A new thread, whose home is the queue; it is ready or blocked.
     Create { queue: Cpu, mask: u64, ready: bool },
+    /// The blocked thread is ready.
     Wake { thread: Tid },
+    /// The thread on the CPU leaves it and is blocked.
     Block { cpu: Cpu, ran: u32 },
+    /// The thread on the CPU leaves it of its own accord and stays ready.
     YieldNow { cpu: Cpu, ran: u32 },
+    /// The thread on the CPU is taken off it and stays ready.
     Preempt { cpu: Cpu, ran: u32 },
+    /// The thread on the CPU leaves it and is dead.
     Die { cpu: Cpu, ran: u32 },
+    /// The thread may run on the CPUs of this mask, and on no others.
     SetAffinity { thread: Tid, mask: u64 },
+    /// The thread has this level.
     SetPriority { thread: Tid, level: u8 },
+    /// A tick of the CPU, to its queue.
     Tick { cpu: Cpu },
 }
 
 /// A call of the environment or of an agent.
 #[derive(Clone, Copy, Debug, PartialEq, Eq)]
 pub enum Call {
+    /// A call of the environment.
     Env(EnvCall),
+    /// Removes so many of the first items of the CPU's queue.
     Consume {
         cpu: Cpu,
         count: u32,
     },
+    /// Gives the thread another home queue. `number` is the thread's number that the caller last saw.
     Associate {
         thread: Tid,
         queue: Cpu,
         number: u32,
     },
+    /// Puts the thread on the CPU. `aseq` is the count of posts to the CPU's queue that the caller last saw.
     Commit {
         cpu: Cpu,
         thread: Tid,
         aseq: u32,
     },
+    /// Puts the CPU's agent to sleep. `aseq` is the count of posts to the CPU's queue that the agent last saw.
     Sleep {
         cpu: Cpu,
         aseq: u32,
     },
+    /// Wakes the CPU's agent.
     Rouse {
         cpu: Cpu,
     },
+    /// Sets which CPU's agent a post to the queue wakes, and wakes that agent. Where `target` is None, nobody is woken,
+    /// now or by a post.
     Config {
         queue: Cpu,
         target: Option<Cpu>,

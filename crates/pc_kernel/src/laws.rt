@@ -1,6 +1,6 @@
 //! What holds after every list of calls, whatever they are and whether they were refused.
 
-ghost use Rattle.pc_kernel.specs.Facts.{AlwaysAtHome, AlwaysPlaced, SleepersHadNoPost, RunsAreBegun, NamesAreDense, CallsExtend, NoneIsStarved};
+ghost use Rattle.pc_kernel.specs.Facts.{AlwaysAtHome, AlwaysPlaced, SleepersHadNoPost, RunsAreBegun, NamesAreDense, CallsExtend, NoStepWantsMemory};
 
 /// A thread's messages that were not consumed all stand in its home queue and are its last ones, in order.
 pub fn messages_stay_home()
@@ -30,6 +30,6 @@ pub fn calls_extend_the_run()
 
 /// No call is refused for want of memory by its definition: where the kernel answers that, the call is one that the
 /// definition accepts.
-pub fn none_is_starved()
-    ensures { NoneIsStarved }
+pub fn no_step_wants_memory()
+    ensures { NoStepWantsMemory }
 {}

@@ -45,49 +45,87 @@ fn fault(alloc: Global, profile: Profile, limits: Limits) -> Option<LimitsFault>
     }
 }
 
+const fn bad(field: LimitField) -> Option<LimitsFault> {
+    Some(LimitsFault::BadLimits(field))
+}
+
+/// The place of the first limits whose fault is not the wanted one.
+fn first_wrong(alloc: Global, rows: &[(Profile, Limits, Option<LimitsFault>)]) -> Option<usize> {
+    for (place, (profile, limits, wanted)) in rows.iter().enumerate() {
+        if fault(alloc, *profile, *limits) != *wanted {
+            return Some(place);
+        }
+    }
+    None
+}
+
+#[test]
+fn limits_that_are_nothing(rt: HostRuntime) {
+    let rows = [
+        (Profile::One, limits(0, 1, 1, 1, 1), bad(LimitField::Cpus)),
+        (
+            Profile::One,
+            limits(1, 0, 0, 0, 0),
+            bad(LimitField::Threads),
+        ),
+        (
+            Profile::One,
+            limits(1, 1, 0, 0, 0),
+            bad(LimitField::Numbers),
+        ),
+        (Profile::One, limits(1, 1, 1, 0, 0), bad(LimitField::Room)),
+        (Profile::One, limits(1, 1, 1, 1, 0), bad(LimitField::Posts)),
+    ];
+    assert_eq!(rt; first_wrong(rt.alloc(), &rows), None);
+}
+
 #[test]
 fn ranges_of_limits(rt: HostRuntime) {
-    let bad = |field| Some(LimitsFault::BadLimits(field));
-    let alloc = rt.alloc();
-    assert_eq!(rt;
-        fault(alloc, Profile::One, limits(65, 0, 0, 0, 0)),
-        bad(LimitField::Cpus)
-    );
-    assert_eq!(rt;
-        fault(alloc, Profile::One, limits(0, 1, 1, 1, 1)),
-        bad(LimitField::Cpus)
-    );
-    assert_eq!(rt;
-        fault(alloc, Profile::One, limits(1, 4_097, 1, 1, 1)),
-        bad(LimitField::Threads)
-    );
-    assert_eq!(rt;
-        fault(alloc, Profile::One, limits(1, 1, 1_000_001, 1, 1)),
-        bad(LimitField::Numbers)
-    );
-    assert_eq!(rt;
-        fault(alloc, Profile::One, limits(1, 1, 1, 65_537, 1)),
-        bad(LimitField::Room)
-    );
-    assert_eq!(rt;
-        fault(alloc, Profile::One, limits(1, 1, 1, 1, 0)),
-        bad(LimitField::Posts)
-    );
-    assert_eq!(rt;
-        fault(alloc, Profile::Two, limits(1, 65_535, 16_000_000, 16, 100)),
-        None
-    );
-    assert_eq!(rt;
-        fault(alloc, Profile::One, limits(1, 65_535, 16_000_000, 16, 100)),
-        bad(LimitField::Threads)
-    );
-    assert_eq!(rt;
-        fault(alloc, Profile::Two, limits(1, 65_536, 1, 1, 1)),
-        bad(LimitField::Threads)
-    );
-    assert_eq!(rt;
-        fault(alloc, Profile::Two, limits(1, 1, 16_000_001, 1, 1)),
-        bad(LimitField::Numbers)
+    let rows = [
+        (Profile::One, limits(65, 0, 0, 0, 0), bad(LimitField::Cpus)),
+        (
+            Profile::One,
+            limits(1, 4_097, 1, 1, 1),
+            bad(LimitField::Threads),
+        ),
+        (
+            Profile::One,
+            limits(1, 1, 1_000_001, 1, 1),
+            bad(LimitField::Numbers),
+        ),
+        (
+            Profile::One,
+            limits(1, 1, 1, 65_537, 1),
+            bad(LimitField::Room),
+        ),
+        (Profile::Two, limits(1, 65_535, 16_000_000, 16, 100), None),
+        (
+            Profile::One,
+            limits(1, 65_535, 16_000_000, 16, 100),
+            bad(LimitField::Threads),
+        ),
+        (
+            Profile::Two,
+            limits(1, 65_536, 1, 1, 1),
+            bad(LimitField::Threads),
+        ),
+        (
+            Profile::Two,
+            limits(1, 1, 16_000_001, 1, 1),
+            bad(LimitField::Numbers),
+        ),
+    ];
+    assert_eq!(rt; first_wrong(rt.alloc(), &rows), None);
+}
+
+// A kernel that is made without a profile's name is one of profile One.
+#[test]
+fn the_profile_of_new(rt: HostRuntime) {
+    assert!(rt;
+        matches!(
+            Kernel::new(rt.alloc(), limits(1, 65_535, 1, 1, 1)),
+            Err(LimitsFault::BadLimits(LimitField::Threads))
+        )
     );
 }
 

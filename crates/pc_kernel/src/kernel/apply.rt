@@ -8,11 +8,12 @@ use crate::fault::KernelFault;
 use crate::kernel::Kernel;
 
 impl Kernel {
-    ghost use Rattle.pc_kernel.specs.Answers.{StepsInMemory, itself};
+    ghost use Rattle.pc_kernel.specs.Answers.{StepsInMemory, StepsAsCalled, itself};
 
     /// Makes the call.
     pub fn apply(&mut self, call: Call) -> Result<Answer, KernelFault>
         ensures step { StepsInMemory itself call result self.old self.new }
+        ensures plain { StepsAsCalled call result self.old self.new }
         ensures limits { self.new.limits ≡ self.old.limits }
         ensures err { OnErr result (self.new ≡ self.old) }
     {

@@ -1,12 +1,13 @@
-//! A caller of the kernel, by the public words alone.
+//! Callers of the kernel, by the public words alone.
 
-ghost use Rattle.std.specs.Prelude.{[], ◌∷◌, IfOk};
+ghost use Rattle.std.specs.Prelude.{[], ◌∷◌, IfOk, true};
 ghost use Rattle.pc_kernel.specs.Answers.{Replays};
 
-use crate::calls::{Answer, Call};
+use crate::calls::{Answer, Call, EnvCall};
 use crate::fault::KernelFault;
 use crate::kernel::Kernel;
 use crate::tests::table::{DONE, SMALL, commit, create, tick};
+use pc_messages::names::{Cpu, Tid};
 use std::test::Fail;
 
 /// Makes three calls, each where the one before was accepted. Answers what the last one answers.
@@ -20,6 +21,53 @@ fn three(kernel: &mut Kernel, first: Call, second: Call, third: Call) -> Result<
             Ok(_) => kernel.apply(third),
         },
     }
+}
+
+/// Creates a ready thread for the queue, puts a thread on the queue's CPU, and asks for another home for a thread.
+/// Answers whether that one has moved: the last call may be refused.
+fn run_and_move(
+    kernel: &mut Kernel,
+    queue: Cpu,
+    runs: Tid,
+    aseq: u32,
+    moves: Tid,
+    home: Cpu,
+    number: u32,
+) -> Result<bool, KernelFault>
+    ensures { IfOk result (λ _. Replays (Call.Env (EnvCall.Create queue 3 true) ∷ Call.Commit queue runs aseq ∷ Call.Associate moves home number ∷ []) kernel.old kernel.new) }
+{
+    match kernel.create(queue, 3, true) {
+        Err(fault) => Err(fault),
+        Ok(_) => match kernel.commit(queue, runs, aseq) {
+            Err(fault) => Err(fault),
+            Ok(()) => match kernel.associate(moves, home, number) {
+                Ok(()) => Ok(true),
+                Err(_) => Ok(false),
+            },
+        },
+    }
+}
+
+#[test]
+fn a_running_thread_is_not_moved(rt: HostRuntime) -> Result<(), Fail> {
+    let mut kernel = Kernel::new(rt.alloc(), SMALL)?;
+    let moved = run_and_move(&mut kernel, Cpu(0), Tid(0), 1, Tid(0), Cpu(1), 1);
+    assert_eq!(rt; moved, Ok(false));
+    assert_eq!(rt; kernel.running(Cpu(0)), Some(Tid(0)));
+    assert_eq!(rt; kernel.queue_of(Tid(0)), Some(Cpu(0)));
+    Ok(())
+}
+
+#[test]
+fn a_thread_moves_beside_one_that_runs(rt: HostRuntime) -> Result<(), Fail> {
+    let mut kernel = Kernel::new(rt.alloc(), SMALL)?;
+    kernel.create(Cpu(0), 3, true)?;
+    kernel.consume(Cpu(0), 1)?;
+    let moved = run_and_move(&mut kernel, Cpu(0), Tid(1), 2, Tid(0), Cpu(1), 1);
+    assert_eq!(rt; moved, Ok(true));
+    assert_eq!(rt; kernel.running(Cpu(0)), Some(Tid(1)));
+    assert_eq!(rt; kernel.queue_of(Tid(0)), Some(Cpu(1)));
+    Ok(())
 }
 
 #[test]

@@ -76,16 +76,20 @@ fn queues_and_homes(rt: HostRuntime) -> Result<(), Fail> {
     Ok(())
 }
 
+// The agent that its queue no longer wakes sleeps on.
 #[test]
 fn sleepers(rt: HostRuntime) -> Result<(), Fail> {
     let mut kernel = Kernel::new(rt.alloc(), SMALL)?;
+    kernel.sleep(Cpu(0), 0)?;
     assert_eq!(rt; kernel.sleep(Cpu(1), 0), Ok(()));
     assert!(rt; kernel.is_asleep(Cpu(1)));
     assert_eq!(rt; kernel.config_wakeup(Cpu(0), Some(Cpu(1))), Ok(()));
     assert!(rt; !kernel.is_asleep(Cpu(1)));
+    assert!(rt; kernel.is_asleep(Cpu(0)));
     kernel.sleep(Cpu(1), 0)?;
     assert_eq!(rt; kernel.tick(Cpu(0))?.woken, Some(Cpu(1)));
     assert!(rt; !kernel.is_asleep(Cpu(1)));
+    assert!(rt; kernel.is_asleep(Cpu(0)));
     kernel.sleep(Cpu(1), 0)?;
     assert_eq!(rt; kernel.rouse(Cpu(1)), Ok(()));
     assert!(rt; !kernel.is_asleep(Cpu(1)));

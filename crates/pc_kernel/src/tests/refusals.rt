@@ -169,6 +169,27 @@ fn associating_a_running_thread(rt: HostRuntime) -> Result<(), Fail> {
     Ok(())
 }
 
+// Given the queue that it has, a thread is refused for the same causes; what is held of another thread is none of them.
+// An agent that sleeps may sleep again.
+#[test]
+fn the_own_queue_and_a_second_sleep(rt: HostRuntime) -> Result<(), Fail> {
+    let rows = [
+        (sleep(1, 0), DONE),
+        (sleep(1, 0), DONE),
+        (create(0, 3, true), sent(0, 1, 0, 1)),
+        (associate(0, 0, 2), Err(KernelFault::Stale(1))),
+        (associate(0, 0, 1), Err(KernelFault::Pending)),
+        (consume(0, 1), DONE),
+        (create(0, 3, true), sent(1, 1, 0, 2)),
+        (associate(0, 0, 1), DONE),
+        (commit(0, 0, 2), DONE),
+        (associate(0, 0, 1), Err(KernelFault::Running(Cpu(0)))),
+    ];
+    let wrong = first_wrong(rt.alloc(), Profile::One, SMALL, &rows)?;
+    assert_eq!(rt; wrong, None);
+    Ok(())
+}
+
 // Thread 0 is blocked; 1 and 3 may run on CPU 0 alone, 2 on CPU 1 alone.
 #[test]
 fn commits(rt: HostRuntime) -> Result<(), Fail> {

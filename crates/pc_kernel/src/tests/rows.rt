@@ -174,6 +174,29 @@ fn ways_to_leave(rt: HostRuntime) -> Result<(), Fail> {
     Ok(())
 }
 
+// A level is told of a thread that waits, and of one that runs, which stays on its CPU.
+#[test]
+fn priorities(rt: HostRuntime) -> Result<(), Fail> {
+    let rows = [
+        (create(0, 3, true), sent(0, 1, 0, 1)),
+        (create(0, 3, true), sent(1, 1, 0, 2)),
+        (create(0, 3, true), sent(2, 1, 0, 3)),
+        (set_priority(1, 5), sent(1, 2, 0, 4)),
+        (set_priority(2, 5), sent(2, 2, 0, 5)),
+        (set_priority(0, 8), Err(KernelFault::BadLevel)),
+        (set_priority(9, 1), Err(KernelFault::UnknownThread)),
+        (consume(0, 5), DONE),
+        (commit(0, 1, 5), DONE),
+        (set_priority(1, 0), sent(1, 3, 0, 6)),
+        (yield_now(0, 1), sent(1, 4, 0, 7)),
+        (commit(0, 1, 6), Err(KernelFault::Stale(7))),
+        (commit(0, 2, 7), DONE),
+    ];
+    let wrong = first_wrong(rt.alloc(), Profile::One, SMALL, &rows)?;
+    assert_eq!(rt; wrong, None);
+    Ok(())
+}
+
 // The widest limits of profile Two, and the widest mask.
 #[test]
 fn the_widest_limits(rt: HostRuntime) -> Result<(), Fail> {

@@ -4,7 +4,7 @@ use Rattle.pc_kernel.specs.declared.calls.Answer.TheVariants as answer
 use Rattle.pc_kernel.specs.declared.calls.Call.TheVariants.{Env}
 use Rattle.pc_kernel.specs.declared.calls.EnvCall.TheVariants.{Create}
 use Rattle.pc_kernel.specs.Sends.{Sends, adding}
-use Rattle.pc_kernel.proofs.Stepped.{refused_steps, starved_steps, sent_steps}
+use Rattle.pc_kernel.proofs.Stepped.{refused_steps, out_of_memory_steps, sent_steps}
 use Rattle.pc_kernel.proofs.kernel.Kernel.create.Goals as goal
 
 pub returns-in-Err-clause-step : goal.returns-in-Err-clause-step
@@ -18,4 +18,4 @@ returns-in-Ok-add-clause-step c =
 
 pub returns-in-Err-add-clause-step : goal.returns-in-Err-add-clause-step
 returns-in-Err-add-clause-step c =
-    starved_steps answer.Posted (Env (Create c.args.queue c.args.mask c.args.ready)) c.args.self.now c.add.new.self (sym c.in-Ok.ensures.refused) c.in-Err-add.ensures.err
+    out_of_memory_steps answer.Posted (Env (Create c.args.queue c.args.mask c.args.ready)) c.args.self.now c.add.new.self (sym c.in-Ok.ensures.refused) c.in-Err-add.ensures.err

@@ -5,7 +5,7 @@ use Rattle.pc_kernel.specs.declared.calls.Call.TheVariants.{Env}
 use Rattle.pc_kernel.specs.declared.calls.EnvCall.TheVariants.{SetAffinity}
 use Rattle.pc_kernel.specs.Sends.{Sends}
 use Rattle.pc_kernel.specs.Steps.{telling}
-use Rattle.pc_kernel.proofs.Stepped.{refused_steps, starved_steps, sent_steps}
+use Rattle.pc_kernel.proofs.Stepped.{refused_steps, out_of_memory_steps, sent_steps}
 use Rattle.pc_kernel.proofs.kernel.Kernel.set_affinity.Goals as goal
 
 pub returns-in-Err-clause-step : goal.returns-in-Err-clause-step
@@ -18,4 +18,4 @@ returns-in-Ok-tell-clause-step c =
 
 pub returns-in-Err-tell-clause-step : goal.returns-in-Err-tell-clause-step
 returns-in-Err-tell-clause-step c =
-    starved_steps answer.Posted (Env (SetAffinity c.args.thread c.args.mask)) c.args.self.now c.tell.new.self (sym c.in-Ok.ensures.refused) c.in-Err-tell.ensures.err
+    out_of_memory_steps answer.Posted (Env (SetAffinity c.args.thread c.args.mask)) c.args.self.now c.tell.new.self (sym c.in-Ok.ensures.refused) c.in-Err-tell.ensures.err

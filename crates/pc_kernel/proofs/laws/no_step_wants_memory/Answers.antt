@@ -8,7 +8,7 @@ use Rattle.pc_kernel.specs.declared.fault.KernelFault.TheVariants.{OutOfMemory}
 use Rattle.pc_kernel.specs.Limits.{first_of}
 use Rattle.pc_kernel.specs.Reads.{Reads}
 use Rattle.pc_kernel.specs.Steps.{Condition, env_refusals, refusals, leave_refusals}
-use Rattle.pc_kernel.proofs.laws.none_is_starved.Goals as goal
+use Rattle.pc_kernel.proofs.laws.no_step_wants_memory.Goals as goal
 
 -- none of the conditions is want of memory
 abbrev NoMemory : List Condition → Type 0
