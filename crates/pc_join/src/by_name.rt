@@ -1,6 +1,6 @@
 //! Values by the name of the thread that they are about.
 
-ghost use Rattle.std.specs.Prelude.{ℕ, ◌≡◌, ◌↔◌, ◌<◌, ◌^◌, Bool, true, false, List, [], ◌∷◌, Some, None, IsTrue, IfOk, OnOk, OnErr, IfSome, MatchOption, IsSome, option_copied};
+ghost use Rattle.std.specs.Prelude.{ℕ, ◌≡◌, ◌↔◌, ◌<◌, ◌^◌, Bool, true, false, List, [], ◌∷◌, Some, None, IsTrue, IsOk, IfOk, OnOk, OnErr, IfSome, MatchOption, IsSome, option_copied};
 ghost use Rattle.std.specs.FinMap as map;
 ghost use Rattle.std.specs.BTreeMap.{get};
 ghost use Rattle.std.specs.Ordering.{nat_cmp};
@@ -68,6 +68,8 @@ impl<V: Join> ByName<V> {
         ensures union { OnOk result (IsUnion (members_by_name V.known self.old) (members_at name (V.known value)) (members_by_name V.known self.new)) }
         ensures between { IsBetween (members_by_name V.known self.old) (members_at name (V.known value)) (members_by_name V.known self.new) }
         ensures of_source { (s : Source) → IsOfByName V.known V.is_of self.old s → V.is_of value (source_at s name) → IsOfByName V.known V.is_of self.new s }
+        ensures empty { IsVoid (V.known value) → self.new ≡ self.old }
+        ensures empty_succeeds { IsVoid (V.known value) → IsOk result }
     {
         if value.is_empty() {
             return Ok(());

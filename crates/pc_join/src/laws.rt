@@ -1,7 +1,7 @@
 //! What follows for every type with a join, over its definitions alone: joins are least upper bounds of inclusion.
 
 ghost use Rattle.std.specs.Prelude.{ℕ, ◌≡◌, List, ◌++◌};
-ghost use Rattle.pc_join.specs.Sets.{Members, Source, IsJoin, IsWithin, IsSameSet, IsUnion, AgreesOn, as_members};
+ghost use Rattle.pc_join.specs.Sets.{Members, Source, IsJoin, IsWithin, IsSameSet, IsUnion, IsBetween, AgreesOn, as_members};
 
 use crate::join::Join;
 
@@ -47,4 +47,14 @@ pub fn values_stay_of_longer_sources<V: Join>()
 /// The set of two lists of pairs together is the union of their sets.
 pub fn union_of_pairs_is_append()
     ensures { (xs ys : List (ℕ × ℕ)) → IsUnion (as_members xs) (as_members ys) (as_members (xs ++ ys)) }
+{}
+
+/// Joining again completes what want of memory broke off.
+pub fn joining_again_completes<V: Join>()
+    ensures { (a b x y : V) → IsBetween (V.known a) (V.known b) (V.known x) → IsUnion (V.known x) (V.known b) (V.known y) → IsUnion (V.known a) (V.known b) (V.known y) }
+{}
+
+/// Values of one source that know the same are equal.
+pub fn equal_sets_are_equal<V: Join>()
+    ensures { (s : Source) (a b : V) → V.is_of a s → V.is_of b s → IsSameSet (V.known a) (V.known b) → a ≡ b }
 {}

@@ -38,25 +38,27 @@ impl Numbers {
         }
     }
 
-    /// Adds a number, which is not 0. Where memory runs out, the numbers may be as before.
+    /// Adds a number, which is not 0. Where memory runs out, nothing changes.
     pub fn insert(&mut self, n: u32) -> Result<(), OutOfMemory>
         requires { 1 ≤ n }
         ensures union { OnOk result (IsUnion (numbers_in self.old) (numbers_from_to n n) (numbers_in self.new)) }
         ensures between { IsBetween (numbers_in self.old) (numbers_from_to n n) (numbers_in self.new) }
         ensures apart { AreApart 0 self.new }
+        ensures err { OnErr result (self.new ≡ self.old) }
     {
         self.add_range(n, n)
     }
 
-    /// Adds all numbers from one, which is not 0, to another.
+    /// Adds all numbers from one, which is not 0, to another. Where memory runs out, nothing changes.
     pub fn add_range(&mut self, from: u32, to: u32) -> Result<(), OutOfMemory>
         requires positive { 1 ≤ from }
         requires some { from ≤ to }
         ensures union { OnOk result (IsUnion (numbers_in self.old) (numbers_from_to from to) (numbers_in self.new)) }
         ensures between { IsBetween (numbers_in self.old) (numbers_from_to from to) (numbers_in self.new) }
         ensures apart { AreApart 0 self.new }
+        ensures err { OnErr result (self.new ≡ self.old) }
     {
-        join_ranges(&mut self.ranges, &[(from, to)])
+        add_one_range(&mut self.ranges, from, to)
     }
 
     /// Whether the number is there.
@@ -160,6 +162,24 @@ fn merge(
             }
         }
     }
+}
+
+/// Joins one range: to the end where it starts there, and else into a new list, so that want of memory changes nothing.
+fn add_one_range(ranges: &mut Vec<(u32, u32)>, from: u32, to: u32) -> Result<(), OutOfMemory>
+    requires apart { AreApart 0 ranges.old.items }
+    requires positive { 1 ≤ from }
+    requires some { from ≤ to }
+    ensures apart { AreApart 0 ranges.new.items }
+    ensures union { OnOk result (IsEither (in_ranges ranges.old.items) (in_range (from, to)) (in_ranges ranges.new.items)) }
+    ensures err { OnErr result (ranges.new.items ≡ ranges.old.items) }
+{
+    if start_at_most(ranges.as_slice(), from) {
+        return append(ranges, from, to);
+    }
+    let mut joined = Vec::with_capacity(*ranges.allocator(), ranges.len())?;
+    merge(&mut joined, ranges.as_slice(), &[(from, to)])?;
+    *ranges = joined;
+    Ok(())
 }
 
 /// Joins ranges that are apart: at the end where they start there, and else into a new list.

@@ -116,6 +116,55 @@ fn an_empty_value_changes_nothing(rt: HostRuntime) -> Result<(), Fail> {
     Ok(())
 }
 
+/// `{t0: {1, 2}, t1: {5}}`, joined from two values.
+fn two_names(alloc: Global) -> Result<ByName<Numbers>, OutOfMemory> {
+    let mut first = ByName::new(alloc);
+    first.put(Tid(0), numbers(alloc, &[1])?)?;
+    let mut other = ByName::new(alloc);
+    other.put(Tid(0), numbers(alloc, &[2])?)?;
+    other.put(Tid(1), numbers(alloc, &[5])?)?;
+    join_both(&first, &other)
+}
+
+#[test]
+fn an_empty_value_under_a_new_name_leaves_the_same(rt: HostRuntime) -> Result<(), Fail> {
+    let before = two_names(rt.alloc())?;
+    let mut after = before.try_copy()?;
+    after.put(Tid(7), Numbers::new(rt.alloc()))?;
+    assert!(rt; is_same(&before, &after));
+    assert!(rt; after.get(Tid(7)).is_none());
+    Ok(())
+}
+
+#[test]
+fn an_empty_value_adds_no_name(rt: HostRuntime) -> Result<(), Fail> {
+    let mut names = two_names(rt.alloc())?;
+    names.put(Tid(7), Numbers::new(rt.alloc()))?;
+    assert_eq!(rt; names.next(Tid(0)), Some(Tid(0)));
+    assert_eq!(rt; names.next(Tid(1)), Some(Tid(1)));
+    assert_eq!(rt; names.next(Tid(2)), None);
+    Ok(())
+}
+
+#[test]
+fn an_empty_value_leaves_the_numbers(rt: HostRuntime) -> Result<(), Fail> {
+    let mut names = two_names(rt.alloc())?;
+    names.put(Tid(7), Numbers::new(rt.alloc()))?;
+    let both = names.get(Tid(0)).ok_or("no t0")?;
+    assert_eq!(rt; both.ranges(), [(1, 2)].as_slice());
+    let five = names.get(Tid(1)).ok_or("no t1")?;
+    assert_eq!(rt; five.ranges(), [(5, 5)].as_slice());
+    Ok(())
+}
+
+#[test]
+fn sixteen_million_numbers_are_one_range(rt: HostRuntime) -> Result<(), Fail> {
+    let mut all = Numbers::new(rt.alloc());
+    all.add_range(1, 16_000_000)?;
+    assert_eq!(rt; all.ranges(), [(1, 16_000_000)].as_slice());
+    Ok(())
+}
+
 #[test]
 fn turns_are_taken_in_order(rt: HostRuntime) -> Result<(), Fail> {
     let turn = next_turn(&[(2, 'b')], &[(1, 'a'), (3, 'c')]).ok_or("no turn")?;
