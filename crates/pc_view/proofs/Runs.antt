@@ -1,5 +1,5 @@
 -- Views and the runs that they are of.
-use Rattle.std.proofs.Common.{ℕ, suc, zero, ◌+◌, ◌-◌, ◌<◌, ◌≤◌, ◌≡◌, ◌==◌, ◌⊎◌, ◌^◌, cond, Bool, true, false, IsTrue, ◌↔◌, List, [], ◌∷◌, ◌++◌, ◌||◌, length, take, drop, Option, Some, None, IsSome, refl, sym, ap, ◌∙◌, subst, arith, inl, inr}
+use Rattle.std.proofs.Common.{ℕ, suc, zero, ◌+◌, ◌-◌, ◌<◌, ◌≤◌, ◌≡◌, ◌==◌, ◌⊎◌, ◌^◌, cond, Bool, true, false, IsTrue, ◌↔◌, List, [], ◌∷◌, ◌++◌, ◌||◌, ◌&&◌, length, take, drop, Option, Some, None, IsSome, refl, sym, ap, ◌∙◌, subst, arith, inl, inr}
 use Rattle.std.specs.List.{slice_get}
 use Rattle.std.specs.Bool.{Decides}
 use Rattle.std.specs.Ordering.{nat_cmp}
@@ -11,12 +11,13 @@ use Rattle.pc_thread_view.specs.ToldLaws.{same_kind, written_some, lacks_next}
 use Rattle.pc_messages.specs.declared.kind.Kind.{Kind}
 use Rattle.pc_messages.specs.declared.reported.Reported.{Reported}
 use Rattle.pc_messages.specs.Run.{Run, Extends, kind_at}
-use Rattle.pc_join.specs.Sets.{Source, IsVoid, source_at}
+use Rattle.pc_join.specs.Sets.{Source, IsVoid, source_at, members_at}
+use Rattle.pc_join.proofs.Puts.{or_none}
 use Rattle.pc_join.specs.ByName.{members_by_name, known_in, IsOfByName, HasShortNames, IsNextName}
 use Rattle.pc_thread_view.specs.Told.{Told, IsOfThread, IsPrefix, HasKinds, numbers_of, is_early, in_prefix, written}
 use Rattle.pc_thread_view.specs.Same.{is_same_told, told_Decides}
 use Rattle.pc_view.specs.declared.view.View.{View}
-use Rattle.pc_view.specs.Views.{source_of, written_at, AgreesAtNames, IsOfRun, thread_of, pairs_of}
+use Rattle.pc_view.specs.Views.{source_of, written_at, AgreesAtNames, IsOfRun, thread_of, pairs_of, prefix_pairs}
 
 -- a run that goes on gives what it gave
 got_append : {A : Type 0} (xs ys : List A) (i : ℕ) → ¬ (slice_get xs i ≡ None) → slice_get (xs ++ ys) i ≡ slice_get xs i
@@ -42,6 +43,13 @@ goes_on longer shorter extends (t ∷ n ∷ k ∷ m) h = refl
 -- a folded prefix
 pub folded_of : (s : Source) (upto : ℕ) (reported : Reported) → IsPrefix s upto (Some reported) → IsOfThread (record { upto = upto; state = Some reported; early = [] }) s
 folded_of s upto reported p = record { prefix = p; gap = tt; early = tt }
+
+-- a folded prefix tells its numbers alone
+pub folded_members : (thread upto : ℕ) (reported : Reported) (m : List ℕ) → members_at thread (numbers_of (record { upto = upto; state = Some reported; early = [] })) m ≡ prefix_pairs thread upto m
+folded_members thread upto reported [] = refl
+folded_members thread upto reported (t ∷ []) = refl
+folded_members thread upto reported (t ∷ n ∷ []) = ap (λ b. (t == thread) && b) (sym (or_none (in_prefix upto n)))
+folded_members thread upto reported (t ∷ n ∷ k ∷ m) = refl
 
 -- no names
 none_at : (x : map.FinMap nat_cmp Told) → x ≡ map.empty → (q : ℕ) → map.get x q ≡ None
