@@ -1,0 +1,47 @@
+-- Which threads may run, as a view tells, and the run list after a refresh.
+use Rattle.std.specs.Prelude.{ℕ, ◌&&◌, Bool, true, false, List, filter, Option, Some, None}
+use Rattle.pc_messages.specs.Mask.{allows}
+use Rattle.pc_messages.specs.declared.reported.Phase.{Phase}
+use Rattle.pc_messages.specs.declared.reported.Phase.TheVariants as phase
+use Rattle.pc_messages.specs.declared.reported.Reported.{Reported}
+use Rattle.pc_thread_view.specs.Told.{Told}
+use Rattle.pc_view.specs.declared.view.View.{View}
+use Rattle.pc_view.specs.Views.{thread_of}
+use Rattle.pc_run_queue.specs.Names.{with_new, by_level}
+
+-- the state that is told of a thread
+abbrev pub state_told : Option Told → Option Reported
+state_told None = None
+state_told (Some told) = told.state
+
+-- the state that the view reports of the thread
+abbrev pub reported_in : View → ℕ → Option Reported
+reported_in view t = state_told (thread_of view t)
+
+abbrev pub is_ready : Phase → Bool
+is_ready phase.Ready = true
+is_ready phase.Blocked = false
+is_ready phase.Dead = false
+
+-- a thread of this state may run on the CPU
+abbrev pub may_run : Option Reported → ℕ → Bool
+may_run None cpu = false
+may_run (Some r) cpu = is_ready r.phase && allows r.mask cpu
+
+-- the level of a thread of this state
+abbrev pub level_told : Option Reported → ℕ
+level_told None = 0
+level_told (Some r) = r.level
+
+-- the view reports the thread ready, with a mask that allows the CPU
+abbrev pub runs_in : View → ℕ → ℕ → Bool
+runs_in view cpu t = may_run (reported_in view t) cpu
+
+-- the level that the view reports of the thread
+abbrev pub level_in : View → ℕ → ℕ
+level_in view t = level_told (reported_in view t)
+
+-- the old names that the view reports ready and allowed on the CPU, in order, then the touched ones that are so and
+-- absent, each at its first place: of these the highest level first
+abbrev pub refreshed : View → ℕ → List ℕ → List ℕ → List ℕ
+refreshed view cpu old touched = by_level (level_in view) (with_new (runs_in view cpu) (filter (runs_in view cpu) old) touched)
