@@ -9,13 +9,10 @@ ghost use Rattle.pc_delta.specs.Answering.{IsUseful, IsToldAt, IsUsefulOf, IsLac
 use crate::delta::Delta;
 use crate::digest::Digest;
 use crate::part::Part;
-use pc_join::join::OutOfMemory;
-use pc_join::numbers::Numbers;
-use pc_messages::kind::Kind;
-use pc_messages::message::Message;
-use pc_messages::names::Tid;
-use pc_thread_view::view::ThreadView;
-use pc_view::view::View;
+use pc_join::{Numbers, OutOfMemory};
+use pc_messages::{Kind, Message, Tid};
+use pc_thread_view::ThreadView;
+use pc_view::View;
 use std::alloc::Global;
 
 /// A delta that tells all that the view knows and the digest has not. Each part of it tells something that the digest

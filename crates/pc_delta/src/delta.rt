@@ -6,8 +6,8 @@ ghost use Rattle.pc_delta.specs.Faults.{first_fault, IsLeastConflict, HasNoConfl
 use crate::fault::DeltaFault;
 use crate::part::Part;
 use crate::places::{first_fault_of, least_conflict};
-use pc_join::join::OutOfMemory;
-use pc_messages::names::Tid;
+use pc_join::OutOfMemory;
+use pc_messages::Tid;
 use std::marker::Model;
 
 /// What one agent tells another: parts, none of which has a fault (own). What parts of one kernel's run tell never

@@ -10,12 +10,10 @@ ghost use Rattle.pc_view.specs.Views.{pairs_of, thread_of};
 ghost use Rattle.pc_delta.specs.Digests.{RangesByName, set_of_digest, IsOfAnySource, IsDigest, is_same_digest};
 ghost use Rattle.pc_delta.specs.DigestLaws.{unique_digest, stays_digest, digest_partial, digest_equivalence};
 
-use pc_join::by_name::ByName;
-use pc_join::join::{Join, OutOfMemory};
-use pc_join::numbers::Numbers;
-use pc_messages::names::Tid;
-use pc_thread_view::view::ThreadView;
-use pc_view::view::View;
+use pc_join::{ByName, Join, Numbers, OutOfMemory};
+use pc_messages::Tid;
+use pc_thread_view::ThreadView;
+use pc_view::View;
 use std::alloc::Global;
 use std::marker::Model;
 

@@ -1,7 +1,7 @@
 //! Why parts make no delta.
 
-use pc_join::join::OutOfMemory;
-use pc_messages::names::Tid;
+use pc_join::OutOfMemory;
+use pc_messages::Tid;
 use std::alloc::{AllocError, AllocFailed};
 use thiserror::Error;
 

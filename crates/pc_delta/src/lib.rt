@@ -4,13 +4,20 @@
 //! has the numbers of known messages, with nothing of what they say: it asks for what is not in it.
 #![tactic(auto)]
 
-pub mod answer;
-pub mod delta;
-pub mod digest;
-pub mod fault;
+mod answer;
+mod delta;
+mod digest;
+mod fault;
 pub mod laws;
-pub mod part;
+mod part;
 mod places;
-pub mod taking;
+mod taking;
 #[cfg(test)]
 mod tests;
+
+pub use answer::delta_since;
+pub use delta::Delta;
+pub use digest::Digest;
+pub use fault::DeltaFault;
+pub use part::Part;
+pub use taking::{take_all, take_in};

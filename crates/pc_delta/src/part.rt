@@ -1,8 +1,6 @@
 //! Parts of a delta.
 
-use pc_messages::message::Message;
-use pc_messages::names::Tid;
-use pc_messages::reported::Reported;
+use pc_messages::{Message, Reported, Tid};
 
 /// What one part of a delta tells (own).
 #[derive(Clone, Copy, Debug, PartialEq, Eq)]

@@ -7,9 +7,8 @@ ghost use Rattle.pc_delta.specs.Places.{place_cmp, IsFirstSeen, IsLeast};
 
 use crate::fault::DeltaFault;
 use crate::part::Part;
-use pc_join::join::OutOfMemory;
-use pc_messages::message::{GREATEST_NUMBER, Message};
-use pc_messages::reported::Reported;
+use pc_join::OutOfMemory;
+use pc_messages::{GREATEST_NUMBER, Message, Reported};
 use std::alloc::Global;
 use std::collections::BTreeMap;
 

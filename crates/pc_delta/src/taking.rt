@@ -10,8 +10,8 @@ ghost use Rattle.pc_delta.specs.Exchange.{IsTakenIn, IsPartlyTakenIn};
 
 use crate::delta::Delta;
 use crate::part::Part;
-use pc_join::join::OutOfMemory;
-use pc_view::view::View;
+use pc_join::OutOfMemory;
+use pc_view::View;
 
 /// Takes in all that a delta tells. Where memory runs out, a part of it may have been taken in; taking it in again
 /// completes it.

@@ -6,14 +6,9 @@ use crate::digest::Digest;
 use crate::fault::DeltaFault;
 use crate::part::Part;
 use crate::taking::{take_all, take_in};
-use pc_join::join::{Join, OutOfMemory};
-use pc_messages::kind::Kind;
-use pc_messages::level::Level;
-use pc_messages::mask::{Mask, MaskFault};
-use pc_messages::message::Message;
-use pc_messages::names::Tid;
-use pc_messages::reported::{Phase, Reported};
-use pc_view::view::View;
+use pc_join::{Join, OutOfMemory};
+use pc_messages::{Kind, Level, Mask, MaskFault, Message, Phase, Reported, Tid};
+use pc_view::View;
 use std::alloc::Global;
 use std::test::Fail;
 

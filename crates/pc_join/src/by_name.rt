@@ -9,7 +9,7 @@ ghost use Rattle.pc_join.specs.ByName.{members_by_name, IsOfByName, HoldsNoEmpty
 ghost use Rattle.pc_join.specs.NameLaws.{unique_by_name, stays_by_name};
 
 use crate::join::{Join, OutOfMemory};
-use pc_messages::names::Tid;
+use pc_messages::Tid;
 use std::alloc::Global;
 use std::collections::BTreeMap;
 use std::marker::Model;

@@ -4,11 +4,17 @@
 //! has the union of two sets. What follows from that alone, for every type with a join, stands in [`laws`].
 #![tactic(auto)]
 
-pub mod by_name;
-pub mod join;
+mod by_name;
+mod join;
 pub mod laws;
-pub mod numbers;
+mod numbers;
 #[cfg(test)]
 mod tests;
-pub mod turn;
-pub mod upto;
+mod turn;
+mod upto;
+
+pub use by_name::ByName;
+pub use join::{Join, OutOfMemory};
+pub use numbers::Numbers;
+pub use turn::{Turn, next_turn};
+pub use upto::Upto;

@@ -5,7 +5,7 @@ use crate::join::{Join, OutOfMemory};
 use crate::numbers::Numbers;
 use crate::turn::next_turn;
 use crate::upto::Upto;
-use pc_messages::names::Tid;
+use pc_messages::Tid;
 use std::alloc::Global;
 use std::test::Fail;
 

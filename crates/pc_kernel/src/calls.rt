@@ -1,6 +1,6 @@
 //! The calls of the kernel as values, and their answers.
 
-use pc_messages::names::{Cpu, Tid};
+use pc_messages::{Cpu, Tid};
 
 /// A call of the environment, by which a thread's state changes. Each posts one item. `ran` is in ticks.
 #[derive(Clone, Copy, Debug, PartialEq, Eq)]

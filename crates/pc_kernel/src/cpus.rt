@@ -5,9 +5,8 @@ ghost use Rattle.std.specs.Option.{option_map, ForSome};
 ghost use Rattle.pc_kernel.specs.Entries.{fresh_cpu, AreTargets, roused_entry, woken_of, IsPosted};
 
 use crate::limits::Limits;
-use pc_messages::message::Item;
-use pc_messages::names::{Cpu, Tid};
-use pc_queue::queue::CpuQueue;
+use pc_messages::{Cpu, Item, Tid};
+use pc_queue::CpuQueue;
 use std::alloc::{AllocError, Global};
 
 /// A CPU: its queue, the agent that the queue wakes, the thread that runs here, and whether the CPU's own agent

@@ -1,6 +1,6 @@
 //! Why a call of the kernel is refused.
 
-use pc_messages::names::Cpu;
+use pc_messages::Cpu;
 use thiserror::Error;
 
 /// A refusal. Where several apply, a call answers the first in the order of its definition; want of memory comes

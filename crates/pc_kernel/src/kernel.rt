@@ -14,10 +14,7 @@ use crate::cpus::{CpuEntry, fresh};
 use crate::fault::KernelFault;
 use crate::limits::{LimitField, Limits, LimitsFault, Profile};
 use crate::threads::ThreadEntry;
-use pc_messages::kind::Kind;
-use pc_messages::message::Item;
-use pc_messages::names::{Cpu, Tid};
-use pc_messages::reported::Reported;
+use pc_messages::{Cpu, Item, Kind, Reported, Tid};
 use std::alloc::Global;
 use std::marker::Model;
 

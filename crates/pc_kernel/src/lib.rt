@@ -4,13 +4,18 @@
 //! posts. The code keeps rows with queues, caches and counts, which no contract names.
 #![tactic(auto)]
 
-pub mod calls;
+mod calls;
 mod cpus;
-pub mod fault;
-pub mod kernel;
+mod fault;
+mod kernel;
 pub mod laws;
-pub mod limits;
+mod limits;
 #[cfg(test)]
 mod tests;
 mod threads;
 pub mod worked;
+
+pub use calls::{Answer, Call, EnvCall, Posted};
+pub use fault::KernelFault;
+pub use kernel::{Kernel, Status};
+pub use limits::{LimitField, Limits, LimitsFault, Profile};

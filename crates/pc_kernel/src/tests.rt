@@ -8,11 +8,7 @@ use crate::calls::Posted;
 use crate::fault::KernelFault;
 use crate::kernel::{Kernel, Status};
 use crate::limits::{LimitField, Limits, LimitsFault, Profile};
-use pc_messages::kind::Kind;
-use pc_messages::mask::Mask;
-use pc_messages::message::{Item, Message};
-use pc_messages::names::{Cpu, Tid};
-use pc_messages::reported::Phase;
+use pc_messages::{Cpu, Item, Kind, Mask, Message, Phase, Tid};
 use std::alloc::Global;
 use std::test::Fail;
 

@@ -8,10 +8,7 @@ ghost use Rattle.pc_kernel.specs.Entries.{AreTargets};
 
 use crate::calls::Posted;
 use crate::cpus::{CpuEntry, post};
-use pc_messages::kind::Kind;
-use pc_messages::message::{Item, Message};
-use pc_messages::names::{Cpu, Tid};
-use pc_messages::reported::Reported;
+use pc_messages::{Cpu, Item, Kind, Message, Reported, Tid};
 use std::alloc::{AllocError, Global};
 use std::marker::Model;
 

@@ -1,5 +1,6 @@
 -- Runs: the kinds of each thread's messages, in order.
 use Rattle.std.specs.Prelude.{ℕ, ◌-◌, ◌≤◌, ◌≡◌, ◌↔◌, ◌==◌, Bool, true, false, IsTrue, IsFalse, List, [], ◌∷◌, ◌++◌, length, Option, None, cond, slice_get, All}
+use Rattle.pc_messages.specs.declared.message.TheConstants.{GREATEST_NUMBER}
 use Rattle.pc_messages.specs.declared.kind.Kind.{Kind}
 use Rattle.pc_messages.specs.declared.kind.Kind.TheVariants.{Created, Blocked, Preempted, Yield, Dead, Wakeup, Affinity, Priority}
 
@@ -41,5 +42,5 @@ Extends longer shorter = (t : ℕ) → (more : List Kind) × (longer t ≡ short
 -- a message may have this number and kind: the number is 1 to 16,000,000, and the kind is a Created exactly where it is 1
 pub record IsWellFormed (number : ℕ) (kind : Kind) : Type 0 where
   pub from_one : 1 ≤ number
-  pub greatest : number ≤ 16000000
+  pub greatest : number ≤ GREATEST_NUMBER
   pub created : IsTrue (is_created kind) ↔ (number ≡ 1)

@@ -8,6 +8,9 @@ use crate::level::Level;
 use crate::mask::Mask;
 use crate::reported::Phase;
 
+/// The most ticks that one message tells of.
+pub const MOST_TICKS: u32 = u32::MAX;
+
 /// What happened to a thread. The first eight are the ghOSt paper's messages of a thread (TIMER_TICK belongs to
 /// none, see [`crate::message::Item`]), the last is this project's own. `ran` is in ticks.
 ///

@@ -5,12 +5,20 @@
 //! kinds reports of its thread is defined in `specs/State.antt`, and a run of many threads in `specs/Run.antt`.
 #![tactic(auto)]
 
-pub mod kind;
-pub mod level;
-pub mod mask;
-pub mod message;
-pub mod names;
-pub mod reported;
-pub mod same;
+mod kind;
+mod level;
+mod mask;
+mod message;
+mod names;
+mod reported;
+mod same;
 #[cfg(test)]
 mod tests;
+
+pub use kind::{Kind, MOST_TICKS};
+pub use level::{Level, LevelFault};
+pub use mask::{Mask, MaskFault};
+pub use message::{GREATEST_NUMBER, Item, Message};
+pub use names::{Cpu, Tid};
+pub use reported::{Phase, Reported};
+pub use same::{is_same_kind, is_same_state};

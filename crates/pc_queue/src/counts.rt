@@ -6,8 +6,7 @@ ghost use Rattle.std.specs.Ordering.{nat_cmp};
 ghost use Rattle.pc_messages.specs.declared.message.Item.{Item};
 ghost use Rattle.pc_queue.specs.Queue.{Counts, SetsCount, some_count};
 
-use pc_messages::message::Item;
-use pc_messages::names::Tid;
+use pc_messages::{Item, Tid};
 use std::alloc::AllocError;
 use std::collections::BTreeMap;
 

@@ -6,7 +6,10 @@
 #![tactic(auto)]
 
 mod counts;
-pub mod fault;
-pub mod queue;
+mod fault;
+mod queue;
 #[cfg(test)]
 mod tests;
+
+pub use fault::{QueueFault, TooMany};
+pub use queue::CpuQueue;

@@ -8,8 +8,7 @@ ghost use Rattle.pc_queue.specs.Queue.{refusal_of, is_pending, held_of};
 
 use crate::counts::{count, discount};
 use crate::fault::{QueueFault, TooMany};
-use pc_messages::message::Item;
-use pc_messages::names::Tid;
+use pc_messages::{Item, Tid};
 use std::alloc::{AllocError, Global};
 use std::collections::{BTreeMap, VecDeque};
 use std::marker::Model;

@@ -1,9 +1,6 @@
 use crate::fault::{QueueFault, TooMany};
 use crate::queue::CpuQueue;
-use pc_messages::kind::Kind;
-use pc_messages::mask::Mask;
-use pc_messages::message::{Item, Message};
-use pc_messages::names::{Cpu, Tid};
+use pc_messages::{Cpu, Item, Kind, Mask, Message, Tid};
 use std::test::Fail;
 
 const TICK: Item = Item::Tick(Cpu(0));

@@ -6,6 +6,8 @@
 #![tactic(auto)]
 
 mod levels;
-pub mod run_queue;
+mod run_queue;
 #[cfg(test)]
 mod tests;
+
+pub use run_queue::RunQueue;

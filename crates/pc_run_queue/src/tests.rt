@@ -1,13 +1,9 @@
 //! Run lists of views of three threads, with ample memory.
 
 use crate::run_queue::RunQueue;
-use pc_join::join::OutOfMemory;
-use pc_messages::kind::Kind;
-use pc_messages::level::Level;
-use pc_messages::mask::Mask;
-use pc_messages::message::Message;
-use pc_messages::names::{Cpu, Tid};
-use pc_view::view::View;
+use pc_join::OutOfMemory;
+use pc_messages::{Cpu, Kind, Level, Mask, Message, Tid};
+use pc_view::View;
 use std::alloc::Global;
 use std::test::Fail;
 

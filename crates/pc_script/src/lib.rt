@@ -9,22 +9,30 @@
 #![tactic(auto)]
 
 mod arguments;
-pub mod command;
+mod command;
 mod display;
 mod input;
 pub mod laws;
 mod line;
 mod lines;
-pub mod lists;
-pub mod machine;
+mod lists;
+mod machine;
 mod numbers;
 mod opening;
-pub mod outcome;
+mod outcome;
 mod parse;
-pub mod reply;
-pub mod run;
+mod reply;
+mod run;
 #[cfg(test)]
 mod tests;
-pub mod version;
+mod version;
 #[cfg(test)]
 mod word_tests;
+
+pub use command::Command;
+pub use lists::{Numbers, ShownThreads};
+pub use machine::Machine;
+pub use outcome::{Outcome, ScriptFault};
+pub use reply::Reply;
+pub use run::run_script;
+pub use version::Version;

@@ -3,8 +3,8 @@
 ghost use Rattle.std.specs.Prelude.{IfOk};
 ghost use Rattle.pc_sim.specs.Agents.{AreNew};
 
-use pc_join::join::OutOfMemory;
-use pc_view::view::View;
+use pc_join::OutOfMemory;
+use pc_view::View;
 use std::alloc::Global;
 
 /// One CPU's agent, as far as scripts need it.

@@ -10,14 +10,11 @@ ghost use Rattle.pc_view.specs.Views.{pairs_of};
 ghost use Rattle.pc_sim.specs.Items.{AreOfRun as AreItemsOfRun, parts_in};
 ghost use Rattle.pc_sim.specs.PlainWorld.{pairs_in};
 
-use pc_delta::answer::delta_since;
-use pc_delta::delta::Delta;
-use pc_delta::digest::Digest;
 use pc_delta::laws::sets_are_pairs;
-use pc_delta::part::Part;
-use pc_join::join::OutOfMemory;
-use pc_messages::message::Item;
-use pc_view::view::View;
+use pc_delta::{Delta, Digest, Part, delta_since};
+use pc_join::OutOfMemory;
+use pc_messages::Item;
+use pc_view::View;
 use std::alloc::{AllocError, Global};
 
 /// Adds the part that tells the item's message, where it has one.

@@ -3,7 +3,7 @@
 ghost use Rattle.std.specs.Prelude.{◌≡◌, option_map};
 ghost use Rattle.pc_sim.specs.Endings.{status_of, message_of};
 
-use pc_script::outcome::{Outcome, ScriptFault};
+use pc_script::{Outcome, ScriptFault};
 
 /// How a run of the program ended.
 #[derive(Clone, Copy, Debug, PartialEq, Eq)]

@@ -17,7 +17,7 @@ mod world;
 
 use command_line::{Command, CommandFault, read_command};
 use ending::Ending;
-use pc_script::outcome::{Outcome, ScriptFault};
+use pc_script::{Outcome, ScriptFault};
 use session::Session;
 use std::alloc::Global;
 use std::env;
@@ -40,7 +40,7 @@ pub fn run_script<R: Read, W: Write>(
     ensures short { OnOk result (IfSome (R.remaining reader.old) (λ text. length text ≤ 16777216)) }
     ensures reads { (bytes : List ℕ) × (length bytes ≤ 16777217) × Consumes (R.remaining reader.old) (R.remaining reader.new) bytes }
 {
-    pc_script::run::run_script::<Session, R, W>(alloc, reader, writer)
+    pc_script::run_script::<Session, R, W>(alloc, reader, writer)
 }
 
 /// Replays the script that a reader gives, writes the replies, and flushes them, whatever the ending.

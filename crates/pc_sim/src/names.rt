@@ -4,14 +4,9 @@ ghost use Rattle.std.specs.Prelude.{◌≡◌};
 ghost use Rattle.pc_sim.specs.Session.{call_asked, done_told, env_asked, limit_named, posted_named, profile_of, refusal_named};
 ghost use Rattle.pc_sim.specs.Views.{phase_named};
 
-use pc_kernel::calls::{Call, EnvCall, Posted};
-use pc_kernel::fault::KernelFault;
-use pc_kernel::limits::{LimitField, Profile};
-use pc_messages::names::{Cpu, Tid};
-use pc_messages::reported::Phase;
-use pc_script::command::Command;
-use pc_script::reply::{self, Limit, Refusal, Reply, Subject};
-use pc_script::version::Version;
+use pc_kernel::{Call, EnvCall, KernelFault, LimitField, Posted, Profile};
+use pc_messages::{Cpu, Phase, Tid};
+use pc_script::{self, Command, Limit, Refusal, Reply, Subject, Version};
 
 /// The call of the environment that a command asks for.
 fn env_call_of(command: Command) -> Option<EnvCall>

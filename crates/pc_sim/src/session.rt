@@ -8,11 +8,8 @@ ghost use Rattle.pc_sim.specs.Sessions.{StandsAfter, Steps, is_session, is_sessi
 
 use crate::names::{limit_of, profile};
 use crate::world::World;
-use pc_kernel::limits::{Limits, LimitsFault, Profile};
-use pc_script::command::Command;
-use pc_script::machine::Machine;
-use pc_script::reply::{Refusal, Reply};
-use pc_script::version::Version;
+use pc_kernel::{Limits, LimitsFault, Profile};
+use pc_script::{Command, Machine, Refusal, Reply, Version};
 use std::alloc::{AllocError, Global};
 
 /// What a script's commands are answered by.

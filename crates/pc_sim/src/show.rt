@@ -5,12 +5,10 @@ ghost use Rattle.pc_view.specs.Views.{thread_of};
 ghost use Rattle.pc_sim.specs.Showing.{row_told, ShowsAll};
 
 use crate::names::phase_of;
-use pc_messages::kind::Kind;
-use pc_messages::names::Tid;
-use pc_script::lists::{Numbers, ShownThreads};
-use pc_script::reply::{Prefix, ShownThread};
-use pc_thread_view::view::ThreadView;
-use pc_view::view::View;
+use pc_messages::{Kind, Tid};
+use pc_script::{Numbers, Prefix, ShownThread, ShownThreads};
+use pc_thread_view::ThreadView;
+use pc_view::View;
 use std::alloc::{AllocError, Global};
 
 /// The numbers of early messages.

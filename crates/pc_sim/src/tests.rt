@@ -6,7 +6,7 @@ mod exchange;
 use crate::command_line::{Command, CommandFault, read_command};
 use crate::ending::Ending;
 use crate::run_script;
-use pc_script::outcome::{Outcome, ScriptFault};
+use pc_script::{Outcome, ScriptFault};
 use std::alloc::Global;
 use std::process::Abort;
 use std::test::Fail;

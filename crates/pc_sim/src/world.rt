@@ -14,21 +14,14 @@ use crate::agents::{Agent, new_agents};
 use crate::deltas::{answer_of, delta_at, delta_of};
 use crate::names::{call_of, done_of, phase_of, posted_of, refusal_of};
 use crate::show::shown_threads;
-use pc_delta::delta::Delta;
 use pc_delta::laws::{parts_stay_as_the_run_goes_on, sets_are_pairs};
-use pc_delta::taking::take_in;
-use pc_kernel::calls::{Answer, Call};
-use pc_kernel::fault::KernelFault;
-use pc_kernel::kernel::Kernel;
+use pc_delta::{Delta, take_in};
 use pc_kernel::laws::calls_extend_the_run;
-use pc_kernel::limits::{LimitField, Limits, LimitsFault, Profile};
-use pc_messages::message::Item;
-use pc_messages::names::{Cpu, Tid};
-use pc_script::command::Command;
-use pc_script::reply::{Refusal, Reply, Status};
-use pc_view::audit::complete;
-use pc_view::view::{
-    equality_is_exact, reads_are_those_of_the_run, views_of_the_same_messages_are_equal,
+use pc_kernel::{Answer, Call, Kernel, KernelFault, LimitField, Limits, LimitsFault, Profile};
+use pc_messages::{Cpu, Item, Tid};
+use pc_script::{Command, Refusal, Reply, Status};
+use pc_view::{
+    complete, equality_is_exact, reads_are_those_of_the_run, views_of_the_same_messages_are_equal,
     views_stay_as_the_run_goes_on,
 };
 use std::alloc::{AllocError, Global};

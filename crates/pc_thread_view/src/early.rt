@@ -6,8 +6,8 @@
 ghost use Rattle.std.specs.Prelude.{ℕ, ◌+◌, ◌≡◌, ◌≤◌, ◌<◌, List, [], ◌∷◌, ◌++◌, length, drop, insert, slice_set, IsTrue, IsOk, IfOk, OnOk, OnErr};
 ghost use Rattle.pc_messages.specs.declared.kind.Kind.{Kind};
 
-use pc_join::join::OutOfMemory;
-use pc_messages::kind::Kind;
+use pc_join::OutOfMemory;
+use pc_messages::Kind;
 use smallvec::SmallVec;
 use std::alloc::Global;
 use std::marker::Model;

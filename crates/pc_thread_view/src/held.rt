@@ -11,11 +11,8 @@ ghost use Rattle.pc_thread_view.specs.Told.{Told, IsSound, IsOfThread, Gains, No
 ghost use Rattle.pc_thread_view.specs.Held.{told};
 
 use crate::early::Early;
-use pc_join::join::OutOfMemory;
-use pc_join::turn::next_turn;
-use pc_messages::kind::Kind;
-use pc_messages::reported::Reported;
-use pc_messages::same::{is_same_kind, is_same_state};
+use pc_join::{OutOfMemory, next_turn};
+use pc_messages::{Kind, Reported, is_same_kind, is_same_state};
 
 /// A folded prefix, and messages past the first that is missing, ascending.
 #[derive(Drop)]

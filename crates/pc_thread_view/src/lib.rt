@@ -8,4 +8,6 @@ mod early;
 mod held;
 #[cfg(test)]
 mod tests;
-pub mod view;
+mod view;
+
+pub use view::{ThreadView, equality_is_exact};

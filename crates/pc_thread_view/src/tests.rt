@@ -1,10 +1,8 @@
 //! A thread's messages in other orders, with ample memory.
 
 use crate::view::ThreadView;
-use pc_join::join::{Join, OutOfMemory};
-use pc_messages::kind::Kind;
-use pc_messages::mask::Mask;
-use pc_messages::reported::Phase;
+use pc_join::{Join, OutOfMemory};
+use pc_messages::{Kind, Mask, Phase};
 use std::alloc::Global;
 use std::test::Fail;
 

@@ -9,9 +9,8 @@ ghost use Rattle.pc_thread_view.specs.Same.{is_same_told, told_partial, told_equ
 
 use crate::early::Early;
 use crate::held::{Held, append, covers_held, has_held, is_same_held, join_held, take_one};
-use pc_join::join::{Join, OutOfMemory};
-use pc_messages::kind::Kind;
-use pc_messages::reported::Reported;
+use pc_join::{Join, OutOfMemory};
+use pc_messages::{Kind, Reported};
 use std::alloc::Global;
 use std::marker::Model;
 

@@ -12,12 +12,9 @@ ghost use Rattle.pc_view.specs.Views.{IsOfRun, source_of, thread_of};
 ghost use Rattle.pc_view.specs.Audit.{Departs, Has, IsComplete, IsFirstOther, IsOfHistory};
 
 use crate::view::View;
-use pc_kernel::kernel::Kernel;
-use pc_messages::kind::Kind;
-use pc_messages::names::Tid;
-use pc_messages::reported::Reported;
-use pc_messages::same::{is_same_kind, is_same_state};
-use pc_thread_view::view::ThreadView;
+use pc_kernel::Kernel;
+use pc_messages::{Kind, Reported, Tid, is_same_kind, is_same_state};
+use pc_thread_view::ThreadView;
 use thiserror::Error;
 
 /// The least thread of which a view tells what is not of the kernel's run, and the number at which it departs from

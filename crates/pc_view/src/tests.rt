@@ -2,15 +2,9 @@
 
 use crate::audit::{Stranger, audit, complete};
 use crate::view::View;
-use pc_join::join::{Join, OutOfMemory};
-use pc_kernel::calls::Posted;
-use pc_kernel::kernel::Kernel;
-use pc_kernel::limits::Limits;
-use pc_messages::kind::Kind;
-use pc_messages::mask::Mask;
-use pc_messages::message::Message;
-use pc_messages::names::{Cpu, Tid};
-use pc_messages::reported::Phase;
+use pc_join::{Join, OutOfMemory};
+use pc_kernel::{Kernel, Limits, Posted};
+use pc_messages::{Cpu, Kind, Mask, Message, Phase, Tid};
 use std::alloc::Global;
 use std::test::Fail;
 

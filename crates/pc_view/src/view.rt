@@ -12,12 +12,9 @@ ghost use Rattle.pc_view.specs.Views.{AgreesAtNames, pairs_of, thread_of, pair, 
 ghost use Rattle.pc_view.specs.Audit.{Has};
 ghost use Rattle.pc_view.specs.ViewLaws.{unique_view, stays_view, is_same_view, view_partial, view_equivalence};
 
-use pc_join::by_name::ByName;
-use pc_join::join::{Join, OutOfMemory};
-use pc_messages::message::Message;
-use pc_messages::names::Tid;
-use pc_messages::reported::Reported;
-use pc_thread_view::view::ThreadView;
+use pc_join::{ByName, Join, OutOfMemory};
+use pc_messages::{Message, Reported, Tid};
+use pc_thread_view::ThreadView;
 use std::alloc::Global;
 
 /// What is known of all threads: for each, a folded prefix of its messages, and early ones past a gap.

@@ -1,7 +1,7 @@
 //! Two hundred orders and divisions of the parts of one run.
 
 use super::{Delta, Global, Kind, Message, Part, Tid, View, created, take_in};
-use pc_messages::mask::{Mask, MaskFault};
+use pc_messages::{Mask, MaskFault};
 use std::alloc::AllocError;
 use std::test::Fail;
 

@@ -5,9 +5,8 @@ use super::{
     ready, take_all, take_in,
 };
 use crate::fault::DeltaFault;
-use pc_join::join::Join;
-use pc_messages::names::Tid;
-use pc_messages::reported::Phase;
+use pc_join::Join;
+use pc_messages::{Phase, Tid};
 use std::test::Fail;
 
 fn joined<V: Join>(first: &V, other: &V) -> Result<V, OutOfMemory> {

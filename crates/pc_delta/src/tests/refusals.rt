@@ -2,8 +2,7 @@
 
 use super::{created, folded, one, refusal, wakeup, yielded};
 use crate::fault::DeltaFault;
-use pc_messages::kind::Kind;
-use pc_messages::names::Tid;
+use pc_messages::{Kind, Tid};
 use std::test::Fail;
 
 #[test]

@@ -7,8 +7,7 @@ ghost use Rattle.std.specs.List.{list_any};
 use crate::calls::{Answer, Call};
 use crate::fault::KernelFault;
 use crate::kernel::Kernel;
-use pc_messages::names::{Cpu, Tid};
-use pc_messages::reported::Phase;
+use pc_messages::{Cpu, Phase, Tid};
 
 impl Kernel {
     ghost use Rattle.pc_kernel.specs.Answers.{Steps, done};

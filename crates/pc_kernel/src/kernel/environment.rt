@@ -12,13 +12,8 @@ use crate::cpus::post;
 use crate::fault::KernelFault;
 use crate::kernel::Kernel;
 use crate::threads::ThreadEntry;
-use pc_messages::kind::Kind;
-use pc_messages::level::{Level, LevelFault};
-use pc_messages::mask::{Mask, MaskFault};
-use pc_messages::message::{Item, Message};
-use pc_messages::names::{Cpu, Tid};
-use pc_messages::reported::Phase;
-use pc_queue::fault::QueueFault;
+use pc_messages::{Cpu, Item, Kind, Level, LevelFault, Mask, MaskFault, Message, Phase, Tid};
+use pc_queue::QueueFault;
 use std::alloc::AllocError;
 
 impl Kernel {

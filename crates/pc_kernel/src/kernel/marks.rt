@@ -4,7 +4,7 @@ ghost use Rattle.std.specs.Prelude.{◌≡◌, ◌≤◌, ◌<◌, ◌+◌, ℕ,
 ghost use Rattle.std.specs.Option.{ForSome};
 
 use crate::kernel::Kernel;
-use pc_messages::names::{Cpu, Tid};
+use pc_messages::{Cpu, Tid};
 
 impl Kernel {
     ghost use Rattle.pc_kernel.specs.Reads.{seen, on, place, content};

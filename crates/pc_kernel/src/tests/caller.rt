@@ -7,7 +7,7 @@ use crate::calls::{Answer, Call, EnvCall};
 use crate::fault::KernelFault;
 use crate::kernel::Kernel;
 use crate::tests::table::{DONE, SMALL, commit, create, tick};
-use pc_messages::names::{Cpu, Tid};
+use pc_messages::{Cpu, Tid};
 use std::test::Fail;
 
 /// Makes three calls, each where the one before was accepted. Answers what the last one answers.

@@ -4,8 +4,7 @@ use crate::fault::KernelFault;
 use crate::kernel::{Kernel, Status};
 use crate::tests::posted;
 use crate::tests::table::SMALL;
-use pc_messages::names::{Cpu, Tid};
-use pc_messages::reported::Phase;
+use pc_messages::{Cpu, Phase, Tid};
 use std::test::Fail;
 
 const fn status(number: u32, running_on: Option<Cpu>) -> Option<Status> {

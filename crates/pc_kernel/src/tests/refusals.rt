@@ -8,7 +8,7 @@ use crate::tests::table::{
     DONE, SMALL, associate, block, commit, config, consume, create, die, first_wrong, limits,
     preempt, rouse, sent, set_affinity, set_priority, sleep, tick, wake, yield_now,
 };
-use pc_messages::names::Cpu;
+use pc_messages::Cpu;
 use std::test::Fail;
 
 // One of everything: names, numbers, room and posts are all spent by the first thread.

@@ -7,7 +7,7 @@ use crate::tests::table::{
     preempt, rouse, sent, sent_to, set_affinity, set_priority, sleep, tick, ticked, wake,
     yield_now,
 };
-use pc_messages::names::Cpu;
+use pc_messages::Cpu;
 use std::test::Fail;
 
 // A number that is too high is stale too, and that comes before what is pending.

@@ -4,9 +4,7 @@ use crate::calls::{Answer, Call, EnvCall, Posted};
 use crate::fault::KernelFault;
 use crate::kernel::Kernel;
 use crate::limits::{Limits, LimitsFault, Profile};
-use pc_messages::kind::Kind;
-use pc_messages::names::{Cpu, Tid};
-use pc_messages::reported::Reported;
+use pc_messages::{Cpu, Kind, Reported, Tid};
 use std::alloc::Global;
 
 pub(super) type Wanted = Result<Answer, KernelFault>;

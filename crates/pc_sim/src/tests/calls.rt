@@ -1,7 +1,7 @@
 //! Scripts of the kernel's commands, with the replies that were written down by hand.
 
 use super::gives;
-use pc_script::outcome::Outcome;
+use pc_script::Outcome;
 
 #[test]
 fn a_stale_number_comes_before_pending(rt: HostRuntime) {

@@ -1,7 +1,7 @@
 //! Scripts of deltas and digests, with the replies that were written down by hand.
 
 use super::gives;
-use pc_script::outcome::Outcome;
+use pc_script::Outcome;
 
 #[test]
 fn a_delivered_message_is_early(rt: HostRuntime) {
