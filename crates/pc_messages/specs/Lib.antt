@@ -1,3 +1,4 @@
+pub mod Items
 pub mod Mask
 pub mod Run
 pub mod State
