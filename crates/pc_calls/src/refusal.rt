@@ -1,12 +1,12 @@
-//! Why a call of the kernel is refused.
+//! Why a call or an event is refused.
 
 use pc_messages::Cpu;
 use thiserror::Error;
 
-/// A refusal. Where several apply, a call answers the first in the order of its definition; want of memory comes
-/// after them all. `Stale` is the ghOSt paper's ESTALE, all else is own.
+/// A refusal of the kernel or of an agent. Where several apply, the first in the order of the call's definition is
+/// answered. `Stale` is the ghOSt paper's ESTALE, all else is own.
 #[derive(Clone, Copy, Debug, PartialEq, Eq, Error)]
-pub enum KernelFault {
+pub enum Refusal {
     #[error("the CPU is not there")]
     BadCpu,
     #[error("the mask has no CPU")]
@@ -49,6 +49,34 @@ pub enum KernelFault {
     Forbidden,
     #[error("another thread runs on the CPU")]
     Busy,
+    #[error("no delta with this index was sent")]
+    NoDelta,
+    #[error("no thread of the run list can be committed")]
+    NothingReady,
+    #[error("no thread can be taken over")]
+    NothingToSteal,
+    #[error("the wire did not send the delta")]
+    WireFault,
+}
+
+/// Why a call that takes memory has no answer.
+#[derive(Clone, Copy, Debug, PartialEq, Eq, Error)]
+pub enum CallFault {
+    /// The call is refused, and would be with ample memory too.
+    #[error("{0}")]
+    Refused(Refusal),
+    /// A growth was refused; the call itself would be accepted.
     #[error("out of memory")]
     OutOfMemory,
+}
+
+impl From<Refusal> for CallFault {
+    ghost use Rattle.std.specs.Prelude.{◌≡◌};
+    ghost use Rattle.pc_calls.specs.declared.refusal.CallFault.TheVariants.{Refused};
+
+    ghost from_gives = { λ refusal fault. fault ≡ Refused refusal };
+
+    fn from(refusal: Refusal) -> CallFault {
+        CallFault::Refused(refusal)
+    }
 }

@@ -1,9 +1,28 @@
 //! The limits of an enclave.
 
 ghost use Rattle.std.specs.Prelude.{◌≡◌};
-ghost use Rattle.pc_kernel.specs.Limits.{bad_field, is_outside, most_threads, most_numbers};
+ghost use Rattle.pc_calls.specs.Limits.{bad_field, is_outside, most_threads, most_numbers};
 
+use pc_messages::GREATEST_NUMBER;
 use thiserror::Error;
+
+/// The most CPUs of an enclave.
+pub const MOST_CPUS: u8 = 64;
+
+/// The most threads of an enclave of profile One.
+pub const MOST_THREADS: u32 = 4_096;
+
+/// The most threads of an enclave of profile Two.
+pub const MOST_THREADS_TWO: u32 = 65_535;
+
+/// The most messages of a thread in profile One. In profile Two it is [`GREATEST_NUMBER`].
+pub const MOST_NUMBERS: u32 = 1_000_000;
+
+/// The most items in a queue.
+pub const MOST_ROOM: u32 = 65_536;
+
+/// The most posts to a queue.
+pub const MOST_POSTS: u32 = u32::MAX;
 
 /// How much an enclave may have. A post past a limit is refused, and changes nothing (own).
 #[derive(Clone, Copy, Debug, PartialEq, Eq)]
@@ -56,8 +75,8 @@ impl Profile {
         ensures { result ≡ most_threads self }
     {
         match self {
-            Profile::One => 4_096,
-            Profile::Two => 65_535,
+            Profile::One => MOST_THREADS,
+            Profile::Two => MOST_THREADS_TWO,
         }
     }
 
@@ -66,8 +85,8 @@ impl Profile {
         ensures { result ≡ most_numbers self }
     {
         match self {
-            Profile::One => 1_000_000,
-            Profile::Two => 16_000_000,
+            Profile::One => MOST_NUMBERS,
+            Profile::Two => GREATEST_NUMBER,
         }
     }
 }
@@ -84,15 +103,15 @@ impl Limits {
     pub const fn bad_field(&self, profile: Profile) -> Option<LimitField>
         ensures { result ≡ bad_field profile self.now }
     {
-        if is_outside(self.cpus as u32, 64) {
+        if is_outside(self.cpus as u32, MOST_CPUS as u32) {
             Some(LimitField::Cpus)
         } else if is_outside(self.threads, profile.most_threads()) {
             Some(LimitField::Threads)
         } else if is_outside(self.numbers, profile.most_numbers()) {
             Some(LimitField::Numbers)
-        } else if is_outside(self.room, 65_536) {
+        } else if is_outside(self.room, MOST_ROOM) {
             Some(LimitField::Room)
-        } else if is_outside(self.posts, u32::MAX) {
+        } else if is_outside(self.posts, MOST_POSTS) {
             Some(LimitField::Posts)
         } else {
             None

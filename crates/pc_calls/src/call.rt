@@ -1,4 +1,4 @@
-//! The calls of the kernel as values, and their answers.
+//! The calls of a kernel as values, and their answers.
 
 use pc_messages::{Cpu, Tid};
 
@@ -80,4 +80,12 @@ pub struct Posted {
 pub enum Answer {
     Posted(Posted),
     Done,
+}
+
+/// A status word: the number of the thread's last message, and the CPU that it runs on (the ghOSt paper's status
+/// words carry the like).
+#[derive(Clone, Copy, Debug, PartialEq, Eq)]
+pub struct Status {
+    pub number: u32,
+    pub running_on: Option<Cpu>,
 }

@@ -1,0 +1,41 @@
+-- Which events are calls of the kernel, and what a call is replied.
+use Rattle.std.specs.Prelude.{Option, Some, None}
+use Rattle.pc_calls.specs.declared.call.Answer.{Answer}
+use Rattle.pc_calls.specs.declared.call.Answer.TheVariants as answer
+use Rattle.pc_calls.specs.declared.call.Call.{Call}
+use Rattle.pc_calls.specs.declared.call.Call.TheVariants as call
+use Rattle.pc_calls.specs.declared.event.Event.{Event}
+use Rattle.pc_calls.specs.declared.event.Event.TheVariants.{Env, Associate, Commit, Sleep, Rouse, Config, Publish, Consume, Deliver, Answer as AnswerDigest, Pick, Steal, Crash}
+use Rattle.pc_calls.specs.declared.event.Reply.{Reply}
+use Rattle.pc_calls.specs.declared.event.Reply.TheVariants as reply
+
+-- the call of the kernel that an event is; none of what an agent does with its view
+abbrev pub call_of : Event → Option Call
+call_of (Env c) = Some (call.Env c)
+call_of (Associate thread queue number) = Some (call.Associate thread queue number)
+call_of (Commit cpu thread aseq) = Some (call.Commit cpu thread aseq)
+call_of (Sleep cpu aseq) = Some (call.Sleep cpu aseq)
+call_of (Rouse cpu) = Some (call.Rouse cpu)
+call_of (Config queue target) = Some (call.Config queue target)
+call_of (Publish cpu fails) = None
+call_of (Consume cpu) = None
+call_of (Deliver cpu delta) = None
+call_of (AnswerDigest cpu asker) = None
+call_of (Pick cpu aseq) = None
+call_of (Steal cpu) = None
+call_of (Crash cpu) = None
+
+-- what a call that is done, and has no answer of its own, is replied
+abbrev pub done_told : Call → Reply
+done_told (call.Env c) = reply.Done
+done_told (call.Consume cpu count) = reply.Done
+done_told (call.Associate thread queue number) = reply.Associated thread queue
+done_told (call.Commit cpu thread aseq) = reply.Committed thread cpu
+done_told (call.Sleep cpu aseq) = reply.Done
+done_told (call.Rouse cpu) = reply.Done
+done_told (call.Config queue target) = reply.Done
+
+-- what an accepted call is replied
+abbrev pub reply_to : Call → Answer → Reply
+reply_to c (answer.Posted posted) = reply.Posted posted
+reply_to c answer.Done = done_told c

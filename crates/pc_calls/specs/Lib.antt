@@ -1,0 +1,3 @@
+pub mod Conditions
+pub mod Events
+pub mod Limits

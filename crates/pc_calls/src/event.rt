@@ -1,0 +1,142 @@
+//! Events of a world of a kernel and its agents, and their replies.
+
+ghost use Rattle.std.specs.Prelude.{◌≡◌};
+ghost use Rattle.pc_calls.specs.Events.{call_of, done_told};
+
+use crate::call::{Call, EnvCall, Posted};
+use crate::refusal::Refusal;
+use pc_messages::{Cpu, Tid};
+
+/// One event: a call on the kernel, or what one agent does with its view and its run list.
+#[derive(Clone, Copy, Debug, PartialEq, Eq)]
+pub enum Event {
+    /// A call of the environment.
+    Env(EnvCall),
+    /// As [`Call::Associate`].
+    Associate {
+        thread: Tid,
+        queue: Cpu,
+        number: u32,
+    },
+    /// As [`Call::Commit`].
+    Commit {
+        cpu: Cpu,
+        thread: Tid,
+        aseq: u32,
+    },
+    /// As [`Call::Sleep`].
+    Sleep {
+        cpu: Cpu,
+        aseq: u32,
+    },
+    /// As [`Call::Rouse`].
+    Rouse {
+        cpu: Cpu,
+    },
+    /// As [`Call::Config`].
+    Config {
+        queue: Cpu,
+        target: Option<Cpu>,
+    },
+    /// The agent takes in what its queue holds, and sends it. Where `fails` is set, its wire refuses the send.
+    Publish {
+        cpu: Cpu,
+        fails: bool,
+    },
+    /// The agent removes from its queue the items that it has sent.
+    Consume {
+        cpu: Cpu,
+    },
+    /// The agent takes in the sent delta with this index, from 0.
+    Deliver {
+        cpu: Cpu,
+        delta: u64,
+    },
+    /// The agent sends what the asker's digest lacks.
+    Answer {
+        cpu: Cpu,
+        asker: Cpu,
+    },
+    /// The agent commits the first thread of its run list that the kernel accepts. `aseq` is as in [`Call::Commit`].
+    Pick {
+        cpu: Cpu,
+        aseq: u32,
+    },
+    /// The agent takes the least thread that may run on its CPU and is on none.
+    Steal {
+        cpu: Cpu,
+    },
+    /// The agent starts again, with nothing, and is awake.
+    Crash {
+        cpu: Cpu,
+    },
+}
+
+/// What an event is answered.
+#[derive(Clone, Copy, Debug, PartialEq, Eq)]
+pub enum Reply {
+    /// It is done, and there is nothing more to say.
+    Done,
+    /// An item was posted.
+    Posted(Posted),
+    /// The thread's messages go to this queue from now on.
+    Associated { thread: Tid, queue: Cpu },
+    /// The thread runs on this CPU from now on.
+    Committed { thread: Tid, cpu: Cpu },
+    /// The delta with this index was sent; the queue held so many items, ticks among them.
+    Published { delta: u64, items: u32 },
+    /// So many items were removed.
+    Consumed { items: u32 },
+    /// The delta with this index was sent as the answer.
+    Answered { delta: u64 },
+    /// It was refused.
+    Refused(Refusal),
+}
+
+impl Event {
+    /// The call of the kernel that the event is; none of what an agent does with its view.
+    pub const fn call(self) -> Option<Call>
+        ensures { result ≡ call_of self }
+    {
+        match self {
+            Event::Env(call) => Some(Call::Env(call)),
+            Event::Associate {
+                thread,
+                queue,
+                number,
+            } => Some(Call::Associate {
+                thread,
+                queue,
+                number,
+            }),
+            Event::Commit { cpu, thread, aseq } => Some(Call::Commit { cpu, thread, aseq }),
+            Event::Sleep { cpu, aseq } => Some(Call::Sleep { cpu, aseq }),
+            Event::Rouse { cpu } => Some(Call::Rouse { cpu }),
+            Event::Config { queue, target } => Some(Call::Config { queue, target }),
+            Event::Publish { .. }
+            | Event::Consume { .. }
+            | Event::Deliver { .. }
+            | Event::Answer { .. }
+            | Event::Pick { .. }
+            | Event::Steal { .. }
+            | Event::Crash { .. } => None,
+        }
+    }
+}
+
+impl Call {
+    /// What the call, where it is accepted and has no answer of its own, is replied.
+    pub const fn done(self) -> Reply
+        ensures { result ≡ done_told self }
+    {
+        match self {
+            Call::Associate { thread, queue, .. } => Reply::Associated { thread, queue },
+            Call::Commit { thread, cpu, .. } => Reply::Committed { thread, cpu },
+            Call::Env(_)
+            | Call::Consume { .. }
+            | Call::Sleep { .. }
+            | Call::Rouse { .. }
+            | Call::Config { .. } => Reply::Done,
+        }
+    }
+}
