@@ -1,5 +1,5 @@
 -- Which events are calls of the kernel, and what a call is replied.
-use Rattle.std.specs.Prelude.{Option, Some, None}
+use Rattle.std.specs.Prelude.{true, false, Option, Some, None, Result, Ok, Err}
 use Rattle.pc_calls.specs.declared.call.Answer.{Answer}
 use Rattle.pc_calls.specs.declared.call.Answer.TheVariants as answer
 use Rattle.pc_calls.specs.declared.call.Call.{Call}
@@ -8,6 +8,7 @@ use Rattle.pc_calls.specs.declared.event.Event.{Event}
 use Rattle.pc_calls.specs.declared.event.Event.TheVariants.{Env, Associate, Commit, Sleep, Rouse, Config, Publish, Consume, Deliver, Answer as AnswerDigest, Pick, Steal, Crash}
 use Rattle.pc_calls.specs.declared.event.Reply.{Reply}
 use Rattle.pc_calls.specs.declared.event.Reply.TheVariants as reply
+use Rattle.pc_calls.specs.declared.refusal.Refusal.{Refusal}
 
 -- the call of the kernel that an event is; none of what an agent does with its view
 abbrev pub call_of : Event → Option Call
@@ -39,3 +40,17 @@ done_told (call.Config queue target) = reply.Done
 abbrev pub reply_to : Call → Answer → Reply
 reply_to c (answer.Posted posted) = reply.Posted posted
 reply_to c answer.Done = done_told c
+
+-- what a call is replied, accepted or refused
+abbrev pub told_of : Call → Result Answer Refusal → Reply
+told_of c (Ok answer) = reply_to c answer
+told_of c (Err refusal) = reply.Refused refusal
+
+-- the events that the world of today can do: agents do not pick, steal and crash yet, and no send is refused
+abbrev pub IsBuilt : Event → Type 0
+IsBuilt (Pick cpu aseq) = ⊥
+IsBuilt (Steal cpu) = ⊥
+IsBuilt (Crash cpu) = ⊥
+IsBuilt (Publish cpu true) = ⊥
+IsBuilt (Publish cpu false) = Unit {0}
+IsBuilt event = Unit {0}

@@ -1,9 +1,9 @@
 //! Events of a world of a kernel and its agents, and their replies.
 
-ghost use Rattle.std.specs.Prelude.{◌≡◌};
-ghost use Rattle.pc_calls.specs.Events.{call_of, done_told};
+ghost use Rattle.std.specs.Prelude.{◌≡◌, ◌↔◌, IsTrue};
+ghost use Rattle.pc_calls.specs.Events.{call_of, done_told, reply_to, IsBuilt};
 
-use crate::call::{Call, EnvCall, Posted};
+use crate::call::{Answer, Call, EnvCall, Posted};
 use crate::refusal::Refusal;
 use pc_messages::{Cpu, Tid};
 
@@ -124,9 +124,40 @@ impl Event {
     }
 }
 
+impl Event {
+    /// Whether the world of today can do it: agents do not pick, steal and crash yet, and no send is refused.
+    pub const fn is_built(self) -> bool
+        ensures { IsTrue result ↔ IsBuilt self }
+    {
+        match self {
+            Event::Publish { fails, .. } => !fails,
+            Event::Pick { .. } | Event::Steal { .. } | Event::Crash { .. } => false,
+            Event::Env(_)
+            | Event::Associate { .. }
+            | Event::Commit { .. }
+            | Event::Sleep { .. }
+            | Event::Rouse { .. }
+            | Event::Config { .. }
+            | Event::Consume { .. }
+            | Event::Deliver { .. }
+            | Event::Answer { .. } => true,
+        }
+    }
+}
+
 impl Call {
-    /// What the call, where it is accepted and has no answer of its own, is replied.
-    pub const fn done(self) -> Reply
+    /// What the call is replied where the kernel accepts it with this answer.
+    pub const fn reply(self, answer: Answer) -> Reply
+        ensures { result ≡ reply_to self answer }
+    {
+        match answer {
+            Answer::Posted(posted) => Reply::Posted(posted),
+            Answer::Done => self.done(),
+        }
+    }
+
+    /// What the call, where it has no answer of its own, is replied.
+    const fn done(self) -> Reply
         ensures { result ≡ done_told self }
     {
         match self {

@@ -1,8 +1,8 @@
 //! Tests: the calls that events are, what a call is replied, and the ranges of limits.
 
 use crate::{
-    Call, CallFault, EnvCall, Event, LimitField, Limits, MOST_CPUS, MOST_NUMBERS, MOST_POSTS,
-    MOST_ROOM, MOST_THREADS, MOST_THREADS_TWO, Profile, Refusal, Reply,
+    Answer, Call, CallFault, EnvCall, Event, LimitField, Limits, MOST_CPUS, MOST_NUMBERS,
+    MOST_POSTS, MOST_ROOM, MOST_THREADS, MOST_THREADS_TWO, Posted, Profile, Refusal, Reply,
 };
 use pc_messages::{Cpu, Tid};
 
@@ -155,6 +155,17 @@ fn events_that_are_no_calls(rt: HostRuntime) {
 }
 
 #[test]
+fn what_is_built(rt: HostRuntime) {
+    let cpu = Cpu(1);
+    assert!(rt; Event::Publish { cpu, fails: false }.is_built());
+    assert!(rt; Event::Consume { cpu }.is_built());
+    assert!(rt; !Event::Publish { cpu, fails: true }.is_built());
+    assert!(rt; !Event::Pick { cpu, aseq: 1 }.is_built());
+    assert!(rt; !Event::Steal { cpu }.is_built());
+    assert!(rt; !Event::Crash { cpu }.is_built());
+}
+
+#[test]
 fn what_calls_are_replied(rt: HostRuntime) {
     let (cpu, queue, thread) = (Cpu(1), Cpu(2), Tid(3));
     let rows = [
@@ -186,8 +197,28 @@ fn what_calls_are_replied(rt: HostRuntime) {
         (Call::Consume { cpu, count: 1 }, Reply::Done),
     ];
     for (call, reply) in &rows {
-        assert_eq!(rt; call.done(), *reply);
+        assert_eq!(rt; call.reply(Answer::Done), *reply);
     }
+}
+
+/// The receipt of the second message of t3, in queue 1.
+const fn receipt() -> Posted {
+    Posted {
+        thread: Some(Tid(3)),
+        number: Some(2),
+        queue: Cpu(1),
+        aseq: 7,
+        woken: None,
+    }
+}
+
+#[test]
+fn what_a_post_is_replied(rt: HostRuntime) {
+    let call = Call::Env(EnvCall::Wake { thread: Tid(3) });
+    assert_eq!(rt;
+        call.reply(Answer::Posted(receipt())),
+        Reply::Posted(receipt())
+    );
 }
 
 #[test]

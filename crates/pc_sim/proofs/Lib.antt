@@ -1,12 +1,6 @@
-pub mod Telling
-pub mod Calls
-pub mod Shown
+pub mod Looking
 pub mod Showing
-pub mod Items
-pub mod Worlds
-pub mod Statuses
-pub mod Acting
+pub mod Shown
 pub mod Standing
-pub mod Sent
-pub mod Consuming
-pub mod Exchanging
+pub mod Statuses
+pub mod Telling

@@ -7,9 +7,9 @@ use Rattle.std.proofs.lemmas.List.{map_push}
 use Rattle.std.proofs.lemmas.List.Folds.{list_any-append}
 use Rattle.pc_join.specs.ByName.{IsLeastFrom}
 use Rattle.pc_thread_view.specs.Told.{Told}
-use Rattle.pc_script.specs.declared.reply.ShownThread.{ShownThread}
-use Rattle.pc_sim.specs.Views.{RiseFrom}
-use Rattle.pc_sim.specs.Showing.{row_told, IsRow, ShowsBelow, ShowsAll}
+use Rattle.pc_script.specs.declared.lists.ShownThread.{ShownThread}
+use Rattle.pc_sim.specs.ShownViews.{RiseFrom}
+use Rattle.pc_sim.specs.Inner.Showing.{row_told, IsRow, ShowsBelow, ShowsAll}
 
 rise_push : (n t : ℕ) (xs : List ℕ) → RiseFrom n xs → n ≤ t → All (λ x. x < t) xs → RiseFrom n (xs ++ t ∷ [])
 rise_push n t [] h low below = (low, tt)

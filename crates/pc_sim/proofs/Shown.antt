@@ -1,5 +1,5 @@
 -- The rows of a view of a set in a run are those that the set has in the run.
-use Rattle.std.proofs.Common.{◌≡◌, ℕ, ◌+◌, ◌≤◌, ◌==◌, ◌||◌, Bool, true, false, List, [], ◌∷◌, map, Some, None, IsSome, refl, sym, ◌∙◌, ap, subst, inl, inr, arith}
+use Rattle.std.proofs.Common.{◌≡◌, ℕ, ◌+◌, ◌≤◌, ◌<◌, ◌==◌, ◌||◌, Bool, true, false, List, [], ◌∷◌, map, take, Some, None, IsSome, refl, sym, ◌∙◌, ap, subst, inl, inr, arith}
 use Rattle.std.specs.List.{list_any}
 use Rattle.std.specs.Ordering.{nat_cmp}
 use Rattle.std.specs.FinMap as map
@@ -7,14 +7,15 @@ use Rattle.std.proofs.lemmas.Bool.{cases_lt, eq-eqb}
 use Rattle.std.proofs.lemmas.Bool.Decides.{nat_tests}
 use Rattle.std.proofs.lemmas.List.Elements.{All-weaker}
 use Rattle.pc_messages.specs.Run.{Run}
+use Rattle.pc_messages.specs.State.{state_of}
 use Rattle.pc_messages.specs.declared.kind.Kind.{Kind}
 use Rattle.pc_join.specs.Sets.{Source, source_at, has, as_members, IsSameSet, IsVoid}
 use Rattle.pc_join.specs.ByName.{IsOfByName, members_by_name, known_in}
 use Rattle.pc_thread_view.specs.Told.{Told, tells, numbers_of, is_early, in_prefix, IsOfThread}
-use Rattle.pc_script.specs.declared.reply.ShownThread.{ShownThread}
-use Rattle.pc_sim.specs.PlainWorld.{Set}
-use Rattle.pc_sim.specs.Views.{RiseFrom, IsShown, IsShownThread, prefix_named}
-use Rattle.pc_sim.specs.Showing.{IsRow, ShowsAll}
+use Rattle.pc_script.specs.declared.lists.ShownThread.{ShownThread}
+use Rattle.pc_world.specs.PlainWorld.{Set}
+use Rattle.pc_sim.specs.ShownViews.{RiseFrom, IsPrefix, IsShown, IsShownThread}
+use Rattle.pc_sim.specs.Inner.Showing.{IsRow, ShowsAll}
 use Rattle.pc_sim.proofs.Telling.{Gives, told_state, told_prefix, told_ends, told_early, numbers_rise, numbers_early}
 
 -- what is told of a thread that is known is not nothing
@@ -72,18 +73,20 @@ module _ (threads : map.FinMap nat_cmp Told) (run : Run) (s : Source) (set : Set
       let t : ℕ = row.thread in
       let thread : IsOfThread told (source_at s t) = of_run.each t told known in
       let some = some_told told (of_run.kept t told known) in
+      let upto : row.upto ≡ told.upto = ap (λ (r : ShownThread). r.upto) is in
       let numbers : row.early ≡ map (λ e. e.0) told.early = ap (λ (r : ShownThread). r.early) is in
       record {
         some = (some.0, told_has t some.0 told known ∙ some.1);
-        upto = told.upto;
-        is_prefix = record {
+        upto = subst (IsPrefix set t) (sym upto) record {
           known = λ n low high. told_has t n told known ∙ told_prefix told n low high;
           ends = told_has t (told.upto + 1) told known ∙ told_ends told thread.gap;
         };
-        prefix = ap (λ (r : ShownThread). r.prefix) is ∙ ap (prefix_named told.upto) (told_state told (source_at s t) (run t) (gives t) thread);
-        ascending = subst (RiseFrom (told.upto + 1)) (sym numbers)
-            (rise_lower (told.upto + 1) (told.upto + 1 + 1) (map (λ e. e.0) told.early) (omega arith) (numbers_rise (told.upto + 1) told.early thread.gap));
-        early = λ n above. ap (list_any (λ x. x == n)) numbers ∙ numbers_early told.early n ∙ sym (told_early told n above) ∙ sym (told_has t n told known);
+        state = ap (λ (r : ShownThread). r.reported) is ∙ told_state told (source_at s t) (run t) (gives t) thread ∙ ap (λ n. state_of (take n (run t))) (sym upto);
+        ascending = subst (λ n. RiseFrom (n + 1) row.early) (sym upto)
+            (subst (RiseFrom (told.upto + 1)) (sym numbers)
+            (rise_lower (told.upto + 1) (told.upto + 1 + 1) (map (λ e. e.0) told.early) (omega arith) (numbers_rise (told.upto + 1) told.early thread.gap)));
+        early = λ n above. ap (list_any (λ x. x == n)) numbers ∙ numbers_early told.early n
+            ∙ sym (told_early told n (subst (λ m. m < n) upto above)) ∙ sym (told_has t n told known);
       }
 
   known_of : (t n : ℕ) → has set t n ≡ true → IsSome (map.get threads t)

@@ -9,12 +9,12 @@ use Rattle.pc_messages.specs.declared.kind.Kind.TheVariants.{Created, Blocked, P
 use Rattle.pc_messages.specs.declared.reported.Phase.{Phase}
 use Rattle.pc_kernel.specs.Rows.{KernelRows, ThreadRow}
 use Rattle.pc_kernel.specs.Sound.{IsSound}
-use Rattle.pc_kernel.specs.declared.kernel.Status.{Status}
+use Rattle.pc_calls.specs.declared.call.Status.{Status}
 use Rattle.std.proofs.lemmas.Bool.{true≢false}
 use Rattle.pc_kernel.specs.Reads.{seen, status_of, reported_of}
-use Rattle.pc_script.specs.declared.reply.Refusal.TheVariants as refusal
-use Rattle.pc_script.specs.declared.reply.Reply.TheVariants as replies
-use Rattle.pc_sim.specs.Session.{IsStatus}
+use Rattle.pc_calls.specs.declared.refusal.Refusal.TheVariants as refusal
+use Rattle.pc_script.specs.declared.response.Response.TheVariants as response
+use Rattle.pc_sim.specs.Reads.{IsStatus}
 
 last_some : {A : Type 0} (x : A) (xs : List A) → is_some (last_or (Some x) xs) ≡ true
 last_some x [] = refl
@@ -47,16 +47,16 @@ no_row : (o : Option ThreadRow) → is_some (option_map status_row o) ≡ is_som
 no_row None = refl
 no_row (Some row) = refl
 
-unknown_row : (t : ℕ) (o : Option ThreadRow) → is_some o ≡ false → IsStatus t o (replies.Refused refusal.UnknownThread)
+unknown_row : (t : ℕ) (o : Option ThreadRow) → is_some o ≡ false → IsStatus t o (response.Refused refusal.UnknownThread)
 unknown_row t None e = refl
 unknown_row t (Some row) e = absurd (true≢false e)
 
-pub unknown_status : (k : KernelRows) (t : ℕ) → IsSound k → status_of (seen k) t ≡ None → IsStatus t ((seen k).thread t) (replies.Refused refusal.UnknownThread)
+pub unknown_status : (k : KernelRows) (t : ℕ) → IsSound k → status_of (seen k) t ≡ None → IsStatus t ((seen k).thread t) (response.Refused refusal.UnknownThread)
 unknown_status k t sound e = unknown_row t (slice_get k.threads t) (sym (no_row (slice_get k.threads t)) ∙ ap is_some e)
 
-pub unreported_status : (k : KernelRows) (t : ℕ) → IsSound k → reported_of (seen k) t ≡ None → IsStatus t ((seen k).thread t) (replies.Refused refusal.UnknownThread)
+pub unreported_status : (k : KernelRows) (t : ℕ) → IsSound k → reported_of (seen k) t ≡ None → IsStatus t ((seen k).thread t) (response.Refused refusal.UnknownThread)
 unreported_status k t sound e =
-    elim (slice_get k.threads t) as (λ o. slice_get k.threads t ≡ o → option_and_then (λ (row : ThreadRow). state_of row.kinds) o ≡ None → IsStatus t o (replies.Refused refusal.UnknownThread)) [
+    elim (slice_get k.threads t) as (λ o. slice_get k.threads t ≡ o → option_and_then (λ (row : ThreadRow). state_of row.kinds) o ≡ None → IsStatus t o (response.Refused refusal.UnknownThread)) [
       | None ↦ λ there n. refl
       | Some row ↦ λ there n.
           let known = sound.thread t row there in

@@ -10,7 +10,7 @@ use Rattle.pc_join.specs.Sets.{Source}
 use Rattle.pc_thread_view.specs.Told.{Told, written, tells, in_prefix, is_early, RiseAbove, HasKinds, IsOfThread}
 use Rattle.pc_thread_view.specs.ToldLaws.{same_kind, written_some}
 use Rattle.pc_view.specs.Views.{written_at}
-use Rattle.pc_sim.specs.Views.{RiseFrom}
+use Rattle.pc_sim.specs.ShownViews.{RiseFrom}
 
 -- the source gives the kinds of a list, by their numbers
 abbrev pub Gives : Source → List Kind → Type 0

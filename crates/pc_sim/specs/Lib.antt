@@ -1,11 +1,5 @@
-pub mod Agents
 pub mod Endings
-pub mod Exchange
-pub mod Items
-pub mod Keeping
-pub mod PlainWorld
+pub mod Inner
+pub mod Reads
 pub mod Session
-pub mod Sessions
-pub mod Showing
-pub mod Shows
-pub mod Views
+pub mod ShownViews

@@ -6,14 +6,11 @@ ghost use Rattle.std.specs.Io.KnownBytes.{Appends, Consumes};
 ghost use Rattle.pc_script.specs.Scripts.{IsOutput, IsOutputOfFirstLines};
 ghost use Rattle.pc_sim.specs.Session.{IsSession};
 
-mod agents;
 mod command_line;
-mod deltas;
 mod ending;
-mod names;
+mod reads;
 mod session;
 mod show;
-mod world;
 
 use command_line::{Command, CommandFault, read_command};
 use ending::Ending;

@@ -1,15 +1,16 @@
 //! The machine that answers a script's commands: no world before an accepted `enclave`, and one from then on.
 
-ghost use Rattle.std.specs.Prelude.{◌≡◌, List, [], ◌∷◌, ◌++◌, IfOk};
+ghost use Rattle.std.specs.Prelude.{◌≡◌, List, [], ◌∷◌, ◌++◌, None, IfOk};
 ghost use Rattle.pc_script.specs.declared.command.Command.{Command};
-ghost use Rattle.pc_script.specs.declared.reply.Reply.{Reply};
+ghost use Rattle.pc_script.specs.declared.response.Response.{Response};
+ghost use Rattle.pc_script.specs.Grammar.{IsBuilt};
 ghost use Rattle.pc_sim.specs.Session.{IsSession};
-ghost use Rattle.pc_sim.specs.Sessions.{StandsAfter, Steps, is_session, is_session_of_none};
+ghost use Rattle.pc_sim.specs.Inner.Sessions.{Answers, StandsAfter, Steps, is_session, is_session_of_none};
 
-use crate::names::{limit_of, profile};
-use crate::world::World;
-use pc_kernel::{Limits, LimitsFault, Profile};
-use pc_script::{Command, Machine, Refusal, Reply, Version};
+use crate::reads::answer_of;
+use pc_calls::{LimitsFault, Profile};
+use pc_script::{Command, Machine, Response};
+use pc_world::World;
 use std::alloc::{AllocError, Global};
 
 /// What a script's commands are answered by.
@@ -27,60 +28,59 @@ fn open(
     profile: Profile,
     world: &mut Option<World>,
     command: Command,
-) -> Result<Reply, AllocError>
+) -> Result<Response, AllocError>
     requires { world.old ≡ None }
     ensures { IfOk result (Steps profile command world.old world.new) }
 {
-    let Command::Enclave {
-        cpus,
-        threads,
-        numbers,
-        room,
-        posts,
-    } = command
-    else {
-        return Ok(Reply::Refused(Refusal::NoEnclave));
+    let Command::Enclave(limits) = command else {
+        return Ok(Response::NoEnclave);
     };
-    let limits = Limits {
-        cpus,
-        threads,
-        numbers,
-        room,
-        posts,
-    };
-    match World::open(alloc, profile, limits) {
+    match World::new_in(alloc, profile, limits) {
         Ok(opened) => {
             *world = Some(opened);
-            Ok(Reply::Done)
+            Ok(Response::Opened)
         }
-        Err(LimitsFault::BadLimits(field)) => Ok(Reply::Refused(Refusal::BadLimits(limit_of(
-            field,
-        )))),
+        Err(LimitsFault::BadLimits(field)) => Ok(Response::BadLimits(field)),
         Err(LimitsFault::OutOfMemory) => Err(AllocError),
+    }
+}
+
+/// Answers a command that meets a world.
+fn act(alloc: Global, world: &mut World, command: Command) -> Result<Response, AllocError>
+    requires built { IsBuilt command }
+    ensures { IfOk result (Answers command world.old world.new) }
+{
+    match command {
+        Command::Enclave(_) => Ok(Response::HaveEnclave),
+        Command::Event(event) => match world.step(event) {
+            Ok(reply) => Ok(Response::Event(reply)),
+            Err(_) => Err(AllocError),
+        },
+        Command::Read(read) => answer_of(alloc, world, read),
     }
 }
 
 impl Machine for Session {
     ghost IsRun = { IsSession };
 
-    ghost StandsAfter = { λ version session. StandsAfter version session.profile session.world };
+    ghost StandsAfter = { λ profile session. StandsAfter profile session.profile session.world };
 
-    fn start(alloc: Global, version: Version) -> Session {
+    fn start(alloc: Global, profile: Profile) -> Session {
         Session {
             alloc,
-            profile: profile(version),
+            profile,
             world: None,
         }
     }
 
-    fn answer(&mut self, command: Command) -> Result<Reply, AllocError> {
+    fn answer(&mut self, command: Command) -> Result<Response, AllocError> {
         match &mut self.world {
             None => open(self.alloc, self.profile, &mut self.world, command),
-            Some(world) => world.answer(self.alloc, command),
+            Some(world) => act(self.alloc, world, command),
         }
     }
 
     ghost is_run_of_none = { is_session_of_none };
 
-    ghost is_run_after = { λ version session commands replies stands. is_session version session.profile session.world commands replies stands };
+    ghost is_run_after = { λ profile session commands told stands. is_session profile session.profile session.world commands told stands };
 }

@@ -2,20 +2,19 @@
 
 ghost use Rattle.std.specs.Prelude.{◌≡◌, [], ◌∷◌, ◌++◌, map, IfOk, IfSome, OnOk};
 ghost use Rattle.pc_view.specs.Views.{thread_of};
-ghost use Rattle.pc_sim.specs.Showing.{row_told, ShowsAll};
+ghost use Rattle.pc_sim.specs.Inner.Showing.{row_told, ShowsAll};
 
-use crate::names::phase_of;
 use pc_messages::{Kind, Tid};
-use pc_script::{Numbers, Prefix, ShownThread, ShownThreads};
+use pc_script::{EarlyNumbers, ShownThread, ShownThreads};
 use pc_thread_view::ThreadView;
 use pc_view::View;
 use std::alloc::{AllocError, Global};
 
 /// The numbers of early messages.
-fn numbers_of(alloc: Global, early: &[(u32, Kind)]) -> Result<Numbers, AllocError>
+fn numbers_of(alloc: Global, early: &[(u32, Kind)]) -> Result<EarlyNumbers, AllocError>
     ensures { IfOk result (λ numbers. numbers ≡ map (λ e. e.0) early.now) }
 {
-    let mut numbers = Numbers::new(alloc);
+    let mut numbers = EarlyNumbers::new(alloc);
     for (number, _) in early {
         numbers.push(*number)?;
     }
@@ -26,21 +25,11 @@ fn numbers_of(alloc: Global, early: &[(u32, Kind)]) -> Result<Numbers, AllocErro
 fn row_of(alloc: Global, thread: Tid, known: &ThreadView) -> Result<ShownThread, AllocError>
     ensures { IfOk result (λ row. row ≡ row_told thread known.now) }
 {
-    let prefix = match known.reported() {
-        None => None,
-        Some(state) => Some(Prefix {
-            upto: known.upto(),
-            phase: phase_of(state.phase),
-            mask: state.mask.bits(),
-            ran: state.ran,
-            level: state.level.get(),
-        }),
-    };
-    let early = numbers_of(alloc, known.early())?;
     Ok(ShownThread {
-        thread: thread.index(),
-        prefix,
-        early,
+        thread,
+        upto: known.upto(),
+        reported: known.reported(),
+        early: numbers_of(alloc, known.early())?,
     })
 }
 

@@ -1,6 +1,6 @@
 use Rattle.std.proofs.Common.{◌≡◌, ◌+◌, arith, subst, sym, ap, ◌∙◌}
 use Rattle.pc_view.specs.Views.{thread_of}
-use Rattle.pc_sim.specs.Showing.{ShowsBelow}
+use Rattle.pc_sim.specs.Inner.Showing.{ShowsBelow}
 use Rattle.pc_sim.proofs.Showing.{shows_none, shows_next, shows_last, shows_all}
 use Rattle.pc_sim.proofs.show.shown_threads.Goals as goal
 

@@ -1,6 +1,6 @@
 use Rattle.std.proofs.Common.{◌-◌, ◌^◌}
 use Rattle.pc_view.specs.Views.{thread_of}
-use Rattle.pc_sim.specs.Showing.{ShowsBelow}
+use Rattle.pc_sim.specs.Inner.Showing.{ShowsBelow}
 use Rattle.pc_sim.proofs.show.shown_threads.Given as goal
 
 abbrev pub invariant-names : goal.invariant-names

@@ -2,4 +2,4 @@ use Rattle.pc_sim.proofs.Standing.{stands_at_start}
 use Rattle.pc_sim.proofs.session.SessionMachine.start.Goals as goal
 
 pub returns : goal.returns
-returns c = stands_at_start c.args.version c.profile.result c.profile.ensures
+returns c = stands_at_start c.args.profile

@@ -1,0 +1,7 @@
+mod Acting
+mod Calls
+mod Consuming
+mod Exchanging
+mod Items
+mod Sent
+mod Worlds

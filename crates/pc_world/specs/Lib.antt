@@ -1,0 +1,4 @@
+pub mod Inner
+pub mod PlainWorld
+pub mod Shows
+pub mod Steps
