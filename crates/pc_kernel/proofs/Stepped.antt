@@ -1,31 +1,31 @@
 -- That a call of the code is its step, from the first refusal that it met and what it did.
 use Rattle.std.proofs.Common.{◌≡◌, ◌∙◌, ℕ, Bool, true, false, not, List, ◌∷◌, Option, Some, None, Ok, Err, is_none, unwrap_or, refl, sym, ap, subst}
 use Rattle.pc_messages.specs.declared.kind.Kind.{Kind}
-use Rattle.pc_kernel.specs.declared.calls.Call.{Call}
-use Rattle.pc_kernel.specs.declared.calls.Call.TheVariants.{Env}
-use Rattle.pc_kernel.specs.declared.calls.EnvCall.{EnvCall}
-use Rattle.pc_kernel.specs.declared.calls.Posted.{Posted}
-use Rattle.pc_kernel.specs.declared.calls.Answer.{Answer}
-use Rattle.pc_kernel.specs.declared.calls.Answer.TheVariants as answer
-use Rattle.pc_kernel.specs.declared.fault.KernelFault.{KernelFault}
-use Rattle.pc_kernel.specs.declared.fault.KernelFault.TheVariants.{OutOfMemory}
-use Rattle.pc_kernel.specs.declared.fault.KernelFault.TheVariants as fault
+use Rattle.pc_calls.specs.declared.call.Call.{Call}
+use Rattle.pc_calls.specs.declared.call.Call.TheVariants.{Env}
+use Rattle.pc_calls.specs.declared.call.EnvCall.{EnvCall}
+use Rattle.pc_calls.specs.declared.call.Posted.{Posted}
+use Rattle.pc_calls.specs.declared.call.Answer.{Answer}
+use Rattle.pc_calls.specs.declared.call.Answer.TheVariants as answer
+use Rattle.pc_calls.specs.declared.refusal.Refusal.{Refusal}
+use Rattle.pc_calls.specs.declared.refusal.Refusal.TheVariants.{OutOfMemory}
+use Rattle.pc_calls.specs.declared.refusal.Refusal.TheVariants as fault
 use Rattle.pc_kernel.specs.PlainKernel.{PlainKernel}
 use Rattle.pc_kernel.specs.Rows.{KernelRows}
 use Rattle.pc_kernel.specs.Reads.{Reads, seen, shown, on, is_cpu}
 use Rattle.pc_kernel.specs.Answers.{Shows, Replies, RepliesInMemory, Steps, StepsInMemory, done}
-use Rattle.pc_kernel.specs.Limits.{first_of}
-use Rattle.pc_kernel.specs.Sends.{Sends, Becomes, Leaves}
+use Rattle.pc_calls.specs.Conditions.{first_of}
+use Rattle.pc_kernel.specs.Inner.Sends.{Sends, Becomes, Leaves}
 use Rattle.pc_kernel.specs.Steps.{Condition, refused, posting, telling, receipt, at, post_refusals, leave_refusals, changed, accepted}
 use Rattle.pc_kernel.specs.Steps.{posted as after_post}
 use Rattle.pc_kernel.proofs.ShownReads.{shown-on}
 
-refused_reply : {A : Type 0} (tell : A → Answer) (fault : KernelFault) (k : KernelRows) (P : PlainKernel) → RepliesInMemory tell (Err fault) k k (Err fault) P
+refused_reply : {A : Type 0} (tell : A → Answer) (fault : Refusal) (k : KernelRows) (P : PlainKernel) → RepliesInMemory tell (Err fault) k k (Err fault) P
 refused_reply tell OutOfMemory k P = (refl, refl)
 refused_reply tell fault k P = (refl, refl)
 
 -- a call that the reads refuse
-pub refused_steps : {A : Type 0} (tell : A → Answer) (call : Call) (fault : KernelFault) (old new : KernelRows) → refused (seen old) call ≡ Some fault → new ≡ old → StepsInMemory tell call (Err fault) old new
+pub refused_steps : {A : Type 0} (tell : A → Answer) (call : Call) (fault : Refusal) (old new : KernelRows) → refused (seen old) call ≡ Some fault → new ≡ old → StepsInMemory tell call (Err fault) old new
 refused_steps tell call fault old new h same P shows =
     let e : refused (shown P) call ≡ Some fault = subst (λ (r : Reads). refused r call ≡ Some fault) shows.reads h in
     rw (same, e) (refused_reply tell fault old P)
@@ -44,7 +44,7 @@ sent_steps call posted old new h sends P shows =
     rw e (ap answer.Posted s.0, s.1)
 
 -- the thread on a CPU leaves it, or not
-pub stays : (cpu : ℕ) (kind : Kind) (fault : KernelFault) (old new : KernelRows) → first_of (leave_refusals (seen old) cpu) ≡ Some fault → new ≡ old → Leaves cpu kind (Err fault) old new
+pub stays : (cpu : ℕ) (kind : Kind) (fault : Refusal) (old new : KernelRows) → first_of (leave_refusals (seen old) cpu) ≡ Some fault → new ≡ old → Leaves cpu kind (Err fault) old new
 stays cpu kind fault old new h same P shows =
     let e : first_of (leave_refusals (shown P) cpu) ≡ Some fault = subst (λ (r : Reads). first_of (leave_refusals r cpu) ≡ Some fault) shows.reads h in
     rw (same, e) (refused_reply answer.Posted fault old P)
@@ -54,7 +54,7 @@ out_of_memory_leaves cpu kind old new h same P shows =
     let e : first_of (leave_refusals (shown P) cpu) ≡ None = subst (λ (r : Reads). first_of (leave_refusals r cpu) ≡ None) shows.reads h in
     rw e same
 
-first_holds : (b : Bool) (fault : KernelFault) (cs : List Condition) → first_of ((not b, fault) ∷ cs) ≡ None → b ≡ true
+first_holds : (b : Bool) (fault : Refusal) (cs : List Condition) → first_of ((not b, fault) ∷ cs) ≡ None → b ≡ true
 first_holds true fault cs e = refl
 first_holds false fault cs e = cc
 
@@ -72,10 +72,10 @@ left cpu t kind posted old told new h runs sends leaves P shows =
     rw e (subst F (sym (ap (λ (o : Option ℕ). unwrap_or o 0) on_it)) base)
 
 -- a call of an agent that the reads refuse, and one that they accept
-refused_plainly : {A : Type 0} (tell : A → Answer) (fault : KernelFault) (k : KernelRows) (P : PlainKernel) → Replies tell (Err fault) k k (Err fault) P
+refused_plainly : {A : Type 0} (tell : A → Answer) (fault : Refusal) (k : KernelRows) (P : PlainKernel) → Replies tell (Err fault) k k (Err fault) P
 refused_plainly tell fault k P = (refl, refl)
 
-pub refuses : (call : Call) (fault : KernelFault) (old new : KernelRows) → refused (seen old) call ≡ Some fault → new ≡ old → Steps done call (Err fault) old new
+pub refuses : (call : Call) (fault : Refusal) (old new : KernelRows) → refused (seen old) call ≡ Some fault → new ≡ old → Steps done call (Err fault) old new
 refuses call fault old new h same P shows =
     let e : refused (shown P) call ≡ Some fault = subst (λ (r : Reads). refused r call ≡ Some fault) shows.reads h in
     rw (same, e) (refused_plainly done fault old P)

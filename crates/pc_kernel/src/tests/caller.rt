@@ -4,14 +4,14 @@ ghost use Rattle.std.specs.Prelude.{[], ◌∷◌, IfOk, true};
 ghost use Rattle.pc_kernel.specs.Answers.{Replays};
 
 use crate::calls::{Answer, Call, EnvCall};
-use crate::fault::KernelFault;
+use crate::fault::Refusal;
 use crate::kernel::Kernel;
 use crate::tests::table::{DONE, SMALL, commit, create, tick};
 use pc_messages::{Cpu, Tid};
 use std::test::Fail;
 
 /// Makes three calls, each where the one before was accepted. Answers what the last one answers.
-fn three(kernel: &mut Kernel, first: Call, second: Call, third: Call) -> Result<Answer, KernelFault>
+fn three(kernel: &mut Kernel, first: Call, second: Call, third: Call) -> Result<Answer, Refusal>
     ensures { IfOk result (λ _. Replays (first ∷ second ∷ third ∷ []) kernel.old kernel.new) }
 {
     match kernel.apply(first) {
@@ -33,7 +33,7 @@ fn run_and_move(
     moves: Tid,
     home: Cpu,
     number: u32,
-) -> Result<bool, KernelFault>
+) -> Result<bool, Refusal>
     ensures { IfOk result (λ _. Replays (Call.Env (EnvCall.Create queue 3 true) ∷ Call.Commit queue runs aseq ∷ Call.Associate moves home number ∷ []) kernel.old kernel.new) }
 {
     match kernel.create(queue, 3, true) {

@@ -1,6 +1,6 @@
 //! Each call by its own name.
 
-use crate::fault::KernelFault;
+use crate::fault::Refusal;
 use crate::kernel::{Kernel, Status};
 use crate::tests::posted;
 use crate::tests::table::SMALL;
@@ -45,7 +45,7 @@ fn the_end_of_a_thread(rt: HostRuntime) -> Result<(), Fail> {
     kernel.commit(Cpu(0), Tid(0), 1)?;
     assert_eq!(rt; kernel.die(Cpu(0), 5)?, posted(0, 2, 0, 2));
     assert_eq!(rt; kernel.running(Cpu(0)), None);
-    assert_eq!(rt; kernel.wake(Tid(0)), Err(KernelFault::Dead));
+    assert_eq!(rt; kernel.wake(Tid(0)), Err(Refusal::Dead));
     assert_eq!(rt; kernel.status(Tid(0)), status(2, None));
     Ok(())
 }

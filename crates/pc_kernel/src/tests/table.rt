@@ -1,13 +1,13 @@
 //! Lists of calls beside the answers that are wanted.
 
 use crate::calls::{Answer, Call, EnvCall, Posted};
-use crate::fault::KernelFault;
+use crate::fault::Refusal;
 use crate::kernel::Kernel;
 use crate::limits::{Limits, LimitsFault, Profile};
 use pc_messages::{Cpu, Kind, Reported, Tid};
 use std::alloc::Global;
 
-pub(super) type Wanted = Result<Answer, KernelFault>;
+pub(super) type Wanted = Result<Answer, Refusal>;
 
 pub(super) const DONE: Wanted = Ok(Answer::Done);
 

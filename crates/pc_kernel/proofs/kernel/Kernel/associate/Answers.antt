@@ -1,5 +1,5 @@
 use Rattle.std.proofs.Common.{sym, refl}
-use Rattle.pc_kernel.specs.declared.calls.Call.TheVariants.{Associate}
+use Rattle.pc_calls.specs.declared.call.Call.TheVariants.{Associate}
 use Rattle.pc_kernel.proofs.Stepped.{refuses, does}
 use Rattle.pc_kernel.proofs.kernel.Kernel.associate.Goals as goal
 

@@ -1,9 +1,9 @@
 use Rattle.std.proofs.Common.{sym, refl, subst}
 use Rattle.pc_messages.specs.declared.kind.Kind.{Kind}
-use Rattle.pc_kernel.specs.declared.calls.Answer.TheVariants as answer
-use Rattle.pc_kernel.specs.declared.calls.Call.TheVariants.{Env}
-use Rattle.pc_kernel.specs.declared.calls.EnvCall.TheVariants.{SetPriority}
-use Rattle.pc_kernel.specs.Sends.{Sends}
+use Rattle.pc_calls.specs.declared.call.Answer.TheVariants as answer
+use Rattle.pc_calls.specs.declared.call.Call.TheVariants.{Env}
+use Rattle.pc_calls.specs.declared.call.EnvCall.TheVariants.{SetPriority}
+use Rattle.pc_kernel.specs.Inner.Sends.{Sends}
 use Rattle.pc_kernel.specs.Steps.{telling}
 use Rattle.pc_kernel.proofs.Stepped.{refused_steps, out_of_memory_steps, sent_steps}
 use Rattle.pc_kernel.proofs.kernel.Kernel.set_priority.Goals as goal

@@ -1,7 +1,7 @@
 use Rattle.std.proofs.Common.{sym, refl}
-use Rattle.pc_kernel.specs.declared.calls.Answer.TheVariants as answer
-use Rattle.pc_kernel.specs.declared.calls.Call.TheVariants.{Env}
-use Rattle.pc_kernel.specs.declared.calls.EnvCall.TheVariants.{Wake}
+use Rattle.pc_calls.specs.declared.call.Answer.TheVariants as answer
+use Rattle.pc_calls.specs.declared.call.Call.TheVariants.{Env}
+use Rattle.pc_calls.specs.declared.call.EnvCall.TheVariants.{Wake}
 use Rattle.pc_kernel.proofs.Stepped.{refused_steps, out_of_memory_steps, sent_steps}
 use Rattle.pc_kernel.proofs.kernel.Kernel.wake.Goals as goal
 
