@@ -6,11 +6,12 @@ use Rattle.pc_calls.specs.declared.call.Posted.{Posted}
 use Rattle.pc_calls.specs.declared.call.Answer.{Answer}
 use Rattle.pc_calls.specs.declared.call.Answer.TheVariants as answer
 use Rattle.pc_calls.specs.declared.refusal.Refusal.{Refusal}
-use Rattle.pc_calls.specs.declared.refusal.Refusal.TheVariants as fault
+use Rattle.pc_calls.specs.declared.refusal.CallFault.{CallFault}
+use Rattle.pc_calls.specs.declared.refusal.CallFault.TheVariants.{Refused, OutOfMemory}
 use Rattle.pc_kernel.specs.PlainKernel.{PlainKernel}
 use Rattle.pc_kernel.specs.Rows.{KernelRows}
 use Rattle.pc_kernel.specs.Reads.{shown}
-use Rattle.pc_kernel.specs.Answers.{Shows, Replies, RepliesInMemory, Steps, StepsInMemory, itself, Accepts, Refuses, Replays}
+use Rattle.pc_kernel.specs.Answers.{Shows, Replies, RepliesInMemory, Steps, StepsInMemory, done, itself, Accepts, Refuses, Replays}
 use Rattle.pc_kernel.specs.Steps.{reply, reply_of, after, after_of, refused, replay, changed, accepted}
 
 accepted_reply : {A : Type 0} (tell : A → Answer) (a : A) (old new : KernelRows) (r : Result Answer Refusal) (Q : PlainKernel) → RepliesInMemory tell (Ok a) old new r Q → (r ≡ Ok (tell a)) × Shows new Q
@@ -25,13 +26,13 @@ refused_reply : {A : Type 0} (tell : A → Answer) (e : Refusal) (old new : Kern
 refused_reply tell e old new (Ok answer) Q h = absurd h
 refused_reply tell e old new (Err refusal) Q h = (ap (λ (e : Refusal). Err e) (sym h.0), h.1)
 
-refused_in_memory : {A : Type 0} (tell : A → Answer) (e : Refusal) (old new : KernelRows) (r : Result Answer Refusal) (Q : PlainKernel) → RepliesInMemory tell (Err e) old new r Q → e ≢ fault.OutOfMemory → (r ≡ Err e) × (new ≡ old)
-refused_in_memory tell fault.OutOfMemory old new r Q h n = absurd (n refl)
-refused_in_memory tell e old new r Q h n = refused_reply tell e old new r Q h
+refused_in_memory : {A : Type 0} (tell : A → Answer) (e : Refusal) (old new : KernelRows) (r : Result Answer Refusal) (Q : PlainKernel) → RepliesInMemory tell (Err (Refused e)) old new r Q → (r ≡ Err e) × (new ≡ old)
+refused_in_memory tell e old new (Ok answer) Q h = absurd h
+refused_in_memory tell e old new (Err refusal) Q h = (ap (λ (e : Refusal). Err e) (sym h.0), h.1)
 
 -- an Err that is not want of memory: the step refuses with it
-pub refuses : {A : Type 0} (tell : A → Answer) (call : Call) (e : Refusal) (old new : KernelRows) → StepsInMemory tell call (Err e) old new → e ≢ fault.OutOfMemory → Refuses call e old new
-refuses tell call e old new h n P shows = refused_in_memory tell e old new (reply P call) (after P call) (h P shows) n
+pub refuses : {A : Type 0} (tell : A → Answer) (call : Call) (e : Refusal) (old new : KernelRows) → StepsInMemory tell call (Err (Refused e)) old new → Refuses call e old new
+refuses tell call e old new h P shows = refused_in_memory tell e old new (reply P call) (after P call) (h P shows)
 
 -- the same of a call that takes no memory
 pub accepts_plainly : {A : Type 0} (tell : A → Answer) (call : Call) (a : A) (old new : KernelRows) → Steps tell call (Ok a) old new → Accepts call (tell a) old new
@@ -45,16 +46,31 @@ pub refuses_plainly : {A : Type 0} (tell : A → Answer) (call : Call) (e : Refu
 refuses_plainly tell call e old new h P shows = refused_reply tell e old new (reply P call) (after P call) (h P shows)
 
 -- a post's answer as the answer of a call
-pub told : (call : Call) (r : Result Posted Refusal) (old new : KernelRows) → StepsInMemory answer.Posted call r old new → StepsInMemory itself call (result_map_both answer.Posted (λ fault. fault) r) old new
+pub told : (call : Call) (r : Result Posted CallFault) (old new : KernelRows) → StepsInMemory answer.Posted call r old new → StepsInMemory itself call (result_map_both answer.Posted (λ fault. fault) r) old new
 told call r old new h P shows = retold r (reply P call) (after P call) (h P shows)
   where
-    retold : (r : Result Posted Refusal) (o : Result Answer Refusal) (Q : PlainKernel) → RepliesInMemory answer.Posted r old new o Q → RepliesInMemory itself (result_map_both answer.Posted (λ fault. fault) r) old new o Q
+    retold : (r : Result Posted CallFault) (o : Result Answer Refusal) (Q : PlainKernel) → RepliesInMemory answer.Posted r old new o Q → RepliesInMemory itself (result_map_both answer.Posted (λ fault. fault) r) old new o Q
     retold (Ok posted) (Ok answer) Q h = h
     retold (Ok posted) (Err refusal) Q h = h
-    retold (Err fault.OutOfMemory) (Ok answer) Q h = h
-    retold (Err fault.OutOfMemory) (Err refusal) Q h = h
+    retold (Err OutOfMemory) (Ok answer) Q h = h
+    retold (Err OutOfMemory) (Err refusal) Q h = h
+    retold (Err (Refused e)) (Ok answer) Q h = h
+    retold (Err (Refused e)) (Err refusal) Q h = h
+
+-- an agent's answer as the answer of a call
+pub told_plainly : (call : Call) (r : Result (Unit {0}) Refusal) (old new : KernelRows) → Steps done call r old new → StepsInMemory itself call (result_map_both (λ _. answer.Done) Refused r) old new
+told_plainly call r old new h P shows = retold r (reply P call) (after P call) (h P shows)
+  where
+    retold : (r : Result (Unit {0}) Refusal) (o : Result Answer Refusal) (Q : PlainKernel) → Replies done r old new o Q → RepliesInMemory itself (result_map_both (λ _. answer.Done) Refused r) old new o Q
+    retold (Ok unit) (Ok answer) Q h = h
+    retold (Ok unit) (Err refusal) Q h = h
     retold (Err e) (Ok answer) Q h = h
     retold (Err e) (Err refusal) Q h = h
+
+-- nor is it want of memory
+pub plainly : (r : Result (Unit {0}) Refusal) → result_map_both (λ _. answer.Done) Refused r ≢ Err OutOfMemory
+plainly (Ok unit) e = cc
+plainly (Err refusal) e = cc
 
 -- lists of calls: none, one that is accepted, one that is refused, and one list after another
 pub replays_none : (k : KernelRows) → Replays [] k k
@@ -81,11 +97,11 @@ pub replays_then : (first then' : List Call) (old middle new : KernelRows) → R
 replays_then first then' old middle new h g P shows = rw (replay_then P first then') (g (replay P first) (h P shows))
 
 -- the one call, where it was accepted
-pub replays_ok : {A : Type 0} (tell : A → Answer) (call : Call) (r : Result A Refusal) (old new : KernelRows) → StepsInMemory tell call r old new → IfOk r (λ _. Replays (call ∷ []) old new)
+pub replays_ok : {A : Type 0} (tell : A → Answer) (call : Call) (r : Result A CallFault) (old new : KernelRows) → StepsInMemory tell call r old new → IfOk r (λ _. Replays (call ∷ []) old new)
 replays_ok tell call (Ok a) old new h = replays_accepted call (tell a) old new (accepts tell call a old new h)
 replays_ok tell call (Err e) old new h = tt
 
 -- the last of several calls, where it was accepted
-pub replays_last : {A : Type 0} (first : List Call) (call : Call) (r : Result A Refusal) (old middle new : KernelRows) → Replays first old middle → IfOk r (λ _. Replays (call ∷ []) middle new) → IfOk r (λ _. Replays (first ++ call ∷ []) old new)
+pub replays_last : {A : Type 0} (first : List Call) (call : Call) (r : Result A CallFault) (old middle new : KernelRows) → Replays first old middle → IfOk r (λ _. Replays (call ∷ []) middle new) → IfOk r (λ _. Replays (first ++ call ∷ []) old new)
 replays_last first call (Ok a) old middle new h g = replays_then first (call ∷ []) old middle new h g
 replays_last first call (Err e) old middle new h g = tt

@@ -9,7 +9,8 @@ use Rattle.pc_calls.specs.declared.limits.Profile.{Profile}
 use Rattle.pc_calls.specs.declared.limits.Profile.TheVariants.{One, Two}
 use Rattle.pc_calls.specs.declared.limits.LimitField.TheVariants as field
 use Rattle.pc_kernel.specs.declared.cpus.CpuEntry.{CpuEntry}
-use Rattle.pc_calls.specs.Limits.{first_of, is_outside, bad_field, most_threads, most_numbers}
+use Rattle.pc_calls.specs.Conditions.{first_of}
+use Rattle.pc_calls.specs.Limits.{is_outside, bad_field, most_threads, most_numbers}
 use Rattle.pc_kernel.specs.PlainKernel.{start}
 use Rattle.pc_kernel.specs.Rows.{ThreadRow, CpuRow}
 use Rattle.pc_kernel.specs.Inner.Entries.{row_of, rows, fresh_cpu, IsKernel}

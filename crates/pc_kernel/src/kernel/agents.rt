@@ -191,9 +191,7 @@ impl Kernel {
     {
         match self.cpu(cpu) {
             None => Some(Refusal::BadCpu),
-            Some(entry) if entry.queue.aseq() != aseq => Some(Refusal::Stale(
-                entry.queue.aseq(),
-            )),
+            Some(entry) if entry.queue.aseq() != aseq => Some(Refusal::Stale(entry.queue.aseq())),
             Some(_) => None,
         }
     }

@@ -28,7 +28,7 @@ impl Kernel {
         ensures err { OnErr result (self.new ≡ self.old) }
     {
         match self.first_kind(queue, mask, ready) {
-            Err(refusal) => Err(CallFault::Refused(refusal)),
+            Err(refusal) => Err(refusal.into()),
             Ok(kind) => match self.add(queue, kind) {
                 Ok(posted) => Ok(posted),
                 Err(_) => Err(CallFault::OutOfMemory),
@@ -43,7 +43,7 @@ impl Kernel {
         ensures err { OnErr result (self.new ≡ self.old) }
     {
         match self.wake_fault(thread) {
-            Some(refusal) => Err(CallFault::Refused(refusal)),
+            Some(refusal) => Err(refusal.into()),
             None => match self.tell(thread, Kind::Wakeup) {
                 Ok(posted) => Ok(posted),
                 Err(_) => Err(CallFault::OutOfMemory),
@@ -94,7 +94,7 @@ impl Kernel {
         ensures err { OnErr result (self.new ≡ self.old) }
     {
         match self.affinity(thread, mask) {
-            Err(refusal) => Err(CallFault::Refused(refusal)),
+            Err(refusal) => Err(refusal.into()),
             Ok(kind) => match self.tell(thread, kind) {
                 Ok(posted) => Ok(posted),
                 Err(_) => Err(CallFault::OutOfMemory),
@@ -109,7 +109,7 @@ impl Kernel {
         ensures err { OnErr result (self.new ≡ self.old) }
     {
         match self.priority(thread, level) {
-            Err(refusal) => Err(CallFault::Refused(refusal)),
+            Err(refusal) => Err(refusal.into()),
             Ok(kind) => match self.tell(thread, kind) {
                 Ok(posted) => Ok(posted),
                 Err(_) => Err(CallFault::OutOfMemory),
@@ -124,7 +124,7 @@ impl Kernel {
         ensures err { OnErr result (self.new ≡ self.old) }
     {
         match self.tick_fault(cpu) {
-            Some(refusal) => Err(CallFault::Refused(refusal)),
+            Some(refusal) => Err(refusal.into()),
             None => match self.post_tick(cpu) {
                 Ok(posted) => Ok(posted),
                 Err(_) => Err(CallFault::OutOfMemory),
@@ -141,15 +141,13 @@ impl Kernel {
         ensures limits { self.new.limits ≡ self.old.limits }
         ensures err { OnErr result (self.new ≡ self.old) }
     {
-        match self.leaver(cpu) {
-            Err(refusal) => Err(CallFault::Refused(refusal)),
-            Ok(thread) => match self.tell(thread, kind) {
-                Ok(posted) => {
-                    self.take_off(cpu, thread);
-                    Ok(posted)
-                }
-                Err(_) => Err(CallFault::OutOfMemory),
-            },
+        let thread = self.leaver(cpu)?;
+        match self.tell(thread, kind) {
+            Ok(posted) => {
+                self.take_off(cpu, thread);
+                Ok(posted)
+            }
+            Err(_) => Err(CallFault::OutOfMemory),
         }
     }
 

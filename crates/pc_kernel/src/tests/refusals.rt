@@ -2,12 +2,11 @@
 //! together, that the first is answered. An unknown thread is never dead, an empty mask never too wide, the queue of
 //! a CPU that is not there never full, and a thread that runs on its home queue's CPU is never forbidden there.
 
-use crate::fault::Refusal;
-use crate::limits::Profile;
 use crate::tests::table::{
     DONE, SMALL, associate, block, commit, config, consume, create, die, first_wrong, limits,
     preempt, rouse, sent, set_affinity, set_priority, sleep, tick, wake, yield_now,
 };
+use crate::{Profile, Refusal};
 use pc_messages::Cpu;
 use std::test::Fail;
 

@@ -1,12 +1,11 @@
 //! Lists of calls worked by hand.
 
-use crate::fault::Refusal;
-use crate::limits::Profile;
 use crate::tests::table::{
     DONE, SMALL, associate, block, commit, config, consume, create, die, first_wrong, limits,
     preempt, rouse, sent, sent_to, set_affinity, set_priority, sleep, tick, ticked, wake,
     yield_now,
 };
+use crate::{Profile, Refusal};
 use pc_messages::Cpu;
 use std::test::Fail;
 
