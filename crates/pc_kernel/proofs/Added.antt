@@ -12,18 +12,18 @@ use Rattle.pc_messages.specs.declared.kind.Kind.TheVariants.{Created, Blocked, P
 use Rattle.pc_messages.specs.declared.message.Message.{Message}
 use Rattle.pc_messages.specs.declared.message.Item.{Item}
 use Rattle.pc_messages.specs.declared.message.Item.TheVariants as item
-use Rattle.pc_kernel.specs.declared.calls.Posted.{Posted}
+use Rattle.pc_calls.specs.declared.call.Posted.{Posted}
 use Rattle.pc_kernel.specs.declared.cpus.CpuEntry.{CpuEntry}
 use Rattle.pc_kernel.specs.declared.cpus.Landing.{Landing}
-use Rattle.pc_kernel.specs.declared.limits.Limits.{Limits}
+use Rattle.pc_calls.specs.declared.limits.Limits.{Limits}
 use Rattle.pc_kernel.specs.PlainKernel.{PlainKernel, is_on}
 use Rattle.pc_kernel.specs.PlainKernel as plain
 use Rattle.pc_kernel.specs.Rows.{ThreadRow, CpuRow, KernelRows}
 use Rattle.pc_kernel.specs.Reads.{thread_row, shown}
-use Rattle.pc_kernel.specs.Entries.{row_of, rows, place_in, IsKernel, IsPosted}
+use Rattle.pc_kernel.specs.Inner.Entries.{row_of, rows, place_in, IsKernel, IsPosted}
 use Rattle.pc_kernel.specs.Sound.{IsThreadRow, IsOfRun}
 use Rattle.pc_kernel.specs.Answers.{Shows}
-use Rattle.pc_kernel.specs.Sends.{Sends, adding}
+use Rattle.pc_kernel.specs.Inner.Sends.{Sends, adding}
 use Rattle.pc_kernel.specs.Steps.{at, posted, receipt}
 use Rattle.pc_kernel.proofs.Slots.{slice_get_push}
 use Rattle.pc_kernel.proofs.Shown.{ShowsParts, shows_from, shows_parts}

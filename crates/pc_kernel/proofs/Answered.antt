@@ -1,19 +1,20 @@
 -- From what a call of the code says, that the step accepts the call or refuses it; and whole lists of calls.
 use Rattle.std.proofs.Common.{◌≡◌, ◌≢◌, List, [], ◌∷◌, ◌++◌, Option, Some, None, Result, Ok, Err, IfOk, refl, sym, ap}
 use Rattle.std.specs.Result.{result_map_both}
-use Rattle.pc_kernel.specs.declared.calls.Call.{Call}
-use Rattle.pc_kernel.specs.declared.calls.Posted.{Posted}
-use Rattle.pc_kernel.specs.declared.calls.Answer.{Answer}
-use Rattle.pc_kernel.specs.declared.calls.Answer.TheVariants as answer
-use Rattle.pc_kernel.specs.declared.fault.KernelFault.{KernelFault}
-use Rattle.pc_kernel.specs.declared.fault.KernelFault.TheVariants as fault
+use Rattle.pc_calls.specs.declared.call.Call.{Call}
+use Rattle.pc_calls.specs.declared.call.Posted.{Posted}
+use Rattle.pc_calls.specs.declared.call.Answer.{Answer}
+use Rattle.pc_calls.specs.declared.call.Answer.TheVariants as answer
+use Rattle.pc_calls.specs.declared.refusal.Refusal.{Refusal}
+use Rattle.pc_calls.specs.declared.refusal.CallFault.{CallFault}
+use Rattle.pc_calls.specs.declared.refusal.CallFault.TheVariants.{Refused, OutOfMemory}
 use Rattle.pc_kernel.specs.PlainKernel.{PlainKernel}
 use Rattle.pc_kernel.specs.Rows.{KernelRows}
 use Rattle.pc_kernel.specs.Reads.{shown}
-use Rattle.pc_kernel.specs.Answers.{Shows, Replies, RepliesInMemory, Steps, StepsInMemory, itself, Accepts, Refuses, Replays}
+use Rattle.pc_kernel.specs.Answers.{Shows, Replies, RepliesInMemory, Steps, StepsInMemory, done, itself, Accepts, Refuses, Replays}
 use Rattle.pc_kernel.specs.Steps.{reply, reply_of, after, after_of, refused, replay, changed, accepted}
 
-accepted_reply : {A : Type 0} (tell : A → Answer) (a : A) (old new : KernelRows) (r : Result Answer KernelFault) (Q : PlainKernel) → RepliesInMemory tell (Ok a) old new r Q → (r ≡ Ok (tell a)) × Shows new Q
+accepted_reply : {A : Type 0} (tell : A → Answer) (a : A) (old new : KernelRows) (r : Result Answer Refusal) (Q : PlainKernel) → RepliesInMemory tell (Ok a) old new r Q → (r ≡ Ok (tell a)) × Shows new Q
 accepted_reply tell a old new (Ok answer) Q h = (ap (λ (a : Answer). Ok a) (sym h.0), h.1)
 accepted_reply tell a old new (Err refusal) Q h = absurd h
 
@@ -21,40 +22,55 @@ accepted_reply tell a old new (Err refusal) Q h = absurd h
 pub accepts : {A : Type 0} (tell : A → Answer) (call : Call) (a : A) (old new : KernelRows) → StepsInMemory tell call (Ok a) old new → Accepts call (tell a) old new
 accepts tell call a old new h P shows = accepted_reply tell a old new (reply P call) (after P call) (h P shows)
 
-refused_reply : {A : Type 0} (tell : A → Answer) (e : KernelFault) (old new : KernelRows) (r : Result Answer KernelFault) (Q : PlainKernel) → Replies tell (Err e) old new r Q → (r ≡ Err e) × (new ≡ old)
+refused_reply : {A : Type 0} (tell : A → Answer) (e : Refusal) (old new : KernelRows) (r : Result Answer Refusal) (Q : PlainKernel) → Replies tell (Err e) old new r Q → (r ≡ Err e) × (new ≡ old)
 refused_reply tell e old new (Ok answer) Q h = absurd h
-refused_reply tell e old new (Err refusal) Q h = (ap (λ (e : KernelFault). Err e) (sym h.0), h.1)
+refused_reply tell e old new (Err refusal) Q h = (ap (λ (e : Refusal). Err e) (sym h.0), h.1)
 
-refused_in_memory : {A : Type 0} (tell : A → Answer) (e : KernelFault) (old new : KernelRows) (r : Result Answer KernelFault) (Q : PlainKernel) → RepliesInMemory tell (Err e) old new r Q → e ≢ fault.OutOfMemory → (r ≡ Err e) × (new ≡ old)
-refused_in_memory tell fault.OutOfMemory old new r Q h n = absurd (n refl)
-refused_in_memory tell e old new r Q h n = refused_reply tell e old new r Q h
+refused_in_memory : {A : Type 0} (tell : A → Answer) (e : Refusal) (old new : KernelRows) (r : Result Answer Refusal) (Q : PlainKernel) → RepliesInMemory tell (Err (Refused e)) old new r Q → (r ≡ Err e) × (new ≡ old)
+refused_in_memory tell e old new (Ok answer) Q h = absurd h
+refused_in_memory tell e old new (Err refusal) Q h = (ap (λ (e : Refusal). Err e) (sym h.0), h.1)
 
 -- an Err that is not want of memory: the step refuses with it
-pub refuses : {A : Type 0} (tell : A → Answer) (call : Call) (e : KernelFault) (old new : KernelRows) → StepsInMemory tell call (Err e) old new → e ≢ fault.OutOfMemory → Refuses call e old new
-refuses tell call e old new h n P shows = refused_in_memory tell e old new (reply P call) (after P call) (h P shows) n
+pub refuses : {A : Type 0} (tell : A → Answer) (call : Call) (e : Refusal) (old new : KernelRows) → StepsInMemory tell call (Err (Refused e)) old new → Refuses call e old new
+refuses tell call e old new h P shows = refused_in_memory tell e old new (reply P call) (after P call) (h P shows)
 
 -- the same of a call that takes no memory
 pub accepts_plainly : {A : Type 0} (tell : A → Answer) (call : Call) (a : A) (old new : KernelRows) → Steps tell call (Ok a) old new → Accepts call (tell a) old new
 accepts_plainly tell call a old new h P shows = plainly (reply P call) (after P call) (h P shows)
   where
-    plainly : (r : Result Answer KernelFault) (Q : PlainKernel) → Replies tell (Ok a) old new r Q → (r ≡ Ok (tell a)) × Shows new Q
+    plainly : (r : Result Answer Refusal) (Q : PlainKernel) → Replies tell (Ok a) old new r Q → (r ≡ Ok (tell a)) × Shows new Q
     plainly (Ok answer) Q h = (ap (λ (a : Answer). Ok a) (sym h.0), h.1)
     plainly (Err refusal) Q h = absurd h
 
-pub refuses_plainly : {A : Type 0} (tell : A → Answer) (call : Call) (e : KernelFault) (old new : KernelRows) → Steps tell call (Err e) old new → Refuses call e old new
+pub refuses_plainly : {A : Type 0} (tell : A → Answer) (call : Call) (e : Refusal) (old new : KernelRows) → Steps tell call (Err e) old new → Refuses call e old new
 refuses_plainly tell call e old new h P shows = refused_reply tell e old new (reply P call) (after P call) (h P shows)
 
 -- a post's answer as the answer of a call
-pub told : (call : Call) (r : Result Posted KernelFault) (old new : KernelRows) → StepsInMemory answer.Posted call r old new → StepsInMemory itself call (result_map_both answer.Posted (λ fault. fault) r) old new
+pub told : (call : Call) (r : Result Posted CallFault) (old new : KernelRows) → StepsInMemory answer.Posted call r old new → StepsInMemory itself call (result_map_both answer.Posted (λ fault. fault) r) old new
 told call r old new h P shows = retold r (reply P call) (after P call) (h P shows)
   where
-    retold : (r : Result Posted KernelFault) (o : Result Answer KernelFault) (Q : PlainKernel) → RepliesInMemory answer.Posted r old new o Q → RepliesInMemory itself (result_map_both answer.Posted (λ fault. fault) r) old new o Q
+    retold : (r : Result Posted CallFault) (o : Result Answer Refusal) (Q : PlainKernel) → RepliesInMemory answer.Posted r old new o Q → RepliesInMemory itself (result_map_both answer.Posted (λ fault. fault) r) old new o Q
     retold (Ok posted) (Ok answer) Q h = h
     retold (Ok posted) (Err refusal) Q h = h
-    retold (Err fault.OutOfMemory) (Ok answer) Q h = h
-    retold (Err fault.OutOfMemory) (Err refusal) Q h = h
+    retold (Err OutOfMemory) (Ok answer) Q h = h
+    retold (Err OutOfMemory) (Err refusal) Q h = h
+    retold (Err (Refused e)) (Ok answer) Q h = h
+    retold (Err (Refused e)) (Err refusal) Q h = h
+
+-- an agent's answer as the answer of a call
+pub told_plainly : (call : Call) (r : Result (Unit {0}) Refusal) (old new : KernelRows) → Steps done call r old new → StepsInMemory itself call (result_map_both (λ _. answer.Done) Refused r) old new
+told_plainly call r old new h P shows = retold r (reply P call) (after P call) (h P shows)
+  where
+    retold : (r : Result (Unit {0}) Refusal) (o : Result Answer Refusal) (Q : PlainKernel) → Replies done r old new o Q → RepliesInMemory itself (result_map_both (λ _. answer.Done) Refused r) old new o Q
+    retold (Ok unit) (Ok answer) Q h = h
+    retold (Ok unit) (Err refusal) Q h = h
     retold (Err e) (Ok answer) Q h = h
     retold (Err e) (Err refusal) Q h = h
+
+-- nor is it want of memory
+pub plainly : (r : Result (Unit {0}) Refusal) → result_map_both (λ _. answer.Done) Refused r ≢ Err OutOfMemory
+plainly (Ok unit) e = cc
+plainly (Err refusal) e = cc
 
 -- lists of calls: none, one that is accepted, one that is refused, and one list after another
 pub replays_none : (k : KernelRows) → Replays [] k k
@@ -63,13 +79,13 @@ replays_none k P shows = shows
 pub replays_accepted : (call : Call) (answer : Answer) (old new : KernelRows) → Accepts call answer old new → Replays (call ∷ []) old new
 replays_accepted call answer old new h P shows = (h P shows).1
 
-pub replays_refused : (call : Call) (e : KernelFault) (old new : KernelRows) → Refuses call e old new → Replays (call ∷ []) old new
+pub replays_refused : (call : Call) (e : Refusal) (old new : KernelRows) → Refuses call e old new → Replays (call ∷ []) old new
 replays_refused call e old new h P shows =
     let r = h P shows in
     let same : after P call ≡ P = stays (refused (shown P) call) (accepted P call) (changed P call) P r.0 in
     rw (same, r.1) shows
   where
-    stays : (o : Option KernelFault) (answer : Answer) (Q P : PlainKernel) → reply_of o answer ≡ Err e → after_of o Q P ≡ P
+    stays : (o : Option Refusal) (answer : Answer) (Q P : PlainKernel) → reply_of o answer ≡ Err e → after_of o Q P ≡ P
     stays None answer Q P h = cc
     stays (Some refusal) answer Q P h = refl
 
@@ -81,11 +97,11 @@ pub replays_then : (first then' : List Call) (old middle new : KernelRows) → R
 replays_then first then' old middle new h g P shows = rw (replay_then P first then') (g (replay P first) (h P shows))
 
 -- the one call, where it was accepted
-pub replays_ok : {A : Type 0} (tell : A → Answer) (call : Call) (r : Result A KernelFault) (old new : KernelRows) → StepsInMemory tell call r old new → IfOk r (λ _. Replays (call ∷ []) old new)
+pub replays_ok : {A : Type 0} (tell : A → Answer) (call : Call) (r : Result A CallFault) (old new : KernelRows) → StepsInMemory tell call r old new → IfOk r (λ _. Replays (call ∷ []) old new)
 replays_ok tell call (Ok a) old new h = replays_accepted call (tell a) old new (accepts tell call a old new h)
 replays_ok tell call (Err e) old new h = tt
 
 -- the last of several calls, where it was accepted
-pub replays_last : {A : Type 0} (first : List Call) (call : Call) (r : Result A KernelFault) (old middle new : KernelRows) → Replays first old middle → IfOk r (λ _. Replays (call ∷ []) middle new) → IfOk r (λ _. Replays (first ++ call ∷ []) old new)
+pub replays_last : {A : Type 0} (first : List Call) (call : Call) (r : Result A CallFault) (old middle new : KernelRows) → Replays first old middle → IfOk r (λ _. Replays (call ∷ []) middle new) → IfOk r (λ _. Replays (first ++ call ∷ []) old new)
 replays_last first call (Ok a) old middle new h g = replays_then first (call ∷ []) old middle new h g
 replays_last first call (Err e) old middle new h g = tt

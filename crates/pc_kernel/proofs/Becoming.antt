@@ -7,13 +7,13 @@ use Rattle.std.proofs.lemmas.List.{length-map, length-drop}
 use Rattle.std.proofs.lemmas.Option.{same_Some, slice_get-map, slice_get_within, slice_get_cases}
 use Rattle.pc_messages.specs.declared.message.Item.{Item}
 use Rattle.pc_kernel.specs.declared.cpus.CpuEntry.{CpuEntry}
-use Rattle.pc_kernel.specs.declared.limits.Limits.{Limits}
+use Rattle.pc_calls.specs.declared.limits.Limits.{Limits}
 use Rattle.pc_kernel.specs.PlainKernel.{PlainKernel, is_on}
 use Rattle.pc_kernel.specs.PlainKernel as plain
 use Rattle.pc_kernel.specs.Rows.{ThreadRow, CpuRow}
 use Rattle.pc_kernel.specs.Reads.{thread_row, cpu_row, shown}
-use Rattle.pc_kernel.specs.Entries.{row_of, rows, place_in, IsKernel}
-use Rattle.pc_kernel.specs.Sends.{Becomes}
+use Rattle.pc_kernel.specs.Inner.Entries.{row_of, rows, place_in, IsKernel}
+use Rattle.pc_kernel.specs.Inner.Sends.{Becomes}
 use Rattle.pc_kernel.specs.Steps.{at}
 use Rattle.pc_kernel.proofs.Slots.{slice_get_set_same, slice_get_set_other}
 use Rattle.pc_kernel.proofs.Shown.{ShowsParts, shows_from, shows_parts}

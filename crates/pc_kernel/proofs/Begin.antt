@@ -4,15 +4,16 @@ use Rattle.std.proofs.lemmas.List.{length-map}
 use Rattle.std.proofs.lemmas.Bool.Decides.{nat_tests}
 use Rattle.std.proofs.lemmas.Bool.{cases_lt, lt-ltb, le-ltb}
 use Rattle.std.proofs.lemmas.Option.{slice_get-map, slice_get_within, slice_get_past, same_Some}
-use Rattle.pc_kernel.specs.declared.limits.Limits.{Limits}
-use Rattle.pc_kernel.specs.declared.limits.Profile.{Profile}
-use Rattle.pc_kernel.specs.declared.limits.Profile.TheVariants.{One, Two}
-use Rattle.pc_kernel.specs.declared.limits.LimitField.TheVariants as field
+use Rattle.pc_calls.specs.declared.limits.Limits.{Limits}
+use Rattle.pc_calls.specs.declared.limits.Profile.{Profile}
+use Rattle.pc_calls.specs.declared.limits.Profile.TheVariants.{One, Two}
+use Rattle.pc_calls.specs.declared.limits.LimitField.TheVariants as field
 use Rattle.pc_kernel.specs.declared.cpus.CpuEntry.{CpuEntry}
-use Rattle.pc_kernel.specs.Limits.{first_of, is_outside, bad_field, most_threads, most_numbers}
+use Rattle.pc_calls.specs.Conditions.{first_of}
+use Rattle.pc_calls.specs.Limits.{is_outside, bad_field, most_threads, most_numbers}
 use Rattle.pc_kernel.specs.PlainKernel.{start}
 use Rattle.pc_kernel.specs.Rows.{ThreadRow, CpuRow}
-use Rattle.pc_kernel.specs.Entries.{row_of, rows, fresh_cpu, IsKernel}
+use Rattle.pc_kernel.specs.Inner.Entries.{row_of, rows, fresh_cpu, IsKernel}
 use Rattle.pc_kernel.specs.Sound.{AreLimits, IsCpuRow}
 use Rattle.pc_kernel.specs.Answers.{Shows}
 use Rattle.pc_kernel.proofs.Slots.{slice_get_map_some}

@@ -12,9 +12,9 @@ use Rattle.pc_messages.specs.declared.message.Item.{Item}
 use Rattle.pc_messages.specs.declared.message.Item.TheVariants as item
 use Rattle.pc_kernel.specs.declared.cpus.CpuEntry.{CpuEntry}
 use Rattle.pc_kernel.specs.declared.cpus.Landing.{Landing}
-use Rattle.pc_kernel.specs.declared.limits.Limits.{Limits}
+use Rattle.pc_calls.specs.declared.limits.Limits.{Limits}
 use Rattle.pc_kernel.specs.Rows.{ThreadRow, CpuRow}
-use Rattle.pc_kernel.specs.Entries.{row_of, rows, roused_entry, given_entry, place_in, IsKernel, IsPosted, AreTargets}
+use Rattle.pc_kernel.specs.Inner.Entries.{row_of, rows, roused_entry, given_entry, place_in, IsKernel, IsPosted, AreTargets}
 use Rattle.pc_kernel.specs.Sound.{IsThreadRow, IsCpuRow, IsOfRun}
 use Rattle.pc_kernel.proofs.Slots.{slice_get_map_some}
 

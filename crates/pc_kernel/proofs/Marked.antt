@@ -8,12 +8,12 @@ use Rattle.pc_messages.specs.declared.message.Item.{Item}
 use Rattle.pc_queue.specs.Queue.{Queue}
 use Rattle.pc_queue.specs.declared.fault.TooMany.{TooMany}
 use Rattle.pc_kernel.specs.declared.cpus.CpuEntry.{CpuEntry}
-use Rattle.pc_kernel.specs.declared.limits.Limits.{Limits}
+use Rattle.pc_calls.specs.declared.limits.Limits.{Limits}
 use Rattle.pc_kernel.specs.PlainKernel.{PlainKernel}
 use Rattle.pc_kernel.specs.Rows.{ThreadRow, CpuRow, KernelRows}
 use Rattle.pc_kernel.specs.Reads.{seen, on, place, content}
-use Rattle.pc_kernel.specs.Entries.{row_of, rows, place_in, IsKernel}
-use Rattle.pc_kernel.specs.Sends.{Becomes}
+use Rattle.pc_kernel.specs.Inner.Entries.{row_of, rows, place_in, IsKernel}
+use Rattle.pc_kernel.specs.Inner.Sends.{Becomes}
 use Rattle.pc_kernel.specs.Steps.{at}
 use Rattle.pc_kernel.proofs.Slots.{slice_get_set_same, slice_get_set_other}
 use Rattle.pc_kernel.proofs.Moves.{cpu_of, kernel_thread, kernel_cpu, marked_row, aimed_row, running_row, cut_row, cut_queue}

@@ -8,10 +8,10 @@ use Rattle.pc_messages.specs.declared.message.Message.{Message}
 use Rattle.pc_messages.specs.declared.message.Item.TheVariants as item
 use Rattle.pc_queue.specs.Queue.{Queue}
 use Rattle.pc_kernel.specs.declared.cpus.CpuEntry.{CpuEntry}
-use Rattle.pc_kernel.specs.declared.limits.Limits.{Limits}
+use Rattle.pc_calls.specs.declared.limits.Limits.{Limits}
 use Rattle.pc_kernel.specs.Rows.{ThreadRow, CpuRow, KernelRows}
 use Rattle.pc_kernel.specs.Reads.{seen, kinds}
-use Rattle.pc_kernel.specs.Entries.{row_of, rows, place_in, IsKernel}
+use Rattle.pc_kernel.specs.Inner.Entries.{row_of, rows, place_in, IsKernel}
 use Rattle.pc_kernel.specs.Sound.{IsThreadRow, IsCpuRow, IsOfRun}
 use Rattle.pc_kernel.proofs.Slots.{slice_get_set_same, slice_get_set_other, slice_get_map_some}
 

@@ -8,7 +8,7 @@ use Rattle.pc_queue.specs.Queue as queue
 use Rattle.pc_kernel.specs.declared.cpus.CpuEntry.{CpuEntry}
 use Rattle.pc_kernel.specs.Rows.{CpuRow, KernelRows}
 use Rattle.pc_kernel.specs.Reads.{seen, content, is_of}
-use Rattle.pc_kernel.specs.Entries.{row_of}
+use Rattle.pc_kernel.specs.Inner.Entries.{row_of}
 use Rattle.pc_kernel.specs.Sound.{IsSound}
 
 same_is_of : (t : ℕ) (it : Item) → queue.is_of t it ≡ is_of t it

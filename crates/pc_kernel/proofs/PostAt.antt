@@ -7,7 +7,7 @@ use Rattle.pc_messages.specs.declared.message.Item.{Item}
 use Rattle.pc_queue.specs.Queue.{Queue}
 use Rattle.pc_kernel.specs.declared.cpus.CpuEntry.{CpuEntry}
 use Rattle.pc_kernel.specs.declared.cpus.Landing.{Landing}
-use Rattle.pc_kernel.specs.Entries.{roused_entry, given_entry, woken_of, IsPosted}
+use Rattle.pc_kernel.specs.Inner.Entries.{roused_entry, given_entry, woken_of, IsPosted}
 use Rattle.pc_kernel.proofs.Slots.{slice_get_set}
 
 -- the queue with one more item, after one more post

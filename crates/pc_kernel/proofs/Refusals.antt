@@ -1,7 +1,7 @@
 -- A call that the step accepts: none of its refusals' conditions holds.
 use Rattle.std.proofs.Common.{◌≡◌, true, false, List, [], ◌∷◌, Some, None, refl}
-use Rattle.pc_kernel.specs.declared.calls.Call.{Call}
-use Rattle.pc_kernel.specs.Limits.{first_of}
+use Rattle.pc_calls.specs.declared.call.Call.{Call}
+use Rattle.pc_calls.specs.Conditions.{first_of}
 use Rattle.pc_kernel.specs.PlainKernel.{PlainKernel}
 use Rattle.pc_kernel.specs.Reads.{shown}
 use Rattle.pc_kernel.specs.Steps.{Condition, refusals, refused, changed, after, after_of}

@@ -1,39 +1,40 @@
 -- That a call of the code is its step, from the first refusal that it met and what it did.
-use Rattle.std.proofs.Common.{◌≡◌, ◌∙◌, ℕ, Bool, true, false, not, List, ◌∷◌, Option, Some, None, Ok, Err, is_none, unwrap_or, refl, sym, ap, subst}
+use Rattle.std.proofs.Common.{◌≡◌, ◌∙◌, ℕ, Bool, true, false, not, List, ◌∷◌, Option, Some, None, Result, Ok, Err, IfOk, OnErr, is_none, unwrap_or, refl, sym, ap, subst}
+use Rattle.std.specs.Result.{IsErrAnd}
 use Rattle.pc_messages.specs.declared.kind.Kind.{Kind}
-use Rattle.pc_kernel.specs.declared.calls.Call.{Call}
-use Rattle.pc_kernel.specs.declared.calls.Call.TheVariants.{Env}
-use Rattle.pc_kernel.specs.declared.calls.EnvCall.{EnvCall}
-use Rattle.pc_kernel.specs.declared.calls.Posted.{Posted}
-use Rattle.pc_kernel.specs.declared.calls.Answer.{Answer}
-use Rattle.pc_kernel.specs.declared.calls.Answer.TheVariants as answer
-use Rattle.pc_kernel.specs.declared.fault.KernelFault.{KernelFault}
-use Rattle.pc_kernel.specs.declared.fault.KernelFault.TheVariants.{OutOfMemory}
-use Rattle.pc_kernel.specs.declared.fault.KernelFault.TheVariants as fault
+use Rattle.pc_calls.specs.declared.call.Call.{Call}
+use Rattle.pc_calls.specs.declared.call.Call.TheVariants.{Env}
+use Rattle.pc_calls.specs.declared.call.EnvCall.{EnvCall}
+use Rattle.pc_calls.specs.declared.call.Posted.{Posted}
+use Rattle.pc_calls.specs.declared.call.Answer.{Answer}
+use Rattle.pc_calls.specs.declared.call.Answer.TheVariants as answer
+use Rattle.pc_calls.specs.declared.refusal.Refusal.{Refusal}
+use Rattle.pc_calls.specs.declared.refusal.Refusal.TheVariants as refusal
+use Rattle.pc_calls.specs.declared.refusal.CallFault.{CallFault}
+use Rattle.pc_calls.specs.declared.refusal.CallFault.TheVariants.{Refused, OutOfMemory}
 use Rattle.pc_kernel.specs.PlainKernel.{PlainKernel}
 use Rattle.pc_kernel.specs.Rows.{KernelRows}
 use Rattle.pc_kernel.specs.Reads.{Reads, seen, shown, on, is_cpu}
 use Rattle.pc_kernel.specs.Answers.{Shows, Replies, RepliesInMemory, Steps, StepsInMemory, done}
-use Rattle.pc_kernel.specs.Limits.{first_of}
-use Rattle.pc_kernel.specs.Sends.{Sends, Becomes, Leaves}
+use Rattle.pc_calls.specs.Conditions.{first_of}
+use Rattle.pc_kernel.specs.Inner.Sends.{Sends, Becomes, Leaves}
 use Rattle.pc_kernel.specs.Steps.{Condition, refused, posting, telling, receipt, at, post_refusals, leave_refusals, changed, accepted}
 use Rattle.pc_kernel.specs.Steps.{posted as after_post}
 use Rattle.pc_kernel.proofs.ShownReads.{shown-on}
 
-refused_reply : {A : Type 0} (tell : A → Answer) (fault : KernelFault) (k : KernelRows) (P : PlainKernel) → RepliesInMemory tell (Err fault) k k (Err fault) P
-refused_reply tell OutOfMemory k P = (refl, refl)
-refused_reply tell fault k P = (refl, refl)
+refused_reply : {A : Type 0} (tell : A → Answer) (e : Refusal) (k : KernelRows) (P : PlainKernel) → RepliesInMemory tell (Err (Refused e)) k k (Err e) P
+refused_reply tell e k P = (refl, refl)
 
 -- a call that the reads refuse
-pub refused_steps : {A : Type 0} (tell : A → Answer) (call : Call) (fault : KernelFault) (old new : KernelRows) → refused (seen old) call ≡ Some fault → new ≡ old → StepsInMemory tell call (Err fault) old new
-refused_steps tell call fault old new h same P shows =
-    let e : refused (shown P) call ≡ Some fault = subst (λ (r : Reads). refused r call ≡ Some fault) shows.reads h in
-    rw (same, e) (refused_reply tell fault old P)
+pub refused_steps : {A : Type 0} (tell : A → Answer) (call : Call) (why : Refusal) (old : KernelRows) → refused (seen old) call ≡ Some why → StepsInMemory tell call (Err (Refused why)) old old
+refused_steps tell call why old h P shows =
+    let e : refused (shown P) call ≡ Some why = subst (λ (r : Reads). refused r call ≡ Some why) shows.reads h in
+    rw e (refused_reply tell why old P)
 
--- a call that the reads accept, for which there was no memory
-pub out_of_memory_steps : {A : Type 0} (tell : A → Answer) (call : Call) (old new : KernelRows) → refused (seen old) call ≡ None → new ≡ old → StepsInMemory tell call (Err OutOfMemory) old new
-out_of_memory_steps tell call old new h same P shows =
-    let e : refused (shown P) call ≡ None = subst (λ (r : Reads). refused r call ≡ None) shows.reads h in
+-- a call of the environment that the reads accept, for which there was no memory
+pub out_of_memory_steps : (call : EnvCall) (old new : KernelRows) → refused (seen old) (Env call) ≡ None → new ≡ old → StepsInMemory answer.Posted (Env call) (Err OutOfMemory) old new
+out_of_memory_steps call old new h same P shows =
+    let e : refused (shown P) (Env call) ≡ None = subst (λ (r : Reads). refused r (Env call) ≡ None) shows.reads h in
     rw e same
 
 -- a call of the environment that the reads accept, and that posted
@@ -44,26 +45,27 @@ sent_steps call posted old new h sends P shows =
     rw e (ap answer.Posted s.0, s.1)
 
 -- the thread on a CPU leaves it, or not
-pub stays : (cpu : ℕ) (kind : Kind) (fault : KernelFault) (old new : KernelRows) → first_of (leave_refusals (seen old) cpu) ≡ Some fault → new ≡ old → Leaves cpu kind (Err fault) old new
-stays cpu kind fault old new h same P shows =
-    let e : first_of (leave_refusals (shown P) cpu) ≡ Some fault = subst (λ (r : Reads). first_of (leave_refusals r cpu) ≡ Some fault) shows.reads h in
-    rw (same, e) (refused_reply answer.Posted fault old P)
+pub stays : (cpu : ℕ) (kind : Kind) (why : Refusal) (s : Result Posted CallFault) (old : KernelRows) → first_of (leave_refusals (seen old) cpu) ≡ Some why → IsErrAnd s (λ d. d ≡ Refused why) → Leaves cpu kind s old old
+stays cpu kind why (Ok posted) old h passes P shows = absurd passes
+stays cpu kind why (Err d) old h passes P shows =
+    let e : first_of (leave_refusals (shown P) cpu) ≡ Some why = subst (λ (r : Reads). first_of (leave_refusals r cpu) ≡ Some why) shows.reads h in
+    rw (passes, e) (refused_reply answer.Posted why old P)
 
 pub out_of_memory_leaves : (cpu : ℕ) (kind : Kind) (old new : KernelRows) → first_of (leave_refusals (seen old) cpu) ≡ None → new ≡ old → Leaves cpu kind (Err OutOfMemory) old new
 out_of_memory_leaves cpu kind old new h same P shows =
     let e : first_of (leave_refusals (shown P) cpu) ≡ None = subst (λ (r : Reads). first_of (leave_refusals r cpu) ≡ None) shows.reads h in
     rw e same
 
-first_holds : (b : Bool) (fault : KernelFault) (cs : List Condition) → first_of ((not b, fault) ∷ cs) ≡ None → b ≡ true
-first_holds true fault cs e = refl
-first_holds false fault cs e = cc
+first_holds : (b : Bool) (why : Refusal) (cs : List Condition) → first_of ((not b, why) ∷ cs) ≡ None → b ≡ true
+first_holds true why cs e = refl
+first_holds false why cs e = cc
 
 -- it told of it and then left
 pub left : (cpu t : ℕ) (kind : Kind) (posted : Posted) (old told new : KernelRows) → first_of (leave_refusals (seen old) cpu) ≡ None → on (seen old) cpu ≡ Some t
     → Sends (λ P. telling P t kind) posted old told → Becomes (λ P. record P { on = at P.on cpu None }) told new → Leaves cpu kind (Ok posted) old new
 left cpu t kind posted old told new h runs sends leaves P shows =
     let e : first_of (leave_refusals (shown P) cpu) ≡ None = subst (λ (r : Reads). first_of (leave_refusals r cpu) ≡ None) shows.reads h in
-    let there : is_cpu (shown P) cpu ≡ true = first_holds (is_cpu (shown P) cpu) fault.BadCpu ((is_none (on (shown P) cpu), fault.IdleCpu) ∷ post_refusals (shown P) (unwrap_or (on (shown P) cpu) 0)) e in
+    let there : is_cpu (shown P) cpu ≡ true = first_holds (is_cpu (shown P) cpu) refusal.BadCpu ((is_none (on (shown P) cpu), refusal.IdleCpu) ∷ post_refusals (shown P) (unwrap_or (on (shown P) cpu) 0)) e in
     let on_it : P.on cpu ≡ Some t = sym (shown-on P cpu there) ∙ subst (λ (r : Reads). on r cpu ≡ Some t) shows.reads runs in
     let s = sends P shows in
     let M : PlainKernel = record P { on = at P.on cpu None } in
@@ -72,13 +74,13 @@ left cpu t kind posted old told new h runs sends leaves P shows =
     rw e (subst F (sym (ap (λ (o : Option ℕ). unwrap_or o 0) on_it)) base)
 
 -- a call of an agent that the reads refuse, and one that they accept
-refused_plainly : {A : Type 0} (tell : A → Answer) (fault : KernelFault) (k : KernelRows) (P : PlainKernel) → Replies tell (Err fault) k k (Err fault) P
-refused_plainly tell fault k P = (refl, refl)
+refused_plainly : {A : Type 0} (tell : A → Answer) (e : Refusal) (k : KernelRows) (P : PlainKernel) → Replies tell (Err e) k k (Err e) P
+refused_plainly tell e k P = (refl, refl)
 
-pub refuses : (call : Call) (fault : KernelFault) (old new : KernelRows) → refused (seen old) call ≡ Some fault → new ≡ old → Steps done call (Err fault) old new
-refuses call fault old new h same P shows =
-    let e : refused (shown P) call ≡ Some fault = subst (λ (r : Reads). refused r call ≡ Some fault) shows.reads h in
-    rw (same, e) (refused_plainly done fault old P)
+pub refuses : (call : Call) (why : Refusal) (old : KernelRows) → refused (seen old) call ≡ Some why → Steps done call (Err why) old old
+refuses call why old h P shows =
+    let e : refused (shown P) call ≡ Some why = subst (λ (r : Reads). refused r call ≡ Some why) shows.reads h in
+    rw e (refused_plainly done why old P)
 
 pub does : (call : Call) (unit : Unit {0}) (old new : KernelRows) → refused (seen old) call ≡ None → ((P : PlainKernel) → accepted P call ≡ answer.Done) → Becomes (λ P. changed P call) old new → Steps done call (Ok unit) old new
 does call unit old new h answers becomes P shows =

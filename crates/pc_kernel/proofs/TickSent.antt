@@ -9,13 +9,13 @@ use Rattle.pc_messages.specs.declared.message.Item.{Item}
 use Rattle.pc_messages.specs.declared.message.Item.TheVariants as item
 use Rattle.pc_kernel.specs.declared.cpus.CpuEntry.{CpuEntry}
 use Rattle.pc_kernel.specs.declared.cpus.Landing.{Landing}
-use Rattle.pc_kernel.specs.declared.limits.Limits.{Limits}
+use Rattle.pc_calls.specs.declared.limits.Limits.{Limits}
 use Rattle.pc_kernel.specs.PlainKernel.{PlainKernel}
 use Rattle.pc_kernel.specs.PlainKernel as plain
 use Rattle.pc_kernel.specs.Rows.{ThreadRow}
-use Rattle.pc_kernel.specs.Entries.{row_of, rows, IsKernel, IsPosted}
+use Rattle.pc_kernel.specs.Inner.Entries.{row_of, rows, IsKernel, IsPosted}
 use Rattle.pc_kernel.specs.Sound.{IsThreadRow}
-use Rattle.pc_kernel.specs.Sends.{Sends, ticking}
+use Rattle.pc_kernel.specs.Inner.Sends.{Sends, ticking}
 use Rattle.pc_kernel.specs.Steps.{posted}
 use Rattle.pc_kernel.proofs.Shown.{shows_from, shows_parts}
 use Rattle.pc_kernel.proofs.Grows.{Grows, kinds_in, kernel_posted}

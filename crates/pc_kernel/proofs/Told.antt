@@ -14,18 +14,18 @@ use Rattle.pc_messages.specs.declared.kind.Kind.{Kind}
 use Rattle.pc_messages.specs.declared.message.Message.{Message}
 use Rattle.pc_messages.specs.declared.message.Item.{Item}
 use Rattle.pc_messages.specs.declared.message.Item.TheVariants as item
-use Rattle.pc_kernel.specs.declared.calls.Posted.{Posted}
+use Rattle.pc_calls.specs.declared.call.Posted.{Posted}
 use Rattle.pc_kernel.specs.declared.cpus.CpuEntry.{CpuEntry}
-use Rattle.pc_kernel.specs.declared.limits.Limits.{Limits}
+use Rattle.pc_calls.specs.declared.limits.Limits.{Limits}
 use Rattle.pc_kernel.specs.PlainKernel.{PlainKernel}
 use Rattle.pc_kernel.specs.PlainKernel as plain
 use Rattle.pc_kernel.specs.Rows.{ThreadRow, CpuRow, KernelRows}
 use Rattle.pc_kernel.specs.Reads.{thread_row, shown, seen, number, on}
-use Rattle.pc_kernel.specs.Entries.{row_of, rows, roused_entry, given_entry, place_in, IsKernel}
-use Rattle.pc_kernel.specs.ThreadEntry.{IsTold}
+use Rattle.pc_kernel.specs.Inner.Entries.{row_of, rows, roused_entry, given_entry, place_in, IsKernel}
+use Rattle.pc_kernel.specs.Inner.ThreadEntry.{IsTold}
 use Rattle.pc_kernel.specs.Sound.{IsThreadRow, IsOfRun}
 use Rattle.pc_kernel.specs.Answers.{Shows}
-use Rattle.pc_kernel.specs.Sends.{Sends}
+use Rattle.pc_kernel.specs.Inner.Sends.{Sends}
 use Rattle.pc_kernel.specs.Steps.{posted, telling, receipt}
 use Rattle.pc_kernel.proofs.Slots.{slice_get_set, slice_get_set_same, slice_get_set_other}
 use Rattle.pc_kernel.proofs.Shown.{ShowsParts, shows_from, shows_parts}

@@ -1,11 +1,11 @@
 -- What a kernel shows, and that a call answers as the step does.
 use Rattle.std.specs.Prelude.{ℕ, ◌≤◌, ◌≡◌, List, Result, Ok, Err}
-use Rattle.pc_kernel.specs.declared.calls.Call.{Call}
-use Rattle.pc_kernel.specs.declared.calls.Call.TheVariants.{Env}
-use Rattle.pc_kernel.specs.declared.calls.Answer.{Answer}
-use Rattle.pc_kernel.specs.declared.calls.Answer.TheVariants.{Done}
-use Rattle.pc_kernel.specs.declared.fault.KernelFault.{KernelFault}
-use Rattle.pc_kernel.specs.declared.fault.KernelFault.TheVariants.{OutOfMemory}
+use Rattle.pc_calls.specs.declared.call.Call.{Call}
+use Rattle.pc_calls.specs.declared.call.Answer.{Answer}
+use Rattle.pc_calls.specs.declared.call.Answer.TheVariants.{Done}
+use Rattle.pc_calls.specs.declared.refusal.Refusal.{Refusal}
+use Rattle.pc_calls.specs.declared.refusal.CallFault.{CallFault}
+use Rattle.pc_calls.specs.declared.refusal.CallFault.TheVariants.{Refused, OutOfMemory}
 use Rattle.pc_kernel.specs.PlainKernel.{PlainKernel, aseq}
 use Rattle.pc_kernel.specs.Rows.{KernelRows}
 use Rattle.pc_kernel.specs.Reads.{seen, shown}
@@ -17,22 +17,28 @@ pub record Shows (k : KernelRows) (P : PlainKernel) : Type 0 where
   pub eaten : (q : ℕ) → P.eaten q ≤ aseq P q
 
 -- the call answers this reply, and shows this plain kernel after it; refused, it changes nothing
-abbrev pub Replies : {A : Type 0} → (A → Answer) → Result A KernelFault → KernelRows → KernelRows → Result Answer KernelFault → PlainKernel → Type 0
+abbrev pub Replies :
+    {A : Type 0} → (A → Answer) → Result A Refusal → KernelRows → KernelRows → Result Answer Refusal → PlainKernel → Type 0
 Replies tell (Ok a) old new (Ok answer) Q = (tell a ≡ answer) × Shows new Q
 Replies tell (Err e) old new (Err refusal) Q = (e ≡ refusal) × (new ≡ old)
 Replies tell (Ok a) old new (Err refusal) Q = ⊥
 Replies tell (Err e) old new (Ok answer) Q = ⊥
 
 -- for every plain kernel that the kernel shows, the call is its step
-abbrev pub Steps : {A : Type 0} → (A → Answer) → Call → Result A KernelFault → KernelRows → KernelRows → Type 0
+abbrev pub Steps : {A : Type 0} → (A → Answer) → Call → Result A Refusal → KernelRows → KernelRows → Type 0
 Steps tell call result old new = (P : PlainKernel) → Shows old P → Replies tell result old new (reply P call) (after P call)
 
--- the same, or the step accepts, a growth was refused, and nothing changed
-abbrev pub RepliesInMemory : {A : Type 0} → (A → Answer) → Result A KernelFault → KernelRows → KernelRows → Result Answer KernelFault → PlainKernel → Type 0
+-- the same of a call that takes memory; where none was left, the reply accepts, and nothing changed
+abbrev pub RepliesInMemory :
+    {A : Type 0} → (A → Answer) → Result A CallFault → KernelRows → KernelRows → Result Answer Refusal → PlainKernel → Type 0
+RepliesInMemory tell (Ok a) old new (Ok answer) Q = (tell a ≡ answer) × Shows new Q
+RepliesInMemory tell (Err (Refused e)) old new (Err refusal) Q = (e ≡ refusal) × (new ≡ old)
 RepliesInMemory tell (Err OutOfMemory) old new (Ok answer) Q = new ≡ old
-RepliesInMemory tell result old new reply Q = Replies tell result old new reply Q
+RepliesInMemory tell (Ok a) old new (Err refusal) Q = ⊥
+RepliesInMemory tell (Err (Refused e)) old new (Ok answer) Q = ⊥
+RepliesInMemory tell (Err OutOfMemory) old new (Err refusal) Q = ⊥
 
-abbrev pub StepsInMemory : {A : Type 0} → (A → Answer) → Call → Result A KernelFault → KernelRows → KernelRows → Type 0
+abbrev pub StepsInMemory : {A : Type 0} → (A → Answer) → Call → Result A CallFault → KernelRows → KernelRows → Type 0
 StepsInMemory tell call result old new = (P : PlainKernel) → Shows old P → RepliesInMemory tell result old new (reply P call) (after P call)
 
 -- every call without an answer of its own answers this
@@ -43,17 +49,12 @@ done _ = Done
 abbrev pub itself : Answer → Answer
 itself answer = answer
 
--- a call that is none of the environment takes no memory
-abbrev pub StepsAsCalled : Call → Result Answer KernelFault → KernelRows → KernelRows → Type 0
-StepsAsCalled (Env call) result old new = Unit {0}
-StepsAsCalled call result old new = Steps itself call result old new
-
 -- every plain kernel that the kernel shows accepts the call with this answer, and the kernel then shows what it is after it
 abbrev pub Accepts : Call → Answer → KernelRows → KernelRows → Type 0
 Accepts call answer old new = (P : PlainKernel) → Shows old P → (reply P call ≡ Ok answer) × Shows new (after P call)
 
 -- every plain kernel that the kernel shows refuses the call like this, and the kernel is as it was
-abbrev pub Refuses : Call → KernelFault → KernelRows → KernelRows → Type 0
+abbrev pub Refuses : Call → Refusal → KernelRows → KernelRows → Type 0
 Refuses call refusal old new = (P : PlainKernel) → Shows old P → (reply P call ≡ Err refusal) × (new ≡ old)
 
 -- the calls, one after another, lead from what the one kernel shows to what the other shows

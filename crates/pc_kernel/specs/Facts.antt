@@ -10,12 +10,10 @@ use Rattle.pc_messages.specs.declared.message.Message.{Message}
 use Rattle.pc_messages.specs.declared.message.Item.{Item}
 use Rattle.pc_messages.specs.declared.message.Item.TheVariants as item
 use Rattle.pc_messages.specs.declared.reported.Phase.TheVariants.{Ready}
-use Rattle.pc_kernel.specs.declared.calls.Call.{Call}
-use Rattle.pc_kernel.specs.declared.limits.Limits.{Limits}
+use Rattle.pc_calls.specs.declared.call.Call.{Call}
+use Rattle.pc_calls.specs.declared.limits.Limits.{Limits}
 use Rattle.pc_kernel.specs.PlainKernel.{PlainKernel, start, kinds, is_known, threads, aseq, content}
-use Rattle.pc_kernel.specs.declared.fault.KernelFault.TheVariants.{OutOfMemory}
-use Rattle.pc_kernel.specs.Reads.{Reads}
-use Rattle.pc_kernel.specs.Steps.{refused, replay, after}
+use Rattle.pc_kernel.specs.Steps.{replay, after}
 
 -- the item's message, where it is one of the thread
 abbrev pub message_in : ℕ → Item → Option Message
@@ -70,7 +68,3 @@ NamesAreDense = (limits : Limits) (calls : List Call) (t : ℕ) → is_known (re
 -- every call extends the run, whatever plain kernel it is called on
 abbrev pub CallsExtend : Type 0
 CallsExtend = (P : PlainKernel) (call : Call) → Extends (kinds (after P call)) (kinds P)
-
--- no call is refused for want of memory: where the code answers that, the step accepts
-abbrev pub NoStepWantsMemory : Type 0
-NoStepWantsMemory = (r : Reads) (call : Call) → refused r call ≢ Some OutOfMemory

@@ -1,12 +1,9 @@
 pub mod Answers
-pub mod Entries
 pub mod Facts
-pub mod Limits
+pub mod Inner
 pub mod PlainKernel
 pub mod Reads
 pub mod Rows
-pub mod Sends
 pub mod Sound
 pub mod Steps
-pub mod ThreadEntry
 pub mod Worked

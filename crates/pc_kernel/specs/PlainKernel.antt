@@ -4,7 +4,7 @@ use Rattle.std.specs.List.{filter_map, range_with_len}
 use Rattle.pc_messages.specs.declared.kind.Kind.{Kind}
 use Rattle.pc_messages.specs.declared.message.Item.{Item}
 use Rattle.pc_messages.specs.declared.message.Item.TheVariants as item
-use Rattle.pc_kernel.specs.declared.limits.Limits.{Limits}
+use Rattle.pc_calls.specs.declared.limits.Limits.{Limits}
 
 -- an item, and the queue that it was posted to
 pub record Post : Type 0 where

@@ -9,8 +9,8 @@ use Rattle.pc_messages.specs.declared.message.Item.{Item}
 use Rattle.pc_messages.specs.declared.message.Item.TheVariants as item
 use Rattle.pc_messages.specs.declared.reported.Phase.{Phase}
 use Rattle.pc_messages.specs.declared.reported.Reported.{Reported}
-use Rattle.pc_kernel.specs.declared.limits.Limits.{Limits}
-use Rattle.pc_kernel.specs.declared.kernel.Status.{Status}
+use Rattle.pc_calls.specs.declared.limits.Limits.{Limits}
+use Rattle.pc_calls.specs.declared.call.Status.{Status}
 use Rattle.pc_kernel.specs.Rows.{ThreadRow, CpuRow, KernelRows}
 use Rattle.pc_kernel.specs.PlainKernel as plain
 use Rattle.pc_kernel.specs.PlainKernel.{PlainKernel}

@@ -2,7 +2,7 @@
 use Rattle.std.specs.Prelude.{ℕ, Bool, List, Option}
 use Rattle.pc_messages.specs.declared.kind.Kind.{Kind}
 use Rattle.pc_messages.specs.declared.message.Item.{Item}
-use Rattle.pc_kernel.specs.declared.limits.Limits.{Limits}
+use Rattle.pc_calls.specs.declared.limits.Limits.{Limits}
 
 -- a thread: its home queue, the kinds of its messages, and the CPU that it runs on
 pub record ThreadRow : Type 0 where

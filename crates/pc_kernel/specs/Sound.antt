@@ -4,7 +4,7 @@ use Rattle.pc_messages.specs.State.{ran_of}
 use Rattle.pc_messages.specs.Run.{IsBegun, IsWellFormed, kind_at}
 use Rattle.pc_messages.specs.declared.message.Message.{Message}
 use Rattle.pc_messages.specs.declared.message.Item.TheVariants as item
-use Rattle.pc_kernel.specs.declared.limits.Limits.{Limits}
+use Rattle.pc_calls.specs.declared.limits.Limits.{Limits}
 use Rattle.pc_kernel.specs.Rows.{ThreadRow, CpuRow, KernelRows}
 use Rattle.pc_kernel.specs.Reads.{seen, kinds}
 

@@ -8,16 +8,16 @@ use Rattle.pc_messages.specs.declared.message.Item.{Item}
 use Rattle.pc_messages.specs.declared.message.Item.TheVariants as item
 use Rattle.pc_messages.specs.declared.reported.Phase.{Phase}
 use Rattle.pc_messages.specs.declared.reported.Phase.TheVariants as phase
-use Rattle.pc_kernel.specs.declared.calls.EnvCall.{EnvCall}
-use Rattle.pc_kernel.specs.declared.calls.EnvCall.TheVariants.{Create, Wake, Block, YieldNow, Preempt, Die, SetAffinity, SetPriority, Tick}
-use Rattle.pc_kernel.specs.declared.calls.Call.{Call}
-use Rattle.pc_kernel.specs.declared.calls.Call.TheVariants.{Env, Consume, Associate, Commit, Sleep, Rouse, Config}
-use Rattle.pc_kernel.specs.declared.calls.Posted.{Posted}
-use Rattle.pc_kernel.specs.declared.calls.Answer.{Answer}
-use Rattle.pc_kernel.specs.declared.calls.Answer.TheVariants as answer
-use Rattle.pc_kernel.specs.declared.fault.KernelFault.{KernelFault}
-use Rattle.pc_kernel.specs.declared.fault.KernelFault.TheVariants as fault
-use Rattle.pc_kernel.specs.Limits.{first_of}
+use Rattle.pc_calls.specs.declared.call.EnvCall.{EnvCall}
+use Rattle.pc_calls.specs.declared.call.EnvCall.TheVariants.{Create, Wake, Block, YieldNow, Preempt, Die, SetAffinity, SetPriority, Tick}
+use Rattle.pc_calls.specs.declared.call.Call.{Call}
+use Rattle.pc_calls.specs.declared.call.Call.TheVariants.{Env, Consume, Associate, Commit, Sleep, Rouse, Config}
+use Rattle.pc_calls.specs.declared.call.Posted.{Posted}
+use Rattle.pc_calls.specs.declared.call.Answer.{Answer}
+use Rattle.pc_calls.specs.declared.call.Answer.TheVariants as answer
+use Rattle.pc_calls.specs.declared.refusal.Refusal.{Refusal}
+use Rattle.pc_calls.specs.declared.refusal.Refusal.TheVariants as refusal
+use Rattle.pc_calls.specs.Conditions.{first_of}
 use Rattle.pc_kernel.specs.PlainKernel.{PlainKernel, Post}
 use Rattle.pc_kernel.specs.PlainKernel as plain
 use Rattle.pc_kernel.specs.Reads.{Reads, shown, is_known, number, home, place, phase, may_run_on, is_cpu, aseq, content, on, is_pending}
@@ -43,26 +43,26 @@ is_ready None = false
 
 -- whether a condition holds, and the refusal that it is
 abbrev pub Condition : Type 0
-Condition = Bool × KernelFault
+Condition = Bool × Refusal
 
 -- of a post to a queue
 abbrev pub queue_refusals : Reads → ℕ → List Condition
-queue_refusals r q = (nat_le r.limits.room (length (content r q)), fault.QueueFull) ∷ (nat_le r.limits.posts (aseq r q), fault.PostsSpent) ∷ []
+queue_refusals r q = (nat_le r.limits.room (length (content r q)), refusal.QueueFull) ∷ (nat_le r.limits.posts (aseq r q), refusal.PostsSpent) ∷ []
 
 -- of a post of a thread's message to its home queue
 abbrev pub post_refusals : Reads → ℕ → List Condition
-post_refusals r t = (nat_le r.limits.numbers (number r t), fault.NumbersSpent) ∷ queue_refusals r (home r t)
+post_refusals r t = (nat_le r.limits.numbers (number r t), refusal.NumbersSpent) ∷ queue_refusals r (home r t)
 
 abbrev pub mask_refusals : Reads → ℕ → List Condition
-mask_refusals r mask = (mask == 0, fault.EmptyMask) ∷ (nat_le (2 ^ r.limits.cpus) mask, fault.MaskTooWide) ∷ []
+mask_refusals r mask = (mask == 0, refusal.EmptyMask) ∷ (nat_le (2 ^ r.limits.cpus) mask, refusal.MaskTooWide) ∷ []
 
 -- of a call on a thread that has to be known and alive
 abbrev pub thread_refusals : Reads → ℕ → List Condition
-thread_refusals r t = (not (is_known r t), fault.UnknownThread) ∷ (is_dead (phase r t), fault.Dead) ∷ []
+thread_refusals r t = (not (is_known r t), refusal.UnknownThread) ∷ (is_dead (phase r t), refusal.Dead) ∷ []
 
 -- of a call by which the thread on a CPU leaves it
 abbrev pub leave_refusals : Reads → ℕ → List Condition
-leave_refusals r cpu = (not (is_cpu r cpu), fault.BadCpu) ∷ (is_none (on r cpu), fault.IdleCpu) ∷ post_refusals r (unwrap_or (on r cpu) 0)
+leave_refusals r cpu = (not (is_cpu r cpu), refusal.BadCpu) ∷ (is_none (on r cpu), refusal.IdleCpu) ∷ post_refusals r (unwrap_or (on r cpu) 0)
 
 -- the thread runs on a CPU that the mask excludes
 abbrev pub is_barred : Reads → ℕ → ℕ → Bool
@@ -71,45 +71,45 @@ is_barred r t mask = option_map_or (λ c. not (allows mask c)) (place r t) false
 -- of each call of the environment, in order
 abbrev pub env_refusals : Reads → EnvCall → List Condition
 env_refusals r (Create queue mask ready) =
-    (not (is_cpu r queue), fault.BadCpu) ∷ mask_refusals r mask ++ (nat_le r.limits.threads r.threads, fault.NamesSpent) ∷ queue_refusals r queue
-env_refusals r (Wake t) = thread_refusals r t ++ (not (is_blocked (phase r t)), fault.NotBlocked) ∷ post_refusals r t
+    (not (is_cpu r queue), refusal.BadCpu) ∷ mask_refusals r mask ++ (nat_le r.limits.threads r.threads, refusal.NamesSpent) ∷ queue_refusals r queue
+env_refusals r (Wake t) = thread_refusals r t ++ (not (is_blocked (phase r t)), refusal.NotBlocked) ∷ post_refusals r t
 env_refusals r (Block cpu ran) = leave_refusals r cpu
 env_refusals r (YieldNow cpu ran) = leave_refusals r cpu
 env_refusals r (Preempt cpu ran) = leave_refusals r cpu
 env_refusals r (Die cpu ran) = leave_refusals r cpu
-env_refusals r (SetAffinity t mask) = thread_refusals r t ++ mask_refusals r mask ++ (is_barred r t mask, fault.OnForbiddenCpu) ∷ post_refusals r t
-env_refusals r (SetPriority t level) = thread_refusals r t ++ (nat_lt 7 level, fault.BadLevel) ∷ post_refusals r t
-env_refusals r (Tick cpu) = (not (is_cpu r cpu), fault.BadCpu) ∷ queue_refusals r cpu
+env_refusals r (SetAffinity t mask) = thread_refusals r t ++ mask_refusals r mask ++ (is_barred r t mask, refusal.OnForbiddenCpu) ∷ post_refusals r t
+env_refusals r (SetPriority t level) = thread_refusals r t ++ (nat_lt 7 level, refusal.BadLevel) ∷ post_refusals r t
+env_refusals r (Tick cpu) = (not (is_cpu r cpu), refusal.BadCpu) ∷ queue_refusals r cpu
 
 -- of each call, in order
 abbrev pub refusals : Reads → Call → List Condition
 refusals r (Env call) = env_refusals r call
-refusals r (Consume cpu count) = (not (is_cpu r cpu), fault.BadCpu) ∷ (nat_lt (length (content r cpu)) count, fault.TooMany) ∷ []
+refusals r (Consume cpu count) = (not (is_cpu r cpu), refusal.BadCpu) ∷ (nat_lt (length (content r cpu)) count, refusal.TooMany) ∷ []
 refusals r (Associate t queue n) =
-    (not (is_known r t), fault.UnknownThread)
-    ∷ (not (is_cpu r queue), fault.BadCpu)
-    ∷ (is_dead (phase r t), fault.Dead)
-    ∷ (not (n == number r t), fault.Stale (number r t))
-    ∷ (is_pending r t, fault.Pending)
-    ∷ (is_some (place r t), fault.Running (unwrap_or (place r t) 0))
+    (not (is_known r t), refusal.UnknownThread)
+    ∷ (not (is_cpu r queue), refusal.BadCpu)
+    ∷ (is_dead (phase r t), refusal.Dead)
+    ∷ (not (n == number r t), refusal.Stale (number r t))
+    ∷ (is_pending r t, refusal.Pending)
+    ∷ (is_some (place r t), refusal.Running (unwrap_or (place r t) 0))
     ∷ []
 refusals r (Commit cpu t n) =
-    (not (is_cpu r cpu), fault.BadCpu)
-    ∷ (not (is_known r t), fault.UnknownThread)
-    ∷ (not (n == aseq r cpu), fault.Stale (aseq r cpu))
-    ∷ (not (is_ready (phase r t)), fault.NotReady)
-    ∷ (not (home r t == cpu), fault.NotYours (home r t))
-    ∷ (is_some (place r t), fault.Running (unwrap_or (place r t) 0))
-    ∷ (not (may_run_on r t cpu), fault.Forbidden)
-    ∷ (is_some (on r cpu), fault.Busy)
+    (not (is_cpu r cpu), refusal.BadCpu)
+    ∷ (not (is_known r t), refusal.UnknownThread)
+    ∷ (not (n == aseq r cpu), refusal.Stale (aseq r cpu))
+    ∷ (not (is_ready (phase r t)), refusal.NotReady)
+    ∷ (not (home r t == cpu), refusal.NotYours (home r t))
+    ∷ (is_some (place r t), refusal.Running (unwrap_or (place r t) 0))
+    ∷ (not (may_run_on r t cpu), refusal.Forbidden)
+    ∷ (is_some (on r cpu), refusal.Busy)
     ∷ []
-refusals r (Sleep cpu n) = (not (is_cpu r cpu), fault.BadCpu) ∷ (not (n == aseq r cpu), fault.Stale (aseq r cpu)) ∷ []
-refusals r (Rouse cpu) = (not (is_cpu r cpu), fault.BadCpu) ∷ []
-refusals r (Config queue None) = (not (is_cpu r queue), fault.BadCpu) ∷ []
-refusals r (Config queue (Some cpu)) = (not (is_cpu r queue) || not (is_cpu r cpu), fault.BadCpu) ∷ []
+refusals r (Sleep cpu n) = (not (is_cpu r cpu), refusal.BadCpu) ∷ (not (n == aseq r cpu), refusal.Stale (aseq r cpu)) ∷ []
+refusals r (Rouse cpu) = (not (is_cpu r cpu), refusal.BadCpu) ∷ []
+refusals r (Config queue None) = (not (is_cpu r queue), refusal.BadCpu) ∷ []
+refusals r (Config queue (Some cpu)) = (not (is_cpu r queue) || not (is_cpu r cpu), refusal.BadCpu) ∷ []
 
 -- the first refusal of a call, where one holds
-abbrev pub refused : Reads → Call → Option KernelFault
+abbrev pub refused : Reads → Call → Option Refusal
 refused r call = first_of (refusals r call)
 
 -- f, with another value at one place
@@ -187,15 +187,15 @@ accepted P (Rouse cpu) = answer.Done
 accepted P (Config queue target) = answer.Done
 
 -- the step: what a call answers, and the kernel after it
-abbrev pub reply_of : Option KernelFault → Answer → Result Answer KernelFault
+abbrev pub reply_of : Option Refusal → Answer → Result Answer Refusal
 reply_of None answer = Ok answer
-reply_of (Some refusal) answer = Err refusal
+reply_of (Some why) answer = Err why
 
-abbrev pub after_of : Option KernelFault → PlainKernel → PlainKernel → PlainKernel
+abbrev pub after_of : Option Refusal → PlainKernel → PlainKernel → PlainKernel
 after_of None changed same = changed
-after_of (Some refusal) changed same = same
+after_of (Some why) changed same = same
 
-abbrev pub reply : PlainKernel → Call → Result Answer KernelFault
+abbrev pub reply : PlainKernel → Call → Result Answer Refusal
 reply P call = reply_of (refused (shown P) call) (accepted P call)
 
 abbrev pub after : PlainKernel → Call → PlainKernel

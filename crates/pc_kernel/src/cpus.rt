@@ -2,9 +2,9 @@
 
 ghost use Rattle.std.specs.Prelude.{◌≡◌, ◌<◌, ◌≤◌, ℕ, Some, length, slice_get, IfOk, OnErr};
 ghost use Rattle.std.specs.Option.{option_map, ForSome};
-ghost use Rattle.pc_kernel.specs.Entries.{fresh_cpu, AreTargets, roused_entry, woken_of, IsPosted};
+ghost use Rattle.pc_kernel.specs.Inner.Entries.{fresh_cpu, AreTargets, roused_entry, woken_of, IsPosted};
 
-use crate::limits::Limits;
+use pc_calls::Limits;
 use pc_messages::{Cpu, Item, Tid};
 use pc_queue::CpuQueue;
 use std::alloc::{AllocError, Global};

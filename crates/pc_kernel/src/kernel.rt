@@ -2,7 +2,7 @@
 
 ghost use Rattle.std.specs.Prelude.{◌≡◌, ◌≤◌, ◌↔◌, Some, None, length, is_some, slice_get, IfOk, IfErr, IsFalse, ◌⊎◌};
 ghost use Rattle.std.specs.Option.{option_map, option_copied};
-ghost use Rattle.pc_kernel.specs.Limits.{bad_field};
+ghost use Rattle.pc_calls.specs.Limits.{bad_field};
 ghost use Rattle.pc_kernel.specs.PlainKernel.{start};
 
 mod agents;
@@ -11,20 +11,11 @@ mod environment;
 mod marks;
 
 use crate::cpus::{CpuEntry, fresh};
-use crate::fault::KernelFault;
-use crate::limits::{LimitField, Limits, LimitsFault, Profile};
 use crate::threads::ThreadEntry;
+use pc_calls::{CallFault, LimitField, Limits, LimitsFault, Profile, Refusal, Status};
 use pc_messages::{Cpu, Item, Kind, Reported, Tid};
 use std::alloc::Global;
 use std::marker::Model;
-
-/// A status word: the number of the thread's last message, and the CPU that it runs on (the ghOSt paper's status
-/// words carry the like).
-#[derive(Clone, Copy, Debug, PartialEq, Eq)]
-pub struct Status {
-    pub number: u32,
-    pub running_on: Option<Cpu>,
-}
 
 /// The kernel of one enclave: its threads, and its CPUs with a queue each.
 #[derive(Drop)]
@@ -36,7 +27,7 @@ pub struct Kernel {
 
 impl Model for Kernel {
     ghost use Rattle.pc_kernel.specs.Rows.{KernelRows};
-    ghost use Rattle.pc_kernel.specs.Entries.{rows, IsKernel};
+    ghost use Rattle.pc_kernel.specs.Inner.Entries.{rows, IsKernel};
 
     ghost Value = { KernelRows };
 
@@ -47,9 +38,9 @@ impl Model for Kernel {
 
 impl Kernel {
     ghost use Rattle.pc_kernel.specs.Answers.{Shows};
-    ghost use Rattle.pc_kernel.specs.Entries.{row_of};
+    ghost use Rattle.pc_kernel.specs.Inner.Entries.{row_of};
     ghost use Rattle.pc_kernel.specs.Sound.{IsSound};
-    ghost use Rattle.pc_kernel.specs.declared.limits.LimitField.{LimitField};
+    ghost use Rattle.pc_calls.specs.declared.limits.LimitField.{LimitField};
     ghost use Rattle.pc_kernel.specs.Reads.{seen, status_of, reported_of, history_of, queue_of, aseq_of, aseq, content, is_cpu, on, is_asleep};
 
     /// The kernel at the start, with limits of profile One.
@@ -181,19 +172,19 @@ impl Kernel {
     }
 
     /// The count of posts to the CPU's queue, and all that the queue holds, the oldest first. The items stay.
-    pub fn peek(&self, cpu: Cpu) -> Result<(u32, Vec<Item>), KernelFault>
+    pub fn peek(&self, cpu: Cpu) -> Result<(u32, Vec<Item>), CallFault>
         ensures posts { IfOk result (λ read. read.0 ≡ aseq (seen self.now) cpu) }
         ensures content { IfOk result (λ read. read.1.items ≡ content (seen self.now) cpu) }
-        ensures bad_cpu { (result ≡ Err KernelFault.BadCpu) ↔ IsFalse (is_cpu (seen self.now) cpu) }
-        ensures memory { IfErr result (λ fault. (fault ≡ KernelFault.BadCpu) ⊎ (fault ≡ KernelFault.OutOfMemory)) }
+        ensures bad_cpu { (result ≡ Err (CallFault.Refused Refusal.BadCpu)) ↔ IsFalse (is_cpu (seen self.now) cpu) }
+        ensures memory { IfErr result (λ fault. (fault ≡ CallFault.Refused Refusal.BadCpu) ⊎ (fault ≡ CallFault.OutOfMemory)) }
     {
         let entry = match self.cpu(cpu) {
             Some(entry) => entry,
-            None => return Err(KernelFault::BadCpu),
+            None => return Err(CallFault::Refused(Refusal::BadCpu)),
         };
         match entry.queue.peek(entry.queue.len()) {
             Ok(items) => Ok((entry.queue.aseq(), items)),
-            Err(_) => Err(KernelFault::OutOfMemory),
+            Err(_) => Err(CallFault::OutOfMemory),
         }
     }
 

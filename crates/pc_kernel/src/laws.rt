@@ -1,6 +1,6 @@
 //! What holds after every list of calls, whatever they are and whether they were refused.
 
-ghost use Rattle.pc_kernel.specs.Facts.{AlwaysAtHome, AlwaysPlaced, SleepersHadNoPost, RunsAreBegun, NamesAreDense, CallsExtend, NoStepWantsMemory};
+ghost use Rattle.pc_kernel.specs.Facts.{AlwaysAtHome, AlwaysPlaced, SleepersHadNoPost, RunsAreBegun, NamesAreDense, CallsExtend};
 
 /// A thread's messages that were not consumed all stand in its home queue and are its last ones, in order.
 pub fn messages_stay_home()
@@ -26,10 +26,4 @@ pub fn runs_are_begun()
 /// Every call extends the kernel's run.
 pub fn calls_extend_the_run()
     ensures { CallsExtend }
-{}
-
-/// No call is refused for want of memory by its definition: where the kernel answers that, the call is one that the
-/// definition accepts.
-pub fn no_step_wants_memory()
-    ensures { NoStepWantsMemory }
 {}

@@ -4,18 +4,16 @@
 //! posts. The code keeps rows with queues, caches and counts, which no contract names.
 #![tactic(auto)]
 
-mod calls;
 mod cpus;
-mod fault;
 mod kernel;
 pub mod laws;
-mod limits;
 #[cfg(test)]
 mod tests;
 mod threads;
 pub mod worked;
 
-pub use calls::{Answer, Call, EnvCall, Posted};
-pub use fault::KernelFault;
-pub use kernel::{Kernel, Status};
-pub use limits::{LimitField, Limits, LimitsFault, Profile};
+pub use kernel::Kernel;
+pub use pc_calls::{
+    Answer, Call, CallFault, EnvCall, LimitField, Limits, LimitsFault, Posted, Profile, Refusal,
+    Status,
+};

@@ -4,10 +4,7 @@ mod refusals;
 mod rows;
 mod table;
 
-use crate::calls::Posted;
-use crate::fault::KernelFault;
-use crate::kernel::{Kernel, Status};
-use crate::limits::{LimitField, Limits, LimitsFault, Profile};
+use crate::{CallFault, Kernel, LimitField, Limits, LimitsFault, Posted, Profile, Refusal, Status};
 use pc_messages::{Cpu, Item, Kind, Mask, Message, Phase, Tid};
 use std::alloc::Global;
 use std::test::Fail;
@@ -31,6 +28,11 @@ pub(crate) const fn posted(thread: u32, number: u32, queue: u8, aseq: u32) -> Po
         aseq,
         woken: None,
     }
+}
+
+/// What a refused call of the environment answers.
+pub(crate) const fn refused(refusal: Refusal) -> Result<Posted, CallFault> {
+    Err(CallFault::Refused(refusal))
 }
 
 /// The fault of limits that are refused.
@@ -162,7 +164,12 @@ fn the_first_thread(rt: HostRuntime) -> Result<(), Fail> {
     let (aseq, items) = kernel.peek(Cpu(1))?;
     assert_eq!(rt; aseq, 0);
     assert!(rt; items.is_empty());
-    assert!(rt; matches!(kernel.peek(Cpu(2)), Err(KernelFault::BadCpu)));
+    assert!(rt;
+        matches!(
+            kernel.peek(Cpu(2)),
+            Err(CallFault::Refused(Refusal::BadCpu))
+        )
+    );
     Ok(())
 }
 
@@ -177,7 +184,7 @@ fn the_last_cpu(rt: HostRuntime) -> Result<(), Fail> {
         kernel.create(Cpu(63), 9_223_372_036_854_775_808, true)?,
         posted(0, 1, 63, 1)
     );
-    assert_eq!(rt; kernel.create(Cpu(64), 1, true), Err(KernelFault::BadCpu));
+    assert_eq!(rt; kernel.create(Cpu(64), 1, true), refused(Refusal::BadCpu));
     assert_eq!(rt; kernel.running(Cpu(63)), None);
     Ok(())
 }
@@ -187,7 +194,7 @@ fn the_last_cpu(rt: HostRuntime) -> Result<(), Fail> {
 fn a_full_queue(rt: HostRuntime) -> Result<(), Fail> {
     let mut kernel = Kernel::new(rt.alloc(), limits(1, 2, 9, 1, 10))?;
     assert_eq!(rt; kernel.create(Cpu(0), 1, false)?, posted(0, 1, 0, 1));
-    assert_eq!(rt; kernel.wake(Tid(0)), Err(KernelFault::QueueFull));
+    assert_eq!(rt; kernel.wake(Tid(0)), refused(Refusal::QueueFull));
     let status = Status {
         number: 1,
         running_on: None,
@@ -197,7 +204,7 @@ fn a_full_queue(rt: HostRuntime) -> Result<(), Fail> {
         kernel.reported(Tid(0)).ok_or("no thread")?.phase,
         Phase::Blocked
     );
-    assert_eq!(rt; kernel.create(Cpu(0), 1, true), Err(KernelFault::QueueFull));
+    assert_eq!(rt; kernel.create(Cpu(0), 1, true), refused(Refusal::QueueFull));
     assert_eq!(rt; kernel.threads(), 1);
     Ok(())
 }
@@ -209,9 +216,9 @@ fn names_are_spent_before_the_queue_is_full(rt: HostRuntime) -> Result<(), Fail>
     assert_eq!(rt; kernel.wake(Tid(0))?, posted(0, 2, 0, 2));
     assert_eq!(rt;
         kernel.create(Cpu(0), 1, true),
-        Err(KernelFault::NamesSpent)
+        refused(Refusal::NamesSpent)
     );
-    assert_eq!(rt; kernel.wake(Tid(0)), Err(KernelFault::NotBlocked));
+    assert_eq!(rt; kernel.wake(Tid(0)), refused(Refusal::NotBlocked));
     assert_eq!(rt; kernel.aseq(Cpu(0)), Some(2));
     Ok(())
 }
@@ -224,15 +231,15 @@ fn spent_posts_come_last(rt: HostRuntime) -> Result<(), Fail> {
     assert_eq!(rt; kernel.wake(Tid(0))?, posted(0, 2, 0, 2));
     assert_eq!(rt;
         kernel.create(Cpu(0), 1, true),
-        Err(KernelFault::PostsSpent)
+        refused(Refusal::PostsSpent)
     );
     assert_eq!(rt;
         kernel.create(Cpu(0), 2, true),
-        Err(KernelFault::MaskTooWide)
+        refused(Refusal::MaskTooWide)
     );
-    assert_eq!(rt; kernel.create(Cpu(0), 0, true), Err(KernelFault::EmptyMask));
-    assert_eq!(rt; kernel.wake(Tid(0)), Err(KernelFault::NotBlocked));
-    assert_eq!(rt; kernel.wake(Tid(1)), Err(KernelFault::UnknownThread));
+    assert_eq!(rt; kernel.create(Cpu(0), 0, true), refused(Refusal::EmptyMask));
+    assert_eq!(rt; kernel.wake(Tid(0)), refused(Refusal::NotBlocked));
+    assert_eq!(rt; kernel.wake(Tid(1)), refused(Refusal::UnknownThread));
     assert_eq!(rt; kernel.aseq(Cpu(0)), Some(2));
     Ok(())
 }
@@ -242,7 +249,7 @@ fn spent_posts_come_last(rt: HostRuntime) -> Result<(), Fail> {
 fn spent_numbers(rt: HostRuntime) -> Result<(), Fail> {
     let mut kernel = Kernel::new(rt.alloc(), limits(1, 2, 1, 1, 1))?;
     assert_eq!(rt; kernel.create(Cpu(0), 1, false)?, posted(0, 1, 0, 1));
-    assert_eq!(rt; kernel.wake(Tid(0)), Err(KernelFault::NumbersSpent));
+    assert_eq!(rt; kernel.wake(Tid(0)), refused(Refusal::NumbersSpent));
     assert_eq!(rt; kernel.aseq(Cpu(0)), Some(1));
     Ok(())
 }

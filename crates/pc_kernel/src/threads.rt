@@ -4,10 +4,10 @@ ghost use Rattle.std.specs.Prelude.{◌≡◌, ◌+◌, ◌<◌, ◌≤◌, ◌^
 ghost use Rattle.pc_messages.specs.State.{ran_given, state_of};
 ghost use Rattle.pc_messages.specs.Run.{is_created};
 ghost use Rattle.std.specs.Vec.{vec_len, vec_capacity};
-ghost use Rattle.pc_kernel.specs.Entries.{AreTargets};
+ghost use Rattle.pc_kernel.specs.Inner.Entries.{AreTargets};
 
-use crate::calls::Posted;
 use crate::cpus::{CpuEntry, post};
+use pc_calls::Posted;
 use pc_messages::{Cpu, Item, Kind, Message, Reported, Tid};
 use std::alloc::{AllocError, Global};
 use std::marker::Model;
@@ -23,7 +23,7 @@ pub(crate) struct ThreadEntry {
 
 impl Model for ThreadEntry {
     ghost use Rattle.pc_kernel.specs.Rows.{ThreadRow};
-    ghost use Rattle.pc_kernel.specs.ThreadEntry.{IsEntry};
+    ghost use Rattle.pc_kernel.specs.Inner.ThreadEntry.{IsEntry};
 
     ghost Value = { ThreadRow };
 
@@ -33,7 +33,7 @@ impl Model for ThreadEntry {
 }
 
 impl ThreadEntry {
-    ghost use Rattle.pc_kernel.specs.ThreadEntry.{IsTold};
+    ghost use Rattle.pc_kernel.specs.Inner.ThreadEntry.{IsTold};
 
     /// A thread with its first message, on no CPU.
     pub(crate) fn first(alloc: Global, home: Cpu, kind: &Kind) -> Result<Self, AllocError>

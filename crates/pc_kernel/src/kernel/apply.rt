@@ -1,19 +1,18 @@
 //! Calls as values.
 
-ghost use Rattle.std.specs.Prelude.{◌≡◌, OnErr};
+ghost use Rattle.std.specs.Prelude.{◌≡◌, Err, OnErr};
 ghost use Rattle.std.specs.Result.{result_map_both};
 
-use crate::calls::{Answer, Call, EnvCall, Posted};
-use crate::fault::KernelFault;
 use crate::kernel::Kernel;
+use pc_calls::{Answer, Call, CallFault, EnvCall, Posted, Refusal};
 
 impl Kernel {
-    ghost use Rattle.pc_kernel.specs.Answers.{StepsInMemory, StepsAsCalled, itself};
+    ghost use Rattle.pc_kernel.specs.Answers.{StepsInMemory, itself};
 
     /// Makes the call.
-    pub fn apply(&mut self, call: Call) -> Result<Answer, KernelFault>
+    pub fn apply(&mut self, call: Call) -> Result<Answer, CallFault>
         ensures step { StepsInMemory itself call result self.old self.new }
-        ensures plain { StepsAsCalled call result self.old self.new }
+        ensures plain { result ≡ Err CallFault.OutOfMemory → (env : EnvCall) × (call ≡ Call.Env env) }
         ensures limits { self.new.limits ≡ self.old.limits }
         ensures err { OnErr result (self.new ≡ self.old) }
     {
@@ -33,7 +32,7 @@ impl Kernel {
     }
 
     /// Makes the environment's call.
-    fn apply_env(&mut self, call: EnvCall) -> Result<Posted, KernelFault>
+    fn apply_env(&mut self, call: EnvCall) -> Result<Posted, CallFault>
         ensures step { StepsInMemory Answer.Posted (Call.Env call) result self.old self.new }
         ensures limits { self.new.limits ≡ self.old.limits }
         ensures err { OnErr result (self.new ≡ self.old) }
@@ -53,7 +52,7 @@ impl Kernel {
 }
 
 /// What a call of the environment answers.
-fn posted(outcome: Result<Posted, KernelFault>) -> Result<Answer, KernelFault>
+fn posted(outcome: Result<Posted, CallFault>) -> Result<Answer, CallFault>
     ensures { result ≡ result_map_both Answer.Posted (λ fault. fault) outcome }
 {
     match outcome {
@@ -63,11 +62,11 @@ fn posted(outcome: Result<Posted, KernelFault>) -> Result<Answer, KernelFault>
 }
 
 /// What an agent's call answers.
-fn done(outcome: Result<(), KernelFault>) -> Result<Answer, KernelFault>
-    ensures { result ≡ result_map_both (λ _. Answer.Done) (λ fault. fault) outcome }
+fn done(outcome: Result<(), Refusal>) -> Result<Answer, CallFault>
+    ensures { result ≡ result_map_both (λ _. Answer.Done) CallFault.Refused outcome }
 {
     match outcome {
         Ok(()) => Ok(Answer::Done),
-        Err(fault) => Err(fault),
+        Err(refusal) => Err(CallFault::Refused(refusal)),
     }
 }

@@ -5,13 +5,12 @@ ghost use Rattle.std.specs.Result.{result_err};
 ghost use Rattle.std.specs.Vec.{vec_len, vec_capacity};
 ghost use Rattle.pc_messages.specs.State.{ran_given};
 ghost use Rattle.pc_messages.specs.Run.{is_created};
-ghost use Rattle.pc_kernel.specs.Limits.{first_of};
+ghost use Rattle.pc_calls.specs.Conditions.{first_of};
 
-use crate::calls::{Answer, Call, EnvCall, Posted};
 use crate::cpus::post;
-use crate::fault::KernelFault;
 use crate::kernel::Kernel;
 use crate::threads::ThreadEntry;
+use pc_calls::{Answer, Call, CallFault, EnvCall, Posted, Refusal};
 use pc_messages::{Cpu, Item, Kind, Level, LevelFault, Mask, MaskFault, Message, Phase, Tid};
 use pc_queue::QueueFault;
 use std::alloc::AllocError;
@@ -19,41 +18,41 @@ use std::alloc::AllocError;
 impl Kernel {
     ghost use Rattle.pc_kernel.specs.Answers.{StepsInMemory};
     ghost use Rattle.pc_kernel.specs.Reads.{seen, number, on};
-    ghost use Rattle.pc_kernel.specs.Sends.{Sends, Leaves, adding, ticking};
+    ghost use Rattle.pc_kernel.specs.Inner.Sends.{Sends, Leaves, adding, ticking};
     ghost use Rattle.pc_kernel.specs.Steps.{refused, queue_refusals, post_refusals, mask_refusals, thread_refusals, leave_refusals, telling};
 
     /// Creates a thread, whose name is the next one and whose home is the queue.
-    pub fn create(&mut self, queue: Cpu, mask: u64, ready: bool) -> Result<Posted, KernelFault>
+    pub fn create(&mut self, queue: Cpu, mask: u64, ready: bool) -> Result<Posted, CallFault>
         ensures step { StepsInMemory Answer.Posted (Call.Env (EnvCall.Create queue mask ready)) result self.old self.new }
         ensures limits { self.new.limits ≡ self.old.limits }
         ensures err { OnErr result (self.new ≡ self.old) }
     {
         match self.first_kind(queue, mask, ready) {
-            Err(fault) => Err(fault),
+            Err(refusal) => Err(refusal.into()),
             Ok(kind) => match self.add(queue, kind) {
                 Ok(posted) => Ok(posted),
-                Err(_) => Err(KernelFault::OutOfMemory),
+                Err(_) => Err(CallFault::OutOfMemory),
             },
         }
     }
 
     /// Wakes a blocked thread.
-    pub fn wake(&mut self, thread: Tid) -> Result<Posted, KernelFault>
+    pub fn wake(&mut self, thread: Tid) -> Result<Posted, CallFault>
         ensures step { StepsInMemory Answer.Posted (Call.Env (EnvCall.Wake thread)) result self.old self.new }
         ensures limits { self.new.limits ≡ self.old.limits }
         ensures err { OnErr result (self.new ≡ self.old) }
     {
         match self.wake_fault(thread) {
-            Some(fault) => Err(fault),
+            Some(refusal) => Err(refusal.into()),
             None => match self.tell(thread, Kind::Wakeup) {
                 Ok(posted) => Ok(posted),
-                Err(_) => Err(KernelFault::OutOfMemory),
+                Err(_) => Err(CallFault::OutOfMemory),
             },
         }
     }
 
     /// Blocks the thread on the CPU, which it leaves after so many ticks.
-    pub fn block(&mut self, cpu: Cpu, ran: u32) -> Result<Posted, KernelFault>
+    pub fn block(&mut self, cpu: Cpu, ran: u32) -> Result<Posted, CallFault>
         ensures step { StepsInMemory Answer.Posted (Call.Env (EnvCall.Block cpu ran)) result self.old self.new }
         ensures limits { self.new.limits ≡ self.old.limits }
         ensures err { OnErr result (self.new ≡ self.old) }
@@ -62,7 +61,7 @@ impl Kernel {
     }
 
     /// Takes the thread off the CPU by its own will; it is ready to run.
-    pub fn yield_now(&mut self, cpu: Cpu, ran: u32) -> Result<Posted, KernelFault>
+    pub fn yield_now(&mut self, cpu: Cpu, ran: u32) -> Result<Posted, CallFault>
         ensures step { StepsInMemory Answer.Posted (Call.Env (EnvCall.YieldNow cpu ran)) result self.old self.new }
         ensures limits { self.new.limits ≡ self.old.limits }
         ensures err { OnErr result (self.new ≡ self.old) }
@@ -71,7 +70,7 @@ impl Kernel {
     }
 
     /// Takes the thread off the CPU against its will; it is ready to run.
-    pub fn preempt(&mut self, cpu: Cpu, ran: u32) -> Result<Posted, KernelFault>
+    pub fn preempt(&mut self, cpu: Cpu, ran: u32) -> Result<Posted, CallFault>
         ensures step { StepsInMemory Answer.Posted (Call.Env (EnvCall.Preempt cpu ran)) result self.old self.new }
         ensures limits { self.new.limits ≡ self.old.limits }
         ensures err { OnErr result (self.new ≡ self.old) }
@@ -80,7 +79,7 @@ impl Kernel {
     }
 
     /// Ends the thread on the CPU.
-    pub fn die(&mut self, cpu: Cpu, ran: u32) -> Result<Posted, KernelFault>
+    pub fn die(&mut self, cpu: Cpu, ran: u32) -> Result<Posted, CallFault>
         ensures step { StepsInMemory Answer.Posted (Call.Env (EnvCall.Die cpu ran)) result self.old self.new }
         ensures limits { self.new.limits ≡ self.old.limits }
         ensures err { OnErr result (self.new ≡ self.old) }
@@ -89,105 +88,103 @@ impl Kernel {
     }
 
     /// Changes the CPUs on which a thread may run; a running thread keeps the CPU that it runs on.
-    pub fn set_affinity(&mut self, thread: Tid, mask: u64) -> Result<Posted, KernelFault>
+    pub fn set_affinity(&mut self, thread: Tid, mask: u64) -> Result<Posted, CallFault>
         ensures step { StepsInMemory Answer.Posted (Call.Env (EnvCall.SetAffinity thread mask)) result self.old self.new }
         ensures limits { self.new.limits ≡ self.old.limits }
         ensures err { OnErr result (self.new ≡ self.old) }
     {
         match self.affinity(thread, mask) {
-            Err(fault) => Err(fault),
+            Err(refusal) => Err(refusal.into()),
             Ok(kind) => match self.tell(thread, kind) {
                 Ok(posted) => Ok(posted),
-                Err(_) => Err(KernelFault::OutOfMemory),
+                Err(_) => Err(CallFault::OutOfMemory),
             },
         }
     }
 
     /// Changes a thread's level.
-    pub fn set_priority(&mut self, thread: Tid, level: u8) -> Result<Posted, KernelFault>
+    pub fn set_priority(&mut self, thread: Tid, level: u8) -> Result<Posted, CallFault>
         ensures step { StepsInMemory Answer.Posted (Call.Env (EnvCall.SetPriority thread level)) result self.old self.new }
         ensures limits { self.new.limits ≡ self.old.limits }
         ensures err { OnErr result (self.new ≡ self.old) }
     {
         match self.priority(thread, level) {
-            Err(fault) => Err(fault),
+            Err(refusal) => Err(refusal.into()),
             Ok(kind) => match self.tell(thread, kind) {
                 Ok(posted) => Ok(posted),
-                Err(_) => Err(KernelFault::OutOfMemory),
+                Err(_) => Err(CallFault::OutOfMemory),
             },
         }
     }
 
     /// Posts a tick of the CPU to its own queue.
-    pub fn tick(&mut self, cpu: Cpu) -> Result<Posted, KernelFault>
+    pub fn tick(&mut self, cpu: Cpu) -> Result<Posted, CallFault>
         ensures step { StepsInMemory Answer.Posted (Call.Env (EnvCall.Tick cpu)) result self.old self.new }
         ensures limits { self.new.limits ≡ self.old.limits }
         ensures err { OnErr result (self.new ≡ self.old) }
     {
         match self.tick_fault(cpu) {
-            Some(fault) => Err(fault),
+            Some(refusal) => Err(refusal.into()),
             None => match self.post_tick(cpu) {
                 Ok(posted) => Ok(posted),
-                Err(_) => Err(KernelFault::OutOfMemory),
+                Err(_) => Err(CallFault::OutOfMemory),
             },
         }
     }
 
     /// Takes the thread on the CPU off it, with a message of this kind. The message comes first, since only it can
     /// fail.
-    fn leave(&mut self, cpu: Cpu, kind: Kind) -> Result<Posted, KernelFault>
+    fn leave(&mut self, cpu: Cpu, kind: Kind) -> Result<Posted, CallFault>
         requires not_first { IsFalse (is_created kind) }
         requires ran { ran_given kind < 2 ^ 32 }
         ensures step { Leaves cpu kind result self.old self.new }
         ensures limits { self.new.limits ≡ self.old.limits }
         ensures err { OnErr result (self.new ≡ self.old) }
     {
-        match self.leaver(cpu) {
-            Err(fault) => Err(fault),
-            Ok(thread) => match self.tell(thread, kind) {
-                Ok(posted) => {
-                    self.take_off(cpu, thread);
-                    Ok(posted)
-                }
-                Err(_) => Err(KernelFault::OutOfMemory),
-            },
+        let thread = self.leaver(cpu)?;
+        match self.tell(thread, kind) {
+            Ok(posted) => {
+                self.take_off(cpu, thread);
+                Ok(posted)
+            }
+            Err(_) => Err(CallFault::OutOfMemory),
         }
     }
 
     /// The first message of a new thread, or why there is none.
-    fn first_kind(&self, queue: Cpu, mask: u64, ready: bool) -> Result<Kind, KernelFault>
+    fn first_kind(&self, queue: Cpu, mask: u64, ready: bool) -> Result<Kind, Refusal>
         ensures kind { IfOk result (λ kind. kind ≡ Kind.Created mask ready) }
         ensures refused { result_err result ≡ refused (seen self.now) (Call.Env (EnvCall.Create queue mask ready)) }
     {
         if queue.index() >= self.cpus() {
-            return Err(KernelFault::BadCpu);
+            return Err(Refusal::BadCpu);
         }
         let mask = self.mask(mask)?;
         if self.threads() >= self.limits().threads {
-            return Err(KernelFault::NamesSpent);
+            return Err(Refusal::NamesSpent);
         }
         match self.queue_fault(queue) {
-            Some(fault) => Err(fault),
+            Some(refusal) => Err(refusal),
             None => Ok(Kind::Created { mask, ready }),
         }
     }
 
     /// Why a thread is not woken.
-    fn wake_fault(&self, thread: Tid) -> Option<KernelFault>
+    fn wake_fault(&self, thread: Tid) -> Option<Refusal>
         ensures { result ≡ refused (seen self.now) (Call.Env (EnvCall.Wake thread)) }
     {
         match self.thread(thread) {
-            None => Some(KernelFault::UnknownThread),
+            None => Some(Refusal::UnknownThread),
             Some(entry) => match entry.state().phase {
-                Phase::Dead => Some(KernelFault::Dead),
-                Phase::Ready => Some(KernelFault::NotBlocked),
+                Phase::Dead => Some(Refusal::Dead),
+                Phase::Ready => Some(Refusal::NotBlocked),
                 Phase::Blocked => self.post_fault(thread),
             },
         }
     }
 
     /// The thread that can leave the CPU, or why none can.
-    fn leaver(&self, cpu: Cpu) -> Result<Tid, KernelFault>
+    fn leaver(&self, cpu: Cpu) -> Result<Tid, Refusal>
         ensures runs { IfOk result (λ thread. on (seen self.now) cpu ≡ Some thread) }
         ensures known { IfOk result (λ thread. thread < length self.now.threads) }
         ensures numbers { IfOk result (λ thread. number (seen self.now) thread < self.now.limits.numbers) }
@@ -195,11 +192,11 @@ impl Kernel {
     {
         self.is_sound();
         match self.cpu(cpu) {
-            None => Err(KernelFault::BadCpu),
+            None => Err(Refusal::BadCpu),
             Some(entry) => match entry.running {
-                None => Err(KernelFault::IdleCpu),
+                None => Err(Refusal::IdleCpu),
                 Some(thread) => match self.post_fault(thread) {
-                    Some(fault) => Err(fault),
+                    Some(refusal) => Err(refusal),
                     None => Ok(thread),
                 },
             },
@@ -207,96 +204,96 @@ impl Kernel {
     }
 
     /// The message of a thread's new mask, or why there is none.
-    fn affinity(&self, thread: Tid, mask: u64) -> Result<Kind, KernelFault>
+    fn affinity(&self, thread: Tid, mask: u64) -> Result<Kind, Refusal>
         ensures kind { IfOk result (λ kind. kind ≡ Kind.Affinity mask) }
         ensures refused { result_err result ≡ refused (seen self.now) (Call.Env (EnvCall.SetAffinity thread mask)) }
     {
         let entry = self.living(thread)?;
         let mask = self.mask(mask)?;
         match entry.on() {
-            Some(cpu) if !mask.allows(cpu) => return Err(KernelFault::OnForbiddenCpu),
+            Some(cpu) if !mask.allows(cpu) => return Err(Refusal::OnForbiddenCpu),
             _ => {}
         }
         match self.post_fault(thread) {
-            Some(fault) => Err(fault),
+            Some(refusal) => Err(refusal),
             None => Ok(Kind::Affinity { mask }),
         }
     }
 
     /// The message of a thread's new level, or why there is none.
-    fn priority(&self, thread: Tid, level: u8) -> Result<Kind, KernelFault>
+    fn priority(&self, thread: Tid, level: u8) -> Result<Kind, Refusal>
         ensures kind { IfOk result (λ kind. kind ≡ Kind.Priority level) }
         ensures refused { result_err result ≡ refused (seen self.now) (Call.Env (EnvCall.SetPriority thread level)) }
     {
         self.living(thread)?;
         let level = match Level::new(level) {
             Ok(level) => level,
-            Err(LevelFault::BadLevel) => return Err(KernelFault::BadLevel),
+            Err(LevelFault::BadLevel) => return Err(Refusal::BadLevel),
         };
         match self.post_fault(thread) {
-            Some(fault) => Err(fault),
+            Some(refusal) => Err(refusal),
             None => Ok(Kind::Priority { level }),
         }
     }
 
     /// The thread's row, where it is known and alive.
-    fn living(&self, thread: Tid) -> Result<&ThreadEntry, KernelFault>
+    fn living(&self, thread: Tid) -> Result<&ThreadEntry, Refusal>
         ensures row { IfOk result (λ entry. slice_get self.now.threads thread ≡ Some entry.now) }
         ensures refused { result_err result ≡ first_of (thread_refusals (seen self.now) thread) }
     {
         match self.thread(thread) {
-            None => Err(KernelFault::UnknownThread),
+            None => Err(Refusal::UnknownThread),
             Some(entry) => match entry.state().phase {
-                Phase::Dead => Err(KernelFault::Dead),
+                Phase::Dead => Err(Refusal::Dead),
                 Phase::Ready | Phase::Blocked => Ok(entry),
             },
         }
     }
 
     /// The mask with these bits.
-    fn mask(&self, bits: u64) -> Result<Mask, KernelFault>
+    fn mask(&self, bits: u64) -> Result<Mask, Refusal>
         ensures ok { IfOk result (λ mask. mask ≡ bits) }
         ensures refused { result_err result ≡ first_of (mask_refusals (seen self.now) bits) }
     {
         match Mask::new(bits, self.cpus()) {
             Ok(mask) => Ok(mask),
-            Err(MaskFault::EmptyMask) => Err(KernelFault::EmptyMask),
-            Err(MaskFault::MaskTooWide) => Err(KernelFault::MaskTooWide),
+            Err(MaskFault::EmptyMask) => Err(Refusal::EmptyMask),
+            Err(MaskFault::MaskTooWide) => Err(Refusal::MaskTooWide),
         }
     }
 
     /// Why a CPU's tick is not posted.
-    fn tick_fault(&self, cpu: Cpu) -> Option<KernelFault>
+    fn tick_fault(&self, cpu: Cpu) -> Option<Refusal>
         ensures { result ≡ refused (seen self.now) (Call.Env (EnvCall.Tick cpu)) }
     {
         if cpu.index() >= self.cpus() {
-            return Some(KernelFault::BadCpu);
+            return Some(Refusal::BadCpu);
         }
         self.queue_fault(cpu)
     }
 
     /// Why no further message of a thread is posted.
-    fn post_fault(&self, thread: Tid) -> Option<KernelFault>
+    fn post_fault(&self, thread: Tid) -> Option<Refusal>
         requires { thread < length self.now.threads }
         ensures { result ≡ first_of (post_refusals (seen self.now) thread) }
     {
         let entry = &self.threads[thread.index() as usize];
         if entry.number() >= self.limits.numbers {
-            return Some(KernelFault::NumbersSpent);
+            return Some(Refusal::NumbersSpent);
         }
         self.queue_fault(entry.home())
     }
 
     /// Why nothing is posted to a queue.
-    fn queue_fault(&self, queue: Cpu) -> Option<KernelFault>
+    fn queue_fault(&self, queue: Cpu) -> Option<Refusal>
         requires { queue < self.now.limits.cpus }
         ensures { result ≡ first_of (queue_refusals (seen self.now) queue) }
     {
         match self.cpus[queue.index() as usize].queue.refusal() {
             None => None,
-            Some(QueueFault::QueueFull) => Some(KernelFault::QueueFull),
-            Some(QueueFault::PostsSpent) => Some(KernelFault::PostsSpent),
-            Some(QueueFault::OutOfMemory) => Some(KernelFault::OutOfMemory),
+            Some(QueueFault::QueueFull) => Some(Refusal::QueueFull),
+            Some(QueueFault::PostsSpent) => Some(Refusal::PostsSpent),
+            Some(QueueFault::OutOfMemory) => unreachable!(),
         }
     }
 

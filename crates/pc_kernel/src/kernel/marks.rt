@@ -8,7 +8,7 @@ use pc_messages::{Cpu, Tid};
 
 impl Kernel {
     ghost use Rattle.pc_kernel.specs.Reads.{seen, on, place, content};
-    ghost use Rattle.pc_kernel.specs.Sends.{Becomes};
+    ghost use Rattle.pc_kernel.specs.Inner.Sends.{Becomes};
     ghost use Rattle.pc_kernel.specs.Steps.{at};
 
     /// Takes the thread off the CPU that it runs on.

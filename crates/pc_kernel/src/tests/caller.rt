@@ -3,15 +3,13 @@
 ghost use Rattle.std.specs.Prelude.{[], ◌∷◌, IfOk, true};
 ghost use Rattle.pc_kernel.specs.Answers.{Replays};
 
-use crate::calls::{Answer, Call, EnvCall};
-use crate::fault::KernelFault;
-use crate::kernel::Kernel;
-use crate::tests::table::{DONE, SMALL, commit, create, tick};
+use crate::tests::table::{SMALL, commit, create, tick};
+use crate::{Answer, Call, CallFault, EnvCall, Kernel};
 use pc_messages::{Cpu, Tid};
 use std::test::Fail;
 
 /// Makes three calls, each where the one before was accepted. Answers what the last one answers.
-fn three(kernel: &mut Kernel, first: Call, second: Call, third: Call) -> Result<Answer, KernelFault>
+fn three(kernel: &mut Kernel, first: Call, second: Call, third: Call) -> Result<Answer, CallFault>
     ensures { IfOk result (λ _. Replays (first ∷ second ∷ third ∷ []) kernel.old kernel.new) }
 {
     match kernel.apply(first) {
@@ -33,13 +31,13 @@ fn run_and_move(
     moves: Tid,
     home: Cpu,
     number: u32,
-) -> Result<bool, KernelFault>
+) -> Result<bool, CallFault>
     ensures { IfOk result (λ _. Replays (Call.Env (EnvCall.Create queue 3 true) ∷ Call.Commit queue runs aseq ∷ Call.Associate moves home number ∷ []) kernel.old kernel.new) }
 {
     match kernel.create(queue, 3, true) {
         Err(fault) => Err(fault),
         Ok(_) => match kernel.commit(queue, runs, aseq) {
-            Err(fault) => Err(fault),
+            Err(refusal) => Err(refusal.into()),
             Ok(()) => match kernel.associate(moves, home, number) {
                 Ok(()) => Ok(true),
                 Err(_) => Ok(false),
@@ -74,6 +72,6 @@ fn a_thread_moves_beside_one_that_runs(rt: HostRuntime) -> Result<(), Fail> {
 fn three_calls_in_a_row(rt: HostRuntime) -> Result<(), Fail> {
     let mut kernel = Kernel::new(rt.alloc(), SMALL)?;
     let last = three(&mut kernel, create(0, 3, true), tick(0), commit(0, 0, 2));
-    assert_eq!(rt; last, DONE);
+    assert_eq!(rt; last, Ok(Answer::Done));
     Ok(())
 }

@@ -1,9 +1,8 @@
 //! Each call by its own name.
 
-use crate::fault::KernelFault;
-use crate::kernel::{Kernel, Status};
-use crate::tests::posted;
 use crate::tests::table::SMALL;
+use crate::tests::{posted, refused};
+use crate::{Kernel, Refusal, Status};
 use pc_messages::{Cpu, Phase, Tid};
 use std::test::Fail;
 
@@ -45,7 +44,7 @@ fn the_end_of_a_thread(rt: HostRuntime) -> Result<(), Fail> {
     kernel.commit(Cpu(0), Tid(0), 1)?;
     assert_eq!(rt; kernel.die(Cpu(0), 5)?, posted(0, 2, 0, 2));
     assert_eq!(rt; kernel.running(Cpu(0)), None);
-    assert_eq!(rt; kernel.wake(Tid(0)), Err(KernelFault::Dead));
+    assert_eq!(rt; kernel.wake(Tid(0)), refused(Refusal::Dead));
     assert_eq!(rt; kernel.status(Tid(0)), status(2, None));
     Ok(())
 }
@@ -56,6 +55,7 @@ fn masks_and_levels(rt: HostRuntime) -> Result<(), Fail> {
     kernel.create(Cpu(0), 3, false)?;
     assert_eq!(rt; kernel.set_affinity(Tid(0), 2)?, posted(0, 2, 0, 2));
     assert_eq!(rt; kernel.set_priority(Tid(0), 7)?, posted(0, 3, 0, 3));
+    assert_eq!(rt; kernel.set_priority(Tid(0), 8), refused(Refusal::BadLevel));
     let state = kernel.reported(Tid(0)).ok_or("no thread")?;
     assert_eq!(rt; state.mask.bits(), 2);
     assert_eq!(rt; state.level.get(), 7);

@@ -2,12 +2,11 @@
 //! together, that the first is answered. An unknown thread is never dead, an empty mask never too wide, the queue of
 //! a CPU that is not there never full, and a thread that runs on its home queue's CPU is never forbidden there.
 
-use crate::fault::KernelFault;
-use crate::limits::Profile;
 use crate::tests::table::{
     DONE, SMALL, associate, block, commit, config, consume, create, die, first_wrong, limits,
     preempt, rouse, sent, set_affinity, set_priority, sleep, tick, wake, yield_now,
 };
+use crate::{Profile, Refusal};
 use pc_messages::Cpu;
 use std::test::Fail;
 
@@ -16,16 +15,16 @@ use std::test::Fail;
 fn all_is_spent(rt: HostRuntime) -> Result<(), Fail> {
     let rows = [
         (create(0, 1, false), sent(0, 1, 0, 1)),
-        (create(9, 0, true), Err(KernelFault::BadCpu)),
-        (create(0, 0, true), Err(KernelFault::EmptyMask)),
-        (create(0, 2, true), Err(KernelFault::MaskTooWide)),
-        (create(0, 1, true), Err(KernelFault::NamesSpent)),
-        (wake(0), Err(KernelFault::NumbersSpent)),
-        (set_affinity(0, 1), Err(KernelFault::NumbersSpent)),
-        (set_affinity(1, 0), Err(KernelFault::UnknownThread)),
-        (set_priority(0, 1), Err(KernelFault::NumbersSpent)),
-        (set_priority(0, 8), Err(KernelFault::BadLevel)),
-        (set_priority(1, 8), Err(KernelFault::UnknownThread)),
+        (create(9, 0, true), Err(Refusal::BadCpu)),
+        (create(0, 0, true), Err(Refusal::EmptyMask)),
+        (create(0, 2, true), Err(Refusal::MaskTooWide)),
+        (create(0, 1, true), Err(Refusal::NamesSpent)),
+        (wake(0), Err(Refusal::NumbersSpent)),
+        (set_affinity(0, 1), Err(Refusal::NumbersSpent)),
+        (set_affinity(1, 0), Err(Refusal::UnknownThread)),
+        (set_priority(0, 1), Err(Refusal::NumbersSpent)),
+        (set_priority(0, 8), Err(Refusal::BadLevel)),
+        (set_priority(1, 8), Err(Refusal::UnknownThread)),
     ];
     let wrong = first_wrong(rt.alloc(), Profile::One, limits(1, 1, 1, 1, 1), &rows)?;
     assert_eq!(rt; wrong, None);
@@ -37,17 +36,17 @@ fn all_is_spent(rt: HostRuntime) -> Result<(), Fail> {
 fn room_and_posts_are_spent(rt: HostRuntime) -> Result<(), Fail> {
     let rows = [
         (create(0, 1, false), sent(0, 1, 0, 1)),
-        (create(0, 1, true), Err(KernelFault::QueueFull)),
-        (wake(0), Err(KernelFault::QueueFull)),
-        (set_affinity(0, 1), Err(KernelFault::QueueFull)),
-        (set_priority(0, 1), Err(KernelFault::QueueFull)),
-        (tick(0), Err(KernelFault::QueueFull)),
+        (create(0, 1, true), Err(Refusal::QueueFull)),
+        (wake(0), Err(Refusal::QueueFull)),
+        (set_affinity(0, 1), Err(Refusal::QueueFull)),
+        (set_priority(0, 1), Err(Refusal::QueueFull)),
+        (tick(0), Err(Refusal::QueueFull)),
         (consume(0, 1), DONE),
-        (create(0, 1, true), Err(KernelFault::PostsSpent)),
-        (wake(0), Err(KernelFault::PostsSpent)),
-        (set_affinity(0, 1), Err(KernelFault::PostsSpent)),
-        (set_priority(0, 1), Err(KernelFault::PostsSpent)),
-        (tick(0), Err(KernelFault::PostsSpent)),
+        (create(0, 1, true), Err(Refusal::PostsSpent)),
+        (wake(0), Err(Refusal::PostsSpent)),
+        (set_affinity(0, 1), Err(Refusal::PostsSpent)),
+        (set_priority(0, 1), Err(Refusal::PostsSpent)),
+        (tick(0), Err(Refusal::PostsSpent)),
     ];
     let wrong = first_wrong(rt.alloc(), Profile::One, limits(1, 2, 9, 1, 1), &rows)?;
     assert_eq!(rt; wrong, None);
@@ -60,16 +59,16 @@ fn leaving_with_room_and_posts_spent(rt: HostRuntime) -> Result<(), Fail> {
     let rows = [
         (create(0, 1, true), sent(0, 1, 0, 1)),
         (commit(0, 0, 1), DONE),
-        (block(0, 1), Err(KernelFault::QueueFull)),
-        (yield_now(0, 1), Err(KernelFault::QueueFull)),
-        (preempt(0, 1), Err(KernelFault::QueueFull)),
-        (die(0, 1), Err(KernelFault::QueueFull)),
+        (block(0, 1), Err(Refusal::QueueFull)),
+        (yield_now(0, 1), Err(Refusal::QueueFull)),
+        (preempt(0, 1), Err(Refusal::QueueFull)),
+        (die(0, 1), Err(Refusal::QueueFull)),
         (consume(0, 1), DONE),
-        (block(0, 1), Err(KernelFault::PostsSpent)),
-        (yield_now(0, 1), Err(KernelFault::PostsSpent)),
-        (preempt(0, 1), Err(KernelFault::PostsSpent)),
-        (die(0, 1), Err(KernelFault::PostsSpent)),
-        (commit(0, 0, 1), Err(KernelFault::Running(Cpu(0)))),
+        (block(0, 1), Err(Refusal::PostsSpent)),
+        (yield_now(0, 1), Err(Refusal::PostsSpent)),
+        (preempt(0, 1), Err(Refusal::PostsSpent)),
+        (die(0, 1), Err(Refusal::PostsSpent)),
+        (commit(0, 0, 1), Err(Refusal::Running(Cpu(0)))),
     ];
     let wrong = first_wrong(rt.alloc(), Profile::One, limits(1, 2, 9, 1, 1), &rows)?;
     assert_eq!(rt; wrong, None);
@@ -81,16 +80,16 @@ fn leaving_with_room_and_posts_spent(rt: HostRuntime) -> Result<(), Fail> {
 fn leaving_with_numbers_spent(rt: HostRuntime) -> Result<(), Fail> {
     let rows = [
         (create(0, 1, true), sent(0, 1, 0, 1)),
-        (wake(0), Err(KernelFault::NotBlocked)),
-        (block(0, 1), Err(KernelFault::IdleCpu)),
-        (yield_now(0, 1), Err(KernelFault::IdleCpu)),
-        (preempt(0, 1), Err(KernelFault::IdleCpu)),
-        (die(0, 1), Err(KernelFault::IdleCpu)),
+        (wake(0), Err(Refusal::NotBlocked)),
+        (block(0, 1), Err(Refusal::IdleCpu)),
+        (yield_now(0, 1), Err(Refusal::IdleCpu)),
+        (preempt(0, 1), Err(Refusal::IdleCpu)),
+        (die(0, 1), Err(Refusal::IdleCpu)),
         (commit(0, 0, 1), DONE),
-        (block(0, 1), Err(KernelFault::NumbersSpent)),
-        (yield_now(0, 1), Err(KernelFault::NumbersSpent)),
-        (preempt(0, 1), Err(KernelFault::NumbersSpent)),
-        (die(0, 1), Err(KernelFault::NumbersSpent)),
+        (block(0, 1), Err(Refusal::NumbersSpent)),
+        (yield_now(0, 1), Err(Refusal::NumbersSpent)),
+        (preempt(0, 1), Err(Refusal::NumbersSpent)),
+        (die(0, 1), Err(Refusal::NumbersSpent)),
     ];
     let wrong = first_wrong(rt.alloc(), Profile::One, limits(1, 2, 1, 1, 1), &rows)?;
     assert_eq!(rt; wrong, None);
@@ -101,18 +100,18 @@ fn leaving_with_numbers_spent(rt: HostRuntime) -> Result<(), Fail> {
 #[test]
 fn a_cpu_that_is_not_there(rt: HostRuntime) -> Result<(), Fail> {
     let rows = [
-        (block(2, 1), Err(KernelFault::BadCpu)),
-        (yield_now(2, 1), Err(KernelFault::BadCpu)),
-        (preempt(2, 1), Err(KernelFault::BadCpu)),
-        (die(2, 1), Err(KernelFault::BadCpu)),
-        (tick(2), Err(KernelFault::BadCpu)),
-        (consume(2, 1), Err(KernelFault::BadCpu)),
-        (consume(0, 1), Err(KernelFault::TooMany)),
-        (sleep(2, 5), Err(KernelFault::BadCpu)),
-        (rouse(2), Err(KernelFault::BadCpu)),
-        (config(2, None), Err(KernelFault::BadCpu)),
-        (config(2, Some(Cpu(0))), Err(KernelFault::BadCpu)),
-        (config(0, Some(Cpu(2))), Err(KernelFault::BadCpu)),
+        (block(2, 1), Err(Refusal::BadCpu)),
+        (yield_now(2, 1), Err(Refusal::BadCpu)),
+        (preempt(2, 1), Err(Refusal::BadCpu)),
+        (die(2, 1), Err(Refusal::BadCpu)),
+        (tick(2), Err(Refusal::BadCpu)),
+        (consume(2, 1), Err(Refusal::BadCpu)),
+        (consume(0, 1), Err(Refusal::TooMany)),
+        (sleep(2, 5), Err(Refusal::BadCpu)),
+        (rouse(2), Err(Refusal::BadCpu)),
+        (config(2, None), Err(Refusal::BadCpu)),
+        (config(2, Some(Cpu(0))), Err(Refusal::BadCpu)),
+        (config(0, Some(Cpu(2))), Err(Refusal::BadCpu)),
     ];
     let wrong = first_wrong(rt.alloc(), Profile::One, SMALL, &rows)?;
     assert_eq!(rt; wrong, None);
@@ -124,10 +123,10 @@ fn masks_of_a_running_thread(rt: HostRuntime) -> Result<(), Fail> {
     let rows = [
         (create(0, 3, true), sent(0, 1, 0, 1)),
         (commit(0, 0, 1), DONE),
-        (set_affinity(0, 0), Err(KernelFault::EmptyMask)),
-        (set_affinity(0, 4), Err(KernelFault::MaskTooWide)),
-        (set_affinity(0, 2), Err(KernelFault::OnForbiddenCpu)),
-        (set_affinity(0, 3), Err(KernelFault::NumbersSpent)),
+        (set_affinity(0, 0), Err(Refusal::EmptyMask)),
+        (set_affinity(0, 4), Err(Refusal::MaskTooWide)),
+        (set_affinity(0, 2), Err(Refusal::OnForbiddenCpu)),
+        (set_affinity(0, 3), Err(Refusal::NumbersSpent)),
     ];
     let wrong = first_wrong(rt.alloc(), Profile::One, limits(2, 2, 1, 1, 1), &rows)?;
     assert_eq!(rt; wrong, None);
@@ -140,13 +139,13 @@ fn calls_on_the_dead(rt: HostRuntime) -> Result<(), Fail> {
         (create(0, 1, true), sent(0, 1, 0, 1)),
         (commit(0, 0, 1), DONE),
         (die(0, 5), sent(0, 2, 0, 2)),
-        (wake(0), Err(KernelFault::Dead)),
-        (set_affinity(0, 0), Err(KernelFault::Dead)),
-        (set_priority(0, 8), Err(KernelFault::Dead)),
-        (associate(9, 9, 2), Err(KernelFault::UnknownThread)),
-        (associate(0, 9, 2), Err(KernelFault::BadCpu)),
-        (associate(0, 1, 7), Err(KernelFault::Dead)),
-        (commit(0, 0, 2), Err(KernelFault::NotReady)),
+        (wake(0), Err(Refusal::Dead)),
+        (set_affinity(0, 0), Err(Refusal::Dead)),
+        (set_priority(0, 8), Err(Refusal::Dead)),
+        (associate(9, 9, 2), Err(Refusal::UnknownThread)),
+        (associate(0, 9, 2), Err(Refusal::BadCpu)),
+        (associate(0, 1, 7), Err(Refusal::Dead)),
+        (commit(0, 0, 2), Err(Refusal::NotReady)),
     ];
     let wrong = first_wrong(rt.alloc(), Profile::One, SMALL, &rows)?;
     assert_eq!(rt; wrong, None);
@@ -158,11 +157,11 @@ fn associating_a_running_thread(rt: HostRuntime) -> Result<(), Fail> {
     let rows = [
         (create(0, 3, true), sent(0, 1, 0, 1)),
         (commit(0, 0, 1), DONE),
-        (associate(0, 1, 2), Err(KernelFault::Stale(1))),
-        (associate(0, 1, 0), Err(KernelFault::Stale(1))),
-        (associate(0, 1, 1), Err(KernelFault::Pending)),
+        (associate(0, 1, 2), Err(Refusal::Stale(1))),
+        (associate(0, 1, 0), Err(Refusal::Stale(1))),
+        (associate(0, 1, 1), Err(Refusal::Pending)),
         (consume(0, 1), DONE),
-        (associate(0, 1, 1), Err(KernelFault::Running(Cpu(0)))),
+        (associate(0, 1, 1), Err(Refusal::Running(Cpu(0)))),
     ];
     let wrong = first_wrong(rt.alloc(), Profile::One, SMALL, &rows)?;
     assert_eq!(rt; wrong, None);
@@ -177,13 +176,13 @@ fn the_own_queue_and_a_second_sleep(rt: HostRuntime) -> Result<(), Fail> {
         (sleep(1, 0), DONE),
         (sleep(1, 0), DONE),
         (create(0, 3, true), sent(0, 1, 0, 1)),
-        (associate(0, 0, 2), Err(KernelFault::Stale(1))),
-        (associate(0, 0, 1), Err(KernelFault::Pending)),
+        (associate(0, 0, 2), Err(Refusal::Stale(1))),
+        (associate(0, 0, 1), Err(Refusal::Pending)),
         (consume(0, 1), DONE),
         (create(0, 3, true), sent(1, 1, 0, 2)),
         (associate(0, 0, 1), DONE),
         (commit(0, 0, 2), DONE),
-        (associate(0, 0, 1), Err(KernelFault::Running(Cpu(0)))),
+        (associate(0, 0, 1), Err(Refusal::Running(Cpu(0)))),
     ];
     let wrong = first_wrong(rt.alloc(), Profile::One, SMALL, &rows)?;
     assert_eq!(rt; wrong, None);
@@ -195,18 +194,18 @@ fn the_own_queue_and_a_second_sleep(rt: HostRuntime) -> Result<(), Fail> {
 fn commits(rt: HostRuntime) -> Result<(), Fail> {
     let rows = [
         (create(0, 3, false), sent(0, 1, 0, 1)),
-        (commit(2, 9, 0), Err(KernelFault::BadCpu)),
-        (commit(0, 9, 5), Err(KernelFault::UnknownThread)),
-        (commit(0, 0, 0), Err(KernelFault::Stale(1))),
-        (commit(1, 0, 0), Err(KernelFault::NotReady)),
+        (commit(2, 9, 0), Err(Refusal::BadCpu)),
+        (commit(0, 9, 5), Err(Refusal::UnknownThread)),
+        (commit(0, 0, 0), Err(Refusal::Stale(1))),
+        (commit(1, 0, 0), Err(Refusal::NotReady)),
         (create(0, 1, true), sent(1, 1, 0, 2)),
         (commit(0, 1, 2), DONE),
-        (commit(1, 1, 0), Err(KernelFault::NotYours(Cpu(0)))),
-        (commit(0, 1, 2), Err(KernelFault::Running(Cpu(0)))),
+        (commit(1, 1, 0), Err(Refusal::NotYours(Cpu(0)))),
+        (commit(0, 1, 2), Err(Refusal::Running(Cpu(0)))),
         (create(0, 2, true), sent(2, 1, 0, 3)),
-        (commit(0, 2, 3), Err(KernelFault::Forbidden)),
+        (commit(0, 2, 3), Err(Refusal::Forbidden)),
         (create(0, 1, true), sent(3, 1, 0, 4)),
-        (commit(0, 3, 4), Err(KernelFault::Busy)),
+        (commit(0, 3, 4), Err(Refusal::Busy)),
     ];
     let wrong = first_wrong(rt.alloc(), Profile::One, SMALL, &rows)?;
     assert_eq!(rt; wrong, None);

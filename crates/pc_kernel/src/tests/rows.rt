@@ -1,12 +1,11 @@
 //! Lists of calls worked by hand.
 
-use crate::fault::KernelFault;
-use crate::limits::Profile;
 use crate::tests::table::{
     DONE, SMALL, associate, block, commit, config, consume, create, die, first_wrong, limits,
     preempt, rouse, sent, sent_to, set_affinity, set_priority, sleep, tick, ticked, wake,
     yield_now,
 };
+use crate::{Profile, Refusal};
 use pc_messages::Cpu;
 use std::test::Fail;
 
@@ -15,11 +14,11 @@ use std::test::Fail;
 fn stale_comes_before_pending(rt: HostRuntime) -> Result<(), Fail> {
     let rows = [
         (create(0, 3, true), sent(0, 1, 0, 1)),
-        (associate(0, 1, 2), Err(KernelFault::Stale(1))),
-        (associate(0, 1, 1), Err(KernelFault::Pending)),
+        (associate(0, 1, 2), Err(Refusal::Stale(1))),
+        (associate(0, 1, 1), Err(Refusal::Pending)),
         (consume(0, 1), DONE),
         (associate(0, 1, 1), DONE),
-        (commit(0, 0, 1), Err(KernelFault::NotYours(Cpu(1)))),
+        (commit(0, 0, 1), Err(Refusal::NotYours(Cpu(1)))),
         (commit(1, 0, 0), DONE),
     ];
     let wrong = first_wrong(rt.alloc(), Profile::One, SMALL, &rows)?;
@@ -33,7 +32,7 @@ fn a_tick_makes_a_commit_stale(rt: HostRuntime) -> Result<(), Fail> {
     let rows = [
         (create(0, 3, true), sent(0, 1, 0, 1)),
         (tick(0), ticked(0, 2)),
-        (commit(0, 0, 1), Err(KernelFault::Stale(2))),
+        (commit(0, 0, 1), Err(Refusal::Stale(2))),
         (commit(0, 0, 2), DONE),
     ];
     let wrong = first_wrong(rt.alloc(), Profile::One, SMALL, &rows)?;
@@ -46,8 +45,8 @@ fn numbers_and_names_are_spent(rt: HostRuntime) -> Result<(), Fail> {
     let rows = [
         (create(0, 1, false), sent(0, 1, 0, 1)),
         (wake(0), sent(0, 2, 0, 2)),
-        (set_affinity(0, 1), Err(KernelFault::NumbersSpent)),
-        (create(0, 1, true), Err(KernelFault::NamesSpent)),
+        (set_affinity(0, 1), Err(Refusal::NumbersSpent)),
+        (create(0, 1, true), Err(Refusal::NamesSpent)),
     ];
     let wrong = first_wrong(rt.alloc(), Profile::One, limits(1, 1, 2, 4, 10), &rows)?;
     assert_eq!(rt; wrong, None);
@@ -58,7 +57,7 @@ fn numbers_and_names_are_spent(rt: HostRuntime) -> Result<(), Fail> {
 fn a_post_wakes_a_sleeper(rt: HostRuntime) -> Result<(), Fail> {
     let rows = [
         (create(0, 3, false), sent(0, 1, 0, 1)),
-        (sleep(0, 0), Err(KernelFault::Stale(1))),
+        (sleep(0, 0), Err(Refusal::Stale(1))),
         (sleep(0, 1), DONE),
         (wake(0), sent_to(0, 2, 0, 2, 0)),
     ];
@@ -73,7 +72,7 @@ fn the_dead_are_not_woken(rt: HostRuntime) -> Result<(), Fail> {
         (create(0, 3, true), sent(0, 1, 0, 1)),
         (commit(0, 0, 1), DONE),
         (die(0, 5), sent(0, 2, 0, 2)),
-        (wake(0), Err(KernelFault::Dead)),
+        (wake(0), Err(Refusal::Dead)),
     ];
     let wrong = first_wrong(rt.alloc(), Profile::One, SMALL, &rows)?;
     assert_eq!(rt; wrong, None);
@@ -86,10 +85,10 @@ fn masks(rt: HostRuntime) -> Result<(), Fail> {
     let rows = [
         (create(0, 3, true), sent(0, 1, 0, 1)),
         (commit(0, 0, 1), DONE),
-        (set_affinity(0, 2), Err(KernelFault::OnForbiddenCpu)),
+        (set_affinity(0, 2), Err(Refusal::OnForbiddenCpu)),
         (preempt(0, 4), sent(0, 2, 0, 2)),
         (set_affinity(0, 2), sent(0, 3, 0, 3)),
-        (commit(0, 0, 3), Err(KernelFault::Forbidden)),
+        (commit(0, 0, 3), Err(Refusal::Forbidden)),
     ];
     let wrong = first_wrong(rt.alloc(), Profile::One, SMALL, &rows)?;
     assert_eq!(rt; wrong, None);
@@ -120,12 +119,12 @@ fn posts_are_spent_last(rt: HostRuntime) -> Result<(), Fail> {
     let rows = [
         (create(0, 1, false), sent(0, 1, 0, 1)),
         (wake(0), sent(0, 2, 0, 2)),
-        (tick(0), Err(KernelFault::PostsSpent)),
-        (create(0, 2, true), Err(KernelFault::MaskTooWide)),
-        (create(0, 0, true), Err(KernelFault::EmptyMask)),
-        (wake(0), Err(KernelFault::NotBlocked)),
-        (wake(1), Err(KernelFault::UnknownThread)),
-        (block(0, 1), Err(KernelFault::IdleCpu)),
+        (tick(0), Err(Refusal::PostsSpent)),
+        (create(0, 2, true), Err(Refusal::MaskTooWide)),
+        (create(0, 0, true), Err(Refusal::EmptyMask)),
+        (wake(0), Err(Refusal::NotBlocked)),
+        (wake(1), Err(Refusal::UnknownThread)),
+        (block(0, 1), Err(Refusal::IdleCpu)),
     ];
     let wrong = first_wrong(rt.alloc(), Profile::One, limits(1, 2, 9, 5, 2), &rows)?;
     assert_eq!(rt; wrong, None);
@@ -138,15 +137,15 @@ fn three_threads(rt: HostRuntime) -> Result<(), Fail> {
         (create(0, 3, true), sent(0, 1, 0, 1)),
         (create(0, 3, false), sent(1, 1, 0, 2)),
         (create(0, 3, true), sent(2, 1, 0, 3)),
-        (commit(0, 1, 3), Err(KernelFault::NotReady)),
+        (commit(0, 1, 3), Err(Refusal::NotReady)),
         (commit(0, 0, 3), DONE),
-        (commit(0, 0, 3), Err(KernelFault::Running(Cpu(0)))),
-        (commit(0, 2, 3), Err(KernelFault::Busy)),
-        (associate(0, 1, 1), Err(KernelFault::Pending)),
+        (commit(0, 0, 3), Err(Refusal::Running(Cpu(0)))),
+        (commit(0, 2, 3), Err(Refusal::Busy)),
+        (associate(0, 1, 1), Err(Refusal::Pending)),
         (consume(0, 3), DONE),
-        (associate(0, 1, 1), Err(KernelFault::Running(Cpu(0)))),
-        (associate(9, 1, 1), Err(KernelFault::UnknownThread)),
-        (associate(0, 2, 1), Err(KernelFault::BadCpu)),
+        (associate(0, 1, 1), Err(Refusal::Running(Cpu(0)))),
+        (associate(9, 1, 1), Err(Refusal::UnknownThread)),
+        (associate(0, 2, 1), Err(Refusal::BadCpu)),
     ];
     let wrong = first_wrong(rt.alloc(), Profile::One, SMALL, &rows)?;
     assert_eq!(rt; wrong, None);
@@ -183,13 +182,13 @@ fn priorities(rt: HostRuntime) -> Result<(), Fail> {
         (create(0, 3, true), sent(2, 1, 0, 3)),
         (set_priority(1, 5), sent(1, 2, 0, 4)),
         (set_priority(2, 5), sent(2, 2, 0, 5)),
-        (set_priority(0, 8), Err(KernelFault::BadLevel)),
-        (set_priority(9, 1), Err(KernelFault::UnknownThread)),
+        (set_priority(0, 8), Err(Refusal::BadLevel)),
+        (set_priority(9, 1), Err(Refusal::UnknownThread)),
         (consume(0, 5), DONE),
         (commit(0, 1, 5), DONE),
         (set_priority(1, 0), sent(1, 3, 0, 6)),
         (yield_now(0, 1), sent(1, 4, 0, 7)),
-        (commit(0, 1, 6), Err(KernelFault::Stale(7))),
+        (commit(0, 1, 6), Err(Refusal::Stale(7))),
         (commit(0, 2, 7), DONE),
     ];
     let wrong = first_wrong(rt.alloc(), Profile::One, SMALL, &rows)?;
@@ -206,9 +205,9 @@ fn the_widest_limits(rt: HostRuntime) -> Result<(), Fail> {
             create(63, 9_223_372_036_854_775_808, true),
             sent(0, 1, 63, 1),
         ),
-        (create(64, 1, true), Err(KernelFault::BadCpu)),
+        (create(64, 1, true), Err(Refusal::BadCpu)),
         (commit(63, 0, 1), DONE),
-        (set_affinity(0, 1), Err(KernelFault::OnForbiddenCpu)),
+        (set_affinity(0, 1), Err(Refusal::OnForbiddenCpu)),
         (
             set_affinity(0, 18_446_744_073_709_551_615),
             sent(0, 2, 63, 2),

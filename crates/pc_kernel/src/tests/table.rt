@@ -1,13 +1,13 @@
 //! Lists of calls beside the answers that are wanted.
 
-use crate::calls::{Answer, Call, EnvCall, Posted};
-use crate::fault::KernelFault;
-use crate::kernel::Kernel;
-use crate::limits::{Limits, LimitsFault, Profile};
+use crate::{
+    Answer, Call, CallFault, EnvCall, Kernel, Limits, LimitsFault, Posted, Profile, Refusal,
+};
 use pc_messages::{Cpu, Kind, Reported, Tid};
 use std::alloc::Global;
 
-pub(super) type Wanted = Result<Answer, KernelFault>;
+/// What a call is to answer, with ample memory.
+pub(super) type Wanted = Result<Answer, Refusal>;
 
 pub(super) const DONE: Wanted = Ok(Answer::Done);
 
@@ -162,11 +162,19 @@ pub(super) fn first_wrong(
 ) -> Result<Option<usize>, LimitsFault> {
     let mut kernel = Kernel::new_in(alloc, profile, limits)?;
     for (place, (call, wanted)) in rows.iter().enumerate() {
-        if kernel.apply(*call) != *wanted || !histories_report(&kernel) {
+        if kernel.apply(*call) != answered(wanted) || !histories_report(&kernel) {
             return Ok(Some(place));
         }
     }
     Ok(None)
+}
+
+/// The same, as `apply` says it.
+const fn answered(wanted: &Wanted) -> Result<Answer, CallFault> {
+    match *wanted {
+        Ok(answer) => Ok(answer),
+        Err(refusal) => Err(CallFault::Refused(refusal)),
+    }
 }
 
 /// Whether each thread's state is that of its history.

@@ -1,7 +1,7 @@
 use Rattle.std.proofs.Common.{arith}
 use Rattle.std.proofs.lemmas.List.{length_push}
 use Rattle.pc_kernel.proofs.Slots.{each_push}
-use Rattle.pc_kernel.specs.Entries.{fresh_cpu}
+use Rattle.pc_kernel.specs.Inner.Entries.{fresh_cpu}
 use Rattle.pc_kernel.proofs.cpus.fresh.Goals as goal
 
 pub loop-cpu-preserved : goal.loop-cpu-preserved

@@ -1,5 +1,5 @@
 use Rattle.std.proofs.Common.{◌≡◌, ℕ, ◌<◌, Some, length, slice_get}
-use Rattle.pc_kernel.specs.Entries.{fresh_cpu}
+use Rattle.pc_kernel.specs.Inner.Entries.{fresh_cpu}
 use Rattle.pc_kernel.proofs.cpus.fresh.Given as goal
 
 abbrev pub invariant-loop-cpu : goal.invariant-loop-cpu

@@ -2,10 +2,10 @@ use Rattle.std.proofs.Common.{◌≡◌, List, [], ◌++◌, refl, sym, ap, ◌�
 use Rattle.std.specs.List.{cons_option, filter_map}
 use Rattle.std.proofs.lemmas.List.{append-nil}
 use Rattle.pc_messages.specs.Run.{Extends}
-use Rattle.pc_kernel.specs.declared.calls.Call.{Call}
-use Rattle.pc_kernel.specs.declared.calls.EnvCall.{EnvCall}
-use Rattle.pc_kernel.specs.declared.calls.EnvCall.TheVariants.{Create, Wake, Block, YieldNow, Preempt, Die, SetAffinity, SetPriority, Tick}
-use Rattle.pc_kernel.specs.declared.calls.Call.TheVariants.{Env, Consume, Associate, Commit, Sleep, Rouse, Config}
+use Rattle.pc_calls.specs.declared.call.Call.{Call}
+use Rattle.pc_calls.specs.declared.call.EnvCall.{EnvCall}
+use Rattle.pc_calls.specs.declared.call.EnvCall.TheVariants.{Create, Wake, Block, YieldNow, Preempt, Die, SetAffinity, SetPriority, Tick}
+use Rattle.pc_calls.specs.declared.call.Call.TheVariants.{Env, Consume, Associate, Commit, Sleep, Rouse, Config}
 use Rattle.pc_kernel.specs.PlainKernel.{PlainKernel, Post, kinds, kind_in}
 use Rattle.pc_kernel.specs.Steps.{changed, posting}
 use Rattle.pc_kernel.proofs.Posting.{kinds-posted}

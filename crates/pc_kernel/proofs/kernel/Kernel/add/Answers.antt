@@ -1,9 +1,9 @@
 use Rattle.std.proofs.Common.{rules, ℕ, ◌≡◌, ◌<◌, ◌∷◌, [], ◌++◌, Some, sym, subst, length, List}
 use Rattle.pc_messages.specs.declared.message.Item.TheVariants as item
-use Rattle.pc_kernel.specs.declared.calls.Posted.{Posted}
-use Rattle.pc_kernel.specs.Entries.{rows, IsPosted}
+use Rattle.pc_calls.specs.declared.call.Posted.{Posted}
+use Rattle.pc_kernel.specs.Inner.Entries.{rows, IsPosted}
 use Rattle.pc_kernel.specs.Rows.{ThreadRow, KernelRows}
-use Rattle.pc_kernel.specs.Sends.{Sends, adding}
+use Rattle.pc_kernel.specs.Inner.Sends.{Sends, adding}
 use Rattle.pc_kernel.proofs.Grows.{are_targets}
 use Rattle.pc_kernel.proofs.Added.{kernel_added, added_sends, first_row}
 use Rattle.pc_kernel.proofs.kernel.Kernel.add.Goals as goal

@@ -1,5 +1,5 @@
 use Rattle.std.proofs.Common.{◌≡◌, ℕ, Option, Some, None, Ok, refl, sym, subst}
-use Rattle.pc_kernel.specs.declared.calls.Call.TheVariants.{Config}
+use Rattle.pc_calls.specs.declared.call.Call.TheVariants.{Config}
 use Rattle.pc_kernel.specs.Answers.{Steps, done}
 use Rattle.pc_kernel.specs.Reads.{seen}
 use Rattle.pc_kernel.specs.Steps.{refused, at}

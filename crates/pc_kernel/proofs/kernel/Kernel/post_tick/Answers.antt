@@ -1,7 +1,7 @@
 use Rattle.std.proofs.Common.{None, subst}
-use Rattle.pc_kernel.specs.Entries.{rows}
+use Rattle.pc_kernel.specs.Inner.Entries.{rows}
 use Rattle.pc_kernel.specs.Rows.{KernelRows}
-use Rattle.pc_kernel.specs.Sends.{Sends, ticking}
+use Rattle.pc_kernel.specs.Inner.Sends.{Sends, ticking}
 use Rattle.pc_kernel.proofs.Grows.{are_targets}
 use Rattle.pc_kernel.proofs.TickSent.{kernel_ticked, tick_sends}
 use Rattle.pc_kernel.proofs.kernel.Kernel.post_tick.Goals as goal

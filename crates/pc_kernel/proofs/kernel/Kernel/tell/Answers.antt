@@ -1,8 +1,8 @@
 use Rattle.std.proofs.Common.{◌≡◌, ◌<◌, ℕ, sym, subst, length, IfOk, slice_set}
-use Rattle.pc_kernel.specs.Entries.{rows}
+use Rattle.pc_kernel.specs.Inner.Entries.{rows}
 use Rattle.pc_kernel.specs.Reads.{seen, number, on}
 use Rattle.pc_kernel.specs.Rows.{KernelRows}
-use Rattle.pc_kernel.specs.Sends.{Sends}
+use Rattle.pc_kernel.specs.Inner.Sends.{Sends}
 use Rattle.pc_kernel.specs.Steps.{telling}
 use Rattle.pc_kernel.proofs.Grows.{are_targets}
 use Rattle.pc_kernel.proofs.Told.{kernel_tell, sends_tell, spare_of, on_told}

@@ -1,15 +1,15 @@
-use Rattle.std.proofs.Common.{sym, refl}
-use Rattle.pc_kernel.specs.declared.calls.Answer.TheVariants as answer
-use Rattle.pc_kernel.specs.declared.calls.Call.TheVariants.{Env}
-use Rattle.pc_kernel.specs.declared.calls.EnvCall.TheVariants.{Wake}
+use Rattle.std.proofs.Common.{sym}
+use Rattle.pc_calls.specs.declared.call.Answer.TheVariants as answer
+use Rattle.pc_calls.specs.declared.call.Call.TheVariants.{Env}
+use Rattle.pc_calls.specs.declared.call.EnvCall.TheVariants.{Wake}
 use Rattle.pc_kernel.proofs.Stepped.{refused_steps, out_of_memory_steps, sent_steps}
 use Rattle.pc_kernel.proofs.kernel.Kernel.wake.Goals as goal
 
 pub returns-in-Some-clause-step : goal.returns-in-Some-clause-step
-returns-in-Some-clause-step c = refused_steps answer.Posted (Env (Wake c.args.thread)) c.in-Some.fault c.args.self.now c.args.self.now (sym c.in-Some.ensures) refl
+returns-in-Some-clause-step c = rw c.into.ensures (refused_steps answer.Posted (Env (Wake c.args.thread)) c.in-Some.refusal c.args.self.now (sym c.in-Some.ensures))
 
 pub returns-in-Ok-clause-step : goal.returns-in-Ok-clause-step
 returns-in-Ok-clause-step c = sent_steps (Wake c.args.thread) c.in-Ok.posted c.args.self.now c.tell.new.self (sym c.in-None.ensures) c.in-Ok.ensures.ok
 
 pub returns-in-Err-clause-step : goal.returns-in-Err-clause-step
-returns-in-Err-clause-step c = out_of_memory_steps answer.Posted (Env (Wake c.args.thread)) c.args.self.now c.tell.new.self (sym c.in-None.ensures) c.in-Err.ensures.err
+returns-in-Err-clause-step c = out_of_memory_steps (Wake c.args.thread) c.args.self.now c.tell.new.self (sym c.in-None.ensures) c.in-Err.ensures.err

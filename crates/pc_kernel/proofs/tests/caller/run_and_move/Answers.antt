@@ -1,9 +1,9 @@
 use Rattle.std.proofs.Common.{true, [], ◌∷◌, Ok}
-use Rattle.pc_kernel.specs.declared.calls.Call.{Call}
-use Rattle.pc_kernel.specs.declared.calls.Call.TheVariants.{Env, Associate, Commit}
-use Rattle.pc_kernel.specs.declared.calls.EnvCall.TheVariants.{Create}
-use Rattle.pc_kernel.specs.declared.calls.Posted.{Posted}
-use Rattle.pc_kernel.specs.declared.calls.Answer.TheVariants as answer
+use Rattle.pc_calls.specs.declared.call.Call.{Call}
+use Rattle.pc_calls.specs.declared.call.Call.TheVariants.{Env, Associate, Commit}
+use Rattle.pc_calls.specs.declared.call.EnvCall.TheVariants.{Create}
+use Rattle.pc_calls.specs.declared.call.Posted.{Posted}
+use Rattle.pc_calls.specs.declared.call.Answer.TheVariants as answer
 use Rattle.pc_kernel.specs.Rows.{KernelRows}
 use Rattle.pc_kernel.specs.Answers.{Steps, StepsInMemory, Replays, done}
 use Rattle.pc_kernel.proofs.Answered.{accepts, accepts_plainly, refuses_plainly, replays_accepted, replays_refused, replays_then}

@@ -4,10 +4,10 @@ use Rattle.pc_messages.specs.State.{state_of, ran_of}
 use Rattle.pc_messages.specs.declared.kind.Kind.{Kind}
 use Rattle.pc_messages.specs.declared.message.Item.TheVariants as item
 use Rattle.pc_messages.specs.declared.reported.Reported.{Reported}
-use Rattle.pc_kernel.specs.declared.calls.Posted.{Posted}
+use Rattle.pc_calls.specs.declared.call.Posted.{Posted}
 use Rattle.pc_kernel.specs.declared.cpus.CpuEntry.{CpuEntry}
 use Rattle.pc_kernel.specs.declared.cpus.Landing.{Landing}
-use Rattle.pc_kernel.specs.Entries.{IsPosted}
+use Rattle.pc_kernel.specs.Inner.Entries.{IsPosted}
 use Rattle.pc_kernel.specs.Rows.{ThreadRow}
 
 -- the state kept is that of the kinds, and its numbers fit

@@ -1,13 +1,13 @@
 -- That a kernel has posted something, and answers for it; or that it has changed without a post.
 use Rattle.std.specs.Prelude.{ℕ, ◌≡◌, Result}
 use Rattle.pc_messages.specs.declared.kind.Kind.{Kind}
-use Rattle.pc_kernel.specs.declared.calls.EnvCall.TheVariants.{Tick}
-use Rattle.pc_kernel.specs.declared.calls.Posted.{Posted}
-use Rattle.pc_kernel.specs.declared.calls.Answer.TheVariants as answer
-use Rattle.pc_kernel.specs.declared.fault.KernelFault.{KernelFault}
+use Rattle.pc_calls.specs.declared.call.EnvCall.TheVariants.{Tick}
+use Rattle.pc_calls.specs.declared.call.Posted.{Posted}
+use Rattle.pc_calls.specs.declared.call.Answer.TheVariants as answer
+use Rattle.pc_calls.specs.declared.refusal.CallFault.{CallFault}
 use Rattle.pc_kernel.specs.PlainKernel.{PlainKernel, threads}
 use Rattle.pc_kernel.specs.Rows.{KernelRows}
-use Rattle.pc_kernel.specs.Limits.{first_of}
+use Rattle.pc_calls.specs.Conditions.{first_of}
 use Rattle.pc_kernel.specs.Reads.{shown}
 use Rattle.pc_kernel.specs.Steps.{Posting, posting, at, telling, leaving, posted, receipt, leave_refusals, reply_of, after_of}
 use Rattle.pc_kernel.specs.Answers.{Shows, RepliesInMemory}
@@ -30,7 +30,7 @@ abbrev pub Becomes : (PlainKernel → PlainKernel) → KernelRows → KernelRows
 Becomes change old new = (P : PlainKernel) → Shows old P → Shows new (change P)
 
 -- the thread on the CPU has left it with a message of this kind, or why not
-abbrev pub Leaves : ℕ → Kind → Result Posted KernelFault → KernelRows → KernelRows → Type 0
+abbrev pub Leaves : ℕ → Kind → Result Posted CallFault → KernelRows → KernelRows → Type 0
 Leaves cpu kind result old new =
     (P : PlainKernel) → Shows old P →
     let p = leaving P cpu kind in
