@@ -9,3 +9,5 @@ pub mod Useful
 pub mod Faultless
 pub mod Refusals
 pub mod Gathering
+pub mod Telling
+pub mod Wakeups

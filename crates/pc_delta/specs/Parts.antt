@@ -1,7 +1,9 @@
 -- Parts of a delta: the messages that they tell, and the runs that they are of.
-use Rattle.std.specs.Prelude.{ℕ, ◌≡◌, List, [], ◌∷◌, map, Some, All, flat_map}
-use Rattle.std.specs.List.{list_any, range_with_len}
+use Rattle.std.specs.Prelude.{ℕ, ◌≡◌, List, [], ◌∷◌, map, Option, Some, None, All, flat_map}
+use Rattle.std.specs.List.{list_any, range_with_len, filter_map}
 use Rattle.pc_messages.specs.Run.{Run, kind_at}
+use Rattle.pc_messages.specs.declared.message.Item.{Item}
+use Rattle.pc_messages.specs.declared.message.Item.TheVariants.{Thread, Tick}
 use Rattle.pc_join.specs.Sets.{Members}
 use Rattle.pc_view.specs.Views.{pair, prefix_pairs, IsPrefixOfRun}
 use Rattle.pc_delta.specs.declared.part.Part.{Part}
@@ -37,3 +39,12 @@ pairs_of_part (Folded thread upto reported) = map (λ number. (thread, number)) 
 -- the messages that the parts tell, as such pairs
 abbrev pub pairs_of_parts : List Part → List (ℕ × ℕ)
 pairs_of_parts parts = flat_map pairs_of_part parts
+
+-- the part that tells an item's message; a tick has none
+abbrev pub part_in : Item → Option Part
+part_in (Thread message) = Some (One message)
+part_in (Tick cpu) = None
+
+-- the parts that tell the messages of items, in order
+abbrev pub parts_in : List Item → List Part
+parts_in items = filter_map part_in items

@@ -1,13 +1,18 @@
 //! Deltas.
 
 ghost use Rattle.std.specs.Prelude.{ℕ, ◌≡◌, ◌↔◌, List, None, Some, IfOk};
+ghost use Rattle.pc_messages.specs.Run.{Run};
+ghost use Rattle.pc_messages.specs.Items.{AreItemsOf, AreTellable, pairs_in};
+ghost use Rattle.pc_join.specs.Sets.{IsSameSet, as_members};
+ghost use Rattle.pc_delta.specs.Parts.{AreOfRun, parts_in, set_of};
 ghost use Rattle.pc_delta.specs.Faults.{first_fault, IsLeastConflict, HasNoConflict};
 
 use crate::fault::DeltaFault;
-use crate::part::Part;
+use crate::part::{Part, parts_of};
 use crate::places::{first_fault_of, least_conflict};
 use pc_join::OutOfMemory;
-use pc_messages::Tid;
+use pc_messages::{Item, Tid};
+use std::alloc::Global;
 use std::marker::Model;
 
 /// What one agent tells another: parts, none of which has a fault (own). What parts of one kernel's run tell never
@@ -55,6 +60,19 @@ impl Delta {
             }),
             Err(OutOfMemory) => Err(DeltaFault::OutOfMemory),
         }
+    }
+
+    /// The delta that tells each message of these items, as a queue holds them: one part for each, in their order (own).
+    /// Nothing is left to test in what a kernel queued, so only want of memory can refuse it.
+    pub fn of_items(alloc: Global, items: &[Item]) -> Result<Delta, OutOfMemory>
+        requires tellable { AreTellable items.now }
+        ensures told { IfOk result (λ delta. delta ≡ parts_in items.now) }
+        ensures set { IfOk result (λ delta. IsSameSet (set_of delta) (as_members (pairs_in items.now))) }
+        ensures no_conflict { IfOk result (λ delta. HasNoConflict delta) }
+        ensures of_run { IfOk result (λ delta. (run : Run) → AreItemsOf run items.now → AreOfRun run delta) }
+    {
+        let parts = parts_of(alloc, items)?;
+        Ok(Delta { parts })
     }
 
     /// The parts, in the order in which they were given.

@@ -1,6 +1,11 @@
 //! Parts of a delta.
 
-use pc_messages::{Message, Reported, Tid};
+ghost use Rattle.std.specs.Prelude.{◌≡◌, IfOk};
+ghost use Rattle.pc_delta.specs.Parts.{parts_in};
+
+use pc_join::OutOfMemory;
+use pc_messages::{Item, Message, Reported, Tid};
+use std::alloc::Global;
 
 /// What one part of a delta tells (own).
 #[derive(Clone, Copy, Debug, PartialEq, Eq)]
@@ -13,4 +18,18 @@ pub enum Part {
         upto: u32,
         reported: Reported,
     },
+}
+
+/// The parts that tell each message of the items.
+pub(crate) fn parts_of(alloc: Global, items: &[Item]) -> Result<Vec<Part>, OutOfMemory>
+    ensures { IfOk result (λ parts. parts.items ≡ parts_in items.now) }
+{
+    let mut parts = Vec::with_capacity(alloc, items.len())?;
+    for item in items {
+        match item {
+            Item::Thread(message) => parts.push_reserved(Part::One(*message)),
+            Item::Tick(_) => {}
+        }
+    }
+    Ok(parts)
 }

@@ -4,12 +4,12 @@
 //! on that set and on the run that the messages are of (`specs/Views.antt`).
 #![tactic(auto)]
 
-mod audit;
+mod auditing;
 #[cfg(test)]
 mod tests;
 mod view;
 
-pub use audit::{Stranger, audit, complete};
+pub use auditing::{Stranger, audit, complete};
 pub use view::{
     View, equality_is_exact, reads_are_those_of_the_run, views_of_the_same_messages_are_equal,
     views_stay_as_the_run_goes_on,

@@ -1,6 +1,6 @@
 //! Messages of two threads, in other orders and divisions, with ample memory.
 
-use crate::audit::{Stranger, audit, complete};
+use crate::auditing::{Stranger, audit, complete};
 use crate::view::View;
 use pc_join::{Join, OutOfMemory};
 use pc_kernel::{Kernel, Limits, Posted};

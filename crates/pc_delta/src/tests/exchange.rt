@@ -1,12 +1,14 @@
 //! Views and digests that are exchanged.
 
+ghost use Rattle.std.specs.Prelude.{◌≡◌};
+
 use super::{
     Delta, Digest, Global, Kind, OutOfMemory, Part, View, created, delta, delta_since, folded, one,
     ready, take_all, take_in,
 };
 use crate::fault::DeltaFault;
 use pc_join::Join;
-use pc_messages::{Phase, Tid};
+use pc_messages::{Cpu, Item, Message, Phase, Tid};
 use std::test::Fail;
 
 fn joined<V: Join>(first: &V, other: &V) -> Result<V, OutOfMemory> {
@@ -187,5 +189,37 @@ fn a_delta_that_contradicts_a_view_is_safe(rt: HostRuntime) -> Result<(), Fail> 
     let thread = view.thread(Tid(0)).expect(&rt, "t0");
     assert_eq!(rt; thread.upto(), 2);
     assert_eq!(rt; thread.early().len(), 0);
+    Ok(())
+}
+
+// A wakeup, as a queue holds it.
+fn queued(thread: u32, number: u32) -> Item
+    ensures { result ≡ Item.Thread (record { thread = thread; number = number; kind = Kind.Wakeup }) }
+{
+    Item::Thread(Message {
+        thread: Tid(thread),
+        number,
+        kind: Kind::Wakeup,
+    })
+}
+
+#[test]
+fn a_delta_tells_each_queued_message(rt: HostRuntime) -> Result<(), Fail> {
+    let items = [
+        Item::Tick(Cpu(0)),
+        queued(1, 2),
+        Item::Tick(Cpu(0)),
+        queued(0, 3),
+        queued(1, 2),
+    ];
+    let told = Delta::of_items(rt.alloc(), &items)?;
+    let expected = [
+        one(1, 2, Kind::Wakeup),
+        one(0, 3, Kind::Wakeup),
+        one(1, 2, Kind::Wakeup),
+    ];
+    assert!(rt; told.parts() == expected.as_slice());
+    let none = Delta::of_items(rt.alloc(), &[Item::Tick(Cpu(0)), Item::Tick(Cpu(1))])?;
+    assert!(rt; none.parts().is_empty());
     Ok(())
 }

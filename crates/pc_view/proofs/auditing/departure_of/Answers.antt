@@ -1,7 +1,7 @@
 use Rattle.pc_kernel.specs.Reads.{seen, kinds}
 use Rattle.pc_view.proofs.Audits.{held_of, kinds_here, kinds_none}
 use Rattle.std.proofs.Common.{[]}
-use Rattle.pc_view.proofs.audit.departure_of.Goals as goal
+use Rattle.pc_view.proofs.auditing.departure_of.Goals as goal
 
 pub returns-in-Some-history-clause-of_thread : goal.returns-in-Some-history-clause-of_thread
 returns-in-Some-history-clause-of_thread c = λ e told there.

@@ -4,7 +4,7 @@ use Rattle.std.proofs.lemmas.List.{take_more, take_all}
 use Rattle.std.proofs.lemmas.List.Elements.{All-push}
 use Rattle.pc_view.specs.Audit.{Has}
 use Rattle.pc_view.proofs.Audits.{among_at}
-use Rattle.pc_view.proofs.audit.first_other.Goals as goal
+use Rattle.pc_view.proofs.auditing.first_other.Goals as goal
 
 pub loop-message-init : goal.loop-message-init
 loop-message-init c = λ k d less. absurd (let none : ⊥ = omega arith in none)

@@ -1,6 +1,6 @@
 use Rattle.std.proofs.Common.{All, take}
 use Rattle.pc_view.specs.Audit.{Has}
-use Rattle.pc_view.proofs.audit.first_other.Given as goal
+use Rattle.pc_view.proofs.auditing.first_other.Given as goal
 
 abbrev pub invariant-loop-message : goal.invariant-loop-message
 invariant-loop-message l = All (Has l.history) (take l.message-index l.early)

@@ -1,7 +1,7 @@
 use Rattle.std.proofs.Common.{◌-◌, ◌^◌}
 use Rattle.pc_kernel.specs.Reads.{seen, kinds}
 use Rattle.pc_view.proofs.Audits.{AreBelow}
-use Rattle.pc_view.proofs.audit.audit.Given as goal
+use Rattle.pc_view.proofs.auditing.audit.Given as goal
 
 abbrev pub invariant-names : goal.invariant-names
 invariant-names l = AreBelow (kinds (seen l.kernel)) l.view l.from

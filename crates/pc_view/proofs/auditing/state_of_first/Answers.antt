@@ -4,7 +4,7 @@ use Rattle.std.proofs.lemmas.List.Sums.{sum_by_more_le}
 use Rattle.pc_messages.specs.State.{state_of, ran_given, ran_of}
 use Rattle.pc_messages.proofs.States.{parts_of}
 use Rattle.pc_view.proofs.Audits.{first_taken}
-use Rattle.pc_view.proofs.audit.state_of_first.Goals as goal
+use Rattle.pc_view.proofs.auditing.state_of_first.Goals as goal
 
 pub loop-place-init : goal.loop-place-init
 loop-place-init c =

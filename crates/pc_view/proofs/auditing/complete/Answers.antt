@@ -2,7 +2,7 @@ use Rattle.std.proofs.Common.{sym, ◌≤◌, length, arith}
 use Rattle.std.proofs.lemmas.Bool.{false≢true}
 use Rattle.std.proofs.lemmas.Bool.Decides.{nat_tests}
 use Rattle.pc_view.proofs.Audits.{none_complete, reports_state}
-use Rattle.pc_view.proofs.audit.complete.Goals as goal
+use Rattle.pc_view.proofs.auditing.complete.Goals as goal
 
 pub returns-in-None-thread-clause-exact : goal.returns-in-None-thread-clause-exact
 returns-in-None-thread-clause-exact c = (λ e. absurd (false≢true e), λ h. absurd (none_complete c.args.kernel.now c.args.view.now c.args.thread c.is_sound.ensures (sym c.in-None-thread.ensures.value) h))

@@ -4,7 +4,7 @@ use Rattle.pc_kernel.specs.Reads.{seen, kinds}
 use Rattle.pc_thread_view.specs.Told.{Told}
 use Rattle.pc_view.specs.Views.{thread_of}
 use Rattle.pc_view.proofs.Audits.{AreBelow, IsOfHistories, short_not, all_below, all_short, below_next, below_on, departs_not}
-use Rattle.pc_view.proofs.audit.audit.Goals as goal
+use Rattle.pc_view.proofs.auditing.audit.Goals as goal
 
 pub names-init : goal.names-init
 names-init c = λ thread told less there. absurd (let none : ⊥ = omega arith in none)
