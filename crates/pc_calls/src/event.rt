@@ -95,10 +95,10 @@ pub enum Reply {
 
 impl Event {
     /// The call of the kernel that the event is; none of what an agent does with its view.
-    pub const fn call(self) -> Option<Call>
-        ensures { result ≡ call_of self }
+    pub const fn call(&self) -> Option<Call>
+        ensures { result ≡ call_of self.now }
     {
-        match self {
+        match *self {
             Event::Env(call) => Some(Call::Env(call)),
             Event::Associate {
                 thread,
@@ -126,11 +126,11 @@ impl Event {
 
 impl Event {
     /// Whether the world of today can do it: agents do not pick, steal and crash yet, and no send is refused.
-    pub const fn is_built(self) -> bool
-        ensures { IsTrue result ↔ IsBuilt self }
+    pub const fn is_built(&self) -> bool
+        ensures { IsTrue result ↔ IsBuilt self.now }
     {
         match self {
-            Event::Publish { fails, .. } => !fails,
+            Event::Publish { fails, .. } => !*fails,
             Event::Pick { .. } | Event::Steal { .. } | Event::Crash { .. } => false,
             Event::Env(_)
             | Event::Associate { .. }
@@ -147,8 +147,8 @@ impl Event {
 
 impl Call {
     /// What the call is replied where the kernel accepts it with this answer.
-    pub const fn reply(self, answer: Answer) -> Reply
-        ensures { result ≡ reply_to self answer }
+    pub const fn reply(&self, answer: Answer) -> Reply
+        ensures { result ≡ reply_to self.now answer }
     {
         match answer {
             Answer::Posted(posted) => Reply::Posted(posted),
@@ -157,10 +157,10 @@ impl Call {
     }
 
     /// What the call, where it has no answer of its own, is replied.
-    const fn done(self) -> Reply
-        ensures { result ≡ done_told self }
+    const fn done(&self) -> Reply
+        ensures { result ≡ done_told self.now }
     {
-        match self {
+        match *self {
             Call::Associate { thread, queue, .. } => Reply::Associated { thread, queue },
             Call::Commit { thread, cpu, .. } => Reply::Committed { thread, cpu },
             Call::Env(_)

@@ -8,17 +8,12 @@ use Rattle.pc_calls.specs.declared.refusal.Refusal.{Refusal}
 use Rattle.pc_calls.specs.declared.refusal.CallFault.{CallFault}
 use Rattle.pc_calls.specs.declared.refusal.CallFault.TheVariants.{Refused, OutOfMemory}
 use Rattle.pc_calls.specs.Events.{reply_to, told_of}
+use Rattle.pc_world.specs.Inner.Telling.{IsToldOf}
 use Rattle.pc_kernel.specs.Answers.{Shows, RepliesInMemory, StepsInMemory, itself}
 use Rattle.pc_kernel.specs.PlainKernel.{PlainKernel}
 use Rattle.pc_kernel.specs.Reads.{shown}
 use Rattle.pc_kernel.specs.Rows.{KernelRows}
 use Rattle.pc_kernel.specs.Steps.{reply, reply_of, after, after_of, refused, accepted, changed}
-
--- the reply tells what the kernel answered; none tells of want of memory
-abbrev pub IsToldOf : Call → Result Answer CallFault → Reply → Type 0
-IsToldOf call (Ok answer) told = told ≡ reply_to call answer
-IsToldOf call (Err (Refused r)) told = told ≡ replies.Refused r
-IsToldOf call (Err OutOfMemory) told = ⊥
 
 replied : (call : Call) (P Q : PlainKernel) (a : Answer) (o : Option Refusal) (answered : Result Answer CallFault) (old new : KernelRows) (told : Reply) → Shows old P
     → RepliesInMemory itself answered old new (reply_of o a) (after_of o Q P) → IsToldOf call answered told

@@ -25,7 +25,7 @@ use Rattle.pc_world.specs.declared.world.World.{World}
 use Rattle.pc_calls.specs.declared.refusal.Refusal.TheVariants as refusal
 use Rattle.pc_world.specs.Steps.{IsAnswering, IsAnswerSet, IsDelivered, IsDelivering, IsNewTo, are_cpus}
 use Rattle.pc_world.specs.PlainWorld.{PlainWorld, Set, delivered, sending}
-use Rattle.pc_world.specs.Shows.{AreSent, Does, ShowsAgent, ShowsWorld}
+use Rattle.pc_world.specs.Shows.{AreSent, Does, IsViewAt, ShowsAgent, ShowsWorld}
 use Rattle.pc_world.proofs.Acting.{at_same, at_other, cpu_there, match_true, one_agent, takes_in}
 use Rattle.pc_world.proofs.Consuming.{match_false, past_cpus}
 use Rattle.pc_world.proofs.Sent.{sent_at, sent_length, sent_more, sent_none}
@@ -162,3 +162,12 @@ answer_to_nobody world c asker none w h = (
   match_false (are_cpus w c asker) _ _ (second_missing (is_cpu (shown w.kernel) c) (is_cpu (shown w.kernel) asker) (past_cpus world w asker h none)) (record { refused = refl; same = refl }),
   h,
 )
+
+-- the view of an agent
+pub view_there : (world : World) (c : ℕ) (agent : Agent) → slice_get world.agents.items c ≡ Some agent → (w : PlainWorld) → ShowsWorld world w → IsViewAt w c (Some agent.view)
+view_there world c agent there w h =
+    let was = h.agents c agent there in
+    (agent_there world w c agent h there, was.view)
+
+pub view_nowhere : (world : World) (c : ℕ) → slice_get world.agents.items c ≡ None → (w : PlainWorld) → ShowsWorld world w → IsViewAt w c None
+view_nowhere world c none w h = past_cpus world w c h none

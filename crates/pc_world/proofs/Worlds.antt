@@ -18,7 +18,8 @@ use Rattle.pc_world.specs.PlainWorld.{opened}
 use Rattle.pc_world.specs.Steps.{IsCalled}
 use Rattle.pc_world.specs.Inner.Keeping.{KeepsRun}
 use Rattle.pc_world.specs.Shows.{AreSent, ShowsWorld, Does}
-use Rattle.pc_world.proofs.Calls.{IsToldOf, call_replied}
+use Rattle.pc_world.specs.Inner.Telling.{IsToldOf}
+use Rattle.pc_world.proofs.Calls.{call_replied}
 use Rattle.pc_world.proofs.Sent.{sent_stays}
 
 pub new_more : (n : ℕ) (agents : List Agent) (agent : Agent) → AreNew n agents → IsNew agent → AreNew (n + 1) (agents ++ agent ∷ [])

@@ -1,3 +1,4 @@
 pub mod Agents
 pub mod Keeping
 pub mod Sending
+pub mod Telling

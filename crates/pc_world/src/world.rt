@@ -9,9 +9,12 @@ ghost use Rattle.pc_kernel.specs.PlainKernel.{kinds};
 ghost use Rattle.pc_world.specs.PlainWorld.{PlainWorld, opened};
 ghost use Rattle.pc_world.specs.Steps.{IsAnswering, IsCalled, IsConsuming, IsDelivering, IsOwnStep, IsPublishing, Step};
 ghost use Rattle.pc_world.specs.Inner.Keeping.{KeepsRun};
+ghost use Rattle.pc_world.specs.Inner.Telling.{IsToldOf};
 
 use crate::agents::{Agent, new_agents};
-use pc_calls::{Call, CallFault, Event, LimitField, Limits, LimitsFault, Profile, Refusal, Reply};
+use pc_calls::{
+    Answer, Call, CallFault, Event, LimitField, Limits, LimitsFault, Profile, Refusal, Reply,
+};
 use pc_delta::laws::{parts_stay_as_the_run_goes_on, sets_are_pairs};
 use pc_delta::{Delta, Digest, delta_since, take_in};
 use pc_join::OutOfMemory;
@@ -42,6 +45,17 @@ fn calls_keep_the_run()
     calls_extend_the_run();
     views_stay_as_the_run_goes_on();
     parts_stay_as_the_run_goes_on();
+}
+
+/// What the kernel's answer to a call is replied.
+fn told(call: &Call, answered: Result<Answer, CallFault>) -> Result<Reply, OutOfMemory>
+    ensures { IfOk result (IsToldOf call.now answered) }
+{
+    match answered {
+        Ok(answer) => Ok(call.reply(answer)),
+        Err(CallFault::Refused(refusal)) => Ok(Reply::Refused(refusal)),
+        Err(CallFault::OutOfMemory) => Err(OutOfMemory),
+    }
 }
 
 impl World {
@@ -121,11 +135,19 @@ impl World {
         ensures { IfOk result (Does (λ w. IsOwnStep w event) self.old self.new) }
     {
         match event {
-            Event::Publish { cpu, fails: false } => self.publish(cpu),
+            Event::Publish { cpu, .. } => self.publish(cpu),
             Event::Consume { cpu } => self.consume(cpu),
             Event::Deliver { cpu, delta } => self.deliver(cpu, delta),
             Event::Answer { cpu, asker } => self.answer(cpu, asker),
-            _ => unreachable!(),
+            Event::Env(_)
+            | Event::Associate { .. }
+            | Event::Commit { .. }
+            | Event::Sleep { .. }
+            | Event::Rouse { .. }
+            | Event::Config { .. }
+            | Event::Pick { .. }
+            | Event::Steal { .. }
+            | Event::Crash { .. } => unreachable!(),
         }
     }
 
@@ -141,11 +163,8 @@ impl World {
         ensures { IfOk result (Does (λ w. IsCalled w call) self.old self.new) }
     {
         calls_keep_the_run();
-        match self.kernel.apply(call) {
-            Ok(answer) => Ok(call.reply(answer)),
-            Err(CallFault::Refused(refusal)) => Ok(Reply::Refused(refusal)),
-            Err(CallFault::OutOfMemory) => Err(OutOfMemory),
-        }
+        let answered = self.kernel.apply(call);
+        told(&call, answered)
     }
 
     /// The agent removes from its queue what it has sent.

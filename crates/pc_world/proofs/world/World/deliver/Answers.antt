@@ -14,8 +14,8 @@ returns-in-None c =
     let low : c.args.cpu < c.args.self.now.kernel.limits.cpus = omega (arith, c.index.ensures, c.cpus.ensures.count, c.if-index-cpus.false) in
     deliver_none c.args.self.now _ c.args.cpu c.args.index low (ap (λ l. slice_get l c.args.index) (sym c.deref.ensures.value) ∙ sym c.in-None.ensures) refl refl refl
 
-pub returns-in-Ok : goal.returns-in-Ok
-returns-in-Ok c =
+pub returns-in_ok-take_in-in-Some : goal.returns-in_ok-take_in-in-Some
+returns-in_ok-take_in-in-Some c =
     let low : c.args.cpu < c.args.self.now.kernel.limits.cpus = omega (arith, c.index.ensures, c.cpus.ensures.count, c.if-index-cpus.false) in
     let many : length c.args.self.now.agents.items ≡ c.args.self.now.kernel.limits.cpus = c.args.self.now.as_many in
     let place : c.index-in-Some.result ≡ c.args.cpu = c.index-in-Some.ensures in
@@ -23,4 +23,4 @@ returns-in-Ok c =
     let there = ap (slice_get c.args.self.now.agents.items) (sym place) ∙ item_at c.args.self.now.agents.items c.index-in-Some.result c.index_mut.result.now c.index_mut.result.now inside c.index_mut.ensures.value in
     let more : Agent = record { view = c.take_in.new.view; shown = c.index_mut.result.now.shown } in
     deliver_did c.args.self.now _ c.args.cpu c.args.index c.index_mut.result.now more c.in-Some.delta.now there
-    (ap (λ l. slice_get l c.args.index) (sym c.deref.ensures.value) ∙ sym c.in-Some.ensures) refl (ap (λ i. set c.args.self.now.agents.items i more) place) refl c.in-Ok.ensures.done refl
+    (ap (λ l. slice_get l c.args.index) (sym c.deref.ensures.value) ∙ sym c.in-Some.ensures) refl (ap (λ i. set c.args.self.now.agents.items i more) place) refl c.in_ok-take_in-in-Some.ensures.done refl
