@@ -11,8 +11,8 @@ use crate::reported::Phase;
 /// The most ticks that one message tells of.
 pub const MOST_TICKS: u32 = u32::MAX;
 
-/// What happened to a thread. The first eight are the ghOSt paper's messages of a thread (TIMER_TICK belongs to
-/// none, see [`crate::message::Item`]), the last is this project's own. `ran` is in ticks.
+/// What happened to a thread. The first seven are the ghOSt paper's messages of a thread (its eighth, TIMER_TICK,
+/// belongs to none, see [`crate::message::Item`]), the last is this project's own. `ran` is in ticks.
 ///
 /// The default is `Wakeup`, which carries nothing: short vectors of messages fill their unused places with it.
 #[derive(Clone, Copy, Debug, Default, PartialEq, Eq)]

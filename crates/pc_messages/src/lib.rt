@@ -1,6 +1,6 @@
 //! Messages of threads, and the state that they report.
 //!
-//! A thread's changes reach user space as messages of nine kinds. Each message carries the thread's name and
+//! A thread's changes reach user space as messages of eight kinds. Each message carries the thread's name and
 //! its sequence number (the ghOSt paper's Tseq): 1 for the first, one more for each further one. What a list of
 //! kinds reports of its thread is defined in `specs/State.antt`, and a run of many threads in `specs/Run.antt`.
 #![tactic(auto)]
