@@ -1,4 +1,4 @@
-use Rattle.pc_script.specs.Asked.{Spells, HasNoReply}
+use Rattle.pc_script.specs.Grammar.{Spells, HasNoReply}
 use Rattle.pc_script.specs.Text.{words}
 use Rattle.pc_script.proofs.Progress.{takes_nothing, takes_command}
 use Rattle.pc_script.proofs.line.take_line.Goals as goal

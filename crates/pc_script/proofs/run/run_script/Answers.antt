@@ -19,10 +19,10 @@ pub returns-clause-ok : goal.returns-clause-ok
 returns-clause-ok g c =
     let whole = c.as_slice.ensures.value in
     let opens = rw whole at c.in-Ok.ensures in
-    whole_told g.M.Machine.IsRun _ c.in_ok-text.text.items _ _ _ c.run_lines.result c.in_ok-text.ensures.ok opens c.in_ok-write_version.ensures.ok c.run_lines.ensures.ok
+    whole_told g.M.Machine.IsRun _ c.in_ok-text.text.items _ _ _ c.run_lines.result c.in_ok-text.ensures.ok opens c.in_ok-write_opening.ensures.ok c.run_lines.ensures.ok
 
 pub returns-clause-no_memory : goal.returns-clause-no_memory
 returns-clause-no_memory g c = λ is.
     let whole = c.as_slice.ensures.value in
     let opens = rw whole at c.in-Ok.ensures in
-    first_told g.M.Machine.IsRun _ c.in_ok-text.text.items _ _ _ c.in_ok-text.ensures.ok opens c.in_ok-write_version.ensures.ok (c.run_lines.ensures.no_memory is)
+    first_told g.M.Machine.IsRun _ c.in_ok-text.text.items _ _ _ c.in_ok-text.ensures.ok opens c.in_ok-write_opening.ensures.ok (c.run_lines.ensures.no_memory is)

@@ -1,7 +1,7 @@
 use Rattle.std.proofs.Common.{◌∷◌, decimal, take}
 use Rattle.std.specs.List.{flat_map}
 use Rattle.std.specs.Fmt.{HasWritten, IsPlainFormatter}
-use Rattle.pc_script.proofs.display.NumbersDisplay.fmt.Given as goal
+use Rattle.pc_script.proofs.display.EarlyNumbersDisplay.fmt.Given as goal
 
 abbrev pub invariant-loop-number : goal.invariant-loop-number
 invariant-loop-number g l =

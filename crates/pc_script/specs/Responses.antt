@@ -1,20 +1,20 @@
--- The texts of replies.
+-- The texts of responses.
 use Rattle.std.specs.Prelude.{ℕ, Bool, true, false, List, [], ◌∷◌, ◌++◌, Option, Some, None, flat_map, codes, decimal, ◌==◌, if◌then◌else◌}
-use Rattle.pc_script.specs.Asked.{thread_name}
-use Rattle.pc_script.specs.declared.reply.Limit.{Limit}
-use Rattle.pc_script.specs.declared.reply.Limit.TheVariants as limit
-use Rattle.pc_script.specs.declared.reply.Phase.{Phase}
-use Rattle.pc_script.specs.declared.reply.Phase.TheVariants as phase
-use Rattle.pc_script.specs.declared.reply.Posted.{Posted}
-use Rattle.pc_script.specs.declared.reply.Prefix.{Prefix}
-use Rattle.pc_script.specs.declared.reply.Refusal.{Refusal}
-use Rattle.pc_script.specs.declared.reply.Refusal.TheVariants as refusal
-use Rattle.pc_script.specs.declared.reply.Reply.{Reply}
-use Rattle.pc_script.specs.declared.reply.Reply.TheVariants as reply
-use Rattle.pc_script.specs.declared.reply.ShownThread.{ShownThread}
-use Rattle.pc_script.specs.declared.reply.Status.{Status}
-use Rattle.pc_script.specs.declared.reply.Subject.{Subject}
-use Rattle.pc_script.specs.declared.reply.Subject.TheVariants as subject
+use Rattle.pc_messages.specs.declared.reported.Phase.{Phase}
+use Rattle.pc_messages.specs.declared.reported.Phase.TheVariants as phase
+use Rattle.pc_messages.specs.declared.reported.Reported.{Reported}
+use Rattle.pc_calls.specs.declared.call.Posted.{Posted}
+use Rattle.pc_calls.specs.declared.call.Status.{Status}
+use Rattle.pc_calls.specs.declared.event.Reply.{Reply}
+use Rattle.pc_calls.specs.declared.event.Reply.TheVariants as reply
+use Rattle.pc_calls.specs.declared.limits.LimitField.{LimitField}
+use Rattle.pc_calls.specs.declared.limits.LimitField.TheVariants as limit
+use Rattle.pc_calls.specs.declared.refusal.Refusal.{Refusal}
+use Rattle.pc_calls.specs.declared.refusal.Refusal.TheVariants as refusal
+use Rattle.pc_script.specs.Grammar.{thread_name}
+use Rattle.pc_script.specs.declared.lists.ShownThread.{ShownThread}
+use Rattle.pc_script.specs.declared.response.Response.{Response}
+use Rattle.pc_script.specs.declared.response.Response.TheVariants as response
 
 -- a text, and a line feed
 abbrev pub text_line : List ℕ → List ℕ
@@ -26,7 +26,7 @@ number_or_dash None = codes "-"
 number_or_dash (Some number) = decimal number
 
 -- the names of limits
-abbrev pub limit_text : Limit → List ℕ
+abbrev pub limit_text : LimitField → List ℕ
 limit_text limit.Cpus = codes "cpus"
 limit_text limit.Threads = codes "threads"
 limit_text limit.Numbers = codes "numbers"
@@ -35,9 +35,6 @@ limit_text limit.Posts = codes "posts"
 
 -- the names of refusals, and the argument of those that have one
 abbrev pub refusal_text : Refusal → List ℕ
-refusal_text refusal.NoEnclave = codes "NoEnclave"
-refusal_text refusal.HaveEnclave = codes "HaveEnclave"
-refusal_text (refusal.BadLimits limit) = codes "BadLimits " ++ limit_text limit
 refusal_text refusal.BadCpu = codes "BadCpu"
 refusal_text refusal.EmptyMask = codes "EmptyMask"
 refusal_text refusal.MaskTooWide = codes "MaskTooWide"
@@ -52,13 +49,13 @@ refusal_text refusal.NotBlocked = codes "NotBlocked"
 refusal_text refusal.NotReady = codes "NotReady"
 refusal_text refusal.IdleCpu = codes "IdleCpu"
 refusal_text refusal.OnForbiddenCpu = codes "OnForbiddenCpu"
-refusal_text refusal.Forbidden = codes "Forbidden"
-refusal_text refusal.Busy = codes "Busy"
-refusal_text (refusal.Running cpu) = codes "Running " ++ decimal cpu
-refusal_text (refusal.NotYours queue) = codes "NotYours " ++ decimal queue
+refusal_text refusal.TooMany = codes "TooMany"
 refusal_text (refusal.Stale now) = codes "Stale " ++ decimal now
 refusal_text refusal.Pending = codes "Pending"
-refusal_text refusal.TooMany = codes "TooMany"
+refusal_text (refusal.Running cpu) = codes "Running " ++ decimal cpu
+refusal_text (refusal.NotYours queue) = codes "NotYours " ++ decimal queue
+refusal_text refusal.Forbidden = codes "Forbidden"
+refusal_text refusal.Busy = codes "Busy"
 refusal_text refusal.NoDelta = codes "NoDelta"
 refusal_text refusal.NothingReady = codes "NothingReady"
 refusal_text refusal.NothingToSteal = codes "NothingToSteal"
@@ -70,15 +67,16 @@ phase_text phase.Ready = codes "ready"
 phase_text phase.Blocked = codes "blocked"
 phase_text phase.Dead = codes "dead"
 
--- whose item was posted, and its number: `tN nN`, or `-` for a tick
-abbrev pub subject_text : Subject → List ℕ
-subject_text (subject.Message thread number) = thread_name thread ++ (codes " n" ++ decimal number)
-subject_text subject.Tick = codes "-"
+-- whose item was posted, and its number: `tN nN`, or `-` for a tick, which has neither (no item has one of the two)
+abbrev pub subject_text : Option ℕ → Option ℕ → List ℕ
+subject_text (Some thread) (Some number) = thread_name thread ++ (codes " n" ++ decimal number)
+subject_text (Some thread) None = codes "-"
+subject_text None number = codes "-"
 
 -- `T nN qQ aA wake W`
 abbrev pub posted_text : Posted → List ℕ
 posted_text posted =
-    subject_text posted.subject
+    subject_text posted.thread posted.number
     ++ (codes " q" ++ (decimal posted.queue ++ (codes " a" ++ (decimal posted.aseq ++ (codes " wake " ++ number_or_dash posted.woken)))))
 
 -- where a thread runs: ` cC`, or nothing
@@ -87,10 +85,9 @@ running_text None = []
 running_text (Some cpu) = codes " c" ++ decimal cpu
 
 -- `T nN PHASE`, and where the thread runs
-abbrev pub status_text : Status → List ℕ
-status_text status =
-    thread_name status.thread
-    ++ (codes " n" ++ (decimal status.number ++ (codes " " ++ (phase_text status.phase ++ running_text status.running_on))))
+abbrev pub status_text : ℕ → Status → Phase → List ℕ
+status_text thread status phase =
+    thread_name thread ++ (codes " n" ++ (decimal status.number ++ (codes " " ++ (phase_text phase ++ running_text status.running_on))))
 
 -- `yes` or `no`
 abbrev pub truth_text : Bool → List ℕ
@@ -106,38 +103,48 @@ sameness_text false = codes "differ"
 abbrev pub level_text : ℕ → List ℕ
 level_text level = if level == 0 then [] else codes " level " ++ decimal level
 
--- `P PHASE mask M ran R`, and the level; `0 -` where the first message isn't known
-abbrev pub prefix_text : Option Prefix → List ℕ
-prefix_text None = codes "0 -"
-prefix_text (Some prefix) =
-    decimal prefix.upto
-    ++ (codes " " ++ (phase_text prefix.phase ++ (codes " mask " ++ (decimal prefix.mask ++ (codes " ran " ++ (decimal prefix.ran ++ level_text prefix.level))))))
+-- `PHASE mask M ran R`, and the level; `-` where the first message isn't known
+abbrev pub reported_text : Option Reported → List ℕ
+reported_text None = codes "-"
+reported_text (Some reported) =
+    phase_text reported.phase
+    ++ (codes " mask " ++ (decimal reported.mask ++ (codes " ran " ++ (decimal reported.ran ++ level_text reported.level))))
 
 -- numbers with a space between them, or `-`
 abbrev pub numbers_text : List ℕ → List ℕ
 numbers_text [] = codes "-"
 numbers_text (first ∷ others) = decimal first ++ flat_map (λ number. 32 ∷ decimal number) others
 
--- `T upto PREFIX early NUMBERS`
+-- `T upto P REPORTED early NUMBERS`
 abbrev pub shown_text : ShownThread → List ℕ
 shown_text shown =
-    thread_name shown.thread ++ (codes " upto " ++ (prefix_text shown.prefix ++ (codes " early " ++ numbers_text shown.early)))
+    thread_name shown.thread
+    ++ (codes " upto " ++ (decimal shown.upto ++ (codes " " ++ (reported_text shown.reported ++ (codes " early " ++ numbers_text shown.early)))))
 
 -- a line for each thread
 abbrev pub shown_lines : List ShownThread → List ℕ
 shown_lines threads = flat_map (λ shown. text_line (shown_text shown)) threads
 
--- the text of a reply, without the line feed at its end
+-- what an event is replied
 abbrev pub reply_text : Reply → List ℕ
 reply_text reply.Done = codes "ok"
 reply_text (reply.Posted posted) = codes "ok " ++ posted_text posted
-reply_text (reply.Published delta items) = codes "ok d" ++ (decimal delta ++ (codes " items " ++ decimal items))
-reply_text (reply.Answered delta) = codes "ok d" ++ decimal delta
 reply_text (reply.Associated thread queue) = codes "ok " ++ (thread_name thread ++ (codes " q" ++ decimal queue))
 reply_text (reply.Committed thread cpu) = codes "ok " ++ (thread_name thread ++ (codes " c" ++ decimal cpu))
+reply_text (reply.Published delta items) = codes "ok d" ++ (decimal delta ++ (codes " items " ++ decimal items))
 reply_text (reply.Consumed items) = codes "ok " ++ decimal items
-reply_text (reply.Status status) = status_text status
-reply_text (reply.Truth truth) = truth_text truth
-reply_text (reply.Sameness equal) = sameness_text equal
-reply_text (reply.View threads) = shown_lines threads ++ codes "end"
+reply_text (reply.Answered delta) = codes "ok d" ++ decimal delta
 reply_text (reply.Refused refusal) = codes "refused " ++ refusal_text refusal
+
+-- the text of a response, without the line feed at its end
+abbrev pub response_text : Response → List ℕ
+response_text response.Opened = codes "ok"
+response_text response.NoEnclave = codes "refused NoEnclave"
+response_text response.HaveEnclave = codes "refused HaveEnclave"
+response_text (response.BadLimits limit) = codes "refused BadLimits " ++ limit_text limit
+response_text (response.Event reply) = reply_text reply
+response_text (response.Status thread status phase) = status_text thread status phase
+response_text (response.Truth truth) = truth_text truth
+response_text (response.Sameness equal) = sameness_text equal
+response_text (response.View threads) = shown_lines threads ++ codes "end"
+response_text (response.Refused refusal) = codes "refused " ++ refusal_text refusal

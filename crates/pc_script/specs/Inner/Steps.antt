@@ -1,8 +1,9 @@
 -- What one line of a script does.
 use Rattle.std.specs.Prelude.{ℕ, List, [], ◌∷◌, ◌++◌, Option, take}
 use Rattle.std.specs.Io.KnownBytes.{Appends}
-use Rattle.pc_script.specs.Asked.{Spells, HasNoReply, IsFault}
-use Rattle.pc_script.specs.Scripts.{Script, IsTold, replies_text}
+use Rattle.pc_calls.specs.declared.limits.Profile.{Profile}
+use Rattle.pc_script.specs.Grammar.{Spells, HasNoReply, IsFault}
+use Rattle.pc_script.specs.Scripts.{Script, IsTold, responses_text}
 use Rattle.pc_script.specs.Text.{words}
 use Rattle.pc_script.specs.declared.command.Command.{Command}
 use Rattle.pc_script.specs.declared.line.Wish.{Wish}
@@ -10,8 +11,7 @@ use Rattle.pc_script.specs.declared.line.Wish.TheVariants as wish
 use Rattle.pc_script.specs.declared.opening.Opener.{Opener}
 use Rattle.pc_script.specs.declared.opening.Opener.TheVariants as opener
 use Rattle.pc_script.specs.declared.outcome.Outcome.TheVariants.{Finished}
-use Rattle.pc_script.specs.declared.reply.Reply.{Reply}
-use Rattle.pc_script.specs.declared.version.Version.{Version}
+use Rattle.pc_script.specs.declared.response.Response.{Response}
 use Rattle.pc_script.specs.Versions.{IsVersionTwo}
 
 -- what a line asks for
@@ -27,13 +27,13 @@ IsOpener line opener.Two = IsVersionTwo line
 IsOpener line opener.Other = (HasNoReply line → ⊥) × (IsVersionTwo line → ⊥)
 
 -- The machine took what the line asks for, if anything, and the reply was written
-pub record TakesLine {M : Type 0} (StandsAfter : Version → M → List Command → List Reply → Type 0) (line : List ℕ) (old new : M) (before after : Option (List ℕ)) : Type 0 where
+pub record TakesLine {M : Type 0} (StandsAfter : Profile → M → List Command → List Response → Type 0) (line : List ℕ) (old new : M) (before after : Option (List ℕ)) : Type 0 where
   pub commands : List Command
-  pub replies : List Reply
+  pub responses : List Response
   pub asks : Script 1 (line ∷ []) commands Finished
-  pub stands : (version : Version) (past : List Command) (told : List Reply) → StandsAfter version old past told → StandsAfter version new (past ++ commands) (told ++ replies)
-  pub text : Appends before after (replies_text replies)
+  pub stands : (profile : Profile) (past : List Command) (told : List Response) → StandsAfter profile old past told → StandsAfter profile new (past ++ commands) (told ++ responses)
+  pub text : Appends before after (responses_text responses)
 
 -- what is told of the first of some lines, of which the first has this number
-abbrev pub IsToldOfFirstLines : (List Command → List Reply → Type 0) → ℕ → List (List ℕ) → List ℕ → Type 0
+abbrev pub IsToldOfFirstLines : (List Command → List Response → Type 0) → ℕ → List (List ℕ) → List ℕ → Type 0
 IsToldOfFirstLines IsRun number script told = (count : ℕ) × IsTold IsRun number (take count script) Finished told
