@@ -1,22 +1,28 @@
 //! Numbers of a script's words.
 
-ghost use Rattle.std.specs.Prelude.{◌≡◌, ℕ, ◌<◌, ◌^◌, MatchOption, decimal};
+ghost use Rattle.std.specs.Prelude.{◌≡◌, ℕ, ◌<◌, ◌^◌, ◌↔◌, IsTrue, MatchOption, decimal, length, slice_index};
 
-/// The number that this word is in decimal, with neither a sign nor a needless zero in front.
+/// Whether a word is not empty, and has no needless zero in front.
+fn is_plain(word: &[u8]) -> bool
+    ensures { IsTrue result ↔ ((0 < length word.now) × (slice_index word.now 0 ≡ 48 → length word.now ≡ 1)) }
+{
+    !word.is_empty() && (word[0] != b'0' || word.len() == 1)
+}
+
+/// The number that this word is in decimal, with neither a sign nor a zero in front.
 pub(crate) fn number(word: &[u8]) -> Option<u64>
     ensures { MatchOption result ((n : ℕ) → n < 2 ^ 64 → word.now ≡ decimal n → ⊥) (λ n. (n < 2 ^ 64) × (word.now ≡ decimal n)) }
 {
-    let first = *word.first()?;
-    if first == b'0' && word.len() > 1 {
+    if !is_plain(word) {
         return None;
     }
     let mut value = 0u64;
     for byte in word {
-        let byte = *byte;
-        if byte < b'0' || b'9' < byte {
+        if !byte.is_ascii_digit() {
             return None;
         }
-        value = value.checked_mul(10)?.checked_add((byte - b'0') as u64)?;
+        let digit = u64::from(*byte - b'0');
+        value = value.checked_mul(10)?.checked_add(digit)?;
     }
     Some(value)
 }

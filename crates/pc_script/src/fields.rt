@@ -238,10 +238,13 @@ impl Arguments for Failure {
         let Some((word, rest)) = first_word(text) else {
             return Some(Failure(false));
         };
-        if word != b"fail".as_slice() || first_word(rest).is_some() {
+        if word != b"fail".as_slice() {
             return None;
         }
-        Some(Failure(true))
+        match first_word(rest) {
+            None => Some(Failure(true)),
+            Some(_) => None,
+        }
     }
 }
 
