@@ -1,6 +1,5 @@
 pub mod Numerals
 pub mod Openings
 pub mod Progress
-pub mod Readings
-pub mod Spellings
 pub mod Splits
+pub mod Spellings

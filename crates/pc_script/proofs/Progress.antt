@@ -3,37 +3,37 @@ use Rattle.std.proofs.Common.{◌≡◌, ℕ, suc, ◌+◌, List, [], ◌∷◌,
 use Rattle.std.specs.Io.KnownBytes.{Appends}
 use Rattle.std.proofs.KnownBytes.{Appends-nil, Appends-trans}
 use Rattle.std.proofs.lemmas.Grind.{flat_map-append}
-use Rattle.pc_script.specs.Asked.{Spells, HasNoReply, IsFault}
-use Rattle.pc_script.specs.Replies.{reply_text, text_line}
-use Rattle.pc_script.specs.Scripts.{Script, at_end, no_reply, command, fault, replies_text, outcome_text, IsTold}
-use Rattle.pc_script.specs.Steps.{TakesLine, IsToldOfFirstLines}
+use Rattle.pc_script.specs.Grammar.{Spells, HasNoReply, IsFault}
+use Rattle.pc_script.specs.Responses.{response_text, text_line}
+use Rattle.pc_script.specs.Scripts.{Script, at_end, no_reply, command, fault, responses_text, outcome_text, IsTold}
+use Rattle.pc_script.specs.Inner.Steps.{TakesLine, IsToldOfFirstLines}
 use Rattle.pc_script.specs.Text.{words}
 use Rattle.pc_script.specs.declared.command.Command.{Command}
 use Rattle.pc_script.specs.declared.outcome.Outcome.{Outcome}
 use Rattle.pc_script.specs.declared.outcome.Outcome.TheVariants.{Finished, FaultLine}
 use Rattle.pc_script.specs.declared.outcome.ScriptFault.{ScriptFault}
-use Rattle.pc_script.specs.declared.reply.Reply.{Reply}
-use Rattle.pc_script.specs.declared.version.Version.{Version}
+use Rattle.pc_script.specs.declared.response.Response.{Response}
+use Rattle.pc_calls.specs.declared.limits.Profile.{Profile}
 
 -- ---- one line
 
-pub takes_nothing : {M : Type 0} (StandsAfter : Version → M → List Command → List Reply → Type 0) (line : List ℕ) (machine : M) (known : Option (List ℕ))
+pub takes_nothing : {M : Type 0} (StandsAfter : Profile → M → List Command → List Response → Type 0) (line : List ℕ) (machine : M) (known : Option (List ℕ))
     → HasNoReply line → TakesLine StandsAfter line machine machine known known
 takes_nothing StandsAfter line machine known silent = record {
   commands = [];
-  replies = [];
+  responses = [];
   asks = no_reply silent at_end;
-  stands = λ version past told h. rw (append-nil past, append-nil told) h;
+  stands = λ profile past told h. rw (append-nil past, append-nil told) h;
   text = Appends-nil known;
 }
 
-pub takes_command : {M : Type 0} (StandsAfter : Version → M → List Command → List Reply → Type 0) (line : List ℕ) (old new : M) (before after : Option (List ℕ)) (asked : Command) (reply : Reply)
+pub takes_command : {M : Type 0} (StandsAfter : Profile → M → List Command → List Response → Type 0) (line : List ℕ) (old new : M) (before after : Option (List ℕ)) (asked : Command) (response : Response)
     → Spells (words line) asked
-    → ((version : Version) (commands : List Command) (replies : List Reply) → StandsAfter version old commands replies → StandsAfter version new (commands ++ asked ∷ []) (replies ++ reply ∷ []))
-    → Appends before after (text_line (reply_text reply)) → TakesLine StandsAfter line old new before after
-takes_command StandsAfter line old new before after asked reply spelled stands written = record {
+    → ((profile : Profile) (commands : List Command) (responses : List Response) → StandsAfter profile old commands responses → StandsAfter profile new (commands ++ asked ∷ []) (responses ++ response ∷ []))
+    → Appends before after (text_line (response_text response)) → TakesLine StandsAfter line old new before after
+takes_command StandsAfter line old new before after asked response spelled stands written = record {
   commands = asked ∷ [];
-  replies = reply ∷ [];
+  responses = response ∷ [];
   asks = command spelled at_end;
   stands = stands;
   text = rw append-nil written;
@@ -62,59 +62,59 @@ Script-append (no_reply h more) e after = no_reply h (Script-append more e (Scri
 Script-append (command h more) e after = command h (Script-append more e (Script-at after (omega arith)))
 Script-append (fault h) e after = cc
 
--- The first lines were taken and their replies were written, by this machine
-pub record HasRun {M : Type 0} (StandsAfter : M → List Command → List Reply → Type 0) (number : ℕ) (script : List (List ℕ)) (machine : M) (before now : Option (List ℕ)) : Type 0 where
+-- The first lines were taken and their responses were written, by this machine
+pub record HasRun {M : Type 0} (StandsAfter : M → List Command → List Response → Type 0) (number : ℕ) (script : List (List ℕ)) (machine : M) (before now : Option (List ℕ)) : Type 0 where
   pub commands : List Command
-  pub replies : List Reply
+  pub responses : List Response
   pub asks : Script number script commands Finished
-  pub stands : StandsAfter machine commands replies
-  pub text : Appends before now (replies_text replies)
+  pub stands : StandsAfter machine commands responses
+  pub text : Appends before now (responses_text responses)
 
-pub HasRun-none : {M : Type 0} (StandsAfter : M → List Command → List Reply → Type 0) (number : ℕ) (machine : M) (known : Option (List ℕ))
+pub HasRun-none : {M : Type 0} (StandsAfter : M → List Command → List Response → Type 0) (number : ℕ) (machine : M) (known : Option (List ℕ))
     → StandsAfter machine [] [] → HasRun StandsAfter number [] machine known known
-HasRun-none StandsAfter number machine known h = record { commands = []; replies = []; asks = at_end; stands = h; text = Appends-nil known }
+HasRun-none StandsAfter number machine known h = record { commands = []; responses = []; asks = at_end; stands = h; text = Appends-nil known }
 
-pub HasRun-more : {M : Type 0} {StandsAfter : Version → M → List Command → List Reply → Type 0} (version : Version) {number : ℕ} {script : List (List ℕ)} {line : List ℕ} {old new : M} {before now after : Option (List ℕ)}
-    → HasRun (StandsAfter version) number script old before now → TakesLine StandsAfter line old new now after
-    → HasRun (StandsAfter version) number (script ++ line ∷ []) new before after
-HasRun-more version {number} {script} {before} {now} {after} ran taken = record {
+pub HasRun-more : {M : Type 0} {StandsAfter : Profile → M → List Command → List Response → Type 0} (profile : Profile) {number : ℕ} {script : List (List ℕ)} {line : List ℕ} {old new : M} {before now after : Option (List ℕ)}
+    → HasRun (StandsAfter profile) number script old before now → TakesLine StandsAfter line old new now after
+    → HasRun (StandsAfter profile) number (script ++ line ∷ []) new before after
+HasRun-more profile {number} {script} {before} {now} {after} ran taken = record {
   commands = ran.commands ++ taken.commands;
-  replies = ran.replies ++ taken.replies;
+  responses = ran.responses ++ taken.responses;
   asks = Script-append ran.asks refl (Script-renumbered (number + length script) taken.asks refl);
-  stands = taken.stands version ran.commands ran.replies ran.stands;
-  text = rw (flat_map-append (λ reply. text_line (reply_text reply)) ran.replies taken.replies) (Appends-trans before now after _ _ ran.text taken.text);
+  stands = taken.stands profile ran.commands ran.responses ran.stands;
+  text = rw (flat_map-append (λ response. text_line (response_text response)) ran.responses taken.responses) (Appends-trans before now after _ _ ran.text taken.text);
 }
 
 -- ---- what was written
 
 -- what was told of the first of some lines
-pub told_so_far : {M : Type 0} {StandsAfter : M → List Command → List Reply → Type 0} (IsRun : List Command → List Reply → Type 0) (all : List (List ℕ)) (count : ℕ) {number : ℕ} {script : List (List ℕ)} {machine : M} {before now : Option (List ℕ)}
-    → ((m : M) (commands : List Command) (replies : List Reply) → StandsAfter m commands replies → IsRun commands replies)
+pub told_so_far : {M : Type 0} {StandsAfter : M → List Command → List Response → Type 0} (IsRun : List Command → List Response → Type 0) (all : List (List ℕ)) (count : ℕ) {number : ℕ} {script : List (List ℕ)} {machine : M} {before now : Option (List ℕ)}
+    → ((m : M) (commands : List Command) (responses : List Response) → StandsAfter m commands responses → IsRun commands responses)
     → script ≡ take count all → HasRun StandsAfter number script machine before now
     → (told : List ℕ) × IsToldOfFirstLines IsRun number all told × Appends before now told
 told_so_far IsRun all count {number} {machine} law is ran =
     let asks = subst (λ s. Script number s ran.commands Finished) is ran.asks in (
-      replies_text ran.replies,
-      (count, record { commands = ran.commands; replies = ran.replies; asks = asks; run = law machine ran.commands ran.replies ran.stands; text = sym (append-nil (replies_text ran.replies)) }),
+      responses_text ran.responses,
+      (count, record { commands = ran.commands; responses = ran.responses; asks = asks; run = law machine ran.commands ran.responses ran.stands; text = sym (append-nil (responses_text ran.responses)) }),
       ran.text,
     )
 
 -- what was told of all of them
-pub told_at_end : {M : Type 0} {StandsAfter : M → List Command → List Reply → Type 0} (IsRun : List Command → List Reply → Type 0) (all : List (List ℕ)) {number : ℕ} {script : List (List ℕ)} {machine : M} {before now : Option (List ℕ)}
-    → ((m : M) (commands : List Command) (replies : List Reply) → StandsAfter m commands replies → IsRun commands replies)
+pub told_at_end : {M : Type 0} {StandsAfter : M → List Command → List Response → Type 0} (IsRun : List Command → List Response → Type 0) (all : List (List ℕ)) {number : ℕ} {script : List (List ℕ)} {machine : M} {before now : Option (List ℕ)}
+    → ((m : M) (commands : List Command) (responses : List Response) → StandsAfter m commands responses → IsRun commands responses)
     → script ≡ all → HasRun StandsAfter number script machine before now
     → (told : List ℕ) × IsTold IsRun number all Finished told × Appends before now told
 told_at_end IsRun all {number} {machine} law is ran =
     let asks = subst (λ s. Script number s ran.commands Finished) is ran.asks in (
-      replies_text ran.replies,
-      record { commands = ran.commands; replies = ran.replies; asks = asks; run = law machine ran.commands ran.replies ran.stands; text = sym (append-nil (replies_text ran.replies)) },
+      responses_text ran.responses,
+      record { commands = ran.commands; responses = ran.responses; asks = asks; run = law machine ran.commands ran.responses ran.stands; text = sym (append-nil (responses_text ran.responses)) },
       ran.text,
     )
 
 -- what was told of them up to a fault
-told_up_to_fault : {M : Type 0} {StandsAfter : M → List Command → List Reply → Type 0} (IsRun : List Command → List Reply → Type 0) (all : List (List ℕ)) {number : ℕ} {script : List (List ℕ)} {machine : M} {before now : Option (List ℕ)}
+told_up_to_fault : {M : Type 0} {StandsAfter : M → List Command → List Response → Type 0} (IsRun : List Command → List Response → Type 0) (all : List (List ℕ)) {number : ℕ} {script : List (List ℕ)} {machine : M} {before now : Option (List ℕ)}
     (after : Option (List ℕ)) (line : List ℕ) (others : List (List ℕ)) (here : ℕ)
-    → ((m : M) (commands : List Command) (replies : List Reply) → StandsAfter m commands replies → IsRun commands replies)
+    → ((m : M) (commands : List Command) (responses : List Response) → StandsAfter m commands responses → IsRun commands responses)
     → script ++ line ∷ others ≡ all → HasRun StandsAfter number script machine before now → IsFault line → here ≡ number + length script
     → Appends now after (outcome_text (FaultLine here))
     → (told : List ℕ) × IsTold IsRun number all (FaultLine here) told × Appends before after told
@@ -122,15 +122,15 @@ told_up_to_fault IsRun all {number} {script} {machine} {before} {now} after line
     let stop : Script (number + length script) (line ∷ others) [] (FaultLine here) = Script-at (fault bad) numbered in
     let whole = rw (append-nil ran.commands) at (Script-append ran.asks refl stop) in
     let asks = subst (λ s. Script number s ran.commands (FaultLine here)) is whole in (
-      replies_text ran.replies ++ outcome_text (FaultLine here),
-      record { commands = ran.commands; replies = ran.replies; asks = asks; run = law machine ran.commands ran.replies ran.stands; text = refl },
+      responses_text ran.responses ++ outcome_text (FaultLine here),
+      record { commands = ran.commands; responses = ran.responses; asks = asks; run = law machine ran.commands ran.responses ran.stands; text = refl },
       Appends-trans before now after _ _ ran.text written,
     )
 
 -- the same of the answer of the call that writes the fault
-pub told_at_fault : {M : Type 0} {StandsAfter : M → List Command → List Reply → Type 0} (IsRun : List Command → List Reply → Type 0) (all : List (List ℕ)) {number : ℕ} {script : List (List ℕ)} {machine : M} {before now : Option (List ℕ)}
+pub told_at_fault : {M : Type 0} {StandsAfter : M → List Command → List Response → Type 0} (IsRun : List Command → List Response → Type 0) (all : List (List ℕ)) {number : ℕ} {script : List (List ℕ)} {machine : M} {before now : Option (List ℕ)}
     (after : Option (List ℕ)) (line : List ℕ) (others : List (List ℕ)) (here : ℕ) (answer : Result Outcome ScriptFault)
-    → ((m : M) (commands : List Command) (replies : List Reply) → StandsAfter m commands replies → IsRun commands replies)
+    → ((m : M) (commands : List Command) (responses : List Response) → StandsAfter m commands responses → IsRun commands responses)
     → script ++ line ∷ others ≡ all → HasRun StandsAfter number script machine before now → IsFault line → here ≡ number + length script
     → IfOk answer (λ outcome. (outcome ≡ FaultLine here) × Appends now after (outcome_text (FaultLine here)))
     → IfOk answer (λ outcome. (told : List ℕ) × IsTold IsRun number all outcome told × Appends before after told)

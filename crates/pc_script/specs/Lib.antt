@@ -1,7 +1,6 @@
-pub mod Asked
-pub mod Left
-pub mod Replies
+pub mod Grammar
+pub mod Inner
+pub mod Responses
 pub mod Scripts
-pub mod Steps
 pub mod Text
 pub mod Versions

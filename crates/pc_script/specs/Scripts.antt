@@ -1,14 +1,14 @@
 -- What a script asks for, how it ends, and what is written.
 use Rattle.std.specs.Prelude.{◌≡◌, ℕ, suc, List, [], ◌∷◌, ◌++◌, flat_map, take, codes, decimal}
-use Rattle.pc_script.specs.Asked.{Spells, HasNoReply, IsFault}
-use Rattle.pc_script.specs.Replies.{reply_text, text_line}
+use Rattle.pc_calls.specs.declared.limits.Profile.{Profile}
+use Rattle.pc_script.specs.Grammar.{Spells, HasNoReply, IsFault}
+use Rattle.pc_script.specs.Responses.{response_text, text_line}
 use Rattle.pc_script.specs.Text.{lines, words}
 use Rattle.pc_script.specs.declared.command.Command.{Command}
 use Rattle.pc_script.specs.declared.outcome.Outcome.{Outcome}
 use Rattle.pc_script.specs.declared.outcome.Outcome.TheVariants.{Finished, FaultLine}
-use Rattle.pc_script.specs.declared.reply.Reply.{Reply}
-use Rattle.pc_script.specs.declared.version.Version.{Version}
-use Rattle.pc_script.specs.Versions.{Opens, version_text}
+use Rattle.pc_script.specs.declared.response.Response.{Response}
+use Rattle.pc_script.specs.Versions.{Opens, opening_text}
 
 -- Lines, of which the first has this number, ask for these commands, up to their end or to the first fault
 pub data Script : ℕ → List (List ℕ) → List Command → Outcome → Type 0 where
@@ -26,31 +26,31 @@ outcome_text Finished = []
 outcome_text (FaultLine number) = codes "fault line " ++ (decimal number ++ 10 ∷ [])
 
 -- a line for each reply
-abbrev pub replies_text : List Reply → List ℕ
-replies_text replies = flat_map (λ reply. text_line (reply_text reply)) replies
+abbrev pub responses_text : List Response → List ℕ
+responses_text responses = flat_map (λ response. text_line (response_text response)) responses
 
--- What is told of lines, of which the first has this number: the replies of some run over the commands that they ask for, and their fault
-pub record IsTold (IsRun : List Command → List Reply → Type 0) (number : ℕ) (script : List (List ℕ)) (outcome : Outcome) (told : List ℕ) : Type 0 where
+-- What is told of lines, of which the first has this number: the responses of some run over the commands that they ask for, and their fault
+pub record IsTold (IsRun : List Command → List Response → Type 0) (number : ℕ) (script : List (List ℕ)) (outcome : Outcome) (told : List ℕ) : Type 0 where
   pub commands : List Command
-  pub replies : List Reply
+  pub responses : List Response
   pub asks : Script number script commands outcome
-  pub run : IsRun commands replies
-  pub text : told ≡ replies_text replies ++ outcome_text outcome
+  pub run : IsRun commands responses
+  pub text : told ≡ responses_text responses ++ outcome_text outcome
 
 -- The output is the answer to the line that names the version, if there is one, and what is told of the rest in that version
-pub record IsOutputOf (IsRun : Version → List Command → List Reply → Type 0) (script : List (List ℕ)) (outcome : Outcome) (output : List ℕ) : Type 0 where
-  pub version : Version
+pub record IsOutputOf (IsRun : Profile → List Command → List Response → Type 0) (script : List (List ℕ)) (outcome : Outcome) (output : List ℕ) : Type 0 where
+  pub profile : Profile
   pub passed : ℕ
   pub rest : List (List ℕ)
   pub told : List ℕ
-  pub opens : Opens version passed rest script
-  pub tells : IsTold (IsRun version) (suc passed) rest outcome told
-  pub text : output ≡ version_text version ++ told
+  pub opens : Opens profile passed rest script
+  pub tells : IsTold (IsRun profile) (suc passed) rest outcome told
+  pub text : output ≡ opening_text profile ++ told
 
 -- a text's output
-abbrev pub IsOutput : (Version → List Command → List Reply → Type 0) → List ℕ → Outcome → List ℕ → Type 0
+abbrev pub IsOutput : (Profile → List Command → List Response → Type 0) → List ℕ → Outcome → List ℕ → Type 0
 IsOutput IsRun text outcome output = IsOutputOf IsRun (lines text) outcome output
 
--- the replies of a text's first lines
-abbrev pub IsOutputOfFirstLines : (Version → List Command → List Reply → Type 0) → List ℕ → List ℕ → Type 0
+-- the responses of a text's first lines
+abbrev pub IsOutputOfFirstLines : (Profile → List Command → List Response → Type 0) → List ℕ → List ℕ → Type 0
 IsOutputOfFirstLines IsRun text output = (count : ℕ) × IsOutputOf IsRun (take count (lines text)) Finished output

@@ -1,22 +1,27 @@
-//! The texts of replies.
+//! The texts of responses.
 
 ghost use Rattle.std.specs.Prelude.{Some};
-ghost use Rattle.pc_script.specs.Replies.{limit_text, refusal_text, phase_text, subject_text, posted_text, status_text, level_text, prefix_text, numbers_text, shown_text, shown_lines, reply_text, number_or_dash, running_text};
+ghost use Rattle.pc_script.specs.Responses.{limit_text, refusal_text, phase_text, subject_text, posted_text, level_text, reported_text, numbers_text, shown_text, shown_lines, reply_text, response_text, status_text, number_or_dash, running_text};
 
-use crate::lists::{Numbers, ShownThreads};
-use crate::reply::{Limit, Phase, Posted, Prefix, Refusal, Reply, ShownThread, Status, Subject};
+use crate::lists::{EarlyNumbers, ShownThread, ShownThreads};
+use crate::response::Response;
+use pc_calls::{LimitField, Posted, Refusal, Reply, Status};
+use pc_messages::{Cpu, Phase, Reported, Tid};
 use std::fmt;
 
-/// A number, or `-`.
+/// A CPU, or `-`.
 #[derive(Clone, Copy)]
-struct OrDash(Option<u8>);
+struct CpuOrDash(Option<Cpu>);
 
-impl fmt::Display for OrDash {
-    ghost output = { λ number. Some (number_or_dash number.0) };
+impl fmt::Display for CpuOrDash {
+    ghost output = { λ cpu. Some (number_or_dash cpu.0) };
 
     fn fmt<W: fmt::Write>(&self, f: &mut fmt::Formatter<W>) -> fmt::Result {
         match self.0 {
-            Some(number) => write!(f, "{number}"),
+            Some(cpu) => {
+                let cpu = cpu.index();
+                write!(f, "{cpu}")
+            }
             None => write!(f, "-"),
         }
     }
@@ -24,14 +29,17 @@ impl fmt::Display for OrDash {
 
 /// The CPU on which a thread runs, if it runs.
 #[derive(Clone, Copy)]
-struct Running(Option<u8>);
+struct RunningPart(Option<Cpu>);
 
-impl fmt::Display for Running {
+impl fmt::Display for RunningPart {
     ghost output = { λ cpu. Some (running_text cpu.0) };
 
     fn fmt<W: fmt::Write>(&self, f: &mut fmt::Formatter<W>) -> fmt::Result {
         match self.0 {
-            Some(cpu) => write!(f, " c{cpu}"),
+            Some(cpu) => {
+                let cpu = cpu.index();
+                write!(f, " c{cpu}")
+            }
             None => Ok(()),
         }
     }
@@ -54,54 +62,70 @@ impl fmt::Display for LevelPart {
     }
 }
 
-/// A prefix, or what stands for none.
+/// A phase by its name.
 #[derive(Clone, Copy)]
-struct PrefixPart(Option<Prefix>);
+struct PhaseName(Phase);
 
-impl fmt::Display for PrefixPart {
-    ghost output = { λ prefix. Some (prefix_text prefix.0) };
+impl fmt::Display for PhaseName {
+    ghost output = { λ phase. Some (phase_text phase.0) };
 
     fn fmt<W: fmt::Write>(&self, f: &mut fmt::Formatter<W>) -> fmt::Result {
         match self.0 {
-            Some(
-                Prefix {
-                    upto,
-                    phase,
-                    mask,
-                    ran,
-                    level,
-                },
-            ) => {
-                let level = LevelPart(level);
-                write!(f, "{upto} {phase} mask {mask} ran {ran}{level}")
+            Phase::Ready => write!(f, "ready"),
+            Phase::Blocked => write!(f, "blocked"),
+            Phase::Dead => write!(f, "dead"),
+        }
+    }
+}
+
+/// What is reported of a thread, or `-`.
+#[derive(Clone, Copy)]
+struct ReportedPart(Option<Reported>);
+
+impl fmt::Display for ReportedPart {
+    ghost output = { λ reported. Some (reported_text reported.0) };
+
+    fn fmt<W: fmt::Write>(&self, f: &mut fmt::Formatter<W>) -> fmt::Result {
+        match self.0 {
+            Some(reported) => {
+                let phase = PhaseName(reported.phase);
+                let mask = reported.mask.bits();
+                let ran = reported.ran;
+                let level = LevelPart(reported.level.get());
+                write!(f, "{phase} mask {mask} ran {ran}{level}")
             }
-            None => write!(f, "0 -"),
+            None => write!(f, "-"),
         }
     }
 }
 
-impl fmt::Display for Limit {
-    ghost output = { λ limit. Some (limit_text limit) };
+/// A limit by its name.
+#[derive(Clone, Copy)]
+struct LimitName(LimitField);
+
+impl fmt::Display for LimitName {
+    ghost output = { λ limit. Some (limit_text limit.0) };
 
     fn fmt<W: fmt::Write>(&self, f: &mut fmt::Formatter<W>) -> fmt::Result {
-        match self {
-            Limit::Cpus => write!(f, "cpus"),
-            Limit::Threads => write!(f, "threads"),
-            Limit::Numbers => write!(f, "numbers"),
-            Limit::Room => write!(f, "room"),
-            Limit::Posts => write!(f, "posts"),
+        match self.0 {
+            LimitField::Cpus => write!(f, "cpus"),
+            LimitField::Threads => write!(f, "threads"),
+            LimitField::Numbers => write!(f, "numbers"),
+            LimitField::Room => write!(f, "room"),
+            LimitField::Posts => write!(f, "posts"),
         }
     }
 }
 
-impl fmt::Display for Refusal {
-    ghost output = { λ refusal. Some (refusal_text refusal) };
+/// A refusal by its name, and its argument where it has one.
+#[derive(Clone, Copy)]
+struct RefusalPart(Refusal);
+
+impl fmt::Display for RefusalPart {
+    ghost output = { λ refusal. Some (refusal_text refusal.0) };
 
     fn fmt<W: fmt::Write>(&self, f: &mut fmt::Formatter<W>) -> fmt::Result {
-        match self {
-            Refusal::NoEnclave => write!(f, "NoEnclave"),
-            Refusal::HaveEnclave => write!(f, "HaveEnclave"),
-            Refusal::BadLimits(limit) => write!(f, "BadLimits {limit}"),
+        match self.0 {
             Refusal::BadCpu => write!(f, "BadCpu"),
             Refusal::EmptyMask => write!(f, "EmptyMask"),
             Refusal::MaskTooWide => write!(f, "MaskTooWide"),
@@ -116,13 +140,19 @@ impl fmt::Display for Refusal {
             Refusal::NotReady => write!(f, "NotReady"),
             Refusal::IdleCpu => write!(f, "IdleCpu"),
             Refusal::OnForbiddenCpu => write!(f, "OnForbiddenCpu"),
-            Refusal::Forbidden => write!(f, "Forbidden"),
-            Refusal::Busy => write!(f, "Busy"),
-            Refusal::Running(cpu) => write!(f, "Running {cpu}"),
-            Refusal::NotYours(queue) => write!(f, "NotYours {queue}"),
+            Refusal::TooMany => write!(f, "TooMany"),
             Refusal::Stale(now) => write!(f, "Stale {now}"),
             Refusal::Pending => write!(f, "Pending"),
-            Refusal::TooMany => write!(f, "TooMany"),
+            Refusal::Running(cpu) => {
+                let cpu = cpu.index();
+                write!(f, "Running {cpu}")
+            }
+            Refusal::NotYours(queue) => {
+                let queue = queue.index();
+                write!(f, "NotYours {queue}")
+            }
+            Refusal::Forbidden => write!(f, "Forbidden"),
+            Refusal::Busy => write!(f, "Busy"),
             Refusal::NoDelta => write!(f, "NoDelta"),
             Refusal::NothingReady => write!(f, "NothingReady"),
             Refusal::NothingToSteal => write!(f, "NothingToSteal"),
@@ -131,60 +161,103 @@ impl fmt::Display for Refusal {
     }
 }
 
-impl fmt::Display for Phase {
-    ghost output = { λ phase. Some (phase_text phase) };
+/// Whose item was posted, and its number, or `-` where it has neither.
+#[derive(Clone, Copy)]
+struct SubjectPart {
+    thread: Option<Tid>,
+    number: Option<u32>,
+}
+
+impl fmt::Display for SubjectPart {
+    ghost output = { λ subject. Some (subject_text subject.thread subject.number) };
 
     fn fmt<W: fmt::Write>(&self, f: &mut fmt::Formatter<W>) -> fmt::Result {
-        match self {
-            Phase::Ready => write!(f, "ready"),
-            Phase::Blocked => write!(f, "blocked"),
-            Phase::Dead => write!(f, "dead"),
+        match (self.thread, self.number) {
+            (Some(thread), Some(number)) => {
+                let thread = thread.index();
+                write!(f, "t{thread} n{number}")
+            }
+            _ => write!(f, "-"),
         }
     }
 }
 
-impl fmt::Display for Subject {
-    ghost output = { λ subject. Some (subject_text subject) };
+/// What was posted.
+#[derive(Clone, Copy)]
+struct PostedPart(Posted);
 
-    fn fmt<W: fmt::Write>(&self, f: &mut fmt::Formatter<W>) -> fmt::Result {
-        match self {
-            Subject::Message { thread, number } => write!(f, "t{thread} n{number}"),
-            Subject::Tick => write!(f, "-"),
-        }
-    }
-}
-
-impl fmt::Display for Posted {
-    ghost output = { λ posted. Some (posted_text posted) };
+impl fmt::Display for PostedPart {
+    ghost output = { λ posted. Some (posted_text posted.0) };
 
     fn fmt<W: fmt::Write>(&self, f: &mut fmt::Formatter<W>) -> fmt::Result {
         let Posted {
-            subject,
+            thread,
+            number,
             queue,
             aseq,
             woken,
-        } = *self;
-        let woken = OrDash(woken);
+        } = self.0;
+        let subject = SubjectPart { thread, number };
+        let queue = queue.index();
+        let woken = CpuOrDash(woken);
         write!(f, "{subject} q{queue} a{aseq} wake {woken}")
     }
 }
 
-impl fmt::Display for Status {
-    ghost output = { λ status. Some (status_text status) };
+/// What the kernel says of a thread.
+#[derive(Clone, Copy)]
+struct StatusPart {
+    thread: Tid,
+    status: Status,
+    phase: Phase,
+}
+
+impl fmt::Display for StatusPart {
+    ghost output = { λ said. Some (status_text said.thread said.status said.phase) };
 
     fn fmt<W: fmt::Write>(&self, f: &mut fmt::Formatter<W>) -> fmt::Result {
-        let Status {
-            thread,
-            number,
-            phase,
-            running_on,
-        } = *self;
-        let running = Running(running_on);
+        let thread = self.thread.index();
+        let Status { number, running_on } = self.status;
+        let phase = PhaseName(self.phase);
+        let running = RunningPart(running_on);
         write!(f, "t{thread} n{number} {phase}{running}")
     }
 }
 
-impl fmt::Display for Numbers {
+/// What an event is replied.
+#[derive(Clone, Copy)]
+struct ReplyPart(Reply);
+
+impl fmt::Display for ReplyPart {
+    ghost output = { λ reply. Some (reply_text reply.0) };
+
+    fn fmt<W: fmt::Write>(&self, f: &mut fmt::Formatter<W>) -> fmt::Result {
+        match self.0 {
+            Reply::Done => write!(f, "ok"),
+            Reply::Posted(posted) => {
+                let posted = PostedPart(posted);
+                write!(f, "ok {posted}")
+            }
+            Reply::Associated { thread, queue } => {
+                let (thread, queue) = (thread.index(), queue.index());
+                write!(f, "ok t{thread} q{queue}")
+            }
+            Reply::Committed { thread, cpu } => {
+                let (thread, cpu) = (thread.index(), cpu.index());
+                write!(f, "ok t{thread} c{cpu}")
+            }
+            Reply::Published { delta, items } => write!(f, "ok d{delta} items {items}"),
+            Reply::Consumed { items } => write!(f, "ok {items}"),
+            Reply::Answered { delta } => write!(f, "ok d{delta}"),
+            Reply::Refused(refusal) => {
+                let refusal = RefusalPart(refusal);
+                write!(f, "refused {refusal}")
+            }
+        }
+    }
+}
+
+impl fmt::Display for EarlyNumbers {
     ghost output = { λ numbers. Some (numbers_text numbers) };
 
     fn fmt<W: fmt::Write>(&self, f: &mut fmt::Formatter<W>) -> fmt::Result {
@@ -203,10 +276,11 @@ impl fmt::Display for ShownThread {
     ghost output = { λ shown. Some (shown_text shown) };
 
     fn fmt<W: fmt::Write>(&self, f: &mut fmt::Formatter<W>) -> fmt::Result {
-        let thread = self.thread;
-        let prefix = PrefixPart(self.prefix);
+        let thread = self.thread.index();
+        let upto = self.upto;
+        let reported = ReportedPart(self.reported);
         let early = &self.early;
-        write!(f, "t{thread} upto {prefix} early {early}")
+        write!(f, "t{thread} upto {upto} {reported} early {early}")
     }
 }
 
@@ -221,25 +295,43 @@ impl fmt::Display for ShownThreads {
     }
 }
 
-impl fmt::Display for Reply {
-    ghost output = { λ reply. Some (reply_text reply) };
+impl fmt::Display for Response {
+    ghost output = { λ response. Some (response_text response) };
 
     fn fmt<W: fmt::Write>(&self, f: &mut fmt::Formatter<W>) -> fmt::Result {
         match self {
-            Reply::Done => write!(f, "ok"),
-            Reply::Posted(posted) => write!(f, "ok {posted}"),
-            Reply::Published { delta, items } => write!(f, "ok d{delta} items {items}"),
-            Reply::Answered { delta } => write!(f, "ok d{delta}"),
-            Reply::Associated { thread, queue } => write!(f, "ok t{thread} q{queue}"),
-            Reply::Committed { thread, cpu } => write!(f, "ok t{thread} c{cpu}"),
-            Reply::Consumed { items } => write!(f, "ok {items}"),
-            Reply::Status(status) => write!(f, "{status}"),
-            Reply::Truth(true) => write!(f, "yes"),
-            Reply::Truth(false) => write!(f, "no"),
-            Reply::Sameness(true) => write!(f, "equal"),
-            Reply::Sameness(false) => write!(f, "differ"),
-            Reply::View(threads) => write!(f, "{threads}end"),
-            Reply::Refused(refusal) => write!(f, "refused {refusal}"),
+            Response::Opened => write!(f, "ok"),
+            Response::NoEnclave => write!(f, "refused NoEnclave"),
+            Response::HaveEnclave => write!(f, "refused HaveEnclave"),
+            Response::BadLimits(limit) => {
+                let limit = LimitName(*limit);
+                write!(f, "refused BadLimits {limit}")
+            }
+            Response::Event(reply) => {
+                let reply = ReplyPart(*reply);
+                write!(f, "{reply}")
+            }
+            Response::Status {
+                thread,
+                status,
+                phase,
+            } => {
+                let said = StatusPart {
+                    thread: *thread,
+                    status: *status,
+                    phase: *phase,
+                };
+                write!(f, "{said}")
+            }
+            Response::Truth(true) => write!(f, "yes"),
+            Response::Truth(false) => write!(f, "no"),
+            Response::Sameness(true) => write!(f, "equal"),
+            Response::Sameness(false) => write!(f, "differ"),
+            Response::View(threads) => write!(f, "{threads}end"),
+            Response::Refused(refusal) => {
+                let refusal = RefusalPart(*refusal);
+                write!(f, "refused {refusal}")
+            }
         }
     }
 }

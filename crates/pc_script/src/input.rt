@@ -9,12 +9,12 @@ use std::alloc::Global;
 use std::io::Read;
 
 /// The greatest length of a script, in bytes.
-pub(crate) const LIMIT: usize = 16_777_216;
+pub const MOST_BYTES: usize = 16_777_216;
 
 /// Reads once, and adds what was read to the text. Answers false at the end.
 fn read_more<R: Read>(reader: &mut R, text: &mut Vec<u8>) -> Result<bool, ScriptFault>
-    requires { length text.old.items ≤ 16777216 }
-    ensures reads { (bytes : List ℕ) × (length text.old.items + length bytes ≤ 16777217)
+    requires { length text.old.items ≤ MOST_BYTES }
+    ensures reads { (bytes : List ℕ) × (length text.old.items + length bytes ≤ MOST_BYTES + 1)
         × Consumes (R.remaining reader.old) (R.remaining reader.new) bytes
         × OnOk result (text.new.items ≡ text.old.items ++ bytes) }
     ensures ok { IfOk result (λ more. MatchBool more
@@ -23,7 +23,7 @@ fn read_more<R: Read>(reader: &mut R, text: &mut Vec<u8>) -> Result<bool, Script
     ensures not_long { (result ≢ Err ScriptFault.TooLong) × (result ≢ Err ScriptFault.Write) }
 {
     let mut buffer = [0u8; 4096];
-    let room = buffer.len().min(LIMIT + 1 - text.len());
+    let room = buffer.len().min(MOST_BYTES + 1 - text.len());
     let Ok(count) = reader.read(&mut buffer[..room]) else {
         return Err(ScriptFault::Read);
     };
@@ -39,13 +39,13 @@ fn read_more<R: Read>(reader: &mut R, text: &mut Vec<u8>) -> Result<bool, Script
 /// Reads to the end, which is the first read that gives nothing, and no more than a byte past the greatest length.
 pub(crate) fn read_text<R: Read>(alloc: Global, reader: &mut R) -> Result<Vec<u8>, ScriptFault>
     ensures ok { IfOk result (λ text. IfSome (R.remaining reader.old) (λ bytes. bytes ≡ text.items)) }
-    ensures short { IfOk result (λ text. length text.items ≤ 16777216) }
-    ensures too_long { result ≡ Err ScriptFault.TooLong → IfSome (R.remaining reader.old) (λ bytes. 16777216 < length bytes) }
+    ensures short { IfOk result (λ text. length text.items ≤ MOST_BYTES) }
+    ensures too_long { result ≡ Err ScriptFault.TooLong → IfSome (R.remaining reader.old) (λ bytes. MOST_BYTES < length bytes) }
     ensures no_write { result ≢ Err ScriptFault.Write }
-    ensures reads { (bytes : List ℕ) × (length bytes ≤ 16777217) × Consumes (R.remaining reader.old) (R.remaining reader.new) bytes }
+    ensures reads { (bytes : List ℕ) × (length bytes ≤ MOST_BYTES + 1) × Consumes (R.remaining reader.old) (R.remaining reader.new) bytes }
 {
     let mut text = Vec::new(alloc);
-    while text.len() <= LIMIT {
+    while text.len() <= MOST_BYTES {
         if !read_more(reader, &mut text)? {
             return Ok(text);
         }

@@ -1,7 +1,7 @@
 //! Laws of the text of scripts.
 
 ghost use Rattle.std.specs.Prelude.{◌≡◌, ℕ, List};
-ghost use Rattle.pc_script.specs.Asked.{Spells};
+ghost use Rattle.pc_script.specs.Grammar.{Spells};
 ghost use Rattle.pc_script.specs.declared.command.Command.{Command};
 
 /// The words of a line are those of one command at most, so a script's text says what is asked.

@@ -1,38 +1,34 @@
-//! Scripts: their text, the commands that it spells, and the replies that are written.
+//! Scripts: their text, the commands that it spells, and the responses that are written.
 //!
 //! A script is bytes. Its lines end with a line feed, of which the last may be missing; one carriage return at a
 //! line's end is dropped. Words are separated by spaces. A line without words, or whose first byte is `#`, has no
 //! reply; every other line spells a command, or is a fault, at which the script ends. The first line that has a
-//! reply may be `version 2`, which the script is of then.
+//! reply may be `version 2`, by which the script is of profile Two.
 //!
-//! What the commands do is left to a [`machine::Machine`]: the program gives one.
+//! The words of each command stand in the table of `specs/Grammar.antt`, the texts of what is answered in
+//! `specs/Responses.antt`. What the commands do is left to a [`Machine`]: the program gives one.
 #![tactic(auto)]
 
-mod arguments;
 mod command;
+mod digits;
 mod display;
+mod fields;
+mod grammar;
 mod input;
 pub mod laws;
 mod line;
 mod lines;
 mod lists;
 mod machine;
-mod numbers;
 mod opening;
 mod outcome;
-mod parse;
-mod reply;
+mod response;
 mod run;
-#[cfg(test)]
-mod tests;
-mod version;
-#[cfg(test)]
-mod word_tests;
 
-pub use command::Command;
-pub use lists::{Numbers, ShownThreads};
+pub use command::{Command, Read};
+pub use input::MOST_BYTES;
+pub use lists::{EarlyNumbers, ShownThread, ShownThreads};
 pub use machine::Machine;
 pub use outcome::{Outcome, ScriptFault};
-pub use reply::Reply;
+pub use response::Response;
 pub use run::run_script;
-pub use version::Version;

@@ -3,73 +3,75 @@
 ghost use Rattle.std.specs.Prelude.{◌≡◌, ◌≢◌, ℕ, List, [], ◌∷◌, ◌++◌, IfOk, OnOk};
 ghost use Rattle.std.specs.Bool.{MatchBool};
 ghost use Rattle.std.specs.Io.KnownBytes.{Appends};
-ghost use Rattle.pc_script.specs.Asked.{IsFault};
-ghost use Rattle.pc_script.specs.Replies.{reply_text, text_line};
-ghost use Rattle.pc_script.specs.Steps.{IsAsked, TakesLine};
+ghost use Rattle.pc_calls.specs.declared.limits.Profile.{Profile};
+ghost use Rattle.pc_script.specs.Grammar.{HasNoReply, IsBuilt, IsFault};
+ghost use Rattle.pc_script.specs.Responses.{response_text, text_line};
+ghost use Rattle.pc_script.specs.Inner.Steps.{IsAsked, TakesLine};
 ghost use Rattle.pc_script.specs.declared.command.Command.{Command};
-ghost use Rattle.pc_script.specs.declared.reply.Reply.{Reply};
-ghost use Rattle.pc_script.specs.declared.version.Version.{Version};
+ghost use Rattle.pc_script.specs.declared.response.Response.{Response};
 
 use crate::command::Command;
-use crate::lines::split_words;
+use crate::grammar::command_of;
+use crate::lines::first_word;
 use crate::machine::Machine;
 use crate::outcome::ScriptFault;
-use crate::parse::command_of;
-use std::alloc::{AllocError, Global};
 use std::io::Write;
 
 /// What a line asks for.
 enum Wish {
     /// It has no reply.
     Nothing,
-    /// This command's reply.
+    /// What this command is answered.
     Answer(Command),
     /// It isn't a command, and the script ends here.
     Stop,
 }
 
-/// What this line asks for.
-fn asked(alloc: Global, line: &[u8]) -> Result<Wish, AllocError>
-    ensures { IfOk result (IsAsked line.now) }
+/// Whether the line has no words, or a `#` first.
+pub(crate) fn has_no_reply(line: &[u8]) -> bool
+    ensures { MatchBool result (HasNoReply line.now) (HasNoReply line.now → ⊥) }
 {
-    if line.first().copied() == Some(b'#') {
-        return Ok(Wish::Nothing);
+    line.first().copied() == Some(b'#') || first_word(line).is_none()
+}
+
+/// What this line asks for.
+fn asked(line: &[u8]) -> Wish
+    ensures { IsAsked line.now result }
+{
+    if has_no_reply(line) {
+        return Wish::Nothing;
     }
-    let words = split_words(alloc, line)?;
-    if words.is_empty() {
-        return Ok(Wish::Nothing);
-    }
-    match command_of(words.as_slice()) {
-        Some(command) => Ok(Wish::Answer(command)),
-        None => Ok(Wish::Stop),
+    match command_of(line) {
+        Some(command) => Wish::Answer(command),
+        None => Wish::Stop,
     }
 }
 
-/// Has the machine answer a command, and writes the reply.
+/// Has the machine answer a command, and writes the response.
 fn answer<M: Machine, W: Write>(
     machine: &mut M,
     command: Command,
     writer: &mut W,
 ) -> Result<(), ScriptFault>
-    ensures ok { OnOk result ((reply : Reply)
-        × ((version : Version) (commands : List Command) (replies : List Reply) → M.StandsAfter version machine.old commands replies
-        → M.StandsAfter version machine.new (commands ++ command ∷ []) (replies ++ reply ∷ []))
-        × Appends (W.contents writer.old) (W.contents writer.new) (text_line (reply_text reply))) }
+    requires built { IsBuilt command }
+    ensures ok { OnOk result ((response : Response)
+        × ((profile : Profile) (commands : List Command) (responses : List Response) → M.StandsAfter profile machine.old commands responses
+        → M.StandsAfter profile machine.new (commands ++ command ∷ []) (responses ++ response ∷ []))
+        × Appends (W.contents writer.old) (W.contents writer.new) (text_line (response_text response))) }
     ensures no_memory { result ≡ Err ScriptFault.OutOfMemory → writer.new ≡ writer.old }
     ensures read_all { (result ≢ Err ScriptFault.Read) × (result ≢ Err ScriptFault.TooLong) }
 {
-    let Ok(reply) = machine.answer(command) else {
+    let Ok(response) = machine.answer(command) else {
         return Err(ScriptFault::OutOfMemory);
     };
-    match writeln!(writer, "{reply}") {
+    match writeln!(writer, "{response}") {
         Ok(()) => Ok(()),
         Err(_) => Err(ScriptFault::Write),
     }
 }
 
-/// Has the machine take what a line asks for, and writes the reply. Answers false where the line is a fault.
+/// Has the machine take what a line asks for, and writes the response. Answers false where the line is a fault.
 pub(crate) fn take_line<M: Machine, W: Write>(
-    alloc: Global,
     line: &[u8],
     machine: &mut M,
     writer: &mut W,
@@ -80,10 +82,7 @@ pub(crate) fn take_line<M: Machine, W: Write>(
     ensures no_memory { result ≡ Err ScriptFault.OutOfMemory → writer.new ≡ writer.old }
     ensures read_all { (result ≢ Err ScriptFault.Read) × (result ≢ Err ScriptFault.TooLong) }
 {
-    let Ok(asked) = asked(alloc, line) else {
-        return Err(ScriptFault::OutOfMemory);
-    };
-    match asked {
+    match asked(line) {
         Wish::Nothing => Ok(true),
         Wish::Answer(command) => {
             answer(machine, command, writer)?;

@@ -1,12 +1,10 @@
 //! The lines of a text, and the words of a line.
 
-ghost use Rattle.std.specs.Prelude.{◌≡◌, ◌∷◌, map, IfOk};
+ghost use Rattle.std.specs.Prelude.{◌≡◌, [], ◌∷◌, MatchOption};
 ghost use Rattle.std.specs.Iterator.{YieldsFirstBy, item_count};
 ghost use Rattle.std.specs.Str.Lines.{strip_carriage_return};
 ghost use Rattle.pc_script.specs.Text.{lines, words};
-ghost use Rattle.pc_script.specs.Left.{lines_left, lines_of_rest};
-
-use std::alloc::{AllocError, Global};
+ghost use Rattle.pc_script.specs.Inner.Left.{lines_left, lines_of_rest};
 
 /// The lines of a text that are left, or none after the last.
 #[derive(Drop)]
@@ -58,11 +56,14 @@ fn without_carriage_return(line: &[u8]) -> &[u8]
     }
 }
 
-/// The words of a line: its parts between spaces that aren't empty.
-pub(crate) fn split_words(alloc: Global, line: &[u8]) -> Result<Vec<&[u8]>, AllocError>
-    ensures { IfOk result (λ parts. map (λ word. word.now) parts.items ≡ words line.now) }
+/// The first word of a text, and the text after it: words are the parts between spaces that aren't empty.
+pub(crate) fn first_word(text: &[u8]) -> Option<(&[u8], &[u8])>
+    ensures { MatchOption result (words text.now ≡ []) (λ cut. words text.now ≡ cut.0.now ∷ words cut.1.now) }
 {
-    line.split(|b| *b == b' ')
-        .filter(|word| !word.is_empty())
-        .collect(alloc)
+    let start = text.iter().position(|b| *b != b' ')?;
+    let text = &text[start..];
+    match text.iter().position(|b| *b == b' ') {
+        Some(end) => Some((&text[..end], &text[end + 1..])),
+        None => Some((text, &text[text.len()..])),
+    }
 }

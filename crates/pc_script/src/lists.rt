@@ -1,18 +1,18 @@
-//! The lists inside a reply.
+//! The lists inside a response.
 
 ghost use Rattle.std.specs.Prelude.{◌≡◌, [], ◌∷◌, ◌++◌, OnOk, OnErr};
 
-use crate::reply::ShownThread;
+use pc_messages::{Reported, Tid};
 use std::alloc::{AllocError, Global};
 use std::marker::Model;
 
 /// Message numbers, in the order in which they are shown.
 #[derive(Debug, Drop)]
-pub struct Numbers {
+pub struct EarlyNumbers {
     numbers: Vec<u32>,
 }
 
-impl Model for Numbers {
+impl Model for EarlyNumbers {
     ghost use Rattle.std.specs.Prelude.{List, ℕ};
 
     ghost Value = { List ℕ };
@@ -20,12 +20,12 @@ impl Model for Numbers {
     ghost view = { λ list. list.numbers.items };
 }
 
-impl Numbers {
+impl EarlyNumbers {
     /// No numbers.
     pub fn new(alloc: Global) -> Self
         ensures { result ≡ [] }
     {
-        Numbers {
+        EarlyNumbers {
             numbers: Vec::new(alloc),
         }
     }
@@ -47,6 +47,18 @@ impl Numbers {
     }
 }
 
+/// What a view knows of a thread.
+#[derive(Debug, Drop)]
+pub struct ShownThread {
+    pub thread: Tid,
+    /// The messages up to this number are known without a gap; 0 where the first is not known.
+    pub upto: u32,
+    /// What those messages report; none where there are none.
+    pub reported: Option<Reported>,
+    /// The numbers of the other known messages.
+    pub early: EarlyNumbers,
+}
+
 /// The threads of a view, in the order in which they are shown.
 #[derive(Debug, Drop)]
 pub struct ShownThreads {
@@ -55,7 +67,7 @@ pub struct ShownThreads {
 
 impl Model for ShownThreads {
     ghost use Rattle.std.specs.Prelude.{List};
-    ghost use Rattle.pc_script.specs.declared.reply.ShownThread.{ShownThread};
+    ghost use Rattle.pc_script.specs.declared.lists.ShownThread.{ShownThread};
 
     ghost Value = { List ShownThread };
 

@@ -1,36 +1,39 @@
 //! What answers a script's commands.
 
 ghost use Rattle.std.specs.Prelude.{List, [], ◌∷◌, ◌++◌, IfOk};
+ghost use Rattle.pc_calls.specs.declared.limits.Profile.{Profile};
+ghost use Rattle.pc_script.specs.Grammar.{IsBuilt};
 ghost use Rattle.pc_script.specs.declared.command.Command.{Command};
-ghost use Rattle.pc_script.specs.declared.reply.Reply.{Reply};
-ghost use Rattle.pc_script.specs.declared.version.Version.{Version};
+ghost use Rattle.pc_script.specs.declared.response.Response.{Response};
 
 use crate::command::Command;
-use crate::reply::Reply;
-use crate::version::Version;
+use crate::response::Response;
+use pc_calls::Profile;
 use std::alloc::{AllocError, Global};
 
-/// What answers commands, one after another, as a script of some version asks for them.
+/// What answers commands, one after another, as a script of some profile asks for them.
 ///
-/// `IsRun` is what a list of commands and the list of their replies have to do with each other. `StandsAfter`
-/// says that a machine was started, took these commands and gave these replies.
+/// `IsRun` is what a list of commands and the list of their responses have to do with each other. `StandsAfter`
+/// says that a machine was started, took these commands and gave these responses.
 pub trait Machine: Drop {
-    ghost IsRun: { Version → List Command → List Reply → Type 0 };
+    ghost IsRun: { Profile → List Command → List Response → Type 0 };
 
-    ghost StandsAfter: { Version → Self → List Command → List Reply → Type 0 };
+    ghost StandsAfter: { Profile → Self → List Command → List Response → Type 0 };
 
     /// A machine that took no command yet.
-    fn start(alloc: Global, version: Version) -> Self
+    fn start(alloc: Global, profile: Profile) -> Self
     where
         Self: Sized,
-        ensures { StandsAfter version result [] [] };
+        ensures { StandsAfter profile result [] [] };
 
     /// Takes a command. After an error the machine isn't used again.
-    fn answer(&mut self, command: Command) -> Result<Reply, AllocError>
-        ensures { IfOk result (λ reply. (version : Version) (commands : List Command) (replies : List Reply) → StandsAfter version self.old commands replies
-            → StandsAfter version self.new (commands ++ command ∷ []) (replies ++ reply ∷ [])) };
+    fn answer(&mut self, command: Command) -> Result<Response, AllocError>
+        requires built { IsBuilt command }
+        ensures { IfOk result (λ response. (profile : Profile) (commands : List Command) (responses : List Response)
+            → StandsAfter profile self.old commands responses
+            → StandsAfter profile self.new (commands ++ command ∷ []) (responses ++ response ∷ [])) };
 
-    ghost is_run_of_none: { (version : Version) → IsRun version [] [] };
+    ghost is_run_of_none: { (profile : Profile) → IsRun profile [] [] };
 
-    ghost is_run_after: { (version : Version) (machine : Self) (commands : List Command) (replies : List Reply) → StandsAfter version machine commands replies → IsRun version commands replies };
+    ghost is_run_after: { (profile : Profile) (machine : Self) (commands : List Command) (responses : List Response) → StandsAfter profile machine commands responses → IsRun profile commands responses };
 }

@@ -20,7 +20,7 @@ pub enum ScriptFault {
     /// A read failed. Nothing was written.
     #[error("cannot read")]
     Read,
-    /// The text has more than 16,777,216 bytes. Nothing was written.
+    /// The text has more than [`MOST_BYTES`](crate::MOST_BYTES) bytes. Nothing was written.
     #[error("the script is too long")]
     TooLong,
     /// A write failed.

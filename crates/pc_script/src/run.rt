@@ -2,19 +2,18 @@
 
 ghost use Rattle.std.specs.Prelude.{◌≡◌, ◌≢◌, ◌⊎◌, ◌+◌, ℕ, suc, List, [], ◌<◌, ◌≤◌, length, IfOk, IfSome, OnOk};
 ghost use Rattle.std.specs.Io.KnownBytes.{Appends, Consumes};
-ghost use Rattle.pc_script.specs.Left.{lines_of_rest};
+ghost use Rattle.pc_script.specs.Inner.Left.{lines_of_rest};
 ghost use Rattle.pc_script.specs.Scripts.{IsOutput, IsOutputOfFirstLines, IsTold, outcome_text};
-ghost use Rattle.pc_script.specs.Steps.{IsToldOfFirstLines};
-ghost use Rattle.pc_script.specs.Versions.{version_text};
+ghost use Rattle.pc_script.specs.Inner.Steps.{IsToldOfFirstLines};
+ghost use Rattle.pc_script.specs.Versions.{opening_text};
 
-use crate::input::read_text;
+use crate::input::{MOST_BYTES, read_text};
 use crate::line::take_line;
 use crate::lines::lines_of;
 use crate::machine::Machine;
 use crate::opening::{Opening, opening_of};
 use crate::outcome::{Outcome, ScriptFault};
-use crate::reply::Reply;
-use crate::version::Version;
+use pc_calls::Profile;
 use std::alloc::Global;
 use std::io::{Read, Write};
 
@@ -30,16 +29,15 @@ fn write_fault<W: Write>(number: u32, writer: &mut W) -> Result<Outcome, ScriptF
     }
 }
 
-/// Answers the line `version 2`, if the script is of that version.
-fn write_version<W: Write>(version: Version, writer: &mut W) -> Result<(), ScriptFault>
-    ensures ok { OnOk result (Appends (W.contents writer.old) (W.contents writer.new) (version_text version)) }
+/// Answers the line `version 2`, if the script has one.
+fn write_opening<W: Write>(profile: Profile, writer: &mut W) -> Result<(), ScriptFault>
+    ensures ok { OnOk result (Appends (W.contents writer.old) (W.contents writer.new) (opening_text profile)) }
     ensures err { (result ≢ Err ScriptFault.OutOfMemory) × (result ≢ Err ScriptFault.Read) × (result ≢ Err ScriptFault.TooLong) }
 {
-    match version {
-        Version::One => Ok(()),
-        Version::Two => {
-            let reply = Reply::Done;
-            match writeln!(writer, "{reply}") {
+    match profile {
+        Profile::One => Ok(()),
+        Profile::Two => {
+            match writeln!(writer, "ok") {
                 Ok(()) => Ok(()),
                 Err(_) => Err(ScriptFault::Write),
             }
@@ -49,36 +47,35 @@ fn write_version<W: Write>(version: Version, writer: &mut W) -> Result<(), Scrip
 
 /// Runs the lines that are left of a text, up to the end or the first fault.
 fn run_lines<M: Machine, W: Write>(
-    alloc: Global,
     opening: &Opening<'_>,
     machine: &mut M,
     writer: &mut W,
 ) -> Result<Outcome, ScriptFault>
-    requires short { opening.now.passed + length (lines_of_rest opening.now.rest) ≤ 16777217 }
-    requires fresh { M.StandsAfter opening.now.version machine.old [] [] }
+    requires short { opening.now.passed + length (lines_of_rest opening.now.rest) ≤ MOST_BYTES + 1 }
+    requires fresh { M.StandsAfter opening.now.profile machine.old [] [] }
     ensures ok { IfOk result (λ outcome. (told : List ℕ)
-        × IsTold (M.IsRun opening.now.version) (suc opening.now.passed) (lines_of_rest opening.now.rest) outcome told
+        × IsTold (M.IsRun opening.now.profile) (suc opening.now.passed) (lines_of_rest opening.now.rest) outcome told
         × Appends (W.contents writer.old) (W.contents writer.new) told) }
     ensures no_memory { result ≡ Err ScriptFault.OutOfMemory → (told : List ℕ)
-        × IsToldOfFirstLines (M.IsRun opening.now.version) (suc opening.now.passed) (lines_of_rest opening.now.rest) told
+        × IsToldOfFirstLines (M.IsRun opening.now.profile) (suc opening.now.passed) (lines_of_rest opening.now.rest) told
         × Appends (W.contents writer.old) (W.contents writer.new) told }
     ensures read_all { (result ≢ Err ScriptFault.Read) × (result ≢ Err ScriptFault.TooLong) }
 {
     let mut number = opening.passed;
     for line in lines_of(opening.rest) {
         number += 1;
-        if !take_line(alloc, line, machine, writer)? {
+        if !take_line(line, machine, writer)? {
             return write_fault(number, writer);
         }
     }
     Ok(Outcome::Finished)
 }
 
-/// Reads a script, has the machine answer its commands one after another, and writes the replies.
+/// Reads a script, has the machine answer its commands one after another, and writes the responses.
 ///
-/// The whole text is read first, and the machine is started in the version that it names. Reading ends at the
-/// first read that fails (`Read`) or gives nothing, and no more than 16,777,217 bytes are read (`TooLong`); after
-/// either fault nothing was written. Replies are written line by line, so a writer without a buffer is slow;
+/// The whole text is read first, and the machine is started in the profile that it names. Reading ends at the
+/// first read that fails (`Read`) or gives nothing, and no more than [`MOST_BYTES`] and one more are read (`TooLong`); after
+/// either fault nothing was written. Responses are written line by line, so a writer without a buffer is slow;
 /// nothing is flushed. `Write` comes from the first write that fails.
 pub fn run_script<M: Machine, R: Read, W: Write>(
     alloc: Global,
@@ -90,15 +87,13 @@ pub fn run_script<M: Machine, R: Read, W: Write>(
     ensures no_memory { result ≡ Err ScriptFault.OutOfMemory → IfSome (R.remaining reader.old) (λ text. (output : List ℕ)
         × IsOutputOfFirstLines M.IsRun text output × Appends (W.contents writer.old) (W.contents writer.new) output) }
     ensures unread { (result ≡ Err ScriptFault.Read) ⊎ (result ≡ Err ScriptFault.TooLong) → writer.new ≡ writer.old }
-    ensures too_long { result ≡ Err ScriptFault.TooLong → IfSome (R.remaining reader.old) (λ text. 16777216 < length text) }
-    ensures short { OnOk result (IfSome (R.remaining reader.old) (λ text. length text ≤ 16777216)) }
-    ensures reads { (bytes : List ℕ) × (length bytes ≤ 16777217) × Consumes (R.remaining reader.old) (R.remaining reader.new) bytes }
+    ensures too_long { result ≡ Err ScriptFault.TooLong → IfSome (R.remaining reader.old) (λ text. MOST_BYTES < length text) }
+    ensures short { OnOk result (IfSome (R.remaining reader.old) (λ text. length text ≤ MOST_BYTES)) }
+    ensures reads { (bytes : List ℕ) × (length bytes ≤ MOST_BYTES + 1) × Consumes (R.remaining reader.old) (R.remaining reader.new) bytes }
 {
     let text = read_text(alloc, reader)?;
-    let Ok(opening) = opening_of(alloc, text.as_slice()) else {
-        return Err(ScriptFault::OutOfMemory);
-    };
-    write_version(opening.version, writer)?;
-    let mut machine = M::start(alloc, opening.version);
-    run_lines(alloc, &opening, &mut machine, writer)
+    let opening = opening_of(text.as_slice());
+    write_opening(opening.profile, writer)?;
+    let mut machine = M::start(alloc, opening.profile);
+    run_lines(&opening, &mut machine, writer)
 }

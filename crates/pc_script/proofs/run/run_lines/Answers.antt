@@ -2,7 +2,7 @@ use Rattle.std.proofs.Common.{ℕ, ◌+◌, List, Bor, length, drop, sym, arith}
 use Rattle.std.proofs.lemmas.Iterator.Consumers.{YieldsList-from_first, YieldsList-turn, YieldsList-so_far}
 use Rattle.std.proofs.lemmas.List.{length_push, map-append, length-map}
 use Rattle.std.proofs.lemmas.Result.{err_from_is_err_and}
-use Rattle.pc_script.specs.Left.{lines_left, lines_of_rest}
+use Rattle.pc_script.specs.Inner.Left.{lines_left, lines_of_rest}
 use Rattle.pc_script.proofs.Progress.{HasRun-none, HasRun-more, told_so_far, told_at_fault, passed_fault}
 use Rattle.pc_script.specs.declared.outcome.ScriptFault.TheVariants.{OutOfMemory}
 use Rattle.pc_script.proofs.Splits.{list_at}
@@ -25,7 +25,7 @@ returns-in_err-take_line-clause-no_memory g c = λ is.
     let passed = err_from_is_err_and c.from_residual.result c.from_residual.ensures.1 in
     let memory = passed_fault c.take_line.result c.from_residual.result c.in_err-take_line.field-0.0 passed.0 OutOfMemory c.in_err-take_line.was passed.2 passed.1 is in
     let front = YieldsList-so_far road c.loop-line.yielded _ c.loop-line.yielded_by in
-    let told = told_so_far (g.M.Machine.IsRun c.args.opening.now.version) all (length c.loop-line.yielded) (g.met.M.Machine.is_run_after c.args.opening.now.version) front c.loop-line.invariant.ran in
+    let told = told_so_far (g.M.Machine.IsRun c.args.opening.now.profile) all (length c.loop-line.yielded) (g.met.M.Machine.is_run_after c.args.opening.now.profile) front c.loop-line.invariant.ran in
     rw (c.take_line.ensures.no_memory memory) told
 
 pub returns-then-not-branch-clause-ok : goal.returns-then-not-branch-clause-ok
@@ -36,8 +36,8 @@ returns-then-not-branch-clause-ok g c =
     let front = YieldsList-so_far road c.loop-line.yielded _ c.loop-line.yielded_by in
     let whole = list_at all _ c.in-Some.line.now (length c.loop-line.yielded) front turn.0 turn.1 in
     let stops = rw c.if-not-branch.true at c.in_ok-take_line.ensures.ok in
-    told_at_fault (g.M.Machine.IsRun c.args.opening.now.version) all (g.W.Write.contents c.write_fault.new.writer) c.in-Some.line.now (drop (length c.loop-line.yielded + 1) all) (c.loop-line.number + 1) c.write_fault.result
-    (g.met.M.Machine.is_run_after c.args.opening.now.version) whole c.loop-line.invariant.ran stops.0
+    told_at_fault (g.M.Machine.IsRun c.args.opening.now.profile) all (g.W.Write.contents c.write_fault.new.writer) c.in-Some.line.now (drop (length c.loop-line.yielded + 1) all) (c.loop-line.number + 1) c.write_fault.result
+    (g.met.M.Machine.is_run_after c.args.opening.now.profile) whole c.loop-line.invariant.ran stops.0
     (omega (arith, length-map c.loop-line.yielded (λ (line : Bor (List ℕ)). line.now), c.loop-line.invariant.counted))
     (rw (sym stops.2) c.write_fault.ensures.ok)
 

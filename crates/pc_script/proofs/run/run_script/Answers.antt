@@ -6,23 +6,20 @@ use Rattle.pc_script.proofs.run.run_script.Goals as goal
 pub returns-in_err-text-clause-no_memory : goal.returns-in_err-text-clause-no_memory
 returns-in_err-text-clause-no_memory g c = λ is. nothing_told g.M.Machine.IsRun _ _ g.met.M.Machine.is_run_of_none
 
-pub returns-in_default-clause-no_memory : goal.returns-in_default-clause-no_memory
-returns-in_default-clause-no_memory g c = λ is. nothing_told g.M.Machine.IsRun _ _ g.met.M.Machine.is_run_of_none
-
 pub run_lines-requires-clause-short : goal.run_lines-requires-clause-short
 run_lines-requires-clause-short g c =
     let whole = c.as_slice.ensures.value in
-    let opens = rw whole at c.in-Ok.ensures in
+    let opens = rw whole at c.opening_of-opening.ensures in
     omega (arith, Opens-length opens, lines-few c.in_ok-text.text.items, c.in_ok-text.ensures.short)
 
 pub returns-clause-ok : goal.returns-clause-ok
 returns-clause-ok g c =
     let whole = c.as_slice.ensures.value in
-    let opens = rw whole at c.in-Ok.ensures in
-    whole_told g.M.Machine.IsRun _ c.in_ok-text.text.items _ _ _ c.run_lines.result c.in_ok-text.ensures.ok opens c.in_ok-write_version.ensures.ok c.run_lines.ensures.ok
+    let opens = rw whole at c.opening_of-opening.ensures in
+    whole_told g.M.Machine.IsRun _ c.in_ok-text.text.items _ _ _ c.run_lines.result c.in_ok-text.ensures.ok opens c.in_ok-write_opening.ensures.ok c.run_lines.ensures.ok
 
 pub returns-clause-no_memory : goal.returns-clause-no_memory
 returns-clause-no_memory g c = λ is.
     let whole = c.as_slice.ensures.value in
-    let opens = rw whole at c.in-Ok.ensures in
-    first_told g.M.Machine.IsRun _ c.in_ok-text.text.items _ _ _ c.in_ok-text.ensures.ok opens c.in_ok-write_version.ensures.ok (c.run_lines.ensures.no_memory is)
+    let opens = rw whole at c.opening_of-opening.ensures in
+    first_told g.M.Machine.IsRun _ c.in_ok-text.text.items _ _ _ c.in_ok-text.ensures.ok opens c.in_ok-write_opening.ensures.ok (c.run_lines.ensures.no_memory is)

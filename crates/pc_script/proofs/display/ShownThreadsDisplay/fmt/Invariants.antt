@@ -1,6 +1,6 @@
 use Rattle.std.proofs.Common.{take}
 use Rattle.std.specs.Fmt.{HasWritten, IsPlainFormatter}
-use Rattle.pc_script.specs.Replies.{shown_lines}
+use Rattle.pc_script.specs.Responses.{shown_lines}
 use Rattle.pc_script.proofs.display.ShownThreadsDisplay.fmt.Given as goal
 
 abbrev pub invariant-loop-shown : goal.invariant-loop-shown

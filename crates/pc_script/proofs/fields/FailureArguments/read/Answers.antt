@@ -1,0 +1,17 @@
+use Rattle.std.proofs.Common.{codes, not, sym, ap, ◌∙◌}
+use Rattle.std.specs.Str.{bytes_eq}
+use Rattle.std.proofs.lemmas.Bool.{true≢false}
+use Rattle.pc_script.proofs.Spellings.{fail_alone}
+use Rattle.pc_script.proofs.fields.FailureArguments.read.Goals as goal
+
+pub returns-then-ne : goal.returns-then-ne
+returns-then-ne c = λ any kinds ranges is.
+    let alone = fail_alone _ _ any kinds (sym c.in-Some.ensures ∙ is) in
+    let other = rw c.as_slice.ensures at c.ne.ensures in
+    true≢false (sym c.if-ne.true ∙ other ∙ ap (λ word. not (bytes_eq word (codes "fail"))) alone.0)
+
+pub returns-in-Some-first_word : goal.returns-in-Some-first_word
+returns-in-Some-first_word c = λ any kinds ranges is.
+    let alone = fail_alone _ _ any kinds (sym c.in-Some.ensures ∙ is) in
+    let further = c.in-Some-first_word.ensures in
+    cc

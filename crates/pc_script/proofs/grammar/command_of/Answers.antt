@@ -1,0 +1,8 @@
+use Rattle.std.proofs.Common.{subst, sym, ◌∙◌}
+use Rattle.pc_script.specs.Inner.Readings.{IsWritten}
+use Rattle.pc_script.proofs.Spellings.{no_verb, no_words, no_row, one_written}
+use Rattle.pc_script.proofs.grammar.command_of.Goals as goal
+
+pub returns-in_err-verb : goal.returns-in_err-verb
+returns-in_err-verb c = rw c.from_residual-in_err-verb.ensures (λ command spelled.
+    no_verb _ _ c.in_err-verb.ensures command (spelled.1, sym c.in_ok-name.ensures ∙ spelled.2))

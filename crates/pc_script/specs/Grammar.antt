@@ -1,0 +1,168 @@
+-- The words of commands. A line of a script asks for a command where its words are the command's.
+use Rattle.std.specs.Prelude.{◌≡◌, ℕ, ◌^◌, ◌<◌, Bool, true, false, List, [], ◌∷◌, ◌++◌, Option, Some, None, IfSome, ◌⊎◌, slice_get, codes, decimal}
+use Rattle.pc_calls.specs.declared.call.EnvCall.{EnvCall}
+use Rattle.pc_calls.specs.declared.call.EnvCall.TheVariants as env
+use Rattle.pc_calls.specs.declared.event.Event.{Event}
+use Rattle.pc_calls.specs.declared.event.Event.TheVariants as event
+use Rattle.pc_script.specs.Text.{words}
+use Rattle.pc_script.specs.declared.command.Command.{Command}
+use Rattle.pc_script.specs.declared.command.Command.TheVariants as command
+use Rattle.pc_script.specs.declared.command.Read.{Read}
+use Rattle.pc_script.specs.declared.command.Read.TheVariants as read
+
+-- ---- fields
+
+-- An argument of a command, and its value: how many CPUs there are, a CPU, a queue, a level, a count (of ticks, of posts, or
+-- a number up to which something is counted), a mask, the index of a delta, a thread, how a new thread starts, whom a queue
+-- wakes, and whether a send fails
+pub data Field : Type 0 where
+  Processors : ℕ → Field
+  Processor : ℕ → Field
+  Queue : ℕ → Field
+  Level : ℕ → Field
+  Count : ℕ → Field
+  Mask : ℕ → Field
+  Index : ℕ → Field
+  Thread : ℕ → Field
+  State : Bool → Field
+  Target : Option ℕ → Field
+  Failure : Bool → Field
+
+-- a thread is `t`, and its number
+abbrev pub thread_name : ℕ → List ℕ
+thread_name thread = 116 ∷ decimal thread
+
+-- how a new thread starts
+abbrev pub state_word : Bool → List ℕ
+state_word true = codes "ready"
+state_word false = codes "blocked"
+
+-- whom a queue wakes: the agent of a CPU, or none
+abbrev pub target_word : Option ℕ → List ℕ
+target_word None = codes "-"
+target_word (Some cpu) = decimal cpu
+
+-- a send that fails is asked for by a further word
+abbrev pub failure_words : Bool → List (List ℕ)
+failure_words true = codes "fail" ∷ []
+failure_words false = []
+
+-- the words of a field; a number is written in decimal, with neither a sign nor a zero in front
+abbrev pub field_words : Field → List (List ℕ)
+field_words (Processors number) = decimal number ∷ []
+field_words (Processor cpu) = decimal cpu ∷ []
+field_words (Queue queue) = decimal queue ∷ []
+field_words (Level level) = decimal level ∷ []
+field_words (Count number) = decimal number ∷ []
+field_words (Mask mask) = decimal mask ∷ []
+field_words (Index index) = decimal index ∷ []
+field_words (Thread thread) = thread_name thread ∷ []
+field_words (State is_ready) = state_word is_ready ∷ []
+field_words (Target cpu) = target_word cpu ∷ []
+field_words (Failure fails) = failure_words fails
+
+-- the range of a field's value
+abbrev pub IsInRange : Field → Type 0
+IsInRange (Processors number) = number < 2 ^ 8
+IsInRange (Processor cpu) = cpu < 2 ^ 8
+IsInRange (Queue queue) = queue < 2 ^ 8
+IsInRange (Level level) = level < 2 ^ 8
+IsInRange (Count number) = number < 2 ^ 32
+IsInRange (Mask mask) = mask < 2 ^ 64
+IsInRange (Index index) = index < 2 ^ 64
+IsInRange (Thread thread) = thread < 2 ^ 32
+IsInRange (State is_ready) = Unit {0}
+IsInRange (Target cpu) = IfSome cpu (λ c. c < 2 ^ 8)
+IsInRange (Failure fails) = Unit {0}
+
+-- the words of fields, and their ranges
+abbrev pub words_of : List Field → List (List ℕ)
+words_of [] = []
+words_of (field ∷ fields) = field_words field ++ words_of fields
+
+abbrev pub AreInRange : List Field → Type 0
+AreInRange [] = Unit {0}
+AreInRange (field ∷ fields) = IsInRange field × AreInRange fields
+
+-- ---- the table
+
+-- A command's name and its fields
+pub record Row : Type 0 where
+  pub name : List ℕ
+  pub fields : List Field
+
+abbrev pub row : List ℕ → List Field → Row
+row name fields = record { name = name; fields = fields }
+
+-- calls of the environment
+abbrev pub call_row : EnvCall → Row
+call_row (env.Create queue mask ready) = row (codes "create") (Queue queue ∷ Mask mask ∷ State ready ∷ [])
+call_row (env.Wake thread) = row (codes "wake") (Thread thread ∷ [])
+call_row (env.Block cpu ran) = row (codes "block") (Processor cpu ∷ Count ran ∷ [])
+call_row (env.YieldNow cpu ran) = row (codes "yield") (Processor cpu ∷ Count ran ∷ [])
+call_row (env.Preempt cpu ran) = row (codes "preempt") (Processor cpu ∷ Count ran ∷ [])
+call_row (env.Die cpu ran) = row (codes "die") (Processor cpu ∷ Count ran ∷ [])
+call_row (env.SetAffinity thread mask) = row (codes "affinity") (Thread thread ∷ Mask mask ∷ [])
+call_row (env.SetPriority thread level) = row (codes "priority") (Thread thread ∷ Level level ∷ [])
+call_row (env.Tick cpu) = row (codes "tick") (Processor cpu ∷ [])
+
+-- events
+abbrev pub event_row : Event → Row
+event_row (event.Env call) = call_row call
+event_row (event.Associate thread queue number) = row (codes "associate") (Thread thread ∷ Queue queue ∷ Count number ∷ [])
+event_row (event.Commit cpu thread aseq) = row (codes "commit") (Processor cpu ∷ Thread thread ∷ Count aseq ∷ [])
+event_row (event.Sleep cpu aseq) = row (codes "sleep") (Processor cpu ∷ Count aseq ∷ [])
+event_row (event.Rouse cpu) = row (codes "rouse") (Processor cpu ∷ [])
+event_row (event.Config queue target) = row (codes "config") (Queue queue ∷ Target target ∷ [])
+event_row (event.Publish cpu fails) = row (codes "publish") (Processor cpu ∷ Failure fails ∷ [])
+event_row (event.Consume cpu) = row (codes "consume") (Processor cpu ∷ [])
+event_row (event.Deliver cpu delta) = row (codes "deliver") (Processor cpu ∷ Index delta ∷ [])
+event_row (event.Answer cpu asker) = row (codes "answer") (Processor cpu ∷ Processor asker ∷ [])
+event_row (event.Pick cpu aseq) = row (codes "pick") (Processor cpu ∷ Count aseq ∷ [])
+event_row (event.Steal cpu) = row (codes "steal") (Processor cpu ∷ [])
+event_row (event.Crash cpu) = row (codes "crash") (Processor cpu ∷ [])
+
+-- questions
+abbrev pub read_row : Read → Row
+read_row (read.Status thread) = row (codes "status") (Thread thread ∷ [])
+read_row (read.Asleep cpu) = row (codes "asleep") (Processor cpu ∷ [])
+read_row (read.Show cpu) = row (codes "show") (Processor cpu ∷ [])
+read_row (read.Same cpu other) = row (codes "same") (Processor cpu ∷ Processor other ∷ [])
+read_row (read.Complete cpu thread) = row (codes "complete") (Processor cpu ∷ Thread thread ∷ [])
+
+-- a command's row
+abbrev pub row_of : Command → Row
+row_of (command.Enclave limits) =
+    row (codes "enclave") (Processors limits.cpus ∷ Count limits.threads ∷ Count limits.numbers ∷ Count limits.room ∷ Count limits.posts ∷ [])
+row_of (command.Event event) = event_row event
+row_of (command.Read question) = read_row question
+
+-- ---- lines
+
+-- the events of which the project answers a line: a line of another event is a fault
+abbrev pub IsBuiltEvent : Event → Type 0
+IsBuiltEvent (event.Pick cpu aseq) = ⊥
+IsBuiltEvent (event.Steal cpu) = ⊥
+IsBuiltEvent (event.Crash cpu) = ⊥
+IsBuiltEvent (event.Publish cpu true) = ⊥
+IsBuiltEvent _ = Unit {0}
+
+-- all commands but those of such events
+abbrev pub IsBuilt : Command → Type 0
+IsBuilt (command.Event event) = IsBuiltEvent event
+IsBuilt _ = Unit {0}
+
+-- these words are the command's
+abbrev pub Spells : List (List ℕ) → Command → Type 0
+Spells spelled command =
+    IsBuilt command
+    × AreInRange (row_of command).fields
+    × (spelled ≡ (row_of command).name ∷ words_of (row_of command).fields)
+
+-- a line without words, or whose first byte is `#`
+abbrev pub HasNoReply : List ℕ → Type 0
+HasNoReply line = (words line ≡ []) ⊎ (slice_get line 0 ≡ Some 35)
+
+-- the line should have a reply, but its words are no command's
+abbrev pub IsFault : List ℕ → Type 0
+IsFault line = (HasNoReply line → ⊥) × ((command : Command) → Spells (words line) command → ⊥)

@@ -1,0 +1,4 @@
+pub mod Left
+pub mod Readings
+pub mod Steps
+pub mod Verbs

@@ -1,0 +1,60 @@
+-- Reading the words of a command.
+use Rattle.std.specs.Prelude.{◌≡◌, ℕ, Bool, true, false, List, [], ◌∷◌, map, Option, Some, None}
+use Rattle.pc_script.specs.Grammar.{Field, Processors, Processor, Queue, Level, Count, Mask, Index, Thread, State, Target, Failure, field_words, IsInRange, words_of, AreInRange, row_of, Spells}
+use Rattle.pc_script.specs.declared.command.Command.{Command}
+
+-- a command was read exactly where the words spell one
+abbrev pub IsReading : List (List ℕ) → Option Command → Type 0
+IsReading spelled None = (command : Command) → Spells spelled command → ⊥
+IsReading spelled (Some command) = Spells spelled command
+
+-- these words are the command's, whether it is built or not
+abbrev pub IsWritten : List (List ℕ) → Command → Type 0
+IsWritten spelled command = AreInRange (row_of command).fields × (spelled ≡ (row_of command).name ∷ words_of (row_of command).fields)
+
+-- What a field says, whatever its value
+pub data Kind : Type 0 where
+  processors : Kind
+  processor : Kind
+  queue : Kind
+  level : Kind
+  count : Kind
+  mask : Kind
+  index : Kind
+  thread : Kind
+  state : Kind
+  target : Kind
+  failure : Kind
+
+abbrev pub kind_of : Field → Kind
+kind_of (Processors number) = processors
+kind_of (Processor cpu) = processor
+kind_of (Queue q) = queue
+kind_of (Level l) = level
+kind_of (Count number) = count
+kind_of (Mask m) = mask
+kind_of (Index i) = index
+kind_of (Thread t) = thread
+kind_of (State is_ready) = state
+kind_of (Target cpu) = target
+kind_of (Failure fails) = failure
+
+-- a field of this kind is always one word
+abbrev pub is_word : Kind → Bool
+is_word failure = false
+is_word _ = true
+
+abbrev pub kinds_of : List Field → List Kind
+kinds_of fields = map kind_of fields
+
+-- a word was read exactly where it is a field of this kind
+abbrev pub IsFieldReading : {Value : Type 0} → Kind → (Value → Field) → List ℕ → Option Value → Type 0
+IsFieldReading kind field word None = (any : Field) → kind_of any ≡ kind → IsInRange any → field_words any ≡ word ∷ [] → ⊥
+IsFieldReading kind field word (Some read) =
+    (kind_of (field read) ≡ kind) × IsInRange (field read) × (field_words (field read) ≡ word ∷ [])
+
+-- words were read exactly where they are fields of these kinds
+abbrev pub IsFieldsReading : {Values : Type 0} → List Kind → (Values → List Field) → List (List ℕ) → Option Values → Type 0
+IsFieldsReading kinds fields spelled None = (any : List Field) → kinds_of any ≡ kinds → AreInRange any → spelled ≡ words_of any → ⊥
+IsFieldsReading kinds fields spelled (Some read) =
+    (kinds_of (fields read) ≡ kinds) × AreInRange (fields read) × (spelled ≡ words_of (fields read))

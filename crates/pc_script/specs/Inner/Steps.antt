@@ -1,0 +1,39 @@
+-- What one line of a script does.
+use Rattle.std.specs.Prelude.{ℕ, List, [], ◌∷◌, ◌++◌, Option, take}
+use Rattle.std.specs.Io.KnownBytes.{Appends}
+use Rattle.pc_calls.specs.declared.limits.Profile.{Profile}
+use Rattle.pc_script.specs.Grammar.{Spells, HasNoReply, IsFault}
+use Rattle.pc_script.specs.Scripts.{Script, IsTold, responses_text}
+use Rattle.pc_script.specs.Text.{words}
+use Rattle.pc_script.specs.declared.command.Command.{Command}
+use Rattle.pc_script.specs.declared.line.Wish.{Wish}
+use Rattle.pc_script.specs.declared.line.Wish.TheVariants as wish
+use Rattle.pc_script.specs.declared.opening.Opener.{Opener}
+use Rattle.pc_script.specs.declared.opening.Opener.TheVariants as opener
+use Rattle.pc_script.specs.declared.outcome.Outcome.TheVariants.{Finished}
+use Rattle.pc_script.specs.declared.response.Response.{Response}
+use Rattle.pc_script.specs.Versions.{IsVersionTwo}
+
+-- what a line asks for
+abbrev pub IsAsked : List ℕ → Wish → Type 0
+IsAsked line wish.Nothing = HasNoReply line
+IsAsked line (wish.Answer command) = Spells (words line) command
+IsAsked line wish.Stop = IsFault line
+
+-- what a line says of the version, where no line before it has a reply
+abbrev pub IsOpener : List ℕ → Opener → Type 0
+IsOpener line opener.Nothing = HasNoReply line
+IsOpener line opener.Two = IsVersionTwo line
+IsOpener line opener.Other = (HasNoReply line → ⊥) × (IsVersionTwo line → ⊥)
+
+-- The machine took what the line asks for, if anything, and the reply was written
+pub record TakesLine {M : Type 0} (StandsAfter : Profile → M → List Command → List Response → Type 0) (line : List ℕ) (old new : M) (before after : Option (List ℕ)) : Type 0 where
+  pub commands : List Command
+  pub responses : List Response
+  pub asks : Script 1 (line ∷ []) commands Finished
+  pub stands : (profile : Profile) (past : List Command) (told : List Response) → StandsAfter profile old past told → StandsAfter profile new (past ++ commands) (told ++ responses)
+  pub text : Appends before after (responses_text responses)
+
+-- what is told of the first of some lines, of which the first has this number
+abbrev pub IsToldOfFirstLines : (List Command → List Response → Type 0) → ℕ → List (List ℕ) → List ℕ → Type 0
+IsToldOfFirstLines IsRun number script told = (count : ℕ) × IsTold IsRun number (take count script) Finished told
