@@ -4,6 +4,7 @@ use Rattle.pc_calls.specs.declared.call.EnvCall.{EnvCall}
 use Rattle.pc_calls.specs.declared.call.EnvCall.TheVariants as env
 use Rattle.pc_calls.specs.declared.event.Event.{Event}
 use Rattle.pc_calls.specs.declared.event.Event.TheVariants as event
+use Rattle.pc_calls.specs.Events.{IsBuilt as IsBuiltEvent}
 use Rattle.pc_script.specs.Text.{words}
 use Rattle.pc_script.specs.declared.command.Command.{Command}
 use Rattle.pc_script.specs.declared.command.Command.TheVariants as command
@@ -139,15 +140,7 @@ row_of (command.Read question) = read_row question
 
 -- ---- lines
 
--- the events of which the project answers a line: a line of another event is a fault
-abbrev pub IsBuiltEvent : Event → Type 0
-IsBuiltEvent (event.Pick cpu aseq) = ⊥
-IsBuiltEvent (event.Steal cpu) = ⊥
-IsBuiltEvent (event.Crash cpu) = ⊥
-IsBuiltEvent (event.Publish cpu true) = ⊥
-IsBuiltEvent _ = Unit {0}
-
--- all commands but those of such events
+-- all commands but those of events that are not built
 abbrev pub IsBuilt : Command → Type 0
 IsBuilt (command.Event event) = IsBuiltEvent event
 IsBuilt _ = Unit {0}
