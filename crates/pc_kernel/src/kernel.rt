@@ -3,6 +3,7 @@
 ghost use Rattle.std.specs.Prelude.{◌≡◌, ◌≤◌, ◌↔◌, Some, None, length, is_some, slice_get, IfOk, IfErr, IsFalse, ◌⊎◌};
 ghost use Rattle.std.specs.Option.{option_map, option_copied};
 ghost use Rattle.pc_calls.specs.Limits.{bad_field};
+ghost use Rattle.pc_calls.specs.declared.limits.TheConstants.{MOST_CPUS};
 ghost use Rattle.pc_kernel.specs.PlainKernel.{start};
 
 mod agents;
@@ -92,7 +93,7 @@ impl Kernel {
     pub fn cpus(&self) -> u8
         ensures count { result ≡ self.now.limits.cpus }
         ensures some { 1 ≤ result }
-        ensures few { result ≤ 64 }
+        ensures few { result ≤ MOST_CPUS }
     {
         let Limits { cpus, .. } = self.limits;
         cpus
