@@ -24,3 +24,4 @@ mod Marked
 mod Pending
 pub mod Answered
 mod PostRefused
+pub mod Held
