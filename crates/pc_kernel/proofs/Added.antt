@@ -10,7 +10,6 @@ use Rattle.pc_messages.specs.Run.{is_created}
 use Rattle.pc_messages.specs.declared.kind.Kind.{Kind}
 use Rattle.pc_messages.specs.declared.kind.Kind.TheVariants.{Created, Blocked, Preempted, Yield, Dead, Wakeup, Affinity, Priority}
 use Rattle.pc_messages.specs.declared.message.Message.{Message}
-use Rattle.pc_messages.specs.declared.message.Item.{Item}
 use Rattle.pc_messages.specs.declared.message.Item.TheVariants as item
 use Rattle.pc_calls.specs.declared.call.Posted.{Posted}
 use Rattle.pc_kernel.specs.declared.cpus.CpuEntry.{CpuEntry}
@@ -21,10 +20,12 @@ use Rattle.pc_kernel.specs.PlainKernel as plain
 use Rattle.pc_kernel.specs.Rows.{ThreadRow, CpuRow, KernelRows}
 use Rattle.pc_kernel.specs.Reads.{thread_row, shown}
 use Rattle.pc_kernel.specs.Inner.Entries.{row_of, rows, place_in, IsKernel, IsPosted}
-use Rattle.pc_kernel.specs.Sound.{IsThreadRow, IsOfRun}
+use Rattle.pc_kernel.specs.Sound.{IsThreadRow}
 use Rattle.pc_kernel.specs.Answers.{Shows}
 use Rattle.pc_kernel.specs.Inner.Sends.{Sends, adding}
 use Rattle.pc_kernel.specs.Steps.{at, posted, receipt}
+use Rattle.pc_kernel.proofs.Items.{message_next}
+use Rattle.pc_kernel.proofs.Ranges.{ranges}
 use Rattle.pc_kernel.proofs.Slots.{slice_get_push}
 use Rattle.pc_kernel.proofs.Shown.{ShowsParts, shows_from, shows_parts}
 use Rattle.pc_kernel.proofs.ShownReads.{unknown_kinds}
@@ -102,18 +103,11 @@ kernel_added limits threads old new queue kind landing k h there few e =
       | inl at ↦
           let same : row ≡ other = same_Some row other (sym (push_same threads row) ∙ ap (slice_get (threads ++ row ∷ [])) (sym at.1) ∙ is) in
           let P : ThreadRow → Type 0 = IsThreadRow (rows limits (threads ++ row ∷ []) new) in
-          subst P same (first_row_sound (rows limits threads old) (rows limits (threads ++ row ∷ []) new) queue kind refl there k.sound.limits.some_numbers e)
+          subst P same (first_row_sound (rows limits threads old) (rows limits (threads ++ row ∷ []) new) queue kind refl there (ranges limits k.sound.limits).some_numbers e)
       | inr at ↦ kept_row_sound (rows limits threads old) (rows limits (threads ++ row ∷ []) new) other refl (k.sound.thread s other (sym (push_other threads row s at.0) ∙ is))
     ])
-    (λ m is.
-    let P : Message → Type 0 = IsOfRun (rows limits (threads ++ row ∷ []) new) in
-    subst P (same_message (first_message (length threads) kind) m is) record {
-      kind = rw (push_same threads row) refl;
-      well_formed = record { from_one = omega arith; greatest = omega arith; created = (λ yes. refl, λ one. e) };
-    })
-  where
-    same_message : (m n : Message) → ◌≡◌ {A = Item} (item.Thread m) (item.Thread n) → m ≡ n
-    same_message m n e = cc
+    (message_next (kinds_in (threads ++ row ∷ [])) (first_message (length threads) kind) (rw (push_same threads row) refl)
+    record { from_one = omega arith; greatest = omega arith; created = (λ yes. refl, λ one. e) })
 
 -- nothing is found where nothing passes
 pub find_none : (p : ℕ → Bool) (a n : ℕ) → ((c : ℕ) → a ≤ c → c < a + n → p c ≡ false) → find p (range_with_len a n) ≡ None

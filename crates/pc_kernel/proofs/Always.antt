@@ -5,6 +5,7 @@ use Rattle.std.specs.Option.{option_map_or}
 use Rattle.std.proofs.lemmas.List.{append-nil}
 use Rattle.std.proofs.lemmas.List.Elements.{filter_map-append}
 use Rattle.std.proofs.lemmas.Bool.Decides.{eqb_tells}
+use Rattle.pc_messages.specs.Items.{message_in}
 use Rattle.pc_messages.specs.Mask.{allows}
 use Rattle.pc_messages.specs.State.{phase_of, mask_of}
 use Rattle.pc_messages.specs.Run.{IsBegun}
@@ -14,7 +15,7 @@ use Rattle.pc_messages.specs.declared.message.Item.{Item}
 use Rattle.pc_messages.specs.declared.message.Item.TheVariants as item
 use Rattle.pc_messages.specs.declared.reported.Phase.TheVariants.{Ready}
 use Rattle.pc_kernel.specs.PlainKernel.{PlainKernel, kinds, number, is_known, threads, aseq, content}
-use Rattle.pc_kernel.specs.Facts.{message_in, waiting, numbered, messages, IsPlaced, HadNoPost}
+use Rattle.pc_kernel.specs.Facts.{waiting, numbered, messages, IsPlaced, HadNoPost}
 use Rattle.pc_kernel.specs.Steps.{posted, roused, at}
 use Rattle.pc_kernel.proofs.Posting.{if_to, if_to_same, if_to_other, kinds_quiet, kinds_told, content-posted, aseq-posted_other, aseq-posted_le, IsQuiet, telling_same, threads-posted_tick}
 

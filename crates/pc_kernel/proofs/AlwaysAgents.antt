@@ -13,9 +13,10 @@ use Rattle.pc_messages.specs.declared.message.Item.{Item}
 use Rattle.pc_messages.specs.declared.message.Item.TheVariants as item
 use Rattle.pc_messages.specs.declared.reported.Phase.TheVariants.{Ready}
 use Rattle.pc_kernel.specs.PlainKernel.{PlainKernel, kinds, number, is_known, aseq, content, place_of, items_to}
-use Rattle.pc_kernel.specs.Reads.{shown, is_of}
+use Rattle.pc_messages.specs.Items.{is_of, message_in}
+use Rattle.pc_kernel.specs.Reads.{shown}
 use Rattle.pc_kernel.specs.Reads as reads
-use Rattle.pc_kernel.specs.Facts.{message_in, waiting, messages, HadNoPost}
+use Rattle.pc_kernel.specs.Facts.{waiting, messages, HadNoPost}
 use Rattle.pc_kernel.specs.Steps.{at}
 use Rattle.pc_kernel.proofs.ShownReads.{shown-home, shown-place, shown-content}
 use Rattle.pc_kernel.proofs.Always.{IsKept, IsLast, at_same, at_none_was, length-numbered}

@@ -1,21 +1,19 @@
 -- What holds of a kernel's rows still holds after a post, where every history goes on.
-use Rattle.std.proofs.Common.{◌≡◌, ◌∙◌, ℕ, suc, zero, ◌+◌, ◌-◌, ◌<◌, ◌≤◌, ◌==◌, ◌⊎◌, Bool, true, false, cond, List, [], ◌∷◌, ◌++◌, length, map, Option, Some, None, slice_get, Contains, refl, sym, ap, subst, arith, inl, inr}
+use Rattle.std.proofs.Common.{◌≡◌, ◌∙◌, ℕ, suc, zero, ◌+◌, ◌-◌, ◌<◌, ◌≤◌, ◌==◌, Bool, true, false, cond, List, [], ◌∷◌, ◌++◌, length, map, Option, Some, None, slice_get, refl, sym, ap, subst, arith, inl, inr}
 use Rattle.std.specs.Option.{option_map, option_map_or}
-use Rattle.std.proofs.lemmas.Bool.{cases_lt}
 use Rattle.std.proofs.lemmas.Bool.Decides.{eqb_tells, nat_tests}
-use Rattle.std.proofs.lemmas.List.{length-map, length_push, get_or_append_left, get_or_push}
+use Rattle.std.proofs.lemmas.List.{length-map, length_push}
 use Rattle.std.proofs.lemmas.Option.{same_Some, slice_get-map}
 use Rattle.pc_messages.specs.Run.{kind_at}
 use Rattle.pc_messages.specs.declared.kind.Kind.{Kind}
-use Rattle.pc_messages.specs.declared.message.Message.{Message}
 use Rattle.pc_messages.specs.declared.message.Item.{Item}
-use Rattle.pc_messages.specs.declared.message.Item.TheVariants as item
 use Rattle.pc_kernel.specs.declared.cpus.CpuEntry.{CpuEntry}
 use Rattle.pc_kernel.specs.declared.cpus.Landing.{Landing}
 use Rattle.pc_calls.specs.declared.limits.Limits.{Limits}
 use Rattle.pc_kernel.specs.Rows.{ThreadRow, CpuRow}
 use Rattle.pc_kernel.specs.Inner.Entries.{row_of, rows, roused_entry, given_entry, place_in, IsKernel, IsPosted, AreTargets}
-use Rattle.pc_kernel.specs.Sound.{IsThreadRow, IsCpuRow, IsOfRun}
+use Rattle.pc_kernel.specs.Sound.{IsThreadRow, IsCpuRow}
+use Rattle.pc_kernel.proofs.Items.{IsNext, items_of_longer, tellable_push}
 use Rattle.pc_kernel.proofs.Slots.{slice_get_map_some}
 
 -- the kinds of a thread's messages
@@ -51,20 +49,8 @@ kind_at_last ks kind n e =
     let before : n - 1 ≡ length ks = omega arith in
     rw (some, before) (last_element ks kind)
 
-pub of_run : (old new : List ThreadRow) (limits : Limits) (cpus others : List CpuEntry) (m : Message) → Grows old new → IsOfRun (rows limits old cpus) m → IsOfRun (rows limits new others) m
-of_run old new limits cpus others m g h = record {
-  kind = rw (g.each m.thread).1 (kind_at_append (kinds_in old m.thread) (g.each m.thread).0 m.number m.kind h.kind);
-  well_formed = h.well_formed;
-}
-
--- a list with one more has the old elements and the new one
-contains_push : {X : Type 0} (xs : List X) (y x : X) → Contains (xs ++ y ∷ []) x → Contains xs x ⊎ (y ≡ x)
-contains_push xs y x c = elim (cases_lt c.0 (length xs)) [
-  | inl h ↦ inl (c.0, h, sym (get_or_append_left xs (y ∷ []) x c.0 h) ∙ c.2)
-  | inr h ↦
-      let at : length xs ≡ c.0 = let l = length_push xs y in omega (arith, c.1) in
-      inr (sym (get_or_push xs y x c.0 at) ∙ c.2)
-]
+grown : (old new : List ThreadRow) → Grows old new → (t n : ℕ) (kind : Kind) → kind_at (kinds_in old t) n ≡ Some kind → kind_at (kinds_in new t) n ≡ Some kind
+grown old new g t n kind e = rw (g.each t).1 (kind_at_append (kinds_in old t) (g.each t).0 n kind e)
 
 -- the rows of CPUs after a post
 posted_at : (old new : List CpuEntry) (q : ℕ) (it : Item) (landing : Landing) (h : IsPosted old new q it landing) (c : ℕ) (f : CpuEntry) → slice_get new c ≡ Some f
@@ -85,35 +71,35 @@ row_kept old new limits cpus others e asleep g h = record {
   posts = h.posts;
   target = h.target;
   on = λ t on. let l = h.on t on in let c = g.count in omega arith;
-  messages = λ m there. of_run old new limits cpus others m g (h.messages m there);
+  of_run = items_of_longer (kinds_in old) (kinds_in new) e.queue.items (grown old new g) h.of_run;
+  tellable = h.tellable;
 }
 
 row_given : (old new : List ThreadRow) (limits : Limits) (cpus others : List CpuEntry) (e : CpuEntry) (it : Item) (asleep : Bool) → Grows old new → IsCpuRow (rows limits old cpus) (row_of e)
     → e.queue.room ≡ limits.room → e.queue.most ≡ limits.posts → length e.queue.items < e.queue.room → e.queue.posts < e.queue.most
-    → ((m : Message) → it ≡ item.Thread m → IsOfRun (rows limits new others) m)
+    → IsNext (kinds_in new) it
     → IsCpuRow (rows limits new others) record { posts = e.queue.posts + 1; content = e.queue.items ++ it ∷ []; target = e.target; on = e.running; asleep = asleep }
-row_given old new limits cpus others e it asleep g h room most fits spare told =
+row_given old new limits cpus others e it asleep g h room most fits spare next =
     let l : length (e.queue.items ++ it ∷ []) ≡ length e.queue.items + 1 = length_push e.queue.items it in
     let held = h.held in
+    let both = tellable_push (kinds_in new) e.queue.items it (items_of_longer (kinds_in old) (kinds_in new) e.queue.items (grown old new g) h.of_run) h.tellable next in
     record {
       room = omega arith;
       held = omega arith;
       posts = omega arith;
       target = h.target;
       on = λ t on. let below = h.on t on in let c = g.count in omega arith;
-      messages = λ m there. elim (contains_push e.queue.items it (item.Thread m) there) [
-        | inl before ↦ of_run old new limits cpus others m g (h.messages m before)
-        | inr is ↦ told m is
-      ];
+      of_run = both.0;
+      tellable = both.1;
     }
 
 row_posted : (old new : List ThreadRow) (limits : Limits) (cpus others : List CpuEntry) (agent : Option ℕ) (q : ℕ) (it : Item) (c : ℕ) (e : CpuEntry) → Grows old new → IsCpuRow (rows limits old cpus) (row_of e)
     → e.queue.room ≡ limits.room → e.queue.most ≡ limits.posts → (c ≡ q → (length e.queue.items < e.queue.room) × (e.queue.posts < e.queue.most))
-    → ((m : Message) → it ≡ item.Thread m → IsOfRun (rows limits new others) m)
+    → IsNext (kinds_in new) it
     → IsCpuRow (rows limits new others) (row_of (roused_entry agent c (given_entry q it c e)))
-row_posted old new limits cpus others agent q it c e g h room most fits told =
+row_posted old new limits cpus others agent q it c e g h room most fits next =
     elim (eqb_tells c q) [
-      | inl at ↦ rw at.0 (row_given old new limits cpus others e it _ g h room most (fits at.1).0 (fits at.1).1 told)
+      | inl at ↦ rw at.0 (row_given old new limits cpus others e it _ g h room most (fits at.1).0 (fits at.1).1 next)
       | inr at ↦ rw at.0 (row_kept old new limits cpus others e _ g h)
     ]
 
@@ -129,8 +115,8 @@ running_kept agent q it c e = elim (eqb_tells c q) [ inl at ↦ rw at.0 refl | i
 -- what holds of a kernel holds after a post, where its histories go on and hold what was told
 pub kernel_posted : (limits : Limits) (old new : List ThreadRow) (cpus others : List CpuEntry) (q : ℕ) (it : Item) (landing : Landing) → IsKernel limits old cpus → IsPosted cpus others q it landing
     → Grows old new → length new ≤ limits.threads → ((t : ℕ) (row : ThreadRow) → slice_get new t ≡ Some row → IsThreadRow (rows limits new others) row)
-    → ((m : Message) → it ≡ item.Thread m → IsOfRun (rows limits new others) m) → IsKernel limits new others
-kernel_posted limits old new cpus others q it landing k h g few threads told =
+    → IsNext (kinds_in new) it → IsKernel limits new others
+kernel_posted limits old new cpus others q it landing k h g few threads next =
     let same : length (map row_of others) ≡ length (map row_of cpus) = length-map others row_of ∙ h.count ∙ sym (length-map cpus row_of) in
     record {
       sound = record {
@@ -145,7 +131,7 @@ kernel_posted limits old new cpus others q it landing k h g few threads told =
             let P : CpuRow → Type 0 = IsCpuRow (rows limits new others) in
             subst P (ap row_of before.2 ∙ after.2) (
             row_posted old new limits cpus others h.entry.target q it c before.0 g (k.sound.cpu c (row_of before.0) (slice_get-map row_of cpus c ∙ ap (option_map row_of) before.1)) has.0 has.1
-            (λ at. let is : h.entry ≡ before.0 = same_Some h.entry before.0 (sym h.there ∙ ap (slice_get cpus) (sym at) ∙ before.1) in rw (← is) (h.room, h.posts)) told);
+            (λ at. let is : h.entry ≡ before.0 = same_Some h.entry before.0 (sym h.there ∙ ap (slice_get cpus) (sym at) ∙ before.1) in rw (← is) (h.room, h.posts)) next);
       };
       queues = λ c f e.
           let before = posted_at cpus others q it landing h c f e in

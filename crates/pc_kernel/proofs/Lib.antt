@@ -1,3 +1,5 @@
+pub mod Items
+pub mod Ranges
 mod Begin
 mod PostAt
 mod Shown
@@ -21,3 +23,5 @@ mod TickSent
 mod Marked
 mod Pending
 pub mod Answered
+mod PostRefused
+pub mod Held

@@ -23,12 +23,12 @@ use Rattle.pc_kernel.proofs.Becoming.{becomes_off, becomes_on, becomes_housed, b
 abbrev pub Moved : (PlainKernel → PlainKernel) → KernelRows → Limits → List ThreadRow → List CpuEntry → Type 0
 Moved change old limits threads cpus = IsKernel limits threads cpus × Becomes change old (rows limits threads cpus)
 
-cpu_read : (limits : Limits) (threads : List ThreadRow) (cpus : List CpuEntry) (i c : ℕ) (e : CpuEntry) → IsKernel limits threads cpus → i ≡ c → c < limits.cpus → e ≡ get_or cpus i e → slice_get cpus c ≡ Some e
+pub cpu_read : (limits : Limits) (threads : List ThreadRow) (cpus : List CpuEntry) (i c : ℕ) (e : CpuEntry) → IsKernel limits threads cpus → i ≡ c → c < limits.cpus → e ≡ get_or cpus i e → slice_get cpus c ≡ Some e
 cpu_read limits threads cpus i c e k index there read =
     let n : length cpus ≡ limits.cpus = sym (length-map cpus row_of) ∙ k.sound.cpus in
     slice_get_read cpus (length cpus) c e refl (omega arith) (rw (← index) read)
 
-thread_read : (threads : List ThreadRow) (i t : ℕ) (row : ThreadRow) → i ≡ t → t < length threads → row ≡ get_or threads i row → slice_get threads t ≡ Some row
+pub thread_read : (threads : List ThreadRow) (i t : ℕ) (row : ThreadRow) → i ≡ t → t < length threads → row ≡ get_or threads i row → slice_get threads t ≡ Some row
 thread_read threads i t row index known read = slice_get_read threads (length threads) t row refl known (rw (← index) read)
 
 -- a change of the row of one CPU, of one thread, or of both
@@ -59,7 +59,7 @@ both_moved change limits threads cpus i t row new j c e fresh old k is index kno
 seen_on : (limits : Limits) (threads : List ThreadRow) (cpus : List CpuEntry) (c : ℕ) (e : CpuEntry) → slice_get cpus c ≡ Some e → on (seen (rows limits threads cpus)) c ≡ e.running
 seen_on limits threads cpus c e there = ap (option_and_then (λ (row : CpuRow). row.on)) (slice_get-map row_of cpus c ∙ ap (option_map row_of) there)
 
-seen_content : (limits : Limits) (threads : List ThreadRow) (cpus : List CpuEntry) (c : ℕ) (e : CpuEntry) → slice_get cpus c ≡ Some e → content (seen (rows limits threads cpus)) c ≡ e.queue.items
+pub seen_content : (limits : Limits) (threads : List ThreadRow) (cpus : List CpuEntry) (c : ℕ) (e : CpuEntry) → slice_get cpus c ≡ Some e → content (seen (rows limits threads cpus)) c ≡ e.queue.items
 seen_content limits threads cpus c e there = rw (slice_get-map, there) refl
 
 -- the thread on a CPU leaves it

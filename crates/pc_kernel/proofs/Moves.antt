@@ -4,7 +4,8 @@ use Rattle.std.specs.Option.{option_map, option_map_or, option_and_then}
 use Rattle.std.proofs.lemmas.Bool.Decides.{eqb_tells}
 use Rattle.std.proofs.lemmas.List.{length-map, length-drop}
 use Rattle.std.proofs.lemmas.Option.{same_Some, slice_get-map}
-use Rattle.pc_messages.specs.declared.message.Message.{Message}
+use Rattle.std.proofs.lemmas.List.Elements.{All-drop}
+use Rattle.pc_messages.specs.Items.{IsItemOf}
 use Rattle.pc_messages.specs.declared.message.Item.TheVariants as item
 use Rattle.pc_queue.specs.Queue.{Queue}
 use Rattle.pc_kernel.specs.declared.cpus.CpuEntry.{CpuEntry}
@@ -12,15 +13,13 @@ use Rattle.pc_calls.specs.declared.limits.Limits.{Limits}
 use Rattle.pc_kernel.specs.Rows.{ThreadRow, CpuRow, KernelRows}
 use Rattle.pc_kernel.specs.Reads.{seen, kinds}
 use Rattle.pc_kernel.specs.Inner.Entries.{row_of, rows, place_in, IsKernel}
-use Rattle.pc_kernel.specs.Sound.{IsThreadRow, IsCpuRow, IsOfRun}
+use Rattle.pc_kernel.specs.Sound.{IsThreadRow, IsCpuRow}
+use Rattle.pc_kernel.proofs.Items.{items_of_same}
 use Rattle.pc_kernel.proofs.Slots.{slice_get_set_same, slice_get_set_other, slice_get_map_some}
 
 -- a row's facts, where the limits and the histories are the same
 thread_row_kept : (old new : KernelRows) (row : ThreadRow) → new.limits ≡ old.limits → IsThreadRow old row → IsThreadRow new row
 thread_row_kept old new row same h = record { home = rw same h.home; told = h.told; numbers = rw same h.numbers; begun = h.begun; ran = h.ran }
-
-of_run_kept : (old new : KernelRows) (m : Message) → ((t : ℕ) → kinds (seen new) t ≡ kinds (seen old) t) → IsOfRun old m → IsOfRun new m
-of_run_kept old new m same h = record { kind = rw (same m.thread) h.kind; well_formed = h.well_formed }
 
 cpu_row_kept : (old new : KernelRows) (row : CpuRow) → new.limits ≡ old.limits → length new.threads ≡ length old.threads → ((t : ℕ) → kinds (seen new) t ≡ kinds (seen old) t) → IsCpuRow old row → IsCpuRow new row
 cpu_row_kept old new row limits count same h = record {
@@ -29,7 +28,8 @@ cpu_row_kept old new row limits count same h = record {
   posts = rw limits h.posts;
   target = rw limits h.target;
   on = rw count h.on;
-  messages = λ m there. of_run_kept old new m same (h.messages m there);
+  of_run = items_of_same (kinds (seen old)) (kinds (seen new)) row.content same h.of_run;
+  tellable = h.tellable;
 }
 
 -- a row of a CPU that has a row of the list
@@ -118,13 +118,13 @@ contains_drop (suc n) (y ∷ ys) x h = let from = contains_drop n ys x h in (suc
 
 -- a CPU's row with another mark, or with fewer items
 pub marked_row : (k : KernelRows) (e : CpuEntry) (asleep : Bool) → IsCpuRow k (row_of e) → IsCpuRow k (row_of (record e { asleep = asleep }))
-marked_row k e asleep h = record { room = h.room; held = h.held; posts = h.posts; target = h.target; on = h.on; messages = h.messages }
+marked_row k e asleep h = record { room = h.room; held = h.held; posts = h.posts; target = h.target; on = h.on; of_run = h.of_run; tellable = h.tellable }
 
 pub aimed_row : (k : KernelRows) (e : CpuEntry) (target : Option ℕ) → IsCpuRow k (row_of e) → ((c : ℕ) → target ≡ Some c → c < k.limits.cpus) → IsCpuRow k (row_of (record e { target = target }))
-aimed_row k e target h there = record { room = h.room; held = h.held; posts = h.posts; target = there; on = h.on; messages = h.messages }
+aimed_row k e target h there = record { room = h.room; held = h.held; posts = h.posts; target = there; on = h.on; of_run = h.of_run; tellable = h.tellable }
 
 pub running_row : (k : KernelRows) (e : CpuEntry) (running : Option ℕ) → IsCpuRow k (row_of e) → ((t : ℕ) → running ≡ Some t → t < length k.threads) → IsCpuRow k (row_of (record e { running = running }))
-running_row k e running h known = record { room = h.room; held = h.held; posts = h.posts; target = h.target; on = known; messages = h.messages }
+running_row k e running h known = record { room = h.room; held = h.held; posts = h.posts; target = h.target; on = known; of_run = h.of_run; tellable = h.tellable }
 
 -- the queue without its first items
 abbrev pub cut_queue : Queue → ℕ → Queue
@@ -141,5 +141,9 @@ cut_row k e n h =
       posts = h.posts;
       target = h.target;
       on = h.on;
-      messages = λ m there. h.messages m (contains_drop n e.queue.items (item.Thread m) there);
+      of_run = All-drop (IsItemOf (kinds (seen k))) n e.queue.items h.of_run;
+      tellable = record {
+        well_formed = λ m there. h.tellable.well_formed m (contains_drop n e.queue.items (item.Thread m) there);
+        alike = λ one other a b. h.tellable.alike one other (contains_drop n e.queue.items (item.Thread one) a) (contains_drop n e.queue.items (item.Thread other) b);
+      };
     }

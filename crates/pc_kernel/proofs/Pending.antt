@@ -2,23 +2,18 @@
 use Rattle.std.proofs.Common.{◌≡◌, ◌∙◌, ℕ, ◌<◌, [], length, Option, Some, slice_get, refl, sym, ap}
 use Rattle.std.specs.List.{list_any}
 use Rattle.std.specs.Option.{option_map, option_map_or}
-use Rattle.pc_messages.specs.declared.message.Item.{Item}
-use Rattle.pc_messages.specs.declared.message.Item.TheVariants.{Thread, Tick}
+use Rattle.pc_messages.specs.Items.{is_of}
 use Rattle.pc_queue.specs.Queue as queue
 use Rattle.pc_kernel.specs.declared.cpus.CpuEntry.{CpuEntry}
 use Rattle.pc_kernel.specs.Rows.{CpuRow, KernelRows}
-use Rattle.pc_kernel.specs.Reads.{seen, content, is_of}
+use Rattle.pc_kernel.specs.Reads.{seen, content}
 use Rattle.pc_kernel.specs.Inner.Entries.{row_of}
 use Rattle.pc_kernel.specs.Sound.{IsSound}
-
-same_is_of : (t : ℕ) (it : Item) → queue.is_of t it ≡ is_of t it
-same_is_of t (Thread message) = refl
-same_is_of t (Tick cpu) = refl
 
 -- the queue holds a message of the thread
 pub pending_seen : (k : KernelRows) (o : Option CpuEntry) (q t : ℕ) (e : CpuEntry) → option_map row_of o ≡ slice_get k.cpus q → o ≡ Some e → queue.is_pending t e.queue.items ≡ list_any (is_of t) (content (seen k) q)
 pending_seen k o q t e there is =
-    (λ p. list_any (λ it. same_is_of t it p) e.queue.items) ∙ ap (λ (o : Option CpuRow). list_any (is_of t) (option_map_or (λ row. row.content) o [])) (sym (ap (option_map row_of) is) ∙ there)
+    ap (λ (o : Option CpuRow). list_any (is_of t) (option_map_or (λ row. row.content) o [])) (sym (ap (option_map row_of) is) ∙ there)
 
 -- the thread on a CPU is known
 pub runs_known : (k : KernelRows) (o : Option CpuEntry) (c t : ℕ) (e : CpuEntry) → IsSound k → option_map row_of o ≡ slice_get k.cpus c → o ≡ Some e → e.running ≡ Some t → t < length k.threads

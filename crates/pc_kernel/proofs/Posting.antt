@@ -9,9 +9,8 @@ use Rattle.pc_messages.specs.declared.kind.Kind.{Kind}
 use Rattle.pc_messages.specs.declared.message.Message.{Message}
 use Rattle.pc_messages.specs.declared.message.Item.{Item}
 use Rattle.pc_messages.specs.declared.message.Item.TheVariants as item
-use Rattle.pc_kernel.specs.PlainKernel.{PlainKernel, Post, kind_in, name_in, item_to, firsts, kinds, is_known, threads, items_to, aseq, content}
-use Rattle.pc_kernel.specs.Reads.{is_of}
-use Rattle.pc_kernel.specs.Facts.{message_in}
+use Rattle.pc_kernel.specs.PlainKernel.{PlainKernel, Post, kind_in, item_to, firsts, kinds, is_known, threads, items_to, aseq, content}
+use Rattle.pc_messages.specs.Items.{is_of, message_in, thread_in}
 use Rattle.pc_kernel.specs.Steps.{posted}
 
 -- an item as a post to a queue, of a list of one
@@ -93,7 +92,7 @@ abbrev pub has_name : List ℕ → ℕ → Bool
 has_name xs t = list_any (λ x. x == t) xs
 
 abbrev pub names : List Post → List ℕ
-names posts = filter_map (λ post. name_in post.item) posts
+names posts = filter_map (λ post. thread_in post.item) posts
 
 or_true : (b : Bool) → (b || true) ≡ true
 or_true true = refl
@@ -158,7 +157,7 @@ some_are : (n : ℕ) → nat_lt 0 (suc n) ≡ true
 some_are n = lt-ltb 0 (suc n) (omega arith)
 
 named_item : (it : Item) (t : ℕ) (n : ℕ) (b : Bool) → nat_lt 0 n ≡ b → (ks : List Kind) → length ks ≡ n →
-    nat_lt 0 (length (cons_option (kind_in t it) ks)) ≡ list_any (λ x. x == t) (cons_option (name_in it) []) || b
+    nat_lt 0 (length (cons_option (kind_in t it) ks)) ≡ list_any (λ x. x == t) (cons_option (thread_in it) []) || b
 named_item (item.Tick cpu) t n b e ks l = rw l e
 named_item (item.Thread m) t n b e ks l =
     elim (m.thread == t) as (λ c. nat_lt 0 (length (cons_option (if c then Some m.kind else None) ks)) ≡ ((c || false) || b)) [ true ↦ some_are (length ks) | false ↦ rw l e ]
@@ -172,10 +171,10 @@ pub known_by_name : (posts : List Post) (t : ℕ) → nat_lt 0 (length (filter_m
 known_by_name [] t = refl
 known_by_name (p ∷ posts) t =
     named_item p.item t (length (filter_map (λ (post : Post). kind_in t post.item) posts)) (has_name (names posts) t) (known_by_name posts t) _ refl
-    ∙ sym (list_any_cons_option (name_in p.item) (names posts) t)
+    ∙ sym (list_any_cons_option (thread_in p.item) (names posts) t)
 
-names-posted : (P : PlainKernel) (q : ℕ) (it : Item) → names (posted P q it).posts ≡ names P.posts ++ cons_option (name_in it) []
-names-posted P q it = filter_map-append (λ (post : Post). name_in post.item) P.posts (one q it)
+names-posted : (P : PlainKernel) (q : ℕ) (it : Item) → names (posted P q it).posts ≡ names P.posts ++ cons_option (thread_in it) []
+names-posted P q it = filter_map-append (λ (post : Post). thread_in post.item) P.posts (one q it)
 
 pub threads-posted_known : (P : PlainKernel) (q : ℕ) (m : Message) → is_known P m.thread ≡ true → threads (posted P q (item.Thread m)) ≡ threads P
 threads-posted_known P q m e =

@@ -4,8 +4,6 @@ use Rattle.std.specs.Option.{option_map}
 use Rattle.std.proofs.lemmas.List.{append-nil}
 use Rattle.std.proofs.lemmas.Option.{slice_get-map}
 use Rattle.pc_messages.specs.declared.kind.Kind.{Kind}
-use Rattle.pc_messages.specs.declared.message.Message.{Message}
-use Rattle.pc_messages.specs.declared.message.Item.{Item}
 use Rattle.pc_messages.specs.declared.message.Item.TheVariants as item
 use Rattle.pc_kernel.specs.declared.cpus.CpuEntry.{CpuEntry}
 use Rattle.pc_kernel.specs.declared.cpus.Landing.{Landing}
@@ -18,6 +16,7 @@ use Rattle.pc_kernel.specs.Sound.{IsThreadRow}
 use Rattle.pc_kernel.specs.Inner.Sends.{Sends, ticking}
 use Rattle.pc_kernel.specs.Steps.{posted}
 use Rattle.pc_kernel.proofs.Shown.{shows_from, shows_parts}
+use Rattle.pc_kernel.proofs.Items.{tick_next}
 use Rattle.pc_kernel.proofs.Grows.{Grows, kinds_in, kernel_posted}
 use Rattle.pc_kernel.proofs.CpuPosting.{cpus_posted, landed}
 use Rattle.pc_kernel.proofs.Posting.{IsQuiet, kinds_quiet, threads-posted_tick, aseq-posted_le}
@@ -31,10 +30,7 @@ kept_row limits threads old new row h = record { home = h.home; told = h.told; n
 -- what holds of every kernel holds after the tick
 pub kernel_ticked : (limits : Limits) (threads : List ThreadRow) (old new : List CpuEntry) (c : ℕ) (landing : Landing) → IsKernel limits threads old → IsPosted old new c (item.Tick c) landing → IsKernel limits threads new
 kernel_ticked limits threads old new c landing k h =
-    kernel_posted limits threads threads old new c (item.Tick c) landing k h (same_grows threads) k.sound.threads (λ t row is. kept_row limits threads old new row (k.sound.thread t row is)) (λ m is. no_message m is)
-  where
-    no_message : {X : Type 0} (m : Message) → ◌≡◌ {A = Item} (item.Tick c) (item.Thread m) → X
-    no_message m e = cc
+    kernel_posted limits threads threads old new c (item.Tick c) landing k h (same_grows threads) k.sound.threads (λ t row is. kept_row limits threads old new row (k.sound.thread t row is)) (tick_next (kinds_in threads) c)
 
 tick_quiet : (t c : ℕ) → IsQuiet t (item.Tick c)
 tick_quiet t c = record { kind = refl; message = refl; not_of = refl }

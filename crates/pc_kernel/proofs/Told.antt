@@ -1,5 +1,5 @@
 -- A thread's next message: what the code does, and what it is to a plain kernel.
-use Rattle.std.proofs.Common.{◌≡◌, ◌∙◌, ℕ, suc, zero, ◌+◌, ◌<◌, ◌≤◌, ◌^◌, true, false, cond, nat_lt, List, [], ◌∷◌, ◌++◌, length, set, get_or, Option, Some, None, slice_get, IsFalse, Result, Ok, Err, IfOk, OnErr, refl, sym, ap, subst, arith, inl, inr, length-set, if◌then◌else◌}
+use Rattle.std.proofs.Common.{◌≡◌, ◌∙◌, ℕ, suc, zero, ◌+◌, ◌<◌, ◌≤◌, true, false, cond, nat_lt, List, [], ◌∷◌, ◌++◌, length, set, get_or, Option, Some, None, slice_get, IsFalse, Result, Ok, Err, IfOk, OnErr, refl, sym, ap, subst, arith, inl, inr, length-set, if◌then◌else◌}
 use Rattle.std.specs.Option.{option_map, option_map_or, option_and_then}
 use Rattle.std.proofs.lemmas.Bool.{lt-ltb}
 use Rattle.std.proofs.lemmas.Bool.Decides.{eqb_tells}
@@ -11,8 +11,9 @@ use Rattle.std.specs.declared.alloc.AllocError.{AllocError}
 use Rattle.pc_messages.specs.State.{ran_given, ran_of}
 use Rattle.pc_messages.specs.Run.{is_created, IsBegun}
 use Rattle.pc_messages.specs.declared.kind.Kind.{Kind}
+use Rattle.pc_messages.specs.declared.kind.TheConstants.{MOST_TICKS}
+use Rattle.pc_messages.specs.declared.message.TheConstants.{GREATEST_NUMBER}
 use Rattle.pc_messages.specs.declared.message.Message.{Message}
-use Rattle.pc_messages.specs.declared.message.Item.{Item}
 use Rattle.pc_messages.specs.declared.message.Item.TheVariants as item
 use Rattle.pc_calls.specs.declared.call.Posted.{Posted}
 use Rattle.pc_kernel.specs.declared.cpus.CpuEntry.{CpuEntry}
@@ -23,10 +24,12 @@ use Rattle.pc_kernel.specs.Rows.{ThreadRow, CpuRow, KernelRows}
 use Rattle.pc_kernel.specs.Reads.{thread_row, shown, seen, number, on}
 use Rattle.pc_kernel.specs.Inner.Entries.{row_of, rows, roused_entry, given_entry, place_in, IsKernel}
 use Rattle.pc_kernel.specs.Inner.ThreadEntry.{IsTold}
-use Rattle.pc_kernel.specs.Sound.{IsThreadRow, IsOfRun}
+use Rattle.pc_kernel.specs.Sound.{IsThreadRow}
 use Rattle.pc_kernel.specs.Answers.{Shows}
 use Rattle.pc_kernel.specs.Inner.Sends.{Sends}
 use Rattle.pc_kernel.specs.Steps.{posted, telling, receipt}
+use Rattle.pc_kernel.proofs.Items.{IsNext, message_next}
+use Rattle.pc_kernel.proofs.Ranges.{ranges}
 use Rattle.pc_kernel.proofs.Slots.{slice_get_set, slice_get_set_same, slice_get_set_other}
 use Rattle.pc_kernel.proofs.Shown.{ShowsParts, shows_from, shows_parts}
 use Rattle.pc_kernel.proofs.Grows.{Grows, kinds_in, kind_at_last, running_kept, kernel_posted}
@@ -68,7 +71,7 @@ begun_more : (ks : List Kind) (kind : Kind) → IsBegun ks → 1 ≤ length ks �
 begun_more [] kind h one e = absurd (omega arith)
 begun_more (k ∷ ks) kind h one e = (h.0, All-push (λ k. IsFalse (is_created k)) ks kind h.1 e)
 
-told_row_sound : (k new : KernelRows) (row : ThreadRow) (kind : Kind) → new.limits ≡ k.limits → IsThreadRow k row → length row.kinds < k.limits.numbers → is_created kind ≡ false → ran_given kind < 2 ^ 32 → IsThreadRow new (told_row row kind)
+told_row_sound : (k new : KernelRows) (row : ThreadRow) (kind : Kind) → new.limits ≡ k.limits → IsThreadRow k row → length row.kinds < k.limits.numbers → is_created kind ≡ false → ran_given kind ≤ MOST_TICKS → IsThreadRow new (told_row row kind)
 told_row_sound k new row kind same h spare e small =
     let n : length (row.kinds ++ kind ∷ []) ≡ length row.kinds + 1 = length_push row.kinds kind in
     let s : ran_of (row.kinds ++ kind ∷ []) ≡ ran_of row.kinds + ran_given kind = sum_by_push ran_given row.kinds kind in
@@ -85,24 +88,24 @@ told_row_sound k new row kind same h spare e small =
 kept_row_sound : (k new : KernelRows) (row : ThreadRow) → new.limits ≡ k.limits → IsThreadRow k row → IsThreadRow new row
 kept_row_sound k new row same h = record { home = rw same h.home; told = h.told; numbers = rw same h.numbers; begun = h.begun; ran = h.ran }
 
--- the message is the run's
-told_of_run : (limits : Limits) (threads : List ThreadRow) (cpus : List CpuEntry) (t : ℕ) (row : ThreadRow) (kind : Kind) → slice_get threads t ≡ Some row → is_created kind ≡ false → 1 ≤ length row.kinds → length row.kinds + 1 ≤ 16000000
-    → IsOfRun (rows limits (set threads t (told_row row kind)) cpus) record { thread = t; number = length row.kinds + 1; kind = kind }
-told_of_run limits threads cpus t row kind there e one few = record {
-  kind = rw (slice_get_set_same threads t (told_row row kind) row there) (kind_at_last row.kinds kind (length row.kinds + 1) refl);
-  well_formed = record {
-    from_one = omega arith;
-    greatest = few;
-    created = (λ yes. let bad : true ≡ false = sym yes ∙ e in cc, λ is. absurd (omega arith));
-  };
-}
+-- the message is the run's next
+told_next : (threads : List ThreadRow) (t : ℕ) (row : ThreadRow) (kind : Kind) → slice_get threads t ≡ Some row → is_created kind ≡ false → 1 ≤ length row.kinds → length row.kinds + 1 ≤ GREATEST_NUMBER
+    → IsNext (kinds_in (set threads t (told_row row kind))) (item.Thread record { thread = t; number = length row.kinds + 1; kind = kind })
+told_next threads t row kind there e one few =
+    message_next (kinds_in (set threads t (told_row row kind))) record { thread = t; number = length row.kinds + 1; kind = kind }
+    (rw (slice_get_set_same threads t (told_row row kind) row there) (kind_at_last row.kinds kind (length row.kinds + 1) refl))
+    record {
+      from_one = omega arith;
+      greatest = few;
+      created = (λ yes. let bad : true ≡ false = sym yes ∙ e in cc, λ is. absurd (omega arith));
+    }
 
 -- what holds of every kernel holds after the message
 pub kernel_told : (limits : Limits) (threads : List ThreadRow) (old new : List CpuEntry) (t : ℕ) (row : ThreadRow) (kind : Kind) (answer : Posted) → IsKernel limits threads old → slice_get threads t ≡ Some row → IsTold old new row t kind answer
-    → length row.kinds < limits.numbers → is_created kind ≡ false → ran_given kind < 2 ^ 32 → IsKernel limits (set threads t (told_row row kind)) new
+    → length row.kinds < limits.numbers → is_created kind ≡ false → ran_given kind ≤ MOST_TICKS → IsKernel limits (set threads t (told_row row kind)) new
 kernel_told limits threads old new t row kind answer k there h spare e small =
     let before = k.sound.thread t row there in
-    let n = k.sound.limits.few_numbers in
+    let n = (ranges limits k.sound.limits).few_numbers in
     kernel_posted limits threads (set threads t (told_row row kind)) old new row.home (item.Thread record { thread = t; number = length row.kinds + 1; kind = kind }) h.landing k h.lands
     (grows threads t row kind there)
     (let l = length-set threads t (told_row row kind) in let f = k.sound.threads in omega arith)
@@ -113,12 +116,7 @@ kernel_told limits threads old new t row kind answer k there h spare e small =
           subst P same (told_row_sound (rows limits threads old) (rows limits (set threads t (told_row row kind)) new) row kind refl before spare e small)
       | inr at ↦ kept_row_sound (rows limits threads old) (rows limits (set threads t (told_row row kind)) new) other refl (k.sound.thread s other (sym (slice_get_set_other threads t (told_row row kind) row s there at.0) ∙ is))
     ])
-    (λ m is.
-    let P : Message → Type 0 = IsOfRun (rows limits (set threads t (told_row row kind)) new) in
-    subst P (same_message record { thread = t; number = length row.kinds + 1; kind = kind } m is) (told_of_run limits threads new t row kind there e before.told (omega arith)))
-  where
-    same_message : (m n : Message) → ◌≡◌ {A = Item} (item.Thread m) (item.Thread n) → m ≡ n
-    same_message m n e = cc
+    (told_next threads t row kind there e before.told (omega arith))
 
 -- a thread's row, as a plain kernel has it
 pub thread_shown : (threads : List ThreadRow) (P : PlainKernel) (t : ℕ) (row : ThreadRow) → slice_get threads t ≡ (shown P).thread t → slice_get threads t ≡ Some row → (plain.is_known P t ≡ true) × (row ≡ thread_row P t)
@@ -185,7 +183,7 @@ keep (r ∷ threads) (suc t) row e = ap (λ l. r ∷ l) (keep threads t row e)
 
 pub kernel_tell : (r : Result Posted AllocError) (limits : Limits) (threads : List ThreadRow) (old new : List CpuEntry) (i t : ℕ) (row after : ThreadRow) (kind : Kind) → IsKernel limits threads old → i ≡ t → t < length threads → row ≡ get_or threads i row
     → IfOk r (λ _. after ≡ told_row row kind) → IfOk r (λ answer. IsTold old new row t kind answer) → OnErr r (after ≡ row) → OnErr r (new ≡ old)
-    → length row.kinds < limits.numbers → is_created kind ≡ false → ran_given kind < 2 ^ 32 → IsKernel limits (set threads i after) new
+    → length row.kinds < limits.numbers → is_created kind ≡ false → ran_given kind ≤ MOST_TICKS → IsKernel limits (set threads i after) new
 kernel_tell (Ok answer) limits threads old new i t row after kind k at within read is told same kept spare e small =
     rw (at, is) (kernel_told limits threads old new t row kind answer k (slice_get_read threads (length threads) t row refl within (rw (← at) read)) told spare e small)
 kernel_tell (Err error) limits threads old new i t row after kind k at within read is told same kept spare e small =

@@ -1,24 +1,18 @@
 -- What holds of a plain kernel after every list of calls.
-use Rattle.std.specs.Prelude.{ℕ, ◌+◌, ◌≡◌, ◌≢◌, ◌==◌, nat_lt, true, false, List, [], ◌∷◌, drop, Option, Some, None, if◌then◌else◌}
+use Rattle.std.specs.Prelude.{ℕ, ◌+◌, ◌≡◌, ◌≢◌, nat_lt, true, false, List, [], ◌∷◌, drop, Some}
 use Rattle.std.specs.List.{filter_map}
 use Rattle.std.specs.Option.{option_map_or}
+use Rattle.pc_messages.specs.Items.{message_in}
 use Rattle.pc_messages.specs.Mask.{allows}
 use Rattle.pc_messages.specs.State.{phase_of, mask_of}
 use Rattle.pc_messages.specs.Run.{IsBegun, Extends}
 use Rattle.pc_messages.specs.declared.kind.Kind.{Kind}
 use Rattle.pc_messages.specs.declared.message.Message.{Message}
-use Rattle.pc_messages.specs.declared.message.Item.{Item}
-use Rattle.pc_messages.specs.declared.message.Item.TheVariants as item
 use Rattle.pc_messages.specs.declared.reported.Phase.TheVariants.{Ready}
 use Rattle.pc_calls.specs.declared.call.Call.{Call}
 use Rattle.pc_calls.specs.declared.limits.Limits.{Limits}
 use Rattle.pc_kernel.specs.PlainKernel.{PlainKernel, start, kinds, is_known, threads, aseq, content}
 use Rattle.pc_kernel.specs.Steps.{replay, after}
-
--- the item's message, where it is one of the thread
-abbrev pub message_in : ℕ → Item → Option Message
-message_in t (item.Thread message) = if message.thread == t then Some message else None
-message_in t (item.Tick cpu) = None
 
 -- what a queue holds of a thread
 abbrev pub waiting : PlainKernel → ℕ → ℕ → List Message

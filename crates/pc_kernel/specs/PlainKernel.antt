@@ -1,6 +1,7 @@
 -- The plain kernel: one list of posts and a few marks, from which all else is derived.
 use Rattle.std.specs.Prelude.{ℕ, ◌==◌, nat_lt, not, Bool, false, List, [], ◌∷◌, length, drop, filter, Option, Some, None, find, if◌then◌else◌}
 use Rattle.std.specs.List.{filter_map, range_with_len}
+use Rattle.pc_messages.specs.Items.{thread_in}
 use Rattle.pc_messages.specs.declared.kind.Kind.{Kind}
 use Rattle.pc_messages.specs.declared.message.Item.{Item}
 use Rattle.pc_messages.specs.declared.message.Item.TheVariants as item
@@ -29,11 +30,6 @@ abbrev pub kind_in : ℕ → Item → Option Kind
 kind_in t (item.Thread message) = if message.thread == t then Some message.kind else None
 kind_in t (item.Tick cpu) = None
 
--- the name in an item
-abbrev pub name_in : Item → Option ℕ
-name_in (item.Thread message) = Some message.thread
-name_in (item.Tick cpu) = None
-
 -- the item, where the post is to the queue
 abbrev pub item_to : ℕ → Post → Option Item
 item_to q post = if post.queue == q then Some post.item else None
@@ -55,7 +51,7 @@ is_known P t = nat_lt 0 (number P t)
 
 -- how many threads have a message
 abbrev pub threads : PlainKernel → ℕ
-threads P = length (firsts (filter_map (λ post. name_in post.item) P.posts))
+threads P = length (firsts (filter_map (λ post. thread_in post.item) P.posts))
 
 -- the items posted to a queue, and how many
 abbrev pub items_to : PlainKernel → ℕ → List Item

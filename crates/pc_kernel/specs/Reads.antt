@@ -1,12 +1,12 @@
 -- What can be read of a kernel, and what its reads answer.
-use Rattle.std.specs.Prelude.{ℕ, ◌==◌, nat_lt, Bool, false, List, [], length, Option, Some, None, is_some, slice_get, if◌then◌else◌}
+use Rattle.std.specs.Prelude.{ℕ, nat_lt, Bool, false, List, [], length, Option, Some, None, is_some, slice_get, if◌then◌else◌}
 use Rattle.std.specs.List.{list_any}
 use Rattle.std.specs.Option.{option_map, option_map_or, option_and_then}
+use Rattle.pc_messages.specs.Items.{is_of}
 use Rattle.pc_messages.specs.Mask.{allows}
 use Rattle.pc_messages.specs.State.{phase_of, mask_of, state_of}
 use Rattle.pc_messages.specs.declared.kind.Kind.{Kind}
 use Rattle.pc_messages.specs.declared.message.Item.{Item}
-use Rattle.pc_messages.specs.declared.message.Item.TheVariants as item
 use Rattle.pc_messages.specs.declared.reported.Phase.{Phase}
 use Rattle.pc_messages.specs.declared.reported.Reported.{Reported}
 use Rattle.pc_calls.specs.declared.limits.Limits.{Limits}
@@ -81,11 +81,6 @@ on r c = option_and_then (λ row. row.on) (r.cpu c)
 
 abbrev pub is_asleep : Reads → ℕ → Bool
 is_asleep r c = option_map_or (λ row. row.asleep) (r.cpu c) false
-
--- the item is a message of the thread
-abbrev pub is_of : ℕ → Item → Bool
-is_of t (item.Thread message) = message.thread == t
-is_of t (item.Tick cpu) = false
 
 -- the thread's home queue holds a message of it
 abbrev pub is_pending : Reads → ℕ → Bool

@@ -1,6 +1,7 @@
 -- The step of each call: the refusals in their order, and else what changes and what is answered.
 use Rattle.std.specs.Prelude.{ℕ, ◌+◌, ◌^◌, ◌==◌, nat_lt, nat_le, not, ◌||◌, Bool, true, false, List, [], ◌∷◌, ◌++◌, length, Option, Some, None, Result, Ok, Err, is_some, is_none, unwrap_or, if◌then◌else◌}
 use Rattle.std.specs.Option.{option_map_or, option_and_then}
+use Rattle.pc_messages.specs.Items.{thread_in, number_in}
 use Rattle.pc_messages.specs.Mask.{allows}
 use Rattle.pc_messages.specs.declared.kind.Kind.{Kind}
 use Rattle.pc_messages.specs.declared.kind.Kind.TheVariants as kind
@@ -166,14 +167,6 @@ changed P (Config queue None) = record P { target = at P.target queue None }
 changed P (Config queue (Some cpu)) = record P { target = at P.target queue (Some cpu); slept = at P.slept cpu None }
 
 -- what an accepted call answers
-abbrev pub thread_in : Item → Option ℕ
-thread_in (item.Thread message) = Some message.thread
-thread_in (item.Tick cpu) = None
-
-abbrev pub number_in : Item → Option ℕ
-number_in (item.Thread message) = Some message.number
-number_in (item.Tick cpu) = None
-
 abbrev pub receipt : Posting → Posted
 receipt p = record { thread = thread_in p.item; number = number_in p.item; queue = p.queue; aseq = plain.aseq p.before p.queue + 1; woken = woken p.before p.queue }
 

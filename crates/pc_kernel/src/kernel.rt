@@ -3,6 +3,8 @@
 ghost use Rattle.std.specs.Prelude.{◌≡◌, ◌≤◌, ◌↔◌, Some, None, length, is_some, slice_get, IfOk, IfErr, IsFalse, ◌⊎◌};
 ghost use Rattle.std.specs.Option.{option_map, option_copied};
 ghost use Rattle.pc_calls.specs.Limits.{bad_field};
+ghost use Rattle.pc_calls.specs.declared.limits.TheConstants.{MOST_CPUS, MOST_ROOM};
+ghost use Rattle.pc_messages.specs.Items.{AreItemsOf, AreTellable};
 ghost use Rattle.pc_kernel.specs.PlainKernel.{start};
 
 mod agents;
@@ -41,7 +43,7 @@ impl Kernel {
     ghost use Rattle.pc_kernel.specs.Inner.Entries.{row_of};
     ghost use Rattle.pc_kernel.specs.Sound.{IsSound};
     ghost use Rattle.pc_calls.specs.declared.limits.LimitField.{LimitField};
-    ghost use Rattle.pc_kernel.specs.Reads.{seen, status_of, reported_of, history_of, queue_of, aseq_of, aseq, content, is_cpu, on, is_asleep};
+    ghost use Rattle.pc_kernel.specs.Reads.{seen, kinds, status_of, reported_of, history_of, queue_of, aseq_of, aseq, content, is_cpu, on, is_asleep};
 
     /// The kernel at the start, with limits of profile One.
     pub fn new(alloc: Global, limits: Limits) -> Result<Self, LimitsFault>
@@ -92,7 +94,7 @@ impl Kernel {
     pub fn cpus(&self) -> u8
         ensures count { result ≡ self.now.limits.cpus }
         ensures some { 1 ≤ result }
-        ensures few { result ≤ 64 }
+        ensures few { result ≤ MOST_CPUS }
     {
         let Limits { cpus, .. } = self.limits;
         cpus
@@ -175,9 +177,13 @@ impl Kernel {
     pub fn peek(&self, cpu: Cpu) -> Result<(u32, Vec<Item>), CallFault>
         ensures posts { IfOk result (λ read. read.0 ≡ aseq (seen self.now) cpu) }
         ensures content { IfOk result (λ read. read.1.items ≡ content (seen self.now) cpu) }
+        ensures of_run { IfOk result (λ read. AreItemsOf (kinds (seen self.now)) read.1.items) }
+        ensures tellable { IfOk result (λ read. AreTellable read.1.items) }
+        ensures few { IfOk result (λ read. length read.1.items ≤ MOST_ROOM) }
         ensures bad_cpu { (result ≡ Err (CallFault.Refused Refusal.BadCpu)) ↔ IsFalse (is_cpu (seen self.now) cpu) }
         ensures memory { IfErr result (λ fault. (fault ≡ CallFault.Refused Refusal.BadCpu) ⊎ (fault ≡ CallFault.OutOfMemory)) }
     {
+        self.is_sound();
         let entry = match self.cpu(cpu) {
             Some(entry) => entry,
             None => return Err(CallFault::Refused(Refusal::BadCpu)),

@@ -2,6 +2,8 @@
 
 ghost use Rattle.std.specs.Prelude.{◌≡◌, ◌+◌, ◌<◌, ◌≤◌, ◌^◌, ℕ, Some, [], ◌∷◌, ◌++◌, length, IfOk, OnErr, IsTrue};
 ghost use Rattle.pc_messages.specs.State.{ran_given, state_of};
+ghost use Rattle.pc_messages.specs.declared.kind.TheConstants.{MOST_TICKS};
+ghost use Rattle.pc_messages.specs.declared.message.TheConstants.{GREATEST_NUMBER};
 ghost use Rattle.pc_messages.specs.Run.{is_created};
 ghost use Rattle.std.specs.Vec.{vec_len, vec_capacity};
 ghost use Rattle.pc_kernel.specs.Inner.Entries.{AreTargets};
@@ -64,7 +66,7 @@ impl ThreadEntry {
     /// The number of the last message.
     pub(crate) fn number(&self) -> u32
         ensures number { result ≡ length self.now.kinds }
-        ensures greatest { result ≤ 16000000 }
+        ensures greatest { result ≤ GREATEST_NUMBER }
     {
         self.kinds.len() as u32
     }
@@ -114,8 +116,8 @@ impl ThreadEntry {
     ) -> Result<Posted, AllocError>
         requires home { self.old.home < length cpus.old.items }
         requires targets { AreTargets cpus.old.items }
-        requires number { length self.old.kinds < 16000000 }
-        requires ran { ran_given kind < 2 ^ 32 }
+        requires number { length self.old.kinds < GREATEST_NUMBER }
+        requires ran { ran_given kind ≤ MOST_TICKS }
         ensures row { IfOk result (λ _. self.new ≡ record self.old { kinds = self.old.kinds ++ kind ∷ [] }) }
         ensures ok { IfOk result (λ posted. IsTold cpus.old.items cpus.new.items self.old thread kind posted) }
         ensures err { OnErr result (self.new ≡ self.old) }

@@ -9,7 +9,9 @@ use Rattle.std.proofs.lemmas.List.Sums.{sum_by_push, sum_by-cons}
 use Rattle.pc_messages.specs.declared.message.Item.{Item}
 use Rattle.pc_messages.specs.declared.message.Item.TheVariants.{Thread}
 use Rattle.pc_messages.specs.declared.message.Message.{Message}
-use Rattle.pc_queue.specs.Queue.{SetsCount, some_count, is_of, count_of, Counts}
+use Rattle.pc_messages.specs.Items.{is_of}
+use Rattle.pc_queue.specs.Queue.{some_count, count_of}
+use Rattle.pc_queue.specs.Inner.Counts.{SetsCount, Counts}
 
 is_at-eqb : (k q : ℕ) → is_at (nat_cmp k) q ≡ (q == k)
 is_at-eqb k q = grind (arith, nat_tests)

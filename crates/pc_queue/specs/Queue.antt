@@ -1,10 +1,8 @@
 -- One CPU's queue, as its callers see it.
-use Rattle.std.specs.Prelude.{ℕ, ◌≡◌, ◌≤◌, ◌<◌, ◌^◌, Bool, false, cond, ◌==◌, nat_le, if◌then◌else◌, List, Option, Some, None, length, count_by}
-use Rattle.std.specs.BTreeMap.{BTreeMap, get}
-use Rattle.std.specs.Ordering.{nat_cmp}
+use Rattle.std.specs.Prelude.{ℕ, Bool, cond, ◌==◌, nat_le, if◌then◌else◌, List, Option, Some, None, length, count_by}
 use Rattle.std.specs.List.{list_any}
+use Rattle.pc_messages.specs.Items.{is_of}
 use Rattle.pc_messages.specs.declared.message.Item.{Item}
-use Rattle.pc_messages.specs.declared.message.Item.TheVariants.{Thread, Tick}
 use Rattle.pc_queue.specs.declared.fault.QueueFault.{QueueFault}
 use Rattle.pc_queue.specs.declared.fault.QueueFault.TheVariants.{QueueFull, PostsSpent}
 
@@ -14,11 +12,6 @@ pub record Queue : Type 0 where
   pub most : ℕ
   pub posts : ℕ
   pub items : List Item
-
--- the item is a message of this thread
-abbrev pub is_of : ℕ → Item → Bool
-is_of t (Thread message) = message.thread == t
-is_of t (Tick cpu) = false
 
 -- some item is of this thread
 abbrev pub is_pending : ℕ → List Item → Bool
@@ -42,20 +35,3 @@ refusal_of queue =
     if nat_le queue.room (length queue.items) then Some QueueFull
     else if nat_le queue.most queue.posts then Some PostsSpent
     else None
-
--- the map has the count of each thread with an item, and no other entry
-pub record Counts (held : BTreeMap ℕ ℕ) (items : List Item) : Type 0 where
-  pub each : (t : ℕ) → get nat_cmp held t ≡ held_of t items
-
--- the count of one thread becomes this, and every other stays
-abbrev pub SetsCount : BTreeMap ℕ ℕ → BTreeMap ℕ ℕ → ℕ → Option ℕ → Type 0
-SetsCount old new t count = (q : ℕ) → get nat_cmp new q ≡ cond (q == t) count (get nat_cmp old q)
-
--- what holds of every queue
-pub record IsQueue (queue : Queue) (held : BTreeMap ℕ ℕ) : Type 0 where
-  pub some_room : 1 ≤ queue.room
-  pub small_room : queue.room < 2 ^ 32
-  pub some_posts : 1 ≤ queue.most
-  pub within_room : length queue.items ≤ queue.room
-  pub within_posts : queue.posts ≤ queue.most
-  pub counted : Counts held queue.items

@@ -4,7 +4,8 @@ ghost use Rattle.std.specs.Prelude.{ℕ, ◌+◌, ◌-◌, ◌<◌, ◌^◌, Lis
 ghost use Rattle.std.specs.BTreeMap.{get, IsUnchanged};
 ghost use Rattle.std.specs.Ordering.{nat_cmp};
 ghost use Rattle.pc_messages.specs.declared.message.Item.{Item};
-ghost use Rattle.pc_queue.specs.Queue.{Counts, SetsCount, some_count};
+ghost use Rattle.pc_queue.specs.Queue.{some_count};
+ghost use Rattle.pc_queue.specs.Inner.Counts.{Counts, SetsCount};
 
 use pc_messages::{Item, Tid};
 use std::alloc::AllocError;

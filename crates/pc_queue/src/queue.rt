@@ -26,7 +26,8 @@ pub struct CpuQueue {
 }
 
 impl Model for CpuQueue {
-    ghost use Rattle.pc_queue.specs.Queue.{Queue, IsQueue};
+    ghost use Rattle.pc_queue.specs.Queue.{Queue};
+    ghost use Rattle.pc_queue.specs.Inner.Counts.{IsQueue};
 
     ghost Value = { Queue };
 

@@ -2,6 +2,8 @@
 use Rattle.std.specs.Prelude.{ℕ, ◌+◌, ◌*◌, ◌≤◌, ◌≡◌, List, length, Some}
 use Rattle.pc_messages.specs.State.{state_of, ran_of}
 use Rattle.pc_messages.specs.declared.kind.Kind.{Kind}
+use Rattle.pc_messages.specs.declared.kind.TheConstants.{MOST_TICKS}
+use Rattle.pc_messages.specs.declared.message.TheConstants.{GREATEST_NUMBER}
 use Rattle.pc_messages.specs.declared.message.Item.TheVariants as item
 use Rattle.pc_messages.specs.declared.reported.Reported.{Reported}
 use Rattle.pc_calls.specs.declared.call.Posted.{Posted}
@@ -13,8 +15,8 @@ use Rattle.pc_kernel.specs.Rows.{ThreadRow}
 -- the state kept is that of the kinds, and its numbers fit
 pub record IsEntry (kinds : List Kind) (reported : Reported) : Type 0 where
   pub state : state_of kinds ≡ Some reported
-  pub few : length kinds ≤ 16000000
-  pub ran : ran_of kinds ≤ length kinds * 4294967295
+  pub few : length kinds ≤ GREATEST_NUMBER
+  pub ran : ran_of kinds ≤ length kinds * MOST_TICKS
 
 -- the thread's next message, of this kind, is posted to its home queue
 pub record IsTold (old new : List CpuEntry) (row : ThreadRow) (t : ℕ) (kind : Kind) (posted : Posted) : Type 0 where

@@ -10,7 +10,8 @@ use pc_messages::{Cpu, Phase, Tid};
 
 impl Kernel {
     ghost use Rattle.pc_kernel.specs.Answers.{Steps, done};
-    ghost use Rattle.pc_kernel.specs.Reads.{seen, content, is_of};
+    ghost use Rattle.pc_messages.specs.Items.{is_of};
+    ghost use Rattle.pc_kernel.specs.Reads.{seen, content};
     ghost use Rattle.pc_kernel.specs.Steps.{refused};
 
     /// Removes the first items of the CPU's queue.

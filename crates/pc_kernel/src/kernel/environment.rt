@@ -4,6 +4,7 @@ ghost use Rattle.std.specs.Prelude.{◌≡◌, ◌+◌, ◌<◌, ◌≤◌, ◌^
 ghost use Rattle.std.specs.Result.{result_err};
 ghost use Rattle.std.specs.Vec.{vec_len, vec_capacity};
 ghost use Rattle.pc_messages.specs.State.{ran_given};
+ghost use Rattle.pc_messages.specs.declared.kind.TheConstants.{MOST_TICKS};
 ghost use Rattle.pc_messages.specs.Run.{is_created};
 ghost use Rattle.pc_calls.specs.Conditions.{first_of};
 
@@ -136,7 +137,7 @@ impl Kernel {
     /// fail.
     fn leave(&mut self, cpu: Cpu, kind: Kind) -> Result<Posted, CallFault>
         requires not_first { IsFalse (is_created kind) }
-        requires ran { ran_given kind < 2 ^ 32 }
+        requires ran { ran_given kind ≤ MOST_TICKS }
         ensures step { Leaves cpu kind result self.old self.new }
         ensures limits { self.new.limits ≡ self.old.limits }
         ensures err { OnErr result (self.new ≡ self.old) }
@@ -334,7 +335,7 @@ impl Kernel {
         requires known { thread < length self.old.threads }
         requires numbers { number (seen self.old) thread < self.old.limits.numbers }
         requires not_first { IsFalse (is_created kind) }
-        requires ran { ran_given kind < 2 ^ 32 }
+        requires ran { ran_given kind ≤ MOST_TICKS }
         ensures ok { IfOk result (λ posted. Sends (λ P. telling P thread kind) posted self.old self.new) }
         ensures stay { (c : ℕ) → on (seen self.new) c ≡ on (seen self.old) c }
         ensures threads { length self.new.threads ≡ length self.old.threads }

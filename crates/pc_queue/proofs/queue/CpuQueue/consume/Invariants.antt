@@ -1,5 +1,5 @@
 use Rattle.std.proofs.Common.{◌≡◌, drop}
-use Rattle.pc_queue.specs.Queue.{Counts}
+use Rattle.pc_queue.specs.Inner.Counts.{Counts}
 use Rattle.pc_queue.proofs.queue.CpuQueue.consume.Given as goal
 
 abbrev pub invariant-loop : goal.invariant-loop

@@ -1,5 +1,5 @@
 use Rattle.std.proofs.Common.{◌∙◌, ap, is_some}
-use Rattle.pc_queue.specs.Queue.{is_of}
+use Rattle.pc_messages.specs.Items.{is_of}
 use Rattle.pc_queue.proofs.Count.{any_is_some}
 use Rattle.pc_queue.proofs.queue.CpuQueue.pending.Goals as goal
 
