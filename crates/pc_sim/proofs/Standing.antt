@@ -1,5 +1,5 @@
 -- A session, one command at a time.
-use Rattle.std.proofs.Common.{◌≡◌, List, [], ◌∷◌, ◌++◌, Option, Some, None, refl, sym, subst}
+use Rattle.std.proofs.Common.{◌≡◌, List, [], ◌∷◌, ◌++◌, Option, Some, None, Result, Ok, Err, IfOk, refl, sym, subst}
 use Rattle.pc_calls.specs.declared.limits.Limits.{Limits}
 use Rattle.pc_calls.specs.declared.limits.Profile.{Profile}
 use Rattle.pc_calls.specs.Limits.{bad_field}
@@ -34,3 +34,8 @@ pub opens : (profile : Profile) (world : World) (limits : Limits) → bad_field 
 opens profile world limits within shows None before =
     (Some (opened limits), subst (λ o. IsLimited o limits response.Opened (Some (opened limits))) (sym within) (refl, refl), shows)
 opens profile world limits within shows (Some w) before = absurd before
+
+-- what holds of each value holds of the value of an Ok
+pub if_told : {A E : Type 0} (result : Result A E) (P Q : A → Type 0) → IfOk result P → ((a : A) → P a → Q a) → IfOk result Q
+if_told (Ok a) P Q h f = f a h
+if_told (Err e) P Q h f = tt

@@ -3,7 +3,7 @@
 use crate::auditing::{Stranger, audit, complete};
 use crate::view::View;
 use pc_join::{Join, OutOfMemory};
-use pc_kernel::{Kernel, Limits, Posted};
+use pc_kernel::{CallFault, Kernel, Limits};
 use pc_messages::{Cpu, Kind, Mask, Message, Phase, Tid};
 use std::alloc::Global;
 use std::test::Fail;
@@ -121,22 +121,26 @@ fn kernel_of_one(alloc: Global) -> Result<Kernel, Fail> {
         posts: 1_000,
     };
     let mut kernel = Kernel::new(alloc, limits)?;
-    match created_thread(&mut kernel, true)? {
+    match created_thread(&mut kernel, true) {
         Some(Tid(0)) => Ok(kernel),
         _ => Err("not the first thread".into()),
     }
 }
 
 // Creates a thread at queue 0, whose mask has both CPUs; its name.
-fn created_thread(kernel: &mut Kernel, ready: bool) -> Result<Option<Tid>, Fail> {
-    let posted: Posted = kernel.create(Cpu(0), 3, ready)?;
-    Ok(posted.thread)
+fn created_thread(kernel: &mut Kernel, ready: bool) -> Option<Tid> {
+    match kernel.create(Cpu(0), 3, ready) {
+        Ok(posted) => posted.thread,
+        Err(CallFault::Refused(_) | CallFault::OutOfMemory) => None,
+    }
 }
 
 // Wakes a thread; the number of its message, and the queue that it is in.
-fn woken(kernel: &mut Kernel, thread: Tid) -> Result<(Option<u32>, Cpu), Fail> {
-    let posted: Posted = kernel.wake(thread)?;
-    Ok((posted.number, posted.queue))
+fn woken(kernel: &mut Kernel, thread: Tid) -> Option<(Option<u32>, Cpu)> {
+    match kernel.wake(thread) {
+        Ok(posted) => Some((posted.number, posted.queue)),
+        Err(CallFault::Refused(_) | CallFault::OutOfMemory) => None,
+    }
 }
 
 // A view of one message.
@@ -222,8 +226,8 @@ fn the_least_stranger_is_named(rt: HostRuntime) -> Result<(), Fail> {
 #[test]
 fn another_early_message_is_strange(rt: HostRuntime) -> Result<(), Fail> {
     let mut kernel = kernel_of_one(rt.alloc())?;
-    assert_eq!(rt; created_thread(&mut kernel, false)?, Some(Tid(1)));
-    assert_eq!(rt; woken(&mut kernel, Tid(1))?, (Some(2), Cpu(0)));
+    assert_eq!(rt; created_thread(&mut kernel, false), Some(Tid(1)));
+    assert_eq!(rt; woken(&mut kernel, Tid(1)), Some((Some(2), Cpu(0))));
     let same = view_of(rt.alloc(), 1, 2, Kind::Wakeup)?;
     assert_eq!(rt; audit(&same, &kernel), Ok(()));
     let other = view_of(rt.alloc(), 1, 2, Kind::Yield { ran: 1 })?;
@@ -244,8 +248,8 @@ fn a_view_is_complete_where_it_has_the_last_message(rt: HostRuntime) -> Result<(
 #[test]
 fn a_view_that_lacks_the_last_message_is_not_complete(rt: HostRuntime) -> Result<(), Fail> {
     let mut kernel = kernel_of_one(rt.alloc())?;
-    assert_eq!(rt; created_thread(&mut kernel, false)?, Some(Tid(1)));
-    assert_eq!(rt; woken(&mut kernel, Tid(1))?, (Some(2), Cpu(0)));
+    assert_eq!(rt; created_thread(&mut kernel, false), Some(Tid(1)));
+    assert_eq!(rt; woken(&mut kernel, Tid(1)), Some((Some(2), Cpu(0))));
     let first = view_of(rt.alloc(), 1, 2, Kind::Wakeup)?;
     assert!(rt; !complete(&first, &kernel, Tid(1)));
     Ok(())

@@ -1,4 +1,5 @@
-use Rattle.std.proofs.Common.{◌≡◌, true, false, refl, ◌∙◌}
+use Rattle.std.proofs.Common.{◌≡◌, true, false, refl, sym, subst, ◌∙◌}
+use Rattle.pc_messages.specs.Items.{AreItemsOf}
 use Rattle.pc_kernel.specs.Reads.{seen, is_cpu}
 use Rattle.pc_world.proofs.Acting.{publish_did}
 use Rattle.pc_world.proofs.Worlds.{if_told}
@@ -12,4 +13,4 @@ returns-in-Ok c =
       | false ↦ λ e. let bad = c.in-Ok.ensures.bad_cpu.1 e in cc
     ] refl in
     if_told c.send.result _ _ c.send.ensures
-    (λ told sends. publish_did c.args.self.now c.send.new.self c.args.cpu c.as_slice.result.now told c.in-Ok.ensures.of_run there (c.as_slice.ensures.value ∙ c.in-Ok.ensures.content) sends)
+    (λ told sends. publish_did c.args.self.now c.send.new.self c.args.cpu c.as_slice.result.now told (subst (AreItemsOf _) (sym c.as_slice.ensures.value) c.in-Ok.ensures.of_run) there (c.as_slice.ensures.value ∙ c.in-Ok.ensures.content) sends)
