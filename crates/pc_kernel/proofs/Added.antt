@@ -47,8 +47,8 @@ push_same (r ∷ threads) row = push_same threads row
 push_other : (threads : List ThreadRow) (row : ThreadRow) (s : ℕ) → (s == length threads) ≡ false → slice_get (threads ++ row ∷ []) s ≡ slice_get threads s
 push_other threads row s e = slice_get_push threads row s ∙ rw e refl
 
-grows_at : (threads : List ThreadRow) (row : ThreadRow) (s : ℕ) → (more : List Kind) × (kinds_in (threads ++ row ∷ []) s ≡ kinds_in threads s ++ more)
-grows_at threads row s = elim (eqb_tells s (length threads)) [
+pub added_grows : (threads : List ThreadRow) (row : ThreadRow) (s : ℕ) → (more : List Kind) × (kinds_in (threads ++ row ∷ []) s ≡ kinds_in threads s ++ more)
+added_grows threads row s = elim (eqb_tells s (length threads)) [
   | inl at ↦ (
     row.kinds,
     ap (λ (o : Option ThreadRow). option_map_or (λ row. row.kinds) o []) (ap (slice_get (threads ++ row ∷ [])) at.1 ∙ push_same threads row)
@@ -97,7 +97,7 @@ kernel_added limits threads old new queue kind landing k h there few e =
     let row = first_row queue kind in
     let l : length (threads ++ row ∷ []) ≡ length threads + 1 = length_push threads row in
     kernel_posted limits threads (threads ++ row ∷ []) old new queue (item.Thread (first_message (length threads) kind)) landing k h
-    record { count = omega arith; each = grows_at threads row; place = place_pushed threads row }
+    record { count = omega arith; each = added_grows threads row; place = place_pushed threads row }
     (omega arith)
     (λ s other is. elim (eqb_tells s (length threads)) [
       | inl at ↦

@@ -17,7 +17,6 @@ use Rattle.pc_messages.specs.declared.message.Message.{Message}
 use Rattle.pc_messages.specs.declared.reported.Phase.{Phase}
 use Rattle.pc_messages.specs.declared.reported.Phase.TheVariants.{Ready, Blocked as IsBlocked, Dead as IsDead}
 use Rattle.pc_kernel.specs.PlainKernel.{PlainKernel, kinds, is_known, threads, place_of, is_on}
-use Rattle.pc_messages.specs.Items.{is_of}
 use Rattle.pc_kernel.specs.Reads.{shown}
 use Rattle.pc_kernel.specs.Reads as reads
 use Rattle.pc_kernel.specs.Facts.{waiting, numbered}

@@ -45,11 +45,13 @@ pub record IsNext (run : Run) (it : Item) : Type 0 where
 -- the items with one more of the run
 pub tellable_push : (run : Run) (items : List Item) (it : Item) → AreItemsOf run items → AreTellable items → IsNext run it → AreItemsOf run (items ++ it ∷ []) × AreTellable (items ++ it ∷ [])
 tellable_push run items it h told next =
-    let all = All-push (IsItemOf run) items it h next.of_run in
-    (all, are_tellable run (items ++ it ∷ []) all (λ m there. elim (Contains-append_cases items (it ∷ []) (Thread m) there) [
-      | inl before ↦ told.well_formed m before
-      | inr last ↦ next.well_formed m (only it (Thread m) last)
-    ]))
+    let all = All-push (IsItemOf run) items it h next.of_run in (
+      all,
+      are_tellable run (items ++ it ∷ []) all (λ m there. elim (Contains-append_cases items (it ∷ []) (Thread m) there) [
+        | inl before ↦ told.well_formed m before
+        | inr last ↦ next.well_formed m (only it (Thread m) last)
+      ]),
+    )
   where
     only : (x y : Item) → Contains (x ∷ []) y → x ≡ y
     only x y (zero, l, e) = e

@@ -86,8 +86,9 @@ pub widest : (profile : Profile) (limits : Limits) → bad_field profile limits 
 widest profile limits e =
     let r = ranges_of profile limits e in
     rw (
-    within limits.cpus MOST_CPUS r.some_cpus r.few_cpus,
-    within limits.threads MOST_THREADS_TWO r.some_threads r.few_threads,
-    within limits.numbers GREATEST_NUMBER r.some_numbers r.few_numbers,
-    within limits.room MOST_ROOM r.some_room r.little_room,
-    within limits.posts MOST_POSTS r.some_posts r.few_posts) refl
+      within limits.cpus MOST_CPUS r.some_cpus r.few_cpus,
+      within limits.threads MOST_THREADS_TWO r.some_threads r.few_threads,
+      within limits.numbers GREATEST_NUMBER r.some_numbers r.few_numbers,
+      within limits.room MOST_ROOM r.some_room r.little_room,
+      within limits.posts MOST_POSTS r.some_posts r.few_posts,
+    ) refl

@@ -1,5 +1,5 @@
 -- That a call of the code is its step, from the first refusal that it met and what it did.
-use Rattle.std.proofs.Common.{◌≡◌, ◌∙◌, ℕ, Bool, true, false, not, List, ◌∷◌, Option, Some, None, Result, Ok, Err, IfOk, OnErr, is_none, unwrap_or, refl, sym, ap, subst}
+use Rattle.std.proofs.Common.{◌≡◌, ◌∙◌, ℕ, Bool, true, false, not, List, ◌∷◌, Option, Some, None, Result, Ok, Err, is_none, unwrap_or, refl, sym, ap, subst}
 use Rattle.std.specs.Result.{IsErrAnd}
 use Rattle.pc_messages.specs.declared.kind.Kind.{Kind}
 use Rattle.pc_calls.specs.declared.call.Call.{Call}

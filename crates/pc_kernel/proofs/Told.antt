@@ -9,7 +9,7 @@ use Rattle.std.proofs.lemmas.List.Sums.{sum_by_push}
 use Rattle.std.proofs.lemmas.Option.{same_Some, slice_get-map, slice_get_read}
 use Rattle.std.specs.declared.alloc.AllocError.{AllocError}
 use Rattle.pc_messages.specs.State.{ran_given, ran_of}
-use Rattle.pc_messages.specs.Run.{is_created, IsBegun}
+use Rattle.pc_messages.specs.Run.{is_created, IsBegun, Extends}
 use Rattle.pc_messages.specs.declared.kind.Kind.{Kind}
 use Rattle.pc_messages.specs.declared.kind.TheConstants.{MOST_TICKS}
 use Rattle.pc_messages.specs.declared.message.TheConstants.{GREATEST_NUMBER}
@@ -188,6 +188,13 @@ kernel_tell (Ok answer) limits threads old new i t row after kind k at within re
     rw (at, is) (kernel_told limits threads old new t row kind answer k (slice_get_read threads (length threads) t row refl within (rw (← at) read)) told spare e small)
 kernel_tell (Err error) limits threads old new i t row after kind k at within read is told same kept spare e small =
     rw (at, same, keep threads t row (slice_get_read threads (length threads) t row refl within (rw (← at) read)), kept) k
+
+pub extends_tell : (r : Result Posted AllocError) (threads : List ThreadRow) (i t : ℕ) (row after : ThreadRow) (kind : Kind) → i ≡ t → t < length threads → row ≡ get_or threads i row
+    → IfOk r (λ _. after ≡ told_row row kind) → OnErr r (after ≡ row) → Extends (kinds_in (set threads i after)) (kinds_in threads)
+extends_tell (Ok answer) threads i t row after kind at within read is same =
+    rw (at, is) (grows_at threads t row kind (slice_get_read threads (length threads) t row refl within (rw (← at) read)))
+extends_tell (Err error) threads i t row after kind at within read is same =
+    rw (at, same, keep threads t row (slice_get_read threads (length threads) t row refl within (rw (← at) read))) (λ s. ([], sym (append-nil (kinds_in threads s))))
 
 pub sends_tell : (r : Result Posted AllocError) (limits : Limits) (threads : List ThreadRow) (old new : List CpuEntry) (i t : ℕ) (row after : ThreadRow) (kind : Kind) → IsKernel limits threads old → i ≡ t → t < length threads → row ≡ get_or threads i row
     → IfOk r (λ _. after ≡ told_row row kind) → IfOk r (λ answer. IsTold old new row t kind answer)

@@ -57,7 +57,9 @@ abbrev pub RunsAreBegun : Type 0
 RunsAreBegun = (limits : Limits) (calls : List Call) (t : ℕ) → IsBegun (kinds (replay (start limits) calls) t)
 
 abbrev pub NamesAreDense : Type 0
-NamesAreDense = (limits : Limits) (calls : List Call) (t : ℕ) → is_known (replay (start limits) calls) t ≡ nat_lt t (threads (replay (start limits) calls))
+NamesAreDense =
+    (limits : Limits) (calls : List Call) (t : ℕ) →
+    is_known (replay (start limits) calls) t ≡ nat_lt t (threads (replay (start limits) calls))
 
 -- every call extends the run, whatever plain kernel it is called on
 abbrev pub CallsExtend : Type 0

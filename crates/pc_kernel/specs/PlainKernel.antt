@@ -23,7 +23,16 @@ pub record PlainKernel : Type 0 where
 
 -- the kernel at the start
 abbrev pub start : Limits → PlainKernel
-start limits = record { limits = limits; posts = []; eaten = λ q. 0; target = λ q. Some q; home = λ t. 0; on = λ c. None; slept = λ c. None }
+start limits =
+    record {
+      limits = limits;
+      posts = [];
+      eaten = λ q. 0;
+      target = λ q. Some q;
+      home = λ t. 0;
+      on = λ c. None;
+      slept = λ c. None;
+    }
 
 -- what an item says of a thread
 abbrev pub kind_in : ℕ → Item → Option Kind

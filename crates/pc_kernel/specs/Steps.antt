@@ -48,7 +48,10 @@ Condition = Bool × Refusal
 
 -- of a post to a queue
 abbrev pub queue_refusals : Reads → ℕ → List Condition
-queue_refusals r q = (nat_le r.limits.room (length (content r q)), refusal.QueueFull) ∷ (nat_le r.limits.posts (aseq r q), refusal.PostsSpent) ∷ []
+queue_refusals r q =
+    (nat_le r.limits.room (length (content r q)), refusal.QueueFull)
+    ∷ (nat_le r.limits.posts (aseq r q), refusal.PostsSpent)
+    ∷ []
 
 -- of a post of a thread's message to its home queue
 abbrev pub post_refusals : Reads → ℕ → List Condition
@@ -63,7 +66,10 @@ thread_refusals r t = (not (is_known r t), refusal.UnknownThread) ∷ (is_dead (
 
 -- of a call by which the thread on a CPU leaves it
 abbrev pub leave_refusals : Reads → ℕ → List Condition
-leave_refusals r cpu = (not (is_cpu r cpu), refusal.BadCpu) ∷ (is_none (on r cpu), refusal.IdleCpu) ∷ post_refusals r (unwrap_or (on r cpu) 0)
+leave_refusals r cpu =
+    (not (is_cpu r cpu), refusal.BadCpu)
+    ∷ (is_none (on r cpu), refusal.IdleCpu)
+    ∷ post_refusals r (unwrap_or (on r cpu) 0)
 
 -- the thread runs on a CPU that the mask excludes
 abbrev pub is_barred : Reads → ℕ → ℕ → Bool
@@ -72,13 +78,20 @@ is_barred r t mask = option_map_or (λ c. not (allows mask c)) (place r t) false
 -- of each call of the environment, in order
 abbrev pub env_refusals : Reads → EnvCall → List Condition
 env_refusals r (Create queue mask ready) =
-    (not (is_cpu r queue), refusal.BadCpu) ∷ mask_refusals r mask ++ (nat_le r.limits.threads r.threads, refusal.NamesSpent) ∷ queue_refusals r queue
+    (not (is_cpu r queue), refusal.BadCpu)
+    ∷ mask_refusals r mask
+    ++ (nat_le r.limits.threads r.threads, refusal.NamesSpent)
+    ∷ queue_refusals r queue
 env_refusals r (Wake t) = thread_refusals r t ++ (not (is_blocked (phase r t)), refusal.NotBlocked) ∷ post_refusals r t
 env_refusals r (Block cpu ran) = leave_refusals r cpu
 env_refusals r (YieldNow cpu ran) = leave_refusals r cpu
 env_refusals r (Preempt cpu ran) = leave_refusals r cpu
 env_refusals r (Die cpu ran) = leave_refusals r cpu
-env_refusals r (SetAffinity t mask) = thread_refusals r t ++ mask_refusals r mask ++ (is_barred r t mask, refusal.OnForbiddenCpu) ∷ post_refusals r t
+env_refusals r (SetAffinity t mask) =
+    thread_refusals r t
+    ++ mask_refusals r mask
+    ++ (is_barred r t mask, refusal.OnForbiddenCpu)
+    ∷ post_refusals r t
 env_refusals r (SetPriority t level) = thread_refusals r t ++ (nat_lt 7 level, refusal.BadLevel) ∷ post_refusals r t
 env_refusals r (Tick cpu) = (not (is_cpu r cpu), refusal.BadCpu) ∷ queue_refusals r cpu
 
@@ -138,14 +151,21 @@ pub record Posting : Type 0 where
 
 -- a thread's next message, to its home queue
 abbrev pub telling : PlainKernel → ℕ → Kind → Posting
-telling P t kind = record { before = P; queue = P.home t; item = item.Thread record { thread = t; number = plain.number P t + 1; kind = kind } }
+telling P t kind =
+    record {
+      before = P;
+      queue = P.home t;
+      item = item.Thread record { thread = t; number = plain.number P t + 1; kind = kind };
+    }
 
 -- the thread on the CPU leaves it
 abbrev pub leaving : PlainKernel → ℕ → Kind → Posting
 leaving P cpu kind = telling (record P { on = at P.on cpu None }) (unwrap_or (P.on cpu) 0) kind
 
 abbrev pub posting : PlainKernel → EnvCall → Posting
-posting P (Create queue mask ready) = telling (record P { home = at P.home (plain.threads P) queue }) (plain.threads P) (kind.Created mask ready)
+posting P (Create queue mask ready) =
+    let t = plain.threads P in
+    telling (record P { home = at P.home t queue }) t (kind.Created mask ready)
 posting P (Wake t) = telling P t kind.Wakeup
 posting P (Block cpu ran) = leaving P cpu (kind.Blocked ran)
 posting P (YieldNow cpu ran) = leaving P cpu (kind.Yield ran)
@@ -168,7 +188,14 @@ changed P (Config queue (Some cpu)) = record P { target = at P.target queue (Som
 
 -- what an accepted call answers
 abbrev pub receipt : Posting → Posted
-receipt p = record { thread = thread_in p.item; number = number_in p.item; queue = p.queue; aseq = plain.aseq p.before p.queue + 1; woken = woken p.before p.queue }
+receipt p =
+    record {
+      thread = thread_in p.item;
+      number = number_in p.item;
+      queue = p.queue;
+      aseq = plain.aseq p.before p.queue + 1;
+      woken = woken p.before p.queue;
+    }
 
 abbrev pub accepted : PlainKernel → Call → Answer
 accepted P (Env call) = answer.Posted (receipt (posting P call))

@@ -7,6 +7,7 @@ use Rattle.pc_calls.specs.declared.call.Answer.{Answer}
 use Rattle.pc_calls.specs.declared.call.Answer.TheVariants.{Posted, Done}
 use Rattle.pc_calls.specs.declared.refusal.Refusal.{Refusal}
 use Rattle.pc_calls.specs.declared.refusal.Refusal.TheVariants as refusal
+use Rattle.pc_calls.specs.declared.limits.TheConstants.{MOST_CPUS, MOST_THREADS, MOST_NUMBERS, MOST_ROOM, MOST_POSTS}
 use Rattle.pc_calls.specs.declared.limits.Limits.{Limits}
 use Rattle.pc_kernel.specs.PlainKernel.{PlainKernel, start}
 use Rattle.pc_kernel.specs.Steps.{reply, after}
@@ -19,6 +20,9 @@ replies P (call ∷ calls) = reply P call ∷ replies (after P call) calls
 abbrev pub sent : ℕ → ℕ → ℕ → ℕ → Option ℕ → Result Answer Refusal
 sent t n q a woken = Ok (Posted record { thread = Some t; number = Some n; queue = q; aseq = a; woken = woken })
 
+abbrev pub ticked : ℕ → ℕ → Result Answer Refusal
+ticked q a = Ok (Posted record { thread = None; number = None; queue = q; aseq = a; woken = None })
+
 abbrev pub limited : ℕ → ℕ → ℕ → ℕ → ℕ → Limits
 limited cpus threads numbers room posts = record { cpus = cpus; threads = threads; numbers = numbers; room = room; posts = posts }
 
@@ -27,13 +31,14 @@ small = limited 2 8 100 16 1000
 
 -- a number that is too high is stale too, and that comes before what is pending
 abbrev pub StaleFirst : Type 0
-StaleFirst = replies (start small) (Env (Create 0 3 true) ∷ Associate 0 1 2 ∷ Associate 0 1 1 ∷ Consume 0 1 ∷ Associate 0 1 1 ∷ Commit 0 0 1 ∷ Commit 1 0 0 ∷ [])
+StaleFirst = replies (start small)
+    (Env (Create 0 3 true) ∷ Associate 0 1 2 ∷ Associate 0 1 1 ∷ Consume 0 1 ∷ Associate 0 1 1 ∷ Commit 0 0 1 ∷ Commit 1 0 0 ∷ [])
     ≡ sent 0 1 0 1 None ∷ Err (refusal.Stale 1) ∷ Err refusal.Pending ∷ Ok Done ∷ Ok Done ∷ Err (refusal.NotYours 1) ∷ Ok Done ∷ []
 
 -- a tick is a post, so a commit under the count before it is stale
 abbrev pub Ticks : Type 0
 Ticks = replies (start small) (Env (Create 0 3 true) ∷ Env (Tick 0) ∷ Commit 0 0 1 ∷ Commit 0 0 2 ∷ [])
-    ≡ sent 0 1 0 1 None ∷ Ok (Posted record { thread = None; number = None; queue = 0; aseq = 2; woken = None }) ∷ Err (refusal.Stale 2) ∷ Ok Done ∷ []
+    ≡ sent 0 1 0 1 None ∷ ticked 0 2 ∷ Err (refusal.Stale 2) ∷ Ok Done ∷ []
 
 -- numbers and names are spent, and a queue is full
 abbrev pub Spent : Type 0
@@ -46,8 +51,10 @@ Full = replies (start (limited 1 2 9 1 10)) (Env (Create 0 1 false) ∷ Env (Wak
 -- posts are spent; the refusals of a mask and of a thread come first
 abbrev pub PostsSpentLast : Type 0
 PostsSpentLast = replies (start (limited 1 2 9 5 2))
-    (Env (Create 0 1 false) ∷ Env (Wake 0) ∷ Env (Tick 0) ∷ Env (Create 0 2 true) ∷ Env (Create 0 0 true) ∷ Env (Wake 0) ∷ Env (Wake 1) ∷ Env (Block 0 1) ∷ [])
-    ≡ sent 0 1 0 1 None ∷ sent 0 2 0 2 None ∷ Err refusal.PostsSpent ∷ Err refusal.MaskTooWide ∷ Err refusal.EmptyMask ∷ Err refusal.NotBlocked ∷ Err refusal.UnknownThread ∷ Err refusal.IdleCpu ∷ []
+    (Env (Create 0 1 false) ∷ Env (Wake 0) ∷ Env (Tick 0) ∷ Env (Create 0 2 true) ∷ Env (Create 0 0 true) ∷ Env (Wake 0) ∷ Env (Wake 1)
+    ∷ Env (Block 0 1) ∷ [])
+    ≡ sent 0 1 0 1 None ∷ sent 0 2 0 2 None ∷ Err refusal.PostsSpent ∷ Err refusal.MaskTooWide ∷ Err refusal.EmptyMask
+    ∷ Err refusal.NotBlocked ∷ Err refusal.UnknownThread ∷ Err refusal.IdleCpu ∷ []
 
 -- the dead are not woken
 abbrev pub DeadStay : Type 0
@@ -62,18 +69,21 @@ Masks = replies (start small)
 
 -- the highest CPU has the highest bit
 abbrev pub LastCpu : Type 0
-LastCpu = replies (start (limited 64 4096 1000000 65536 4294967295)) (Env (Create 63 9223372036854775808 true) ∷ Env (Create 64 1 true) ∷ [])
+LastCpu = replies (start (limited MOST_CPUS MOST_THREADS MOST_NUMBERS MOST_ROOM MOST_POSTS))
+    (Env (Create 63 9223372036854775808 true) ∷ Env (Create 64 1 true) ∷ [])
     ≡ sent 0 1 63 1 None ∷ Err refusal.BadCpu ∷ []
 
 -- a queue wakes whom it is configured to wake, who is awake at once; or nobody
 abbrev pub Targets : Type 0
-Targets = replies (start small) (Sleep 1 0 ∷ Config 0 (Some 1) ∷ Sleep 1 0 ∷ Env (Create 0 3 true) ∷ Config 0 None ∷ Sleep 1 0 ∷ Env (Tick 0) ∷ Rouse 2 ∷ [])
+Targets = replies (start small)
+    (Sleep 1 0 ∷ Config 0 (Some 1) ∷ Sleep 1 0 ∷ Env (Create 0 3 true) ∷ Config 0 None ∷ Sleep 1 0 ∷ Env (Tick 0) ∷ Rouse 2 ∷ [])
     ≡ Ok Done ∷ Ok Done ∷ Ok Done ∷ sent 0 1 0 1 (Some 1) ∷ Ok Done ∷ Ok Done
-    ∷ Ok (Posted record { thread = None; number = None; queue = 0; aseq = 2; woken = None }) ∷ Err refusal.BadCpu ∷ []
+    ∷ ticked 0 2 ∷ Err refusal.BadCpu ∷ []
 
 -- a level is at most 7
 abbrev pub Levels : Type 0
-Levels = replies (start small) (Env (Create 0 3 true) ∷ Env (SetPriority 0 8) ∷ Env (SetPriority 9 1) ∷ Env (SetPriority 0 5) ∷ Commit 0 0 2 ∷ Env (YieldNow 0 1) ∷ [])
+Levels = replies (start small)
+    (Env (Create 0 3 true) ∷ Env (SetPriority 0 8) ∷ Env (SetPriority 9 1) ∷ Env (SetPriority 0 5) ∷ Commit 0 0 2 ∷ Env (YieldNow 0 1) ∷ [])
     ≡ sent 0 1 0 1 None ∷ Err refusal.BadLevel ∷ Err refusal.UnknownThread ∷ sent 0 2 0 2 None ∷ Ok Done ∷ sent 0 3 0 3 None ∷ []
 
 -- an agent that sleeps is woken by a post, and does not sleep under a stale count
@@ -86,5 +96,5 @@ abbrev pub Refusals : Type 0
 Refusals = replies (start small)
     (Env (Create 0 3 true) ∷ Env (Create 0 3 false) ∷ Env (Create 0 3 true) ∷ Commit 0 1 3 ∷ Commit 0 0 3 ∷ Commit 0 0 3 ∷ Commit 0 2 3
     ∷ Associate 0 1 1 ∷ Consume 0 3 ∷ Associate 0 1 1 ∷ Associate 9 1 1 ∷ Associate 0 2 1 ∷ [])
-    ≡ sent 0 1 0 1 None ∷ sent 1 1 0 2 None ∷ sent 2 1 0 3 None ∷ Err refusal.NotReady ∷ Ok Done ∷ Err (refusal.Running 0) ∷ Err refusal.Busy
-    ∷ Err refusal.Pending ∷ Ok Done ∷ Err (refusal.Running 0) ∷ Err refusal.UnknownThread ∷ Err refusal.BadCpu ∷ []
+    ≡ sent 0 1 0 1 None ∷ sent 1 1 0 2 None ∷ sent 2 1 0 3 None ∷ Err refusal.NotReady ∷ Ok Done ∷ Err (refusal.Running 0)
+    ∷ Err refusal.Busy ∷ Err refusal.Pending ∷ Ok Done ∷ Err (refusal.Running 0) ∷ Err refusal.UnknownThread ∷ Err refusal.BadCpu ∷ []

@@ -49,7 +49,8 @@ impl Kernel {
     pub fn new(alloc: Global, limits: Limits) -> Result<Self, LimitsFault>
         ensures ok { IfOk result (λ kernel. Shows kernel (start limits)) }
         ensures within { IfOk result (λ _. bad_field Profile.One limits ≡ None) }
-        ensures refused { (field : LimitField) → (result ≡ Err (LimitsFault.BadLimits field)) ↔ (bad_field Profile.One limits ≡ Some field) }
+        ensures refused { (field : LimitField) →
+            (result ≡ Err (LimitsFault.BadLimits field)) ↔ (bad_field Profile.One limits ≡ Some field) }
         ensures memory_last { result ≡ Err LimitsFault.OutOfMemory → bad_field Profile.One limits ≡ None }
     {
         Self::new_in(alloc, Profile::One, limits)
@@ -59,7 +60,8 @@ impl Kernel {
     pub fn new_in(alloc: Global, profile: Profile, limits: Limits) -> Result<Self, LimitsFault>
         ensures ok { IfOk result (λ kernel. Shows kernel (start limits)) }
         ensures within { IfOk result (λ _. bad_field profile limits ≡ None) }
-        ensures refused { (field : LimitField) → (result ≡ Err (LimitsFault.BadLimits field)) ↔ (bad_field profile limits ≡ Some field) }
+        ensures refused { (field : LimitField) →
+            (result ≡ Err (LimitsFault.BadLimits field)) ↔ (bad_field profile limits ≡ Some field) }
         ensures memory_last { result ≡ Err LimitsFault.OutOfMemory → bad_field profile limits ≡ None }
     {
         match limits.bad_field(profile) {

@@ -76,8 +76,10 @@ impl CpuQueue {
     /// Puts an item at the end of the queue, and counts the post.
     pub fn post(&mut self, item: Item) -> Result<(), QueueFault>
         ensures full { (result ≡ Err QueueFault.QueueFull) ↔ (self.old.room ≤ length self.old.items) }
-        ensures spent { (result ≡ Err QueueFault.PostsSpent) ↔ ((length self.old.items < self.old.room) × (self.old.most ≤ self.old.posts)) }
-        ensures memory_last { result ≡ Err QueueFault.OutOfMemory → (length self.old.items < self.old.room) × (self.old.posts < self.old.most) }
+        ensures spent { (result ≡ Err QueueFault.PostsSpent) ↔
+            ((length self.old.items < self.old.room) × (self.old.most ≤ self.old.posts)) }
+        ensures memory_last { result ≡ Err QueueFault.OutOfMemory →
+            (length self.old.items < self.old.room) × (self.old.posts < self.old.most) }
         ensures ok { OnOk result (self.new ≡ record self.old { posts = self.old.posts + 1; items = self.old.items ++ item ∷ [] }) }
         ensures err { OnErr result (self.new ≡ self.old) }
     {

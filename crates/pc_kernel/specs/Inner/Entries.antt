@@ -2,6 +2,7 @@
 use Rattle.std.specs.Prelude.{ℕ, ◌+◌, ◌<◌, ◌≡◌, ◌==◌, ◌&&◌, not, Bool, false, List, [], ◌∷◌, ◌++◌, length, map, Option, Some, None, slice_get, if◌then◌else◌}
 use Rattle.std.specs.Option.{option_map, option_map_or, option_and_then}
 use Rattle.pc_messages.specs.declared.message.Item.{Item}
+use Rattle.pc_queue.specs.Queue.{Queue}
 use Rattle.pc_kernel.specs.declared.cpus.CpuEntry.{CpuEntry}
 use Rattle.pc_kernel.specs.declared.cpus.Landing.{Landing}
 use Rattle.pc_calls.specs.declared.limits.Limits.{Limits}
@@ -34,7 +35,13 @@ pub record IsKernel (limits : Limits) (threads : List ThreadRow) (cpus : List Cp
 
 -- a CPU with nothing posted or running, whose queue wakes its own agent
 abbrev pub fresh_cpu : Limits → ℕ → CpuEntry
-fresh_cpu limits c = record { queue = record { room = limits.room; most = limits.posts; posts = 0; items = [] }; target = Some c; running = None; asleep = false }
+fresh_cpu limits c =
+    record {
+      queue = record { room = limits.room; most = limits.posts; posts = 0; items = [] };
+      target = Some c;
+      running = None;
+      asleep = false;
+    }
 
 -- whom each queue wakes is there
 abbrev pub AreTargets : List CpuEntry → Type 0
@@ -53,9 +60,13 @@ roused_entry agent c e = record e { asleep = e.asleep && not (is_named agent c) 
 abbrev pub woken_of : List CpuEntry → Option ℕ → Option ℕ
 woken_of cpus agent = option_and_then (λ c. if option_map_or (λ e. e.asleep) (slice_get cpus c) false then Some c else None) agent
 
--- the CPU's queue has the item at its end, where it is the one posted to
+-- the queue has one more item, at its end
+abbrev pub given : Queue → Item → Queue
+given queue item = record queue { posts = queue.posts + 1; items = queue.items ++ item ∷ [] }
+
+-- so has the CPU's queue, where it is the one posted to
 abbrev pub given_entry : ℕ → Item → ℕ → CpuEntry → CpuEntry
-given_entry q item c e = if c == q then record e { queue = record e.queue { posts = e.queue.posts + 1; items = e.queue.items ++ item ∷ [] } } else e
+given_entry q item c e = if c == q then record e { queue = given e.queue item } else e
 
 -- the item is at the end of queue q, and the agent that the queue wakes is awake
 pub record IsPosted (old new : List CpuEntry) (q : ℕ) (item : Item) (landing : Landing) : Type 0 where

@@ -35,4 +35,5 @@ Leaves cpu kind result old new =
     (P : PlainKernel) → Shows old P →
     let p = leaving P cpu kind in
     let refusal = first_of (leave_refusals (shown P) cpu) in
-    RepliesInMemory answer.Posted result old new (reply_of refusal (answer.Posted (receipt p))) (after_of refusal (posted p.before p.queue p.item) P)
+    let replied = reply_of refusal (answer.Posted (receipt p)) in
+    RepliesInMemory answer.Posted result old new replied (after_of refusal (posted p.before p.queue p.item) P)

@@ -22,4 +22,6 @@ pub record IsEntry (kinds : List Kind) (reported : Reported) : Type 0 where
 pub record IsTold (old new : List CpuEntry) (row : ThreadRow) (t : ℕ) (kind : Kind) (posted : Posted) : Type 0 where
   pub landing : Landing
   pub lands : IsPosted old new row.home (item.Thread record { thread = t; number = length row.kinds + 1; kind = kind }) landing
-  pub answer : posted ≡ record { thread = Some t; number = Some (length row.kinds + 1); queue = row.home; aseq = landing.aseq; woken = landing.woken }
+  pub answer :
+      posted
+      ≡ record { thread = Some t; number = Some (length row.kinds + 1); queue = row.home; aseq = landing.aseq; woken = landing.woken }

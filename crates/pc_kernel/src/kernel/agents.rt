@@ -11,13 +11,15 @@ use pc_messages::{Cpu, Phase, Tid};
 impl Kernel {
     ghost use Rattle.pc_kernel.specs.Answers.{Steps, done};
     ghost use Rattle.pc_messages.specs.Items.{is_of};
-    ghost use Rattle.pc_kernel.specs.Reads.{seen, content};
+    ghost use Rattle.pc_messages.specs.Run.{Extends};
+    ghost use Rattle.pc_kernel.specs.Reads.{seen, kinds, content};
     ghost use Rattle.pc_kernel.specs.Steps.{refused};
 
     /// Removes the first items of the CPU's queue.
     pub fn consume(&mut self, cpu: Cpu, count: u32) -> Result<(), Refusal>
         ensures step { Steps done (Call.Consume cpu count) result self.old self.new }
         ensures limits { self.new.limits ≡ self.old.limits }
+        ensures extends { Extends (kinds (seen self.new)) (kinds (seen self.old)) }
         ensures err { OnErr result (self.new ≡ self.old) }
     {
         match self.consume_fault(cpu, count) {
@@ -34,6 +36,7 @@ impl Kernel {
     pub fn associate(&mut self, thread: Tid, queue: Cpu, number: u32) -> Result<(), Refusal>
         ensures step { Steps done (Call.Associate thread queue number) result self.old self.new }
         ensures limits { self.new.limits ≡ self.old.limits }
+        ensures extends { Extends (kinds (seen self.new)) (kinds (seen self.old)) }
         ensures err { OnErr result (self.new ≡ self.old) }
     {
         match self.associate_fault(thread, queue, number) {
@@ -50,6 +53,7 @@ impl Kernel {
     pub fn commit(&mut self, cpu: Cpu, thread: Tid, aseq: u32) -> Result<(), Refusal>
         ensures step { Steps done (Call.Commit cpu thread aseq) result self.old self.new }
         ensures limits { self.new.limits ≡ self.old.limits }
+        ensures extends { Extends (kinds (seen self.new)) (kinds (seen self.old)) }
         ensures err { OnErr result (self.new ≡ self.old) }
     {
         match self.commit_fault(cpu, thread, aseq) {
@@ -65,6 +69,7 @@ impl Kernel {
     pub fn sleep(&mut self, cpu: Cpu, aseq: u32) -> Result<(), Refusal>
         ensures step { Steps done (Call.Sleep cpu aseq) result self.old self.new }
         ensures limits { self.new.limits ≡ self.old.limits }
+        ensures extends { Extends (kinds (seen self.new)) (kinds (seen self.old)) }
         ensures err { OnErr result (self.new ≡ self.old) }
     {
         match self.sleep_fault(cpu, aseq) {
@@ -80,6 +85,7 @@ impl Kernel {
     pub fn rouse(&mut self, cpu: Cpu) -> Result<(), Refusal>
         ensures step { Steps done (Call.Rouse cpu) result self.old self.new }
         ensures limits { self.new.limits ≡ self.old.limits }
+        ensures extends { Extends (kinds (seen self.new)) (kinds (seen self.old)) }
         ensures err { OnErr result (self.new ≡ self.old) }
     {
         match self.rouse_fault(cpu) {
@@ -95,6 +101,7 @@ impl Kernel {
     pub fn config_wakeup(&mut self, queue: Cpu, target: Option<Cpu>) -> Result<(), Refusal>
         ensures step { Steps done (Call.Config queue target) result self.old self.new }
         ensures limits { self.new.limits ≡ self.old.limits }
+        ensures extends { Extends (kinds (seen self.new)) (kinds (seen self.old)) }
         ensures err { OnErr result (self.new ≡ self.old) }
     {
         match self.config_fault(queue, &target) {

@@ -7,13 +7,16 @@ use crate::kernel::Kernel;
 use pc_calls::{Answer, Call, CallFault, EnvCall, Posted, Refusal};
 
 impl Kernel {
+    ghost use Rattle.pc_messages.specs.Run.{Extends};
     ghost use Rattle.pc_kernel.specs.Answers.{StepsInMemory, itself};
+    ghost use Rattle.pc_kernel.specs.Reads.{seen, kinds};
 
     /// Makes the call.
     pub fn apply(&mut self, call: Call) -> Result<Answer, CallFault>
         ensures step { StepsInMemory itself call result self.old self.new }
         ensures plain { result ≡ Err CallFault.OutOfMemory → (env : EnvCall) × (call ≡ Call.Env env) }
         ensures limits { self.new.limits ≡ self.old.limits }
+        ensures extends { Extends (kinds (seen self.new)) (kinds (seen self.old)) }
         ensures err { OnErr result (self.new ≡ self.old) }
     {
         match call {
@@ -35,6 +38,7 @@ impl Kernel {
     fn apply_env(&mut self, call: EnvCall) -> Result<Posted, CallFault>
         ensures step { StepsInMemory Answer.Posted (Call.Env call) result self.old self.new }
         ensures limits { self.new.limits ≡ self.old.limits }
+        ensures extends { Extends (kinds (seen self.new)) (kinds (seen self.old)) }
         ensures err { OnErr result (self.new ≡ self.old) }
     {
         match call {

@@ -5,7 +5,7 @@ ghost use Rattle.std.specs.Result.{result_err};
 ghost use Rattle.std.specs.Vec.{vec_len, vec_capacity};
 ghost use Rattle.pc_messages.specs.State.{ran_given};
 ghost use Rattle.pc_messages.specs.declared.kind.TheConstants.{MOST_TICKS};
-ghost use Rattle.pc_messages.specs.Run.{is_created};
+ghost use Rattle.pc_messages.specs.Run.{is_created, Extends};
 ghost use Rattle.pc_calls.specs.Conditions.{first_of};
 
 use crate::cpus::post;
@@ -18,7 +18,7 @@ use std::alloc::AllocError;
 
 impl Kernel {
     ghost use Rattle.pc_kernel.specs.Answers.{StepsInMemory};
-    ghost use Rattle.pc_kernel.specs.Reads.{seen, number, on};
+    ghost use Rattle.pc_kernel.specs.Reads.{seen, kinds, number, on};
     ghost use Rattle.pc_kernel.specs.Inner.Sends.{Sends, Leaves, adding, ticking};
     ghost use Rattle.pc_kernel.specs.Steps.{refused, queue_refusals, post_refusals, mask_refusals, thread_refusals, leave_refusals, telling};
 
@@ -26,6 +26,7 @@ impl Kernel {
     pub fn create(&mut self, queue: Cpu, mask: u64, ready: bool) -> Result<Posted, CallFault>
         ensures step { StepsInMemory Answer.Posted (Call.Env (EnvCall.Create queue mask ready)) result self.old self.new }
         ensures limits { self.new.limits ≡ self.old.limits }
+        ensures extends { Extends (kinds (seen self.new)) (kinds (seen self.old)) }
         ensures err { OnErr result (self.new ≡ self.old) }
     {
         match self.first_kind(queue, mask, ready) {
@@ -41,6 +42,7 @@ impl Kernel {
     pub fn wake(&mut self, thread: Tid) -> Result<Posted, CallFault>
         ensures step { StepsInMemory Answer.Posted (Call.Env (EnvCall.Wake thread)) result self.old self.new }
         ensures limits { self.new.limits ≡ self.old.limits }
+        ensures extends { Extends (kinds (seen self.new)) (kinds (seen self.old)) }
         ensures err { OnErr result (self.new ≡ self.old) }
     {
         match self.wake_fault(thread) {
@@ -56,6 +58,7 @@ impl Kernel {
     pub fn block(&mut self, cpu: Cpu, ran: u32) -> Result<Posted, CallFault>
         ensures step { StepsInMemory Answer.Posted (Call.Env (EnvCall.Block cpu ran)) result self.old self.new }
         ensures limits { self.new.limits ≡ self.old.limits }
+        ensures extends { Extends (kinds (seen self.new)) (kinds (seen self.old)) }
         ensures err { OnErr result (self.new ≡ self.old) }
     {
         self.leave(cpu, Kind::Blocked { ran })
@@ -65,6 +68,7 @@ impl Kernel {
     pub fn yield_now(&mut self, cpu: Cpu, ran: u32) -> Result<Posted, CallFault>
         ensures step { StepsInMemory Answer.Posted (Call.Env (EnvCall.YieldNow cpu ran)) result self.old self.new }
         ensures limits { self.new.limits ≡ self.old.limits }
+        ensures extends { Extends (kinds (seen self.new)) (kinds (seen self.old)) }
         ensures err { OnErr result (self.new ≡ self.old) }
     {
         self.leave(cpu, Kind::Yield { ran })
@@ -74,6 +78,7 @@ impl Kernel {
     pub fn preempt(&mut self, cpu: Cpu, ran: u32) -> Result<Posted, CallFault>
         ensures step { StepsInMemory Answer.Posted (Call.Env (EnvCall.Preempt cpu ran)) result self.old self.new }
         ensures limits { self.new.limits ≡ self.old.limits }
+        ensures extends { Extends (kinds (seen self.new)) (kinds (seen self.old)) }
         ensures err { OnErr result (self.new ≡ self.old) }
     {
         self.leave(cpu, Kind::Preempted { ran })
@@ -83,6 +88,7 @@ impl Kernel {
     pub fn die(&mut self, cpu: Cpu, ran: u32) -> Result<Posted, CallFault>
         ensures step { StepsInMemory Answer.Posted (Call.Env (EnvCall.Die cpu ran)) result self.old self.new }
         ensures limits { self.new.limits ≡ self.old.limits }
+        ensures extends { Extends (kinds (seen self.new)) (kinds (seen self.old)) }
         ensures err { OnErr result (self.new ≡ self.old) }
     {
         self.leave(cpu, Kind::Dead { ran })
@@ -92,6 +98,7 @@ impl Kernel {
     pub fn set_affinity(&mut self, thread: Tid, mask: u64) -> Result<Posted, CallFault>
         ensures step { StepsInMemory Answer.Posted (Call.Env (EnvCall.SetAffinity thread mask)) result self.old self.new }
         ensures limits { self.new.limits ≡ self.old.limits }
+        ensures extends { Extends (kinds (seen self.new)) (kinds (seen self.old)) }
         ensures err { OnErr result (self.new ≡ self.old) }
     {
         match self.affinity(thread, mask) {
@@ -107,6 +114,7 @@ impl Kernel {
     pub fn set_priority(&mut self, thread: Tid, level: u8) -> Result<Posted, CallFault>
         ensures step { StepsInMemory Answer.Posted (Call.Env (EnvCall.SetPriority thread level)) result self.old self.new }
         ensures limits { self.new.limits ≡ self.old.limits }
+        ensures extends { Extends (kinds (seen self.new)) (kinds (seen self.old)) }
         ensures err { OnErr result (self.new ≡ self.old) }
     {
         match self.priority(thread, level) {
@@ -122,6 +130,7 @@ impl Kernel {
     pub fn tick(&mut self, cpu: Cpu) -> Result<Posted, CallFault>
         ensures step { StepsInMemory Answer.Posted (Call.Env (EnvCall.Tick cpu)) result self.old self.new }
         ensures limits { self.new.limits ≡ self.old.limits }
+        ensures extends { Extends (kinds (seen self.new)) (kinds (seen self.old)) }
         ensures err { OnErr result (self.new ≡ self.old) }
     {
         match self.tick_fault(cpu) {
@@ -140,6 +149,7 @@ impl Kernel {
         requires ran { ran_given kind ≤ MOST_TICKS }
         ensures step { Leaves cpu kind result self.old self.new }
         ensures limits { self.new.limits ≡ self.old.limits }
+        ensures extends { Extends (kinds (seen self.new)) (kinds (seen self.old)) }
         ensures err { OnErr result (self.new ≡ self.old) }
     {
         let thread = self.leaver(cpu)?;
@@ -305,6 +315,7 @@ impl Kernel {
         requires first { IsTrue (is_created kind) }
         ensures ok { IfOk result (λ posted. Sends (λ P. adding P queue kind) posted self.old self.new) }
         ensures limits { self.new.limits ≡ self.old.limits }
+        ensures extends { Extends (kinds (seen self.new)) (kinds (seen self.old)) }
         ensures err { OnErr result (self.new ≡ self.old) }
     {
         let alloc = *self.threads.allocator();
@@ -340,6 +351,7 @@ impl Kernel {
         ensures stay { (c : ℕ) → on (seen self.new) c ≡ on (seen self.old) c }
         ensures threads { length self.new.threads ≡ length self.old.threads }
         ensures limits { self.new.limits ≡ self.old.limits }
+        ensures extends { Extends (kinds (seen self.new)) (kinds (seen self.old)) }
         ensures err { OnErr result (self.new ≡ self.old) }
     {
         self.threads[thread.index() as usize].tell(thread, kind, &mut self.cpus)
@@ -350,6 +362,7 @@ impl Kernel {
         requires there { cpu < self.old.limits.cpus }
         ensures ok { IfOk result (λ posted. Sends (λ P. ticking P cpu) posted self.old self.new) }
         ensures limits { self.new.limits ≡ self.old.limits }
+        ensures extends { Extends (kinds (seen self.new)) (kinds (seen self.old)) }
         ensures err { OnErr result (self.new ≡ self.old) }
     {
         let landing = post(&mut self.cpus, cpu, Item::Tick(cpu))?;

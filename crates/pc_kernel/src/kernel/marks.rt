@@ -7,7 +7,7 @@ use crate::kernel::Kernel;
 use pc_messages::{Cpu, Tid};
 
 impl Kernel {
-    ghost use Rattle.pc_kernel.specs.Reads.{seen, on, place, content};
+    ghost use Rattle.pc_kernel.specs.Reads.{seen, kinds, on, place, content};
     ghost use Rattle.pc_kernel.specs.Inner.Sends.{Becomes};
     ghost use Rattle.pc_kernel.specs.Steps.{at};
 
@@ -17,6 +17,7 @@ impl Kernel {
         requires there { cpu < self.old.limits.cpus }
         requires known { thread < length self.old.threads }
         ensures shown { Becomes (λ P. record P { on = at P.on cpu None }) self.old self.new }
+        ensures kinds { (t : ℕ) → kinds (seen self.new) t ≡ kinds (seen self.old) t }
         ensures limits { self.new.limits ≡ self.old.limits }
     {
         self.cpus[cpu.index() as usize].running = None;
@@ -30,6 +31,7 @@ impl Kernel {
         requires nowhere { place (seen self.old) thread ≡ None }
         requires idle { on (seen self.old) cpu ≡ None }
         ensures shown { Becomes (λ P. record P { on = at P.on cpu (Some thread) }) self.old self.new }
+        ensures kinds { (t : ℕ) → kinds (seen self.new) t ≡ kinds (seen self.old) t }
         ensures limits { self.new.limits ≡ self.old.limits }
     {
         self.threads[thread.index() as usize].set_on(Some(cpu));
@@ -41,6 +43,7 @@ impl Kernel {
         requires known { thread < length self.old.threads }
         requires there { queue < self.old.limits.cpus }
         ensures shown { Becomes (λ P. record P { home = at P.home thread queue }) self.old self.new }
+        ensures kinds { (t : ℕ) → kinds (seen self.new) t ≡ kinds (seen self.old) t }
         ensures limits { self.new.limits ≡ self.old.limits }
     {
         self.threads[thread.index() as usize].set_home(queue);
@@ -51,6 +54,7 @@ impl Kernel {
         requires there { cpu < self.old.limits.cpus }
         requires few { count ≤ length (content (seen self.old) cpu) }
         ensures shown { Becomes (λ P. record P { eaten = at P.eaten cpu (P.eaten cpu + count) }) self.old self.new }
+        ensures threads { self.new.threads ≡ self.old.threads }
         ensures limits { self.new.limits ≡ self.old.limits }
     {
         let entry = &mut self.cpus[cpu.index() as usize];
@@ -61,6 +65,7 @@ impl Kernel {
     pub(super) fn doze(&mut self, cpu: Cpu)
         requires there { cpu < self.old.limits.cpus }
         ensures shown { (n : ℕ) → Becomes (λ P. record P { slept = at P.slept cpu (Some n) }) self.old self.new }
+        ensures threads { self.new.threads ≡ self.old.threads }
         ensures limits { self.new.limits ≡ self.old.limits }
     {
         self.cpus[cpu.index() as usize].asleep = true;
@@ -70,6 +75,7 @@ impl Kernel {
     pub(super) fn awaken(&mut self, cpu: Cpu)
         requires there { cpu < self.old.limits.cpus }
         ensures shown { Becomes (λ P. record P { slept = at P.slept cpu None }) self.old self.new }
+        ensures threads { self.new.threads ≡ self.old.threads }
         ensures limits { self.new.limits ≡ self.old.limits }
     {
         self.cpus[cpu.index() as usize].asleep = false;
@@ -80,6 +86,7 @@ impl Kernel {
         requires there { queue < self.old.limits.cpus }
         requires target_there { ForSome target (λ cpu. cpu < self.old.limits.cpus) }
         ensures shown { Becomes (λ P. record P { target = at P.target queue target }) self.old self.new }
+        ensures threads { self.new.threads ≡ self.old.threads }
         ensures limits { self.new.limits ≡ self.old.limits }
     {
         self.cpus[queue.index() as usize].target = target;

@@ -32,7 +32,8 @@ fn run_and_move(
     home: Cpu,
     number: u32,
 ) -> Result<bool, CallFault>
-    ensures { IfOk result (λ _. Replays (Call.Env (EnvCall.Create queue 3 true) ∷ Call.Commit queue runs aseq ∷ Call.Associate moves home number ∷ []) kernel.old kernel.new) }
+    ensures { let calls = Call.Env (EnvCall.Create queue 3 true) ∷ Call.Commit queue runs aseq ∷ Call.Associate moves home number ∷ [] in
+        IfOk result (λ _. Replays calls kernel.old kernel.new) }
 {
     match kernel.create(queue, 3, true) {
         Err(fault) => Err(fault),

@@ -1,4 +1,4 @@
-use Rattle.std.proofs.Common.{sym}
+use Rattle.std.proofs.Common.{◌∙◌, sym}
 use Rattle.pc_kernel.proofs.Stepped.{stays, out_of_memory_leaves, left}
 use Rattle.pc_kernel.proofs.kernel.Kernel.leave.Goals as goal
 
@@ -11,3 +11,6 @@ returns-in-Ok-clause-step c =
 
 pub returns-in-Err-clause-step : goal.returns-in-Err-clause-step
 returns-in-Err-clause-step c = out_of_memory_leaves c.args.cpu c.args.kind c.args.self.now c.tell.new.self (sym c.in_ok-thread.ensures.refused) c.in-Err.ensures.err
+
+pub returns-in-Ok-clause-extends : goal.returns-in-Ok-clause-extends
+returns-in-Ok-clause-extends c t = let told = c.tell.ensures.extends t in (told.0, c.take_off.ensures.kinds t ∙ told.1)
