@@ -231,34 +231,8 @@ one_verb verb.Complete verb.Complete is = refl
 one_verb one other is = absurd (true≢false (ap (λ word. bytes_eq (name_of one) word) is))
 
 -- the fields after a verb can be told apart
-is_split-kinds : (verb : Verb) → is_split (kinds verb) ≡ true
-is_split-kinds verb.Enclave = refl
-is_split-kinds verb.Create = refl
-is_split-kinds verb.Wake = refl
-is_split-kinds verb.Block = refl
-is_split-kinds verb.Yield = refl
-is_split-kinds verb.Preempt = refl
-is_split-kinds verb.Die = refl
-is_split-kinds verb.Affinity = refl
-is_split-kinds verb.Priority = refl
-is_split-kinds verb.Tick = refl
-is_split-kinds verb.Associate = refl
-is_split-kinds verb.Commit = refl
-is_split-kinds verb.Sleep = refl
-is_split-kinds verb.Rouse = refl
-is_split-kinds verb.Config = refl
-is_split-kinds verb.Publish = refl
-is_split-kinds verb.Consume = refl
-is_split-kinds verb.Deliver = refl
-is_split-kinds verb.Answer = refl
-is_split-kinds verb.Pick = refl
-is_split-kinds verb.Steal = refl
-is_split-kinds verb.Crash = refl
-is_split-kinds verb.Status = refl
-is_split-kinds verb.Asleep = refl
-is_split-kinds verb.Show = refl
-is_split-kinds verb.Same = refl
-is_split-kinds verb.Complete = refl
+is_split-kinds : (any : Verb) → is_split (kinds any) ≡ true
+is_split-kinds any = elim any as (λ word. is_split (kinds word) ≡ true) [ verb.Enclave ↦ refl | _ ↦ refl ]
 
 -- ---- commands that cannot be read
 

@@ -134,7 +134,8 @@ read_row (read.Complete cpu thread) = row (codes "complete") (Processor cpu ∷ 
 -- a command's row
 abbrev pub row_of : Command → Row
 row_of (command.Enclave limits) =
-    row (codes "enclave") (Processors limits.cpus ∷ Count limits.threads ∷ Count limits.numbers ∷ Count limits.room ∷ Count limits.posts ∷ [])
+    row (codes "enclave")
+    (Processors limits.cpus ∷ Count limits.threads ∷ Count limits.numbers ∷ Count limits.room ∷ Count limits.posts ∷ [])
 row_of (command.Event event) = event_row event
 row_of (command.Read question) = read_row question
 

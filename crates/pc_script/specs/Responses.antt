@@ -119,7 +119,8 @@ numbers_text (first ∷ others) = decimal first ++ flat_map (λ number. 32 ∷ d
 abbrev pub shown_text : ShownThread → List ℕ
 shown_text shown =
     thread_name shown.thread
-    ++ (codes " upto " ++ (decimal shown.upto ++ (codes " " ++ (reported_text shown.reported ++ (codes " early " ++ numbers_text shown.early)))))
+    ++ (codes " upto " ++ (decimal shown.upto ++ (codes " "
+    ++ (reported_text shown.reported ++ (codes " early " ++ numbers_text shown.early)))))
 
 -- a line for each thread
 abbrev pub shown_lines : List ShownThread → List ℕ

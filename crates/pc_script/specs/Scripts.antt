@@ -25,20 +25,24 @@ abbrev pub outcome_text : Outcome → List ℕ
 outcome_text Finished = []
 outcome_text (FaultLine number) = codes "fault line " ++ (decimal number ++ 10 ∷ [])
 
--- a line for each reply
+-- a line for each response
 abbrev pub responses_text : List Response → List ℕ
 responses_text responses = flat_map (λ response. text_line (response_text response)) responses
 
--- What is told of lines, of which the first has this number: the responses of some run over the commands that they ask for, and their fault
-pub record IsTold (IsRun : List Command → List Response → Type 0) (number : ℕ) (script : List (List ℕ)) (outcome : Outcome) (told : List ℕ) : Type 0 where
+-- What is told of lines, of which the first has this number: the responses of some run over the commands that they ask for,
+-- and their fault
+pub record IsTold (IsRun : List Command → List Response → Type 0) (number : ℕ) (script : List (List ℕ)) (outcome : Outcome)
+    (told : List ℕ) : Type 0 where
   pub commands : List Command
   pub responses : List Response
   pub asks : Script number script commands outcome
   pub run : IsRun commands responses
   pub text : told ≡ responses_text responses ++ outcome_text outcome
 
--- The output is the answer to the line that names the version, if there is one, and what is told of the rest in that version
-pub record IsOutputOf (IsRun : Profile → List Command → List Response → Type 0) (script : List (List ℕ)) (outcome : Outcome) (output : List ℕ) : Type 0 where
+-- The output is the answer to the line that names the version, if there is one, and what is told of the rest in that
+-- version's profile
+pub record IsOutputOf (IsRun : Profile → List Command → List Response → Type 0) (script : List (List ℕ)) (outcome : Outcome)
+    (output : List ℕ) : Type 0 where
   pub profile : Profile
   pub passed : ℕ
   pub rest : List (List ℕ)

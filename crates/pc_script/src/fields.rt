@@ -241,10 +241,10 @@ impl Arguments for Failure {
         if word != b"fail".as_slice() {
             return None;
         }
-        match first_word(rest) {
-            None => Some(Failure(true)),
-            Some(_) => None,
-        }
+        let None = first_word(rest) else {
+            return None;
+        };
+        Some(Failure(true))
     }
 }
 

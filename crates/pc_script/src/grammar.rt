@@ -47,98 +47,68 @@ enum Verb {
     Complete,
 }
 
-/// Fields as the nested pairs that [`Arguments`] reads.
-macro_rules! fields {
-    ($last:pat) => { ($last, ()) };
-    ($first:pat, $($others:pat),+) => { ($first, fields!($($others),+)) };
+/// The verb that a word is, from a table.
+macro_rules! find {
+    ($word:expr, $($name:literal => $verb:expr),+) => {{
+        $(if $word == $name.as_slice() {
+            return Some($verb);
+        })+
+        None
+    }};
 }
 
 /// The verb that this word is.
 fn verb_of(word: &[u8]) -> Option<Verb>
     ensures { MatchOption result ((any : Verb) → word.now ≡ name_of any → ⊥) (λ verb. word.now ≡ name_of verb) }
 {
-    if word == b"enclave".as_slice() {
-        return Some(Verb::Enclave);
-    }
-    if word == b"create".as_slice() {
-        return Some(Verb::Create);
-    }
-    if word == b"wake".as_slice() {
-        return Some(Verb::Wake);
-    }
-    if word == b"block".as_slice() {
-        return Some(Verb::Block);
-    }
-    if word == b"yield".as_slice() {
-        return Some(Verb::Yield);
-    }
-    if word == b"preempt".as_slice() {
-        return Some(Verb::Preempt);
-    }
-    if word == b"die".as_slice() {
-        return Some(Verb::Die);
-    }
-    if word == b"affinity".as_slice() {
-        return Some(Verb::Affinity);
-    }
-    if word == b"priority".as_slice() {
-        return Some(Verb::Priority);
-    }
-    if word == b"tick".as_slice() {
-        return Some(Verb::Tick);
-    }
-    if word == b"associate".as_slice() {
-        return Some(Verb::Associate);
-    }
-    if word == b"commit".as_slice() {
-        return Some(Verb::Commit);
-    }
-    if word == b"sleep".as_slice() {
-        return Some(Verb::Sleep);
-    }
-    if word == b"rouse".as_slice() {
-        return Some(Verb::Rouse);
-    }
-    if word == b"config".as_slice() {
-        return Some(Verb::Config);
-    }
-    if word == b"publish".as_slice() {
-        return Some(Verb::Publish);
-    }
-    if word == b"consume".as_slice() {
-        return Some(Verb::Consume);
-    }
-    if word == b"deliver".as_slice() {
-        return Some(Verb::Deliver);
-    }
-    if word == b"answer".as_slice() {
-        return Some(Verb::Answer);
-    }
-    if word == b"pick".as_slice() {
-        return Some(Verb::Pick);
-    }
-    if word == b"steal".as_slice() {
-        return Some(Verb::Steal);
-    }
-    if word == b"crash".as_slice() {
-        return Some(Verb::Crash);
-    }
-    if word == b"status".as_slice() {
-        return Some(Verb::Status);
-    }
-    if word == b"asleep".as_slice() {
-        return Some(Verb::Asleep);
-    }
-    if word == b"show".as_slice() {
-        return Some(Verb::Show);
-    }
-    if word == b"same".as_slice() {
-        return Some(Verb::Same);
-    }
-    if word == b"complete".as_slice() {
-        return Some(Verb::Complete);
-    }
-    None
+    find!(word,
+        b"enclave" => Verb::Enclave,
+        b"create" => Verb::Create,
+        b"wake" => Verb::Wake,
+        b"block" => Verb::Block,
+        b"yield" => Verb::Yield,
+        b"preempt" => Verb::Preempt,
+        b"die" => Verb::Die,
+        b"affinity" => Verb::Affinity,
+        b"priority" => Verb::Priority,
+        b"tick" => Verb::Tick,
+        b"associate" => Verb::Associate,
+        b"commit" => Verb::Commit,
+        b"sleep" => Verb::Sleep,
+        b"rouse" => Verb::Rouse,
+        b"config" => Verb::Config,
+        b"publish" => Verb::Publish,
+        b"consume" => Verb::Consume,
+        b"deliver" => Verb::Deliver,
+        b"answer" => Verb::Answer,
+        b"pick" => Verb::Pick,
+        b"steal" => Verb::Steal,
+        b"crash" => Verb::Crash,
+        b"status" => Verb::Status,
+        b"asleep" => Verb::Asleep,
+        b"show" => Verb::Show,
+        b"same" => Verb::Same,
+        b"complete" => Verb::Complete
+    )
+}
+
+/// Fields as the nested pairs that [`Arguments`] reads. A failure stands last.
+macro_rules! pairs {
+    (Failure($last:pat)) => { Failure($last) };
+    ($first:pat) => { ($first, ()) };
+    ($first:pat, $($others:tt)+) => { ($first, pairs!($($others)+)) };
+}
+
+/// The command of a verb whose fields are the words of a text, from a table.
+macro_rules! read {
+    ($verb:expr, $text:expr, $($name:ident($($fields:tt)+) => $command:expr),+) => {
+        match $verb {
+            $(Verb::$name => {
+                let pairs!($($fields)+) = Arguments::read($text)?;
+                Some($command)
+            })+
+        }
+    };
 }
 
 /// The command of this verb whose fields are the words of this text.
@@ -147,132 +117,36 @@ fn read_as(verb: Verb, text: &[u8]) -> Option<Command>
         ((any : List Field) → kinds_of any ≡ kinds verb → AreInRange any → words text.now ≡ words_of any → ⊥)
         (IsWritten (name_of verb ∷ words text.now)) }
 {
-    match verb {
-        Verb::Enclave => {
-            let fields!(
-                Processors(cpus),
-                Count(threads),
-                Count(numbers),
-                Count(room),
-                Count(posts)
-            ) = Arguments::read(text)?;
-            Some(Command::Enclave(Limits {
-                cpus,
-                threads,
-                numbers,
-                room,
-                posts,
-            }))
-        }
-        Verb::Create => {
-            let fields!(Queue(queue), Mask(mask), State(ready)) = Arguments::read(text)?;
-            Some(Command::Event(Event::Env(EnvCall::Create { queue, mask, ready })))
-        }
-        Verb::Wake => {
-            let fields!(Thread(thread)) = Arguments::read(text)?;
-            Some(Command::Event(Event::Env(EnvCall::Wake { thread })))
-        }
-        Verb::Block => {
-            let fields!(Processor(cpu), Count(ran)) = Arguments::read(text)?;
-            Some(Command::Event(Event::Env(EnvCall::Block { cpu, ran })))
-        }
-        Verb::Yield => {
-            let fields!(Processor(cpu), Count(ran)) = Arguments::read(text)?;
-            Some(Command::Event(Event::Env(EnvCall::YieldNow { cpu, ran })))
-        }
-        Verb::Preempt => {
-            let fields!(Processor(cpu), Count(ran)) = Arguments::read(text)?;
-            Some(Command::Event(Event::Env(EnvCall::Preempt { cpu, ran })))
-        }
-        Verb::Die => {
-            let fields!(Processor(cpu), Count(ran)) = Arguments::read(text)?;
-            Some(Command::Event(Event::Env(EnvCall::Die { cpu, ran })))
-        }
-        Verb::Affinity => {
-            let fields!(Thread(thread), Mask(mask)) = Arguments::read(text)?;
-            Some(Command::Event(Event::Env(EnvCall::SetAffinity { thread, mask })))
-        }
-        Verb::Priority => {
-            let fields!(Thread(thread), Level(level)) = Arguments::read(text)?;
-            Some(Command::Event(Event::Env(EnvCall::SetPriority { thread, level })))
-        }
-        Verb::Tick => {
-            let fields!(Processor(cpu)) = Arguments::read(text)?;
-            Some(Command::Event(Event::Env(EnvCall::Tick { cpu })))
-        }
-        Verb::Associate => {
-            let fields!(Thread(thread), Queue(queue), Count(number)) = Arguments::read(text)?;
-            Some(Command::Event(Event::Associate {
-                thread,
-                queue,
-                number,
-            }))
-        }
-        Verb::Commit => {
-            let fields!(Processor(cpu), Thread(thread), Count(aseq)) = Arguments::read(text)?;
-            Some(Command::Event(Event::Commit { cpu, thread, aseq }))
-        }
-        Verb::Sleep => {
-            let fields!(Processor(cpu), Count(aseq)) = Arguments::read(text)?;
-            Some(Command::Event(Event::Sleep { cpu, aseq }))
-        }
-        Verb::Rouse => {
-            let fields!(Processor(cpu)) = Arguments::read(text)?;
-            Some(Command::Event(Event::Rouse { cpu }))
-        }
-        Verb::Config => {
-            let fields!(Queue(queue), Target(target)) = Arguments::read(text)?;
-            Some(Command::Event(Event::Config { queue, target }))
-        }
-        Verb::Publish => {
-            let (Processor(cpu), Failure(fails)) = Arguments::read(text)?;
-            Some(Command::Event(Event::Publish { cpu, fails }))
-        }
-        Verb::Consume => {
-            let fields!(Processor(cpu)) = Arguments::read(text)?;
-            Some(Command::Event(Event::Consume { cpu }))
-        }
-        Verb::Deliver => {
-            let fields!(Processor(cpu), Index(delta)) = Arguments::read(text)?;
-            Some(Command::Event(Event::Deliver { cpu, delta }))
-        }
-        Verb::Answer => {
-            let fields!(Processor(cpu), Processor(asker)) = Arguments::read(text)?;
-            Some(Command::Event(Event::Answer { cpu, asker }))
-        }
-        Verb::Pick => {
-            let fields!(Processor(cpu), Count(aseq)) = Arguments::read(text)?;
-            Some(Command::Event(Event::Pick { cpu, aseq }))
-        }
-        Verb::Steal => {
-            let fields!(Processor(cpu)) = Arguments::read(text)?;
-            Some(Command::Event(Event::Steal { cpu }))
-        }
-        Verb::Crash => {
-            let fields!(Processor(cpu)) = Arguments::read(text)?;
-            Some(Command::Event(Event::Crash { cpu }))
-        }
-        Verb::Status => {
-            let fields!(Thread(thread)) = Arguments::read(text)?;
-            Some(Command::Read(Read::Status { thread }))
-        }
-        Verb::Asleep => {
-            let fields!(Processor(cpu)) = Arguments::read(text)?;
-            Some(Command::Read(Read::Asleep { cpu }))
-        }
-        Verb::Show => {
-            let fields!(Processor(cpu)) = Arguments::read(text)?;
-            Some(Command::Read(Read::Show { cpu }))
-        }
-        Verb::Same => {
-            let fields!(Processor(cpu), Processor(other)) = Arguments::read(text)?;
-            Some(Command::Read(Read::Same { cpu, other }))
-        }
-        Verb::Complete => {
-            let fields!(Processor(cpu), Thread(thread)) = Arguments::read(text)?;
-            Some(Command::Read(Read::Complete { cpu, thread }))
-        }
-    }
+    read!(verb, text,
+        Enclave(Processors(cpus), Count(threads), Count(numbers), Count(room), Count(posts)) =>
+            Command::Enclave(Limits { cpus, threads, numbers, room, posts }),
+        Create(Queue(queue), Mask(mask), State(ready)) => Command::Event(Event::Env(EnvCall::Create { queue, mask, ready })),
+        Wake(Thread(thread)) => Command::Event(Event::Env(EnvCall::Wake { thread })),
+        Block(Processor(cpu), Count(ran)) => Command::Event(Event::Env(EnvCall::Block { cpu, ran })),
+        Yield(Processor(cpu), Count(ran)) => Command::Event(Event::Env(EnvCall::YieldNow { cpu, ran })),
+        Preempt(Processor(cpu), Count(ran)) => Command::Event(Event::Env(EnvCall::Preempt { cpu, ran })),
+        Die(Processor(cpu), Count(ran)) => Command::Event(Event::Env(EnvCall::Die { cpu, ran })),
+        Affinity(Thread(thread), Mask(mask)) => Command::Event(Event::Env(EnvCall::SetAffinity { thread, mask })),
+        Priority(Thread(thread), Level(level)) => Command::Event(Event::Env(EnvCall::SetPriority { thread, level })),
+        Tick(Processor(cpu)) => Command::Event(Event::Env(EnvCall::Tick { cpu })),
+        Associate(Thread(thread), Queue(queue), Count(number)) => Command::Event(Event::Associate { thread, queue, number }),
+        Commit(Processor(cpu), Thread(thread), Count(aseq)) => Command::Event(Event::Commit { cpu, thread, aseq }),
+        Sleep(Processor(cpu), Count(aseq)) => Command::Event(Event::Sleep { cpu, aseq }),
+        Rouse(Processor(cpu)) => Command::Event(Event::Rouse { cpu }),
+        Config(Queue(queue), Target(target)) => Command::Event(Event::Config { queue, target }),
+        Publish(Processor(cpu), Failure(fails)) => Command::Event(Event::Publish { cpu, fails }),
+        Consume(Processor(cpu)) => Command::Event(Event::Consume { cpu }),
+        Deliver(Processor(cpu), Index(delta)) => Command::Event(Event::Deliver { cpu, delta }),
+        Answer(Processor(cpu), Processor(asker)) => Command::Event(Event::Answer { cpu, asker }),
+        Pick(Processor(cpu), Count(aseq)) => Command::Event(Event::Pick { cpu, aseq }),
+        Steal(Processor(cpu)) => Command::Event(Event::Steal { cpu }),
+        Crash(Processor(cpu)) => Command::Event(Event::Crash { cpu }),
+        Status(Thread(thread)) => Command::Read(Read::Status { thread }),
+        Asleep(Processor(cpu)) => Command::Read(Read::Asleep { cpu }),
+        Show(Processor(cpu)) => Command::Read(Read::Show { cpu }),
+        Same(Processor(cpu), Processor(other)) => Command::Read(Read::Same { cpu, other }),
+        Complete(Processor(cpu), Thread(thread)) => Command::Read(Read::Complete { cpu, thread })
+    )
 }
 
 /// Whether the project answers the command.

@@ -24,6 +24,8 @@ mod opening;
 mod outcome;
 mod response;
 mod run;
+#[cfg(test)]
+mod tests;
 
 pub use command::{Command, Read};
 pub use input::MOST_BYTES;

@@ -35,5 +35,6 @@ pub trait Machine: Drop {
 
     ghost is_run_of_none: { (profile : Profile) → IsRun profile [] [] };
 
-    ghost is_run_after: { (profile : Profile) (machine : Self) (commands : List Command) (responses : List Response) → StandsAfter profile machine commands responses → IsRun profile commands responses };
+    ghost is_run_after: { (profile : Profile) (machine : Self) (commands : List Command) (responses : List Response)
+        → StandsAfter profile machine commands responses → IsRun profile commands responses };
 }

@@ -27,11 +27,13 @@ IsOpener line opener.Two = IsVersionTwo line
 IsOpener line opener.Other = (HasNoReply line → ⊥) × (IsVersionTwo line → ⊥)
 
 -- The machine took what the line asks for, if anything, and the reply was written
-pub record TakesLine {M : Type 0} (StandsAfter : Profile → M → List Command → List Response → Type 0) (line : List ℕ) (old new : M) (before after : Option (List ℕ)) : Type 0 where
+pub record TakesLine {M : Type 0} (StandsAfter : Profile → M → List Command → List Response → Type 0) (line : List ℕ)
+    (old new : M) (before after : Option (List ℕ)) : Type 0 where
   pub commands : List Command
   pub responses : List Response
   pub asks : Script 1 (line ∷ []) commands Finished
-  pub stands : (profile : Profile) (past : List Command) (told : List Response) → StandsAfter profile old past told → StandsAfter profile new (past ++ commands) (told ++ responses)
+  pub stands : (profile : Profile) (past : List Command) (told : List Response) → StandsAfter profile old past told
+      → StandsAfter profile new (past ++ commands) (told ++ responses)
   pub text : Appends before after (responses_text responses)
 
 -- what is told of the first of some lines, of which the first has this number

@@ -47,7 +47,13 @@ number_at place fields = number_in (field_at place fields)
 
 -- the command with this first word and these fields
 abbrev pub back : Verb → List Field → Command
-back verb.Enclave f = command.Enclave (record { cpus = number_at 0 f; threads = number_at 1 f; numbers = number_at 2 f; room = number_at 3 f; posts = number_at 4 f })
+back verb.Enclave f = command.Enclave (record {
+  cpus = number_at 0 f;
+  threads = number_at 1 f;
+  numbers = number_at 2 f;
+  room = number_at 3 f;
+  posts = number_at 4 f;
+})
 back verb.Create f = command.Event (event.Env (env.Create (number_at 0 f) (number_at 1 f) (state_in (field_at 2 f))))
 back verb.Wake f = command.Event (event.Env (env.Wake (number_at 0 f)))
 back verb.Block f = command.Event (event.Env (env.Block (number_at 0 f) (number_at 1 f)))

@@ -10,8 +10,8 @@ returns-then-ne c = λ any kinds ranges is.
     let other = rw c.as_slice.ensures at c.ne.ensures in
     true≢false (sym c.if-ne.true ∙ other ∙ ap (λ word. not (bytes_eq word (codes "fail"))) alone.0)
 
-pub returns-in-Some-first_word : goal.returns-in-Some-first_word
-returns-in-Some-first_word c = λ any kinds ranges is.
+pub returns-in_default-first_word : goal.returns-in_default-first_word
+returns-in_default-first_word c = λ any kinds ranges is.
     let alone = fail_alone _ _ any kinds (sym c.in-Some.ensures ∙ is) in
-    let further = c.in-Some-first_word.ensures in
+    let further = c.in_default-first_word.ensures in
     cc
