@@ -153,15 +153,10 @@ fn read_as(verb: Verb, text: &[u8]) -> Option<Command>
 fn is_built(command: &Command) -> bool
     ensures { IsTrue result ↔ IsBuilt command.now }
 {
-    !matches!(
-        command,
-        Command::Event(
-            Event::Pick { .. }
-                | Event::Steal { .. }
-                | Event::Crash { .. }
-                | Event::Publish { fails: true, .. }
-        )
-    )
+    match command {
+        Command::Event(event) => event.is_built(),
+        Command::Enclave(_) | Command::Read(_) => true,
+    }
 }
 
 /// The command that this line spells.
