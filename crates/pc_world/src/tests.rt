@@ -129,23 +129,27 @@ fn phase(world: &World, cpu: u8) -> Option<Phase> {
     Some(thread.reported()?.phase)
 }
 
-#[test]
-fn a_thread_moves_when_nothing_is_pending(rt: HostRuntime) -> Result<(), Fail> {
-    let move_it = Event::Associate {
+/// t0 gets the second CPU's queue as its home, under its first number.
+const fn move_to_second() -> Event {
+    Event::Associate {
         thread: Tid(0),
         queue: Cpu(1),
         number: 1,
-    };
+    }
+}
+
+#[test]
+fn a_thread_moves_when_nothing_is_pending(rt: HostRuntime) -> Result<(), Fail> {
     gives(
         &rt,
         rt.alloc(),
         &[
             (create(0, true), posted(0, 1, 0, 1)),
             (publish(0), Reply::Published { delta: 0, items: 1 }),
-            (move_it, Reply::Refused(Refusal::Pending)),
+            (move_to_second(), Reply::Refused(Refusal::Pending)),
             (consume(0), Reply::Consumed { items: 1 }),
             (
-                move_it,
+                move_to_second(),
                 Reply::Associated {
                     thread: Tid(0),
                     queue: Cpu(1),
@@ -190,20 +194,23 @@ fn an_answer_tells_what_is_lacking(rt: HostRuntime) -> Result<(), Fail> {
     )
 }
 
+const fn nowhere() -> Reply {
+    Reply::Refused(Refusal::BadCpu)
+}
+
 #[test]
 fn what_the_agents_refuse(rt: HostRuntime) -> Result<(), Fail> {
-    let refused = Reply::Refused(Refusal::BadCpu);
     gives(
         &rt,
         rt.alloc(),
         &[
             (deliver(0, 0), Reply::Refused(Refusal::NoDelta)),
             (deliver(0, u64::MAX), Reply::Refused(Refusal::NoDelta)),
-            (deliver(2, 0), refused),
-            (publish(2), refused),
-            (consume(2), refused),
-            (answer(2, 0), refused),
-            (answer(0, 2), refused),
+            (deliver(2, 0), nowhere()),
+            (publish(2), nowhere()),
+            (consume(2), nowhere()),
+            (answer(2, 0), nowhere()),
+            (answer(0, 2), nowhere()),
             (consume(0), Reply::Consumed { items: 0 }),
             (publish(0), Reply::Published { delta: 0, items: 0 }),
         ],
