@@ -1,12 +1,12 @@
 -- The fields that words spell, and the command that they make.
-use Rattle.std.proofs.Common.{◌≡◌, ◌≢◌, ℕ, zero, suc, ◌<◌, ◌≤◌, ◌^◌, Bool, true, false, List, [], ◌∷◌, ◌++◌, Option, Some, None, ◌&&◌, get_or, codes, decimal, refl, sym, subst, ap, ◌∙◌, arith, append-nil}
+use Rattle.std.proofs.Common.{◌≡◌, ℕ, zero, suc, ◌<◌, ◌≤◌, ◌^◌, Bool, true, false, List, [], ◌∷◌, ◌++◌, Option, Some, None, ◌&&◌, get_or, codes, decimal, refl, sym, subst, ap, ◌∙◌, arith, append-nil}
 use Rattle.std.specs.Option.{IfSome}
 use Rattle.std.specs.Str.{bytes_eq}
 use Rattle.std.proofs.lemmas.Bool.{true≢false}
 use Rattle.std.proofs.lemmas.Fmt.{decimal_injective, decimal_digit, first_decimal}
 use Rattle.pc_calls.specs.declared.call.EnvCall.TheVariants as env
 use Rattle.pc_calls.specs.declared.event.Event.TheVariants as event
-use Rattle.pc_script.specs.Grammar.{Field, Processors, Processor, Queue, Level, Count, Mask, Index, Thread, State, Target, Failure, field_words, state_word, target_word, thread_name, failure_words, IsInRange, words_of, AreInRange, row_of, Spells}
+use Rattle.pc_script.specs.Grammar.{Field, Processors, Processor, Queue, Level, Count, Mask, Index, Thread, State, Target, Failure, field_words, state_word, target_word, thread_name, IsInRange, words_of, AreInRange, row_of, Spells}
 use Rattle.pc_script.specs.Inner.Readings.{Kind, failure, kind_of, kinds_of, is_word, IsWritten}
 use Rattle.pc_script.specs.Inner.Verbs.{back, name_of, kinds}
 use Rattle.pc_script.specs.declared.command.Command.{Command}

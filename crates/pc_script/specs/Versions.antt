@@ -3,9 +3,8 @@ use Rattle.std.specs.Prelude.{◌≡◌, ℕ, suc, List, [], ◌∷◌, codes}
 use Rattle.pc_calls.specs.declared.limits.Profile.{Profile}
 use Rattle.pc_calls.specs.declared.limits.Profile.TheVariants.{One, Two}
 use Rattle.pc_script.specs.Grammar.{HasNoReply}
-use Rattle.pc_script.specs.Responses.{response_text, text_line}
+use Rattle.pc_script.specs.Responses.{text_line}
 use Rattle.pc_script.specs.Text.{words}
-use Rattle.pc_script.specs.declared.response.Response.TheVariants.{Opened}
 
 -- the line `version 2`
 abbrev pub IsVersionTwo : List ℕ → Type 0

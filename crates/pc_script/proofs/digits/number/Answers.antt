@@ -1,5 +1,5 @@
-use Rattle.std.proofs.Common.{◌≡◌, ◌-◌, ◌*◌, ◌+◌, ◌<◌, ◌^◌, get_or, sym, subst, arith}
-use Rattle.pc_script.proofs.Numerals.{HasRead, not_plain, read_none, is_digit_at, read_more, at_most, read_all}
+use Rattle.std.proofs.Common.{◌≡◌, ◌-◌, ◌*◌, ◌+◌, get_or, subst, arith}
+use Rattle.pc_script.proofs.Numerals.{HasRead, not_plain, is_digit_at, read_more, at_most, read_all}
 use Rattle.pc_script.proofs.digits.number.Goals as goal
 
 pub returns-then-not-is_plain : goal.returns-then-not-is_plain

@@ -1,6 +1,5 @@
-use Rattle.std.proofs.Common.{subst, sym, ◌∙◌}
-use Rattle.pc_script.specs.Inner.Readings.{IsWritten}
-use Rattle.pc_script.proofs.Spellings.{no_verb, no_words, no_row, one_written}
+use Rattle.std.proofs.Common.{sym, ◌∙◌}
+use Rattle.pc_script.proofs.Spellings.{no_verb}
 use Rattle.pc_script.proofs.grammar.command_of.Goals as goal
 
 pub returns-in_err-verb : goal.returns-in_err-verb
