@@ -8,8 +8,9 @@ use Rattle.std.proofs.lemmas.Bool.{false≢true}
 use Rattle.std.proofs.lemmas.Cmp.{ranked, tied_itself, nat_cmp_total}
 use Rattle.std.proofs.lemmas.List.Elements.{Contains-push, Contains-push_cases, Contains-append_left}
 use Rattle.pc_delta.specs.declared.part.Part.{Part}
-use Rattle.pc_delta.specs.Faults.{place_of, IsConflict, IsLeastConflict, HasNoConflict, IsNotAfter, IsLesserOf}
-use Rattle.pc_delta.specs.Places.{Place, place_cmp, IsFirstSeen, IsLeast}
+use Rattle.pc_delta.specs.Faults.{place_of, IsConflict, IsLeastConflict, HasNoConflict}
+use Rattle.pc_delta.specs.Inner.Places.{IsNotAfter, IsLesserOf}
+use Rattle.pc_delta.specs.Inner.Places.{Place, place_cmp, IsFirstSeen, IsLeast}
 use Rattle.pc_delta.proofs.Lists.{taken_item}
 
 -- places that the order does not tell apart are equal

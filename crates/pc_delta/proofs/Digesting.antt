@@ -1,16 +1,21 @@
 -- Digests, and how far one has come.
-use Rattle.std.proofs.Common.{ℕ, ◌+◌, ◌<◌, ◌≤◌, ◌≡◌, ◌==◌, ◌^◌, ◌||◌, ◌&&◌, ◌⊎◌, Bool, true, false, List, [], ◌∷◌, Option, Some, None, IsSome, refl, sym, ap, ◌∙◌, arith, inl, inr}
+use Rattle.std.proofs.Common.{ℕ, ◌+◌, ◌<◌, ◌≤◌, ◌≡◌, ◌^◌, Bool, true, false, List, [], ◌∷◌, ◌++◌, Option, Some, None, IsSome, refl, sym, ap, subst, ◌∙◌, arith, inl, inr}
+use Rattle.std.specs.List.{All}
 use Rattle.std.specs.FinMap as map
 use Rattle.std.specs.Ordering.{nat_cmp}
-use Rattle.std.proofs.lemmas.Bool.Decides.{nat_tests}
-use Rattle.pc_join.specs.Sets.{Members, IsVoid, IsWithin, IsUnion, IsSameSet, members_at}
-use Rattle.pc_join.specs.Ranges.{numbers_in}
-use Rattle.pc_join.specs.ByName.{known_in, IsLeastFrom, HasShortNames}
-use Rattle.pc_thread_view.specs.Told.{numbers_of}
+use Rattle.std.specs.Cmp.{nat_cmp_total}
+use Rattle.std.proofs.lemmas.Bool.{false≢true}
+use Rattle.std.proofs.lemmas.List.Elements.{All-push, All-weaker}
+use Rattle.pc_join.specs.Sets.{Members, IsVoid, IsWithin, IsSameSet}
+use Rattle.pc_join.specs.Ranges.{numbers_in, AreApart}
+use Rattle.pc_join.specs.ByName.{AscendFrom, HasShortNames, known_in, value_at}
+use Rattle.pc_join.proofs.Entries.{IsWalked, all_found, at_first, at_later, same_or_other, walked_start, walked_found, walked_on, walked_all, walked_weaker}
+use Rattle.pc_thread_view.specs.Told.{Told, IsView, numbers_of}
 use Rattle.pc_view.specs.declared.view.View.{View}
 use Rattle.pc_view.specs.Views.{pairs_of, thread_of}
 use Rattle.pc_delta.specs.Digests.{RangesByName, set_of_digest, IsDigest}
-use Rattle.pc_delta.specs.DigestLaws.{unique_digest}
+use Rattle.pc_delta.specs.Inner.DigestLaws.{unique_digest}
+use Rattle.pc_delta.proofs.Lists.{all_first, all_none, all_rest}
 
 -- no names
 none_at : (x : RangesByName) → x ≡ map.empty → (q : ℕ) → map.get x q ≡ None
@@ -41,72 +46,125 @@ covers_both a b of_a of_b back there = unique_digest (λ m. []) a b (of_a (λ m.
 pub same_both : (a b : RangesByName) → a ≡ b → IsWithin (set_of_digest b) (set_of_digest a) × IsWithin (set_of_digest a) (set_of_digest b)
 same_both a b e = (λ m h. ap (λ d. set_of_digest d m) e ∙ h, λ m h. sym (ap (λ d. set_of_digest d m) e) ∙ h)
 
--- below a name the digest has what the view has, and from there on nothing
-pub record IsDigesting (view : View) (digest : RangesByName) (from : ℕ) : Type 0 where
-  pub below : (t : ℕ) (m : List ℕ) → t < from → set_of_digest digest (t ∷ m) ≡ pairs_of view (t ∷ m)
-  pub above : (t : ℕ) (m : List ℕ) → from ≤ t → set_of_digest digest (t ∷ m) ≡ false
-  pub valid : IsDigest digest
+-- an entry of a digest that is made: what is told of a thread of the view
+pub record IsListed (view : View) (entry : ℕ × List (ℕ × ℕ)) : Type 0 where
+  pub told : Told
+  pub there : thread_of view entry.0 ≡ Some told
+  pub same : IsSameSet (numbers_in entry.1) (numbers_of told)
+  pub apart : AreApart 0 entry.1
+  pub not_void : ¬ IsVoid (numbers_in entry.1)
 
-pub digesting_start : (view : View) (digest : RangesByName) → IsVoid (set_of_digest digest) → IsDigest digest → IsDigesting view digest 0
-digesting_start view digest void valid = record { below = λ t m lt. absurd (omega arith); above = λ t m le. void (t ∷ m); valid = valid }
+-- how far the entries of a digest have been listed
+pub record IsListing (view : View) (left : List (ℕ × Told)) (entries : List (ℕ × List (ℕ × ℕ))) : Type 0 where
+  pub listed : All (IsListed view) entries
+  pub ascend : AscendFrom 0 entries
+  pub bound : ℕ
+  pub below : All (λ entry. entry.0 < bound) entries
+  pub above : AscendFrom bound left
+  pub walked : IsWalked (λ thread told. IsSome (value_at entries thread)) view.threads left
 
-none_of : {X : Type 0} (o : Option X) → (IsSome o → ⊥) → o ≡ None
-none_of None h = refl
-none_of (Some v) h = absurd (h refl)
+module _ {X : Type 0} where
+  push_ascend : (n : ℕ) (es : List (ℕ × X)) (k : ℕ) (x : X) → AscendFrom n es → n ≤ k → All (λ e. e.0 < k) es → AscendFrom n (es ++ (k, x) ∷ [])
+  push_ascend n [] k x h le below = (le, tt)
+  push_ascend n (e ∷ es) k x h le below =
+      let lt : e.0 < k = all_first (λ (e : ℕ × X). e.0 < k) e es below in
+      (h.0, push_ascend (e.0 + 1) es k x h.1 (omega arith) (all_rest (λ (e : ℕ × X). e.0 < k) e es below))
 
-cases : (a b : ℕ) → (a < b) ⊎ (b ≤ a)
-cases a b = grind arith
+  some_first : (e : ℕ × X) (es : List (ℕ × X)) → IsSome (value_at (e ∷ es) e.0)
+  some_first e es = subst (λ o. IsSome o) (sym (at_first e es)) refl
 
-three : (a b : ℕ) → (a < b) ⊎ ((a ≡ b) ⊎ (b < a))
-three a b = grind arith
-
-other : (a b : ℕ) → ¬ (a ≡ b) → (a == b) ≡ false
-other a b h = grind (arith, nat_tests)
-
-itself : (a : ℕ) → (a == a) ≡ true
-itself a = grind (arith, nat_tests)
-
--- no thread of the view has a name that is passed over
-pub passed : (view : View) (from name t : ℕ) (m : List ℕ) → IsLeastFrom (thread_of view) from name → from ≤ t → t < name → pairs_of view (t ∷ m) ≡ false
-passed view from name t m next le lt = ap (λ o. known_in numbers_of o m) (none_of (thread_of view t) (λ some. absurd (let least : name ≤ t = next.least t some le in omega arith)))
-
-pub none_later : (view : View) (from t : ℕ) (m : List ℕ) → ((q : ℕ) → IsSome (thread_of view q) → q < from) → from ≤ t → pairs_of view (t ∷ m) ≡ false
-none_later view from t m none le = ap (λ o. known_in numbers_of o m) (none_of (thread_of view t) (λ some. absurd (let lt : t < from = none t some in omega arith)))
-
-module _ (view : View) (old new : RangesByName) (from name : ℕ) (digesting : IsDigesting view old from) (next : IsLeastFrom (thread_of view) from name)
-    (union : IsUnion (set_of_digest old) (members_at name (known_in numbers_of (thread_of view name))) (set_of_digest new)) where
-  elsewhere : (t : ℕ) (m : List ℕ) → ¬ (t ≡ name) → set_of_digest new (t ∷ m) ≡ set_of_digest old (t ∷ m)
-  elsewhere t m ne = union (t ∷ m) ∙ ap (λ b. set_of_digest old (t ∷ m) || (b && known_in numbers_of (thread_of view name) m)) (other t name ne) ∙ drop (set_of_digest old (t ∷ m))
-    where
-      drop : (b : Bool) → (b || false) ≡ b
-      drop true = refl
-      drop false = refl
-
-  there : (m : List ℕ) → set_of_digest new (name ∷ m) ≡ pairs_of view (name ∷ m)
-  there m = union (name ∷ m) ∙ ap (λ b. set_of_digest old (name ∷ m) || (b && known_in numbers_of (thread_of view name) m)) (itself name)
-      ∙ ap (λ b. b || known_in numbers_of (thread_of view name) m) (digesting.above name m next.reached)
-
-  at : (t : ℕ) (m : List ℕ) → t < name + 1 → (t < name) ⊎ ((t ≡ name) ⊎ (name < t)) → set_of_digest new (t ∷ m) ≡ pairs_of view (t ∷ m)
-  at t m lt (inl less) = elsewhere t m (λ e. absurd (omega arith)) ∙ elim (cases t from) [
-    | inl below ↦ digesting.below t m below
-    | inr le ↦ digesting.above t m le ∙ sym (passed view from name t m next le less)
+  some_more : (e : ℕ × X) (es : List (ℕ × X)) (q : ℕ) → IsSome (value_at es q) → IsSome (value_at (e ∷ es) q)
+  some_more e es q some = elim (same_or_other q e.0) [
+    | inl same ↦ subst (λ k. IsSome (value_at (e ∷ es) k)) (sym same) (some_first e es)
+    | inr ne ↦ subst (λ o. IsSome o) (sym (at_later e es q ne)) some
   ]
-  at t m lt (inr (inl e)) = ap (λ q. set_of_digest new (q ∷ m)) e ∙ there m ∙ sym (ap (λ q. pairs_of view (q ∷ m)) e)
-  at t m lt (inr (inr more)) = absurd (omega arith)
 
-  pub digesting_on : IsDigest new → IsDigesting view new (name + 1)
-  digesting_on valid = record {
-    below = λ t m lt. at t m lt (three t name);
-    above = λ t m le. elsewhere t m (λ e. absurd (omega arith)) ∙ digesting.above t m (let reached : from ≤ name = next.reached in omega arith);
-    valid = valid;
+  some_push : (es : List (ℕ × X)) (k : ℕ) (x : X) → IsSome (value_at (es ++ (k, x) ∷ []) k)
+  some_push [] k x = some_first (k, x) []
+  some_push (e ∷ es) k x = some_more e (es ++ (k, x) ∷ []) k (some_push es k x)
+
+  some_kept : (es : List (ℕ × X)) (k : ℕ) (x : X) (q : ℕ) → IsSome (value_at es q) → IsSome (value_at (es ++ (k, x) ∷ []) q)
+  some_kept [] k x q some = absurd (false≢true some)
+  some_kept (e ∷ es) k x q some = elim (same_or_other q e.0) [
+    | inl same ↦ subst (λ j. IsSome (value_at (e ∷ (es ++ (k, x) ∷ [])) j)) (sym same) (some_first e (es ++ (k, x) ∷ []))
+    | inr ne ↦ some_more e (es ++ (k, x) ∷ []) q (some_kept es k x q (subst (λ o. IsSome o) (at_later e es q ne) some))
+  ]
+
+pub listing_start : (view : View) (left : List (ℕ × Told)) (entries : List (ℕ × List (ℕ × ℕ))) → left ≡ map.entries view.threads → entries ≡ [] → IsListing view left entries
+listing_start view left entries e none =
+    let walked = walked_start (λ thread told. IsSome (value_at entries thread)) view.threads left e in
+    record {
+      listed = subst (λ es. All (IsListed view) es) (sym none) (all_none (IsListed view));
+      ascend = subst (AscendFrom 0) (sym none) tt;
+      bound = 0;
+      below = subst (λ (es : List (ℕ × List (ℕ × ℕ))). All (λ entry. entry.0 < 0) es) (sym none) (all_none (λ entry. entry.0 < 0));
+      above = walked.ascend;
+      walked = walked;
+    }
+
+module _ (view : View) (left after : List (ℕ × Told)) (k : ℕ) (told : Told) (entries new : List (ℕ × List (ℕ × ℕ))) (ranges : List (ℕ × ℕ)) (is : left ≡ (k, told) ∷ after) (listing : IsListing view left entries)
+    (same : IsSameSet (numbers_in ranges) (numbers_of told)) (apart : AreApart 0 ranges) (held : IsView told) (push : new ≡ entries ++ (k, ranges) ∷ []) where
+  above_here : AscendFrom listing.bound ((k, told) ∷ after)
+  above_here = subst (AscendFrom listing.bound) is listing.above
+
+  not_void : ¬ IsVoid (numbers_in ranges)
+  not_void void = false≢true (sym (void (held.some.0 ∷ [])) ∙ same (held.some.0 ∷ []) ∙ held.some.1)
+
+  below_on : All (λ entry. entry.0 < k) entries
+  below_on = All-weaker (λ entry. entry.0 < listing.bound) (λ entry. entry.0 < k) (λ entry lt. let le = above_here.0 in omega arith) entries listing.below
+
+  on : IsListing view after (entries ++ (k, ranges) ∷ [])
+  on = record {
+    listed = All-push (IsListed view) entries (k, ranges) listing.listed (record {
+      told = told;
+      there = walked_found (λ thread told. IsSome (value_at entries thread)) view.threads left after k told is listing.walked;
+      same = same;
+      apart = apart;
+      not_void = not_void;
+    });
+    ascend = push_ascend 0 entries k ranges listing.ascend (omega arith) below_on;
+    bound = k + 1;
+    below = All-push (λ entry. entry.0 < k + 1) entries (k, ranges) (All-weaker (λ entry. entry.0 < k) (λ entry. entry.0 < k + 1) (λ entry lt. omega arith) entries below_on) (omega arith);
+    above = above_here.1;
+    walked = walked_on (λ thread told. IsSome (value_at (entries ++ (k, ranges) ∷ []) thread)) view.threads left after k told is
+        (walked_weaker (λ thread told. IsSome (value_at entries thread)) (λ thread told. IsSome (value_at (entries ++ (k, ranges) ∷ []) thread)) view.threads left (λ q v some. some_kept entries k ranges q some) listing.walked)
+        (some_push entries k ranges);
   }
 
-pub digesting_all : (view : View) (digest : RangesByName) (from : ℕ) → IsDigesting view digest from → ((q : ℕ) → IsSome (thread_of view q) → q < from) → IsSameSet (set_of_digest digest) (pairs_of view)
-digesting_all view digest from digesting none [] = refl
-digesting_all view digest from digesting none (t ∷ m) = elim (cases t from) [
-  | inl lt ↦ digesting.below t m lt
-  | inr le ↦ digesting.above t m le ∙ sym (none_later view from t m none le)
-]
+  pub listing_on : IsListing view after new
+  listing_on = subst (IsListing view after) (sym push) on
 
-pub short_below : (view : View) (name : ℕ) → HasShortNames view.threads → ¬ (name + 1 < 2 ^ 32) → (q : ℕ) → IsSome (thread_of view q) → q < name + 1
-short_below view name short last q some = let fits : q < 2 ^ 32 = short q some in omega (arith, last)
+-- the digest of the entries
+module _ (view : View) (left : List (ℕ × Told)) (entries : List (ℕ × List (ℕ × ℕ))) (listing : IsListing view left entries) where
+  short_one : HasShortNames view.threads → (entry : ℕ × List (ℕ × ℕ)) → IsListed view entry → entry.0 < 2 ^ 32
+  short_one short entry listed = short entry.0 (subst (λ o. IsSome o) (sym listed.there) refl)
+
+  pub listing_short : HasShortNames view.threads → All (λ entry. entry.0 < 2 ^ 32) entries
+  listing_short short = All-weaker (IsListed view) (λ entry. entry.0 < 2 ^ 32) (short_one short) entries listing.listed
+
+  pub listing_not_void : All (λ entry. ¬ IsVoid (numbers_in entry.1)) entries
+  listing_not_void = All-weaker (IsListed view) (λ entry. ¬ IsVoid (numbers_in entry.1)) (λ entry listed. listed.not_void) entries listing.listed
+
+  module _ (digest : RangesByName) (made : digest ≡ map.from_entries entries) where
+    found : (q : ℕ) → map.get digest q ≡ value_at entries q
+    found q = ap (λ d. map.get d q) made ∙ map.get-from_entries nat_cmp_total entries q
+
+    pub listing_valid : IsDigest digest
+    listing_valid s = record {
+      kept = λ q v e. (all_found (IsListed view) entries q v listing.listed (sym (found q) ∙ e)).not_void;
+      each = λ q v e. (all_found (IsListed view) entries q v listing.listed (sym (found q) ∙ e)).apart;
+    }
+
+    by_value : (t : ℕ) (m : List ℕ) (o : Option (List (ℕ × ℕ))) → value_at entries t ≡ o → left ≡ [] → known_in numbers_in o m ≡ pairs_of view (t ∷ m)
+    by_value t m (Some ranges) e none =
+        let listed = all_found (IsListed view) entries t ranges listing.listed e in
+        listed.same m ∙ sym (ap (λ o. known_in numbers_of o m) listed.there)
+    by_value t m None e none = by_thread (thread_of view t) refl
+      where
+        by_thread : (o : Option Told) → thread_of view t ≡ o → false ≡ pairs_of view (t ∷ m)
+        by_thread None f = sym (ap (λ o. known_in numbers_of o m) f)
+        by_thread (Some told) f = absurd (false≢true (subst (λ o. IsSome o) e (walked_all (λ thread told. IsSome (value_at entries thread)) view.threads left none listing.walked t told f)))
+
+    pub listing_same : left ≡ [] → IsSameSet (set_of_digest digest) (pairs_of view)
+    listing_same none [] = refl
+    listing_same none (t ∷ m) = ap (λ o. known_in numbers_in o m) (found t) ∙ by_value t m (value_at entries t) refl none

@@ -4,6 +4,8 @@ use Rattle.std.specs.List.{All}
 use Rattle.std.specs.Option.{option_or}
 use Rattle.std.proofs.lemmas.Bool.{false≢true}
 use Rattle.std.proofs.lemmas.Bool.Decides.{nat_tests}
+use Rattle.pc_messages.specs.declared.message.TheConstants.{GREATEST_NUMBER}
+use Rattle.pc_messages.specs.declared.kind.TheConstants.{MOST_TICKS}
 use Rattle.pc_messages.specs.declared.message.Message.{Message}
 use Rattle.pc_messages.specs.declared.reported.Reported.{Reported}
 use Rattle.pc_messages.specs.Run.{IsWellFormed, is_created}
@@ -57,17 +59,17 @@ not_misplaced false n h = other n 1 (λ e. false≢true (h.1 e))
 pub message_faultless : (message : Message) → fault_of (One message) ≡ None ↔ IsWellFormed message.number message.kind
 message_faultless m = (
   λ e.
-      let tests = none_holds (m.number == 0) (nat_lt 16000000 m.number) (is_misplaced (is_created m.kind) m.number) ZeroNumber NumberTooLarge CreatedMisplaced e in
-      record { from_one = positive m.number tests.0; greatest = at_most 16000000 m.number tests.1; created = placed (is_created m.kind) m.number tests.2 },
-  λ w. λ i. first_of ((not_zero m.number w.from_one i, ZeroNumber) ∷ (not_above 16000000 m.number w.greatest i, NumberTooLarge) ∷ (not_misplaced (is_created m.kind) m.number w.created i, CreatedMisplaced) ∷ []),
+      let tests = none_holds (m.number == 0) (nat_lt GREATEST_NUMBER m.number) (is_misplaced (is_created m.kind) m.number) ZeroNumber NumberTooLarge CreatedMisplaced e in
+      record { from_one = positive m.number tests.0; greatest = at_most GREATEST_NUMBER m.number tests.1; created = placed (is_created m.kind) m.number tests.2 },
+  λ w. λ i. first_of ((not_zero m.number w.from_one i, ZeroNumber) ∷ (not_above GREATEST_NUMBER m.number w.greatest i, NumberTooLarge) ∷ (not_misplaced (is_created m.kind) m.number w.created i, CreatedMisplaced) ∷ []),
 )
 
 pub prefix_faultless : (thread upto : ℕ) (reported : Reported) → fault_of (Folded thread upto reported) ≡ None ↔ IsPossiblePrefix upto reported
 prefix_faultless t u r = (
   λ e.
-      let tests = none_holds (u == 0) (nat_lt 16000000 u) (nat_lt (u * 4294967295) r.ran) ZeroNumber NumberTooLarge RanTooLarge e in
-      record { positive = positive u tests.0; greatest = at_most 16000000 u tests.1; ran = at_most (u * 4294967295) r.ran tests.2 },
-  λ w. λ i. first_of ((not_zero u w.positive i, ZeroNumber) ∷ (not_above 16000000 u w.greatest i, NumberTooLarge) ∷ (not_above (u * 4294967295) r.ran w.ran i, RanTooLarge) ∷ []),
+      let tests = none_holds (u == 0) (nat_lt GREATEST_NUMBER u) (nat_lt (u * MOST_TICKS) r.ran) ZeroNumber NumberTooLarge RanTooLarge e in
+      record { positive = positive u tests.0; greatest = at_most GREATEST_NUMBER u tests.1; ran = at_most (u * MOST_TICKS) r.ran tests.2 },
+  λ w. λ i. first_of ((not_zero u w.positive i, ZeroNumber) ∷ (not_above GREATEST_NUMBER u w.greatest i, NumberTooLarge) ∷ (not_above (u * MOST_TICKS) r.ran w.ran i, RanTooLarge) ∷ []),
 )
 
 or_first : (a b : Option DeltaFault) → option_or a b ≡ None → (a ≡ None) × (b ≡ None)

@@ -1,16 +1,14 @@
 -- The numbers that are known of a thread, as they are gathered into ranges.
-use Rattle.std.proofs.Common.{ℕ, ◌+◌, ◌<◌, ◌≤◌, ◌≡◌, ◌==◌, ◌||◌, ◌&&◌, false, List, [], ◌∷◌, length, drop, get_or, Option, Some, Result, Ok, Err, OnOk, refl, sym, ap, ◌∙◌, subst, arith}
+use Rattle.std.proofs.Common.{ℕ, ◌+◌, ◌<◌, ◌≤◌, ◌≡◌, ◌==◌, ◌||◌, List, [], ◌∷◌, length, drop, get_or, refl, sym, ap, ◌∙◌, subst, arith}
 use Rattle.std.proofs.lemmas.Bool.Decides.{nat_tests}
 use Rattle.pc_messages.specs.declared.kind.Kind.{Kind}
-use Rattle.pc_join.specs.Sets.{IsUnion, IsSameSet, members_at}
-use Rattle.pc_join.specs.Ranges.{in_range, in_ranges, numbers_in, AreApart, numbers_from_to}
-use Rattle.pc_join.specs.ByName.{known_in}
-use Rattle.pc_delta.specs.Digests.{RangesByName, set_of_digest}
-use Rattle.pc_thread_view.specs.Told.{Told, IsSound, RiseAbove, numbers_of, tells, in_prefix, is_early}
+use Rattle.pc_join.specs.Sets.{IsUnion, IsSameSet}
+use Rattle.pc_join.specs.Ranges.{in_range, in_ranges, numbers_in, AreApart, numbers_from_to, one_to}
+use Rattle.pc_thread_view.specs.Told.{Told, IsSound, RiseAbove, numbers_of, tells, is_early}
 use Rattle.pc_delta.proofs.Bools.{or_none, or_assoc}
 use Rattle.pc_delta.proofs.Lists.{left_item, none_left}
 
-pub prefix_gathered : (old new : List (ℕ × ℕ)) (upto : ℕ) → old ≡ [] → IsUnion (numbers_in old) (numbers_from_to 1 upto) (numbers_in new) → (n : ℕ) → in_ranges new n ≡ in_prefix upto n
+pub prefix_gathered : (old new : List (ℕ × ℕ)) (upto : ℕ) → old ≡ [] → IsUnion (numbers_in old) (numbers_from_to 1 upto) (numbers_in new) → (n : ℕ) → in_ranges new n ≡ one_to upto n
 prefix_gathered old new upto e union n = union (n ∷ []) ∙ ap (λ ranges. in_ranges ranges n || in_range (1, upto) n) e
 
 -- what is gathered, and the early messages that are left, are what is told
@@ -23,9 +21,9 @@ rise_zero : (n : ℕ) (early : List (ℕ × Kind)) → RiseAbove n early → Ris
 rise_zero n [] h = tt
 rise_zero n (e ∷ es) h = (omega arith, h.1)
 
-pub gathering_start : (told : Told) (early : List (ℕ × Kind)) (upto : ℕ) (numbers : List (ℕ × ℕ)) → early ≡ told.early → upto ≡ told.upto → IsSound told → ((n : ℕ) → in_ranges numbers n ≡ in_prefix upto n) → AreApart 0 numbers → IsGathering told early numbers
+pub gathering_start : (told : Told) (early : List (ℕ × Kind)) (upto : ℕ) (numbers : List (ℕ × ℕ)) → early ≡ told.early → upto ≡ told.upto → IsSound told → ((n : ℕ) → in_ranges numbers n ≡ one_to upto n) → AreApart 0 numbers → IsGathering told early numbers
 gathering_start told early upto numbers e f sound same apart = record {
-  same = λ n. ap (λ b. b || is_early early n) (same n) ∙ (λ i. in_prefix (f i) n || is_early (e i) n);
+  same = λ n. ap (λ b. b || is_early early n) (same n) ∙ (λ i. one_to (f i) n || is_early (e i) n);
   apart = apart;
   rise = subst (λ es. RiseAbove 0 es) (sym e) (rise_zero (told.upto + 1) told.early sound.gap);
 }
@@ -57,15 +55,3 @@ next_entry told early i entry numbers e lt gathering = subst (λ left. IsGatheri
 
 pub no_entry_left : (told : Told) (early : List (ℕ × Kind)) (i : ℕ) (numbers : List (ℕ × ℕ)) → length early ≤ i → IsGatheringFrom told early i numbers → IsGathering told [] numbers
 no_entry_left told early i numbers le gathering = subst (λ left. IsGathering told left numbers) (none_left early i le) gathering
-
--- what is gathered of a thread is what is told of it, under its name
-pub added : (name : ℕ) (inside old new : RangesByName) (ranges : List (ℕ × ℕ)) (told : Told) (held : Option Told) → inside ≡ old
-    → IsUnion (set_of_digest inside) (members_at name (numbers_in ranges)) (set_of_digest new) → IsSameSet (numbers_in ranges) (numbers_of told) → Some told ≡ held
-    → IsUnion (set_of_digest old) (members_at name (known_in numbers_of held)) (set_of_digest new)
-added name inside old new ranges told held e union same there [] = union [] ∙ ap (λ d. set_of_digest d [] || false) e
-added name inside old new ranges told held e union same there (q ∷ m) =
-    union (q ∷ m) ∙ (λ i. set_of_digest (e i) (q ∷ m) || ((q == name) && same m i)) ∙ ap (λ o. set_of_digest old (q ∷ m) || ((q == name) && known_in numbers_of o m)) there
-
-pub OnOk_then : {T E : Type 0} {P Q : Type 0} (r : Result T E) → OnOk r P → (P → Q) → OnOk r Q
-OnOk_then (Ok x) p f = f p
-OnOk_then (Err e) p f = tt

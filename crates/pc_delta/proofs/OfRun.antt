@@ -8,7 +8,7 @@ use Rattle.pc_messages.specs.declared.reported.Reported.{Reported}
 use Rattle.pc_messages.specs.Run.{Run, Extends, kind_at}
 use Rattle.pc_join.specs.Sets.{Source, source_at}
 use Rattle.pc_thread_view.specs.Told.{Told, IsPrefix}
-use Rattle.pc_thread_view.specs.ToldLaws.{unique_told, stays_told}
+use Rattle.pc_thread_view.specs.Inner.ToldLaws.{unique_told, stays_told}
 use Rattle.pc_view.specs.Views.{source_of, IsPrefixOfRun}
 use Rattle.pc_view.proofs.Runs.{goes_on, folded_of}
 use Rattle.pc_delta.specs.declared.part.Part.{Part}

@@ -4,7 +4,7 @@ use Rattle.std.specs.List.{range_with_len}
 use Rattle.std.proofs.lemmas.List.Folds.{list_any-append}
 use Rattle.std.proofs.lemmas.Bool.Decides.{nat_tests}
 use Rattle.pc_join.specs.Sets.{IsSameSet, as_members, has}
-use Rattle.pc_thread_view.specs.Told.{in_prefix}
+use Rattle.pc_join.specs.Ranges.{one_to}
 use Rattle.pc_delta.specs.declared.part.Part.{Part}
 use Rattle.pc_delta.specs.declared.part.Part.TheVariants.{One, Folded}
 use Rattle.pc_delta.specs.Parts.{set_of_part, set_of, pairs_of_part, pairs_of_parts}
@@ -28,7 +28,7 @@ pub has_range : (t a c t' n : ℕ) → has (map (λ k. (t, k)) (range_with_len a
 has_range t a zero t' n = sym (and_none (t == t')) ∙ ap (λ b. (t == t') && b) (empty_range a n)
 has_range t a (suc c) t' n = ap (λ b. ((t == t') && (a == n)) || b) (has_range t (a + 1) c t' n) ∙ step (t == t') a c n
 
-in_range : (upto n : ℕ) → in_prefix upto n ≡ (nat_le 1 n && nat_lt n (1 + upto))
+in_range : (upto n : ℕ) → one_to upto n ≡ (nat_le 1 n && nat_lt n (1 + upto))
 in_range upto n = grind (arith, nat_tests)
 
 part_pairs : (part : Part) → IsSameSet (set_of_part part) (as_members (pairs_of_part part))

@@ -1,13 +1,15 @@
 -- What the first fault of parts can be, and what stands where there is no conflict.
 use Rattle.std.proofs.Common.{ℕ, ◌≡◌, ◌==◌, nat_lt, ◌*◌, Bool, true, false, List, [], ◌∷◌, Option, Some, None, Result, Err, refl, ◌∙◌, subst}
 use Rattle.std.specs.Option.{option_or}
+use Rattle.pc_messages.specs.declared.message.TheConstants.{GREATEST_NUMBER}
+use Rattle.pc_messages.specs.declared.kind.TheConstants.{MOST_TICKS}
 use Rattle.pc_messages.specs.Run.{is_created}
 use Rattle.pc_delta.specs.declared.part.Part.{Part}
 use Rattle.pc_delta.specs.declared.part.Part.TheVariants.{One, Folded}
 use Rattle.pc_delta.specs.declared.fault.DeltaFault.{DeltaFault}
 use Rattle.pc_delta.specs.declared.fault.DeltaFault.TheVariants.{ZeroNumber, NumberTooLarge, CreatedMisplaced, RanTooLarge, OutOfMemory, Conflict}
 use Rattle.pc_delta.specs.Faults.{first_fault, first_of, fault_of, is_misplaced, HasNoConflict}
-use Rattle.pc_delta.specs.Places.{IsLeast}
+use Rattle.pc_delta.specs.Inner.Places.{IsLeast}
 
 -- a fault of one part
 abbrev pub IsOfPart : DeltaFault → Type 0
@@ -31,8 +33,8 @@ of_three false false true f g h fault x y z e = found e z
 of_three false false false f g h fault x y z e = cc
 
 of_part : (part : Part) (fault : DeltaFault) → fault_of part ≡ Some fault → IsOfPart fault
-of_part (One m) fault e = of_three (m.number == 0) (nat_lt 16000000 m.number) (is_misplaced (is_created m.kind) m.number) ZeroNumber NumberTooLarge CreatedMisplaced fault tt tt tt e
-of_part (Folded t u r) fault e = of_three (u == 0) (nat_lt 16000000 u) (nat_lt (u * 4294967295) r.ran) ZeroNumber NumberTooLarge RanTooLarge fault tt tt tt e
+of_part (One m) fault e = of_three (m.number == 0) (nat_lt GREATEST_NUMBER m.number) (is_misplaced (is_created m.kind) m.number) ZeroNumber NumberTooLarge CreatedMisplaced fault tt tt tt e
+of_part (Folded t u r) fault e = of_three (u == 0) (nat_lt GREATEST_NUMBER u) (nat_lt (u * MOST_TICKS) r.ran) ZeroNumber NumberTooLarge RanTooLarge fault tt tt tt e
 
 by_first : (p : Part) (ps : List Part) (fault : DeltaFault) (o : Option DeltaFault) → fault_of p ≡ o → (first_fault ps ≡ Some fault → IsOfPart fault) → option_or o (first_fault ps) ≡ Some fault → IsOfPart fault
 by_first p ps fault None g later e = later e

@@ -1,39 +1,52 @@
--- Parts that a digest asks for.
-use Rattle.std.proofs.Common.{ℕ, ◌+◌, ◌<◌, ◌≤◌, ◌≡◌, ◌==◌, ◌⊎◌, ◌||◌, nat_lt, true, false, List, [], ◌∷◌, ◌++◌, length, drop, get_or, Option, Some, None, IsSome, refl, sym, ap, ◌∙◌, subst, arith, inl, inr}
+-- Parts that an asker lacks.
+use Rattle.std.proofs.Common.{ℕ, ◌+◌, ◌<◌, ◌≤◌, ◌≡◌, ◌==◌, ◌||◌, nat_lt, true, false, List, [], ◌∷◌, ◌++◌, length, drop, get_or, Option, Some, None, refl, sym, ap, ◌∙◌, subst, arith, inl, inr}
 use Rattle.std.specs.List.{All}
 use Rattle.std.specs.Option.{is_some, option_or, MatchOption}
 use Rattle.std.specs.FinMap as map
+use Rattle.std.specs.Ordering.{nat_cmp}
 use Rattle.std.proofs.lemmas.Bool.{false≢true}
 use Rattle.std.proofs.lemmas.Bool.Decides.{nat_tests}
+use Rattle.std.proofs.lemmas.List.{append_assoc}
 use Rattle.std.proofs.lemmas.List.Elements.{All-push, All-weaker}
+use Rattle.pc_messages.specs.declared.message.TheConstants.{GREATEST_NUMBER}
 use Rattle.pc_messages.specs.declared.kind.Kind.{Kind}
-use Rattle.pc_messages.specs.Run.{Run, is_created, kind_at}
-use Rattle.pc_join.specs.Sets.{Members, IsWithin, members_at, source_at}
-use Rattle.pc_join.specs.Ranges.{in_ranges, numbers_in, IsFirstMissing}
-use Rattle.pc_join.specs.ByName.{known_in, IsLeastFrom}
-use Rattle.pc_thread_view.specs.Told.{Told, IsSound, AreTold, RiseAbove, HasEach, numbers_of, only, in_prefix, is_early, written}
-use Rattle.pc_thread_view.specs.ToldLaws.{same_kind, written_some}
+use Rattle.pc_messages.specs.Run.{is_created, kind_at}
+use Rattle.pc_join.specs.Sets.{Members, IsWithin, members_at, source_at, Source}
+use Rattle.pc_join.specs.Ranges.{in_ranges, numbers_in, IsFirstMissing, one_to}
+use Rattle.pc_join.specs.ByName.{AscendFrom, known_in, value_at}
+use Rattle.pc_join.proofs.Entries.{IsWalked, walked_start, walked_found, walked_on, walked_all, walked_weaker}
+use Rattle.pc_thread_view.specs.Told.{Told, IsSound, IsOfThread, RiseAbove, HasEach, numbers_of, only, is_early, tells, written}
+use Rattle.pc_thread_view.specs.Inner.Taking.{AreTold}
+use Rattle.pc_thread_view.specs.Inner.ToldLaws.{same_kind, written_some, lacks_next}
 use Rattle.pc_view.specs.declared.view.View.{View}
-use Rattle.pc_view.specs.Views.{pairs_of, thread_of, pair, source_of, written_at, IsOfRun}
+use Rattle.pc_view.specs.Views.{pairs_of, thread_of, pair, source_of, written_at}
 use Rattle.pc_delta.specs.declared.part.Part.{Part}
 use Rattle.pc_delta.specs.declared.part.Part.TheVariants.{One}
 use Rattle.pc_delta.specs.declared.fault.DeltaFault.TheVariants as fault
 use Rattle.pc_delta.specs.Faults.{first_fault, first_of, fault_of, is_misplaced}
 use Rattle.pc_delta.specs.Parts.{set_of_part, set_of, IsPartOfRun}
-use Rattle.pc_delta.specs.Digests.{RangesByName, set_of_digest}
-use Rattle.pc_delta.specs.Exchange.{IsAnswer}
-use Rattle.pc_delta.specs.Answering.{IsLacking, IsUseful, IsUsefulOf, IsToldAt, IsOneOf, KnowsPrefix, TellsPrefix, known_of, listed}
+use Rattle.pc_delta.specs.Exchange.{IsAnswerTo, IsNews}
+use Rattle.pc_delta.specs.Inner.Answering.{IsLacking, IsUseful, IsUsefulOf, IsToldAt, IsOneOf, KnowsPrefix, TellsAll, TellsPrefix, asked_by, listed}
 use Rattle.pc_delta.proofs.Bools.{or_left, or_right, or_cases, and_parts, both}
-use Rattle.pc_delta.proofs.Lists.{all_none, all_first, all_rest, left_item, none_left}
+use Rattle.pc_delta.proofs.Lists.{all_none, all_first, all_rest, all_cons, left_item, none_left}
 use Rattle.pc_delta.proofs.Intake.{set_of-append}
-use Rattle.pc_delta.proofs.Digesting.{passed, none_later}
 
-prefix_yes : (upto n : ℕ) → 1 ≤ n → n ≤ upto → in_prefix upto n ≡ true
+prefix_yes : (upto n : ℕ) → 1 ≤ n → n ≤ upto → one_to upto n ≡ true
 prefix_yes upto n h e = grind (arith, nat_tests)
 
-pub lacking_of : (ranges : List (ℕ × ℕ)) (upto : ℕ) (o : Option ℕ) → MatchOption o ((n : ℕ) → 1 ≤ n → n ≤ upto → in_ranges ranges n ≡ true) (IsFirstMissing (in_ranges ranges) upto) → is_some o ≡ true → IsLacking (known_of (Some ranges)) upto
+prefix_in : (upto more n : ℕ) → upto ≤ more → one_to upto n ≡ true → one_to more n ≡ true
+prefix_in upto more n h e = grind (arith, nat_tests)
+
+-- what is lacking of ranges, and of a thread view
+pub lacking_of : (ranges : List (ℕ × ℕ)) (upto : ℕ) (o : Option ℕ) → MatchOption o ((n : ℕ) → 1 ≤ n → n ≤ upto → in_ranges ranges n ≡ true) (IsFirstMissing (in_ranges ranges) upto) → is_some o ≡ true → IsLacking (numbers_in ranges) upto
 lacking_of ranges upto None h e = absurd (false≢true e)
 lacking_of ranges upto (Some n) h e = record { number = n; in_prefix = prefix_yes upto n h.positive h.reached; unknown = h.missing }
+
+pub lacking_told : (told : Told) (upto : ℕ) → IsSound told → told.upto < upto → IsLacking (numbers_of told) upto
+lacking_told told upto sound lt = record { number = told.upto + 1; in_prefix = prefix_yes upto (told.upto + 1) (omega arith) (omega arith); unknown = lacks_next told sound.gap }
+
+pub known_told : (told : Told) (upto : ℕ) → upto ≤ told.upto → KnowsPrefix (numbers_of told) upto
+known_told told upto le n h = or_left (one_to told.upto n) (is_early told.early n) (prefix_in upto told.upto n le h)
 
 equal : (a b : ℕ) → (a == b) ≡ true → a ≡ b
 equal a b e = grind (arith, nat_tests)
@@ -44,17 +57,8 @@ itself a = grind (arith, nat_tests)
 at_name : (name : ℕ) (s : Members) (t : ℕ) (m : List ℕ) → members_at name s (t ∷ m) ≡ true → (t ≡ name) × (s m ≡ true)
 at_name name s t m h = let parts = and_parts (t == name) (s m) h in (equal t name parts.0, parts.1)
 
--- no member under a name is other than one number
-no_short : (o : Option Told) → known_in numbers_of o [] ≡ false
-no_short None = refl
-no_short (Some told) = refl
-
-no_long : (o : Option Told) (n k : ℕ) (m : List ℕ) → known_in numbers_of o (n ∷ k ∷ m) ≡ false
-no_long None n k m = refl
-no_long (Some told) n k m = refl
-
 -- the parts of a list with one more item, where there is one
-append_none : (xs : List Part) → xs ++ [] ≡ xs
+append_none : {X : Type 0} (xs : List X) → xs ++ [] ≡ xs
 append_none [] = refl
 append_none (x ∷ xs) = ap (λ ys. x ∷ ys) (append_none xs)
 
@@ -69,13 +73,13 @@ told_listed : (old new : List Part) (part : Part) → new ≡ old ++ listed (Som
 told_listed old new part e m h = ap (λ xs. set_of xs m) e ∙ set_of-append old (part ∷ []) m ∙ or_right (set_of old m) (set_of_part part m || false) (or_left (set_of_part part m) false h)
 
 -- one early message
-one_sound : (thread number : ℕ) (kind : Kind) → 1 < number → number ≤ 16000000 → is_created kind ≡ false → fault_of (One (record { thread = thread; number = number; kind = kind })) ≡ None
+one_sound : (thread number : ℕ) (kind : Kind) → 1 < number → number ≤ GREATEST_NUMBER → is_created kind ≡ false → fault_of (One (record { thread = thread; number = number; kind = kind })) ≡ None
 one_sound thread number kind h g created = λ i. first_of ((not_zero number h i, fault.ZeroNumber) ∷ (fits number g i, fault.NumberTooLarge) ∷ (placed i, fault.CreatedMisplaced) ∷ [])
   where
     not_zero : (n : ℕ) → 1 < n → (n == 0) ≡ false
     not_zero n h = grind (arith, nat_tests)
 
-    fits : (n : ℕ) → n ≤ 16000000 → nat_lt 16000000 n ≡ false
+    fits : (n : ℕ) → n ≤ GREATEST_NUMBER → nat_lt GREATEST_NUMBER n ≡ false
     fits n g = grind (arith, nat_tests)
 
     not_one : (n : ℕ) → 1 < n → (n == 1) ≡ false
@@ -88,94 +92,71 @@ kind_from : (o : Option Kind) (kind : Kind) → written_at o ≡ written kind �
 kind_from None kind e = absurd (written_some kind (sym e))
 kind_from (Some k) kind e = ap (λ x. Some x) (same_kind k kind e)
 
--- what a digest has of a thread, and what a view has
-told_members : (view : View) (thread : ℕ) (told : Told) → thread_of view thread ≡ Some told → (m : List ℕ) → pairs_of view (thread ∷ m) ≡ numbers_of told m
-told_members view thread told there m = ap (λ o. known_in numbers_of o m) there
-
-known_members : (digest : RangesByName) (thread : ℕ) (known : Option (List (ℕ × ℕ))) → known ≡ map.get digest thread → (m : List ℕ) → set_of_digest digest (thread ∷ m) ≡ known_of known m
-known_members digest thread known same m = sym (ap (λ o. known_in numbers_in o m) same)
-
-within_thread : (view : View) (thread : ℕ) (told : Told) (s : Members) → thread_of view thread ≡ Some told → IsWithin s (members_at thread (numbers_of told)) → IsWithin s (pairs_of view)
-within_thread view thread told s there within [] h = absurd (false≢true (within [] h))
-within_thread view thread told s there within (t ∷ m) h =
-    let parts = at_name thread (numbers_of told) t m (within (t ∷ m) h) in
-    ap (λ q. pairs_of view (q ∷ m)) parts.0 ∙ told_members view thread told there m ∙ parts.1
-
-within_pair : (view : View) (thread number : ℕ) → pairs_of view (thread ∷ number ∷ []) ≡ true → IsWithin (pair thread number) (pairs_of view)
-within_pair view thread number there [] h = absurd (false≢true h)
-within_pair view thread number there (t ∷ []) h = absurd (false≢true (at_name thread (only number) t [] h).1)
-within_pair view thread number there (t ∷ n ∷ []) h =
-    let parts = at_name thread (only number) t (n ∷ []) h in
-    let same : n ≡ number = equal n number parts.1 in
-    (λ i. pairs_of view (parts.0 i ∷ same i ∷ [])) ∙ there
-within_pair view thread number there (t ∷ n ∷ k ∷ m) h = absurd (false≢true (at_name thread (only number) t (n ∷ k ∷ m) h).1)
-
 -- of a thread: what is told so far, and what is left of the early messages
-pub record IsTelling (view : View) (digest : RangesByName) (thread : ℕ) (old : List Part) (left : List (ℕ × Kind)) (parts : List Part) : Type 0 where
-  pub useful : All (IsUseful view digest) parts
-  pub kept : IsWithin (set_of old) (set_of parts)
-  pub telling : (n : ℕ) → pairs_of view (thread ∷ n ∷ []) ≡ true → set_of_digest digest (thread ∷ n ∷ []) ≡ false → (is_early left n || set_of parts (thread ∷ n ∷ [])) ≡ true
-  pub left_known : (n : ℕ) → is_early left n ≡ true → pairs_of view (thread ∷ n ∷ []) ≡ true
+pub record IsTelling (thread : ℕ) (told : Told) (known : Members) (left : List (ℕ × Kind)) (parts : List Part) : Type 0 where
+  pub useful : All (IsUsefulOf thread told known) parts
+  pub telling : (n : ℕ) → tells told n ≡ true → known (n ∷ []) ≡ false → (is_early left n || set_of parts (thread ∷ n ∷ [])) ≡ true
+  pub left_known : (n : ℕ) → is_early left n ≡ true → tells told n ≡ true
   pub left_told : AreTold left
-  pub of_run : (run : Run) → IsOfRun run view → HasEach (source_at (source_of run) thread) left
+  pub of_source : (s : Source) → IsOfThread told s → HasEach s left
 
-module _ (view : View) (digest : RangesByName) (thread : ℕ) (known : Option (List (ℕ × ℕ))) (same : known ≡ map.get digest thread) where
-  useful_of : (told : Told) (part : Part) → thread_of view thread ≡ Some told → IsUsefulOf thread told (known_of known) part → IsUseful view digest part
-  useful_of told part there u = record {
-    sound = u.sound;
-    within = within_thread view thread told (set_of_part part) there u.within;
-    news = record { thread = thread; number = u.number; told = u.in_part; lacking = known_members digest thread known same (u.number ∷ []) ∙ u.unknown };
-    of_run = λ run of_run. u.of_run run (of_run.each thread told there);
-  }
+module _ (thread : ℕ) (told : Told) (known : Members) where
+  within_one : (number : ℕ) → tells told number ≡ true → IsWithin (pair thread number) (members_at thread (numbers_of told))
+  within_one number there [] h = h
+  within_one number there (t ∷ []) h = absurd (false≢true (at_name thread (only number) t [] h).1)
+  within_one number there (t ∷ n ∷ []) h =
+      let parts = at_name thread (only number) t (n ∷ []) h in
+      both (t == thread) (tells told n) (ap (λ q. q == thread) parts.0 ∙ itself thread) (ap (tells told) (equal n number parts.1) ∙ there)
+  within_one number there (t ∷ n ∷ k ∷ m) h = absurd (false≢true (at_name thread (only number) t (n ∷ k ∷ m) h).1)
 
-  useful_one : (old : List Part) (entry : ℕ × Kind) (left : List (ℕ × Kind)) (parts : List Part) (part : Part) → IsTelling view digest thread old (entry ∷ left) parts → IsOneOf thread entry (known_of known) part → IsUseful view digest part
-  useful_one old entry left parts part telling one = subst (IsUseful view digest) (sym one.message) (record {
+  useful_one : (entry : ℕ × Kind) (left : List (ℕ × Kind)) (parts : List Part) (part : Part) → IsTelling thread told known (entry ∷ left) parts → IsOneOf thread entry known part → IsUsefulOf thread told known part
+  useful_one entry left parts part telling one = subst (IsUsefulOf thread told known) (sym one.message) (record {
     sound = one_sound thread entry.0 entry.1 telling.left_told.rise.0 telling.left_told.later.0 telling.left_told.later.1;
-    within = within_pair view thread entry.0 (telling.left_known entry.0 (or_left (entry.0 == entry.0) (is_early left entry.0) (itself entry.0)));
-    news = record { thread = thread; number = entry.0; told = both (thread == thread) (entry.0 == entry.0) (itself thread) (itself entry.0); lacking = known_members digest thread known same (entry.0 ∷ []) ∙ one.unknown };
-    of_run = λ run of_run. kind_from (kind_at (run thread) entry.0) entry.1 (telling.of_run run of_run).0;
+    within = within_one entry.0 (telling.left_known entry.0 (or_left (entry.0 == entry.0) (is_early left entry.0) (itself entry.0)));
+    number = entry.0;
+    in_part = both (thread == thread) (entry.0 == entry.0) (itself thread) (itself entry.0);
+    unknown = one.unknown;
+    of_run = λ run of_thread. kind_from (kind_at (run thread) entry.0) entry.1 (telling.of_source (source_at (source_of run) thread) of_thread).0;
   })
 
-  prefix_told : (told : Told) (o : Option Part) (old parts : List Part) → MatchOption o (KnowsPrefix (known_of known) told.upto) (λ part. IsUsefulOf thread told (known_of known) part × TellsPrefix thread told.upto part) → parts ≡ old ++ listed o
-      → (n : ℕ) → in_prefix told.upto n ≡ true → set_of_digest digest (thread ∷ n ∷ []) ≡ false → set_of parts (thread ∷ n ∷ []) ≡ true
-  prefix_told told None old parts fact e n h lacking = absurd (false≢true (sym lacking ∙ known_members digest thread known same (n ∷ []) ∙ fact n h))
-  prefix_told told (Some part) old parts fact e n h lacking = told_listed old parts part e (thread ∷ n ∷ []) (fact.1 n h)
+  prefix_told : (o : Option Part) (parts : List Part) → MatchOption o (KnowsPrefix known told.upto) (λ part. IsUsefulOf thread told known part × TellsPrefix thread told.upto part) → parts ≡ [] ++ listed o
+      → (n : ℕ) → one_to told.upto n ≡ true → known (n ∷ []) ≡ false → set_of parts (thread ∷ n ∷ []) ≡ true
+  prefix_told None parts fact e n h lacking = absurd (false≢true (sym lacking ∙ fact n h))
+  prefix_told (Some part) parts fact e n h lacking = told_listed [] parts part e (thread ∷ n ∷ []) (fact.1 n h)
 
   rise_one : (upto : ℕ) (early : List (ℕ × Kind)) → RiseAbove (upto + 1) early → RiseAbove 1 early
   rise_one upto [] h = tt
   rise_one upto (e ∷ es) h = (omega arith, h.1)
 
-  useful_folded : (told : Told) (o : Option Part) → thread_of view thread ≡ Some told → MatchOption o (KnowsPrefix (known_of known) told.upto) (λ part. IsUsefulOf thread told (known_of known) part × TellsPrefix thread told.upto part) → (part : Part) → o ≡ Some part → IsUseful view digest part
-  useful_folded told None there fact part e = cc
-  useful_folded told (Some folded) there fact part e = subst (IsUseful view digest) (inside e) (useful_of told folded there fact.0)
+  useful_folded : (o : Option Part) → MatchOption o (KnowsPrefix known told.upto) (λ part. IsUsefulOf thread told known part × TellsPrefix thread told.upto part) → (part : Part) → o ≡ Some part → IsUsefulOf thread told known part
+  useful_folded None fact part e = cc
+  useful_folded (Some folded) fact part e = subst (IsUsefulOf thread told known) (inside e) fact.0
     where
       inside : {a b : Part} → ◌≡◌ {A = Option Part} (Some a) (Some b) → a ≡ b
       inside e = cc
 
-  pub telling_start : (told : Told) (o : Option Part) (old parts : List Part) (early : List (ℕ × Kind)) → Some told ≡ thread_of view thread → IsSound told → early ≡ told.early
-      → MatchOption o (KnowsPrefix (known_of known) told.upto) (λ part. IsUsefulOf thread told (known_of known) part × TellsPrefix thread told.upto part)
-      → parts ≡ old ++ listed o → All (IsUseful view digest) old → IsTelling view digest thread old early parts
-  telling_start told o old parts early there sound same_early fact e useful = subst (λ left. IsTelling view digest thread old left parts) (sym same_early) (record {
-    useful = all_listed (IsUseful view digest) old parts o e useful (useful_folded told o (sym there) fact);
-    kept = kept_listed old parts o e;
-    telling = λ n h lacking. elim (or_cases (in_prefix told.upto n) (is_early told.early n) (sym (told_members view thread told (sym there) (n ∷ [])) ∙ h)) [
-      | inl in_it ↦ or_right (is_early told.early n) (set_of parts (thread ∷ n ∷ [])) (prefix_told told o old parts fact e n in_it lacking)
-      | inr in_early ↦ or_left (is_early told.early n) (set_of parts (thread ∷ n ∷ [])) in_early
+  telling_start : (o : Option Part) (early : List (ℕ × Kind)) → IsSound told → early ≡ told.early → MatchOption o (KnowsPrefix known told.upto) (λ part. IsUsefulOf thread told known part × TellsPrefix thread told.upto part)
+      → IsTelling thread told known early (listed o)
+  telling_start o early sound same_early fact = subst (λ left. IsTelling thread told known left (listed o)) (sym same_early) (record {
+    useful = all_listed (IsUsefulOf thread told known) [] (listed o) o refl (all_none (IsUsefulOf thread told known)) (useful_folded o fact);
+    telling = λ n h lacking. elim (or_cases (one_to told.upto n) (is_early told.early n) h) [
+      | inl in_it ↦ or_right (is_early told.early n) (set_of (listed o) (thread ∷ n ∷ [])) (prefix_told o (listed o) fact refl n in_it lacking)
+      | inr in_early ↦ or_left (is_early told.early n) (set_of (listed o) (thread ∷ n ∷ [])) in_early
     ];
-    left_known = λ n h. told_members view thread told (sym there) (n ∷ []) ∙ or_right (in_prefix told.upto n) (is_early told.early n) h;
+    left_known = λ n h. or_right (one_to told.upto n) (is_early told.early n) h;
     left_told = record { rise = rise_one told.upto told.early sound.gap; later = sound.early };
-    of_run = λ run of_run. (of_run.each thread told (sym there)).early;
+    of_source = λ s of_thread. of_thread.early;
   })
 
-  useful_early : (old : List Part) (entry : ℕ × Kind) (left : List (ℕ × Kind)) (parts : List Part) (o : Option Part) → IsTelling view digest thread old (entry ∷ left) parts → MatchOption o (known_of known (entry.0 ∷ []) ≡ true) (IsOneOf thread entry (known_of known)) → (part : Part) → o ≡ Some part → IsUseful view digest part
-  useful_early old entry left parts None telling fact part e = cc
-  useful_early old entry left parts (Some one) telling fact part e = subst (IsUseful view digest) (inside e) (useful_one old entry left parts one telling fact)
+  useful_early : (entry : ℕ × Kind) (left : List (ℕ × Kind)) (parts : List Part) (o : Option Part) → IsTelling thread told known (entry ∷ left) parts → MatchOption o (known (entry.0 ∷ []) ≡ true) (IsOneOf thread entry known) → (part : Part) → o ≡ Some part → IsUsefulOf thread told known part
+  useful_early entry left parts None telling fact part e = cc
+  useful_early entry left parts (Some one) telling fact part e = subst (IsUsefulOf thread told known) (inside e) (useful_one entry left parts one telling fact)
     where
       inside : {a b : Part} → ◌≡◌ {A = Option Part} (Some a) (Some b) → a ≡ b
       inside e = cc
 
-  early_told : (entry : ℕ × Kind) (parts new : List Part) (o : Option Part) → MatchOption o (known_of known (entry.0 ∷ []) ≡ true) (IsOneOf thread entry (known_of known)) → new ≡ parts ++ listed o → (n : ℕ) → entry.0 ≡ n → set_of_digest digest (thread ∷ n ∷ []) ≡ false → set_of new (thread ∷ n ∷ []) ≡ true
-  early_told entry parts new None fact e n at lacking = absurd (false≢true (sym lacking ∙ known_members digest thread known same (n ∷ []) ∙ ap (λ k. known_of known (k ∷ [])) (sym at) ∙ fact))
+  early_told : (entry : ℕ × Kind) (parts new : List Part) (o : Option Part) → MatchOption o (known (entry.0 ∷ []) ≡ true) (IsOneOf thread entry known) → new ≡ parts ++ listed o → (n : ℕ) → entry.0 ≡ n → known (n ∷ []) ≡ false → set_of new (thread ∷ n ∷ []) ≡ true
+  early_told entry parts new None fact e n at lacking = absurd (false≢true (sym lacking ∙ ap (λ k. known (k ∷ [])) (sym at) ∙ fact))
   early_told entry parts new (Some part) fact e n at lacking =
       told_listed parts new part e (thread ∷ n ∷ []) (ap (λ p. set_of_part p (thread ∷ n ∷ [])) fact.message ∙ both (thread == thread) (n == entry.0) (itself thread) (ap (λ k. k == entry.0) (sym at) ∙ itself entry.0))
 
@@ -183,10 +164,9 @@ module _ (view : View) (digest : RangesByName) (thread : ℕ) (known : Option (L
   rise_after n [] lt h = tt
   rise_after n (e ∷ es) lt h = (omega arith, h.1)
 
-  pub telling_on : (old : List Part) (entry : ℕ × Kind) (left : List (ℕ × Kind)) (parts new : List Part) (o : Option Part) → IsTelling view digest thread old (entry ∷ left) parts → MatchOption o (known_of known (entry.0 ∷ []) ≡ true) (IsOneOf thread entry (known_of known)) → new ≡ parts ++ listed o → IsTelling view digest thread old left new
-  telling_on old entry left parts new o telling fact e = record {
-    useful = all_listed (IsUseful view digest) parts new o e telling.useful (useful_early old entry left parts o telling fact);
-    kept = λ m h. kept_listed parts new o e m (telling.kept m h);
+  telling_on : (entry : ℕ × Kind) (left : List (ℕ × Kind)) (parts new : List Part) (o : Option Part) → IsTelling thread told known (entry ∷ left) parts → MatchOption o (known (entry.0 ∷ []) ≡ true) (IsOneOf thread entry known) → new ≡ parts ++ listed o → IsTelling thread told known left new
+  telling_on entry left parts new o telling fact e = record {
+    useful = all_listed (IsUsefulOf thread told known) parts new o e telling.useful (useful_early entry left parts o telling fact);
     telling = λ n h lacking. elim (or_cases ((entry.0 == n) || is_early left n) (set_of parts (thread ∷ n ∷ [])) (telling.telling n h lacking)) [
       | inl before ↦ elim (or_cases (entry.0 == n) (is_early left n) before) [
         | inl here ↦ or_right (is_early left n) (set_of new (thread ∷ n ∷ [])) (early_told entry parts new o fact e n (equal entry.0 n here) lacking)
@@ -196,79 +176,158 @@ module _ (view : View) (digest : RangesByName) (thread : ℕ) (known : Option (L
     ];
     left_known = λ n h. telling.left_known n (or_right (entry.0 == n) (is_early left n) h);
     left_told = record { rise = rise_after entry.0 left telling.left_told.rise.0 telling.left_told.rise.1; later = telling.left_told.later.2 };
-    of_run = λ run of_run. (telling.of_run run of_run).1;
+    of_source = λ s of_thread. (telling.of_source s of_thread).1;
   }
 
-pub told_all : (view : View) (digest : RangesByName) (thread : ℕ) (old parts : List Part) → IsTelling view digest thread old [] parts → IsToldAt view digest thread parts
-told_all view digest thread old parts telling [] h lacking = absurd (false≢true (sym (no_short (thread_of view thread)) ∙ h))
-told_all view digest thread old parts telling (n ∷ []) h lacking = telling.telling n h lacking
-told_all view digest thread old parts telling (n ∷ k ∷ m) h lacking = absurd (false≢true (sym (no_long (thread_of view thread) n k m) ∙ h))
+-- parts that were there, and those that tell of a thread
+pub record IsTellingFrom (thread : ℕ) (told : Told) (known : Members) (old : List Part) (early : List (ℕ × Kind)) (i : ℕ) (parts : List Part) : Type 0 where
+  pub more : List Part
+  pub split : parts ≡ old ++ more
+  pub telling : IsTelling thread told known (drop i early) more
 
--- a loop over the early messages
-abbrev pub IsTellingFrom : View → RangesByName → ℕ → List Part → List (ℕ × Kind) → ℕ → List Part → Type 0
-IsTellingFrom view digest thread old early i parts = IsTelling view digest thread old (drop i early) parts
+module _ (thread : ℕ) (told : Told) (known : Members) (old : List Part) (early : List (ℕ × Kind)) where
+  pub tell_start : (o : Option Part) (parts : List Part) → IsSound told → early ≡ told.early → MatchOption o (KnowsPrefix known told.upto) (λ part. IsUsefulOf thread told known part × TellsPrefix thread told.upto part)
+      → parts ≡ old ++ listed o → IsTellingFrom thread told known old early 0 parts
+  tell_start o parts sound same fact e = record { more = listed o; split = e; telling = telling_start thread told known o early sound same fact }
 
-pub next_early : (view : View) (digest : RangesByName) (thread : ℕ) (old : List Part) (early : List (ℕ × Kind)) (i : ℕ) (entry : ℕ × Kind) (parts : List Part) → entry ≡ get_or early i entry → i < length early → IsTellingFrom view digest thread old early i parts → IsTelling view digest thread old (entry ∷ drop (i + 1) early) parts
-next_early view digest thread old early i entry parts e lt telling = subst (λ left. IsTelling view digest thread old left parts) (left_item early i entry e lt) telling
+  pub tell_on : (i : ℕ) (entry : ℕ × Kind) (parts new : List Part) (o : Option Part) → entry ≡ get_or early i entry → i < length early → IsTellingFrom thread told known old early i parts
+      → MatchOption o (known (entry.0 ∷ []) ≡ true) (IsOneOf thread entry known) → new ≡ parts ++ listed o → IsTellingFrom thread told known old early (i + 1) new
+  tell_on i entry parts new o is lt from fact e = record {
+    more = from.more ++ listed o;
+    split = e ∙ ap (λ ps. ps ++ listed o) from.split ∙ append_assoc old from.more (listed o);
+    telling = telling_on thread told known entry (drop (i + 1) early) from.more (from.more ++ listed o) o (subst (λ left. IsTelling thread told known left from.more) (left_item early i entry is lt) from.telling) fact refl;
+  }
 
-pub no_early_left : (view : View) (digest : RangesByName) (thread : ℕ) (old : List Part) (early : List (ℕ × Kind)) (i : ℕ) (parts : List Part) → length early ≤ i → IsTellingFrom view digest thread old early i parts → IsTelling view digest thread old [] parts
-no_early_left view digest thread old early i parts le telling = subst (λ left. IsTelling view digest thread old left parts) (none_left early i le) telling
+  pub tell_done : (i : ℕ) (parts : List Part) → length early ≤ i → IsTellingFrom thread told known old early i parts → (more : List Part) × (parts ≡ old ++ more) × TellsAll thread told known more
+  tell_done i parts le from =
+      let done : IsTelling thread told known [] from.more = subst (λ left. IsTelling thread told known left from.more) (none_left early i le) from.telling in
+      (from.more, from.split, record { useful = done.useful; all = done.telling })
 
--- a thread of which nothing is known needs no part
-pub none_told : (view : View) (digest : RangesByName) (thread : ℕ) (parts : List Part) → thread_of view thread ≡ None → IsToldAt view digest thread parts
-none_told view digest thread parts none m h lacking = absurd (false≢true (sym (ap (λ o. known_in numbers_of o m) none) ∙ h))
+-- what an asker knows of a thread
+module _ {K : Type 0} (known : K → Members) (entries : List (ℕ × K)) where
+  pub asked_at : (thread : ℕ) (o : Option K) → o ≡ value_at entries thread → (m : List ℕ) → asked_by known entries (thread ∷ m) ≡ known_in known o m
+  asked_at thread o e m = ap (λ x. known_in known x m) (sym e)
 
--- below a name all is told that is to be told
-pub record IsAnswering (view : View) (digest : RangesByName) (parts : List Part) (from : ℕ) : Type 0 where
-  pub useful : All (IsUseful view digest) parts
-  pub told : (t : ℕ) → t < from → IsToldAt view digest t parts
+pub asked_map : {K : Type 0} (known : K → Members) (a : map.FinMap nat_cmp K) (entries : List (ℕ × K)) (members : Members) → entries ≡ map.entries a → members [] ≡ false → ((t : ℕ) (m : List ℕ) → members (t ∷ m) ≡ known_in known (map.get a t) m)
+    → (m : List ℕ) → asked_by known entries m ≡ members m
+asked_map known a entries members e none at [] = sym none
+asked_map known a entries members e none at (t ∷ m) = ap (λ o. known_in known o m) (ap (λ es. value_at es t) e ∙ sym (map.get-entries a t)) ∙ sym (at t m)
 
-pub answering_start : (view : View) (digest : RangesByName) (parts : List Part) → parts ≡ [] → IsAnswering view digest parts 0
-answering_start view digest parts e = record { useful = subst (λ ps. All (IsUseful view digest) ps) (sym e) (all_none (IsUseful view digest)); told = λ t lt. absurd (omega arith) }
+-- how far an answer has come: the threads that were passed are told, and what is known of the others can be asked for
+pub record IsAnswering {K : Type 0} (known : K → Members) (view : View) (asked : List (ℕ × K)) (left : List (ℕ × Told)) (rest : List (ℕ × K)) (parts : List Part) : Type 0 where
+  pub useful : All (IsUseful view (asked_by known asked)) parts
+  pub walked : IsWalked (λ thread told. IsToldAt view (asked_by known asked) thread parts) view.threads left
+  pub from : ℕ
+  pub ascend : AscendFrom from left
+  pub ahead : (t : ℕ) → from ≤ t → value_at rest t ≡ value_at asked t
 
-three : (a b : ℕ) → (a < b) ⊎ ((a ≡ b) ⊎ (b < a))
-three a b = grind arith
+-- what holds of a thread of the view holds of the view
+module _ (view : View) (asked : Members) (thread : ℕ) (told : Told) (there : thread_of view thread ≡ Some told) (known : Members) (same : (m : List ℕ) → asked (thread ∷ m) ≡ known m) where
+  told_members : (m : List ℕ) → pairs_of view (thread ∷ m) ≡ numbers_of told m
+  told_members m = ap (λ o. known_in numbers_of o m) there
 
-cases : (a b : ℕ) → (a < b) ⊎ (b ≤ a)
-cases a b = grind arith
+  within_thread : (s : Members) → IsWithin s (members_at thread (numbers_of told)) → IsWithin s (pairs_of view)
+  within_thread s within [] h = absurd (false≢true (within [] h))
+  within_thread s within (t ∷ m) h =
+      let parts = at_name thread (numbers_of told) t m (within (t ∷ m) h) in
+      ap (λ q. pairs_of view (q ∷ m)) parts.0 ∙ told_members m ∙ parts.1
 
-module _ (view : View) (digest : RangesByName) (old new : List Part) (from name : ℕ) (answering : IsAnswering view digest old from) (next : IsLeastFrom (thread_of view) from name) (kept : IsWithin (set_of old) (set_of new)) (told : IsToldAt view digest name new) where
-  at : (t : ℕ) → t < name + 1 → (t < name) ⊎ ((t ≡ name) ⊎ (name < t)) → IsToldAt view digest t new
-  at t lt (inl less) = elim (cases t from) [
-    | inl below ↦ λ m h lacking. kept (t ∷ m) (answering.told t below m h lacking)
-    | inr le ↦ λ m h lacking. absurd (false≢true (sym (passed view from name t m next le less) ∙ h))
-  ]
-  at t lt (inr (inl e)) = subst (λ q. IsToldAt view digest q new) (sym e) told
-  at t lt (inr (inr more)) = absurd (omega arith)
+  useful_in : (part : Part) → IsUsefulOf thread told known part → IsUseful view asked part
+  useful_in part u = record {
+    sound = u.sound;
+    within = within_thread (set_of_part part) u.within;
+    news = record { thread = thread; number = u.number; told = u.in_part; lacking = same (u.number ∷ []) ∙ u.unknown };
+    of_run = λ run of_run. u.of_run run (of_run.each thread told there);
+  }
 
-  pub answering_on : All (IsUseful view digest) new → IsAnswering view digest new (name + 1)
-  answering_on useful = record { useful = useful; told = λ t lt. at t lt (three t name) }
+  told_in : (old more parts : List Part) → parts ≡ old ++ more → TellsAll thread told known more → IsToldAt view asked thread parts
+  told_in old more parts e all [] h lacking = absurd (false≢true (sym (told_members []) ∙ h))
+  told_in old more parts e all (n ∷ []) h lacking =
+      ap (λ ps. set_of ps (thread ∷ n ∷ [])) e ∙ set_of-append old more (thread ∷ n ∷ [])
+      ∙ or_right (set_of old (thread ∷ n ∷ [])) (set_of more (thread ∷ n ∷ [])) (all.all n (sym (told_members (n ∷ [])) ∙ h) (sym (same (n ∷ [])) ∙ lacking))
+  told_in old more parts e all (n ∷ k ∷ m) h lacking = absurd (false≢true (sym (told_members (n ∷ k ∷ m)) ∙ h))
 
-pub faultless : (view : View) (digest : RangesByName) (parts : List Part) → All (IsUseful view digest) parts → first_fault parts ≡ None
-faultless view digest [] all = refl
-faultless view digest (p ∷ ps) all =
-    let here = (all_first (IsUseful view digest) p ps all).sound in
-    let rest = faultless view digest ps (all_rest (IsUseful view digest) p ps all) in
+all_append : (P : Part → Type 0) (xs ys : List Part) → All P xs → All P ys → All P (xs ++ ys)
+all_append P [] ys a b = b
+all_append P (x ∷ xs) ys a b = all_cons P x (xs ++ ys) (all_first P x xs a) (all_append P xs ys (all_rest P x xs a) b)
+
+kept_append : (old more parts : List Part) → parts ≡ old ++ more → IsWithin (set_of old) (set_of parts)
+kept_append old more parts e m h = ap (λ ps. set_of ps m) e ∙ set_of-append old more m ∙ or_left (set_of old m) (set_of more m) h
+
+module _ {K : Type 0} (known : K → Members) (view : View) (asked : List (ℕ × K)) where
+  set : Members
+  set = asked_by known asked
+
+  pub answering_start : (left : List (ℕ × Told)) (parts : List Part) → left ≡ map.entries view.threads → parts ≡ [] → IsAnswering known view asked left asked parts
+  answering_start left parts e none =
+      let walked = walked_start (λ thread told. IsToldAt view (asked_by known asked) thread parts) view.threads left e in
+      record {
+        useful = subst (λ ps. All (IsUseful view (asked_by known asked)) ps) (sym none) (all_none (IsUseful view (asked_by known asked)));
+        walked = walked;
+        from = 0;
+        ascend = walked.ascend;
+        ahead = λ t le. refl;
+      }
+
+  module _ (left after : List (ℕ × Told)) (rest later : List (ℕ × K)) (old new : List Part) (k : ℕ) (told : Told) (here : Option K) (is : left ≡ (k, told) ∷ after) (answering : IsAnswering known view asked left rest old)
+      (value : here ≡ value_at rest k) (on : (t : ℕ) → k ≤ t → value_at later t ≡ value_at rest t) (told_more : (more : List Part) × (new ≡ old ++ more) × TellsAll k told (known_in known here) more) where
+    ascend_here : AscendFrom answering.from ((k, told) ∷ after)
+    ascend_here = subst (AscendFrom answering.from) is answering.ascend
+
+    there : thread_of view k ≡ Some told
+    there = walked_found (λ thread told. IsToldAt view (asked_by known asked) thread old) view.threads left after k told is answering.walked
+
+    known_here : (m : List ℕ) → asked_by known asked (k ∷ m) ≡ known_in known here m
+    known_here = asked_at known asked k here (value ∙ answering.ahead k ascend_here.0)
+
+    pub answering_on : IsAnswering known view asked after later new
+    answering_on = record {
+      useful = subst (λ ps. All (IsUseful view (asked_by known asked)) ps) (sym told_more.1)
+          (all_append (IsUseful view (asked_by known asked)) old told_more.0 answering.useful
+          (All-weaker (IsUsefulOf k told (known_in known here)) (IsUseful view (asked_by known asked)) (useful_in view (asked_by known asked) k told there (known_in known here) known_here) told_more.0 told_more.2.useful));
+      walked = walked_on (λ thread told. IsToldAt view (asked_by known asked) thread new) view.threads left after k told is
+          (walked_weaker (λ thread told. IsToldAt view (asked_by known asked) thread old) (λ thread told. IsToldAt view (asked_by known asked) thread new) view.threads left (λ t w h m a b. kept_append old told_more.0 new told_more.1 (t ∷ m) (h m a b)) answering.walked)
+          (told_in view (asked_by known asked) k told there (known_in known here) known_here old told_more.0 new told_more.1 told_more.2);
+      from = k + 1;
+      ascend = ascend_here.1;
+      ahead = λ t le. on t (omega arith) ∙ answering.ahead t (let reached = ascend_here.0 in omega arith);
+    }
+
+pub faultless : (view : View) (asked : Members) (parts : List Part) → All (IsUseful view asked) parts → first_fault parts ≡ None
+faultless view asked [] all = refl
+faultless view asked (p ∷ ps) all =
+    let here = (all_first (IsUseful view asked) p ps all).sound in
+    let rest = faultless view asked ps (all_rest (IsUseful view asked) p ps all) in
     λ i. option_or (here i) (rest i)
 
-all_within : (view : View) (digest : RangesByName) (parts : List Part) → All (IsUseful view digest) parts → IsWithin (set_of parts) (pairs_of view)
-all_within view digest [] all m h = absurd (false≢true h)
-all_within view digest (p ∷ ps) all m h = elim (or_cases (set_of_part p m) (set_of ps m) h) [
-  | inl here ↦ (all_first (IsUseful view digest) p ps all).within m here
-  | inr later ↦ all_within view digest ps (all_rest (IsUseful view digest) p ps all) m later
+all_within : (view : View) (asked : Members) (parts : List Part) → All (IsUseful view asked) parts → IsWithin (set_of parts) (pairs_of view)
+all_within view asked [] all m h = absurd (false≢true h)
+all_within view asked (p ∷ ps) all m h = elim (or_cases (set_of_part p m) (set_of ps m) h) [
+  | inl here ↦ (all_first (IsUseful view asked) p ps all).within m here
+  | inr later ↦ all_within view asked ps (all_rest (IsUseful view asked) p ps all) m later
 ]
 
-pub answered : (view : View) (digest : RangesByName) (parts delta : List Part) (from : ℕ) → delta ≡ parts → IsAnswering view digest parts from → ((q : ℕ) → IsSome (thread_of view q) → q < from) → IsAnswer view digest delta
-answered view digest parts delta from same answering none = subst (IsAnswer view digest) (sym same) (record {
+pub answered : {K : Type 0} (known : K → Members) (view : View) (asked : List (ℕ × K)) (left : List (ℕ × Told)) (rest : List (ℕ × K)) (parts : List Part) → left ≡ [] → IsAnswering known view asked left rest parts → IsAnswerTo view (asked_by known asked) parts
+answered known view asked left rest parts none answering = record {
   lacking = lacking;
-  within = all_within view digest parts answering.useful;
-  none_spare = All-weaker (IsUseful view digest) _ (λ part u. u.news) parts answering.useful;
-  of_run = λ run of_run. All-weaker (IsUseful view digest) (IsPartOfRun run) (λ part u. u.of_run run of_run) parts answering.useful;
-})
+  within = all_within view (asked_by known asked) parts answering.useful;
+  none_spare = All-weaker (IsUseful view (asked_by known asked)) _ (λ part u. u.news) parts answering.useful;
+  of_run = λ run of_run. All-weaker (IsUseful view (asked_by known asked)) (IsPartOfRun run) (λ part u. u.of_run run of_run) parts answering.useful;
+}
   where
-    lacking : (m : List ℕ) → pairs_of view m ≡ true → set_of_digest digest m ≡ false → set_of parts m ≡ true
+    by_value : (t : ℕ) (m : List ℕ) (o : Option Told) → thread_of view t ≡ o → pairs_of view (t ∷ m) ≡ true → asked_by known asked (t ∷ m) ≡ false → set_of parts (t ∷ m) ≡ true
+    by_value t m None e h g = absurd (false≢true (sym (ap (λ o. known_in numbers_of o m) e) ∙ h))
+    by_value t m (Some told) e h g = walked_all (λ thread told. IsToldAt view (asked_by known asked) thread parts) view.threads left none answering.walked t told e m h g
+
+    lacking : (m : List ℕ) → pairs_of view m ≡ true → asked_by known asked m ≡ false → set_of parts m ≡ true
     lacking [] h g = absurd (false≢true h)
-    lacking (t ∷ m) h g = elim (cases t from) [
-      | inl lt ↦ answering.told t lt m h g
-      | inr le ↦ absurd (false≢true (sym (none_later view from t m none le) ∙ h))
-    ]
+    lacking (t ∷ m) h g = by_value t m (thread_of view t) refl h g
+
+-- an asker that knows the same is answered the same
+pub answer_to : (view : View) (asked same : Members) (parts delta : List Part) → ((m : List ℕ) → asked m ≡ same m) → delta ≡ parts → IsAnswerTo view asked parts → IsAnswerTo view same delta
+answer_to view asked same parts delta e f answer = subst (IsAnswerTo view same) (sym f) (record {
+  lacking = λ m h g. answer.lacking m h (e m ∙ g);
+  within = answer.within;
+  none_spare = All-weaker (λ part. IsNews asked (set_of_part part)) (λ part. IsNews same (set_of_part part)) (λ part news. record { thread = news.thread; number = news.number; told = news.told; lacking = sym (e (news.thread ∷ news.number ∷ [])) ∙ news.lacking }) parts answer.none_spare;
+  of_run = answer.of_run;
+})

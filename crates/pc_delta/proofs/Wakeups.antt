@@ -2,6 +2,7 @@
 use Rattle.std.proofs.Common.{◌≤◌, ◌<◌, ◌≡◌, List, [], ◌∷◌, sym, ap, ◌∙◌, arith}
 use Rattle.std.specs.List.{All}
 use Rattle.std.proofs.lemmas.Bool.{false≢true}
+use Rattle.pc_messages.specs.declared.message.TheConstants.{GREATEST_NUMBER}
 use Rattle.pc_messages.specs.Run.{IsWellFormed, is_created}
 use Rattle.pc_messages.specs.Items.{AreTellable}
 use Rattle.pc_messages.specs.declared.kind.Kind.TheVariants.{Wakeup}
@@ -12,7 +13,7 @@ use Rattle.pc_delta.proofs.Lists.{all_at, all_cons, all_none}
 
 -- a tick, or a wakeup that is no first message
 abbrev pub IsQuiet : Item → Type 0
-IsQuiet (Thread message) = (1 < message.number) × (message.number ≤ 16000000) × (message.kind ≡ Wakeup)
+IsQuiet (Thread message) = (1 < message.number) × (message.number ≤ GREATEST_NUMBER) × (message.kind ≡ Wakeup)
 IsQuiet (Tick cpu) = Unit {0}
 
 abbrev pub AreQuiet : List Item → Type 0

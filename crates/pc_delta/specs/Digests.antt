@@ -1,10 +1,11 @@
 -- Digests: which messages are known, by ranges of numbers under each thread's name.
-use Rattle.std.specs.Prelude.{ℕ, ◌==◌, ◌&&◌, Bool, true, false, List, [], ◌∷◌}
+use Rattle.std.specs.Prelude.{ℕ, ◌==◌, ◌&&◌, Bool, List}
+use Rattle.std.specs.Cmp.Lexicographic.{pointwise}
 use Rattle.std.specs.FinMap as map
 use Rattle.std.specs.Ordering.{nat_cmp}
 use Rattle.pc_join.specs.Sets.{Members, Source}
 use Rattle.pc_join.specs.Ranges.{numbers_in, AreApart}
-use Rattle.pc_join.specs.ByName.{members_by_name, IsOfByName}
+use Rattle.pc_join.specs.ByName.{members_by_name, IsOfByName, is_same_by_name}
 
 -- the ranges under each name
 abbrev pub RangesByName : Type 0
@@ -24,17 +25,8 @@ IsDigest digest = (s : Source) → IsOfAnySource digest s
 
 -- the same ranges
 abbrev pub is_same_ranges : List (ℕ × ℕ) → List (ℕ × ℕ) → Bool
-is_same_ranges [] [] = true
-is_same_ranges [] (r ∷ rs) = false
-is_same_ranges (q ∷ qs) [] = false
-is_same_ranges (q ∷ qs) (r ∷ rs) = (q.0 == r.0) && ((q.1 == r.1) && is_same_ranges qs rs)
+is_same_ranges = pointwise (λ q r. (q.0 == r.0) && (q.1 == r.1))
 
 -- the same ranges under the same names
-abbrev pub is_same_entries : List (ℕ × List (ℕ × ℕ)) → List (ℕ × List (ℕ × ℕ)) → Bool
-is_same_entries [] [] = true
-is_same_entries [] (e ∷ es) = false
-is_same_entries (d ∷ ds) [] = false
-is_same_entries (d ∷ ds) (e ∷ es) = (d.0 == e.0) && (is_same_ranges d.1 e.1 && is_same_entries ds es)
-
 abbrev pub is_same_digest : RangesByName → RangesByName → Bool
-is_same_digest a b = is_same_entries (map.entries a) (map.entries b)
+is_same_digest a b = is_same_by_name is_same_ranges a b

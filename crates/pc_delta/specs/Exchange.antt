@@ -22,17 +22,21 @@ pub record IsPartlyTakenIn (parts : List Part) (old new : View) : Type 0 where
   pub between : IsBetween (pairs_of old) (set_of parts) (pairs_of new)
   pub of_run : StaysOfRun parts old new
 
--- a message that the digest has not, and the set has
-pub record IsNews (digest set : Members) : Type 0 where
+-- a message that the asker has not, and the set has
+pub record IsNews (asked set : Members) : Type 0 where
   pub thread : ℕ
   pub number : ℕ
   pub told : set (thread ∷ number ∷ []) ≡ true
-  pub lacking : digest (thread ∷ number ∷ []) ≡ false
+  pub lacking : asked (thread ∷ number ∷ []) ≡ false
 
--- the parts answer a digest from a view: they tell all that the view has and the digest has not, nothing that the
--- view has not, and each of them tells something that the digest has not
-pub record IsAnswer (view : View) (digest : RangesByName) (parts : List Part) : Type 0 where
-  pub lacking : (m : List ℕ) → pairs_of view m ≡ true → set_of_digest digest m ≡ false → set_of parts m ≡ true
+-- the parts answer an asker, who knows a set of messages, from a view: they tell all that the view has and the asker
+-- has not, nothing that the view has not, and each of them tells something that the asker has not
+pub record IsAnswerTo (view : View) (asked : Members) (parts : List Part) : Type 0 where
+  pub lacking : (m : List ℕ) → pairs_of view m ≡ true → asked m ≡ false → set_of parts m ≡ true
   pub within : IsWithin (set_of parts) (pairs_of view)
-  pub none_spare : All (λ part. IsNews (set_of_digest digest) (set_of_part part)) parts
+  pub none_spare : All (λ part. IsNews asked (set_of_part part)) parts
   pub of_run : (run : Run) → IsOfRun run view → AreOfRun run parts
+
+-- the parts answer a digest from a view
+abbrev pub IsAnswer : View → RangesByName → List Part → Type 0
+IsAnswer view digest parts = IsAnswerTo view (set_of_digest digest) parts

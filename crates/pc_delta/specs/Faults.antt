@@ -1,6 +1,8 @@
 -- What is wrong with parts: the faults of one, the first that is there, and two parts that contradict each other.
 use Rattle.std.specs.Prelude.{ℕ, ◌*◌, ◌<◌, ◌≤◌, ◌≡◌, ◌==◌, ◌⊎◌, nat_lt, not, Bool, true, false, if◌then◌else◌, List, [], ◌∷◌, Option, Some, None, Contains}
 use Rattle.std.specs.Option.{option_or}
+use Rattle.pc_messages.specs.declared.message.TheConstants.{GREATEST_NUMBER}
+use Rattle.pc_messages.specs.declared.kind.TheConstants.{MOST_TICKS}
 use Rattle.pc_messages.specs.declared.reported.Reported.{Reported}
 use Rattle.pc_messages.specs.Run.{is_created}
 use Rattle.pc_delta.specs.declared.part.Part.{Part}
@@ -16,13 +18,13 @@ is_misplaced created number = if created then not (number == 1) else (number == 
 abbrev pub tests : Part → List (Bool × DeltaFault)
 tests (One message) =
     (message.number == 0, fault.ZeroNumber)
-    ∷ (nat_lt 16000000 message.number, fault.NumberTooLarge)
+    ∷ (nat_lt GREATEST_NUMBER message.number, fault.NumberTooLarge)
     ∷ (is_misplaced (is_created message.kind) message.number, fault.CreatedMisplaced)
     ∷ []
 tests (Folded thread upto reported) =
     (upto == 0, fault.ZeroNumber)
-    ∷ (nat_lt 16000000 upto, fault.NumberTooLarge)
-    ∷ (nat_lt (upto * 4294967295) reported.ran, fault.RanTooLarge)
+    ∷ (nat_lt GREATEST_NUMBER upto, fault.NumberTooLarge)
+    ∷ (nat_lt (upto * MOST_TICKS) reported.ran, fault.RanTooLarge)
     ∷ []
 
 -- what stands beside the first test that holds
@@ -42,8 +44,8 @@ first_fault (part ∷ parts) = option_or (fault_of part) (first_fault parts)
 -- so many messages may report such a state: there is one at least, and no more ticks than they can carry
 pub record IsPossiblePrefix (upto : ℕ) (reported : Reported) : Type 0 where
   pub positive : 1 ≤ upto
-  pub greatest : upto ≤ 16000000
-  pub ran : reported.ran ≤ upto * 4294967295
+  pub greatest : upto ≤ GREATEST_NUMBER
+  pub ran : reported.ran ≤ upto * MOST_TICKS
 
 -- the thread and the number that a part is about, and whether it is a folded one
 abbrev pub place_of : Part → ℕ × ℕ × Bool
@@ -69,12 +71,3 @@ pub record IsLeastConflict (parts : List Part) (thread number : ℕ) : Type 0 wh
 -- no two of the parts contradict each other
 abbrev pub HasNoConflict : List Part → Type 0
 HasNoConflict parts = (thread number : ℕ) → ¬ IsConflict parts thread number
-
--- of two places the first is before the second, or they are the same
-abbrev pub IsNotAfter : ℕ × ℕ → ℕ × ℕ → Type 0
-IsNotAfter one other = (one.0 < other.0) ⊎ ((one.0 ≡ other.0) × (one.1 ≤ other.1))
-
--- the lesser of a place, where there is one, and another
-abbrev pub IsLesserOf : Option (ℕ × ℕ) → ℕ → ℕ → ℕ × ℕ → Type 0
-IsLesserOf None thread number lesser = lesser ≡ (thread, number)
-IsLesserOf (Some least) thread number lesser = ((lesser ≡ least) × IsNotAfter least (thread, number)) ⊎ ((lesser ≡ (thread, number)) × IsNotAfter (thread, number) least)

@@ -1,15 +1,17 @@
-//! Deltas that answer a digest.
+//! Deltas that answer an asker.
 
 ghost use Rattle.std.specs.Prelude.{ℕ, ◌≡◌, ◌<◌, ◌≤◌, true, List, [], ◌∷◌, ◌++◌, None, Some, All, IfOk, OnOk, MatchOption, IsTrue, IsFalse, option_copied};
-ghost use Rattle.pc_join.specs.Sets.{IsWithin};
-ghost use Rattle.pc_delta.specs.Parts.{set_of};
-ghost use Rattle.pc_delta.specs.Exchange.{IsAnswer};
-ghost use Rattle.pc_delta.specs.Answering.{IsUseful, IsToldAt, IsUsefulOf, IsLacking, IsOneOf, KnowsPrefix, TellsPrefix, known_of, listed};
+ghost use Rattle.pc_join.specs.ByName.{AscendFrom, known_in};
+ghost use Rattle.pc_view.specs.Views.{pairs_of};
+ghost use Rattle.pc_delta.specs.Faults.{first_fault};
+ghost use Rattle.pc_delta.specs.Exchange.{IsAnswer, IsAnswerTo};
+ghost use Rattle.pc_delta.specs.Inner.Answering.{IsUsefulOf, IsLacking, IsOneOf, KnowsPrefix, TellsAll, TellsPrefix, asked_by, listed};
 
 use crate::delta::Delta;
 use crate::digest::Digest;
+use crate::known::Known;
 use crate::part::Part;
-use pc_join::{Numbers, OutOfMemory};
+use pc_join::{Lookups, OutOfMemory};
 use pc_messages::{Kind, Message, Tid};
 use pc_thread_view::ThreadView;
 use pc_view::View;
@@ -20,36 +22,47 @@ use std::alloc::Global;
 pub fn delta_since(alloc: Global, view: &View, digest: &Digest) -> Result<Delta, OutOfMemory>
     ensures { IfOk result (λ delta. IsAnswer view.now digest.now delta) }
 {
-    let mut parts = Vec::new(alloc);
-    let mut from = 0;
-    'names: loop {
-        let Some(name) = view.next(Tid(from)) else {
-            return Ok(Delta::of_faultless(parts));
-        };
-        add_thread(&mut parts, view, digest, name)?;
-        let Some(next) = name.index().checked_add(1) else {
-            return Ok(Delta::of_faultless(parts));
-        };
-        from = next;
-    }
+    let mut asked = digest.lookups();
+    let parts = lacking_parts(alloc, view, &mut asked)?;
+    Ok(Delta::of_faultless(parts))
 }
 
-/// Adds what the digest has not of a thread.
-fn add_thread(
-    parts: &mut Vec<Part>,
-    view: &View,
-    digest: &Digest,
-    thread: Tid,
-) -> Result<(), OutOfMemory>
-    requires { All (IsUseful view.now digest.now) parts.old.items }
-    ensures useful { OnOk result (All (IsUseful view.now digest.now) parts.new.items) }
-    ensures kept { OnOk result (IsWithin (set_of parts.old.items) (set_of parts.new.items)) }
-    ensures told { OnOk result (IsToldAt view.now digest.now thread parts.new.items) }
+/// The delta that answers the digest of another view, which need not be made: it tells all that the view knows and
+/// the other does not.
+pub fn delta_beyond(alloc: Global, view: &View, other: &View) -> Result<Delta, OutOfMemory>
+    ensures { IfOk result (λ delta. IsAnswerTo view.now (pairs_of other.now) delta) }
 {
-    let Some(held) = view.thread(thread) else {
-        return Ok(());
-    };
-    let known = digest.numbers(thread);
+    let mut asked = other.lookups();
+    let parts = lacking_parts(alloc, view, &mut asked)?;
+    Ok(Delta::of_faultless(parts))
+}
+
+/// The parts that tell what an asker lacks of a view, by one walk over both.
+fn lacking_parts<K: Known>(
+    alloc: Global,
+    view: &View,
+    asked: &mut Lookups<'_, K>,
+) -> Result<Vec<Part>, OutOfMemory>
+    ensures sound { IfOk result (λ parts. first_fault parts.items ≡ None) }
+    ensures answer { IfOk result (λ parts. IsAnswerTo view.now (asked_by K.known asked.old) parts.items) }
+{
+    let mut parts = Vec::new(alloc);
+    for (thread, held) in view.iter() {
+        let known = asked.at(thread);
+        add_thread(&mut parts, thread, held, known)?;
+    }
+    Ok(parts)
+}
+
+/// Adds what is not known of a thread.
+fn add_thread<K: Known>(
+    parts: &mut Vec<Part>,
+    thread: Tid,
+    held: &ThreadView,
+    known: Option<&K>,
+) -> Result<(), OutOfMemory>
+    ensures { OnOk result ((more : List _) × (parts.new.items ≡ parts.old.items ++ more) × TellsAll thread held.now (known_in K.known (option_copied known.entry)) more) }
+{
     append(parts, folded_part(thread, held, known))?;
     for entry in held.early() {
         append(parts, early_part(thread, *entry, known))?;
@@ -68,11 +81,11 @@ fn append<T: Copy>(items: &mut Vec<T>, item: Option<T>) -> Result<(), OutOfMemor
 }
 
 /// The part that tells an early message, where it is not known.
-fn early_part(thread: Tid, entry: (u32, Kind), known: Option<&Numbers>) -> Option<Part>
-    ensures { MatchOption result (known_of (option_copied known.entry) (entry.0 ∷ []) ≡ true) (IsOneOf thread entry (known_of (option_copied known.entry))) }
+fn early_part<K: Known>(thread: Tid, entry: (u32, Kind), known: Option<&K>) -> Option<Part>
+    ensures { MatchOption result (known_in K.known (option_copied known.entry) (entry.0 ∷ []) ≡ true) (IsOneOf thread entry (known_in K.known (option_copied known.entry))) }
 {
     let (number, kind) = entry;
-    if has(known, number) {
+    if knows(known, number) {
         return None;
     }
     Some(Part::One(Message {
@@ -83,8 +96,8 @@ fn early_part(thread: Tid, entry: (u32, Kind), known: Option<&Numbers>) -> Optio
 }
 
 /// The part that tells a thread's first messages, where one of them is not known.
-fn folded_part(thread: Tid, held: &ThreadView, known: Option<&Numbers>) -> Option<Part>
-    ensures { MatchOption result (KnowsPrefix (known_of (option_copied known.entry)) held.now.upto) (λ part. IsUsefulOf thread held.now (known_of (option_copied known.entry)) part × TellsPrefix thread held.now.upto part) }
+fn folded_part<K: Known>(thread: Tid, held: &ThreadView, known: Option<&K>) -> Option<Part>
+    ensures { MatchOption result (KnowsPrefix (known_in K.known (option_copied known.entry)) held.now.upto) (λ part. IsUsefulOf thread held.now (known_in K.known (option_copied known.entry)) part × TellsPrefix thread held.now.upto part) }
 {
     let upto = held.upto();
     let Some(reported) = held.reported() else {
@@ -101,23 +114,23 @@ fn folded_part(thread: Tid, held: &ThreadView, known: Option<&Numbers>) -> Optio
 }
 
 /// Whether one of the numbers from 1 to this one, which is not 0, is not known.
-fn lacks(known: Option<&Numbers>, upto: u32) -> bool
+fn lacks<K: Known>(known: Option<&K>, upto: u32) -> bool
     requires { 1 ≤ upto }
-    ensures lacking { IsTrue result → IsLacking (known_of (option_copied known.entry)) upto }
-    ensures known { IsFalse result → KnowsPrefix (known_of (option_copied known.entry)) upto }
+    ensures one { IsTrue result → IsLacking (known_in K.known (option_copied known.entry)) upto }
+    ensures none { IsFalse result → KnowsPrefix (known_in K.known (option_copied known.entry)) upto }
 {
     match known {
-        Some(numbers) => numbers.first_missing(upto).is_some(),
+        Some(held) => held.lacks(upto),
         None => true,
     }
 }
 
 /// Whether the number is known.
-fn has(known: Option<&Numbers>, number: u32) -> bool
-    ensures { result ≡ known_of (option_copied known.entry) (number ∷ []) }
+fn knows<K: Known>(known: Option<&K>, number: u32) -> bool
+    ensures { result ≡ known_in K.known (option_copied known.entry) (number ∷ []) }
 {
     match known {
-        Some(numbers) => numbers.has(number),
+        Some(held) => held.knows(number),
         None => false,
     }
 }

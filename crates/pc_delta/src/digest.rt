@@ -3,14 +3,14 @@
 ghost use Rattle.std.specs.Prelude.{ℕ, ◌≡◌, ◌↔◌, List, [], ◌∷◌, IsTrue, IfOk, OnOk, option_copied, IfSome};
 ghost use Rattle.std.specs.FinMap as map;
 ghost use Rattle.pc_join.specs.Sets.{Members, Source, IsUnion, IsBetween, IsWithin, IsVoid, IsSameSet, members_at};
-ghost use Rattle.pc_join.specs.Ranges.{AreApart, in_ranges, numbers_in};
+ghost use Rattle.pc_join.specs.Ranges.{AreApart, in_ranges, numbers_in, one_to};
 ghost use Rattle.pc_join.specs.ByName.{known_in};
-ghost use Rattle.pc_thread_view.specs.Told.{numbers_of, in_prefix};
+ghost use Rattle.pc_thread_view.specs.Told.{IsView, numbers_of};
 ghost use Rattle.pc_view.specs.Views.{pairs_of, thread_of};
 ghost use Rattle.pc_delta.specs.Digests.{RangesByName, set_of_digest, IsOfAnySource, IsDigest, is_same_digest};
-ghost use Rattle.pc_delta.specs.DigestLaws.{unique_digest, stays_digest, digest_partial, digest_equivalence};
+ghost use Rattle.pc_delta.specs.Inner.DigestLaws.{unique_digest, stays_digest, digest_partial, digest_equivalence};
 
-use pc_join::{ByName, Join, Numbers, OutOfMemory};
+use pc_join::{ByName, Join, Lookups, Numbers, OutOfMemory};
 use pc_messages::Tid;
 use pc_thread_view::ThreadView;
 use pc_view::View;
@@ -57,18 +57,13 @@ impl Digest {
         ensures same { IfOk result (λ digest. IsSameSet (set_of_digest digest) (pairs_of view.now)) }
         ensures of_any_source { IfOk result (λ digest. IsDigest digest) }
     {
-        let mut digest = Digest::new(alloc);
-        let mut from = 0;
-        'names: loop {
-            let Some(name) = view.next(Tid(from)) else {
-                return Ok(digest);
-            };
-            digest.add_thread(view, name)?;
-            let Some(next) = name.index().checked_add(1) else {
-                return Ok(digest);
-            };
-            from = next;
+        let mut entries = Vec::new(alloc);
+        for (thread, held) in view.iter() {
+            let numbers = known_numbers(alloc, held)?;
+            entries.push((thread.index(), numbers))?;
         }
+        let numbers = ByName::of_ascending(alloc, entries)?;
+        Ok(Digest { numbers })
     }
 
     /// Whether the message of this thread with this number is known.
@@ -82,23 +77,11 @@ impl Digest {
         }
     }
 
-    /// The known numbers of a thread; none where there is none.
-    pub(crate) fn numbers(&self, thread: Tid) -> Option<&Numbers>
-        ensures { option_copied result ≡ map.get self.now thread }
+    /// The known numbers of each thread, for a caller that asks for threads in ascending order.
+    pub(crate) fn lookups(&self) -> Lookups<'_, Numbers>
+        ensures { result ≡ map.entries self.now }
     {
-        self.numbers.get(thread)
-    }
-
-    /// Adds what a view knows of a thread.
-    fn add_thread(&mut self, view: &View, thread: Tid) -> Result<(), OutOfMemory>
-        ensures union { OnOk result (IsUnion (set_of_digest self.old) (members_at thread (known_in numbers_of (thread_of view.now thread))) (set_of_digest self.new)) }
-        ensures of_any_source { IsDigest self.old → IsDigest self.new }
-    {
-        let Some(held) = view.thread(thread) else {
-            return Ok(());
-        };
-        let numbers = known_numbers(self.numbers.allocator(), held)?;
-        self.numbers.put(thread, numbers)
+        self.numbers.lookups()
     }
 }
 
@@ -157,7 +140,7 @@ fn is_same(first: &Digest, other: &Digest) -> bool
 
 /// The numbers from 1 to this one, as one range.
 fn prefix_numbers(alloc: Global, upto: u32) -> Result<Numbers, OutOfMemory>
-    ensures same { IfOk result (λ numbers. (n : ℕ) → in_ranges numbers n ≡ in_prefix upto n) }
+    ensures same { IfOk result (λ numbers. (n : ℕ) → in_ranges numbers n ≡ one_to upto n) }
     ensures apart { IfOk result (λ numbers. AreApart 0 numbers) }
 {
     let mut numbers = Numbers::new(alloc);
@@ -172,6 +155,7 @@ fn prefix_numbers(alloc: Global, upto: u32) -> Result<Numbers, OutOfMemory>
 fn known_numbers(alloc: Global, held: &ThreadView) -> Result<Numbers, OutOfMemory>
     ensures same { IfOk result (λ numbers. IsSameSet (numbers_in numbers) (numbers_of held.now)) }
     ensures apart { IfOk result (λ numbers. AreApart 0 numbers) }
+    ensures told { IsView held.now }
 {
     let mut numbers = prefix_numbers(alloc, held.upto())?;
     for entry in held.early() {

@@ -8,6 +8,7 @@ mod answer;
 mod delta;
 mod digest;
 mod fault;
+mod known;
 pub mod laws;
 mod part;
 mod places;
@@ -15,7 +16,7 @@ mod taking;
 #[cfg(test)]
 mod tests;
 
-pub use answer::delta_since;
+pub use answer::{delta_beyond, delta_since};
 pub use delta::Delta;
 pub use digest::Digest;
 pub use fault::DeltaFault;

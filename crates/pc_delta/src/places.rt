@@ -2,13 +2,13 @@
 
 ghost use Rattle.std.specs.Prelude.{ℕ, ◌≡◌, ◌↔◌, IsTrue, IfOk};
 ghost use Rattle.std.specs.BTreeMap.{get};
-ghost use Rattle.pc_delta.specs.Faults.{first_fault, fault_of, place_of, IsLesserOf};
-ghost use Rattle.pc_delta.specs.Places.{place_cmp, IsFirstSeen, IsLeast};
+ghost use Rattle.pc_delta.specs.Faults.{first_fault, fault_of, place_of};
+ghost use Rattle.pc_delta.specs.Inner.Places.{place_cmp, IsFirstSeen, IsLeast, IsLesserOf};
 
 use crate::fault::DeltaFault;
 use crate::part::Part;
 use pc_join::OutOfMemory;
-use pc_messages::{GREATEST_NUMBER, Message, Reported};
+use pc_messages::{GREATEST_NUMBER, MOST_TICKS, Message, Reported};
 use std::alloc::Global;
 use std::collections::BTreeMap;
 
@@ -41,7 +41,7 @@ fn fault_of_folded(upto: u32, reported: Reported) -> Option<DeltaFault>
     if upto > GREATEST_NUMBER {
         return Some(DeltaFault::NumberTooLarge);
     }
-    if reported.ran > u64::from(upto) * 4_294_967_295 {
+    if reported.ran > u64::from(upto) * u64::from(MOST_TICKS) {
         return Some(DeltaFault::RanTooLarge);
     }
     None

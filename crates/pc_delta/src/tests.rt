@@ -1,6 +1,6 @@
 //! Deltas and digests, with ample memory.
 
-use crate::answer::delta_since;
+use crate::answer::{delta_beyond, delta_since};
 use crate::delta::Delta;
 use crate::digest::Digest;
 use crate::fault::DeltaFault;

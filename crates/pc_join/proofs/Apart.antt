@@ -1,11 +1,13 @@
 -- Ranges that are apart.
-use Rattle.std.proofs.Common.{ℕ, ◌+◌, ◌-◌, ◌<◌, ◌≤◌, ◌≡◌, ◌||◌, nat_le, max, Bool, true, false, List, [], ◌∷◌, ◌++◌, length, set, refl, sym, ap, ◌∙◌, subst, arith, IsTrue, ◌↔◌, inl, inr}
+use Rattle.std.proofs.Common.{ℕ, ◌+◌, ◌-◌, ◌<◌, ◌≤◌, ◌≡◌, ◌||◌, nat_le, max, Bool, true, false, List, [], ◌∷◌, ◌++◌, length, take, drop, set, length-set, refl, sym, ap, ◌∙◌, subst, arith, IsTrue, ◌↔◌, inl, inr}
 use Rattle.std.proofs.lemmas.Bool.Decides.{nat_tests}
 use Rattle.std.proofs.lemmas.List.Folds.{list_any-append}
-use Rattle.pc_join.specs.Ranges.{in_range, in_ranges, AreApart, IsEither, IsAmid, StartBy, StartBefore, IsStretched, IsMerging}
-use Rattle.pc_join.specs.Turns.{IsNotAfter, IsTurn}
+use Rattle.pc_join.specs.Ranges.{in_range, in_ranges, AreApart}
+use Rattle.pc_join.specs.Inner.Ranges.{IsEither, IsAmid, StartBy, StartBefore, IsStretched, IsMerging}
+use Rattle.pc_join.specs.Inner.Turns.{IsNotAfter, IsTurn}
 use Rattle.std.proofs.lemmas.Bool.{false≢true}
-use Rattle.std.proofs.Math.Seq.{set-append_seam}
+use Rattle.std.specs.List.{refill}
+use Rattle.std.proofs.Math.Seq.{set-append_seam, take-append_seam}
 
 -- ranges after which there is one more
 pub apart_wider : (n : ℕ) (front : List (ℕ × ℕ)) (f t u : ℕ) → AreApart n (front ++ (f, t) ∷ []) → t ≤ u → AreApart n (front ++ (f, u) ∷ [])
@@ -191,3 +193,9 @@ pub append_after : (items front : List (ℕ × ℕ)) (last : ℕ × ℕ) (g u : 
 append_after items front last g u e h s k w =
     let P : List (ℕ × ℕ) → Type 0 = λ xs. IsStretched xs (g, u) (xs ++ (g, u) ∷ []) in
     subst P (sym e) (pushed front last.0 last.1 g u (subst (AreApart 0) e h) (subst (λ xs. StartBy xs g) e s) k w)
+
+-- a range written over another through a slice
+pub refilled : (items now : List (ℕ × ℕ)) (place : ℕ) (range : ℕ × ℕ) → now ≡ items → refill (length items) items (set now place range) ≡ set items place range
+refilled items now place range e =
+    let same : length items ≡ length (set now place range) = ap length (sym e) ∙ sym (length-set now place range) in
+    ap (λ n. take n (set now place range ++ drop (length (set now place range)) items)) same ∙ take-append_seam (set now place range) (drop (length (set now place range)) items) ∙ ap (λ xs. set xs place range) e

@@ -2,7 +2,7 @@
 use Rattle.std.proofs.Common.{ℕ, ◌≡◌, ◌≤◌, ◌&&◌, nat_le, nat_eq, true, false, [], ◌∷◌, IsTrue, ◌↔◌, refl, arith}
 use Rattle.std.proofs.lemmas.Bool.Decides.{nat_tests}
 use Rattle.pc_join.specs.Sets.{IsWithin, IsVoid}
-use Rattle.pc_join.specs.Upto.{numbers_to}
+use Rattle.pc_join.specs.Ranges.{numbers_to}
 
 within_at : (a b n : ℕ) → a ≤ b → (nat_le 1 n && nat_le n a) ≡ true → (nat_le 1 n && nat_le n b) ≡ true
 within_at a b n h e = grind (arith, nat_tests)

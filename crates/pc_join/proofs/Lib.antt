@@ -4,3 +4,4 @@ pub mod Joins
 pub mod Names
 pub mod Puts
 pub mod Walks
+pub mod Entries

@@ -10,7 +10,8 @@ use Rattle.std.specs.BTreeMap.{BTreeMap, is_at}
 use Rattle.std.proofs.lemmas.Bool.{false≢true}
 use Rattle.std.proofs.lemmas.Bool.Decides.{nat_tests}
 use Rattle.pc_join.specs.Sets.{Members, Source, IsWithin, IsVoid, IsUnion, IsBetween, source_at}
-use Rattle.pc_join.specs.ByName.{known_in, members_by_name, HoldsNoEmpty, HasShortNames, IsOfByName, IsJoinedAt, IsPut, IsWholeAt, HasNoVoid, IsCovered}
+use Rattle.pc_join.specs.ByName.{known_in, members_by_name, HoldsNoEmpty, HasShortNames, IsOfByName}
+use Rattle.pc_join.specs.Inner.Puts.{IsJoinedAt, IsPut, IsWholeAt, HasNoVoid, IsCovered}
 use Rattle.pc_join.proofs.Puts.{joined_nothing, shown, joined_shown, whole_shown}
 
 -- what the entries that are left have under a name

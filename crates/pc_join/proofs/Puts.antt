@@ -8,7 +8,8 @@ use Rattle.std.specs.BTreeMap.{BTreeMap}
 use Rattle.std.proofs.lemmas.Bool.{false≢true}
 use Rattle.std.proofs.lemmas.Bool.Decides.{nat_tests}
 use Rattle.pc_join.specs.Sets.{Members, Source, IsWithin, IsVoid, IsUnion, IsBetween, members_at, source_at}
-use Rattle.pc_join.specs.ByName.{known_in, members_by_name, HoldsNoEmpty, HasShortNames, IsOfByName, IsJoinedAt, IsPut, IsWholeAt, IsLeastFrom, IsNextName}
+use Rattle.pc_join.specs.ByName.{known_in, members_by_name, HoldsNoEmpty, HasShortNames, IsOfByName, IsLeastFrom, IsNextName}
+use Rattle.pc_join.specs.Inner.Puts.{IsJoinedAt, IsPut, IsWholeAt}
 
 pub or_none : (b : Bool) → b ≡ (b || false)
 or_none true = refl

@@ -3,8 +3,9 @@ use Rattle.std.proofs.Common.{ℕ, suc, ◌==◌, ◌+◌, ◌-◌, ◌<◌, ◌
 use Rattle.std.proofs.lemmas.Bool.{false≢true}
 use Rattle.std.proofs.lemmas.Bool.Decides.{nat_tests}
 use Rattle.pc_join.specs.Sets.{IsVoid, IsWithin}
-use Rattle.pc_join.specs.Ranges.{in_range, in_ranges, numbers_in, AreApart, AreInside}
-use Rattle.pc_join.specs.RangeLaws.{above_range, lacks_below, has_first, lacks_gap}
+use Rattle.pc_join.specs.Ranges.{in_range, in_ranges, numbers_in, AreApart}
+use Rattle.pc_join.specs.Inner.Ranges.{AreInside}
+use Rattle.pc_join.specs.Inner.RangeLaws.{above_range, lacks_below, has_first, lacks_gap}
 
 -- the first range cannot have a number of later ranges
 drop_or : (a b : Bool) → a ≡ false → (a || b) ≡ true → b ≡ true

@@ -1,9 +1,11 @@
 -- Values by name.
-use Rattle.std.specs.Prelude.{ℕ, ◌≡◌, ◌<◌, ◌≤◌, ◌^◌, false, [], ◌∷◌, Option, Some, IsSome, IfSome}
+use Rattle.std.specs.Prelude.{ℕ, ◌+◌, ◌≡◌, ◌==◌, ◌&&◌, ◌<◌, ◌≤◌, ◌^◌, Bool, false, List, [], ◌∷◌, Option, Some, IsSome}
+use Rattle.std.proofs.Common.{Bor}
 use Rattle.std.specs.Option.{option_map_or}
 use Rattle.std.specs.Ordering.{nat_cmp}
+use Rattle.std.specs.Cmp.Lexicographic.{pointwise}
 use Rattle.std.specs.FinMap as map
-use Rattle.pc_join.specs.Sets.{Members, Source, IsVoid, IsWithin, IsBetween, IsUnion, source_at}
+use Rattle.pc_join.specs.Sets.{Members, Source, IsVoid, source_at}
 
 module _ {V : Type 0} (known : V → Members) where
   -- the members of a value, where there is one
@@ -39,25 +41,19 @@ pub record IsNextName {V : Type 0} (values : map.FinMap nat_cmp V) (from name : 
   pub least : IsLeastFrom (map.get values) from name
   pub short : name < 2 ^ 32
 
--- of what is held under one name: it was old, some of other was joined to it, and it is new
-pub record IsJoinedAt {V : Type 0} (known : V → Members) (is_of : V → Source → Type 0) (old other new : Option V) : Type 0 where
-  pub between : IsBetween (known_in known old) (known_in known other) (known_in known new)
-  pub of_source : (s : Source) → IfSome old (λ v. is_of v s) → IfSome other (λ v. is_of v s) → IfSome new (λ v. is_of v s)
-  pub not_void : IfSome old (λ v. ¬ IsVoid (known v)) → IfSome other (λ v. ¬ IsVoid (known v)) → IfSome new (λ v. ¬ IsVoid (known v))
+-- the names of entries ascend, from one on
+abbrev pub AscendFrom : {V : Type 0} → ℕ → List (ℕ × V) → Type 0
+AscendFrom n [] = Unit {0}
+AscendFrom n (entry ∷ entries) = (n ≤ entry.0) × AscendFrom (entry.0 + 1) entries
 
--- some of the value was joined to what is held under the name, and what is held under other names is as it was
-pub record IsPut {V : Type 0} (known : V → Members) (is_of : V → Source → Type 0) (old : ℕ → Option V) (name : ℕ) (value : V) (new : ℕ → Option V) : Type 0 where
-  pub others : (other : ℕ) → ¬ (other ≡ name) → new other ≡ old other
-  pub here : IsJoinedAt known is_of (old name) (Some value) (new name)
+-- what entries have under a name
+abbrev pub value_at : {V : Type 0} → List (ℕ × V) → ℕ → Option V
+value_at entries name = map.find nat_cmp name entries
 
--- all of the other was joined to what was held under one name
-abbrev pub IsWholeAt : {V : Type 0} → (V → Members) → Option V → Option V → Option V → Type 0
-IsWholeAt known old other new = IsUnion (known_in known old) (known_in known other) (known_in known new)
+-- the same names, with the same values
+abbrev pub is_same_by_name : {V : Type 0} → (V → V → Bool) → map.FinMap nat_cmp V → map.FinMap nat_cmp V → Bool
+is_same_by_name same a b = pointwise (λ p q. (p.0 == q.0) && same p.1 q.1) (map.entries a) (map.entries b)
 
--- no value is empty, as what is held under each name
-abbrev pub HasNoVoid : {V : Type 0} → (V → Members) → (ℕ → Option V) → Type 0
-HasNoVoid {V} known values = (name : ℕ) (value : V) → values name ≡ Some value → ¬ IsVoid (known value)
-
--- what is held under each name knows all that the other holds there
-abbrev pub IsCovered : {V : Type 0} → (V → Members) → (ℕ → Option V) → (ℕ → Option V) → Type 0
-IsCovered known other values = (name : ℕ) → IsWithin (known_in known (other name)) (known_in known (values name))
+-- a name with the value that a reference points to
+abbrev pub named : {V : Type 0} → ℕ × Bor V → ℕ × V
+named entry = (entry.0, entry.1.now)

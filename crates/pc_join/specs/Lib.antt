@@ -1,8 +1,4 @@
 pub mod Sets
-pub mod Equal
 pub mod Ranges
-pub mod Turns
-pub mod Upto
-pub mod RangeLaws
 pub mod ByName
-pub mod NameLaws
+pub mod Inner

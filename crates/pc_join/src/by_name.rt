@@ -1,14 +1,16 @@
 //! Values by the name of the thread that they are about.
 
-ghost use Rattle.std.specs.Prelude.{ℕ, ◌≡◌, ◌↔◌, ◌<◌, ◌^◌, Bool, true, false, List, [], ◌∷◌, Some, None, IsTrue, IsOk, IfOk, OnOk, OnErr, IfSome, MatchOption, IsSome, option_copied};
+ghost use Rattle.std.specs.Prelude.{ℕ, ◌≡◌, ◌↔◌, ◌<◌, ◌^◌, Bool, true, false, List, [], ◌∷◌, Some, None, IsTrue, IsOk, IfOk, OnOk, OnErr, IfSome, MatchOption, IsSome, All, option_copied};
 ghost use Rattle.std.specs.FinMap as map;
 ghost use Rattle.std.specs.BTreeMap.{get};
 ghost use Rattle.std.specs.Ordering.{nat_cmp};
 ghost use Rattle.pc_join.specs.Sets.{Members, Source, IsUnion, IsBetween, IsWithin, IsVoid, members_at, source_at};
-ghost use Rattle.pc_join.specs.ByName.{members_by_name, IsOfByName, HoldsNoEmpty, HasShortNames, IsNextName, known_in, IsJoinedAt, IsPut, IsWholeAt, IsLeastFrom, HasNoVoid, IsCovered};
-ghost use Rattle.pc_join.specs.NameLaws.{unique_by_name, stays_by_name};
+ghost use Rattle.pc_join.specs.ByName.{members_by_name, IsOfByName, HoldsNoEmpty, HasShortNames, IsNextName, known_in, IsLeastFrom, AscendFrom};
+ghost use Rattle.pc_join.specs.Inner.Puts.{IsJoinedAt, IsPut, IsWholeAt, HasNoVoid, IsCovered};
+ghost use Rattle.pc_join.specs.Inner.NameLaws.{unique_by_name, stays_by_name};
 
 use crate::join::{Join, OutOfMemory};
+use crate::walk::{Iter, Lookups};
 use pc_messages::Tid;
 use std::alloc::Global;
 use std::collections::BTreeMap;
@@ -50,6 +52,18 @@ impl<V: Join> ByName<V> {
         }
     }
 
+    /// These values, each under the name with its number. The numbers ascend, and no value is empty. It takes memory for
+    /// all names at once.
+    pub fn of_ascending(alloc: Global, entries: Vec<(u32, V)>) -> Result<Self, OutOfMemory>
+        requires ascending { AscendFrom 0 entries.items }
+        requires short { All (λ entry. entry.0 < 2 ^ 32) entries.items }
+        requires not_empty { All (λ entry. ¬ IsVoid (V.known entry.1)) entries.items }
+        ensures { IfOk result (λ values. values ≡ map.from_entries entries.items) }
+    {
+        let values = collected(alloc, entries)?;
+        Ok(ByName { values, alloc })
+    }
+
     /// The allocator that new names take their memory from.
     pub fn allocator(&self) -> Global {
         self.alloc
@@ -63,11 +77,27 @@ impl<V: Join> ByName<V> {
         self.values.get(&name.index())
     }
 
-    /// Joins the value to what is held under the name. An empty value changes nothing.
+    /// The names that are held, ascending, each with its value.
+    pub fn iter(&self) -> Iter<'_, V>
+        ensures entries { result ≡ map.entries self.now }
+        ensures short { HasShortNames self.now }
+    {
+        Iter::of(&self.values)
+    }
+
+    /// The same walk, for a caller that asks for names in ascending order.
+    pub fn lookups(&self) -> Lookups<'_, V>
+        ensures { result ≡ map.entries self.now }
+    {
+        Lookups::of(self.iter())
+    }
+
+    /// Joins the value to what is held under the name. An empty value changes nothing, and no other name changes.
     pub fn put(&mut self, name: Tid, value: V) -> Result<(), OutOfMemory>
         ensures union { OnOk result (IsUnion (members_by_name V.known self.old) (members_at name (V.known value)) (members_by_name V.known self.new)) }
         ensures between { IsBetween (members_by_name V.known self.old) (members_at name (V.known value)) (members_by_name V.known self.new) }
         ensures of_source { (s : Source) → IsOfByName V.known V.is_of self.old s → V.is_of value (source_at s name) → IsOfByName V.known V.is_of self.new s }
+        ensures others { (other : ℕ) → ¬ (other ≡ name) → map.get self.new other ≡ map.get self.old other }
         ensures empty { IsVoid (V.known value) → self.new ≡ self.old }
         ensures empty_succeeds { IsVoid (V.known value) → IsOk result }
     {
@@ -117,6 +147,18 @@ impl<V: Join> Join for ByName<V> {
     ghost unique = { unique_by_name V.known V.is_of V.unique };
 
     ghost stays = { stays_by_name V.known V.is_of V.stays };
+}
+
+/// The map of these entries.
+fn collected<V: Join>(
+    alloc: Global,
+    entries: Vec<(u32, V)>,
+) -> Result<BTreeMap<u32, V>, OutOfMemory>
+    requires { AscendFrom 0 entries.items }
+    ensures { IfOk result (λ values. map.from_entries {R = nat_cmp} values.entries ≡ map.from_entries entries.items) }
+{
+    let values = entries.into_iter().collect(alloc)?;
+    Ok(values)
 }
 
 /// Holds a value under a new name.

@@ -12,9 +12,11 @@ mod numbers;
 mod tests;
 mod turn;
 mod upto;
+mod walk;
 
 pub use by_name::ByName;
 pub use join::{Join, OutOfMemory};
 pub use numbers::Numbers;
 pub use turn::{Turn, next_turn};
 pub use upto::Upto;
+pub use walk::{Iter, Lookups};

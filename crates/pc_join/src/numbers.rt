@@ -2,18 +2,24 @@
 
 ghost use Rattle.std.specs.Prelude.{ℕ, ◌+◌, ◌≡◌, ◌≤◌, ◌<◌, ◌↔◌, ◌==◌, ◌||◌, Bool, true, false, List, [], ◌∷◌, vec_items, IsTrue, IfOk, OnOk, OnErr, MatchOption};
 ghost use Rattle.pc_join.specs.Sets.{Members, Source, IsUnion, IsBetween, IsWithin, IsVoid, numbers_where};
-ghost use Rattle.pc_join.specs.Ranges.{in_range, in_ranges, numbers_in, AreApart, IsEither, IsAmid, IsStretched, StartBy, StartBefore, IsFirstMissing, AreInside, numbers_from_to};
-ghost use Rattle.pc_join.specs.RangeLaws.{unique_ranges};
+ghost use Rattle.pc_join.specs.Ranges.{in_range, in_ranges, numbers_in, AreApart, IsFirstMissing, numbers_from_to};
+ghost use Rattle.pc_join.specs.Inner.Ranges.{IsEither, IsAmid, IsStretched, StartBy, StartBefore, AreInside};
+ghost use Rattle.pc_join.specs.Inner.RangeLaws.{unique_ranges};
 
 use crate::join::{Join, OutOfMemory};
 use crate::turn::next_turn;
+use smallvec::SmallVec;
 use std::alloc::Global;
 use std::marker::Model;
 
-/// A set of numbers, kept as ranges that neither overlap nor touch: a long run of numbers takes the place of one.
+/// Ranges, of which the first two take no memory of their own.
+type Ranges = SmallVec<(u32, u32), 2>;
+
+/// A set of numbers, kept as ranges that neither overlap nor touch: a long run of numbers takes the place of one. Two
+/// ranges take no memory of their own.
 #[derive(Debug, Drop)]
 pub struct Numbers {
-    ranges: Vec<(u32, u32)>,
+    ranges: Ranges,
 }
 
 impl Model for Numbers {
@@ -34,7 +40,7 @@ impl Numbers {
         ensures { result ≡ [] }
     {
         Numbers {
-            ranges: Vec::new(alloc),
+            ranges: SmallVec::new(alloc),
         }
     }
 
@@ -73,7 +79,7 @@ impl Numbers {
         ensures same { result.now ≡ self.now }
         ensures apart { AreApart 0 result.now }
     {
-        &self.ranges
+        self.ranges.as_slice()
     }
 
     /// The first number from 1 to this one that is not there.
@@ -103,7 +109,7 @@ impl Join for Numbers {
     }
 
     fn try_copy(&self) -> Result<Numbers, OutOfMemory> {
-        let ranges = self.ranges.as_slice().to_vec(*self.ranges.allocator())?;
+        let ranges = SmallVec::from_slice(*self.ranges.allocator(), self.ranges.as_slice())?;
         Ok(Numbers { ranges })
     }
 
@@ -113,7 +119,7 @@ impl Join for Numbers {
 }
 
 /// Joins a range, which starts no earlier than each that is there, to the end.
-fn append(ranges: &mut Vec<(u32, u32)>, from: u32, to: u32) -> Result<(), OutOfMemory>
+fn append(ranges: &mut Ranges, from: u32, to: u32) -> Result<(), OutOfMemory>
     requires apart { AreApart 0 ranges.old.items }
     requires starts { StartBy ranges.old.items from }
     requires positive { 1 ≤ from }
@@ -131,16 +137,12 @@ fn append(ranges: &mut Vec<(u32, u32)>, from: u32, to: u32) -> Result<(), OutOfM
     }
     let place = front.len();
     let longer = (last.0, last.1.max(to));
-    ranges[place] = longer;
+    ranges.as_mut_slice()[place] = longer;
     Ok(())
 }
 
 /// Joins two lists of ranges, both apart, to the end.
-fn merge(
-    joined: &mut Vec<(u32, u32)>,
-    first: &[(u32, u32)],
-    other: &[(u32, u32)],
-) -> Result<(), OutOfMemory>
+fn merge(joined: &mut Ranges, first: &[(u32, u32)], other: &[(u32, u32)]) -> Result<(), OutOfMemory>
     requires apart { AreApart 0 joined.old.items }
     requires first_apart { AreApart 0 first.now }
     requires other_apart { AreApart 0 other.now }
@@ -165,7 +167,7 @@ fn merge(
 }
 
 /// Joins one range: to the end where it starts there, and else into a new list, so that want of memory changes nothing.
-fn add_one_range(ranges: &mut Vec<(u32, u32)>, from: u32, to: u32) -> Result<(), OutOfMemory>
+fn add_one_range(ranges: &mut Ranges, from: u32, to: u32) -> Result<(), OutOfMemory>
     requires apart { AreApart 0 ranges.old.items }
     requires positive { 1 ≤ from }
     requires some { from ≤ to }
@@ -176,14 +178,14 @@ fn add_one_range(ranges: &mut Vec<(u32, u32)>, from: u32, to: u32) -> Result<(),
     if start_at_most(ranges.as_slice(), from) {
         return append(ranges, from, to);
     }
-    let mut joined = Vec::with_capacity(*ranges.allocator(), ranges.len())?;
+    let mut joined = SmallVec::with_capacity(*ranges.allocator(), ranges.len())?;
     merge(&mut joined, ranges.as_slice(), &[(from, to)])?;
     *ranges = joined;
     Ok(())
 }
 
 /// Joins ranges that are apart: at the end where they start there, and else into a new list.
-fn join_ranges(ranges: &mut Vec<(u32, u32)>, other: &[(u32, u32)]) -> Result<(), OutOfMemory>
+fn join_ranges(ranges: &mut Ranges, other: &[(u32, u32)]) -> Result<(), OutOfMemory>
     requires apart { AreApart 0 ranges.old.items }
     requires other_apart { AreApart 0 other.now }
     ensures apart { AreApart 0 ranges.new.items }
@@ -196,7 +198,7 @@ fn join_ranges(ranges: &mut Vec<(u32, u32)>, other: &[(u32, u32)]) -> Result<(),
     if start_at_most(ranges.as_slice(), start.0) {
         return merge(ranges, &[], other);
     }
-    let mut joined = Vec::with_capacity(*ranges.allocator(), ranges.len())?;
+    let mut joined = SmallVec::with_capacity(*ranges.allocator(), ranges.len())?;
     merge(&mut joined, ranges.as_slice(), other)?;
     *ranges = joined;
     Ok(())

@@ -174,3 +174,55 @@ fn turns_are_taken_in_order(rt: HostRuntime) -> Result<(), Fail> {
     assert!(rt; next_turn::<char>(&[], &[]).is_none());
     Ok(())
 }
+
+#[test]
+fn names_are_walked_in_order(rt: HostRuntime) -> Result<(), Fail> {
+    let mut names = ByName::new(rt.alloc());
+    names.put(Tid(9), Upto::new(1))?;
+    names.put(Tid(2), Upto::new(4))?;
+    names.put(Tid(5), Upto::new(3))?;
+    let mut walked = Vec::new(rt.alloc());
+    for (name, value) in names.iter() {
+        walked.push((name, value.get()))?;
+    }
+    assert_eq!(rt;
+        walked.as_slice(),
+        [(Tid(2), 4), (Tid(5), 3), (Tid(9), 1)].as_slice()
+    );
+    Ok(())
+}
+
+#[test]
+fn lookups_pass_the_names_below(rt: HostRuntime) -> Result<(), Fail> {
+    let mut names = ByName::new(rt.alloc());
+    names.put(Tid(2), Upto::new(4))?;
+    names.put(Tid(5), Upto::new(3))?;
+    let mut found = names.lookups();
+    assert!(rt; found.at(Tid(1)).is_none());
+    assert_eq!(rt; found.at(Tid(2)).map(|value| value.get()), Some(4));
+    assert_eq!(rt; found.at(Tid(2)).map(|value| value.get()), Some(4));
+    assert!(rt; found.at(Tid(4)).is_none());
+    assert_eq!(rt; found.at(Tid(5)).map(|value| value.get()), Some(3));
+    assert!(rt; found.at(Tid(6)).is_none());
+    Ok(())
+}
+
+#[test]
+fn a_list_of_names_is_held(rt: HostRuntime) -> Result<(), Fail> {
+    let entries = Vec::from_array(rt.alloc(), [(2, Upto::new(4)), (5, Upto::new(3))])?;
+    let names = ByName::of_ascending(rt.alloc(), entries)?;
+    assert_eq!(rt; names.get(Tid(2)).map(|value| value.get()), Some(4));
+    assert_eq!(rt; names.get(Tid(5)).map(|value| value.get()), Some(3));
+    assert!(rt; names.get(Tid(3)).is_none());
+    assert_eq!(rt; names.next(Tid(6)), None);
+    Ok(())
+}
+
+#[test]
+fn other_names_stay(rt: HostRuntime) -> Result<(), Fail> {
+    let mut names = two_names(rt.alloc())?;
+    names.put(Tid(0), numbers(rt.alloc(), &[9])?)?;
+    let five = names.get(Tid(1)).ok_or("no t1")?;
+    assert_eq!(rt; five.ranges(), [(5, 5)].as_slice());
+    Ok(())
+}

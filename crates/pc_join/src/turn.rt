@@ -1,7 +1,7 @@
 //! Two ascending lists taken as one.
 
 ghost use Rattle.std.specs.Prelude.{◌≡◌, [], MatchOption};
-ghost use Rattle.pc_join.specs.Turns.{IsTurn};
+ghost use Rattle.pc_join.specs.Inner.Turns.{IsTurn};
 
 /// The lower of the first entries of two lists, and what is left of both.
 #[derive(Clone, Copy)]

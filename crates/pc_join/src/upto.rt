@@ -2,7 +2,8 @@
 
 ghost use Rattle.std.specs.Prelude.{ℕ, ◌≡◌, ◌↔◌, ◌&&◌, nat_le, max, IsTrue, IsOk, IfOk, OnOk};
 ghost use Rattle.pc_join.specs.Sets.{Members, Source, IsUnion, IsBetween, IsWithin, IsVoid};
-ghost use Rattle.pc_join.specs.Upto.{numbers_to, IsOfAny, unique_upto};
+ghost use Rattle.pc_join.specs.Ranges.{numbers_to};
+ghost use Rattle.pc_join.specs.Inner.Upto.{unique_upto};
 
 use crate::join::{Join, OutOfMemory};
 use std::marker::Model;

@@ -3,9 +3,11 @@ use Rattle.std.proofs.Common.{ℕ, ◌+◌, ◌-◌, ◌<◌, ◌≤◌, ◌≡�
 use Rattle.std.proofs.lemmas.Bool.{false≢true}
 use Rattle.std.proofs.lemmas.Bool.Decides.{nat_tests}
 use Rattle.pc_messages.specs.declared.kind.Kind.{Kind}
-use Rattle.pc_thread_view.specs.Told.{Told, TellsSome, RiseAbove, AreAmong, IsSound, is_early, in_prefix, tells, numbers_of, IsOfThread}
+use Rattle.pc_thread_view.specs.Told.{Told, TellsSome, RiseAbove, IsSound, is_early, tells, numbers_of, IsOfThread}
+use Rattle.pc_thread_view.specs.Inner.Taking.{AreAmong}
+use Rattle.pc_join.specs.Ranges.{one_to}
 use Rattle.pc_join.specs.Sets.{Source, IsWithin, IsVoid}
-use Rattle.pc_thread_view.specs.ToldLaws.{lacks_below}
+use Rattle.pc_thread_view.specs.Inner.ToldLaws.{lacks_below}
 use Rattle.pc_thread_view.proofs.Gaining.{rise_from}
 
 other_number : (a b : ℕ) → a < b → (a == b) ≡ false
@@ -42,14 +44,14 @@ or_right true b h = refl
 or_right false b h = h
 
 -- the next one asked for is there
-next_there : (upto : ℕ) (next : ℕ × Kind) (more held : List (ℕ × Kind)) → (in_prefix upto next.0 || is_early held next.0) ≡ true → AreAmong (next ∷ more) upto held ↔ AreAmong more upto held
+next_there : (upto : ℕ) (next : ℕ × Kind) (more held : List (ℕ × Kind)) → (one_to upto next.0 || is_early held next.0) ≡ true → AreAmong (next ∷ more) upto held ↔ AreAmong more upto held
 next_there upto next more held there = (λ f n e. f n (or_right (next.0 == n) (is_early more n) e), λ f n e. by_test f n (next.0 == n) refl e)
   where
     eq_true : (a b : ℕ) → (a == b) ≡ true → a ≡ b
     eq_true a b e = grind (arith, nat_tests)
 
-    by_test : AreAmong more upto held → (n : ℕ) (b : Bool) → (next.0 == n) ≡ b → (b || is_early more n) ≡ true → (in_prefix upto n || is_early held n) ≡ true
-    by_test f n true e h = subst (λ m. (in_prefix upto m || is_early held m) ≡ true) (eq_true next.0 n e) there
+    by_test : AreAmong more upto held → (n : ℕ) (b : Bool) → (next.0 == n) ≡ b → (b || is_early more n) ≡ true → (one_to upto n || is_early held n) ≡ true
+    by_test f n true e h = subst (λ m. (one_to upto m || is_early held m) ≡ true) (eq_true next.0 n e) there
     by_test f n false e h = f n h
 
 -- the first one held comes before all that are asked for
@@ -65,18 +67,18 @@ first_passed upto first next rest more asked lt = (
     at_least : (n : ℕ) → is_early (next ∷ more) n ≡ true → next.0 ≤ n
     at_least n e = elim (cases n next.0) [ inl k ↦ absurd (false≢true (sym (lacks_below (next.0 - 1) (next ∷ more) n (omega arith, asked.1) (omega arith)) ∙ e)) | inr k ↦ k ]
 
-    drop_it : (n : ℕ) → next.0 ≤ n → (in_prefix upto n || is_early (first ∷ rest) n) ≡ true → (in_prefix upto n || is_early rest n) ≡ true
-    drop_it n le e = ap (λ b. in_prefix upto n || (b || is_early rest n)) (sym (other_number first.0 n (omega arith))) ∙ e
+    drop_it : (n : ℕ) → next.0 ≤ n → (one_to upto n || is_early (first ∷ rest) n) ≡ true → (one_to upto n || is_early rest n) ≡ true
+    drop_it n le e = ap (λ b. one_to upto n || (b || is_early rest n)) (sym (other_number first.0 n (omega arith))) ∙ e
 
     insert : (p a b : Bool) → (p || b) ≡ true → (p || (a || b)) ≡ true
     insert true a b e = refl
     insert false true b e = refl
     insert false false b e = e
 
-    keep_it : (n : ℕ) → (in_prefix upto n || is_early rest n) ≡ true → (in_prefix upto n || is_early (first ∷ rest) n) ≡ true
-    keep_it n e = insert (in_prefix upto n) (first.0 == n) (is_early rest n) e
+    keep_it : (n : ℕ) → (one_to upto n || is_early rest n) ≡ true → (one_to upto n || is_early (first ∷ rest) n) ≡ true
+    keep_it n e = insert (one_to upto n) (first.0 == n) (is_early rest n) e
 
-not_prefix : (upto n : ℕ) → upto < n → in_prefix upto n ≡ false
+not_prefix : (upto n : ℕ) → upto < n → one_to upto n ≡ false
 not_prefix upto n h = grind (arith, nat_tests)
 
 module _ (upto : ℕ) (mine others held asked : List (ℕ × Kind)) (walk : IsWalk upto mine others held asked) (next : ℕ × Kind) (more : List (ℕ × Kind)) (a : asked ≡ next ∷ more) where
@@ -85,12 +87,12 @@ module _ (upto : ℕ) (mine others held asked : List (ℕ × Kind)) (walk : IsWa
 
   pub walk_prefix : 1 ≤ next.0 → next.0 ≤ upto → IsWalk upto mine others held more
   walk_prefix h e = record {
-    same = after at_next.same (next_there upto next more held (or_left (in_prefix upto next.0) (is_early held next.0) (yes upto next.0 h e)));
+    same = after at_next.same (next_there upto next more held (or_left (one_to upto next.0) (is_early held next.0) (yes upto next.0 h e)));
     held_rise = at_next.held_rise;
     asked_rise = rise_from next.0 0 more (omega arith) at_next.asked_rise.1;
   }
     where
-      yes : (u n : ℕ) → 1 ≤ n → n ≤ u → in_prefix u n ≡ true
+      yes : (u n : ℕ) → 1 ≤ n → n ≤ u → one_to u n ≡ true
       yes u n h e = grind (arith, nat_tests)
 
   pub next_positive : 1 ≤ next.0
@@ -114,7 +116,7 @@ module _ (upto : ℕ) (mine others held asked : List (ℕ × Kind)) (walk : IsWa
 
     pub walk_found : first.0 ≡ next.0 → IsWalk upto mine others held more
     walk_found e = subst (λ x. IsWalk upto mine others x more) (sym h) (record {
-      same = after at_both.same (next_there upto next more (first ∷ rest) (or_right (in_prefix upto next.0) (is_early (first ∷ rest) next.0) (subst (λ m. is_early (first ∷ rest) m ≡ true) e (here first rest))));
+      same = after at_both.same (next_there upto next more (first ∷ rest) (or_right (one_to upto next.0) (is_early (first ∷ rest) next.0) (subst (λ m. is_early (first ∷ rest) m ≡ true) e (here first rest))));
       held_rise = at_both.held_rise;
       asked_rise = rise_from next.0 0 more (omega arith) at_both.asked_rise.1;
     })
@@ -129,7 +131,7 @@ walk_all upto mine others held asked walk e =
     there.same.1 (λ n f. absurd (false≢true f))
 
 -- of two views
-wider : (t u n : ℕ) → t ≤ u → in_prefix t n ≡ true → in_prefix u n ≡ true
+wider : (t u n : ℕ) → t ≤ u → one_to t n ≡ true → one_to u n ≡ true
 wider t u n h e = grind (arith, nat_tests)
 
 or_cases : {P : Type 0} (a b : Bool) → (a || b) ≡ true → (a ≡ true → P) → (b ≡ true → P) → P
@@ -139,16 +141,16 @@ or_cases false b e f g = g e
 pub covers_told : (v w : Told) (mine others : List (ℕ × Kind)) (r : Bool) → mine ≡ v.early → others ≡ w.early → w.upto ≤ v.upto → IsTrue r ↔ AreAmong others v.upto mine → IsTrue r ↔ ((n : ℕ) → tells w n ≡ true → tells v n ≡ true)
 covers_told v w mine others r e f h d =
     let there : IsTrue r ↔ AreAmong w.early v.upto v.early = subst (λ x. IsTrue r ↔ AreAmong w.early v.upto x) e (subst (λ x. IsTrue r ↔ AreAmong x v.upto mine) f d) in (
-      λ t n k. or_cases (in_prefix w.upto n) (is_early w.early n) k (λ p. or_left (in_prefix v.upto n) (is_early v.early n) (wider w.upto v.upto n h p)) (λ q. there.0 t n q),
-      λ all. there.1 (λ n k. all n (or_right (in_prefix w.upto n) (is_early w.early n) k)),
+      λ t n k. or_cases (one_to w.upto n) (is_early w.early n) k (λ p. or_left (one_to v.upto n) (is_early v.early n) (wider w.upto v.upto n h p)) (λ q. there.0 t n q),
+      λ all. there.1 (λ n k. all n (or_right (one_to w.upto n) (is_early w.early n) k)),
     )
 
 pub exceeds : (v w : Told) → IsSound v → v.upto < w.upto → ¬ ((n : ℕ) → tells w n ≡ true → tells v n ≡ true)
 exceeds v w sound lt all =
     false≢true (sym (ap (λ b. b || is_early v.early (v.upto + 1)) (not_prefix v.upto (v.upto + 1) (omega arith)) ∙ lacks_below (v.upto + 1) v.early (v.upto + 1) sound.gap (omega arith))
-    ∙ all (v.upto + 1) (or_left (in_prefix w.upto (v.upto + 1)) (is_early w.early (v.upto + 1)) (yes w.upto (v.upto + 1) (omega arith) (omega arith))))
+    ∙ all (v.upto + 1) (or_left (one_to w.upto (v.upto + 1)) (is_early w.early (v.upto + 1)) (yes w.upto (v.upto + 1) (omega arith) (omega arith))))
   where
-    yes : (u n : ℕ) → 1 ≤ n → n ≤ u → in_prefix u n ≡ true
+    yes : (u n : ℕ) → 1 ≤ n → n ≤ u → one_to u n ≡ true
     yes u n h e = grind (arith, nat_tests)
 
 pub exceeds_test : (t u : ℕ) → u < t → IsTrue (nat_le t u) → ⊥

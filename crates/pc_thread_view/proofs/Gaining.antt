@@ -9,7 +9,9 @@ use Rattle.pc_messages.specs.declared.reported.Reported.{Reported}
 use Rattle.pc_messages.specs.State.{state_of}
 use Rattle.pc_messages.specs.Run.{IsWellFormed, is_created}
 use Rattle.pc_join.specs.Sets.{Source}
-use Rattle.pc_thread_view.specs.Told.{Told, IsSound, Gains, NoneAbove, RiseAbove, AreLater, HasKinds, HasEach, IsStateOfSome, tells, is_early, in_prefix, written}
+use Rattle.pc_thread_view.specs.Told.{Told, IsSound, RiseAbove, AreLater, HasKinds, HasEach, IsStateOfSome, tells, is_early, written}
+use Rattle.pc_thread_view.specs.Inner.Taking.{Gains, NoneAbove}
+use Rattle.pc_join.specs.Ranges.{one_to}
 
 or_none : (b : Bool) → b ≡ (b || false)
 or_none true = refl
@@ -26,7 +28,7 @@ eq_true n m e = grind (arith, nat_tests)
 eq_sym : (n m : ℕ) → (m == n) ≡ (n == m)
 eq_sym n m = grind (arith, nat_tests)
 
-in_prefix_yes : (upto n : ℕ) → 1 ≤ n → n ≤ upto → in_prefix upto n ≡ true
+in_prefix_yes : (upto n : ℕ) → 1 ≤ n → n ≤ upto → one_to upto n ≡ true
 in_prefix_yes upto n h e = grind (arith, nat_tests)
 
 -- nothing new
@@ -45,7 +47,7 @@ or_true true b e = refl
 or_true false b e = e
 
 pub gains_early : (v : Told) (number : ℕ) (kind : Kind) → IsSound v → is_early v.early number ≡ true → Gains v number kind v
-gains_early v number kind sound e = gains_nothing v number kind sound (or_true (in_prefix v.upto number) (is_early v.early number) e)
+gains_early v number kind sound e = gains_nothing v number kind sound (or_true (one_to v.upto number) (is_early v.early number) e)
 
 -- the next message of the prefix
 pub none_early : (n : ℕ) (early : List (ℕ × Kind)) → RiseAbove n early → NoneAbove n early → early ≡ []
@@ -62,7 +64,7 @@ kinds_push s n (k ∷ ks) kind h e = (h.0, kinds_push s (n + 1) ks kind h.1 (sub
     at : (n l : ℕ) → n + suc l + 1 ≡ n + 1 + l + 1
     at n l = omega arith
 
-prefix_more : (upto n : ℕ) → (in_prefix (upto + 1) n || false) ≡ ((in_prefix upto n || false) || (n == upto + 1))
+prefix_more : (upto n : ℕ) → (one_to (upto + 1) n || false) ≡ ((one_to upto n || false) || (n == upto + 1))
 prefix_more upto n = grind (arith, nat_tests)
 
 pub gains_next : (upto : ℕ) (state next : Option Reported) (early : List (ℕ × Kind)) (number : ℕ) (kind : Kind) → IsSound (record { upto = upto; state = state; early = early }) → IsWellFormed number kind → number ≡ upto + 1 → NoneAbove number early
@@ -137,7 +139,7 @@ gains_push upto state early number kind sound well gap none new = record {
     gap = rise_push (upto + 1) early (number, kind) sound.gap gap none new;
     early = later_push early (number, kind) sound.early well.greatest (not_created number kind well.created (omega arith));
   };
-  union = λ n. ap (λ b. in_prefix upto n || b) (is_early-push early (number, kind) n) ∙ or_assoc (in_prefix upto n) (is_early early n) (n == number);
+  union = λ n. ap (λ b. one_to upto n || b) (is_early-push early (number, kind) n) ∙ or_assoc (one_to upto n) (is_early early n) (n == number);
   of_source = λ s h g. record {
     prefix = h.prefix;
     gap = rise_push (upto + 1) early (number, kind) sound.gap gap none new;

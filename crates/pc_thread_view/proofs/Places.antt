@@ -9,7 +9,9 @@ use Rattle.pc_messages.specs.declared.kind.Kind.{Kind}
 use Rattle.pc_messages.specs.declared.reported.Reported.{Reported}
 use Rattle.pc_messages.specs.Run.{IsWellFormed, is_created}
 use Rattle.pc_join.specs.Sets.{Source}
-use Rattle.pc_thread_view.specs.Told.{IsSound, IsPlace, BeginsWith, AreBelow, Gains, RiseAbove, AreLater, HasEach, is_early, in_prefix, written}
+use Rattle.pc_thread_view.specs.Told.{IsSound, RiseAbove, AreLater, HasEach, is_early, written}
+use Rattle.pc_thread_view.specs.Inner.Taking.{IsPlace, BeginsWith, AreBelow, Gains}
+use Rattle.pc_join.specs.Ranges.{one_to}
 use Rattle.pc_thread_view.proofs.Gaining.{rise_from, not_created}
 
 above : (n : ℕ) (xs : List (ℕ × Kind)) (j : ℕ) (d : ℕ × Kind) → RiseAbove n xs → j < length xs → n < (get_or xs j d).0
@@ -153,8 +155,8 @@ module _ (upto : ℕ) (state : Option Reported) (early : List (ℕ × Kind)) (nu
       early = later_insert (take p early) (drop p early) (number, kind) (subst AreLater (sym joined) sound.early) well.greatest (not_created number kind well.created (omega arith));
     };
     union = λ n.
-        ap (λ b. in_prefix upto n || b) (is_early-insert (take p early) (drop p early) (number, kind) n ∙ ap (λ es. is_early es n || (n == number)) joined)
-        ∙ or_assoc (in_prefix upto n) (is_early early n) (n == number);
+        ap (λ b. one_to upto n || b) (is_early-insert (take p early) (drop p early) (number, kind) n ∙ ap (λ es. is_early es n || (n == number)) joined)
+        ∙ or_assoc (one_to upto n) (is_early early n) (n == number);
     of_source = λ s a g. record {
       prefix = a.prefix;
       gap = rises;

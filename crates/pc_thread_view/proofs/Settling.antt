@@ -8,12 +8,14 @@ use Rattle.pc_messages.specs.declared.reported.Reported.{Reported}
 use Rattle.pc_messages.specs.State.{state_of}
 use Rattle.pc_messages.specs.Run.{IsWellFormed}
 use Rattle.pc_join.specs.Sets.{Source}
-use Rattle.pc_join.specs.Ranges.{IsEither}
-use Rattle.pc_thread_view.specs.Told.{Told, IsSound, IsOfThread, IsPrefix, IsLoose, IsLooselyOf, IsAbsorbed, IsSettled, Gains, RiseAbove, IsStateOfSome, tells, is_early, in_prefix, written}
+use Rattle.pc_join.specs.Inner.Ranges.{IsEither}
+use Rattle.pc_thread_view.specs.Told.{Told, IsSound, IsOfThread, IsPrefix, RiseAbove, IsStateOfSome, tells, is_early, written}
+use Rattle.pc_thread_view.specs.Inner.Taking.{IsLoose, IsLooselyOf, IsAbsorbed, IsSettled, Gains}
+use Rattle.pc_join.specs.Ranges.{one_to}
 use Rattle.pc_thread_view.proofs.Gaining.{kinds_push}
 use Rattle.pc_thread_view.proofs.Taking.{early_told, told_rest}
 
-prefix_next : (upto n : ℕ) → in_prefix (upto + 1) n ≡ (in_prefix upto n || (upto + 1 == n))
+prefix_next : (upto n : ℕ) → one_to (upto + 1) n ≡ (one_to upto n || (upto + 1 == n))
 prefix_next upto n = grind (arith, nat_tests)
 
 or_assoc : (a b c : Bool) → ((a || b) || c) ≡ (a || (b || c))
@@ -27,7 +29,7 @@ or_swap false true false = refl
 or_swap false false true = refl
 or_swap false false false = refl
 
-prefix_yes : (upto n : ℕ) → 1 ≤ n → n ≤ upto → in_prefix upto n ≡ true
+prefix_yes : (upto n : ℕ) → 1 ≤ n → n ≤ upto → one_to upto n ≡ true
 prefix_yes upto n h e = grind (arith, nat_tests)
 
 eq_sym : (n m : ℕ) → (n == m) ≡ (m == n)
@@ -60,9 +62,9 @@ module _ (upto : ℕ) (state : Option Reported) (first : ℕ × Kind) (rest : Li
       early = told_rest first rest loose.early;
     };
     same = λ n.
-        ap (λ m. in_prefix m n || is_early rest n) e ∙ ap (λ b. b || is_early rest n) (prefix_next upto n)
-        ∙ or_assoc (in_prefix upto n) (upto + 1 == n) (is_early rest n)
-        ∙ ap (λ m. in_prefix upto n || ((m == n) || is_early rest n)) (sym e);
+        ap (λ m. one_to m n || is_early rest n) e ∙ ap (λ b. b || is_early rest n) (prefix_next upto n)
+        ∙ or_assoc (one_to upto n) (upto + 1 == n) (is_early rest n)
+        ∙ ap (λ m. one_to upto n || ((m == n) || is_early rest n)) (sym e);
     of_source = λ s h. record {
       prefix = subst (λ m. IsPrefix s m next) (sym e) (prefix_push s upto state next first.1 h.prefix (subst (λ m. s (m ∷ []) ≡ written first.1) e h.early.0) folded);
       early = h.early.1;
@@ -85,8 +87,8 @@ module _ (upto : ℕ) (state : Option Reported) (first : ℕ × Kind) (rest : Li
       absorbed true b e = refl
       absorbed false b e = absurd (false≢true e)
 
-      known : (n : ℕ) (b : Bool) → (first.0 == n) ≡ b → (in_prefix upto n || is_early rest n) ≡ (in_prefix upto n || (b || is_early rest n))
-      known n true e = absorbed (in_prefix upto n) (is_early rest n) (subst (λ m. in_prefix upto m ≡ true) (eq_true first.0 n e) (prefix_yes upto first.0 (let k = loose.early.rise.0 in omega arith) le))
+      known : (n : ℕ) (b : Bool) → (first.0 == n) ≡ b → (one_to upto n || is_early rest n) ≡ (one_to upto n || (b || is_early rest n))
+      known n true e = absorbed (one_to upto n) (is_early rest n) (subst (λ m. one_to upto m ≡ true) (eq_true first.0 n e) (prefix_yes upto first.0 (let k = loose.early.rise.0 in omega arith) le))
       known n false e = refl
 
 pub absorbs_next : (upto : ℕ) (state next : Option Reported) (early rest after : List (ℕ × Kind)) (first : ℕ × Kind) → IsLoose (record { upto = upto; state = state; early = early }) → early ≡ first ∷ rest → after ≡ drop 1 early → first.0 ≡ upto + 1
@@ -140,10 +142,10 @@ settled old now new h e gap = subst (λ v. IsSettled old v) (sym e) (record {
 pub advance_loose : (v w : Told) → IsSound v → IsSound w → v.upto < w.upto → IsLoose (record { upto = w.upto; state = w.state; early = v.early })
 advance_loose v w a b lt = record { state = b.state; some = omega arith; upto_fits = b.upto_fits; early = early_told v a }
 
-pub advance_union : (v w new : Told) → v.upto < w.upto → IsSettled (record { upto = w.upto; state = w.state; early = v.early }) new → IsEither (tells v) (in_prefix w.upto) (tells new)
-advance_union v w new lt h n = h.same n ∙ wider (in_prefix v.upto n) (in_prefix w.upto n) (is_early v.early n) (longer v.upto w.upto n lt)
+pub advance_union : (v w new : Told) → v.upto < w.upto → IsSettled (record { upto = w.upto; state = w.state; early = v.early }) new → IsEither (tells v) (one_to w.upto) (tells new)
+advance_union v w new lt h n = h.same n ∙ wider (one_to v.upto n) (one_to w.upto n) (is_early v.early n) (longer v.upto w.upto n lt)
   where
-    longer : (t u n : ℕ) → t < u → in_prefix t n ≡ true → in_prefix u n ≡ true
+    longer : (t u n : ℕ) → t < u → one_to t n ≡ true → one_to u n ≡ true
     longer t u n h e = grind (arith, nat_tests)
 
     wider : (p q a : Bool) → (p ≡ true → q ≡ true) → (q || a) ≡ ((p || a) || q)
@@ -176,9 +178,9 @@ module _ (upto number : ℕ) (state next : Option Reported) (early : List (ℕ �
   next_gains new folded h = record {
     sound = h.sound;
     union = λ n.
-        h.same n ∙ ap (λ m. in_prefix m n || is_early early n) e ∙ ap (λ b. b || is_early early n) (prefix_next upto n)
-        ∙ or_swap (in_prefix upto n) (upto + 1 == n) (is_early early n)
-        ∙ ap (λ b. (in_prefix upto n || is_early early n) || b) (ap (λ m. m == n) (sym e) ∙ eq_sym number n);
+        h.same n ∙ ap (λ m. one_to m n || is_early early n) e ∙ ap (λ b. b || is_early early n) (prefix_next upto n)
+        ∙ or_swap (one_to upto n) (upto + 1 == n) (is_early early n)
+        ∙ ap (λ b. (one_to upto n || is_early early n) || b) (ap (λ m. m == n) (sym e) ∙ eq_sym number n);
     of_source = λ s a g. h.of_source s (record {
       prefix = subst (λ m. IsPrefix s m next) (sym e) (prefix_push s upto state next kind a.prefix (subst (λ m. s (m ∷ []) ≡ written kind) e g) folded);
       early = a.early;

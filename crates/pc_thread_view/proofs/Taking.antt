@@ -5,9 +5,11 @@ use Rattle.std.proofs.lemmas.Bool.Decides.{nat_tests}
 use Rattle.pc_messages.specs.declared.kind.Kind.{Kind}
 use Rattle.pc_messages.specs.Run.{IsWellFormed}
 use Rattle.pc_join.specs.Sets.{Source}
-use Rattle.pc_join.specs.Ranges.{IsEither, IsAmid}
-use Rattle.pc_join.specs.Turns.{IsNotAfter, IsTurn}
-use Rattle.pc_thread_view.specs.Told.{Told, IsSound, IsOfThread, Gains, NoneAbove, NoneAfter, RiseAbove, AreTold, HasEach, IsTaking, tells, is_early, in_prefix, written}
+use Rattle.pc_join.specs.Inner.Ranges.{IsEither, IsAmid}
+use Rattle.pc_join.specs.Inner.Turns.{IsNotAfter, IsTurn}
+use Rattle.pc_thread_view.specs.Told.{Told, IsSound, IsOfThread, RiseAbove, HasEach, tells, is_early, written}
+use Rattle.pc_thread_view.specs.Inner.Taking.{Gains, NoneAbove, NoneAfter, AreTold, IsTaking}
+use Rattle.pc_join.specs.Ranges.{one_to}
 use Rattle.pc_thread_view.proofs.Gaining.{rise_from}
 
 pub taking_start : (old : Told) (first other : List (ℕ × Kind)) → IsSound old → AreTold first → AreTold other → NoneAfter old.early first → NoneAfter old.early other → IsTaking old first other old first other
@@ -147,12 +149,12 @@ mid true q f a b h = refl
 mid false true f a b h = absurd (false≢true (h refl))
 mid false false f a b h = refl
 
-less_prefix : (t u n : ℕ) → t ≤ u → in_prefix t n ≡ true → in_prefix u n ≡ true
+less_prefix : (t u n : ℕ) → t ≤ u → one_to t n ≡ true → one_to u n ≡ true
 less_prefix t u n h e = grind (arith, nat_tests)
 
 module _ (a b v : Told) (h : b.upto ≤ a.upto) where
   in_place : (n : ℕ) → (tells a n || is_early b.early n) ≡ (tells a n || tells b n)
-  in_place n = mid (in_prefix a.upto n) (in_prefix b.upto n) false (is_early a.early n) (is_early b.early n) (less_prefix b.upto a.upto n h)
+  in_place n = mid (one_to a.upto n) (one_to b.upto n) false (is_early a.early n) (is_early b.early n) (less_prefix b.upto a.upto n h)
 
   pub union_in_place : IsEither (tells a) (is_early b.early) (tells v) → IsEither (tells a) (tells b) (tells v)
   union_in_place e n = e n ∙ in_place n
@@ -165,14 +167,14 @@ or_assoc : (a b c : Bool) → ((a || b) || c) ≡ (a || (b || c))
 or_assoc true b c = refl
 or_assoc false b c = refl
 
-module _ (a b m v : Told) (e : IsEither (tells a) (in_prefix b.upto) (tells m)) where
+module _ (a b m v : Told) (e : IsEither (tells a) (one_to b.upto) (tells m)) where
   pub union_advanced : IsEither (tells m) (is_early b.early) (tells v) → IsEither (tells a) (tells b) (tells v)
-  union_advanced f n = f n ∙ ap (λ t. t || is_early b.early n) (e n) ∙ or_assoc (tells a n) (in_prefix b.upto n) (is_early b.early n)
+  union_advanced f n = f n ∙ ap (λ t. t || is_early b.early n) (e n) ∙ or_assoc (tells a n) (one_to b.upto n) (is_early b.early n)
 
   pub amid_advanced : IsAmid (tells m) (is_early b.early) (tells v) → IsAmid (tells a) (tells b) (tells v)
   amid_advanced f = record {
-    at_least = λ n k. f.at_least n (e n ∙ or_left (tells a n) (in_prefix b.upto n) k);
-    at_most = λ n k. sym (or_assoc (tells a n) (in_prefix b.upto n) (is_early b.early n)) ∙ ap (λ t. t || is_early b.early n) (sym (e n)) ∙ f.at_most n k;
+    at_least = λ n k. f.at_least n (e n ∙ or_left (tells a n) (one_to b.upto n) k);
+    at_most = λ n k. sym (or_assoc (tells a n) (one_to b.upto n) (is_early b.early n)) ∙ ap (λ t. t || is_early b.early n) (sym (e n)) ∙ f.at_most n k;
   }
 
 -- a join all anew
@@ -192,8 +194,8 @@ module _ (a : Told) (none more : List (ℕ × Kind)) (v : Told) (empty : none �
 
   pub union_anew : IsEither (tells fresh) (λ n. is_early a.early n || is_early more n) (tells v) → IsEither (tells a) (is_early more) (tells v)
   union_anew e n =
-      e n ∙ ap (λ es. (in_prefix a.upto n || is_early es n) || (is_early a.early n || is_early more n)) empty
-      ∙ shuffled (in_prefix a.upto n) (is_early a.early n) (is_early more n)
+      e n ∙ ap (λ es. (one_to a.upto n || is_early es n) || (is_early a.early n || is_early more n)) empty
+      ∙ shuffled (one_to a.upto n) (is_early a.early n) (is_early more n)
 
 -- one message
 pub one_of_source : (more : List (ℕ × Kind)) (one : ℕ × Kind) (s : Source) → 1 ≤ length more → length more < 2 → one ≡ get_or more 0 one → HasEach s more → s (one.0 ∷ []) ≡ written one.1

@@ -1,5 +1,3 @@
-mod Early
-pub mod Held
 pub mod Told
-pub mod ToldLaws
 pub mod Same
+pub mod Inner

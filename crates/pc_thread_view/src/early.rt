@@ -24,7 +24,7 @@ pub struct Early {
 
 impl Model for Early {
     ghost use Rattle.std.specs.Prelude.{◌≤◌, length};
-    ghost use Rattle.pc_thread_view.specs.Early.{Early as Listed, early_of};
+    ghost use Rattle.pc_thread_view.specs.Inner.Early.{Early as Listed, early_of};
 
     ghost Value = { Listed };
 

@@ -2,13 +2,16 @@
 //! out again.
 
 ghost use Rattle.std.specs.Prelude.{ℕ, ◌+◌, ◌≡◌, ◌≤◌, ◌<◌, ◌↔◌, ◌==◌, ◌||◌, Bool, true, false, List, [], ◌∷◌, ◌++◌, length, Some, None, MatchOption, IsTrue, IsFalse, IsOk, IfOk, OnOk, OnErr};
+ghost use Rattle.pc_messages.specs.declared.message.TheConstants.{GREATEST_NUMBER};
 ghost use Rattle.pc_messages.specs.Run.{IsWellFormed, is_created};
 ghost use Rattle.pc_messages.specs.State.{state_of};
 ghost use Rattle.pc_messages.specs.declared.kind.Kind.{Kind};
 ghost use Rattle.pc_join.specs.Sets.{Source};
-ghost use Rattle.pc_join.specs.Ranges.{IsEither, IsAmid};
-ghost use Rattle.pc_thread_view.specs.Told.{Told, IsSound, IsOfThread, Gains, NoneAbove, NoneAfter, RiseAbove, AreLater, HasEach, IsStateOfSome, IsLoose, IsAbsorbed, IsSettled, IsPlace, BeginsWith, AreTold, AreAmong, tells, in_prefix, is_early, written};
-ghost use Rattle.pc_thread_view.specs.Held.{told};
+ghost use Rattle.pc_join.specs.Inner.Ranges.{IsEither, IsAmid};
+ghost use Rattle.pc_thread_view.specs.Told.{Told, IsSound, IsOfThread, RiseAbove, AreLater, HasEach, IsStateOfSome, tells, is_early, written};
+ghost use Rattle.pc_thread_view.specs.Inner.Taking.{Gains, NoneAbove, NoneAfter, IsLoose, IsAbsorbed, IsSettled, IsPlace, BeginsWith, AreTold, AreAmong};
+ghost use Rattle.pc_join.specs.Ranges.{one_to};
+ghost use Rattle.pc_thread_view.specs.Inner.Held.{told};
 
 use crate::early::Early;
 use pc_join::{OutOfMemory, next_turn};
@@ -25,7 +28,7 @@ pub struct Held {
 /// The state after the next message of the prefix.
 fn fold(upto: u32, state: Option<Reported>, kind: Kind) -> Option<Reported>
     requires state { IsStateOfSome upto state }
-    requires fits { upto < 16000000 }
+    requires fits { upto < GREATEST_NUMBER }
     requires created { IsTrue (is_created kind) ↔ (upto + 1 ≡ 1) }
     ensures some { IsStateOfSome (upto + 1) result }
     ensures folded { (kinds : List Kind) → length kinds ≡ upto → state ≡ state_of kinds → result ≡ state_of (kinds ++ kind ∷ []) }
@@ -147,7 +150,7 @@ fn advance(held: &mut Held, other: &Held)
     requires other { IsSound (told other.now) }
     requires greater { held.old.upto < other.now.upto }
     ensures sound { IsSound (told held.new) }
-    ensures union { IsEither (tells (told held.old)) (in_prefix other.now.upto) (tells (told held.new)) }
+    ensures union { IsEither (tells (told held.old)) (one_to other.now.upto) (tells (told held.new)) }
     ensures of_source { (s : Source) → IsOfThread (told held.old) s → IsOfThread (told other.now) s → IsOfThread (told held.new) s }
 {
     held.upto = other.upto;

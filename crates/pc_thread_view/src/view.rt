@@ -1,11 +1,14 @@
 //! The view of one thread.
 
 ghost use Rattle.std.specs.Prelude.{ℕ, ◌+◌, ◌*◌, ◌≡◌, ◌≤◌, ◌<◌, ◌↔◌, ◌==◌, ◌||◌, Bool, true, false, List, [], ◌∷◌, Some, None, IsTrue, IsFalse, IsOk, IfOk, OnOk, OnErr};
+ghost use Rattle.pc_messages.specs.declared.message.TheConstants.{GREATEST_NUMBER};
+ghost use Rattle.pc_messages.specs.declared.kind.TheConstants.{MOST_TICKS};
 ghost use Rattle.pc_messages.specs.Run.{IsWellFormed};
 ghost use Rattle.pc_join.specs.Sets.{Members, Source, IsUnion, IsBetween, IsWithin, IsVoid, IsSameSet};
 ghost use Rattle.pc_thread_view.specs.Told.{Told, IsSound, IsOfThread, TellsSome, numbers_of, only, tells, written};
-ghost use Rattle.pc_thread_view.specs.ToldLaws.{unique_told, stays_told};
-ghost use Rattle.pc_thread_view.specs.Same.{is_same_told, told_partial, told_equivalence};
+ghost use Rattle.pc_thread_view.specs.Inner.ToldLaws.{unique_told, stays_told};
+ghost use Rattle.pc_thread_view.specs.Same.{is_same_told};
+ghost use Rattle.pc_thread_view.specs.Inner.SameLaws.{told_partial, told_equivalence};
 
 use crate::early::Early;
 use crate::held::{Held, append, covers_held, has_held, is_same_held, join_held, take_one};
@@ -26,7 +29,7 @@ impl Model for ThreadView {
 
     ghost Value = { Told };
 
-    ghost use Rattle.pc_thread_view.specs.Held.{told};
+    ghost use Rattle.pc_thread_view.specs.Inner.Held.{told};
 
     ghost view = { λ view. told view.held };
 
@@ -53,8 +56,8 @@ impl ThreadView {
     /// The view of all messages up to a number, which report this state. It takes no memory.
     pub fn folded(alloc: Global, upto: u32, reported: Reported) -> Self
         requires positive { 1 ≤ upto }
-        requires fits { upto ≤ 16000000 }
-        requires ran { reported.ran ≤ upto * 4294967295 }
+        requires fits { upto ≤ GREATEST_NUMBER }
+        requires ran { reported.ran ≤ upto * MOST_TICKS }
         ensures { result ≡ record { upto = upto; state = Some reported; early = [] } }
     {
         ThreadView {

@@ -1,20 +1,21 @@
 -- What a view tells, against the histories of a kernel.
-use Rattle.std.proofs.Common.{ℕ, suc, zero, ◌+◌, ◌<◌, ◌≤◌, ◌≡◌, ◌^◌, false, IsTrue, List, [], ◌∷◌, ◌++◌, length, take, drop, get_or, slice_get, Option, Some, None, IsSome, is_some, All, refl, sym, ap, ◌∙◌, subst, arith, inl, inr}
+use Rattle.std.proofs.Common.{ℕ, suc, zero, ◌+◌, ◌<◌, ◌≤◌, ◌≡◌, false, IsTrue, List, [], ◌∷◌, ◌++◌, length, take, drop, get_or, slice_get, Option, Some, None, is_some, All, refl, sym, ap, ◌∙◌, subst, arith, inl, inr}
+use Rattle.std.proofs.lemmas.Bool.{false≢true}
 use Rattle.std.proofs.lemmas.List.{take_all, length-take-le}
 use Rattle.std.specs.Option.{option_map, option_map_or, option_and_then}
 use Rattle.pc_messages.specs.declared.kind.Kind.{Kind}
 use Rattle.pc_messages.specs.Run.{Run, kind_at}
 use Rattle.pc_messages.specs.State.{state_of}
 use Rattle.pc_join.specs.Sets.{IsVoid, source_at}
-use Rattle.pc_thread_view.specs.Told.{Told, IsOfThread, HasKinds, HasEach, RiseAbove, numbers_of}
+use Rattle.pc_thread_view.specs.Told.{Told, IsOfThread, IsView, HasKinds, HasEach, RiseAbove, numbers_of}
 use Rattle.pc_kernel.specs.Rows.{KernelRows, ThreadRow}
 use Rattle.pc_kernel.specs.Sound.{IsSound}
 use Rattle.pc_kernel.specs.Reads.{seen, kinds, history_of, reported_of}
 use Rattle.pc_view.specs.declared.view.View.{View}
-use Rattle.pc_join.specs.ByName.{IsNextName, HasShortNames}
+use Rattle.pc_join.proofs.Entries.{IsWalked}
 use Rattle.pc_view.specs.Views.{IsOfRun, source_of, thread_of, written_at}
-use Rattle.pc_view.specs.Audit.{Has, Departs, IsPast, IsOtherState, IsFirstOther, IsOfHistory, IsComplete, upto_of}
-use Rattle.pc_view.proofs.Runs.{kind_after, nothing_written, state_of_run, within_run, cases}
+use Rattle.pc_view.specs.Audit.{Has, Departs, IsPast, IsOtherState, IsFirstOther, IsOfHistory, IsPrefixOf, IsComplete, upto_of}
+use Rattle.pc_view.proofs.Runs.{kind_after, nothing_written, state_of_run, within_run}
 
 -- the source of a run gives the kinds of a history's first messages
 at_drop : {A : Type 0} (xs : List A) (n : ℕ) (y : A) (ys : List A) → drop n xs ≡ y ∷ ys → (slice_get xs n ≡ Some y) × (drop (suc n) xs ≡ ys)
@@ -79,23 +80,25 @@ module _ (run : Run) (view : View) (thread : ℕ) (told : Told) (number : ℕ) (
   departs_not (inr (inl other)) = not_other other
   departs_not (inr (inr early)) = not_first early.1
 
--- under every name below one, all that is told is of the history and of the run, and is not nothing
-pub record IsOfHistories (run : Run) (view : View) (thread : ℕ) (told : Told) : Type 0 where
+-- all that is told of a thread is of the history and of the run, and is not nothing
+pub record IsOfHistories (run : Run) (thread : ℕ) (told : Told) : Type 0 where
   pub history : IsOfHistory (run thread) told
   pub of_thread : IsOfThread told (source_at (source_of run) thread)
   pub not_void : ¬ IsVoid (numbers_of told)
 
-abbrev pub AreBelow : Run → View → ℕ → Type 0
-AreBelow run view from = (thread : ℕ) (told : Told) → thread < from → thread_of view thread ≡ Some told → IsOfHistories run view thread told
-
-some_at : (view : View) (thread : ℕ) (told : Told) → thread_of view thread ≡ Some told → IsSome (thread_of view thread)
-some_at view thread told e = subst (λ o. IsSome o) (sym e) refl
-
-pub all_below : (run : Run) (view : View) (from : ℕ) → AreBelow run view from → ((name : ℕ) → IsSome (thread_of view name) → name < from) → IsOfRun run view
-all_below run view from below none = record {
-  kept = λ name told e. (below name told (none name (some_at view name told e)) e).not_void;
-  each = λ name told e. (below name told (none name (some_at view name told e)) e).of_thread;
+pub of_histories : (run : Run) (thread : ℕ) (told : Told) → IsOfHistory (run thread) told → IsView told → IsOfHistories run thread told
+of_histories run thread told h view = record {
+  history = h;
+  of_thread = of_history run thread told h view.sound.gap;
+  not_void = λ void. false≢true (sym (void (view.some.0 ∷ [])) ∙ view.some.1);
 }
+
+-- how far a view has been audited
+abbrev pub IsAudited : Run → View → List (ℕ × Told) → Type 0
+IsAudited run view left = IsWalked (IsOfHistories run) view.threads left
+
+pub all_audited : (run : Run) (view : View) → ((thread : ℕ) (told : Told) → thread_of view thread ≡ Some told → IsOfHistories run thread told) → IsOfRun run view
+all_audited run view all = record { kept = λ thread told there. (all thread told there).not_void; each = λ thread told there. (all thread told there).of_thread }
 
 -- what a kernel's history is
 pub kinds_here : (k : KernelRows) (thread : ℕ) (history : List Kind) → ◌≡◌ {A = Option (List Kind)} (Some history) (history_of (seen k) thread) → history ≡ kinds (seen k) thread
@@ -134,41 +137,6 @@ pub first_taken : {A : Type 0} (xs : List A) (x : A) → 0 < length xs → x ≡
 first_taken [] x less e = absurd (let none : ⊥ = omega arith in none)
 first_taken (y ∷ ys) x less e = ap (λ z. z ∷ []) (sym e)
 
--- two names for one number
-pub short_not : (name index : ℕ) → index ≡ name → ¬ (index + 1 < 2 ^ 32) → ¬ (name + 1 < 2 ^ 32)
-short_not name index at last = subst (λ n. ¬ (n + 1 < 2 ^ 32)) at last
-
--- the names below the next are those below this one, and this one
-pub below_on : (run : Run) (view : View) (from name : ℕ) → AreBelow run view from → IsNextName view.threads from name
-    → ((told : Told) → thread_of view name ≡ Some told → IsOfHistories run view name told) → AreBelow run view (name + 1)
-below_on run view from name below next here thread told less there =
-    elim (cases thread from) [
-      | inl early ↦ below thread told early there
-      | inr late ↦
-          let least : name ≤ thread = next.least.least thread (some_at view thread told there) late in
-          let at : thread ≡ name = omega arith in
-          subst (λ t. IsOfHistories run view t told) (sym at) (here told (ap (thread_of view) (sym at) ∙ there))
-    ]
-
-pub below_next : (run : Run) (view : View) (from name : ℕ) → AreBelow run view from → IsNextName view.threads from name
-    → (thread : ℕ) (told : Told) → thread < name → thread_of view thread ≡ Some told → IsOfHistory (run thread) told
-below_next run view from name below next thread told less there =
-    elim (cases thread from) [
-      | inl early ↦ (below thread told early there).history
-      | inr late ↦ let least : name ≤ thread = next.least.least thread (some_at view thread told there) late in absurd (let no_room : ⊥ = omega arith in no_room)
-    ]
-
-pub all_short : (run : Run) (view : View) (name : ℕ) → AreBelow run view (name + 1) → HasShortNames view.threads → ¬ (name + 1 < 2 ^ 32) → IsOfRun run view
-all_short run view name below short last = all_below run view (name + 1) below (λ other some. let fits : other < 2 ^ 32 = short other some in omega (arith, last))
-
--- what is held of a thread, as what is told of it
-pub held_of : (run : Run) (view : View) (thread : ℕ) (held told : Told) (history : List Kind) → ◌≡◌ {A = Option Told} (Some held) (thread_of view thread) → thread_of view thread ≡ Some told
-    → history ≡ run thread → IsOfHistory history held → RiseAbove (held.upto + 1) held.early → IsOfThread told (source_at (source_of run) thread)
-held_of run view thread held told history value there same h gap =
-    let one : ◌≡◌ {A = Option Told} (Some held) (Some told) = value ∙ there in
-    let at : held ≡ told = cc in
-    subst (λ x. IsOfThread x (source_at (source_of run) thread)) at (of_history run thread held (subst (λ l. IsOfHistory l held) same h) gap)
-
 -- nothing is told of a thread that has a message
 pub none_complete : (k : KernelRows) (view : View) (thread : ℕ) → IsSound k → thread_of view thread ≡ None → IsComplete view (seen k) thread → ⊥
 none_complete k view thread sound none h = by_row (slice_get k.threads thread) refl
@@ -186,8 +154,11 @@ none_complete k view thread sound none h = by_row (slice_get k.threads thread) r
 
 -- what is held of a thread reports the kernel's state of it, where it is complete
 pub reports_state : (k : KernelRows) (view : View) (thread : ℕ) (held : Told) (history : List Kind) → ◌≡◌ {A = Option (List Kind)} (Some history) (history_of (seen k) thread)
-    → ◌≡◌ {A = Option Told} (Some held) (thread_of view thread) → IsOfRun (kinds (seen k)) view → length history ≤ held.upto
-    → (told : Told) × (thread_of view thread ≡ Some told) × (told.state ≡ reported_of (seen k) thread)
-reports_state k view thread held history here value of_run long =
-    let same : history ≡ kinds (seen k) thread = kinds_here k thread history here in
-    (held, sym value, whole (kinds (seen k)) view thread held of_run (sym value) (subst (λ l. length l ≤ held.upto) same long) ∙ ap state_of (sym same) ∙ sym (reported_here k thread history here))
+    → ◌≡◌ {A = Option Told} (Some held) (thread_of view thread) → length history ≤ held.upto
+    → (told : Told) × (thread_of view thread ≡ Some told) × (IsPrefixOf (kinds (seen k) thread) told → told.state ≡ reported_of (seen k) thread)
+reports_state k view thread held history here value long =
+    let same : history ≡ kinds (seen k) thread = kinds_here k thread history here in (
+      held,
+      sym value,
+      λ prefix. prefix.state ∙ ap state_of (take_all held.upto (kinds (seen k) thread) (subst (λ l. length l ≤ held.upto) same long)) ∙ ap state_of (sym same) ∙ sym (reported_here k thread history here),
+    )

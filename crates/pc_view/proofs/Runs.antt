@@ -1,23 +1,22 @@
 -- Views and the runs that they are of.
-use Rattle.std.proofs.Common.{ℕ, suc, zero, ◌+◌, ◌-◌, ◌<◌, ◌≤◌, ◌≡◌, ◌==◌, ◌⊎◌, ◌^◌, cond, Bool, true, false, IsTrue, ◌↔◌, List, [], ◌∷◌, ◌++◌, ◌||◌, ◌&&◌, length, take, drop, Option, Some, None, IsSome, refl, sym, ap, ◌∙◌, subst, arith, inl, inr}
+use Rattle.std.proofs.Common.{ℕ, suc, zero, ◌+◌, ◌-◌, ◌<◌, ◌≤◌, ◌≡◌, ◌==◌, ◌⊎◌, cond, Bool, true, false, IsTrue, ◌↔◌, List, [], ◌∷◌, ◌++◌, ◌||◌, ◌&&◌, length, take, drop, Option, Some, None, refl, sym, ap, ◌∙◌, subst, arith}
 use Rattle.std.specs.List.{slice_get}
 use Rattle.std.specs.Bool.{Decides}
 use Rattle.std.specs.Ordering.{nat_cmp}
-use Rattle.std.specs.Cmp.{nat_cmp_total}
 use Rattle.std.specs.FinMap as map
 use Rattle.std.proofs.lemmas.Bool.Decides.{nat_tests}
 use Rattle.pc_messages.specs.State.{state_of}
-use Rattle.pc_thread_view.specs.ToldLaws.{same_kind, written_some, lacks_next}
+use Rattle.pc_thread_view.specs.Inner.ToldLaws.{same_kind, written_some, lacks_next}
 use Rattle.pc_messages.specs.declared.kind.Kind.{Kind}
 use Rattle.pc_messages.specs.declared.reported.Reported.{Reported}
 use Rattle.pc_messages.specs.Run.{Run, Extends, kind_at}
 use Rattle.pc_join.specs.Sets.{Source, IsVoid, source_at, members_at}
 use Rattle.pc_join.proofs.Puts.{or_none}
-use Rattle.pc_join.specs.ByName.{members_by_name, known_in, IsOfByName, HasShortNames, IsNextName}
-use Rattle.pc_thread_view.specs.Told.{Told, IsOfThread, IsPrefix, HasKinds, numbers_of, is_early, in_prefix, written}
-use Rattle.pc_thread_view.specs.Same.{is_same_told, told_Decides}
+use Rattle.pc_join.specs.ByName.{members_by_name, known_in, IsOfByName}
+use Rattle.pc_thread_view.specs.Told.{Told, IsOfThread, IsPrefix, HasKinds, numbers_of, is_early, written}
+use Rattle.pc_join.specs.Ranges.{one_to}
 use Rattle.pc_view.specs.declared.view.View.{View}
-use Rattle.pc_view.specs.Views.{source_of, written_at, AgreesAtNames, IsOfRun, thread_of, pairs_of, prefix_pairs}
+use Rattle.pc_view.specs.Views.{source_of, written_at, IsOfRun, thread_of, pairs_of, prefix_pairs}
 
 -- a run that goes on gives what it gave
 got_append : {A : Type 0} (xs ys : List A) (i : ℕ) → ¬ (slice_get xs i ≡ None) → slice_get (xs ++ ys) i ≡ slice_get xs i
@@ -48,7 +47,7 @@ folded_of s upto reported p = record { prefix = p; gap = tt; early = tt }
 pub folded_members : (thread upto : ℕ) (reported : Reported) (m : List ℕ) → members_at thread (numbers_of (record { upto = upto; state = Some reported; early = [] })) m ≡ prefix_pairs thread upto m
 folded_members thread upto reported [] = refl
 folded_members thread upto reported (t ∷ []) = refl
-folded_members thread upto reported (t ∷ n ∷ []) = ap (λ b. (t == thread) && b) (sym (or_none (in_prefix upto n)))
+folded_members thread upto reported (t ∷ n ∷ []) = ap (λ b. (t == thread) && b) (sym (or_none (one_to upto n)))
 folded_members thread upto reported (t ∷ n ∷ k ∷ m) = refl
 
 -- no names
@@ -65,51 +64,8 @@ nothing_of x e s = record { kept = λ q v some. absurd (clash (map.get x q) v (n
     clash : (o : Option Told) (v : Told) → o ≡ None → o ≡ Some v → ⊥
     clash o v e f = cc
 
--- the same under a name
-pub same_at : (x y : Option Told) (v w : Told) (r : Bool) → Some v ≡ x → Some w ≡ y → r ≡ is_same_told v w → IsTrue r ↔ (x ≡ y)
-same_at x y v w r e f h = (
-  λ t. sym e ∙ ap (λ u. Some u) ((told_Decides v w).0 (sym h ∙ t)) ∙ f,
-  λ g. h ∙ (told_Decides v w).1 (inside v w (e ∙ g ∙ sym f)),
-)
-  where
-    inside : (v w : Told) → ◌≡◌ {A = Option Told} (Some v) (Some w) → v ≡ w
-    inside v w e = cc
-
--- the same under all names
-none_of : (o : Option Told) → (IsSome o → ⊥) → o ≡ None
-none_of None h = refl
-none_of (Some v) h = absurd (h refl)
-
 pub cases : (a b : ℕ) → (a < b) ⊎ (b ≤ a)
 cases a b = grind arith
-
--- under each name below one, where the first has something, the other has the same
-abbrev pub AgreesBelow : map.FinMap nat_cmp Told → map.FinMap nat_cmp Told → ℕ → Type 0
-AgreesBelow a b from = (q : ℕ) → q < from → IsSome (map.get a q) → map.get a q ≡ map.get b q
-
-pub agrees_none : (a b : map.FinMap nat_cmp Told) (from : ℕ) → AgreesBelow a b from → ((q : ℕ) → IsSome (map.get a q) → q < from) → AgreesAtNames a b
-agrees_none a b from below none q some = below q (none q some) some
-
-pub agrees_on : (a b : map.FinMap nat_cmp Told) (from name : ℕ) → AgreesBelow a b from → IsNextName a from name → map.get a name ≡ map.get b name → AgreesBelow a b (name + 1)
-agrees_on a b from name below next here q lt some =
-    elim (cases q from) [
-      | inl less ↦ below q less some
-      | inr le ↦ let least : name ≤ q = next.least.least q some le in let at : q ≡ name = omega arith in ap (map.get a) at ∙ here ∙ sym (ap (map.get b) at)
-    ]
-
-pub agrees_all : (a b : map.FinMap nat_cmp Told) (name : ℕ) → AgreesBelow a b (name + 1) → HasShortNames a → ¬ (name + 1 < 2 ^ 32) → AgreesAtNames a b
-agrees_all a b name below short last q some = below q (let fits = short q some in omega (arith, last)) some
-
-pub agrees_both : (a b : map.FinMap nat_cmp Told) → AgreesAtNames a b → AgreesAtNames b a → a ≡ b
-agrees_both a b f g = map.same_map nat_cmp_total map.nat_cmp-IsAntisymmetric a b (λ q. by_cases q (map.get a q) (map.get b q) refl refl)
-  where
-    by_cases : (q : ℕ) (x y : Option Told) → map.get a q ≡ x → map.get b q ≡ y → map.get a q ≡ map.get b q
-    by_cases q None None e h = e ∙ sym h
-    by_cases q (Some v) y e h = f q (subst (λ o. IsSome o) (sym e) refl)
-    by_cases q None (Some w) e h = sym (g q (subst (λ o. IsSome o) (sym h) refl))
-
-pub agrees_same : (a b : map.FinMap nat_cmp Told) → a ≡ b → AgreesAtNames a b
-agrees_same a b e q some = ap (λ m. map.get m q) e
 
 pub same_threads : (a b : View) (r : Bool) → IsTrue r ↔ (a.threads ≡ b.threads) → Decides r (a ≡ b)
 same_threads a b r h = (λ t. let e = h.0 t in λ i. record { threads = e i }, λ e. h.1 (ap (λ v. v.threads) e))
@@ -164,5 +120,5 @@ module _ (run : Run) (view : View) (thread : ℕ) (told : Told) (of_run : IsOfRu
 pub has_prefix : (view : View) (thread n : ℕ) (told : Told) → thread_of view thread ≡ Some told → 1 ≤ n → n ≤ told.upto → pairs_of view (thread ∷ n ∷ []) ≡ true
 has_prefix view thread n told there h e = ap (λ o. known_in numbers_of o (n ∷ [])) there ∙ ap (λ b. b || is_early told.early n) (yes told.upto n h e)
   where
-    yes : (u n : ℕ) → 1 ≤ n → n ≤ u → in_prefix u n ≡ true
+    yes : (u n : ℕ) → 1 ≤ n → n ≤ u → one_to u n ≡ true
     yes u n h e = grind (arith, nat_tests)

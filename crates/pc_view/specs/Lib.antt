@@ -1,3 +1,3 @@
 pub mod Views
-pub mod ViewLaws
 pub mod Audit
+pub mod Inner

@@ -1,13 +1,14 @@
 -- Views of many threads, and the runs that they are of.
-use Rattle.std.specs.Prelude.{ℕ, ◌≡◌, List, [], ◌∷◌, Option, Some, None, IsSome}
+use Rattle.std.specs.Prelude.{ℕ, Bool, List, [], ◌∷◌, Option, Some, None}
 use Rattle.std.specs.FinMap as map
-use Rattle.std.specs.Ordering.{nat_cmp}
 use Rattle.pc_messages.specs.declared.kind.Kind.{Kind}
 use Rattle.pc_messages.specs.declared.reported.Reported.{Reported}
 use Rattle.pc_messages.specs.Run.{Run, kind_at}
 use Rattle.pc_join.specs.Sets.{Members, Source, members_at, source_at}
-use Rattle.pc_join.specs.ByName.{members_by_name, IsOfByName}
-use Rattle.pc_thread_view.specs.Told.{Told, IsOfThread, IsPrefix, numbers_of, only, prefix_to, written}
+use Rattle.pc_join.specs.ByName.{members_by_name, IsOfByName, is_same_by_name}
+use Rattle.pc_thread_view.specs.Told.{Told, IsOfThread, IsPrefix, numbers_of, only, written}
+use Rattle.pc_join.specs.Ranges.{numbers_to}
+use Rattle.pc_thread_view.specs.Same.{is_same_told}
 use Rattle.pc_view.specs.declared.view.View.{View}
 
 -- the messages that are known, as pairs of a thread's name and a number
@@ -24,7 +25,7 @@ pair thread number = members_at thread (only number)
 
 -- the pairs of a thread up to a number, as a set
 abbrev pub prefix_pairs : ℕ → ℕ → Members
-prefix_pairs thread upto = members_at thread (prefix_to upto)
+prefix_pairs thread upto = members_at thread (numbers_to upto)
 
 -- a kind as numbers, where there is one
 abbrev pub written_at : Option Kind → List ℕ
@@ -50,6 +51,6 @@ IsOfRun run view = IsOfSource view (source_of run)
 abbrev pub IsPrefixOfRun : Run → ℕ → ℕ → Option Reported → Type 0
 IsPrefixOfRun run thread upto state = IsPrefix (source_at (source_of run) thread) upto state
 
--- under each name of the first map, the other has the same
-abbrev pub AgreesAtNames : map.FinMap nat_cmp Told → map.FinMap nat_cmp Told → Type 0
-AgreesAtNames first other = (name : ℕ) → IsSome (map.get first name) → map.get first name ≡ map.get other name
+-- the same is known under the same names
+abbrev pub is_same_view : View → View → Bool
+is_same_view a b = is_same_by_name is_same_told a.threads b.threads

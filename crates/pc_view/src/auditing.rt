@@ -1,15 +1,15 @@
 //! Views against a kernel: whether a view is complete for a thread, and whether it is of the kernel's run.
 
 ghost use Rattle.std.specs.Prelude.{ℕ, ◌≡◌, ◌≤◌, ◌<◌, ◌^◌, ◌↔◌, Some, None, IsTrue, IsOk, IfSome, IfErr, All, length, take};
+ghost use Rattle.pc_messages.specs.declared.message.TheConstants.{GREATEST_NUMBER};
 ghost use Rattle.pc_messages.specs.Run.{Run, IsBegun, kind_at};
 ghost use Rattle.pc_messages.specs.State.{state_of, ran_of};
 ghost use Rattle.pc_join.specs.Sets.{IsVoid, source_at};
 ghost use Rattle.pc_kernel.specs.Reads.{seen, kinds, reported_of};
 ghost use Rattle.pc_kernel.specs.Sound.{IsSound};
-ghost use Rattle.pc_thread_view.specs.Told.{Told, IsOfThread, numbers_of};
-ghost use Rattle.pc_thread_view.specs.Told.{IsSound as HeldIsSound};
+ghost use Rattle.pc_thread_view.specs.Told.{Told, IsView};
 ghost use Rattle.pc_view.specs.Views.{IsOfRun, source_of, thread_of};
-ghost use Rattle.pc_view.specs.Audit.{Departs, Has, IsComplete, IsFirstOther, IsOfHistory};
+ghost use Rattle.pc_view.specs.Audit.{Departs, Has, IsComplete, IsFirstOther, IsOfHistory, IsPrefixOf};
 
 use crate::view::View;
 use pc_kernel::Kernel;
@@ -30,7 +30,7 @@ pub struct Stranger {
 /// Whether the view knows all messages of the thread so far; never of a thread that the kernel does not know.
 pub fn complete(view: &View, kernel: &Kernel, thread: Tid) -> bool
     ensures exact { IsTrue result ↔ IsComplete view.now (seen kernel.now) thread }
-    ensures reports { IsOfRun (kinds (seen kernel.now)) view.now → IsTrue result → (told : Told) × (thread_of view.now thread ≡ Some told) × (told.state ≡ reported_of (seen kernel.now) thread) }
+    ensures reports { IsTrue result → (told : Told) × (thread_of view.now thread ≡ Some told) × (IsPrefixOf (kinds (seen kernel.now) thread) told → told.state ≡ reported_of (seen kernel.now) thread) }
 {
     kernel.is_sound();
     match kernel.history(thread) {
@@ -49,52 +49,35 @@ pub fn audit(view: &View, kernel: &Kernel) -> Result<(), Stranger>
     ensures least { IfErr result (λ stranger. (thread : ℕ) (told : Told) → thread < stranger.thread → thread_of view.now thread ≡ Some told → IsOfHistory (kinds (seen kernel.now) thread) told) }
 {
     kernel.is_sound();
-    let mut from = 0;
-    'names: loop {
-        let Some(name) = view.next(Tid(from)) else {
-            return Ok(());
-        };
-        match departure_of(view, kernel, name) {
-            Some(number) => {
-                return Err(Stranger {
-                    thread: name,
-                    number,
-                });
-            }
-            None => {}
+    for (thread, held) in view.iter() {
+        if let Some(number) = departure_of(kernel, thread, held) {
+            return Err(Stranger { thread, number });
         }
-        let Some(next) = name.index().checked_add(1) else {
-            return Ok(());
-        };
-        from = next;
     }
+    Ok(())
 }
 
-/// Where what the view tells of the thread departs from its history.
-fn departure_of(view: &View, kernel: &Kernel, thread: Tid) -> Option<u32>
+/// Where what is held of the thread departs from its history.
+fn departure_of(kernel: &Kernel, thread: Tid, held: &ThreadView) -> Option<u32>
     requires { IsSound kernel.now }
-    ensures some { IfSome result (λ number. (told : Told) × (thread_of view.now thread ≡ Some told) × Departs (kinds (seen kernel.now) thread) told number) }
-    ensures none { result ≡ None → (told : Told) → thread_of view.now thread ≡ Some told → IsOfHistory (kinds (seen kernel.now) thread) told }
-    ensures of_thread { result ≡ None → (told : Told) → thread_of view.now thread ≡ Some told → IsOfThread told (source_at (source_of (kinds (seen kernel.now))) thread) }
-    ensures not_void { (told : Told) → thread_of view.now thread ≡ Some told → ¬ IsVoid (numbers_of told) }
+    ensures some { IfSome result (λ number. Departs (kinds (seen kernel.now) thread) held.now number) }
+    ensures none { result ≡ None → IsOfHistory (kinds (seen kernel.now) thread) held.now }
+    ensures told { IsView held.now }
 {
-    match view.thread(thread) {
-        None => None,
-        Some(held) => match kernel.history(thread) {
-            Some(history) => departure(history, held),
-            None => departure(&[], held),
-        },
+    match kernel.history(thread) {
+        Some(history) => departure(history, held),
+        None => departure(&[], held),
     }
 }
 
 /// Where what is held departs from the history.
 fn departure(history: &[Kind], held: &ThreadView) -> Option<u32>
     requires begun { IsBegun history.now }
-    requires few { length history.now ≤ 16000000 }
+    requires few { length history.now ≤ GREATEST_NUMBER }
     requires ran { ran_of history.now < 2 ^ 64 }
     ensures some { IfSome result (λ number. Departs history.now held.now number) }
     ensures none { result ≡ None → IsOfHistory history.now held.now }
-    ensures told { HeldIsSound held.now }
+    ensures told { IsView held.now }
 {
     let upto = held.upto();
     let count = history.len() as u32;

@@ -296,3 +296,38 @@ fn a_view_past_the_history_is_complete(rt: HostRuntime) -> Result<(), Fail> {
     assert!(rt; complete(&view, &kernel, Tid(0)));
     Ok(())
 }
+
+// The first message of t2 and of t0.
+fn two_threads(alloc: Global, mask: Mask) -> Result<View, OutOfMemory> {
+    let mut view = View::new(alloc);
+    for name in [Tid(2), Tid(0)] {
+        view.insert(Message {
+            thread: name,
+            number: 1,
+            kind: Kind::Created { mask, ready: false },
+        })?;
+    }
+    Ok(view)
+}
+
+#[test]
+fn threads_are_walked_in_order(rt: HostRuntime) -> Result<(), Fail> {
+    let view = two_threads(rt.alloc(), Mask::new(3, 2)?)?;
+    let mut walked = Vec::new(rt.alloc());
+    for (name, held) in view.iter() {
+        walked.push((name, held.upto()))?;
+    }
+    assert_eq!(rt; walked.as_slice(), [(Tid(0), 1), (Tid(2), 1)].as_slice());
+    Ok(())
+}
+
+#[test]
+fn threads_are_looked_up_in_order(rt: HostRuntime) -> Result<(), Fail> {
+    let view = two_threads(rt.alloc(), Mask::new(3, 2)?)?;
+    let mut found = view.lookups();
+    assert_eq!(rt; found.at(Tid(0)).map(|held| held.upto()), Some(1));
+    assert!(rt; found.at(Tid(1)).is_none());
+    assert_eq!(rt; found.at(Tid(2)).map(|held| held.upto()), Some(1));
+    assert!(rt; found.at(Tid(3)).is_none());
+    Ok(())
+}

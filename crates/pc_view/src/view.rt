@@ -1,6 +1,8 @@
 //! The view of all threads.
 
 ghost use Rattle.std.specs.Prelude.{ℕ, ◌+◌, ◌*◌, ◌≡◌, ◌≤◌, ◌<◌, ◌↔◌, Bool, true, false, List, [], ◌∷◌, Some, None, IsTrue, IsOk, IsSome, IfSome, IfOk, OnOk, MatchOption, option_copied, take, length, All};
+ghost use Rattle.pc_messages.specs.declared.message.TheConstants.{GREATEST_NUMBER};
+ghost use Rattle.pc_messages.specs.declared.kind.TheConstants.{MOST_TICKS};
 ghost use Rattle.pc_messages.specs.State.{state_of};
 ghost use Rattle.std.specs.FinMap as map;
 ghost use Rattle.pc_messages.specs.Run.{Run, IsWellFormed, kind_at, Extends};
@@ -8,11 +10,11 @@ ghost use Rattle.pc_join.specs.Sets.{Members, Source, IsUnion, IsBetween, IsWith
 ghost use Rattle.pc_join.specs.ByName.{IsNextName, HasShortNames};
 ghost use Rattle.pc_thread_view.specs.Told.{Told, numbers_of};
 ghost use Rattle.pc_view.specs.declared.view.View.{View};
-ghost use Rattle.pc_view.specs.Views.{AgreesAtNames, pairs_of, thread_of, pair, prefix_pairs, IsOfRun, IsOfSource, IsPrefixOfRun};
+ghost use Rattle.pc_view.specs.Views.{is_same_view, pairs_of, thread_of, pair, prefix_pairs, IsOfRun, IsOfSource, IsPrefixOfRun};
 ghost use Rattle.pc_view.specs.Audit.{Has};
-ghost use Rattle.pc_view.specs.ViewLaws.{unique_view, stays_view, is_same_view, view_partial, view_equivalence};
+ghost use Rattle.pc_view.specs.Inner.ViewLaws.{unique_view, stays_view, view_partial, view_equivalence};
 
-use pc_join::{ByName, Join, OutOfMemory};
+use pc_join::{ByName, Iter, Join, Lookups, OutOfMemory};
 use pc_messages::{Message, Reported, Tid};
 use pc_thread_view::ThreadView;
 use std::alloc::Global;
@@ -41,6 +43,7 @@ impl View {
         ensures union { OnOk result (IsUnion (pairs_of self.old) (pair message.thread message.number) (pairs_of self.new)) }
         ensures between { IsBetween (pairs_of self.old) (pair message.thread message.number) (pairs_of self.new) }
         ensures of_run { (run : Run) → IsOfRun run self.old → kind_at (run message.thread) message.number ≡ Some message.kind → IsOfRun run self.new }
+        ensures others { (other : ℕ) → ¬ (other ≡ message.thread) → thread_of self.new other ≡ thread_of self.old other }
         ensures known { IsTrue (pairs_of self.old (message.thread ∷ message.number ∷ [])) → self.new ≡ self.old }
         ensures known_succeeds { IsTrue (pairs_of self.old (message.thread ∷ message.number ∷ [])) → IsOk result }
     {
@@ -55,11 +58,12 @@ impl View {
     /// has a part of them.
     pub fn fold(&mut self, thread: Tid, upto: u32, reported: Reported) -> Result<(), OutOfMemory>
         requires positive { 1 ≤ upto }
-        requires fits { upto ≤ 16000000 }
-        requires ran { reported.ran ≤ upto * 4294967295 }
+        requires fits { upto ≤ GREATEST_NUMBER }
+        requires ran { reported.ran ≤ upto * MOST_TICKS }
         ensures union { OnOk result (IsUnion (pairs_of self.old) (prefix_pairs thread upto) (pairs_of self.new)) }
         ensures between { IsBetween (pairs_of self.old) (prefix_pairs thread upto) (pairs_of self.new) }
         ensures of_run { (run : Run) → IsOfRun run self.old → IsPrefixOfRun run thread upto (Some reported) → IsOfRun run self.new }
+        ensures others { (other : ℕ) → ¬ (other ≡ thread) → thread_of self.new other ≡ thread_of self.old other }
     {
         let prefix = ThreadView::folded(self.threads.allocator(), upto, reported);
         self.threads.put(thread, prefix)
@@ -99,6 +103,21 @@ impl View {
         ensures short { HasShortNames self.now.threads }
     {
         self.threads.next(from)
+    }
+
+    /// The threads of which something is known, by ascending names, each with what is known of it.
+    pub fn iter(&self) -> Iter<'_, ThreadView>
+        ensures entries { result ≡ map.entries self.now.threads }
+        ensures short { HasShortNames self.now.threads }
+    {
+        self.threads.iter()
+    }
+
+    /// The same walk, for a caller that asks for threads in ascending order.
+    pub fn lookups(&self) -> Lookups<'_, ThreadView>
+        ensures { result ≡ map.entries self.now.threads }
+    {
+        self.threads.lookups()
     }
 }
 
@@ -143,44 +162,30 @@ impl Eq for View {
     ghost laws = { view_equivalence };
 }
 
-/// Whether the same is known under the name.
-fn is_same_at(first: &ByName<ThreadView>, other: &ByName<ThreadView>, name: Tid) -> bool
-    ensures { IsTrue result ↔ (map.get first.now name ≡ map.get other.now name) }
-{
-    match (first.get(name), other.get(name)) {
-        (None, None) => true,
-        (Some(mine), Some(theirs)) => *mine == *theirs,
-        _ => false,
-    }
-}
-
-/// Whether the same is known under each name of the first.
-fn agrees(first: &ByName<ThreadView>, other: &ByName<ThreadView>) -> bool
-    ensures { IsTrue result ↔ AgreesAtNames first.now other.now }
-{
-    let mut from = 0;
-    'names: loop {
-        let Some(name) = first.next(Tid(from)) else {
-            return true;
-        };
-        if !is_same_at(first, other, name) {
-            return false;
-        }
-        let Some(next) = name.index().checked_add(1) else {
-            return true;
-        };
-        from = next;
-    }
-}
-
-/// Whether the same is known under every name.
+/// Whether the same is known under every name, by one walk over both.
 fn is_same(first: &ByName<ThreadView>, other: &ByName<ThreadView>) -> bool
     ensures { IsTrue result ↔ (first.now ≡ other.now) }
 {
-    if !agrees(first, other) {
-        return false;
+    let mut others = other.iter();
+    for (name, mine) in first.iter() {
+        let Some((other_name, theirs)) = others.next() else {
+            return false;
+        };
+        if name.index() != other_name.index() {
+            return false;
+        }
+        if !is_same_thread(mine, theirs) {
+            return false;
+        }
     }
-    agrees(other, first)
+    others.next().is_none()
+}
+
+/// Whether the same is known of a thread.
+fn is_same_thread(mine: &ThreadView, theirs: &ThreadView) -> bool
+    ensures { IsTrue result ↔ (mine.now ≡ theirs.now) }
+{
+    *mine == *theirs
 }
 
 /// Two views are equal exactly where the same is known.

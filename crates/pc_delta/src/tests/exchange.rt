@@ -3,8 +3,8 @@
 ghost use Rattle.std.specs.Prelude.{◌≡◌};
 
 use super::{
-    Delta, Digest, Global, Kind, OutOfMemory, Part, View, created, delta, delta_since, folded, one,
-    ready, take_all, take_in,
+    Delta, Digest, Global, Kind, OutOfMemory, Part, View, created, delta, delta_beyond,
+    delta_since, folded, one, ready, take_all, take_in,
 };
 use crate::fault::DeltaFault;
 use pc_join::Join;
@@ -84,6 +84,23 @@ fn an_answer_tells_what_is_lacking(rt: HostRuntime) -> Result<(), Fail> {
     let answer = delta_since(rt.alloc(), &view, &digest)?;
     assert_eq!(rt; answer.parts().len(), 2);
     assert!(rt; answer.parts().first() == Some(&one(0, 9, Kind::Wakeup)));
+    Ok(())
+}
+
+#[test]
+fn a_view_is_answered_as_its_digest_is(rt: HostRuntime) -> Result<(), Fail> {
+    let asker = view_of_three(rt.alloc())?;
+    let mut view = view_of_three(rt.alloc())?;
+    let none = delta_beyond(rt.alloc(), &view, &asker)?;
+    assert!(rt; none.parts().is_empty());
+    let more = [one(0, 9, Kind::Wakeup), one(1, 1, created()?)];
+    take_in(&mut view, &delta(rt.alloc(), &more)?)?;
+    let answer = delta_beyond(rt.alloc(), &view, &asker)?;
+    assert_eq!(rt; answer.parts().len(), 2);
+    assert!(rt; answer.parts().first() == Some(&one(0, 9, Kind::Wakeup)));
+    let digest = Digest::of(rt.alloc(), &asker)?;
+    let same = delta_since(rt.alloc(), &view, &digest)?;
+    assert!(rt; answer.parts() == same.parts());
     Ok(())
 }
 

@@ -1,6 +1,6 @@
 use Rattle.std.proofs.Common.{sym, ap, ◌∙◌}
 use Rattle.pc_view.specs.Views.{source_of}
-use Rattle.pc_view.specs.ViewLaws.{unique_view}
+use Rattle.pc_view.specs.Inner.ViewLaws.{unique_view}
 use Rattle.pc_delta.specs.Digests.{set_of_digest}
 use Rattle.pc_delta.proofs.laws.digests_tell_views_apart.Goals as goal
 

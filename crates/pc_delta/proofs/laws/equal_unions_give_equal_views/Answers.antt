@@ -1,6 +1,6 @@
 use Rattle.std.proofs.Common.{sym, ◌∙◌}
 use Rattle.pc_view.specs.Views.{source_of}
-use Rattle.pc_view.specs.ViewLaws.{unique_view}
+use Rattle.pc_view.specs.Inner.ViewLaws.{unique_view}
 use Rattle.pc_delta.proofs.laws.equal_unions_give_equal_views.Goals as goal
 
 pub returns : goal.returns

@@ -1,4 +1,4 @@
-use Rattle.pc_delta.specs.DigestLaws.{digest_Decides}
+use Rattle.pc_delta.specs.Inner.DigestLaws.{digest_Decides}
 use Rattle.pc_delta.proofs.laws.equality_is_exact.Goals as goal
 
 pub returns : goal.returns

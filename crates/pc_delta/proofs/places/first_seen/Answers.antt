@@ -1,7 +1,7 @@
 use Rattle.std.proofs.Common.{refl, sym, ap, ◌∙◌, inr}
 use Rattle.std.specs.Option.{option_copied}
 use Rattle.std.specs.BTreeMap.{get}
-use Rattle.pc_delta.specs.Places.{place_cmp}
+use Rattle.pc_delta.specs.Inner.Places.{place_cmp}
 use Rattle.pc_delta.proofs.Conflicts.{put_there, put_elsewhere}
 use Rattle.pc_delta.proofs.places.first_seen.Goals as goal
 

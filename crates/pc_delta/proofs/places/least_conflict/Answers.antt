@@ -2,7 +2,7 @@ use Rattle.std.proofs.Common.{subst, sym, ap, ◌∙◌, take, ◌+◌}
 use Rattle.std.proofs.lemmas.Bool.{false≢true}
 use Rattle.std.specs.BTreeMap.{get}
 use Rattle.std.specs.Map.{lookup}
-use Rattle.pc_delta.specs.Places.{place_cmp, IsLeast}
+use Rattle.pc_delta.specs.Inner.Places.{place_cmp, IsLeast}
 use Rattle.pc_delta.proofs.Lists.{all_taken}
 use Rattle.pc_delta.proofs.Conflicts.{seen_none, least_none, next_seen, next_same, next_new}
 use Rattle.pc_delta.proofs.places.least_conflict.Goals as goal

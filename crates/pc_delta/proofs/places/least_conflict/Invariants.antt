@@ -1,6 +1,6 @@
 use Rattle.std.proofs.Common.{take}
 use Rattle.std.specs.BTreeMap.{get}
-use Rattle.pc_delta.specs.Places.{place_cmp, IsLeast}
+use Rattle.pc_delta.specs.Inner.Places.{place_cmp, IsLeast}
 use Rattle.pc_delta.proofs.Conflicts.{IsSeen}
 use Rattle.pc_delta.proofs.places.least_conflict.Given as goal
 

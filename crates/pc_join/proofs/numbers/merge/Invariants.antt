@@ -1,5 +1,5 @@
 use Rattle.std.proofs.Common.{◌+◌, length}
-use Rattle.pc_join.specs.Ranges.{IsMerging}
+use Rattle.pc_join.specs.Inner.Ranges.{IsMerging}
 use Rattle.pc_join.proofs.numbers.merge.Given as goal
 
 abbrev pub invariant-turns : goal.invariant-turns

@@ -1,5 +1,6 @@
 use Rattle.std.proofs.Common.{subst, sym, List, ℕ, IsTrue, ◌↔◌, nat_le}
-use Rattle.pc_join.specs.Ranges.{AreApart, StartBy}
+use Rattle.pc_join.specs.Ranges.{AreApart}
+use Rattle.pc_join.specs.Inner.Ranges.{StartBy}
 use Rattle.pc_join.proofs.Apart.{last_start}
 use Rattle.pc_join.proofs.numbers.start_at_most.Goals as goal
 

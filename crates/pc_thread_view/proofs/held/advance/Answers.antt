@@ -1,4 +1,4 @@
-use Rattle.pc_thread_view.specs.Held.{told}
+use Rattle.pc_thread_view.specs.Inner.Held.{told}
 use Rattle.pc_thread_view.proofs.Settling.{advance_loose, advance_union, advance_source}
 use Rattle.pc_thread_view.proofs.held.advance.Goals as goal
 

@@ -1,6 +1,7 @@
 use Rattle.std.proofs.Common.{ℕ, List, subst, sym, ap, ◌∙◌, arith, ◌≢◌, ◌+◌}
 use Rattle.pc_messages.specs.declared.kind.Kind.{Kind}
-use Rattle.pc_thread_view.specs.Told.{Gains, RiseAbove, NoneAbove, is_early}
+use Rattle.pc_thread_view.specs.Inner.Taking.{Gains, NoneAbove}
+use Rattle.pc_thread_view.specs.Told.{RiseAbove, is_early}
 use Rattle.pc_thread_view.proofs.Gaining.{gains_next, gains_push, none_push, rise_from}
 use Rattle.pc_thread_view.proofs.held.append.Goals as goal
 

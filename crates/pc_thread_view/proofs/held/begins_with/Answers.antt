@@ -1,5 +1,5 @@
 use Rattle.std.proofs.Common.{◌==◌, subst, sym, refl, false}
-use Rattle.pc_thread_view.specs.Told.{BeginsWith}
+use Rattle.pc_thread_view.specs.Inner.Taking.{BeginsWith}
 use Rattle.pc_thread_view.proofs.Among.{no_items}
 use Rattle.pc_thread_view.proofs.held.begins_with.Goals as goal
 

@@ -1,7 +1,8 @@
 use Rattle.std.proofs.Common.{ℕ, ◌≤◌, nat_le, IsTrue, List, subst, sym, arith}
 use Rattle.std.proofs.lemmas.Bool.Decides.{nat_tests}
 use Rattle.pc_messages.specs.declared.kind.Kind.{Kind}
-use Rattle.pc_thread_view.specs.Told.{RiseAbove, NoneAbove, NoneAfter}
+use Rattle.pc_thread_view.specs.Told.{RiseAbove}
+use Rattle.pc_thread_view.specs.Inner.Taking.{NoneAbove, NoneAfter}
 use Rattle.pc_thread_view.proofs.Taking.{none_by_last}
 use Rattle.pc_thread_view.proofs.held.comes_after.Goals as goal
 

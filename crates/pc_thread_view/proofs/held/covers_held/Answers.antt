@@ -1,6 +1,6 @@
 use Rattle.std.proofs.Common.{subst, sym, arith, ◌+◌}
 use Rattle.pc_thread_view.specs.Told.{RiseAbove}
-use Rattle.pc_thread_view.specs.Held.{told}
+use Rattle.pc_thread_view.specs.Inner.Held.{told}
 use Rattle.pc_thread_view.proofs.Gaining.{rise_from}
 use Rattle.pc_thread_view.proofs.Among.{exceeds, exceeds_test}
 use Rattle.pc_thread_view.proofs.held.covers_held.Goals as goal

@@ -1,6 +1,7 @@
 use Rattle.std.proofs.Common.{ℕ, List, ◌≡◌, ◌==◌, subst, sym}
 use Rattle.pc_messages.specs.declared.kind.Kind.{Kind}
-use Rattle.pc_thread_view.specs.Told.{RiseAbove, NoneAbove, is_early}
+use Rattle.pc_thread_view.specs.Told.{RiseAbove, is_early}
+use Rattle.pc_thread_view.specs.Inner.Taking.{NoneAbove}
 use Rattle.pc_thread_view.proofs.Gaining.{last_is}
 use Rattle.pc_thread_view.proofs.held.ends_with.Goals as goal
 

@@ -1,6 +1,7 @@
 use Rattle.std.proofs.Common.{subst, sym}
-use Rattle.pc_thread_view.specs.Told.{AreTold, HasEach}
-use Rattle.pc_thread_view.specs.Held.{told}
+use Rattle.pc_thread_view.specs.Inner.Taking.{AreTold}
+use Rattle.pc_thread_view.specs.Told.{HasEach}
+use Rattle.pc_thread_view.specs.Inner.Held.{told}
 use Rattle.pc_thread_view.proofs.Taking.{early_told}
 use Rattle.pc_thread_view.proofs.held.join_held.Goals as goal
 

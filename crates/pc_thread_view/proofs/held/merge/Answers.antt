@@ -1,6 +1,6 @@
 use Rattle.std.proofs.Common.{subst, sym}
 use Rattle.pc_thread_view.specs.Told.{IsOfThread}
-use Rattle.pc_thread_view.specs.Held.{told}
+use Rattle.pc_thread_view.specs.Inner.Held.{told}
 use Rattle.pc_thread_view.proofs.Taking.{took, source_taking}
 use Rattle.pc_thread_view.proofs.held.merge.Goals as goal
 

@@ -1,6 +1,6 @@
 use Rattle.std.proofs.Common.{◌+◌, length}
-use Rattle.pc_thread_view.specs.Told.{IsTaking}
-use Rattle.pc_thread_view.specs.Held.{told}
+use Rattle.pc_thread_view.specs.Inner.Taking.{IsTaking}
+use Rattle.pc_thread_view.specs.Inner.Held.{told}
 use Rattle.pc_thread_view.proofs.held.merge.Given as goal
 
 abbrev pub invariant-turns : goal.invariant-turns

@@ -1,4 +1,4 @@
-use Rattle.pc_thread_view.specs.Held.{told}
+use Rattle.pc_thread_view.specs.Inner.Held.{told}
 use Rattle.pc_thread_view.proofs.Settling.{settling_on, settled}
 use Rattle.pc_thread_view.proofs.held.settle.Goals as goal
 

@@ -1,6 +1,7 @@
 use Rattle.std.proofs.Common.{subst, sym, arith, ◌+◌}
-use Rattle.pc_thread_view.specs.Held.{told}
-use Rattle.pc_thread_view.specs.Told.{RiseAbove, AreTold, HasEach}
+use Rattle.pc_thread_view.specs.Inner.Held.{told}
+use Rattle.pc_thread_view.specs.Told.{RiseAbove, HasEach}
+use Rattle.pc_thread_view.specs.Inner.Taking.{AreTold}
 use Rattle.pc_thread_view.proofs.Gaining.{rise_from}
 use Rattle.pc_thread_view.proofs.Taking.{early_told, fresh_source, one_of_source}
 use Rattle.pc_thread_view.proofs.held.take_early.Goals as goal

@@ -1,7 +1,8 @@
 use Rattle.std.proofs.Common.{subst, sym, arith, ◌+◌, ◌≢◌, List, ℕ}
 use Rattle.pc_messages.specs.declared.kind.Kind.{Kind}
-use Rattle.pc_thread_view.specs.Held.{told}
-use Rattle.pc_thread_view.specs.Told.{RiseAbove, Gains, IsPlace}
+use Rattle.pc_thread_view.specs.Inner.Held.{told}
+use Rattle.pc_thread_view.specs.Told.{RiseAbove}
+use Rattle.pc_thread_view.specs.Inner.Taking.{Gains, IsPlace}
 use Rattle.pc_thread_view.proofs.Gaining.{rise_from}
 use Rattle.pc_thread_view.proofs.Settling.{next_loose, next_gains}
 use Rattle.pc_thread_view.proofs.Places.{gains_insert}

@@ -1,4 +1,4 @@
-use Rattle.pc_thread_view.specs.Same.{told_Decides}
+use Rattle.pc_thread_view.specs.Inner.SameLaws.{told_Decides}
 use Rattle.pc_thread_view.proofs.view.equality_is_exact.Goals as goal
 
 pub returns : goal.returns

@@ -1,35 +1,30 @@
-use Rattle.std.proofs.Common.{◌+◌, ◌≡◌, refl, arith, Some, subst}
+use Rattle.std.proofs.Common.{◌∙◌, refl}
 use Rattle.std.proofs.lemmas.Bool.{false≢true}
 use Rattle.pc_kernel.specs.Reads.{seen, kinds}
-use Rattle.pc_thread_view.specs.Told.{Told}
-use Rattle.pc_view.specs.Views.{thread_of}
-use Rattle.pc_view.proofs.Audits.{AreBelow, IsOfHistories, short_not, all_below, all_short, below_next, below_on, departs_not}
+use Rattle.pc_join.proofs.Entries.{walked_start, walked_found, walked_below, walked_on, walked_all}
+use Rattle.pc_view.proofs.Audits.{IsOfHistories, all_audited, departs_not, of_histories}
 use Rattle.pc_view.proofs.auditing.audit.Goals as goal
 
-pub names-init : goal.names-init
-names-init c = λ thread told less there. absurd (let none : ⊥ = omega arith in none)
-
-pub returns-in_default-clause-exact : goal.returns-in_default-clause-exact
-returns-in_default-clause-exact c = (λ _. all_below (kinds (seen c.args.kernel.now)) c.args.view.now c.names.from c.names.invariant c.in_default.ensures.least, λ _. refl)
+pub loop-thread-init : goal.loop-thread-init
+loop-thread-init c = walked_start (IsOfHistories (kinds (seen c.args.kernel.now))) c.args.view.now.threads c.into_iter-thread-iterator.result (c.into_iter-thread-iterator.ensures.into_iter_gives ∙ c.iter-thread-items.ensures.entries)
 
 pub returns-in-Some-departure_of-clause-exact : goal.returns-in-Some-departure_of-clause-exact
 returns-in-Some-departure_of-clause-exact c =
-    let at = c.in-Some-departure_of.ensures.some in
-    (λ e. absurd (false≢true e), λ of_run. absurd (departs_not (kinds (seen c.args.kernel.now)) c.args.view.now c.in-Some.name at.0 c.in-Some-departure_of.number of_run at.1 at.2))
+    let run = kinds (seen c.args.kernel.now) in
+    let there = walked_found (IsOfHistories run) c.args.view.now.threads c.loop-thread.thread-iterator c.next.new.self c.in-Some.thread c.in-Some.held.now c.in-Some.ensures.steps c.loop-thread.invariant in
+    (λ e. absurd (false≢true e), λ of_run. absurd (departs_not run c.args.view.now c.in-Some.thread c.in-Some.held.now c.in-Some-departure_of.number of_run there c.in-Some-departure_of.ensures.some))
 
 pub returns-in-Some-departure_of-clause-least : goal.returns-in-Some-departure_of-clause-least
-returns-in-Some-departure_of-clause-least c = below_next (kinds (seen c.args.kernel.now)) c.args.view.now c.names.from c.in-Some.name c.names.invariant c.in-Some.ensures.least
+returns-in-Some-departure_of-clause-least c = λ thread told less there.
+    (walked_below (IsOfHistories (kinds (seen c.args.kernel.now))) c.args.view.now.threads c.loop-thread.thread-iterator c.next.new.self c.in-Some.thread c.in-Some.held.now c.in-Some.ensures.steps c.loop-thread.invariant thread told less there).history
 
-pub returns-in_default-checked_add-clause-exact : goal.returns-in_default-checked_add-clause-exact
-returns-in_default-checked_add-clause-exact c =
-    let here : (told : Told) → thread_of c.args.view.now c.in-Some.name ≡ Some told → IsOfHistories (kinds (seen c.args.kernel.now)) c.args.view.now c.in-Some.name told =
-    λ told e. record { history = c.in-None.ensures.none refl told e; of_thread = c.in-None.ensures.of_thread refl told e; not_void = c.in-None.ensures.not_void told e } in
-    let below = below_on (kinds (seen c.args.kernel.now)) c.args.view.now c.names.from c.in-Some.name c.names.invariant c.in-Some.ensures.least here in
-    (λ _. all_short (kinds (seen c.args.kernel.now)) c.args.view.now c.in-Some.name below c.in-Some.ensures.short (short_not c.in-Some.name c.index.result c.index.ensures c.in_default-checked_add.ensures), λ _. refl)
+pub loop-thread-preserved : goal.loop-thread-preserved
+loop-thread-preserved c =
+    let run = kinds (seen c.args.kernel.now) in
+    walked_on (IsOfHistories run) c.args.view.now.threads c.loop-thread.thread-iterator c.next.new.self c.in-Some.thread c.in-Some.held.now c.in-Some.ensures.steps c.loop-thread.invariant
+    (of_histories run c.in-Some.thread c.in-Some.held.now (c.in_default.ensures.none refl) c.in_default.ensures.told)
 
-pub names-preserved : goal.names-preserved
-names-preserved c =
-    let here : (told : Told) → thread_of c.args.view.now c.in-Some.name ≡ Some told → IsOfHistories (kinds (seen c.args.kernel.now)) c.args.view.now c.in-Some.name told =
-    λ told e. record { history = c.in-None.ensures.none refl told e; of_thread = c.in-None.ensures.of_thread refl told e; not_void = c.in-None.ensures.not_void told e } in
-    let at : c.in-Some.name + 1 ≡ c.in-Some-checked_add.next = omega (arith, c.index.ensures, c.in-Some-checked_add.ensures.1) in
-    subst (AreBelow (kinds (seen c.args.kernel.now)) c.args.view.now) at (below_on (kinds (seen c.args.kernel.now)) c.args.view.now c.names.from c.in-Some.name c.names.invariant c.in-Some.ensures.least here)
+pub returns-clause-exact : goal.returns-clause-exact
+returns-clause-exact c =
+    let run = kinds (seen c.args.kernel.now) in
+    (λ _. all_audited run c.args.view.now (walked_all (IsOfHistories run) c.args.view.now.threads c.loop-thread.thread-iterator c.in-None.ensures.steps.0 c.loop-thread.invariant), λ _. refl)

@@ -1,4 +1,4 @@
-use Rattle.pc_view.specs.ViewLaws.{view_Decides}
+use Rattle.pc_view.specs.Inner.ViewLaws.{view_Decides}
 use Rattle.pc_view.proofs.view.equality_is_exact.Goals as goal
 
 pub returns : goal.returns

@@ -1,6 +1,6 @@
-use Rattle.std.proofs.Common.{sym}
-use Rattle.pc_view.proofs.Runs.{agrees_both, agrees_same}
+use Rattle.std.proofs.Common.{◌∙◌}
+use Rattle.pc_join.proofs.Entries.{step_start}
 use Rattle.pc_view.proofs.view.is_same.Goals as goal
 
-pub returns : goal.returns
-returns c = (λ t. agrees_both c.args.first.now c.args.other.now (c.agrees.ensures.0 c.if-not-agrees.false) (c.agrees-2.ensures.0 t), λ e. c.agrees-2.ensures.1 (agrees_same c.args.other.now c.args.first.now (sym e)))
+pub loop-name-init : goal.loop-name-init
+loop-name-init c = step_start c.args.first.now c.args.other.now c.into_iter-name-iterator.result c.iter-others.result (c.into_iter-name-iterator.ensures.into_iter_gives ∙ c.iter-name-items.ensures.entries) c.iter-others.ensures.entries

@@ -1,5 +1,5 @@
 use Rattle.pc_view.specs.Views.{source_of}
-use Rattle.pc_view.specs.ViewLaws.{unique_view}
+use Rattle.pc_view.specs.Inner.ViewLaws.{unique_view}
 use Rattle.pc_view.proofs.view.views_of_the_same_messages_are_equal.Goals as goal
 
 pub returns : goal.returns

@@ -1,5 +1,5 @@
 use Rattle.pc_view.specs.Views.{source_of}
-use Rattle.pc_view.specs.ViewLaws.{stays_view}
+use Rattle.pc_view.specs.Inner.ViewLaws.{stays_view}
 use Rattle.pc_view.proofs.Runs.{goes_on}
 use Rattle.pc_view.proofs.view.views_stay_as_the_run_goes_on.Goals as goal
 

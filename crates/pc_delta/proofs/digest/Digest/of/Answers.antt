@@ -1,27 +1,22 @@
-use Rattle.std.proofs.Common.{◌+◌, ◌≡◌, subst, arith}
-use Rattle.pc_delta.proofs.Digesting.{IsDigesting, digesting_start, digesting_on, digesting_all, short_below}
+use Rattle.std.proofs.Common.{ap, ◌∙◌, ◌++◌, ◌∷◌, []}
+use Rattle.pc_delta.proofs.Digesting.{listing_start, listing_on, listing_not_void, listing_valid, listing_same}
 use Rattle.pc_delta.proofs.digest.Digest.of.Goals as goal
 
-pub names-init : goal.names-init
-names-init c = digesting_start c.args.view.now c.new-digest.result c.new-digest.ensures.nothing c.new-digest.ensures.of_any_source
+pub loop-thread-init : goal.loop-thread-init
+loop-thread-init c = listing_start c.args.view.now c.into_iter-thread-iterator.result c.new-entries.result.items (c.into_iter-thread-iterator.ensures.into_iter_gives ∙ c.iter-thread-items.ensures.entries) c.new-entries.ensures.items
 
-pub returns-in_default-clause-same : goal.returns-in_default-clause-same
-returns-in_default-clause-same c = digesting_all c.args.view.now c.names.digest c.names.from c.names.invariant c.in_default.ensures.least
+pub loop-thread-preserved : goal.loop-thread-preserved
+loop-thread-preserved c = listing_on c.args.view.now c.loop-thread.thread-iterator c.next.new.self c.in-Some.thread c.in-Some.held.now c.loop-thread.entries.items c.push.new.self.items c.in_ok-numbers.numbers c.in-Some.ensures.steps c.loop-thread.invariant
+    c.in_ok-numbers.ensures.same c.in_ok-numbers.ensures.apart c.known_numbers.ensures.told (c.in_ok-push.ensures.items ∙ ap (λ k. c.loop-thread.entries.items ++ (k, c.in_ok-numbers.numbers) ∷ []) c.index.ensures)
 
-pub returns-in_default-clause-of_any_source : goal.returns-in_default-clause-of_any_source
-returns-in_default-clause-of_any_source c = c.names.invariant.valid
+pub of_ascending-requires-clause-not_empty : goal.of_ascending-requires-clause-not_empty
+of_ascending-requires-clause-not_empty c = listing_not_void c.args.view.now c.loop-thread.thread-iterator c.loop-thread.entries.items c.loop-thread.invariant
 
-pub returns-in_default-checked_add-clause-same : goal.returns-in_default-checked_add-clause-same
-returns-in_default-checked_add-clause-same c =
-    digesting_all c.args.view.now c.add_thread.new.self (c.in-Some.name + 1)
-    (digesting_on c.args.view.now c.names.digest c.add_thread.new.self c.names.from c.in-Some.name c.names.invariant c.in-Some.ensures.least.least c.in_ok-add_thread.ensures.union (c.add_thread.ensures.of_any_source c.names.invariant.valid))
-    (short_below c.args.view.now c.in-Some.name c.in-Some.ensures.short (λ lt. absurd (omega arith)))
+pub invariant_of-result : goal.invariant_of-result
+invariant_of-result c = listing_valid c.args.view.now c.loop-thread.thread-iterator c.loop-thread.entries.items c.loop-thread.invariant c.in_ok-numbers-2.numbers c.in_ok-numbers-2.ensures
 
-pub returns-in_default-checked_add-clause-of_any_source : goal.returns-in_default-checked_add-clause-of_any_source
-returns-in_default-checked_add-clause-of_any_source c = c.add_thread.ensures.of_any_source c.names.invariant.valid
+pub returns-clause-same : goal.returns-clause-same
+returns-clause-same c = listing_same c.args.view.now c.loop-thread.thread-iterator c.loop-thread.entries.items c.loop-thread.invariant c.in_ok-numbers-2.numbers c.in_ok-numbers-2.ensures c.in-None.ensures.steps.0
 
-pub names-preserved : goal.names-preserved
-names-preserved c =
-    let next : c.in-Some.name + 1 ≡ c.in-Some-checked_add.next = omega arith in
-    subst (λ n. IsDigesting c.args.view.now c.add_thread.new.self n) next
-    (digesting_on c.args.view.now c.names.digest c.add_thread.new.self c.names.from c.in-Some.name c.names.invariant c.in-Some.ensures.least.least c.in_ok-add_thread.ensures.union (c.add_thread.ensures.of_any_source c.names.invariant.valid))
+pub returns-clause-of_any_source : goal.returns-clause-of_any_source
+returns-clause-of_any_source c = listing_valid c.args.view.now c.loop-thread.thread-iterator c.loop-thread.entries.items c.loop-thread.invariant c.in_ok-numbers-2.numbers c.in_ok-numbers-2.ensures

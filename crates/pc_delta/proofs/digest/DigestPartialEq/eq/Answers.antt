@@ -1,6 +1,6 @@
 use Rattle.std.proofs.lemmas.Bool.Decides.{same_from_decides}
 use Rattle.pc_delta.specs.Digests.{is_same_digest}
-use Rattle.pc_delta.specs.DigestLaws.{digest_Decides}
+use Rattle.pc_delta.specs.Inner.DigestLaws.{digest_Decides}
 use Rattle.pc_delta.proofs.digest.DigestPartialEq.eq.Goals as goal
 
 pub returns : goal.returns

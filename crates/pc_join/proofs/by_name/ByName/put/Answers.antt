@@ -4,8 +4,8 @@ use Rattle.std.proofs.Common.{sym, ◌∙◌}
 use Rattle.std.specs.BTreeMap.{get}
 use Rattle.std.specs.Ordering.{nat_cmp}
 use Rattle.pc_join.specs.Sets.{IsVoid}
-use Rattle.pc_join.specs.ByName.{IsPut, IsWholeAt}
-use Rattle.pc_join.proofs.Puts.{OnOk_then, put_union, put_between, put_kept, put_short, put_of_source}
+use Rattle.pc_join.specs.Inner.Puts.{IsPut, IsWholeAt}
+use Rattle.pc_join.proofs.Puts.{OnOk_then, put_shown, put_union, put_between, put_kept, put_short, put_of_source}
 use Rattle.pc_join.proofs.by_name.ByName.put.Goals as goal
 use Rattle.pc_join.proofs.by_name.ByName.put.Goals.{After-put_value}
 
@@ -32,3 +32,6 @@ returns-clause-between g c = put_between g.V.Join.known g.V.Join.is_of c.self.in
 pub returns-clause-of_source : goal.returns-clause-of_source
 returns-clause-of_source g c = put_of_source g.V.Join.known g.V.Join.is_of c.self.inside.values c.put_value.new.values c.args.self.now c.self.view_is c.args.name c.args.value (put g c)
     (put_kept g.V.Join.known g.V.Join.is_of c.self.inside.values c.put_value.new.values c.args.self.now c.self.view_is c.args.name c.args.value (put g c) c.self.invariant.0 (nonvoid g c))
+
+pub returns-clause-others : goal.returns-clause-others
+returns-clause-others g c = (put_shown g.V.Join.known g.V.Join.is_of c.self.inside.values c.put_value.new.values c.args.self.now c.self.view_is c.args.name c.args.value (put g c)).others

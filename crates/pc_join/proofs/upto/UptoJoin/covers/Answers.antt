@@ -1,7 +1,7 @@
 use Rattle.std.proofs.Common.{ℕ, IsTrue, ◌↔◌, nat_le, subst}
 use Rattle.pc_join.proofs.Counts.{covers_upto}
 use Rattle.pc_join.specs.Sets.{IsWithin}
-use Rattle.pc_join.specs.Upto.{numbers_to}
+use Rattle.pc_join.specs.Ranges.{numbers_to}
 use Rattle.pc_join.proofs.upto.UptoJoin.covers.Goals as goal
 
 pub returns : goal.returns

@@ -1,7 +1,7 @@
 use Rattle.std.proofs.Common.{ℕ, IsTrue, ◌↔◌, nat_eq, subst}
 use Rattle.pc_join.proofs.Counts.{is_empty_upto}
 use Rattle.pc_join.specs.Sets.{IsVoid}
-use Rattle.pc_join.specs.Upto.{numbers_to}
+use Rattle.pc_join.specs.Ranges.{numbers_to}
 use Rattle.pc_join.proofs.upto.UptoJoin.is_empty.Goals as goal
 
 pub returns : goal.returns

@@ -1,8 +1,9 @@
 use Rattle.std.proofs.Common.{None, List, ℕ, subst, sym, OnOk, refl, ◌∙◌, ◌==◌}
 use Rattle.std.proofs.lemmas.Bool.{eq-eqb}
 use Rattle.pc_messages.specs.declared.kind.Kind.{Kind}
-use Rattle.pc_thread_view.specs.Told.{Told, Gains, IsOfThread, tells}
-use Rattle.pc_thread_view.specs.Held.{told}
+use Rattle.pc_thread_view.specs.Told.{Told, IsOfThread, tells}
+use Rattle.pc_thread_view.specs.Inner.Taking.{Gains}
+use Rattle.pc_thread_view.specs.Inner.Held.{told}
 use Rattle.pc_thread_view.proofs.Among.{of_nothing, or_right}
 use Rattle.pc_thread_view.proofs.view.ThreadView.of.Goals as goal
 

@@ -1,4 +1,4 @@
-use Rattle.pc_thread_view.specs.Held.{told}
+use Rattle.pc_thread_view.specs.Inner.Held.{told}
 use Rattle.pc_thread_view.proofs.Among.{covers_numbers}
 use Rattle.pc_thread_view.proofs.view.ThreadViewJoin.covers.Goals as goal
 

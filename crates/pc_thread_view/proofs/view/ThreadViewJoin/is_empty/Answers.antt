@@ -1,7 +1,7 @@
 use Rattle.std.proofs.Common.{refl, subst, sym}
 use Rattle.std.proofs.lemmas.Bool.{false≢true}
 use Rattle.pc_join.specs.Sets.{IsVoid}
-use Rattle.pc_thread_view.specs.Held.{told}
+use Rattle.pc_thread_view.specs.Inner.Held.{told}
 use Rattle.pc_thread_view.specs.Told.{numbers_of}
 use Rattle.pc_thread_view.proofs.Among.{not_void}
 use Rattle.pc_thread_view.proofs.view.ThreadViewJoin.is_empty.Goals as goal

@@ -1,8 +1,9 @@
 use Rattle.std.proofs.Common.{◌≡◌, subst}
 use Rattle.std.proofs.lemmas.Bool.Decides.{same_from_decides}
 use Rattle.pc_thread_view.specs.Told.{Told}
-use Rattle.pc_thread_view.specs.Held.{told}
-use Rattle.pc_thread_view.specs.Same.{is_same_told, told_Decides}
+use Rattle.pc_thread_view.specs.Inner.Held.{told}
+use Rattle.pc_thread_view.specs.Same.{is_same_told}
+use Rattle.pc_thread_view.specs.Inner.SameLaws.{told_Decides}
 use Rattle.pc_thread_view.proofs.view.ThreadViewPartialEq.eq.Goals as goal
 
 pub returns : goal.returns

@@ -1,5 +1,6 @@
 use Rattle.std.proofs.lemmas.Bool.Decides.{same_from_decides}
-use Rattle.pc_view.specs.ViewLaws.{is_same_view, view_Decides}
+use Rattle.pc_view.specs.Views.{is_same_view}
+use Rattle.pc_view.specs.Inner.ViewLaws.{view_Decides}
 use Rattle.pc_view.proofs.Runs.{same_threads}
 use Rattle.pc_view.proofs.view.ViewPartialEq.eq.Goals as goal
 

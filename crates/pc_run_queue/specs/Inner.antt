@@ -1,0 +1,2 @@
+-- Words of the crate's own functions.
+pub mod Rows

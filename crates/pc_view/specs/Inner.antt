@@ -1,0 +1,2 @@
+-- The laws behind the crate's type.
+pub mod ViewLaws
