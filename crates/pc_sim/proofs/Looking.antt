@@ -1,9 +1,10 @@
 -- What is told of an agent that sleeps, of two views, and of one.
-use Rattle.std.proofs.Common.{◌≡◌, ℕ, ◌+◌, ◌≤◌, ◌<◌, ◌&&◌, ◌↔◌, Bool, true, false, IsTrue, IsFalse, List, [], ◌∷◌, Option, Some, None, MatchBool, nat_lt, refl, sym, ◌∙◌, ap, subst, inl, inr, arith}
+use Rattle.std.proofs.Common.{◌≡◌, ℕ, ◌+◌, ◌≤◌, ◌<◌, ◌&&◌, ◌↔◌, Bool, true, false, IsTrue, IsFalse, List, [], ◌∷◌, take, Option, Some, None, MatchBool, nat_lt, refl, sym, ◌∙◌, ap, subst, inl, inr, arith}
 use Rattle.std.specs.Option.{option_map_or}
 use Rattle.std.proofs.lemmas.Bool.{false≢true, cases_lt, lt-ltb}
 use Rattle.std.proofs.lemmas.Bool.Decides.{nat_tests}
 use Rattle.pc_messages.specs.Run.{Run}
+use Rattle.pc_messages.specs.State.{state_of}
 use Rattle.pc_calls.specs.declared.refusal.Refusal.TheVariants as refusal
 use Rattle.pc_join.specs.ByName.{known_in}
 use Rattle.pc_join.specs.Sets.{as_members, IsSameSet}
@@ -54,12 +55,14 @@ asleep_nowhere k c high w h =
     not_below c n le = grind (arith, nat_tests)
 
 -- a view is shown
-pub show_told : (w : PlainWorld) (c : ℕ) (view : View) (rows : List ShownThread) → IsViewAt w c (Some view) → ShowsAll (thread_of view) rows → IsShowing w c (response.View rows)
-show_told w c view rows here all =
+pub show_told : (w : PlainWorld) (c : ℕ) (view : View) (rows : List ShownThread)
+    → ((run : Run) (view : View) (thread : ℕ) (told : Told) → IsOfRun run view → thread_of view thread ≡ Some told → told.state ≡ state_of (take told.upto (run thread)))
+    → IsViewAt w c (Some view) → ShowsAll (thread_of view) rows → IsShowing w c (response.View rows)
+show_told w c view rows reported here all =
     match_true (is_cpu (shown w.kernel) c) _ _ here.0 record {
       rows = rows;
       tells = refl;
-      shown = rows_shown view.threads (kinds w.kernel) (source_of (kinds w.kernel)) (w.seen c) (λ t n. refl) here.1.of_run here.1.seen rows all;
+      shown = rows_shown view.threads (kinds w.kernel) (source_of (kinds w.kernel)) (w.seen c) (λ t told known. reported (kinds w.kernel) view t told here.1.of_run known) here.1.of_run here.1.seen rows all;
     }
 
 pub show_nowhere : (w : PlainWorld) (c : ℕ) → IsViewAt w c None → IsShowing w c (response.Refused refusal.BadCpu)

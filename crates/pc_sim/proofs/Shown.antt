@@ -11,12 +11,13 @@ use Rattle.pc_messages.specs.State.{state_of}
 use Rattle.pc_messages.specs.declared.kind.Kind.{Kind}
 use Rattle.pc_join.specs.Sets.{Source, source_at, has, as_members, IsSameSet, IsVoid}
 use Rattle.pc_join.specs.ByName.{IsOfByName, members_by_name, known_in}
-use Rattle.pc_thread_view.specs.Told.{Told, tells, numbers_of, is_early, in_prefix, IsOfThread}
+use Rattle.pc_join.specs.Ranges.{one_to}
+use Rattle.pc_thread_view.specs.Told.{Told, tells, numbers_of, is_early, IsOfThread}
 use Rattle.pc_script.specs.declared.lists.ShownThread.{ShownThread}
 use Rattle.pc_world.specs.PlainWorld.{Set}
 use Rattle.pc_sim.specs.ShownViews.{RiseFrom, IsPrefix, IsShown, IsShownThread}
 use Rattle.pc_sim.specs.Inner.Showing.{IsRow, ShowsAll}
-use Rattle.pc_sim.proofs.Telling.{Gives, told_state, told_prefix, told_ends, told_early, numbers_rise, numbers_early}
+use Rattle.pc_sim.proofs.Telling.{told_prefix, told_ends, told_early, numbers_rise, numbers_early}
 
 -- what is told of a thread that is known is not nothing
 void_of : (told : Told) → ((n : ℕ) → tells told n ≡ false) → IsVoid (numbers_of told)
@@ -24,7 +25,7 @@ void_of told h [] = refl
 void_of told h (n ∷ []) = h n
 void_of told h (n ∷ k ∷ m) = refl
 
-nothing_at_zero : (upto n : ℕ) → n ≤ upto → upto ≤ 0 → in_prefix upto n ≡ false
+nothing_at_zero : (upto n : ℕ) → n ≤ upto → upto ≤ 0 → one_to upto n ≡ false
 nothing_at_zero upto n low high = grind (arith, nat_tests)
 
 nothing_told : (told : Told) → told.upto ≤ 0 → told.early ≡ [] → (n : ℕ) → tells told n ≡ false
@@ -44,7 +45,7 @@ first_is_early : (d : ℕ × Kind) (ds : List (ℕ × Kind)) → is_early (d ∷
 first_is_early d ds = or_first (d.0 == d.0) (is_early ds d.0) (eq-eqb d.0 d.0 refl)
 
 early_told : (told : Told) (d : ℕ × Kind) (ds : List (ℕ × Kind)) → told.early ≡ d ∷ ds → tells told d.0 ≡ true
-early_told told d ds e = or_yes (in_prefix told.upto d.0) (is_early told.early d.0) (ap (λ early. is_early early d.0) e ∙ first_is_early d ds)
+early_told told d ds e = or_yes (one_to told.upto d.0) (is_early told.early d.0) (ap (λ early. is_early early d.0) e ∙ first_is_early d ds)
 
 some_of_early : (told : Told) (early : List (ℕ × Kind)) → told.early ≡ early → told.upto ≤ 0 → ¬ IsVoid (numbers_of told) → (n : ℕ) × (tells told n ≡ true)
 some_of_early told [] e low h = absurd (h (void_of told (nothing_told told low e)))
@@ -61,7 +62,7 @@ rise_lower n m [] low h = tt
 rise_lower n m (x ∷ xs) low h = let first = h.0 in (omega arith, h.1)
 
 module _ (threads : map.FinMap nat_cmp Told) (run : Run) (s : Source) (set : Set)
-    (gives : (t : ℕ) → Gives (source_at s t) (run t))
+    (states : (t : ℕ) (told : Told) → map.get threads t ≡ Some told → told.state ≡ state_of (take told.upto (run t)))
     (of_run : IsOfByName numbers_of IsOfThread threads s)
     (same : IsSameSet (members_by_name numbers_of threads) (as_members set)) where
   -- the set's numbers of a thread are those that are told
@@ -81,7 +82,7 @@ module _ (threads : map.FinMap nat_cmp Told) (run : Run) (s : Source) (set : Set
           known = λ n low high. told_has t n told known ∙ told_prefix told n low high;
           ends = told_has t (told.upto + 1) told known ∙ told_ends told thread.gap;
         };
-        state = ap (λ (r : ShownThread). r.reported) is ∙ told_state told (source_at s t) (run t) (gives t) thread ∙ ap (λ n. state_of (take n (run t))) (sym upto);
+        state = ap (λ (r : ShownThread). r.reported) is ∙ states t told known ∙ ap (λ n. state_of (take n (run t))) (sym upto);
         ascending = subst (λ n. RiseFrom (n + 1) row.early) (sym upto)
             (subst (RiseFrom (told.upto + 1)) (sym numbers)
             (rise_lower (told.upto + 1) (told.upto + 1 + 1) (map (λ e. e.0) told.early) (omega arith) (numbers_rise (told.upto + 1) told.early thread.gap)));

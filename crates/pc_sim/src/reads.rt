@@ -61,6 +61,7 @@ fn asleep(world: &World, cpu: Cpu) -> Response
 fn show(alloc: Global, world: &World, cpu: Cpu) -> Result<Response, AllocError>
     ensures { IfOk result (λ told. (w : PlainWorld) → ShowsWorld world.now w → IsShowing w cpu told) }
 {
+    reads_are_those_of_the_run();
     match world.view(cpu) {
         None => Ok(Response::Refused(Refusal::BadCpu)),
         Some(view) => Ok(Response::View(shown_threads(alloc, view)?)),
