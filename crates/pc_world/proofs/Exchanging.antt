@@ -14,8 +14,7 @@ use Rattle.pc_thread_view.specs.Told.{Told, numbers_of}
 use Rattle.pc_join.specs.ByName.{known_in}
 use Rattle.pc_delta.specs.declared.part.Part.{Part}
 use Rattle.pc_delta.specs.Parts.{pairs_of_part, pairs_of_parts, set_of, set_of_part}
-use Rattle.pc_delta.specs.Digests.{RangesByName, set_of_digest}
-use Rattle.pc_delta.specs.Exchange.{IsAnswer, IsNews, IsTakenIn}
+use Rattle.pc_delta.specs.Exchange.{IsAnswerTo, IsNews, IsTakenIn}
 use Rattle.pc_view.specs.declared.view.View.{View}
 use Rattle.pc_view.specs.Audit.{IsComplete, upto_of}
 use Rattle.pc_view.specs.Views.{pairs_of, thread_of, IsOfRun}
@@ -102,34 +101,34 @@ module _ (pairs_law : (parts : List Part) → IsSameSet (set_of parts) (as_membe
   part_has part t n =
       ap (λ l. has l t n) (sym (append-nil (pairs_of_part part))) ∙ sym (pairs_law (part ∷ []) (t ∷ n ∷ [])) ∙ or_false (set_of_part part (t ∷ n ∷ []))
 
-  answer_set : (run : Run) (view digest : Set) (agent other : View) (asked : RangesByName) (delta : List Part) → IsOfRun run agent → IsSameSet (pairs_of agent) (as_members view)
-      → IsSameSet (pairs_of other) (as_members digest) → IsSameSet (set_of_digest asked) (pairs_of other) → IsAnswer agent asked delta → IsAnswerSet run view digest (pairs_of_parts delta)
-  answer_set run view digest agent other asked delta of_run mine theirs same answer = record {
+  answer_set : (run : Run) (view digest : Set) (agent other : View) (delta : List Part) → IsOfRun run agent → IsSameSet (pairs_of agent) (as_members view)
+      → IsSameSet (pairs_of other) (as_members digest) → IsAnswerTo agent (pairs_of other) delta → IsAnswerSet run view digest (pairs_of_parts delta)
+  answer_set run view digest agent other delta of_run mine theirs answer = record {
     parts = delta;
     of_run = answer.of_run run of_run;
     pairs = refl;
-    lacking = λ t n v d. sym (pairs_law delta (t ∷ n ∷ [])) ∙ answer.lacking (t ∷ n ∷ []) (mine (t ∷ n ∷ []) ∙ v) (same (t ∷ n ∷ []) ∙ theirs (t ∷ n ∷ []) ∙ d);
+    lacking = λ t n v d. sym (pairs_law delta (t ∷ n ∷ [])) ∙ answer.lacking (t ∷ n ∷ []) (mine (t ∷ n ∷ []) ∙ v) (theirs (t ∷ n ∷ []) ∙ d);
     within = λ t n v. sym (mine (t ∷ n ∷ [])) ∙ answer.within (t ∷ n ∷ []) (pairs_law delta (t ∷ n ∷ []) ∙ v);
-    none_spare = All-weaker (λ part. IsNews (set_of_digest asked) (set_of_part part)) (IsNewTo digest)
+    none_spare = All-weaker (λ part. IsNews (pairs_of other) (set_of_part part)) (IsNewTo digest)
         (λ part news. (
           news.thread,
           news.number,
           part_has part news.thread news.number ∙ news.told,
-          sym (theirs (news.thread ∷ news.number ∷ [])) ∙ sym (same (news.thread ∷ news.number ∷ [])) ∙ news.lacking,
+          sym (theirs (news.thread ∷ news.number ∷ [])) ∙ news.lacking,
         )) delta answer.none_spare;
   }
 
-  pub answer_did : (old new : World) (c asker : ℕ) (agent other : Agent) (digest : RangesByName) (delta : List Part) → slice_get old.agents.items c ≡ Some agent → slice_get old.agents.items asker ≡ Some other
-      → new.kernel ≡ old.kernel → new.agents ≡ old.agents → new.sent.items ≡ old.sent.items ++ delta ∷ [] → IsSameSet (set_of_digest digest) (pairs_of other.view) → IsAnswer agent.view digest delta
+  pub answer_did : (old new : World) (c asker : ℕ) (agent other : Agent) (delta : List Part) → slice_get old.agents.items c ≡ Some agent → slice_get old.agents.items asker ≡ Some other
+      → new.kernel ≡ old.kernel → new.agents ≡ old.agents → new.sent.items ≡ old.sent.items ++ delta ∷ [] → IsAnswerTo agent.view (pairs_of other.view) delta
       → (index : ℕ) → index ≡ length old.sent.items → Does (IsAnswering c asker) old new (replies.Answered index)
-  answer_did old new c asker agent other digest delta there asking kernel agents sent same answer index at_end w h =
+  answer_did old new c asker agent other delta there asking kernel agents sent answer index at_end w h =
       let mine = h.agents c agent there in
       let theirs = h.agents asker other asking in
       let gained : Set = pairs_of_parts delta in (
         sending w gained,
         match_true (are_cpus w c asker) _ _ (both (is_cpu (shown w.kernel) c) (is_cpu (shown w.kernel) asker) (agent_there old w c agent h there) (agent_there old w asker other h asking)) record {
           set = gained;
-          answers = answer_set (kinds w.kernel) (w.seen c) (w.seen asker) agent.view other.view digest delta mine.view.of_run mine.view.seen theirs.view.seen same answer;
+          answers = answer_set (kinds w.kernel) (w.seen c) (w.seen asker) agent.view other.view delta mine.view.of_run mine.view.seen theirs.view.seen answer;
           tells = ap replies.Answered (at_end ∙ sent_length (kinds w.kernel) w.sent old.sent.items h.sent);
           after = refl;
         },

@@ -16,7 +16,7 @@ use pc_calls::{
     Answer, Call, CallFault, Event, LimitField, Limits, LimitsFault, Profile, Refusal, Reply,
 };
 use pc_delta::laws::{parts_stay_as_the_run_goes_on, sets_are_pairs};
-use pc_delta::{Delta, Digest, delta_since, take_in};
+use pc_delta::{Delta, delta_beyond, take_in};
 use pc_join::OutOfMemory;
 use pc_kernel::Kernel;
 use pc_kernel::laws::calls_extend_the_run;
@@ -247,8 +247,8 @@ impl World {
         let Some(other) = self.agent(asker) else {
             return Ok(Reply::Refused(Refusal::BadCpu));
         };
-        let digest = Digest::of(self.alloc, &other.view)?;
-        let delta = delta_since(self.alloc, &agent.view, &digest)?;
+        // What the asker's digest would have, its view has: the digest need not be made.
+        let delta = delta_beyond(self.alloc, &agent.view, &other.view)?;
         self.sent.push(delta)?;
         Ok(Reply::Answered { delta: index })
     }
