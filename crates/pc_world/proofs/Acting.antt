@@ -1,25 +1,21 @@
 -- What a world shows after an agent published.
-use Rattle.std.proofs.Common.{◌≡◌, ℕ, zero, suc, ◌<◌, ◌||◌, Bool, true, List, [], ◌∷◌, ◌++◌, length, All, Option, Some, None, MatchBool, slice_get, get_or, set, Contains, refl, sym, ◌∙◌, ap, subst, inl, inr, arith}
-use Rattle.std.specs.Option.{option_map_or}
+use Rattle.std.proofs.Common.{◌≡◌, ℕ, zero, suc, ◌<◌, ◌||◌, Bool, true, List, [], ◌∷◌, ◌++◌, length, Some, MatchBool, slice_get, get_or, set, refl, sym, ◌∙◌, ap, subst, inl, inr, arith}
 use Rattle.std.proofs.lemmas.Bool.{cases_eq, lt-ltb, ltb-true}
 use Rattle.std.proofs.lemmas.Bool.Decides.{eqb_tells}
-use Rattle.std.proofs.lemmas.Option.{slice_get_within, same_Some}
-use Rattle.std.proofs.lemmas.List.Elements.{Contains-get_or}
+use Rattle.std.proofs.lemmas.Option.{same_Some}
 use Rattle.pc_messages.specs.Run.{Run}
 use Rattle.pc_messages.specs.declared.message.Item.{Item}
-use Rattle.pc_messages.specs.declared.message.Item.TheVariants.{Thread, Tick}
 use Rattle.pc_join.specs.Sets.{as_members, IsSameSet}
 use Rattle.pc_kernel.specs.Answers.{Shows}
 use Rattle.pc_kernel.specs.PlainKernel.{PlainKernel, kinds, content}
 use Rattle.pc_kernel.specs.Reads.{seen, shown, is_cpu}
 use Rattle.pc_kernel.specs.Reads as reads
-use Rattle.pc_kernel.specs.Rows.{KernelRows, CpuRow}
-use Rattle.pc_kernel.specs.Sound.{IsSound, IsCpuRow}
+use Rattle.pc_kernel.specs.Rows.{KernelRows}
 use Rattle.pc_kernel.specs.Steps.{at}
 use Rattle.pc_kernel.proofs.ShownReads.{shown-kinds, shown-content}
 use Rattle.pc_calls.specs.declared.event.Reply.{Reply}
 use Rattle.pc_calls.specs.declared.event.Reply.TheVariants as replies
-use Rattle.pc_view.specs.Views.{pairs_of, thread_of, source_of}
+use Rattle.pc_view.specs.Views.{pairs_of}
 use Rattle.pc_world.specs.declared.agents.Agent.{Agent}
 use Rattle.pc_world.specs.declared.world.World.{World}
 use Rattle.pc_delta.specs.declared.part.Part.{Part}

@@ -1,5 +1,5 @@
 -- What a machine shows after an agent consumed what it has sent.
-use Rattle.std.proofs.Common.{◌≡◌, ℕ, zero, suc, [], ◌∷◌, MatchBool, ◌≤◌, ◌<◌, Bool, false, not, List, length, Some, None, Result, Ok, Err, slice_get, set, nat_lt, refl, sym, ◌∙◌, ap, subst, arith}
+use Rattle.std.proofs.Common.{◌≡◌, ℕ, zero, suc, [], ◌∷◌, MatchBool, ◌≤◌, Bool, false, not, List, length, Some, None, Result, Ok, Err, slice_get, set, nat_lt, refl, sym, ◌∙◌, ap, subst, arith}
 use Rattle.std.proofs.lemmas.Bool.Decides.{nat_tests}
 use Rattle.pc_calls.specs.declared.call.Call.TheVariants.{Consume}
 use Rattle.pc_calls.specs.declared.call.Answer.{Answer}
@@ -11,7 +11,6 @@ use Rattle.pc_kernel.specs.PlainKernel.{PlainKernel, kinds}
 use Rattle.pc_kernel.specs.Reads.{shown, is_cpu, content}
 use Rattle.pc_kernel.specs.Rows.{KernelRows}
 use Rattle.pc_kernel.specs.Steps.{at, reply, reply_of, accepted, after}
-use Rattle.pc_calls.specs.declared.event.Reply.{Reply}
 use Rattle.pc_calls.specs.declared.event.Reply.TheVariants as replies
 use Rattle.pc_world.specs.declared.agents.Agent.{Agent}
 use Rattle.pc_world.specs.declared.world.World.{World}

@@ -1,7 +1,6 @@
 -- What a world shows after agents exchanged deltas.
-use Rattle.std.proofs.Common.{◌≡◌, ℕ, ◌+◌, ◌≤◌, ◌<◌, ◌||◌, ◌&&◌, ◌↔◌, Bool, true, false, IsTrue, List, [], ◌∷◌, ◌++◌, length, Option, Some, None, slice_get, set, nat_lt, refl, sym, ◌∙◌, ap, subst, inl, inr, arith, append-nil}
-use Rattle.std.specs.Option.{option_map_or}
-use Rattle.std.proofs.lemmas.Bool.{false≢true, cases_lt}
+use Rattle.std.proofs.Common.{◌≡◌, ℕ, ◌≤◌, ◌<◌, ◌||◌, ◌&&◌, Bool, true, false, List, [], ◌∷◌, ◌++◌, length, Some, None, slice_get, set, nat_lt, refl, sym, ◌∙◌, ap, subst, arith, append-nil}
+use Rattle.std.proofs.lemmas.Bool.{false≢true}
 use Rattle.std.proofs.lemmas.Bool.Decides.{nat_tests}
 use Rattle.std.proofs.lemmas.List.Elements.{All-weaker}
 use Rattle.std.proofs.lemmas.Option.{slice_get_within}
@@ -9,15 +8,12 @@ use Rattle.pc_messages.specs.Run.{Run}
 use Rattle.pc_join.specs.Sets.{as_members, has, IsSameSet}
 use Rattle.pc_kernel.specs.Answers.{Shows}
 use Rattle.pc_kernel.specs.PlainKernel.{kinds}
-use Rattle.pc_kernel.specs.Reads.{Reads, seen, shown, is_cpu, number}
-use Rattle.pc_thread_view.specs.Told.{Told, numbers_of}
-use Rattle.pc_join.specs.ByName.{known_in}
+use Rattle.pc_kernel.specs.Reads.{shown, is_cpu}
 use Rattle.pc_delta.specs.declared.part.Part.{Part}
 use Rattle.pc_delta.specs.Parts.{pairs_of_part, pairs_of_parts, set_of, set_of_part}
 use Rattle.pc_delta.specs.Exchange.{IsAnswerTo, IsNews, IsTakenIn}
 use Rattle.pc_view.specs.declared.view.View.{View}
-use Rattle.pc_view.specs.Audit.{IsComplete, upto_of}
-use Rattle.pc_view.specs.Views.{pairs_of, thread_of, IsOfRun}
+use Rattle.pc_view.specs.Views.{pairs_of, IsOfRun}
 use Rattle.pc_calls.specs.declared.event.Reply.TheVariants as replies
 use Rattle.pc_world.specs.declared.agents.Agent.{Agent}
 use Rattle.pc_world.specs.declared.world.World.{World}

@@ -1,4 +1,4 @@
-use Rattle.std.proofs.Common.{Some, subst, sym, IfOk, Result, Ok, Err}
+use Rattle.std.proofs.Common.{Some, subst, sym}
 use Rattle.pc_sim.specs.Inner.Sessions.{Steps}
 use Rattle.pc_sim.proofs.Standing.{if_told, stands_after, world_steps}
 use Rattle.pc_sim.proofs.session.SessionMachine.answer.Goals as goal
