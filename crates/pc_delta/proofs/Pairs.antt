@@ -1,10 +1,10 @@
 -- The set of parts is that of the pairs that they tell.
 use Rattle.std.proofs.Common.{ℕ, zero, suc, ◌+◌, ◌≡◌, ◌==◌, ◌||◌, ◌&&◌, nat_le, nat_lt, Bool, true, false, List, [], ◌∷◌, ◌++◌, map, refl, sym, ap, ◌∙◌, arith}
 use Rattle.std.specs.List.{range_with_len}
-use Rattle.std.proofs.lemmas.List.Folds.{list_any-append}
 use Rattle.std.proofs.lemmas.Bool.Decides.{nat_tests}
 use Rattle.pc_join.specs.Sets.{IsSameSet, as_members, has}
 use Rattle.pc_join.specs.Ranges.{one_to}
+use Rattle.pc_join.proofs.Joins.{as_members-append, as_members-none}
 use Rattle.pc_delta.specs.declared.part.Part.{Part}
 use Rattle.pc_delta.specs.declared.part.Part.TheVariants.{One, Folded}
 use Rattle.pc_delta.specs.Parts.{set_of_part, set_of, pairs_of_part, pairs_of_parts}
@@ -41,18 +41,6 @@ part_pairs (Folded thread upto r) (t ∷ []) = and_none (t == thread)
 part_pairs (Folded thread upto r) (t ∷ n ∷ []) = (λ i. eq_turn t thread i && in_range upto n i) ∙ sym (has_range thread 1 upto t n)
 part_pairs (Folded thread upto r) (t ∷ n ∷ k ∷ more) = and_none (t == thread)
 
-members-append : (xs ys : List (ℕ × ℕ)) (m : List ℕ) → as_members (xs ++ ys) m ≡ (as_members xs m || as_members ys m)
-members-append xs ys [] = refl
-members-append xs ys (t ∷ []) = refl
-members-append xs ys (t ∷ n ∷ []) = list_any-append (λ p. (p.0 == t) && (p.1 == n)) xs ys
-members-append xs ys (t ∷ n ∷ k ∷ m) = refl
-
-none : (m : List ℕ) → false ≡ as_members [] m
-none [] = refl
-none (t ∷ []) = refl
-none (t ∷ n ∷ []) = refl
-none (t ∷ n ∷ k ∷ m) = refl
-
 pub parts_pairs : (parts : List Part) → IsSameSet (set_of parts) (as_members (pairs_of_parts parts))
-parts_pairs [] m = none m
-parts_pairs (p ∷ ps) m = (λ i. part_pairs p m i || parts_pairs ps m i) ∙ sym (members-append (pairs_of_part p) (pairs_of_parts ps) m)
+parts_pairs [] m = sym (as_members-none m)
+parts_pairs (p ∷ ps) m = (λ i. part_pairs p m i || parts_pairs ps m i) ∙ sym (as_members-append (pairs_of_part p) (pairs_of_parts ps) m)

@@ -61,7 +61,8 @@ fn add_thread<K: Known>(
     held: &ThreadView,
     known: Option<&K>,
 ) -> Result<(), OutOfMemory>
-    ensures { OnOk result ((more : List _) × (parts.new.items ≡ parts.old.items ++ more) × TellsAll thread held.now (known_in K.known (option_copied known.entry)) more) }
+    ensures { OnOk result ((more : List _) × (parts.new.items ≡ parts.old.items ++ more)
+        × TellsAll thread held.now (known_in K.known (option_copied known.entry)) more) }
 {
     append(parts, folded_part(thread, held, known))?;
     for entry in held.early() {

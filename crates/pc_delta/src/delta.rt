@@ -47,7 +47,8 @@ impl Delta {
         ensures created_misplaced { (result ≡ Err DeltaFault.CreatedMisplaced) ↔ (first_fault parts.items ≡ Some DeltaFault.CreatedMisplaced) }
         ensures ran_too_large { (result ≡ Err DeltaFault.RanTooLarge) ↔ (first_fault parts.items ≡ Some DeltaFault.RanTooLarge) }
         ensures out_of_memory { result ≡ Err DeltaFault.OutOfMemory → first_fault parts.items ≡ None }
-        ensures conflict { (thread number : ℕ) → result ≡ Err (DeltaFault.Conflict thread number) → (first_fault parts.items ≡ None) × IsLeastConflict parts.items thread number }
+        ensures conflict { (thread number : ℕ) → result ≡ Err (DeltaFault.Conflict thread number)
+            → (first_fault parts.items ≡ None) × IsLeastConflict parts.items thread number }
     {
         if let Some(fault) = first_fault_of(parts.as_slice()) {
             return Err(fault);

@@ -18,17 +18,22 @@ ghost use Rattle.pc_delta.specs.Worked.{NoParts, Numbers, Misplaced, Ran, FirstP
 /// Views of one run that took in lists of deltas of that run are equal where what they knew before and the deltas'
 /// sets have the same union: whatever the order, the division into deltas and the repeats.
 pub fn equal_unions_give_equal_views()
-    ensures { (run : Run) (deltas others : List (List Part)) (before after start end : View) → IsOfRun run before → IsOfRun run start → AreOfRun run (all_parts deltas) → AreOfRun run (all_parts others) → IsSameSet (λ m. pairs_of before m || set_of (all_parts deltas) m) (λ m. pairs_of start m || set_of (all_parts others) m) → IsTakenIn (all_parts deltas) before after → IsTakenIn (all_parts others) start end → after ≡ end }
+    ensures { (run : Run) (deltas others : List (List Part)) (before after start end : View) → IsOfRun run before
+        → IsOfRun run start → AreOfRun run (all_parts deltas) → AreOfRun run (all_parts others)
+        → IsSameSet (λ m. pairs_of before m || set_of (all_parts deltas) m) (λ m. pairs_of start m || set_of (all_parts others) m)
+        → IsTakenIn (all_parts deltas) before after → IsTakenIn (all_parts others) start end → after ≡ end }
 {}
 
 /// Where memory ran out, taking the same parts in again completes it.
 pub fn taking_in_again_completes()
-    ensures { (parts : List Part) (old some all : View) → IsPartlyTakenIn parts old some → IsTakenIn parts some all → IsTakenIn parts old all }
+    ensures { (parts : List Part) (old some all : View) → IsPartlyTakenIn parts old some → IsTakenIn parts some all
+        → IsTakenIn parts old all }
 {}
 
 /// Equal digests of views of one run mean equal views.
 pub fn digests_tell_views_apart()
-    ensures { (run : Run) (a b : View) (digest other : RangesByName) → IsOfRun run a → IsOfRun run b → IsSameSet (set_of_digest digest) (pairs_of a) → IsSameSet (set_of_digest other) (pairs_of b) → digest ≡ other → a ≡ b }
+    ensures { (run : Run) (a b : View) (digest other : RangesByName) → IsOfRun run a → IsOfRun run b
+        → IsSameSet (set_of_digest digest) (pairs_of a) → IsSameSet (set_of_digest other) (pairs_of b) → digest ≡ other → a ≡ b }
 {}
 
 /// Two digests are equal exactly where they are of the same sets of numbers.
@@ -50,7 +55,8 @@ pub fn parts_stay_as_the_run_goes_on()
 /// 16,000,000 and no more ticks than its messages can carry.
 pub fn parts_without_fault_are_well_formed()
     ensures messages { (message : Message) → fault_of (One message) ≡ None ↔ IsWellFormed message.number message.kind }
-    ensures prefixes { (thread upto : ℕ) (reported : Reported) → fault_of (Folded thread upto reported) ≡ None ↔ IsPossiblePrefix upto reported }
+    ensures prefixes { (thread upto : ℕ) (reported : Reported)
+        → fault_of (Folded thread upto reported) ≡ None ↔ IsPossiblePrefix upto reported }
     ensures all { (parts : List Part) → first_fault parts ≡ None ↔ All (λ part. fault_of part ≡ None) parts }
 {}
 

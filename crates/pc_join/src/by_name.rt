@@ -96,7 +96,8 @@ impl<V: Join> ByName<V> {
     pub fn put(&mut self, name: Tid, value: V) -> Result<(), OutOfMemory>
         ensures union { OnOk result (IsUnion (members_by_name V.known self.old) (members_at name (V.known value)) (members_by_name V.known self.new)) }
         ensures between { IsBetween (members_by_name V.known self.old) (members_at name (V.known value)) (members_by_name V.known self.new) }
-        ensures of_source { (s : Source) → IsOfByName V.known V.is_of self.old s → V.is_of value (source_at s name) → IsOfByName V.known V.is_of self.new s }
+        ensures of_source { (s : Source) → IsOfByName V.known V.is_of self.old s → V.is_of value (source_at s name)
+            → IsOfByName V.known V.is_of self.new s }
         ensures others { (other : ℕ) → ¬ (other ≡ name) → map.get self.new other ≡ map.get self.old other }
         ensures empty { IsVoid (V.known value) → self.new ≡ self.old }
         ensures empty_succeeds { IsVoid (V.known value) → IsOk result }
@@ -202,7 +203,8 @@ fn join_value<V: Join>(
 
 /// The least name in the map, from one on.
 fn next_name<V: Join>(values: &BTreeMap<u32, V>, from: u32) -> Option<u32>
-    ensures { MatchOption result ((name : ℕ) → IsSome (get nat_cmp values.now name) → name < from) (IsLeastFrom (get nat_cmp values.now) from) }
+    ensures { MatchOption result ((name : ℕ) → IsSome (get nat_cmp values.now name)
+        → name < from) (IsLeastFrom (get nat_cmp values.now) from) }
 {
     match values.range(from..).next() {
         None => None,
@@ -215,8 +217,10 @@ fn join_all<V: Join>(
     values: &mut BTreeMap<u32, V>,
     other: &BTreeMap<u32, V>,
 ) -> Result<(), OutOfMemory>
-    ensures part { (name : ℕ) → IsJoinedAt V.known V.is_of (get nat_cmp values.old name) (get nat_cmp other.now name) (get nat_cmp values.new name) }
-    ensures whole { OnOk result ((name : ℕ) → IsWholeAt V.known (get nat_cmp values.old name) (get nat_cmp other.now name) (get nat_cmp values.new name)) }
+    ensures part { (name : ℕ)
+        → IsJoinedAt V.known V.is_of (get nat_cmp values.old name) (get nat_cmp other.now name) (get nat_cmp values.new name) }
+    ensures whole { OnOk result ((name : ℕ)
+        → IsWholeAt V.known (get nat_cmp values.old name) (get nat_cmp other.now name) (get nat_cmp values.new name)) }
 {
     for (name, value) in other.iter() {
         join_value(values, *name, value)?;
@@ -227,7 +231,8 @@ fn join_all<V: Join>(
 /// Whether what is held under the name knows all that the value knows.
 fn covers_at<V: Join>(values: &BTreeMap<u32, V>, name: u32, value: &V) -> bool
     ensures covered { IsTrue result → IsWithin (V.known value.now) (known_in V.known (get nat_cmp values.now name)) }
-    ensures not_covered { ¬ IsVoid (V.known value.now) → IsWithin (V.known value.now) (known_in V.known (get nat_cmp values.now name)) → IsTrue result }
+    ensures not_covered { ¬ IsVoid (V.known value.now)
+        → IsWithin (V.known value.now) (known_in V.known (get nat_cmp values.now name)) → IsTrue result }
 {
     match values.get(&name) {
         Some(held) => held.covers(value),

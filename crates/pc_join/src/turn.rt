@@ -13,7 +13,8 @@ pub struct Turn<'a, X> {
 
 /// Takes the entry with the lower number from the front of one of the lists; none where both are empty.
 pub fn next_turn<'a, X: Copy>(first: &'a [(u32, X)], other: &'a [(u32, X)]) -> Option<Turn<'a, X>>
-    ensures { MatchOption result ((first.now ≡ []) × (other.now ≡ [])) (λ turn. IsTurn first.now other.now turn.entry turn.first.now turn.other.now) }
+    ensures { MatchOption result ((first.now ≡ [])
+        × (other.now ≡ [])) (λ turn. IsTurn first.now other.now turn.entry turn.first.now turn.other.now) }
 {
     let Some((mine, first_left)) = first.split_first() else {
         return match other.split_first() {

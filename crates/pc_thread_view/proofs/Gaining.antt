@@ -4,6 +4,7 @@ use Rattle.std.proofs.lemmas.Bool.{false≢true}
 use Rattle.std.proofs.lemmas.Bool.Decides.{nat_tests}
 use Rattle.std.proofs.lemmas.List.Folds.{list_any-append}
 use Rattle.std.proofs.lemmas.List.{length-append}
+use Rattle.pc_messages.specs.declared.message.TheConstants.{GREATEST_NUMBER}
 use Rattle.pc_messages.specs.declared.kind.Kind.{Kind}
 use Rattle.pc_messages.specs.declared.reported.Reported.{Reported}
 use Rattle.pc_messages.specs.State.{state_of}
@@ -108,7 +109,7 @@ rise_push n (d ∷ ds) e h k none new = (h.0, rise_push d.0 ds e h.1 (below d.0 
     below : (a b : ℕ) → a ≤ b → (a == b) ≡ false → a < b
     below a b h e = grind (arith, nat_tests)
 
-later_push : (early : List (ℕ × Kind)) (e : ℕ × Kind) → AreLater early → e.0 ≤ 16000000 → IsFalse (is_created e.1) → AreLater (early ++ e ∷ [])
+later_push : (early : List (ℕ × Kind)) (e : ℕ × Kind) → AreLater early → e.0 ≤ GREATEST_NUMBER → IsFalse (is_created e.1) → AreLater (early ++ e ∷ [])
 later_push [] e h k c = (k, c, tt)
 later_push (d ∷ ds) e h k c = (h.0, h.1, later_push ds e h.2 k c)
 

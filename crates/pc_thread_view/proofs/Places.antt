@@ -5,6 +5,7 @@ use Rattle.std.specs.List.Sorted.{IsNonDecreasingBy, IsPartitionPoint}
 use Rattle.std.proofs.lemmas.Bool.{false≢true}
 use Rattle.std.proofs.lemmas.Bool.Decides.{nat_tests}
 use Rattle.std.proofs.lemmas.List.Folds.{list_any-append}
+use Rattle.pc_messages.specs.declared.message.TheConstants.{GREATEST_NUMBER}
 use Rattle.pc_messages.specs.declared.kind.Kind.{Kind}
 use Rattle.pc_messages.specs.declared.reported.Reported.{Reported}
 use Rattle.pc_messages.specs.Run.{IsWellFormed, is_created}
@@ -114,7 +115,7 @@ rise_insert : (n : ℕ) (low high : List (ℕ × Kind)) (e : ℕ × Kind) → Ri
 rise_insert n [] high e h lt below up = (lt, up)
 rise_insert n (d ∷ low) high e h lt below up = (h.0, rise_insert d.0 low high e h.1 below.0 below.1 up)
 
-later_insert : (low high : List (ℕ × Kind)) (e : ℕ × Kind) → AreLater (low ++ high) → e.0 ≤ 16000000 → IsFalse (is_created e.1) → AreLater (low ++ e ∷ high)
+later_insert : (low high : List (ℕ × Kind)) (e : ℕ × Kind) → AreLater (low ++ high) → e.0 ≤ GREATEST_NUMBER → IsFalse (is_created e.1) → AreLater (low ++ e ∷ high)
 later_insert [] high e h k c = (k, c, h)
 later_insert (d ∷ low) high e h k c = (h.0, h.1, later_insert low high e h.2 k c)
 

@@ -30,7 +30,8 @@ pub struct Stranger {
 /// Whether the view knows all messages of the thread so far; never of a thread that the kernel does not know.
 pub fn complete(view: &View, kernel: &Kernel, thread: Tid) -> bool
     ensures exact { IsTrue result ↔ IsComplete view.now (seen kernel.now) thread }
-    ensures reports { IsTrue result → (told : Told) × (thread_of view.now thread ≡ Some told) × (IsPrefixOf (kinds (seen kernel.now) thread) told → told.state ≡ reported_of (seen kernel.now) thread) }
+    ensures reports { IsTrue result → (told : Told) × (thread_of view.now thread ≡ Some told)
+        × (IsPrefixOf (kinds (seen kernel.now) thread) told → told.state ≡ reported_of (seen kernel.now) thread) }
 {
     kernel.is_sound();
     match kernel.history(thread) {
@@ -45,8 +46,10 @@ pub fn complete(view: &View, kernel: &Kernel, thread: Tid) -> bool
 /// Whether all that the view tells is of the kernel's run: if not, the least thread of which it is not.
 pub fn audit(view: &View, kernel: &Kernel) -> Result<(), Stranger>
     ensures exact { IsOk result ↔ IsOfRun (kinds (seen kernel.now)) view.now }
-    ensures departs { IfErr result (λ stranger. (told : Told) × (thread_of view.now stranger.thread ≡ Some told) × Departs (kinds (seen kernel.now) stranger.thread) told stranger.number) }
-    ensures least { IfErr result (λ stranger. (thread : ℕ) (told : Told) → thread < stranger.thread → thread_of view.now thread ≡ Some told → IsOfHistory (kinds (seen kernel.now) thread) told) }
+    ensures departs { IfErr result (λ stranger. (told : Told) × (thread_of view.now stranger.thread ≡ Some told)
+        × Departs (kinds (seen kernel.now) stranger.thread) told stranger.number) }
+    ensures least { IfErr result (λ stranger. (thread : ℕ) (told : Told) → thread < stranger.thread
+        → thread_of view.now thread ≡ Some told → IsOfHistory (kinds (seen kernel.now) thread) told) }
 {
     kernel.is_sound();
     for (thread, held) in view.iter() {

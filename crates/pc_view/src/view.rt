@@ -42,7 +42,8 @@ impl View {
         requires { IsWellFormed message.number message.kind }
         ensures union { OnOk result (IsUnion (pairs_of self.old) (pair message.thread message.number) (pairs_of self.new)) }
         ensures between { IsBetween (pairs_of self.old) (pair message.thread message.number) (pairs_of self.new) }
-        ensures of_run { (run : Run) → IsOfRun run self.old → kind_at (run message.thread) message.number ≡ Some message.kind → IsOfRun run self.new }
+        ensures of_run { (run : Run) → IsOfRun run self.old → kind_at (run message.thread) message.number ≡ Some message.kind
+            → IsOfRun run self.new }
         ensures others { (other : ℕ) → ¬ (other ≡ message.thread) → thread_of self.new other ≡ thread_of self.old other }
         ensures known { IsTrue (pairs_of self.old (message.thread ∷ message.number ∷ [])) → self.new ≡ self.old }
         ensures known_succeeds { IsTrue (pairs_of self.old (message.thread ∷ message.number ∷ [])) → IsOk result }
@@ -99,7 +100,8 @@ impl View {
 
     /// The least name of a thread of which something is known, from this one on.
     pub fn next(&self, from: Tid) -> Option<Tid>
-        ensures least { MatchOption result ((name : ℕ) → IsSome (thread_of self.now name) → name < from) (IsNextName self.now.threads from) }
+        ensures least { MatchOption result ((name : ℕ) → IsSome (thread_of self.now name)
+            → name < from) (IsNextName self.now.threads from) }
         ensures short { HasShortNames self.now.threads }
     {
         self.threads.next(from)
@@ -207,10 +209,16 @@ pub fn views_stay_as_the_run_goes_on()
 /// has not the next; where that is as far as the run goes, the state that the run gives. Each early message is one of
 /// the run.
 pub fn reads_are_those_of_the_run()
-    ensures reported { (run : Run) (view : View) (thread : ℕ) (told : Told) → IsOfRun run view → thread_of view thread ≡ Some told → told.state ≡ state_of (take told.upto (run thread)) }
-    ensures within { (run : Run) (view : View) (thread : ℕ) (told : Told) → IsOfRun run view → thread_of view thread ≡ Some told → told.upto ≤ length (run thread) }
-    ensures prefix { (view : View) (thread n : ℕ) (told : Told) → thread_of view thread ≡ Some told → 1 ≤ n → n ≤ told.upto → pairs_of view (thread ∷ n ∷ []) ≡ true }
-    ensures whole { (run : Run) (view : View) (thread : ℕ) (told : Told) → IsOfRun run view → thread_of view thread ≡ Some told → length (run thread) ≤ told.upto → told.state ≡ state_of (run thread) }
-    ensures missing { (run : Run) (view : View) (thread : ℕ) (told : Told) → IsOfRun run view → thread_of view thread ≡ Some told → pairs_of view (thread ∷ (told.upto + 1) ∷ []) ≡ false }
-    ensures early { (run : Run) (view : View) (thread : ℕ) (told : Told) → IsOfRun run view → thread_of view thread ≡ Some told → All (Has (run thread)) told.early }
+    ensures reported { (run : Run) (view : View) (thread : ℕ) (told : Told) → IsOfRun run view → thread_of view thread ≡ Some told
+        → told.state ≡ state_of (take told.upto (run thread)) }
+    ensures within { (run : Run) (view : View) (thread : ℕ) (told : Told) → IsOfRun run view → thread_of view thread ≡ Some told
+        → told.upto ≤ length (run thread) }
+    ensures prefix { (view : View) (thread n : ℕ) (told : Told) → thread_of view thread ≡ Some told → 1 ≤ n → n ≤ told.upto
+        → pairs_of view (thread ∷ n ∷ []) ≡ true }
+    ensures whole { (run : Run) (view : View) (thread : ℕ) (told : Told) → IsOfRun run view → thread_of view thread ≡ Some told
+        → length (run thread) ≤ told.upto → told.state ≡ state_of (run thread) }
+    ensures missing { (run : Run) (view : View) (thread : ℕ) (told : Told) → IsOfRun run view → thread_of view thread ≡ Some told
+        → pairs_of view (thread ∷ (told.upto + 1) ∷ []) ≡ false }
+    ensures early { (run : Run) (view : View) (thread : ℕ) (told : Told) → IsOfRun run view → thread_of view thread ≡ Some told
+        → All (Has (run thread)) told.early }
 {}

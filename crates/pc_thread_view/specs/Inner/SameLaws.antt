@@ -52,8 +52,7 @@ early_Decides = pointwise_decides (pair_Decides number_Decides kind_Decides)
 
 pub told_Decides : (a b : Told) → Decides (is_same_told a b) (a ≡ b)
 told_Decides a b =
-    let test = pair_Decides number_Decides (pair_Decides state_Decides early_Decides) (a.upto, (a.state, a.early)) (b.upto, (b.state, b.early)) in
-    (
+    let test = pair_Decides number_Decides (pair_Decides state_Decides early_Decides) (a.upto, (a.state, a.early)) (b.upto, (b.state, b.early)) in (
       λ e.
           let same : ◌≡◌ {A = ℕ × (Option Reported × List (ℕ × Kind))} (a.upto, (a.state, a.early)) (b.upto, (b.state, b.early)) = test.0 e in
           λ i. record { upto = (same i).0; state = (same i).1.0; early = (same i).1.1 },
