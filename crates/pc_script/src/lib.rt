@@ -24,6 +24,8 @@ mod opening;
 mod outcome;
 mod response;
 mod run;
+mod short;
+mod text;
 #[cfg(test)]
 mod tests;
 

@@ -15,6 +15,7 @@ use crate::grammar::command_of;
 use crate::lines::first_word;
 use crate::machine::Machine;
 use crate::outcome::ScriptFault;
+use crate::short::short_line;
 use std::io::Write;
 
 /// What a line asks for.
@@ -64,7 +65,11 @@ fn answer<M: Machine, W: Write>(
     let Ok(response) = machine.answer(command) else {
         return Err(ScriptFault::OutOfMemory);
     };
-    match writeln!(writer, "{response}") {
+    let written = match short_line(&response) {
+        Some(line) => writer.write_all(line.as_slice()),
+        None => writeln!(writer, "{response}"),
+    };
+    match written {
         Ok(()) => Ok(()),
         Err(_) => Err(ScriptFault::Write),
     }

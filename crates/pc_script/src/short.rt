@@ -1,0 +1,153 @@
+//! The lines of the responses that are asked for most, made in one piece.
+
+ghost use Rattle.std.specs.Prelude.{◌≡◌, ◌++◌, ◌≤◌, ◌+◌, IsTrue, decimal, drop, length, IfSome};
+ghost use Rattle.pc_script.specs.Responses.{number_or_dash, posted_text, reply_text, response_text, status_text, subject_text, text_line};
+
+use crate::response::Response;
+use crate::text::LineEnd;
+use pc_calls::{Posted, Reply, Status};
+use pc_messages::{Cpu, Phase, Tid};
+
+/// Writes whose item was posted, and its number, or `-` where it has neither.
+#[inline(always)]
+fn write_subject(line: &mut LineEnd, thread: Option<Tid>, number: Option<u32>)
+    requires fits { (46 ≤ line.old.start) × (line.old.start ≤ 128) }
+    ensures start { (line.old.start ≤ line.new.start + 43) × (line.new.start ≤ line.old.start) }
+    ensures written { drop line.new.start line.new.bytes ≡ subject_text thread number ++ drop line.old.start line.old.bytes }
+{
+    match (thread, number) {
+        (Some(thread), Some(number)) => {
+            line.number(u64::from(number));
+            line.text(b" n");
+            line.number(u64::from(thread.index()));
+            line.text(b"t");
+        }
+        _ => line.text(b"-"),
+    }
+}
+
+/// Writes a CPU, or `-`.
+#[inline(always)]
+fn write_cpu_or_dash(line: &mut LineEnd, cpu: Option<Cpu>)
+    requires fits { (20 ≤ line.old.start) × (line.old.start ≤ 128) }
+    ensures start { (line.old.start ≤ line.new.start + 20) × (line.new.start ≤ line.old.start) }
+    ensures written { drop line.new.start line.new.bytes ≡ number_or_dash cpu ++ drop line.old.start line.old.bytes }
+{
+    match cpu {
+        Some(cpu) => line.number(u64::from(cpu.index())),
+        None => line.text(b"-"),
+    }
+}
+
+/// Writes what was posted.
+#[inline(always)]
+fn write_posted(line: &mut LineEnd, posted: Posted)
+    requires fits { line.old.start ≡ 127 }
+    ensures start { (3 ≤ line.new.start) × (line.new.start ≤ 127) }
+    ensures written { drop line.new.start line.new.bytes ≡ posted_text posted ++ drop line.old.start line.old.bytes }
+{
+    write_cpu_or_dash(line, posted.woken);
+    line.text(b" wake ");
+    line.number(u64::from(posted.aseq));
+    line.text(b" a");
+    line.number(u64::from(posted.queue.index()));
+    line.text(b" q");
+    write_subject(line, posted.thread, posted.number);
+}
+
+/// Writes a pair of numbers, each behind a text.
+#[inline(always)]
+fn write_pair(line: &mut LineEnd, before: &[u8], first: u64, between: &[u8], second: u64)
+    requires fits { (line.old.start ≡ 127) × (length before.now ≤ 20) × (length between.now ≤ 20) }
+    ensures start { (20 ≤ line.new.start) × (line.new.start ≤ 127) }
+    ensures written { drop line.new.start line.new.bytes
+        ≡ before.now ++ (decimal first ++ (between.now ++ (decimal second ++ drop line.old.start line.old.bytes))) }
+{
+    line.number(second);
+    line.text(between);
+    line.number(first);
+    line.text(before);
+}
+
+/// Writes what the kernel says of a thread.
+#[inline(always)]
+fn write_status(line: &mut LineEnd, thread: Tid, status: Status, phase: Phase)
+    requires fits { line.old.start ≡ 127 }
+    ensures start { line.new.start ≤ 127 }
+    ensures written { drop line.new.start line.new.bytes ≡ status_text thread status phase ++ drop line.old.start line.old.bytes }
+{
+    if let Some(cpu) = status.running_on {
+        line.number(u64::from(cpu.index()));
+        line.text(b" c");
+    }
+    line.text(match phase {
+        Phase::Ready => b"ready",
+        Phase::Blocked => b"blocked",
+        Phase::Dead => b"dead",
+    });
+    line.text(b" ");
+    line.number(u64::from(status.number));
+    line.text(b" n");
+    line.number(u64::from(thread.index()));
+    line.text(b"t");
+}
+
+/// Writes a reply, but a refusal.
+#[inline(always)]
+fn write_reply(line: &mut LineEnd, reply: Reply) -> bool
+    requires fits { line.old.start ≡ 127 }
+    ensures start { line.new.start ≤ 127 }
+    ensures written { IsTrue result → drop line.new.start line.new.bytes ≡ reply_text reply ++ drop line.old.start line.old.bytes }
+{
+    match reply {
+        Reply::Done => line.text(b"ok"),
+        Reply::Posted(posted) => {
+            write_posted(line, posted);
+            line.text(b"ok ");
+        }
+        Reply::Associated { thread, queue } => {
+            write_pair(line, b"ok t", u64::from(thread.index()), b" q", u64::from(queue.index()));
+        }
+        Reply::Committed { thread, cpu } => {
+            write_pair(line, b"ok t", u64::from(thread.index()), b" c", u64::from(cpu.index()));
+        }
+        Reply::Published { delta, items } => write_pair(line, b"ok d", delta, b" items ", u64::from(items)),
+        Reply::Consumed { items } => {
+            line.number(u64::from(items));
+            line.text(b"ok ");
+        }
+        Reply::Answered { delta } => {
+            line.number(delta);
+            line.text(b"ok d");
+        }
+        Reply::Refused(_) => return false,
+    }
+    true
+}
+
+/// The line of a response, where it is one of those that are asked for most.
+#[inline(always)]
+pub(crate) fn short_line(response: &Response) -> Option<LineEnd>
+    ensures { IfSome result (λ line. (line.start ≤ 128) × (drop line.start line.bytes ≡ text_line (response_text response.now))) }
+{
+    let mut line = LineEnd::new();
+    line.text(b"\n");
+    match response {
+        Response::Event(reply) => {
+            if write_reply(&mut line, *reply) {
+                Some(line)
+            } else {
+                None
+            }
+        }
+        Response::Status {
+            thread,
+            status,
+            phase,
+        } => {
+            write_status(&mut line, *thread, *status, *phase);
+            Some(line)
+        }
+        _ => None,
+    }
+}
