@@ -83,7 +83,8 @@ fn append<T: Copy>(items: &mut Vec<T>, item: Option<T>) -> Result<(), OutOfMemor
 
 /// The part that tells an early message, where it is not known.
 fn early_part<K: Known>(thread: Tid, entry: (u32, Kind), known: Option<&K>) -> Option<Part>
-    ensures { MatchOption result (known_in K.known (option_copied known.entry) (entry.0 ∷ []) ≡ true) (IsOneOf thread entry (known_in K.known (option_copied known.entry))) }
+    ensures { MatchOption result (known_in K.known (option_copied known.entry) (entry.0 ∷ []) ≡ true)
+        (IsOneOf thread entry (known_in K.known (option_copied known.entry))) }
 {
     let (number, kind) = entry;
     if knows(known, number) {
@@ -98,7 +99,8 @@ fn early_part<K: Known>(thread: Tid, entry: (u32, Kind), known: Option<&K>) -> O
 
 /// The part that tells a thread's first messages, where one of them is not known.
 fn folded_part<K: Known>(thread: Tid, held: &ThreadView, known: Option<&K>) -> Option<Part>
-    ensures { MatchOption result (KnowsPrefix (known_in K.known (option_copied known.entry)) held.now.upto) (λ part. IsUsefulOf thread held.now (known_in K.known (option_copied known.entry)) part × TellsPrefix thread held.now.upto part) }
+    ensures { MatchOption result (KnowsPrefix (known_in K.known (option_copied known.entry)) held.now.upto)
+        (λ part. IsUsefulOf thread held.now (known_in K.known (option_copied known.entry)) part × TellsPrefix thread held.now.upto part) }
 {
     let upto = held.upto();
     let Some(reported) = held.reported() else {

@@ -44,7 +44,8 @@ impl Delta {
         ensures no_conflict { IfOk result (λ delta. HasNoConflict parts.items) }
         ensures zero_number { (result ≡ Err DeltaFault.ZeroNumber) ↔ (first_fault parts.items ≡ Some DeltaFault.ZeroNumber) }
         ensures number_too_large { (result ≡ Err DeltaFault.NumberTooLarge) ↔ (first_fault parts.items ≡ Some DeltaFault.NumberTooLarge) }
-        ensures created_misplaced { (result ≡ Err DeltaFault.CreatedMisplaced) ↔ (first_fault parts.items ≡ Some DeltaFault.CreatedMisplaced) }
+        ensures created_misplaced { (result ≡ Err DeltaFault.CreatedMisplaced) ↔
+            (first_fault parts.items ≡ Some DeltaFault.CreatedMisplaced) }
         ensures ran_too_large { (result ≡ Err DeltaFault.RanTooLarge) ↔ (first_fault parts.items ≡ Some DeltaFault.RanTooLarge) }
         ensures out_of_memory { result ≡ Err DeltaFault.OutOfMemory → first_fault parts.items ≡ None }
         ensures conflict { (thread number : ℕ) → result ≡ Err (DeltaFault.Conflict thread number)

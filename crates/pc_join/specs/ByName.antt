@@ -26,7 +26,8 @@ abbrev pub HasShortNames : {V : Type 0} → map.FinMap nat_cmp V → Type 0
 HasShortNames values = (name : ℕ) → IsSome (map.get values name) → name < 2 ^ 32
 
 -- no value is empty, and each is of what the source gives under its name
-pub record IsOfByName {V : Type 0} (known : V → Members) (is_of : V → Source → Type 0) (values : map.FinMap nat_cmp V) (s : Source) : Type 0 where
+pub record IsOfByName {V : Type 0} (known : V → Members) (is_of : V → Source → Type 0)
+    (values : map.FinMap nat_cmp V) (s : Source) : Type 0 where
   pub kept : HoldsNoEmpty known values
   pub each : (name : ℕ) (value : V) → map.get values name ≡ Some value → is_of value (source_at s name)
 

@@ -94,8 +94,10 @@ impl<V: Join> ByName<V> {
 
     /// Joins the value to what is held under the name. An empty value changes nothing, and no other name changes.
     pub fn put(&mut self, name: Tid, value: V) -> Result<(), OutOfMemory>
-        ensures union { OnOk result (IsUnion (members_by_name V.known self.old) (members_at name (V.known value)) (members_by_name V.known self.new)) }
-        ensures between { IsBetween (members_by_name V.known self.old) (members_at name (V.known value)) (members_by_name V.known self.new) }
+        ensures union { OnOk result
+            (IsUnion (members_by_name V.known self.old) (members_at name (V.known value)) (members_by_name V.known self.new)) }
+        ensures between { IsBetween (members_by_name V.known self.old) (members_at name (V.known value))
+            (members_by_name V.known self.new) }
         ensures of_source { (s : Source) → IsOfByName V.known V.is_of self.old s → V.is_of value (source_at s name)
             → IsOfByName V.known V.is_of self.new s }
         ensures others { (other : ℕ) → ¬ (other ≡ name) → map.get self.new other ≡ map.get self.old other }

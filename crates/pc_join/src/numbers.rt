@@ -149,7 +149,8 @@ fn merge(joined: &mut Ranges, first: &[(u32, u32)], other: &[(u32, u32)]) -> Res
     requires first_later { StartBefore joined.old.items first.now }
     requires other_later { StartBefore joined.old.items other.now }
     ensures apart { AreApart 0 joined.new.items }
-    ensures union { OnOk result (IsEither (in_ranges joined.old.items) (λ n. in_ranges first.now n || in_ranges other.now n) (in_ranges joined.new.items)) }
+    ensures union { OnOk result
+        (IsEither (in_ranges joined.old.items) (λ n. in_ranges first.now n || in_ranges other.now n) (in_ranges joined.new.items)) }
     ensures amid { IsAmid (in_ranges joined.old.items) (λ n. in_ranges first.now n || in_ranges other.now n) (in_ranges joined.new.items) }
 {
     let mut left = first;

@@ -84,7 +84,8 @@ fn merge(joined: &mut Held, first: &[(u32, Kind)], other: &[(u32, Kind)]) -> Res
     requires first_after { NoneAfter joined.old.early.items first.now }
     requires other_after { NoneAfter joined.old.early.items other.now }
     ensures sound { IsSound (told joined.new) }
-    ensures union { OnOk result (IsEither (tells (told joined.old)) (λ n. is_early first.now n || is_early other.now n) (tells (told joined.new))) }
+    ensures union { OnOk result
+        (IsEither (tells (told joined.old)) (λ n. is_early first.now n || is_early other.now n) (tells (told joined.new))) }
     ensures amid { IsAmid (tells (told joined.old)) (λ n. is_early first.now n || is_early other.now n) (tells (told joined.new)) }
     ensures of_source { (s : Source) → IsOfThread (told joined.old) s → HasEach s first.now → HasEach s other.now
         → IsOfThread (told joined.new) s }

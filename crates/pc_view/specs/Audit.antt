@@ -38,7 +38,8 @@ IsOtherState kinds told number = (told.upto ≤ length kinds) × (¬ (told.state
 -- what is told of a thread is not of its history, and this is the number at which it departs from it: the first of
 -- these three that holds. A thread that a kernel does not know has an empty history.
 abbrev pub Departs : List Kind → Told → ℕ → Type 0
-Departs kinds told number = IsPast kinds told number ⊎ (IsOtherState kinds told number ⊎ (IsPrefixOf kinds told × IsFirstOther kinds told.early number))
+Departs kinds told number =
+    IsPast kinds told number ⊎ (IsOtherState kinds told number ⊎ (IsPrefixOf kinds told × IsFirstOther kinds told.early number))
 
 -- all that is told of a thread is of its history
 pub record IsOfHistory (kinds : List Kind) (told : Told) : Type 0 where
