@@ -25,9 +25,9 @@ mod outcome;
 mod response;
 mod run;
 mod short;
-mod text;
 #[cfg(test)]
 mod tests;
+mod text;
 
 pub use command::{Command, Read};
 pub use input::MOST_BYTES;

@@ -15,7 +15,8 @@ use crate::grammar::command_of;
 use crate::lines::first_word;
 use crate::machine::Machine;
 use crate::outcome::ScriptFault;
-use crate::short::short_line;
+use crate::short::write_line;
+use crate::text::LineEnd;
 use std::io::Write;
 
 /// What a line asks for.
@@ -65,9 +66,11 @@ fn answer<M: Machine, W: Write>(
     let Ok(response) = machine.answer(command) else {
         return Err(ScriptFault::OutOfMemory);
     };
-    let written = match short_line(&response) {
-        Some(line) => writer.write_all(line.as_slice()),
-        None => writeln!(writer, "{response}"),
+    let mut line = LineEnd::new();
+    let written = if write_line(&mut line, &response) {
+        writer.write_all(line.as_slice())
+    } else {
+        writeln!(writer, "{response}")
     };
     match written {
         Ok(()) => Ok(()),

@@ -1,11 +1,11 @@
 //! The lines of the responses that are asked for most, made in one piece.
 
-ghost use Rattle.std.specs.Prelude.{◌≡◌, ◌++◌, ◌≤◌, ◌+◌, IsTrue, decimal, drop, length, IfSome};
-ghost use Rattle.pc_script.specs.Responses.{number_or_dash, posted_text, reply_text, response_text, status_text, subject_text, text_line};
+ghost use Rattle.std.specs.Prelude.{◌≡◌, ◌++◌, ◌≤◌, ◌+◌, IsTrue, [], decimal, drop, length};
+ghost use Rattle.pc_script.specs.Responses.{number_or_dash, posted_text, refusal_text, reply_text, response_text, status_text, subject_text, text_line};
 
 use crate::response::Response;
 use crate::text::LineEnd;
-use pc_calls::{Posted, Reply, Status};
+use pc_calls::{Posted, Refusal, Reply, Status};
 use pc_messages::{Cpu, Phase, Tid};
 
 /// Writes whose item was posted, and its number, or `-` where it has neither.
@@ -92,12 +92,57 @@ fn write_status(line: &mut LineEnd, thread: Tid, status: Status, phase: Phase)
     line.text(b"t");
 }
 
-/// Writes a reply, but a refusal.
+/// Writes a refusal by its name, and its argument where it has one.
+fn write_refusal(line: &mut LineEnd, refusal: Refusal)
+    requires fits { line.old.start ≡ 127 }
+    ensures start { (20 ≤ line.new.start) × (line.new.start ≤ 127) }
+    ensures written { drop line.new.start line.new.bytes ≡ refusal_text refusal ++ drop line.old.start line.old.bytes }
+{
+    let name: &[u8] = match refusal {
+        Refusal::BadCpu => b"BadCpu",
+        Refusal::EmptyMask => b"EmptyMask",
+        Refusal::MaskTooWide => b"MaskTooWide",
+        Refusal::BadLevel => b"BadLevel",
+        Refusal::NamesSpent => b"NamesSpent",
+        Refusal::NumbersSpent => b"NumbersSpent",
+        Refusal::QueueFull => b"QueueFull",
+        Refusal::PostsSpent => b"PostsSpent",
+        Refusal::UnknownThread => b"UnknownThread",
+        Refusal::Dead => b"Dead",
+        Refusal::NotBlocked => b"NotBlocked",
+        Refusal::NotReady => b"NotReady",
+        Refusal::IdleCpu => b"IdleCpu",
+        Refusal::OnForbiddenCpu => b"OnForbiddenCpu",
+        Refusal::TooMany => b"TooMany",
+        Refusal::Stale(now) => {
+            line.number(u64::from(now));
+            b"Stale "
+        }
+        Refusal::Pending => b"Pending",
+        Refusal::Running(cpu) => {
+            line.number(u64::from(cpu.index()));
+            b"Running "
+        }
+        Refusal::NotYours(queue) => {
+            line.number(u64::from(queue.index()));
+            b"NotYours "
+        }
+        Refusal::Forbidden => b"Forbidden",
+        Refusal::Busy => b"Busy",
+        Refusal::NoDelta => b"NoDelta",
+        Refusal::NothingReady => b"NothingReady",
+        Refusal::NothingToSteal => b"NothingToSteal",
+        Refusal::WireFault => b"WireFault",
+    };
+    line.text(name);
+}
+
+/// Writes what an event is replied.
 #[inline(always)]
-fn write_reply(line: &mut LineEnd, reply: Reply) -> bool
+fn write_reply(line: &mut LineEnd, reply: Reply)
     requires fits { line.old.start ≡ 127 }
     ensures start { line.new.start ≤ 127 }
-    ensures written { IsTrue result → drop line.new.start line.new.bytes ≡ reply_text reply ++ drop line.old.start line.old.bytes }
+    ensures written { drop line.new.start line.new.bytes ≡ reply_text reply ++ drop line.old.start line.old.bytes }
 {
     match reply {
         Reply::Done => line.text(b"ok"),
@@ -106,12 +151,30 @@ fn write_reply(line: &mut LineEnd, reply: Reply) -> bool
             line.text(b"ok ");
         }
         Reply::Associated { thread, queue } => {
-            write_pair(line, b"ok t", u64::from(thread.index()), b" q", u64::from(queue.index()));
+            write_pair(
+                line,
+                b"ok t",
+                u64::from(thread.index()),
+                b" q",
+                u64::from(queue.index()),
+            );
         }
         Reply::Committed { thread, cpu } => {
-            write_pair(line, b"ok t", u64::from(thread.index()), b" c", u64::from(cpu.index()));
+            write_pair(
+                line,
+                b"ok t",
+                u64::from(thread.index()),
+                b" c",
+                u64::from(cpu.index()),
+            );
         }
-        Reply::Published { delta, items } => write_pair(line, b"ok d", delta, b" items ", u64::from(items)),
+        Reply::Published { delta, items } => write_pair(
+            line,
+            b"ok d",
+            delta,
+            b" items ",
+            u64::from(items),
+        ),
         Reply::Consumed { items } => {
             line.number(u64::from(items));
             line.text(b"ok ");
@@ -120,34 +183,31 @@ fn write_reply(line: &mut LineEnd, reply: Reply) -> bool
             line.number(delta);
             line.text(b"ok d");
         }
-        Reply::Refused(_) => return false,
+        Reply::Refused(refusal) => {
+            write_refusal(line, refusal);
+            line.text(b"refused ");
+        }
     }
-    true
 }
 
-/// The line of a response, where it is one of those that are asked for most.
+/// Writes the line of a response, where it is one of those that are asked for most. Answers false for the others.
 #[inline(always)]
-pub(crate) fn short_line(response: &Response) -> Option<LineEnd>
-    ensures { IfSome result (λ line. (line.start ≤ 128) × (drop line.start line.bytes ≡ text_line (response_text response.now))) }
+pub(crate) fn write_line(line: &mut LineEnd, response: &Response) -> bool
+    requires empty { (line.old.start ≡ 128) × (drop line.old.start line.old.bytes ≡ []) }
+    ensures start { line.new.start ≤ 128 }
+    ensures written { IsTrue result → drop line.new.start line.new.bytes ≡ text_line (response_text response.now) }
 {
-    let mut line = LineEnd::new();
     line.text(b"\n");
     match response {
-        Response::Event(reply) => {
-            if write_reply(&mut line, *reply) {
-                Some(line)
-            } else {
-                None
-            }
-        }
+        Response::Event(reply) => write_reply(line, *reply),
         Response::Status {
             thread,
             status,
             phase,
-        } => {
-            write_status(&mut line, *thread, *status, *phase);
-            Some(line)
-        }
-        _ => None,
+        } => write_status(line, *thread, *status, *phase),
+        Response::Truth(true) => line.text(b"yes"),
+        Response::Truth(false) => line.text(b"no"),
+        _ => return false,
     }
+    true
 }
