@@ -57,38 +57,38 @@ macro_rules! find {
     }};
 }
 
-/// The verb that this word is.
+/// The verb that this word is. The table begins with the words that scripts have most.
 fn verb_of(word: &[u8]) -> Option<Verb>
     ensures { MatchOption result ((any : Verb) → word.now ≡ name_of any → ⊥) (λ verb. word.now ≡ name_of verb) }
 {
     find!(word,
-        b"enclave" => Verb::Enclave,
-        b"create" => Verb::Create,
-        b"wake" => Verb::Wake,
         b"block" => Verb::Block,
         b"yield" => Verb::Yield,
         b"preempt" => Verb::Preempt,
-        b"die" => Verb::Die,
-        b"affinity" => Verb::Affinity,
-        b"priority" => Verb::Priority,
+        b"wake" => Verb::Wake,
         b"tick" => Verb::Tick,
-        b"associate" => Verb::Associate,
         b"commit" => Verb::Commit,
-        b"sleep" => Verb::Sleep,
-        b"rouse" => Verb::Rouse,
-        b"config" => Verb::Config,
+        b"status" => Verb::Status,
         b"publish" => Verb::Publish,
         b"consume" => Verb::Consume,
         b"deliver" => Verb::Deliver,
-        b"answer" => Verb::Answer,
-        b"pick" => Verb::Pick,
-        b"steal" => Verb::Steal,
-        b"crash" => Verb::Crash,
-        b"status" => Verb::Status,
+        b"associate" => Verb::Associate,
+        b"affinity" => Verb::Affinity,
+        b"priority" => Verb::Priority,
+        b"create" => Verb::Create,
         b"asleep" => Verb::Asleep,
+        b"sleep" => Verb::Sleep,
+        b"rouse" => Verb::Rouse,
+        b"config" => Verb::Config,
+        b"die" => Verb::Die,
+        b"answer" => Verb::Answer,
         b"show" => Verb::Show,
         b"same" => Verb::Same,
-        b"complete" => Verb::Complete
+        b"complete" => Verb::Complete,
+        b"enclave" => Verb::Enclave,
+        b"pick" => Verb::Pick,
+        b"steal" => Verb::Steal,
+        b"crash" => Verb::Crash
     )
 }
 

@@ -1,4 +1,7 @@
 //! The lines of the responses that are asked for most, made in one piece.
+//!
+//! A response's `Display` writes the same texts piece by piece, through a formatter. A script has a line for each of its
+//! commands, so the responses to nearly all of them are put together here, each from its last byte to its first.
 
 ghost use Rattle.std.specs.Prelude.{◌≡◌, ◌++◌, ◌≤◌, ◌+◌, IsTrue, [], decimal, drop, length};
 ghost use Rattle.pc_script.specs.Responses.{number_or_dash, posted_text, refusal_text, reply_text, response_text, status_text, subject_text, text_line};
@@ -17,9 +20,10 @@ fn write_subject(line: &mut LineEnd, thread: Option<Tid>, number: Option<u32>)
 {
     match (thread, number) {
         (Some(thread), Some(number)) => {
-            line.number(u64::from(number));
+            let (thread, number) = (u64::from(thread.index()), u64::from(number));
+            line.number(number);
             line.text(b" n");
-            line.number(u64::from(thread.index()));
+            line.number(thread);
             line.text(b"t");
         }
         _ => line.text(b"-"),
@@ -46,11 +50,12 @@ fn write_posted(line: &mut LineEnd, posted: Posted)
     ensures start { (3 ≤ line.new.start) × (line.new.start ≤ 127) }
     ensures written { drop line.new.start line.new.bytes ≡ posted_text posted ++ drop line.old.start line.old.bytes }
 {
+    let (queue, aseq) = (u64::from(posted.queue.index()), u64::from(posted.aseq));
     write_cpu_or_dash(line, posted.woken);
     line.text(b" wake ");
-    line.number(u64::from(posted.aseq));
+    line.number(aseq);
     line.text(b" a");
-    line.number(u64::from(posted.queue.index()));
+    line.number(queue);
     line.text(b" q");
     write_subject(line, posted.thread, posted.number);
 }

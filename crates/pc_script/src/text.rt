@@ -1,13 +1,13 @@
 //! A short line of text, written from its end towards its start.
 //!
-//! Each response but a view is a line of a few words and numbers. To write such a line into an array, and the array at
-//! once, costs a third of what the writer costs that takes each piece for itself.
+//! A number's digits come from its last to its first, so a line that is written from its end needs no second place for
+//! them, and none of its lengths beforehand.
 
-ghost use Rattle.std.specs.Prelude.{◌≡◌, ℕ, List, [], ◌++◌, ◌+◌, ◌≤◌, ◌<◌, ◌^◌, decimal, drop, length};
+ghost use Rattle.std.specs.Prelude.{◌≡◌, [], ◌++◌, ◌+◌, ◌≤◌, decimal, drop, length};
 
 use itoa::write_digits;
 
-/// The bytes of the longest line: five numbers of 20 digits, and the words between them.
+/// At least the bytes of a line of five numbers, of 20 digits each, and of the words between them.
 const ROOM: usize = 128;
 
 /// The end of a line: the bytes from `start` on.
