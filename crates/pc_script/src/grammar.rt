@@ -57,38 +57,38 @@ macro_rules! find {
     }};
 }
 
-/// The verb that this word is. The table begins with the words that scripts have most.
+/// The verb that this word is.
 fn verb_of(word: &[u8]) -> Option<Verb>
     ensures { MatchOption result ((any : Verb) → word.now ≡ name_of any → ⊥) (λ verb. word.now ≡ name_of verb) }
 {
     find!(word,
+        b"enclave" => Verb::Enclave,
+        b"create" => Verb::Create,
+        b"wake" => Verb::Wake,
         b"block" => Verb::Block,
         b"yield" => Verb::Yield,
         b"preempt" => Verb::Preempt,
-        b"wake" => Verb::Wake,
-        b"tick" => Verb::Tick,
-        b"commit" => Verb::Commit,
-        b"status" => Verb::Status,
-        b"publish" => Verb::Publish,
-        b"consume" => Verb::Consume,
-        b"deliver" => Verb::Deliver,
-        b"associate" => Verb::Associate,
+        b"die" => Verb::Die,
         b"affinity" => Verb::Affinity,
         b"priority" => Verb::Priority,
-        b"create" => Verb::Create,
-        b"asleep" => Verb::Asleep,
+        b"tick" => Verb::Tick,
+        b"associate" => Verb::Associate,
+        b"commit" => Verb::Commit,
         b"sleep" => Verb::Sleep,
         b"rouse" => Verb::Rouse,
         b"config" => Verb::Config,
-        b"die" => Verb::Die,
+        b"publish" => Verb::Publish,
+        b"consume" => Verb::Consume,
+        b"deliver" => Verb::Deliver,
         b"answer" => Verb::Answer,
-        b"show" => Verb::Show,
-        b"same" => Verb::Same,
-        b"complete" => Verb::Complete,
-        b"enclave" => Verb::Enclave,
         b"pick" => Verb::Pick,
         b"steal" => Verb::Steal,
-        b"crash" => Verb::Crash
+        b"crash" => Verb::Crash,
+        b"status" => Verb::Status,
+        b"asleep" => Verb::Asleep,
+        b"show" => Verb::Show,
+        b"same" => Verb::Same,
+        b"complete" => Verb::Complete
     )
 }
 
