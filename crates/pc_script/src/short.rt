@@ -3,18 +3,18 @@
 //! A response's `Display` writes the same texts piece by piece, through a formatter. A script has a line for each of its
 //! commands, so the responses to nearly all of them are put together here, each from its last byte to its first.
 
-ghost use Rattle.std.specs.Prelude.{◌≡◌, ◌++◌, ◌≤◌, ◌+◌, IsTrue, [], decimal, drop, length};
+ghost use Rattle.std.specs.Prelude.{◌≡◌, ◌++◌, ◌≤◌, ◌<◌, ◌+◌, IsTrue, [], decimal, drop, length};
 ghost use Rattle.pc_script.specs.Responses.{number_or_dash, posted_text, refusal_text, reply_text, response_text, status_text, subject_text, text_line};
 
 use crate::response::Response;
-use crate::text::LineEnd;
+use crate::text::{LineEnd, ROOM};
 use pc_calls::{Posted, Refusal, Reply, Status};
 use pc_messages::{Cpu, Phase, Tid};
 
 /// Writes whose item was posted, and its number, or `-` where it has neither.
 #[inline(always)]
 fn write_subject(line: &mut LineEnd, thread: Option<Tid>, number: Option<u32>)
-    requires fits { (46 ≤ line.old.start) × (line.old.start ≤ 128) }
+    requires fits { (46 ≤ line.old.start) × (line.old.start ≤ ROOM) }
     ensures start { (line.old.start ≤ line.new.start + 43) × (line.new.start ≤ line.old.start) }
     ensures written { drop line.new.start line.new.bytes ≡ subject_text thread number ++ drop line.old.start line.old.bytes }
 {
@@ -33,7 +33,7 @@ fn write_subject(line: &mut LineEnd, thread: Option<Tid>, number: Option<u32>)
 /// Writes a CPU, or `-`.
 #[inline(always)]
 fn write_cpu_or_dash(line: &mut LineEnd, cpu: Option<Cpu>)
-    requires fits { (20 ≤ line.old.start) × (line.old.start ≤ 128) }
+    requires fits { (20 ≤ line.old.start) × (line.old.start ≤ ROOM) }
     ensures start { (line.old.start ≤ line.new.start + 20) × (line.new.start ≤ line.old.start) }
     ensures written { drop line.new.start line.new.bytes ≡ number_or_dash cpu ++ drop line.old.start line.old.bytes }
 {
@@ -46,8 +46,8 @@ fn write_cpu_or_dash(line: &mut LineEnd, cpu: Option<Cpu>)
 /// Writes what was posted.
 #[inline(always)]
 fn write_posted(line: &mut LineEnd, posted: Posted)
-    requires fits { line.old.start ≡ 127 }
-    ensures start { (3 ≤ line.new.start) × (line.new.start ≤ 127) }
+    requires fits { line.old.start + 1 ≡ ROOM }
+    ensures start { (3 ≤ line.new.start) × (line.new.start < ROOM) }
     ensures written { drop line.new.start line.new.bytes ≡ posted_text posted ++ drop line.old.start line.old.bytes }
 {
     let (queue, aseq) = (u64::from(posted.queue.index()), u64::from(posted.aseq));
@@ -63,8 +63,8 @@ fn write_posted(line: &mut LineEnd, posted: Posted)
 /// Writes a pair of numbers, each behind a text.
 #[inline(always)]
 fn write_pair(line: &mut LineEnd, before: &[u8], first: u64, between: &[u8], second: u64)
-    requires fits { (line.old.start ≡ 127) × (length before.now ≤ 20) × (length between.now ≤ 20) }
-    ensures start { (20 ≤ line.new.start) × (line.new.start ≤ 127) }
+    requires fits { (line.old.start + 1 ≡ ROOM) × (length before.now ≤ 20) × (length between.now ≤ 20) }
+    ensures start { (20 ≤ line.new.start) × (line.new.start < ROOM) }
     ensures written { drop line.new.start line.new.bytes
         ≡ before.now ++ (decimal first ++ (between.now ++ (decimal second ++ drop line.old.start line.old.bytes))) }
 {
@@ -77,8 +77,8 @@ fn write_pair(line: &mut LineEnd, before: &[u8], first: u64, between: &[u8], sec
 /// Writes what the kernel says of a thread.
 #[inline(always)]
 fn write_status(line: &mut LineEnd, thread: Tid, status: Status, phase: Phase)
-    requires fits { line.old.start ≡ 127 }
-    ensures start { line.new.start ≤ 127 }
+    requires fits { line.old.start + 1 ≡ ROOM }
+    ensures start { line.new.start < ROOM }
     ensures written { drop line.new.start line.new.bytes ≡ status_text thread status phase ++ drop line.old.start line.old.bytes }
 {
     if let Some(cpu) = status.running_on {
@@ -99,8 +99,8 @@ fn write_status(line: &mut LineEnd, thread: Tid, status: Status, phase: Phase)
 
 /// Writes a refusal by its name, and its argument where it has one.
 fn write_refusal(line: &mut LineEnd, refusal: Refusal)
-    requires fits { line.old.start ≡ 127 }
-    ensures start { (20 ≤ line.new.start) × (line.new.start ≤ 127) }
+    requires fits { line.old.start + 1 ≡ ROOM }
+    ensures start { (20 ≤ line.new.start) × (line.new.start < ROOM) }
     ensures written { drop line.new.start line.new.bytes ≡ refusal_text refusal ++ drop line.old.start line.old.bytes }
 {
     let name: &[u8] = match refusal {
@@ -145,8 +145,8 @@ fn write_refusal(line: &mut LineEnd, refusal: Refusal)
 /// Writes what an event is replied.
 #[inline(always)]
 fn write_reply(line: &mut LineEnd, reply: Reply)
-    requires fits { line.old.start ≡ 127 }
-    ensures start { line.new.start ≤ 127 }
+    requires fits { line.old.start + 1 ≡ ROOM }
+    ensures start { line.new.start < ROOM }
     ensures written { drop line.new.start line.new.bytes ≡ reply_text reply ++ drop line.old.start line.old.bytes }
 {
     match reply {
@@ -198,8 +198,8 @@ fn write_reply(line: &mut LineEnd, reply: Reply)
 /// Writes the line of a response, where it is one of those that are asked for most. Answers false for the others.
 #[inline(always)]
 pub(crate) fn write_line(line: &mut LineEnd, response: &Response) -> bool
-    requires empty { (line.old.start ≡ 128) × (drop line.old.start line.old.bytes ≡ []) }
-    ensures start { line.new.start ≤ 128 }
+    requires empty { (line.old.start ≡ ROOM) × (drop line.old.start line.old.bytes ≡ []) }
+    ensures start { line.new.start ≤ ROOM }
     ensures written { IsTrue result → drop line.new.start line.new.bytes ≡ text_line (response_text response.now) }
 {
     line.text(b"\n");

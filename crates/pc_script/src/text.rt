@@ -8,7 +8,7 @@ ghost use Rattle.std.specs.Prelude.{◌≡◌, [], ◌++◌, ◌+◌, ◌≤◌,
 use itoa::write_digits;
 
 /// At least the bytes of a line of five numbers, of 20 digits each, and of the words between them.
-const ROOM: usize = 128;
+pub(crate) const ROOM: usize = 128;
 
 /// The end of a line: the bytes from `start` on.
 #[derive(Drop)]
@@ -21,7 +21,7 @@ impl LineEnd {
     /// The end of a line of which nothing is written.
     #[inline(always)]
     pub(crate) fn new() -> LineEnd
-        ensures start { result.start ≡ 128 }
+        ensures start { result.start ≡ ROOM }
         ensures empty { drop result.start result.bytes ≡ [] }
     {
         LineEnd {
@@ -33,7 +33,7 @@ impl LineEnd {
     /// Writes a text in front of what is written.
     #[inline(always)]
     pub(crate) fn text(&mut self, text: &[u8])
-        requires fits { (length text.now ≤ self.old.start) × (self.old.start ≤ 128) }
+        requires fits { (length text.now ≤ self.old.start) × (self.old.start ≤ ROOM) }
         ensures start { self.new.start + length text.now ≡ self.old.start }
         ensures written { drop self.new.start self.new.bytes ≡ text.now ++ drop self.old.start self.old.bytes }
     {
@@ -45,7 +45,7 @@ impl LineEnd {
     /// Writes a number in decimal in front of what is written.
     #[inline(always)]
     pub(crate) fn number(&mut self, number: u64)
-        requires fits { (20 ≤ self.old.start) × (self.old.start ≤ 128) }
+        requires fits { (20 ≤ self.old.start) × (self.old.start ≤ ROOM) }
         ensures start { (self.old.start ≤ self.new.start + 20) × (self.new.start ≤ self.old.start) }
         ensures written { drop self.new.start self.new.bytes ≡ decimal number ++ drop self.old.start self.old.bytes }
     {
@@ -55,7 +55,7 @@ impl LineEnd {
     /// What is written.
     #[inline(always)]
     pub(crate) fn as_slice(&self) -> &[u8]
-        requires within { self.now.start ≤ 128 }
+        requires within { self.now.start ≤ ROOM }
         ensures { result.now ≡ drop self.now.start self.now.bytes }
     {
         &self.bytes[self.start..]
