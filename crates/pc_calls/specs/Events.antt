@@ -10,7 +10,7 @@ use Rattle.pc_calls.specs.declared.event.Reply.{Reply}
 use Rattle.pc_calls.specs.declared.event.Reply.TheVariants as reply
 use Rattle.pc_calls.specs.declared.refusal.Refusal.{Refusal}
 
--- the call of the kernel that an event is; none of what an agent does with its view
+-- the call of the kernel that an event is; none of an agent's own events
 abbrev pub call_of : Event → Option Call
 call_of (Env c) = Some (call.Env c)
 call_of (Associate thread queue number) = Some (call.Associate thread queue number)

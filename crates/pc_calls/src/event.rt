@@ -62,7 +62,8 @@ pub enum Event {
         cpu: Cpu,
         aseq: u32,
     },
-    /// The agent takes the least thread that may run on its CPU and is on none.
+    /// The agent takes the least thread that its view reports ready and allowed on its CPU, that is not in its run list,
+    /// and that the kernel knows and has on no CPU.
     Steal {
         cpu: Cpu,
     },
@@ -94,7 +95,7 @@ pub enum Reply {
 }
 
 impl Event {
-    /// The call of the kernel that the event is; none of what an agent does with its view.
+    /// The call of the kernel that the event is; none of an agent's own events.
     pub const fn call(&self) -> Option<Call>
         ensures { result ≡ call_of self.now }
     {

@@ -7,7 +7,7 @@ use thiserror::Error;
 pub enum Outcome {
     /// Each line was answered or has no reply.
     Finished,
-    /// The line with this number, counted from 1, isn't a command. Nothing after it was read.
+    /// The line with this number, counted from 1, isn't a command. Nothing after it was answered.
     FaultLine(u32),
 }
 

@@ -1,25 +1,29 @@
 //! The lines of the responses that are asked for most, made in one piece.
+//!
+//! A response's `Display` writes the same texts piece by piece, through a formatter. A script has a line for each of its
+//! commands, so the responses to nearly all of them are put together here, each from its last byte to its first.
 
-ghost use Rattle.std.specs.Prelude.{◌≡◌, ◌++◌, ◌≤◌, ◌+◌, IsTrue, [], decimal, drop, length};
+ghost use Rattle.std.specs.Prelude.{◌≡◌, ◌++◌, ◌≤◌, ◌<◌, ◌+◌, IsTrue, [], decimal, drop, length};
 ghost use Rattle.pc_script.specs.Responses.{number_or_dash, posted_text, refusal_text, reply_text, response_text, status_text, subject_text, text_line};
 
 use crate::response::Response;
-use crate::text::LineEnd;
+use crate::text::{LineEnd, ROOM};
 use pc_calls::{Posted, Refusal, Reply, Status};
 use pc_messages::{Cpu, Phase, Tid};
 
 /// Writes whose item was posted, and its number, or `-` where it has neither.
 #[inline(always)]
 fn write_subject(line: &mut LineEnd, thread: Option<Tid>, number: Option<u32>)
-    requires fits { (46 ≤ line.old.start) × (line.old.start ≤ 128) }
+    requires fits { (46 ≤ line.old.start) × (line.old.start ≤ ROOM) }
     ensures start { (line.old.start ≤ line.new.start + 43) × (line.new.start ≤ line.old.start) }
     ensures written { drop line.new.start line.new.bytes ≡ subject_text thread number ++ drop line.old.start line.old.bytes }
 {
     match (thread, number) {
         (Some(thread), Some(number)) => {
-            line.number(u64::from(number));
+            let (thread, number) = (u64::from(thread.index()), u64::from(number));
+            line.number(number);
             line.text(b" n");
-            line.number(u64::from(thread.index()));
+            line.number(thread);
             line.text(b"t");
         }
         _ => line.text(b"-"),
@@ -29,7 +33,7 @@ fn write_subject(line: &mut LineEnd, thread: Option<Tid>, number: Option<u32>)
 /// Writes a CPU, or `-`.
 #[inline(always)]
 fn write_cpu_or_dash(line: &mut LineEnd, cpu: Option<Cpu>)
-    requires fits { (20 ≤ line.old.start) × (line.old.start ≤ 128) }
+    requires fits { (20 ≤ line.old.start) × (line.old.start ≤ ROOM) }
     ensures start { (line.old.start ≤ line.new.start + 20) × (line.new.start ≤ line.old.start) }
     ensures written { drop line.new.start line.new.bytes ≡ number_or_dash cpu ++ drop line.old.start line.old.bytes }
 {
@@ -42,15 +46,16 @@ fn write_cpu_or_dash(line: &mut LineEnd, cpu: Option<Cpu>)
 /// Writes what was posted.
 #[inline(always)]
 fn write_posted(line: &mut LineEnd, posted: Posted)
-    requires fits { line.old.start ≡ 127 }
-    ensures start { (3 ≤ line.new.start) × (line.new.start ≤ 127) }
+    requires fits { line.old.start + 1 ≡ ROOM }
+    ensures start { (3 ≤ line.new.start) × (line.new.start < ROOM) }
     ensures written { drop line.new.start line.new.bytes ≡ posted_text posted ++ drop line.old.start line.old.bytes }
 {
+    let (queue, aseq) = (u64::from(posted.queue.index()), u64::from(posted.aseq));
     write_cpu_or_dash(line, posted.woken);
     line.text(b" wake ");
-    line.number(u64::from(posted.aseq));
+    line.number(aseq);
     line.text(b" a");
-    line.number(u64::from(posted.queue.index()));
+    line.number(queue);
     line.text(b" q");
     write_subject(line, posted.thread, posted.number);
 }
@@ -58,8 +63,8 @@ fn write_posted(line: &mut LineEnd, posted: Posted)
 /// Writes a pair of numbers, each behind a text.
 #[inline(always)]
 fn write_pair(line: &mut LineEnd, before: &[u8], first: u64, between: &[u8], second: u64)
-    requires fits { (line.old.start ≡ 127) × (length before.now ≤ 20) × (length between.now ≤ 20) }
-    ensures start { (20 ≤ line.new.start) × (line.new.start ≤ 127) }
+    requires fits { (line.old.start + 1 ≡ ROOM) × (length before.now ≤ 20) × (length between.now ≤ 20) }
+    ensures start { (20 ≤ line.new.start) × (line.new.start < ROOM) }
     ensures written { drop line.new.start line.new.bytes
         ≡ before.now ++ (decimal first ++ (between.now ++ (decimal second ++ drop line.old.start line.old.bytes))) }
 {
@@ -72,8 +77,8 @@ fn write_pair(line: &mut LineEnd, before: &[u8], first: u64, between: &[u8], sec
 /// Writes what the kernel says of a thread.
 #[inline(always)]
 fn write_status(line: &mut LineEnd, thread: Tid, status: Status, phase: Phase)
-    requires fits { line.old.start ≡ 127 }
-    ensures start { line.new.start ≤ 127 }
+    requires fits { line.old.start + 1 ≡ ROOM }
+    ensures start { line.new.start < ROOM }
     ensures written { drop line.new.start line.new.bytes ≡ status_text thread status phase ++ drop line.old.start line.old.bytes }
 {
     if let Some(cpu) = status.running_on {
@@ -94,8 +99,8 @@ fn write_status(line: &mut LineEnd, thread: Tid, status: Status, phase: Phase)
 
 /// Writes a refusal by its name, and its argument where it has one.
 fn write_refusal(line: &mut LineEnd, refusal: Refusal)
-    requires fits { line.old.start ≡ 127 }
-    ensures start { (20 ≤ line.new.start) × (line.new.start ≤ 127) }
+    requires fits { line.old.start + 1 ≡ ROOM }
+    ensures start { (20 ≤ line.new.start) × (line.new.start < ROOM) }
     ensures written { drop line.new.start line.new.bytes ≡ refusal_text refusal ++ drop line.old.start line.old.bytes }
 {
     let name: &[u8] = match refusal {
@@ -140,8 +145,8 @@ fn write_refusal(line: &mut LineEnd, refusal: Refusal)
 /// Writes what an event is replied.
 #[inline(always)]
 fn write_reply(line: &mut LineEnd, reply: Reply)
-    requires fits { line.old.start ≡ 127 }
-    ensures start { line.new.start ≤ 127 }
+    requires fits { line.old.start + 1 ≡ ROOM }
+    ensures start { line.new.start < ROOM }
     ensures written { drop line.new.start line.new.bytes ≡ reply_text reply ++ drop line.old.start line.old.bytes }
 {
     match reply {
@@ -193,8 +198,8 @@ fn write_reply(line: &mut LineEnd, reply: Reply)
 /// Writes the line of a response, where it is one of those that are asked for most. Answers false for the others.
 #[inline(always)]
 pub(crate) fn write_line(line: &mut LineEnd, response: &Response) -> bool
-    requires empty { (line.old.start ≡ 128) × (drop line.old.start line.old.bytes ≡ []) }
-    ensures start { line.new.start ≤ 128 }
+    requires empty { (line.old.start ≡ ROOM) × (drop line.old.start line.old.bytes ≡ []) }
+    ensures start { line.new.start ≤ ROOM }
     ensures written { IsTrue result → drop line.new.start line.new.bytes ≡ text_line (response_text response.now) }
 {
     line.text(b"\n");

@@ -1,14 +1,14 @@
 //! A short line of text, written from its end towards its start.
 //!
-//! Each response but a view is a line of a few words and numbers. To write such a line into an array, and the array at
-//! once, costs a third of what the writer costs that takes each piece for itself.
+//! A number's digits come from its last to its first, so a line that is written from its end needs no second place for
+//! them, and none of its lengths beforehand.
 
-ghost use Rattle.std.specs.Prelude.{◌≡◌, ℕ, List, [], ◌++◌, ◌+◌, ◌≤◌, ◌<◌, ◌^◌, decimal, drop, length};
+ghost use Rattle.std.specs.Prelude.{◌≡◌, [], ◌++◌, ◌+◌, ◌≤◌, decimal, drop, length};
 
 use itoa::write_digits;
 
-/// The bytes of the longest line: five numbers of 20 digits, and the words between them.
-const ROOM: usize = 128;
+/// At least the bytes of a line of five numbers, of 20 digits each, and of the words between them.
+pub(crate) const ROOM: usize = 128;
 
 /// The end of a line: the bytes from `start` on.
 #[derive(Drop)]
@@ -21,7 +21,7 @@ impl LineEnd {
     /// The end of a line of which nothing is written.
     #[inline(always)]
     pub(crate) fn new() -> LineEnd
-        ensures start { result.start ≡ 128 }
+        ensures start { result.start ≡ ROOM }
         ensures empty { drop result.start result.bytes ≡ [] }
     {
         LineEnd {
@@ -33,7 +33,7 @@ impl LineEnd {
     /// Writes a text in front of what is written.
     #[inline(always)]
     pub(crate) fn text(&mut self, text: &[u8])
-        requires fits { (length text.now ≤ self.old.start) × (self.old.start ≤ 128) }
+        requires fits { (length text.now ≤ self.old.start) × (self.old.start ≤ ROOM) }
         ensures start { self.new.start + length text.now ≡ self.old.start }
         ensures written { drop self.new.start self.new.bytes ≡ text.now ++ drop self.old.start self.old.bytes }
     {
@@ -45,7 +45,7 @@ impl LineEnd {
     /// Writes a number in decimal in front of what is written.
     #[inline(always)]
     pub(crate) fn number(&mut self, number: u64)
-        requires fits { (20 ≤ self.old.start) × (self.old.start ≤ 128) }
+        requires fits { (20 ≤ self.old.start) × (self.old.start ≤ ROOM) }
         ensures start { (self.old.start ≤ self.new.start + 20) × (self.new.start ≤ self.old.start) }
         ensures written { drop self.new.start self.new.bytes ≡ decimal number ++ drop self.old.start self.old.bytes }
     {
@@ -55,7 +55,7 @@ impl LineEnd {
     /// What is written.
     #[inline(always)]
     pub(crate) fn as_slice(&self) -> &[u8]
-        requires within { self.now.start ≤ 128 }
+        requires within { self.now.start ≤ ROOM }
         ensures { result.now ≡ drop self.now.start self.now.bytes }
     {
         &self.bytes[self.start..]

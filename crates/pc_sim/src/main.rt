@@ -1,9 +1,10 @@
 //! `pc-sim`: replays scripts of events on the kernel model and its agents.
 #![tactic(auto)]
 
-ghost use Rattle.std.specs.Prelude.{◌≡◌, ◌⊎◌, ◌<◌, ◌≤◌, List, ℕ, length, IfOk, IfSome, OnOk, Err};
+ghost use Rattle.std.specs.Prelude.{◌≡◌, ◌+◌, ◌⊎◌, ◌<◌, ◌≤◌, List, ℕ, length, IfOk, IfSome, OnOk, Err};
 ghost use Rattle.std.specs.Io.KnownBytes.{Appends, Consumes};
 ghost use Rattle.pc_script.specs.Scripts.{IsOutput, IsOutputOfFirstLines};
+ghost use Rattle.pc_script.specs.declared.input.TheConstants.{MOST_BYTES};
 ghost use Rattle.pc_sim.specs.Session.{IsSession};
 
 mod command_line;
@@ -33,9 +34,9 @@ pub fn run_script<R: Read, W: Write>(
     ensures no_memory { result ≡ Err ScriptFault.OutOfMemory → IfSome (R.remaining reader.old) (λ text. (output : List ℕ)
         × IsOutputOfFirstLines IsSession text output × Appends (W.contents writer.old) (W.contents writer.new) output) }
     ensures unread { (result ≡ Err ScriptFault.Read) ⊎ (result ≡ Err ScriptFault.TooLong) → writer.new ≡ writer.old }
-    ensures too_long { result ≡ Err ScriptFault.TooLong → IfSome (R.remaining reader.old) (λ text. 16777216 < length text) }
-    ensures short { OnOk result (IfSome (R.remaining reader.old) (λ text. length text ≤ 16777216)) }
-    ensures reads { (bytes : List ℕ) × (length bytes ≤ 16777217) × Consumes (R.remaining reader.old) (R.remaining reader.new) bytes }
+    ensures too_long { result ≡ Err ScriptFault.TooLong → IfSome (R.remaining reader.old) (λ text. MOST_BYTES < length text) }
+    ensures short { OnOk result (IfSome (R.remaining reader.old) (λ text. length text ≤ MOST_BYTES)) }
+    ensures reads { (bytes : List ℕ) × (length bytes ≤ MOST_BYTES + 1) × Consumes (R.remaining reader.old) (R.remaining reader.new) bytes }
 {
     pc_script::run_script::<Session, R, W>(alloc, reader, writer)
 }

@@ -38,7 +38,8 @@ AreSent run (set ∷ sets) [] = ⊥
 
 pub record ShowsWorld (world : World) (w : PlainWorld) : Type 0 where
   pub kernel : Shows world.kernel w.kernel
-  pub agents : (c : ℕ) (agent : Agent) → slice_get world.agents.items c ≡ Some agent → ShowsAgent (kinds w.kernel) (w.seen c) (w.shown c) agent
+  pub agents : (c : ℕ) (agent : Agent) → slice_get world.agents.items c ≡ Some agent
+      → ShowsAgent (kinds w.kernel) (w.seen c) (w.shown c) agent
   pub sent : AreSent (kinds w.kernel) w.sent world.sent.items
 
 -- the view of the agent of a CPU; none of a CPU that is not there

@@ -37,7 +37,8 @@ IsBadCpu w told new = IsRefused w refusal.BadCpu told new
 -- the agent removes from its queue what it has sent, as the kernel answers
 abbrev pub IsConsumed : PlainWorld → ℕ → Result Answer Refusal → Reply → PlainWorld → Type 0
 IsConsumed w c (Ok answer) told new =
-    (told ≡ reply.Consumed (w.shown c)) × (new ≡ record w { kernel = kernel.after w.kernel (call.Consume c (w.shown c)); shown = at w.shown c 0 })
+    (told ≡ reply.Consumed (w.shown c))
+    × (new ≡ record w { kernel = kernel.after w.kernel (call.Consume c (w.shown c)); shown = at w.shown c 0 })
 IsConsumed w c (Err r) told new = IsRefused w r told new
 
 abbrev pub IsConsuming : ℕ → PlainWorld → Reply → PlainWorld → Type 0
@@ -65,6 +66,7 @@ IsNewTo set part = (t : ℕ) × (n : ℕ) × (has (pairs_of_part part) t n ≡ t
 
 -- a delta of the run with these pairs answers the digest of one set from the view of another: it tells all that the view
 -- has and the digest has not, nothing that the view has not, and each of its parts tells something that the digest has not
+-- (over lists of pairs, what the exchange of deltas says of views and digests)
 pub record IsAnswerSet (run : Run) (view digest set : Set) : Type 0 where
   pub parts : List Part
   pub of_run : AreOfRun run parts
@@ -86,7 +88,7 @@ are_cpus w c other = is_cpu (shown w.kernel) c && is_cpu (shown w.kernel) other
 abbrev pub IsAnswering : ℕ → ℕ → PlainWorld → Reply → PlainWorld → Type 0
 IsAnswering c asker w told new = MatchBool (are_cpus w c asker) (IsAnswered w c asker told new) (IsBadCpu w told new)
 
--- an event that is no call of the kernel
+-- an event that is no call of the kernel, of those that are built
 abbrev pub IsOwnStep : PlainWorld → Event → Reply → PlainWorld → Type 0
 IsOwnStep w (Publish cpu false) told new = IsPublishing cpu w told new
 IsOwnStep w (Consume cpu) told new = IsConsuming cpu w told new

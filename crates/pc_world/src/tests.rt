@@ -180,18 +180,26 @@ fn a_thread_moves_when_nothing_is_pending(rt: HostRuntime) -> Result<(), Fail> {
 
 #[test]
 fn an_answer_tells_what_is_lacking(rt: HostRuntime) -> Result<(), Fail> {
-    gives(
-        &rt,
-        rt.alloc(),
-        &[
-            (create(0, false), posted(0, 1, 0, 1)),
-            (wake(0), posted(0, 2, 0, 2)),
-            (publish(0), Reply::Published { delta: 0, items: 2 }),
-            (answer(0, 1), Reply::Answered { delta: 1 }),
-            (deliver(1, 1), Reply::Done),
-            (answer(0, 1), Reply::Answered { delta: 2 }),
-        ],
-    )
+    let mut world = World::new(rt.alloc(), small())?;
+    let rows = [
+        (create(0, false), posted(0, 1, 0, 1)),
+        (wake(0), posted(0, 2, 0, 2)),
+        (publish(0), Reply::Published { delta: 0, items: 2 }),
+        (answer(0, 1), Reply::Answered { delta: 1 }),
+        (deliver(1, 1), Reply::Done),
+        (answer(0, 1), Reply::Answered { delta: 2 }),
+    ];
+    assert_eq!(rt; first_wrong(&mut world, &rows), None);
+    assert!(rt; knows(&world, 1, 1));
+    assert!(rt; knows(&world, 1, 2));
+    assert_eq!(rt; parts_of(&world, 1), Some(1));
+    assert_eq!(rt; parts_of(&world, 2), Some(0));
+    Ok(())
+}
+
+/// How many parts a sent delta has.
+fn parts_of(world: &World, delta: usize) -> Option<usize> {
+    Some(world.sent().get(delta)?.parts().len())
 }
 
 const fn nowhere() -> Reply {
@@ -258,7 +266,7 @@ fn limits_of_a_world(rt: HostRuntime) {
 }
 
 #[test]
-fn nobody_has_no_view(rt: HostRuntime) -> Result<(), Fail> {
+fn a_cpu_that_is_not_there_has_no_view(rt: HostRuntime) -> Result<(), Fail> {
     let world = World::new(rt.alloc(), small())?;
     assert!(rt; world.view(Cpu(1)).is_some());
     assert!(rt; world.view(Cpu(2)).is_none());

@@ -3,17 +3,30 @@
 use super::shown;
 use crate::lists::{EarlyNumbers, ShownThread};
 use crate::response::Response;
+use crate::short::write_line;
+use crate::text::LineEnd;
 use pc_calls::{LimitField, Posted, Refusal, Reply, Status};
 use pc_messages::{Cpu, Level, Mask, Phase, Reported, Tid};
 use std::alloc::Global;
 use std::test::Fail;
 
+/// What is written of a response that has one line; nothing where its pieces and its line are not the same.
+fn text_of(alloc: Global, response: &Response) -> Result<String, Fail> {
+    let text = format!(in alloc; "{response}")?;
+    let mut line = LineEnd::new();
+    let is_written = write_line(&mut line, response);
+    let whole = format!(in alloc; "{text}\n")?;
+    if !is_written || line.as_slice() != whole.as_bytes() {
+        return Ok(String::new(alloc));
+    }
+    Ok(text)
+}
+
 /// What is written of a refusal, to a question and to an event; nothing where the two differ.
 fn refusal_text(alloc: Global, refusal: Refusal) -> Result<String, Fail> {
     let response = Response::Refused(refusal);
-    let reply = Response::Event(Reply::Refused(refusal));
     let text = format!(in alloc; "{response}")?;
-    if text.as_str() != format!(in alloc; "{reply}")?.as_str() {
+    if text.as_str() != reply_text(alloc, Reply::Refused(refusal))?.as_str() {
         return Ok(String::new(alloc));
     }
     Ok(text)
@@ -96,8 +109,7 @@ fn what_is_answered_to_an_enclave(rt: HostRuntime) -> Result<(), Fail> {
 
 /// What is written of an event's reply.
 fn reply_text(alloc: Global, reply: Reply) -> Result<String, Fail> {
-    let response = Response::Event(reply);
-    Ok(format!(in alloc; "{response}")?)
+    text_of(alloc, &Response::Event(reply))
 }
 
 #[test]
@@ -170,7 +182,7 @@ fn status_text(alloc: Global, status: Status, phase: Phase) -> Result<String, Fa
         status,
         phase,
     };
-    Ok(format!(in alloc; "{response}")?)
+    text_of(alloc, &response)
 }
 
 #[test]
