@@ -1,3 +1,4 @@
 pub mod Counts
 pub mod Firsts
 pub mod Order
+pub mod Ends

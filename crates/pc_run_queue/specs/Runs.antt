@@ -41,7 +41,11 @@ runs_in view cpu t = may_run (reported_in view t) cpu
 abbrev pub level_in : View → ℕ → ℕ
 level_in view t = level_told (reported_in view t)
 
--- the old names that the view reports ready and allowed on the CPU, in order, then the touched ones that are so and
--- absent, each at its first place: of these the highest level first
+-- the old names that pass the test, in order, then the touched ones that do and are absent, each at its first place: of
+-- these the highest level first
+abbrev pub refreshed_by : (ℕ → Bool) → (ℕ → ℕ) → List ℕ → List ℕ → List ℕ
+refreshed_by test level old touched = by_level level (with_new test (filter test old) touched)
+
+-- that, by what the view reports: ready and allowed on the CPU
 abbrev pub refreshed : View → ℕ → List ℕ → List ℕ → List ℕ
-refreshed view cpu old touched = by_level (level_in view) (with_new (runs_in view cpu) (filter (runs_in view cpu) old) touched)
+refreshed view cpu old touched = refreshed_by (runs_in view cpu) (level_in view) old touched

@@ -10,4 +10,5 @@ mod run_queue;
 #[cfg(test)]
 mod tests;
 
+pub use levels::runs_on;
 pub use run_queue::RunQueue;

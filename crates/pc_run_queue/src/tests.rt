@@ -140,3 +140,20 @@ fn a_refresh_keeps_the_order_and_drops_the_blocked(rt: HostRuntime) -> Result<()
     assert!(rt; lists(&queue, &[2, 0]));
     Ok(())
 }
+
+#[test]
+fn names_leave_from_both_ends(rt: HostRuntime) -> Result<(), Fail> {
+    let view = ready(rt.alloc())?;
+    let mut queue = refreshed(rt.alloc(), &view, &[Tid(2), Tid(0), Tid(1)], Cpu(0))?;
+    assert!(rt; queue.take_first() == Some(Tid(2)));
+    queue.push(Tid(7))?;
+    assert!(rt; lists(&queue, &[0, 1, 7]));
+    assert!(rt; queue.take_last() == Some(Tid(7)));
+    assert!(rt; lists(&queue, &[0, 1]));
+    assert!(rt; queue.take_last() == Some(Tid(1)));
+    assert!(rt; queue.take_first() == Some(Tid(0)));
+    assert!(rt; queue.take_first().is_none());
+    assert!(rt; queue.take_last().is_none());
+    assert!(rt; !queue.has(Tid(0)));
+    Ok(())
+}
