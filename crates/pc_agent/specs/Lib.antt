@@ -1,0 +1,6 @@
+pub mod PlainAgent
+pub mod Counts
+pub mod Shows
+pub mod Publishing
+pub mod Running
+pub mod Exchanging

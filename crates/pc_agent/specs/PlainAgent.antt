@@ -1,0 +1,80 @@
+-- One agent in plain words: what it has taken in, its run list, and how much of its queue it has sent.
+use Rattle.std.specs.Prelude.{ℕ, ◌==◌, not, ◌&&◌, Bool, true, false, List, [], ◌∷◌, ◌++◌, Option, is_some, is_none, if◌then◌else◌}
+use Rattle.std.specs.List.{filter_map}
+use Rattle.pc_messages.specs.Items.{thread_in, pairs_in}
+use Rattle.pc_messages.specs.Run.{Run}
+use Rattle.pc_messages.specs.declared.message.Item.{Item}
+use Rattle.pc_calls.specs.Conditions.{first_of}
+use Rattle.pc_calls.specs.declared.call.Call.TheVariants as call
+use Rattle.pc_calls.specs.declared.refusal.Refusal.{Refusal}
+use Rattle.pc_calls.specs.declared.refusal.Refusal.TheVariants as refusal
+use Rattle.pc_kernel.specs.Reads.{Reads, is_known, place, aseq, on}
+use Rattle.pc_kernel.specs.Steps.{refused}
+use Rattle.pc_view.specs.Prefixes.{reports}
+use Rattle.pc_run_queue.specs.Names.{has_name}
+use Rattle.pc_run_queue.specs.Runs.{may_run, level_told, refreshed_by}
+
+-- a finite set of pairs of a thread's name and a number
+abbrev pub Set : Type 0
+Set = List (ℕ × ℕ)
+
+pub record PlainAgent : Type 0 where
+  pub seen : Set  -- what it has taken in
+  pub list : List ℕ  -- its run list, the first name first
+  pub shown : ℕ  -- how many items at the front of its queue it has sent
+
+-- an agent that starts, or starts again
+abbrev pub fresh : PlainAgent
+fresh = record { seen = []; list = []; shown = 0 }
+
+-- the view of the set in the run reports the thread ready and allowed on the CPU
+abbrev pub runs_here : Run → Set → ℕ → ℕ → Bool
+runs_here run set cpu t = may_run (reports run set t) cpu
+
+-- the level that it reports of the thread
+abbrev pub level_here : Run → Set → ℕ → ℕ
+level_here run set t = level_told (reports run set t)
+
+-- the threads of items, in order
+abbrev pub threads_in : List Item → List ℕ
+threads_in items = filter_map thread_in items
+
+-- the agent of a CPU takes a set in
+abbrev pub taking_in : Set → PlainAgent → PlainAgent
+taking_in set p = record p { seen = p.seen ++ set }
+
+-- the agent of a CPU takes items in, and refreshes its run list, in which their threads are touched
+abbrev pub copied : Run → ℕ → List Item → PlainAgent → PlainAgent
+copied run cpu items p =
+    let set = p.seen ++ pairs_in items in
+    record p { seen = set; list = refreshed_by (runs_here run set cpu) (level_here run set) p.list (threads_in items) }
+
+-- the names from the first one on that passes the test
+abbrev pub from_first : (ℕ → Bool) → List ℕ → List ℕ
+from_first test [] = []
+from_first test (t ∷ ts) = if test t then t ∷ ts else from_first test ts
+
+-- the names of a run list from the first one on that the kernel would commit
+abbrev pub ready_list : Reads → ℕ → ℕ → List ℕ → List ℕ
+ready_list r cpu n names = from_first (λ t. is_none (refused r (call.Commit cpu t n))) names
+
+abbrev pub is_nothing : List ℕ → Bool
+is_nothing [] = true
+is_nothing (t ∷ ts) = false
+
+-- why a pick is refused, in order
+abbrev pub pick_refused : Reads → ℕ → ℕ → List ℕ → Option Refusal
+pick_refused r cpu n names =
+    first_of (
+    (not (n == aseq r cpu), refusal.Stale (aseq r cpu))
+    ∷ (is_some (on r cpu), refusal.Busy)
+    ∷ (is_nothing (ready_list r cpu n names), refusal.NothingReady)
+    ∷ [])
+
+-- a thread that an agent may take over: it runs here, is not in the run list, and the kernel knows it and has it on no CPU
+abbrev pub may_take : Reads → (ℕ → Bool) → List ℕ → ℕ → Bool
+may_take r runs list t = (runs t && not (has_name list t)) && (is_known r t && is_none (place r t))
+
+-- by what the view of the agent's set in the run reports
+abbrev pub may_steal : Reads → Run → ℕ → PlainAgent → ℕ → Bool
+may_steal r run cpu p = may_take r (runs_here run p.seen cpu) p.list

@@ -1,0 +1,70 @@
+-- What an agent does with its own queue: it copies what it holds, sends that, and removes what it has sent.
+use Rattle.std.specs.Prelude.{ℕ, ◌≡◌, ◌⊎◌, List, length, Result, Ok, Err}
+use Rattle.pc_join.specs.declared.join.OutOfMemory.{OutOfMemory as Starved}
+use Rattle.pc_messages.specs.Items.{AreItemsOf, pairs_in}
+use Rattle.pc_messages.specs.Run.{Run, Extends}
+use Rattle.pc_messages.specs.declared.message.Item.{Item}
+use Rattle.pc_calls.specs.declared.call.Answer.TheVariants.{Done}
+use Rattle.pc_calls.specs.declared.call.Call.TheVariants as call
+use Rattle.pc_calls.specs.declared.refusal.Refusal.{Refusal}
+use Rattle.pc_kernel.specs.Answers.{Shows}
+use Rattle.pc_kernel.specs.PlainKernel.{PlainKernel, kinds}
+use Rattle.pc_kernel.specs.Rows.{KernelRows}
+use Rattle.pc_kernel.specs.Steps.{after, reply}
+use Rattle.pc_delta.specs.declared.part.Part.{Part}
+use Rattle.pc_agent.specs.declared.agent.Agent.{Agent}
+use Rattle.pc_agent.specs.declared.wire.SendFault.{SendFault}
+use Rattle.pc_agent.specs.declared.wire.SendFault.TheVariants.{OutOfMemory, WireFault}
+use Rattle.pc_agent.specs.PlainAgent.{PlainAgent, Set, copied}
+use Rattle.pc_agent.specs.Shows.{ShowsAgent, ShowsDelta, ShowsPart}
+
+-- for every plain kernel that the kernel shows, every run that goes on from its, and whatever the agent shows of it
+abbrev pub WhateverShown : KernelRows → Agent → (PlainKernel → Run → PlainAgent → Type 0) → Type 0
+WhateverShown kernel agent Says =
+    (P : PlainKernel) (run : Run) (p : PlainAgent) → Shows kernel P → Extends run (kinds P) → ShowsAgent run p agent → Says P run p
+
+-- the items are copied: the delta tells them, the view has them, the run list is refreshed; where memory ran out the view has
+-- a part of them, and nothing else changed
+abbrev pub IsCopied : Run → PlainAgent → List Item → Result (List Part) Starved → Agent → Agent → Type 0
+IsCopied run p items (Ok delta) old new = ShowsDelta run (pairs_in items) delta × ShowsAgent run (copied run old.cpu items p) new
+IsCopied run p items (Err fault) old new = ShowsPart run p (pairs_in items) new
+
+-- for every run that the items are of, and whatever the agent shows of it
+abbrev pub Copies : List Item → Result (List Part) Starved → Agent → Agent → Type 0
+Copies items result old new = (run : Run) (p : PlainAgent) → AreItemsOf run items → ShowsAgent run p old → IsCopied run p items result old new
+
+-- what a wire says of a send: the wire before, the delta, the answer, the wire after
+abbrev pub Sending : Type 0 → Type 1
+Sending W = W → List Part → Result (Unit {0}) SendFault → W → Type 0
+
+-- a delta of the run that tells the set was handed to the wire, which answered so
+pub record IsHandedOn {W : Type 0} (Sends : Sending W) (run : Run) (set : Set) (answer : Result (Unit {0}) SendFault) (wire later : W) : Type 0 where
+  pub delta : List Part
+  pub shows : ShowsDelta run set delta
+  pub sent : Sends wire delta answer later
+
+-- the agent, after it copied the items, and after it also sent them
+abbrev pub sent_after : Run → ℕ → List Item → PlainAgent → PlainAgent
+sent_after run cpu items p = record (copied run cpu items p) { shown = length items }
+
+-- a publish of these items: what counts as sent is what the wire took; after a fault of the wire only the count of sent items
+-- is as it was; memory may have run out before the send, or in it
+abbrev pub IsPublished : {W : Type 0} → Sending W → List Item → Run → PlainAgent → Result ℕ SendFault → Agent → Agent → W → W → Type 0
+IsPublished Sends items run p (Ok count) old new wire later =
+    (count ≡ length items)
+    × IsHandedOn Sends run (pairs_in items) (Ok tt) wire later
+    × ShowsAgent run (sent_after run old.cpu items p) new
+IsPublished Sends items run p (Err WireFault) old new wire later =
+    IsHandedOn Sends run (pairs_in items) (Err WireFault) wire later × ShowsAgent run (copied run old.cpu items p) new
+IsPublished Sends items run p (Err OutOfMemory) old new wire later =
+    (ShowsPart run p (pairs_in items) new × (later ≡ wire))
+    ⊎ (IsHandedOn Sends run (pairs_in items) (Err OutOfMemory) wire later × ShowsAgent run (copied run old.cpu items p) new)
+
+-- the items that the agent has sent leave its queue, as the kernel answers
+abbrev pub IsConsumed : PlainKernel → Run → PlainAgent → Result ℕ Refusal → Agent → Agent → KernelRows → Type 0
+IsConsumed P run p (Ok count) old new kernel =
+    (count ≡ p.shown)
+    × (reply P (call.Consume old.cpu p.shown) ≡ Ok Done)
+    × Shows kernel (after P (call.Consume old.cpu p.shown))
+    × ShowsAgent run (record p { shown = 0 }) new
+IsConsumed P run p (Err refusal) old new kernel = reply P (call.Consume old.cpu p.shown) ≡ Err refusal

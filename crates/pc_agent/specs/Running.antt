@@ -1,0 +1,81 @@
+-- What an agent does to have a thread run: it picks one of its run list, or takes one over.
+use Rattle.std.specs.Prelude.{ℕ, ◌<◌, ◌≡◌, Bool, true, false, List, [], ◌∷◌, ◌++◌, Option, Some, None, Result, Ok, Err, is_some}
+use Rattle.pc_messages.specs.Run.{Run}
+use Rattle.pc_messages.specs.State.{state_of}
+use Rattle.pc_calls.specs.Conditions.{first_of}
+use Rattle.pc_calls.specs.declared.call.Call.{Call}
+use Rattle.pc_calls.specs.declared.call.Call.TheVariants as call
+use Rattle.pc_calls.specs.declared.refusal.Refusal.{Refusal}
+use Rattle.pc_calls.specs.declared.refusal.Refusal.TheVariants.{Busy, NothingReady, NothingToSteal}
+use Rattle.pc_calls.specs.declared.refusal.CallFault.{CallFault}
+use Rattle.pc_calls.specs.declared.refusal.CallFault.TheVariants.{Refused, OutOfMemory}
+use Rattle.pc_kernel.specs.Answers.{Shows}
+use Rattle.pc_kernel.specs.PlainKernel.{PlainKernel, kinds, number}
+use Rattle.pc_kernel.specs.Reads.{Reads, shown, on, is_pending}
+use Rattle.pc_kernel.specs.Rows.{KernelRows}
+use Rattle.pc_kernel.specs.Steps.{after, refused, refusals}
+use Rattle.pc_view.specs.Prefixes.{reports, upto}
+use Rattle.pc_agent.specs.declared.agent.Agent.{Agent}
+use Rattle.pc_agent.specs.PlainAgent.{PlainAgent, may_steal, pick_refused, ready_list}
+use Rattle.pc_agent.specs.Shows.{ShowsAgent}
+
+-- the agent's run list after a refused pick: empty where no name of it could be committed, else as it was
+abbrev pub left_by : Refusal → List ℕ → List ℕ
+left_by NothingReady names = []
+left_by refusal names = names
+
+-- the first thread of the run list that the kernel would commit is committed, and what follows it is left
+pub record IsCommitted (P : PlainKernel) (run : Run) (p : PlainAgent) (n t : ℕ) (old new : Agent) (kernel : KernelRows) : Type 0 where
+  pub rest : List ℕ
+  pub first : ready_list (shown P) old.cpu n p.list ≡ t ∷ rest
+  pub accepted : refused (shown P) (call.Commit old.cpu t n) ≡ None
+  pub after : Shows kernel (after P (call.Commit old.cpu t n))
+  pub agent : ShowsAgent run (record p { list = rest }) new
+
+-- a pick under a count of posts
+abbrev pub IsPicked : ℕ → PlainKernel → Run → PlainAgent → Result ℕ Refusal → Agent → Agent → KernelRows → Type 0
+IsPicked n P run p (Ok t) old new kernel =
+    (pick_refused (shown P) old.cpu n p.list ≡ None) × IsCommitted P run p n t old new kernel
+IsPicked n P run p (Err refusal) old new kernel =
+    (pick_refused (shown P) old.cpu n p.list ≡ Some refusal) × ShowsAgent run (record p { list = left_by refusal p.list }) new
+
+-- the least number that passes the test; none, where none does
+pub record IsLeast (test : ℕ → Bool) (t : ℕ) : Type 0 where
+  pub passes : test t ≡ true
+  pub least : (other : ℕ) → other < t → test other ≡ false
+
+abbrev pub Finds : (ℕ → Bool) → Option ℕ → Type 0
+Finds test None = (t : ℕ) → test t ≡ false
+Finds test (Some t) = IsLeast test t
+
+-- the call that takes a thread over, under the number up to which the agent knows it
+abbrev pub takes_over : ℕ → PlainAgent → ℕ → Call
+takes_over cpu p t = call.Associate t cpu (upto p.seen t)
+
+-- why a steal is refused, in order, where this is the thread to be taken over
+abbrev pub steal_refused : Reads → ℕ → PlainAgent → Option ℕ → Option Refusal
+steal_refused r cpu p None = first_of ((is_some (on r cpu), Busy) ∷ (true, NothingToSteal) ∷ [])
+steal_refused r cpu p (Some t) = first_of ((is_some (on r cpu), Busy) ∷ refusals r (takes_over cpu p t))
+
+-- the thread is taken over, and goes to the end of the run list
+pub record IsTakenOver (P : PlainKernel) (run : Run) (p : PlainAgent) (t : ℕ) (old new : Agent) (kernel : KernelRows) : Type 0 where
+  pub accepted : refused (shown P) (takes_over old.cpu p t) ≡ None
+  pub after : Shows kernel (after P (takes_over old.cpu p t))
+  pub agent : ShowsAgent run (record p { list = p.list ++ t ∷ [] }) new
+
+-- a steal: only the least thread that may be stolen is tried
+abbrev pub IsStolen : PlainKernel → Run → PlainAgent → Result ℕ CallFault → Agent → Agent → KernelRows → Type 0
+IsStolen P run p (Ok t) old new kernel =
+    Finds (may_steal (shown P) run old.cpu p) (Some t)
+    × (steal_refused (shown P) old.cpu p (Some t) ≡ None)
+    × IsTakenOver P run p t old new kernel
+IsStolen P run p (Err (Refused refusal)) old new kernel =
+    (t : Option ℕ) × Finds (may_steal (shown P) run old.cpu p) t × (steal_refused (shown P) old.cpu p t ≡ Some refusal)
+IsStolen P run p (Err OutOfMemory) old new kernel =
+    (t : ℕ) × Finds (may_steal (shown P) run old.cpu p) (Some t) × (is_some (on (shown P) old.cpu) ≡ false)
+
+-- the agent had seen the thread exactly: all its messages, the state that they report, and none of them waits
+pub record IsSeenExactly (P : PlainKernel) (run : Run) (p : PlainAgent) (t : ℕ) : Type 0 where
+  pub whole : upto p.seen t ≡ number P t
+  pub state : reports run p.seen t ≡ state_of (kinds P t)
+  pub nothing_waits : is_pending (shown P) t ≡ false

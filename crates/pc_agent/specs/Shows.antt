@@ -1,0 +1,35 @@
+-- What an agent and a delta show: of a run, and of which set.
+use Rattle.std.specs.Prelude.{ℕ, ◌≡◌, List, ◌++◌}
+use Rattle.pc_messages.specs.Run.{Run}
+use Rattle.pc_join.specs.Sets.{as_members, IsSameSet, IsBetween}
+use Rattle.pc_view.specs.declared.view.View.{View}
+use Rattle.pc_view.specs.Views.{pairs_of, IsOfRun}
+use Rattle.pc_delta.specs.declared.part.Part.{Part}
+use Rattle.pc_delta.specs.Parts.{AreOfRun, set_of}
+use Rattle.pc_agent.specs.declared.agent.Agent.{Agent}
+use Rattle.pc_agent.specs.PlainAgent.{PlainAgent, Set}
+
+-- the view is that of the set in the run
+pub record ShowsView (run : Run) (set : Set) (view : View) : Type 0 where
+  pub of_run : IsOfRun run view
+  pub seen : IsSameSet (pairs_of view) (as_members set)
+
+-- the delta is of the run, and tells the set
+pub record ShowsDelta (run : Run) (set : Set) (delta : List Part) : Type 0 where
+  pub of_run : AreOfRun run delta
+  pub told : IsSameSet (set_of delta) (as_members set)
+
+-- the agent's view is that of the plain agent's set in the run, and it has its run list and its count of sent items
+pub record ShowsAgent (run : Run) (p : PlainAgent) (agent : Agent) : Type 0 where
+  pub view : ShowsView run p.seen agent.view
+  pub list : agent.list ≡ p.list
+  pub shown : agent.shown ≡ p.shown
+
+-- the agent has taken in a part of the set, and is as it was else
+abbrev pub ShowsPart : Run → PlainAgent → Set → Agent → Type 0
+ShowsPart run p set agent = (some : Set) × IsBetween (as_members p.seen) (as_members set) (as_members some)
+    × ShowsAgent run (record p { seen = some }) agent
+
+-- what does not change: whose agent it is
+abbrev pub IsSameCpu : Agent → Agent → Type 0
+IsSameCpu old new = new.cpu ≡ old.cpu

@@ -1,0 +1,103 @@
+//! One agent.
+
+ghost use Rattle.std.specs.Prelude.{ℕ, ◌≡◌};
+ghost use Rattle.pc_messages.specs.Run.{Run, Extends};
+ghost use Rattle.pc_agent.specs.declared.agent.Agent.{Agent};
+ghost use Rattle.pc_agent.specs.PlainAgent.{PlainAgent};
+ghost use Rattle.pc_agent.specs.Shows.{ShowsAgent};
+
+use crate::counts::Counts;
+use pc_messages::{Cpu, Tid};
+use pc_run_queue::RunQueue;
+use pc_view::View;
+use std::alloc::Global;
+
+/// The agent of one CPU: what it knows, which threads it would run, and how much of its queue it has sent to others.
+///
+/// It commits for its own CPU alone (the ghOSt paper's per-CPU model). Deltas, stealing by what a view tells, and a
+/// restart from what others know are own.
+#[derive(Drop)]
+pub struct Agent {
+    pub(crate) alloc: Global,
+    pub(crate) cpu: Cpu,
+    pub(crate) view: View,
+    pub(crate) list: RunQueue,
+    pub(crate) shown: u32,
+    pub(crate) counts: Counts,
+}
+
+impl Agent {
+    ghost use Rattle.pc_agent.specs.Counts.{none_counted};
+    ghost use Rattle.pc_agent.specs.PlainAgent.{fresh};
+    ghost use Rattle.pc_agent.specs.Shows.{ShowsView};
+
+    /// The CPU's agent, who knows nothing. It takes no memory.
+    pub fn new(alloc: Global, cpu: Cpu) -> Agent
+        ensures fresh { (run : Run) → ShowsAgent run fresh result }
+        ensures cpu { result.cpu ≡ cpu }
+        ensures counts { result.counts ≡ none_counted }
+    {
+        Agent {
+            alloc,
+            cpu,
+            view: View::new(alloc),
+            list: RunQueue::new(alloc),
+            shown: 0,
+            counts: Counts::new(),
+        }
+    }
+
+    /// Starts again, as after a crash: it knows nothing, has an empty run list, and has sent nothing. The counts stay.
+    /// It takes no memory.
+    pub fn restart(&mut self)
+        ensures fresh { (run : Run) → ShowsAgent run fresh self.new }
+        ensures cpu { self.new.cpu ≡ self.old.cpu }
+        ensures counts { self.new.counts ≡ self.old.counts }
+    {
+        self.view = View::new(self.alloc);
+        self.list = RunQueue::new(self.alloc);
+        self.shown = 0;
+    }
+
+    /// The agent's CPU.
+    pub fn cpu(&self) -> Cpu
+        ensures { result ≡ self.now.cpu }
+    {
+        self.cpu
+    }
+
+    /// What it knows.
+    pub fn view(&self) -> &View
+        ensures same { result.now ≡ self.now.view }
+        ensures shows { (run : Run) (p : PlainAgent) → ShowsAgent run p self.now → ShowsView run p.seen result.now }
+    {
+        &self.view
+    }
+
+    /// The names of the threads that it would run, the first one first.
+    pub fn run_list(&self) -> &[Tid]
+        ensures { (run : Run) (p : PlainAgent) → ShowsAgent run p self.now → result.now ≡ p.list }
+    {
+        self.list.names()
+    }
+
+    /// How many items at the front of its queue it has sent.
+    pub fn shown(&self) -> u32
+        ensures { (run : Run) (p : PlainAgent) → ShowsAgent run p self.now → result ≡ p.shown }
+    {
+        self.shown
+    }
+
+    /// What it has counted since it was made.
+    pub fn counts(&self) -> Counts
+        ensures { result ≡ self.now.counts }
+    {
+        self.counts
+    }
+}
+
+/// What an agent shows of a run it shows of each run that goes on from it.
+pub fn agents_stay_as_the_run_goes_on()
+    ensures { (longer shorter : Run) (p : PlainAgent) (agent : Agent) → Extends longer shorter → ShowsAgent shorter p agent
+        → ShowsAgent longer p agent }
+{}

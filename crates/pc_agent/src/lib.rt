@@ -1,0 +1,20 @@
+//! One CPU's agent: it looks at its queue, sends what it saw, removes only what it sent, commits for its own CPU, takes
+//! threads over that it saw exactly, and starts again with nothing after a crash.
+//!
+//! What each call does is defined over a set of messages, a list of names and a count (`specs/PlainAgent.antt`), for
+//! every plain kernel that the kernel shows and every run that goes on from its run.
+#![tactic(auto)]
+
+mod agent;
+mod counts;
+mod exchange;
+mod pick;
+mod queue;
+mod steal;
+#[cfg(test)]
+mod tests;
+mod wire;
+
+pub use agent::Agent;
+pub use counts::Counts;
+pub use wire::{SendFault, Wire};

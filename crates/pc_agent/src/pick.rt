@@ -1,0 +1,86 @@
+//! How an agent has a thread of its run list run.
+
+ghost use Rattle.std.specs.Prelude.{◌≡◌, ◌≢◌, ◌∷◌, [], List, None, Some, Ok, IfOk, IfErr, OnErr, IsTrue, IsFalse, is_some};
+ghost use Rattle.pc_messages.specs.Run.{Extends};
+ghost use Rattle.pc_calls.specs.Conditions.{refusal_in};
+ghost use Rattle.pc_calls.specs.declared.call.Call.{Call};
+ghost use Rattle.pc_calls.specs.declared.call.Call.TheVariants as call;
+ghost use Rattle.pc_kernel.specs.Answers.{Steps, done};
+ghost use Rattle.pc_kernel.specs.Reads.{seen, kinds, is_cpu, aseq, on};
+ghost use Rattle.pc_kernel.specs.Steps.{refused};
+ghost use Rattle.pc_agent.specs.Counts.{pick_counted};
+ghost use Rattle.pc_agent.specs.PlainAgent.{pick_refused, ready_list};
+ghost use Rattle.pc_agent.specs.Publishing.{WhateverShown};
+ghost use Rattle.pc_agent.specs.Running.{IsPicked, left_by};
+ghost use Rattle.pc_agent.specs.Inner.Picks.{CommitsFirst};
+
+use crate::agent::Agent;
+use pc_calls::Refusal;
+use pc_kernel::Kernel;
+use pc_messages::{Cpu, Tid};
+use pc_run_queue::RunQueue;
+
+/// Commits the first name that the kernel commits; what stood before it is dropped, and it leaves the list too.
+fn commit_first(list: &mut RunQueue, kernel: &mut Kernel, cpu: Cpu, aseq: u32) -> Result<Tid, Refusal>
+    ensures { CommitsFirst cpu aseq result list.old list.new kernel.old kernel.new }
+{
+    while let Some(name) = list.take_first() {
+        match kernel.commit(cpu, name, aseq) {
+            Ok(()) => return Ok(name),
+            // The name is dropped: it comes back by a refresh, once the view reports it ready again.
+            Err(_) => {}
+        }
+    }
+    Err(Refusal::NothingReady)
+}
+
+impl Agent {
+    /// Commits the first thread of its run list that the kernel accepts, under the count of posts that it read. It takes
+    /// no memory.
+    ///
+    /// `Stale` with the count of now; `Busy` where a thread runs on its CPU; `NothingReady` where the kernel accepts none,
+    /// and the run list then is empty.
+    pub fn pick(&mut self, kernel: &mut Kernel, aseq: u32) -> Result<Tid, Refusal>
+        requires there { IsTrue (is_cpu (seen kernel.old) self.old.cpu) }
+        ensures picks { WhateverShown kernel.old self.old (λ P run p. IsPicked aseq P run p result self.old self.new kernel.new) }
+        ensures limits { kernel.new.limits ≡ kernel.old.limits }
+        ensures extends { Extends (kinds (seen kernel.new)) (kinds (seen kernel.old)) }
+        ensures err { OnErr result (kernel.new ≡ kernel.old) }
+        ensures cpu { self.new.cpu ≡ self.old.cpu }
+        ensures counts { self.new.counts ≡ pick_counted result self.old.counts }
+    {
+        let answered = self.try_pick(kernel, aseq);
+        self.counts.count_pick(&answered);
+        answered
+    }
+
+    /// The pick, before it is counted.
+    fn try_pick(&mut self, kernel: &mut Kernel, aseq: u32) -> Result<Tid, Refusal>
+        requires there { IsTrue (is_cpu (seen kernel.old) self.old.cpu) }
+        ensures picks { WhateverShown kernel.old self.old (λ P run p. IsPicked aseq P run p result self.old self.new kernel.new) }
+        ensures limits { kernel.new.limits ≡ kernel.old.limits }
+        ensures extends { Extends (kinds (seen kernel.new)) (kinds (seen kernel.old)) }
+        ensures err { OnErr result (kernel.new ≡ kernel.old) }
+        ensures cpu { self.new.cpu ≡ self.old.cpu }
+        ensures counts { self.new.counts ≡ self.old.counts }
+    {
+        if let Some(refusal) = unready(kernel, self.cpu, aseq) {
+            return Err(refusal);
+        }
+        commit_first(&mut self.list, kernel, self.cpu, aseq)
+    }
+}
+
+/// Why an agent does not even look at its run list.
+fn unready(kernel: &Kernel, cpu: Cpu, aseq: u32) -> Option<Refusal>
+    requires there { IsTrue (is_cpu (seen kernel.now) cpu) }
+    ensures { result ≡ unready_for (seen kernel.now) cpu aseq }
+{
+    match kernel.aseq(cpu) {
+        Some(now) if now != aseq => Some(Refusal::Stale(now)),
+        _ => match kernel.running(cpu) {
+            Some(_) => Some(Refusal::Busy),
+            None => None,
+        },
+    }
+}

@@ -1,0 +1,134 @@
+//! What an agent does with its own queue.
+
+ghost use Rattle.std.specs.Prelude.{◌≡◌, ◌<◌, ◌^◌, List, length, Ok, Err, IfOk, OnErr, IsTrue};
+ghost use Rattle.pc_messages.specs.Items.{AreItemsOf, AreTellable};
+ghost use Rattle.pc_messages.specs.Run.{Run, Extends};
+ghost use Rattle.pc_calls.specs.declared.call.Call.TheVariants as call;
+ghost use Rattle.pc_calls.specs.Conditions.{refusal_in};
+ghost use Rattle.pc_kernel.specs.Reads.{seen, kinds, content, is_cpu};
+ghost use Rattle.pc_kernel.specs.PlainKernel as plain;
+ghost use Rattle.pc_kernel.specs.Steps.{refused};
+ghost use Rattle.pc_agent.specs.declared.counts.TheConstants.{MOST_COUNTED};
+ghost use Rattle.pc_agent.specs.Counts.{consume_counted};
+ghost use Rattle.pc_agent.specs.PlainAgent.{PlainAgent, threads_in};
+ghost use Rattle.pc_agent.specs.Publishing.{Copies, IsConsumed, IsPublished, WhateverShown};
+ghost use Rattle.pc_agent.specs.Shows.{ShowsAgent};
+
+use crate::agent::Agent;
+use crate::wire::{SendFault, Wire};
+use pc_calls::{CallFault, Refusal};
+use pc_delta::{Delta, take_in};
+use pc_join::OutOfMemory;
+use pc_kernel::Kernel;
+use pc_messages::{Item, Tid};
+use std::alloc::Global;
+
+/// The threads of the items, in their order; a tick has none.
+fn threads_of(alloc: Global, items: &[Item]) -> Result<Vec<Tid>, OutOfMemory>
+    ensures { IfOk result (λ threads. threads.items ≡ threads_in items.now) }
+{
+    let mut threads = Vec::new(alloc);
+    for item in items {
+        if let Item::Thread(message) = item {
+            threads.push(message.thread)?;
+        }
+    }
+    Ok(threads)
+}
+
+impl Agent {
+    /// Takes the messages of items into its view, refreshes its run list with their threads, and gives the delta that
+    /// tells them. Where memory runs out, the view has a part of them, and the run list is the old one.
+    pub fn copied(&mut self, items: &[Item]) -> Result<Delta, OutOfMemory>
+        requires tellable { AreTellable items.now }
+        ensures copies { Copies items.now result self.old self.new }
+        ensures cpu { self.new.cpu ≡ self.old.cpu }
+        ensures counts { self.new.counts ≡ self.old.counts }
+    {
+        let delta = Delta::of_items(self.alloc, items)?;
+        let touched = threads_of(self.alloc, items)?;
+        take_in(&mut self.view, &delta)?;
+        self.list
+            .refresh(&self.view, touched.as_slice(), self.cpu)?;
+        Ok(delta)
+    }
+
+    /// Counts so many items at the front of its queue as sent.
+    pub fn sent(&mut self, items: u32)
+        ensures shown { (run : Run) (p : PlainAgent) → ShowsAgent run p self.old → ShowsAgent run (record p { shown = items }) self.new }
+        ensures cpu { self.new.cpu ≡ self.old.cpu }
+        ensures counts { self.new.counts ≡ self.old.counts }
+    {
+        self.shown = items;
+    }
+
+    /// Copies all that its queue holds and sends it, and answers how many items that were. The items stay in the queue
+    /// until [`Agent::consume`].
+    ///
+    /// Where the wire refuses, or has no memory for the send, the view and the run list have changed all the same.
+    pub fn publish<W: Wire>(&mut self, kernel: &Kernel, wire: &mut W) -> Result<u32, SendFault>
+        requires there { IsTrue (is_cpu (seen kernel.now) self.old.cpu) }
+        requires room { W.faults wire.old < MOST_COUNTED }
+        ensures publishes { WhateverShown kernel.now self.old (λ P run p.
+            IsPublished W.Sends (plain.content P self.old.cpu) run p result self.old self.new wire.old wire.new) }
+        ensures fault { result ≡ Err SendFault.WireFault → W.faults wire.old < W.faults wire.new }
+        ensures cpu { self.new.cpu ≡ self.old.cpu }
+        ensures counts { self.new.counts ≡ self.old.counts }
+    {
+        match kernel.peek(self.cpu) {
+            Ok((_, items)) => self.publish_items(items.as_slice(), wire),
+            Err(CallFault::OutOfMemory) => Err(SendFault::OutOfMemory),
+            Err(CallFault::Refused(_)) => unreachable!(),
+        }
+    }
+
+    /// Copies the items, which are all that its queue holds, and sends them.
+    fn publish_items<W: Wire>(&mut self, items: &[Item], wire: &mut W) -> Result<u32, SendFault>
+        requires few { length items.now < 2 ^ 32 }
+        requires tellable { AreTellable items.now }
+        requires room { W.faults wire.old < MOST_COUNTED }
+        ensures publishes { (run : Run) (p : PlainAgent) → AreItemsOf run items.now → ShowsAgent run p self.old
+            → IsPublished W.Sends items.now run p result self.old self.new wire.old wire.new }
+        ensures fault { result ≡ Err SendFault.WireFault → W.faults wire.old < W.faults wire.new }
+        ensures cpu { self.new.cpu ≡ self.old.cpu }
+        ensures counts { self.new.counts ≡ self.old.counts }
+    {
+        let delta = match self.copied(items) {
+            Ok(delta) => delta,
+            Err(OutOfMemory) => return Err(SendFault::OutOfMemory),
+        };
+        match wire.send(delta) {
+            Ok(()) => {
+                let count = items.len() as u32;
+                self.sent(count);
+                Ok(count)
+            }
+            Err(fault) => Err(fault),
+        }
+    }
+
+    /// Removes from its queue the items that it has sent, and answers how many. It takes no memory. `TooMany` comes where
+    /// something else removed items from the queue since they were sent.
+    pub fn consume(&mut self, kernel: &mut Kernel) -> Result<u32, Refusal>
+        requires there { IsTrue (is_cpu (seen kernel.old) self.old.cpu) }
+        ensures consumes { WhateverShown kernel.old self.old (λ P run p. IsConsumed P run p result self.old self.new kernel.new) }
+        ensures fault { refusal_in result ≡ refused (seen kernel.old) (call.Consume self.old.cpu self.old.shown) }
+        ensures limits { kernel.new.limits ≡ kernel.old.limits }
+        ensures extends { Extends (kinds (seen kernel.new)) (kinds (seen kernel.old)) }
+        ensures err { OnErr result (kernel.new ≡ kernel.old) }
+        ensures agent_err { OnErr result (self.new ≡ self.old) }
+        ensures cpu { self.new.cpu ≡ self.old.cpu }
+        ensures counts { self.new.counts ≡ consume_counted result self.old.counts }
+    {
+        let items = self.shown;
+        match kernel.consume(self.cpu, items) {
+            Ok(()) => {
+                self.shown = 0;
+                let answered = Ok(items);
+                self.counts.count_consume(&answered);
+                answered
+            }
+            Err(refusal) => Err(refusal),
+        }
+    }
+}

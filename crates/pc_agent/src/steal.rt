@@ -1,0 +1,98 @@
+//! How an agent takes a thread over.
+
+ghost use Rattle.std.specs.Prelude.{◌≡◌, ◌≢◌, ◌∷◌, [], List, None, Some, Ok, IfOk, OnErr, IsTrue, is_some};
+ghost use Rattle.pc_messages.specs.Run.{Extends};
+ghost use Rattle.pc_kernel.specs.Reads.{Reads, seen, kinds, is_cpu, on};
+ghost use Rattle.pc_run_queue.specs.Runs.{runs_in};
+ghost use Rattle.pc_agent.specs.Counts.{steal_counted};
+ghost use Rattle.pc_agent.specs.PlainAgent.{may_take};
+ghost use Rattle.pc_agent.specs.Publishing.{WhateverShown};
+ghost use Rattle.pc_agent.specs.Running.{Finds, IsSeenExactly, IsStolen};
+
+use crate::agent::Agent;
+use pc_calls::{CallFault, Refusal};
+use pc_kernel::Kernel;
+use pc_messages::{Cpu, Tid};
+use pc_run_queue::{RunQueue, runs_on};
+use pc_view::View;
+
+/// Whether the kernel knows the thread and has it on no CPU.
+fn is_idle(kernel: &Kernel, thread: Tid) -> bool
+    ensures { result ≡ is_idle_thread (seen kernel.now) thread }
+{
+    match kernel.status(thread) {
+        Some(status) => status.running_on.is_none(),
+        None => false,
+    }
+}
+
+/// The least thread that may be taken over.
+fn prey(view: &View, list: &RunQueue, cpu: Cpu, kernel: &Kernel) -> Option<Tid>
+    ensures { Finds (may_take (seen kernel.now) (runs_in view.now cpu) list.now) result }
+{
+    for (thread, _) in view.iter() {
+        if runs_on(view, cpu, thread) && !list.has(thread) && is_idle(kernel, thread) {
+            return Some(thread);
+        }
+    }
+    None
+}
+
+impl Agent {
+    /// Takes the least thread over that it may: one that its view reports ready and allowed on its CPU, that is not in its
+    /// run list, and that the kernel knows and has on no CPU; a thread of its own queue too, which is how a restarted agent
+    /// takes its threads back. The thread then belongs to the agent's queue and stands at the end of its run list.
+    ///
+    /// `Busy` where a thread runs on its CPU; `NothingToSteal` where there is no such thread; then want of memory; then
+    /// what the kernel refuses: `Dead`, `Stale` with the number of now, `Pending`. Only the least thread is tried.
+    pub fn steal(&mut self, kernel: &mut Kernel) -> Result<Tid, CallFault>
+        requires there { IsTrue (is_cpu (seen kernel.old) self.old.cpu) }
+        ensures steals { WhateverShown kernel.old self.old (λ P run p. IsStolen P run p result self.old self.new kernel.new) }
+        ensures exact { IfOk result (λ thread. WhateverShown kernel.old self.old (λ P run p. IsSeenExactly P run p thread)) }
+        ensures limits { kernel.new.limits ≡ kernel.old.limits }
+        ensures extends { Extends (kinds (seen kernel.new)) (kinds (seen kernel.old)) }
+        ensures err { OnErr result (kernel.new ≡ kernel.old) }
+        ensures list_err { OnErr result (self.new.list ≡ self.old.list) }
+        ensures view { self.new.view ≡ self.old.view }
+        ensures shown { self.new.shown ≡ self.old.shown }
+        ensures cpu { self.new.cpu ≡ self.old.cpu }
+        ensures counts { self.new.counts ≡ steal_counted result self.old.counts }
+    {
+        let answered = self.try_steal(kernel);
+        self.counts.count_steal(&answered);
+        answered
+    }
+
+    /// The steal, before it is counted.
+    fn try_steal(&mut self, kernel: &mut Kernel) -> Result<Tid, CallFault>
+        requires there { IsTrue (is_cpu (seen kernel.old) self.old.cpu) }
+        ensures steals { WhateverShown kernel.old self.old (λ P run p. IsStolen P run p result self.old self.new kernel.new) }
+        ensures exact { IfOk result (λ thread. WhateverShown kernel.old self.old (λ P run p. IsSeenExactly P run p thread)) }
+        ensures limits { kernel.new.limits ≡ kernel.old.limits }
+        ensures extends { Extends (kinds (seen kernel.new)) (kinds (seen kernel.old)) }
+        ensures err { OnErr result (kernel.new ≡ kernel.old) }
+        ensures list_err { OnErr result (self.new.list ≡ self.old.list) }
+        ensures view { self.new.view ≡ self.old.view }
+        ensures shown { self.new.shown ≡ self.old.shown }
+        ensures cpu { self.new.cpu ≡ self.old.cpu }
+        ensures counts { self.new.counts ≡ self.old.counts }
+    {
+        if kernel.running(self.cpu).is_some() {
+            return Err(CallFault::Refused(Refusal::Busy));
+        }
+        let Some(thread) = prey(&self.view, &self.list, self.cpu, kernel) else {
+            return Err(CallFault::Refused(Refusal::NothingToSteal));
+        };
+        // The name is put first: once the kernel has accepted, nothing may fail.
+        if self.list.push(thread).is_err() {
+            return Err(CallFault::OutOfMemory);
+        }
+        match kernel.associate(thread, self.cpu, self.view.upto(thread)) {
+            Ok(()) => Ok(thread),
+            Err(refusal) => {
+                self.list.take_last();
+                Err(CallFault::Refused(refusal))
+            }
+        }
+    }
+}
