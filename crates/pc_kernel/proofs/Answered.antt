@@ -1,6 +1,7 @@
 -- From what a call of the code says, that the step accepts the call or refuses it; and whole lists of calls.
-use Rattle.std.proofs.Common.{◌≡◌, ◌≢◌, List, [], ◌∷◌, ◌++◌, Option, Some, None, Result, Ok, Err, IfOk, refl, sym, ap}
+use Rattle.std.proofs.Common.{◌≡◌, ◌≢◌, ◌↔◌, List, [], ◌∷◌, ◌++◌, Option, Some, None, Result, Ok, Err, IfOk, refl, sym, ap}
 use Rattle.std.specs.Result.{result_map_both}
+use Rattle.pc_calls.specs.Conditions.{refusal_in}
 use Rattle.pc_calls.specs.declared.call.Call.{Call}
 use Rattle.pc_calls.specs.declared.call.Posted.{Posted}
 use Rattle.pc_calls.specs.declared.call.Answer.{Answer}
@@ -71,6 +72,17 @@ told_plainly call r old new h P shows = retold r (reply P call) (after P call) (
 pub plainly : (r : Result (Unit {0}) Refusal) → result_map_both (λ _. answer.Done) Refused r ≢ Err OutOfMemory
 plainly (Ok unit) e = cc
 plainly (Err refusal) e = cc
+
+-- it is refused as the post or the agent's call is
+pub fault_told : (o : Option Refusal) (r : Result Posted CallFault) → ((refusal : Refusal) → (r ≡ Err (Refused refusal)) ↔ (o ≡ Some refusal))
+    → (refusal : Refusal) → (result_map_both answer.Posted (λ fault. fault) r ≡ Err (Refused refusal)) ↔ (o ≡ Some refusal)
+fault_told o (Ok posted) h refusal = (λ e. cc, λ e. let no = (h refusal).1 e in cc)
+fault_told o (Err fault) h refusal = (λ e. (h refusal).0 (let same : fault ≡ Refused refusal = cc in cc), λ e. let is = (h refusal).1 e in cc)
+
+pub fault_told_plainly : (o : Option Refusal) (r : Result (Unit {0}) Refusal) → refusal_in r ≡ o
+    → (refusal : Refusal) → (result_map_both (λ _. answer.Done) Refused r ≡ Err (Refused refusal)) ↔ (o ≡ Some refusal)
+fault_told_plainly o (Ok unit) h refusal = (λ e. cc, λ e. cc)
+fault_told_plainly o (Err why) h refusal = (λ e. cc, λ e. cc)
 
 -- lists of calls: none, one that is accepted, one that is refused, and one list after another
 pub replays_none : (k : KernelRows) → Replays [] k k

@@ -1,4 +1,5 @@
 pub mod Answers
+pub mod Exact
 pub mod Facts
 pub mod Inner
 pub mod PlainKernel

@@ -1,6 +1,6 @@
 //! The kernel model.
 
-ghost use Rattle.std.specs.Prelude.{◌≡◌, ◌≤◌, ◌↔◌, Some, None, length, is_some, slice_get, IfOk, IfErr, IsFalse, ◌⊎◌};
+ghost use Rattle.std.specs.Prelude.{◌≡◌, ◌≤◌, ◌↔◌, ℕ, nat_lt, Some, None, length, is_some, slice_get, IfOk, IfErr, IsFalse, ◌⊎◌};
 ghost use Rattle.std.specs.Option.{option_map, option_copied};
 ghost use Rattle.pc_calls.specs.Limits.{bad_field};
 ghost use Rattle.pc_calls.specs.declared.limits.TheConstants.{MOST_CPUS, MOST_ROOM};
@@ -43,7 +43,7 @@ impl Kernel {
     ghost use Rattle.pc_kernel.specs.Inner.Entries.{row_of};
     ghost use Rattle.pc_kernel.specs.Sound.{IsSound};
     ghost use Rattle.pc_calls.specs.declared.limits.LimitField.{LimitField};
-    ghost use Rattle.pc_kernel.specs.Reads.{seen, kinds, status_of, reported_of, history_of, queue_of, aseq_of, aseq, content, is_cpu, on, is_asleep};
+    ghost use Rattle.pc_kernel.specs.Reads.{seen, kinds, status_of, reported_of, history_of, queue_of, aseq_of, aseq, content, is_known, is_cpu, on, is_asleep};
 
     /// The kernel at the start, with limits of profile One.
     pub fn new(alloc: Global, limits: Limits) -> Result<Self, LimitsFault>
@@ -104,7 +104,8 @@ impl Kernel {
 
     /// How many threads are known, which is the next name.
     pub fn threads(&self) -> u32
-        ensures { result ≡ length self.now.threads }
+        ensures count { result ≡ length self.now.threads }
+        ensures known { (t : ℕ) → is_known (seen self.now) t ≡ nat_lt t result }
     {
         self.threads.len() as u32
     }

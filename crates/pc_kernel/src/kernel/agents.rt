@@ -3,6 +3,7 @@
 
 ghost use Rattle.std.specs.Prelude.{◌≡◌, OnErr};
 ghost use Rattle.std.specs.List.{list_any};
+ghost use Rattle.pc_calls.specs.Conditions.{refusal_in};
 
 use crate::kernel::Kernel;
 use pc_calls::{Answer, Call, Refusal};
@@ -18,6 +19,7 @@ impl Kernel {
     /// Removes the first items of the CPU's queue.
     pub fn consume(&mut self, cpu: Cpu, count: u32) -> Result<(), Refusal>
         ensures step { Steps done (Call.Consume cpu count) result self.old self.new }
+        ensures fault { refusal_in result ≡ refused (seen self.old) (Call.Consume cpu count) }
         ensures limits { self.new.limits ≡ self.old.limits }
         ensures extends { Extends (kinds (seen self.new)) (kinds (seen self.old)) }
         ensures err { OnErr result (self.new ≡ self.old) }
@@ -35,6 +37,7 @@ impl Kernel {
     /// as it knows it.
     pub fn associate(&mut self, thread: Tid, queue: Cpu, number: u32) -> Result<(), Refusal>
         ensures step { Steps done (Call.Associate thread queue number) result self.old self.new }
+        ensures fault { refusal_in result ≡ refused (seen self.old) (Call.Associate thread queue number) }
         ensures limits { self.new.limits ≡ self.old.limits }
         ensures extends { Extends (kinds (seen self.new)) (kinds (seen self.old)) }
         ensures err { OnErr result (self.new ≡ self.old) }
@@ -52,6 +55,7 @@ impl Kernel {
     /// under an Aseq).
     pub fn commit(&mut self, cpu: Cpu, thread: Tid, aseq: u32) -> Result<(), Refusal>
         ensures step { Steps done (Call.Commit cpu thread aseq) result self.old self.new }
+        ensures fault { refusal_in result ≡ refused (seen self.old) (Call.Commit cpu thread aseq) }
         ensures limits { self.new.limits ≡ self.old.limits }
         ensures extends { Extends (kinds (seen self.new)) (kinds (seen self.old)) }
         ensures err { OnErr result (self.new ≡ self.old) }
@@ -68,6 +72,7 @@ impl Kernel {
     /// Puts the CPU's agent to sleep, where it has read all posts to its queue.
     pub fn sleep(&mut self, cpu: Cpu, aseq: u32) -> Result<(), Refusal>
         ensures step { Steps done (Call.Sleep cpu aseq) result self.old self.new }
+        ensures fault { refusal_in result ≡ refused (seen self.old) (Call.Sleep cpu aseq) }
         ensures limits { self.new.limits ≡ self.old.limits }
         ensures extends { Extends (kinds (seen self.new)) (kinds (seen self.old)) }
         ensures err { OnErr result (self.new ≡ self.old) }
@@ -84,6 +89,7 @@ impl Kernel {
     /// Wakes the CPU's agent.
     pub fn rouse(&mut self, cpu: Cpu) -> Result<(), Refusal>
         ensures step { Steps done (Call.Rouse cpu) result self.old self.new }
+        ensures fault { refusal_in result ≡ refused (seen self.old) (Call.Rouse cpu) }
         ensures limits { self.new.limits ≡ self.old.limits }
         ensures extends { Extends (kinds (seen self.new)) (kinds (seen self.old)) }
         ensures err { OnErr result (self.new ≡ self.old) }
@@ -100,6 +106,7 @@ impl Kernel {
     /// Sets which agent the queue wakes, if any (the ghOSt paper's CONFIG_QUEUE_WAKEUP). That agent is awake at once.
     pub fn config_wakeup(&mut self, queue: Cpu, target: Option<Cpu>) -> Result<(), Refusal>
         ensures step { Steps done (Call.Config queue target) result self.old self.new }
+        ensures fault { refusal_in result ≡ refused (seen self.old) (Call.Config queue target) }
         ensures limits { self.new.limits ≡ self.old.limits }
         ensures extends { Extends (kinds (seen self.new)) (kinds (seen self.old)) }
         ensures err { OnErr result (self.new ≡ self.old) }

@@ -1,6 +1,6 @@
 //! Calls as values.
 
-ghost use Rattle.std.specs.Prelude.{◌≡◌, Err, OnErr};
+ghost use Rattle.std.specs.Prelude.{◌≡◌, ◌↔◌, Some, Err, OnErr};
 ghost use Rattle.std.specs.Result.{result_map_both};
 
 use crate::kernel::Kernel;
@@ -10,11 +10,14 @@ impl Kernel {
     ghost use Rattle.pc_messages.specs.Run.{Extends};
     ghost use Rattle.pc_kernel.specs.Answers.{StepsInMemory, itself};
     ghost use Rattle.pc_kernel.specs.Reads.{seen, kinds};
+    ghost use Rattle.pc_kernel.specs.Steps.{refused};
 
     /// Makes the call.
     pub fn apply(&mut self, call: Call) -> Result<Answer, CallFault>
         ensures step { StepsInMemory itself call result self.old self.new }
-        ensures plain { result ≡ Err CallFault.OutOfMemory → (env : EnvCall) × (call ≡ Call.Env env) }
+        ensures fault { (refusal : Refusal) →
+            (result ≡ Err (CallFault.Refused refusal)) ↔ (refused (seen self.old) call ≡ Some refusal) }
+        ensures environment { result ≡ Err CallFault.OutOfMemory → (env : EnvCall) × (call ≡ Call.Env env) }
         ensures limits { self.new.limits ≡ self.old.limits }
         ensures extends { Extends (kinds (seen self.new)) (kinds (seen self.old)) }
         ensures err { OnErr result (self.new ≡ self.old) }
@@ -37,6 +40,8 @@ impl Kernel {
     /// Makes the environment's call.
     fn apply_env(&mut self, call: EnvCall) -> Result<Posted, CallFault>
         ensures step { StepsInMemory Answer.Posted (Call.Env call) result self.old self.new }
+        ensures fault { (refusal : Refusal) →
+            (result ≡ Err (CallFault.Refused refusal)) ↔ (refused (seen self.old) (Call.Env call) ≡ Some refusal) }
         ensures limits { self.new.limits ≡ self.old.limits }
         ensures extends { Extends (kinds (seen self.new)) (kinds (seen self.old)) }
         ensures err { OnErr result (self.new ≡ self.old) }
