@@ -97,7 +97,7 @@ items_pairs (Tick cpu ∷ items) = items_pairs items
 pub set_in : (items : List Item) (parts : List Part) → parts ≡ parts_in items → IsSameSet (set_of parts) (as_members (pairs_in items))
 set_in items parts e m = ap (λ ps. set_of ps m) e ∙ parts_pairs (parts_in items) m ∙ ap (λ l. as_members l m) (items_pairs items)
 
-of_run_in : (run : Run) (items : List Item) → AreItemsOf run items → AreOfRun run (parts_in items)
+pub of_run_in : (run : Run) (items : List Item) → AreItemsOf run items → AreOfRun run (parts_in items)
 of_run_in run [] h = all_none (IsPartOfRun run)
 of_run_in run (Thread message ∷ items) h =
     all_cons (IsPartOfRun run) (One message) (parts_in items) (all_first (IsItemOf run) (Thread message) items h) (of_run_in run items (all_rest (IsItemOf run) (Thread message) items h))

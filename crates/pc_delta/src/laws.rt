@@ -2,6 +2,8 @@
 
 ghost use Rattle.std.specs.Prelude.{ℕ, ◌≡◌, ◌↔◌, ◌||◌, List, None, All, IsTrue};
 ghost use Rattle.pc_messages.specs.Run.{Run, Extends, IsWellFormed};
+ghost use Rattle.pc_messages.specs.Items.{AreItemsOf, pairs_in};
+ghost use Rattle.pc_messages.specs.declared.message.Item.{Item};
 ghost use Rattle.pc_messages.specs.declared.message.Message.{Message};
 ghost use Rattle.pc_messages.specs.declared.reported.Reported.{Reported};
 ghost use Rattle.pc_join.specs.Sets.{IsSameSet, as_members};
@@ -9,7 +11,7 @@ ghost use Rattle.pc_view.specs.declared.view.View.{View};
 ghost use Rattle.pc_view.specs.Views.{pairs_of, IsOfRun};
 ghost use Rattle.pc_delta.specs.declared.part.Part.{Part};
 ghost use Rattle.pc_delta.specs.declared.part.Part.TheVariants.{One, Folded};
-ghost use Rattle.pc_delta.specs.Parts.{set_of, AreOfRun, all_parts, pairs_of_parts};
+ghost use Rattle.pc_delta.specs.Parts.{set_of, AreOfRun, all_parts, pairs_of_parts, parts_in};
 ghost use Rattle.pc_delta.specs.Faults.{HasNoConflict, IsPossiblePrefix, fault_of, first_fault};
 ghost use Rattle.pc_delta.specs.Digests.{RangesByName, set_of_digest, is_same_digest};
 ghost use Rattle.pc_delta.specs.Exchange.{IsTakenIn, IsPartlyTakenIn};
@@ -63,6 +65,12 @@ pub fn parts_without_fault_are_well_formed()
 /// The set of parts is that of their pairs.
 pub fn sets_are_pairs()
     ensures { (parts : List Part) → IsSameSet (set_of parts) (as_members (pairs_of_parts parts)) }
+{}
+
+/// The parts that tell items tell their messages and no others, and are of each run that the items are of.
+pub fn parts_of_items_are_of_the_run()
+    ensures set { (items : List Item) → IsSameSet (set_of (parts_in items)) (as_members (pairs_in items)) }
+    ensures of_run { (run : Run) (items : List Item) → AreItemsOf run items → AreOfRun run (parts_in items) }
 {}
 
 /// The faults of parts and the pairs that they tell, at lists that were worked by hand. It computes nothing: it shows

@@ -4,19 +4,9 @@ use Rattle.pc_messages.specs.Mask.{allows}
 use Rattle.pc_messages.specs.declared.reported.Phase.{Phase}
 use Rattle.pc_messages.specs.declared.reported.Phase.TheVariants as phase
 use Rattle.pc_messages.specs.declared.reported.Reported.{Reported}
-use Rattle.pc_thread_view.specs.Told.{Told}
 use Rattle.pc_view.specs.declared.view.View.{View}
-use Rattle.pc_view.specs.Views.{thread_of}
+use Rattle.pc_view.specs.Prefixes.{reported_in}
 use Rattle.pc_run_queue.specs.Names.{with_new, by_level}
-
--- the state that is told of a thread
-abbrev pub state_told : Option Told → Option Reported
-state_told None = None
-state_told (Some told) = told.state
-
--- the state that the view reports of the thread
-abbrev pub reported_in : View → ℕ → Option Reported
-reported_in view t = state_told (thread_of view t)
 
 abbrev pub is_ready : Phase → Bool
 is_ready phase.Ready = true

@@ -1,6 +1,5 @@
 -- What is told of an agent that sleeps, of two views, and of one.
 use Rattle.std.proofs.Common.{◌≡◌, ℕ, ◌+◌, ◌≤◌, ◌<◌, ◌&&◌, ◌↔◌, Bool, true, false, IsTrue, List, [], ◌∷◌, take, Option, Some, None, MatchBool, nat_lt, refl, sym, ◌∙◌, ap, subst, inl, inr, arith}
-use Rattle.std.specs.Option.{option_map_or}
 use Rattle.std.proofs.lemmas.Bool.{false≢true, cases_lt, lt-ltb}
 use Rattle.std.proofs.lemmas.Bool.Decides.{nat_tests}
 use Rattle.pc_messages.specs.Run.{Run}
@@ -14,7 +13,8 @@ use Rattle.pc_kernel.specs.Reads.{Reads, seen, shown, is_cpu, is_asleep, number}
 use Rattle.pc_kernel.specs.Rows.{KernelRows}
 use Rattle.pc_thread_view.specs.Told.{Told, numbers_of}
 use Rattle.pc_view.specs.declared.view.View.{View}
-use Rattle.pc_view.specs.Audit.{IsComplete, upto_of}
+use Rattle.pc_view.specs.Audit.{IsComplete}
+use Rattle.pc_view.specs.Prefixes.{upto_of, upto_told}
 use Rattle.pc_view.specs.Views.{pairs_of, thread_of, source_of, IsOfRun}
 use Rattle.pc_script.specs.declared.lists.ShownThread.{ShownThread}
 use Rattle.pc_script.specs.declared.response.Response.TheVariants as response
@@ -93,11 +93,11 @@ same_with_nobody w c other none =
 -- a view is complete exactly where the set has all of the thread
 module _ (prefix : (view : View) (thread n : ℕ) (told : Told) → thread_of view thread ≡ Some told → 1 ≤ n → n ≤ told.upto → pairs_of view (thread ∷ n ∷ []) ≡ true)
     (missing : (run : Run) (view : View) (thread : ℕ) (told : Told) → IsOfRun run view → thread_of view thread ≡ Some told → pairs_of view (thread ∷ (told.upto + 1) ∷ []) ≡ false) where
-  upto_told : (view : View) (thread n : ℕ) (o : Option Told) → thread_of view thread ≡ o → 1 ≤ n → n ≤ option_map_or (λ told. told.upto) o 0 → pairs_of view (thread ∷ n ∷ []) ≡ true
-  upto_told view thread n None e low high = absurd (let no_room : ⊥ = omega arith in no_room)
-  upto_told view thread n (Some told) e low high = prefix view thread n told e low high
+  told_upto : (view : View) (thread n : ℕ) (o : Option Told) → thread_of view thread ≡ o → 1 ≤ n → n ≤ upto_told o → pairs_of view (thread ∷ n ∷ []) ≡ true
+  told_upto view thread n None e low high = absurd (let no_room : ⊥ = omega arith in no_room)
+  told_upto view thread n (Some told) e low high = prefix view thread n told e low high
 
-  next_missing : (run : Run) (view : View) (thread : ℕ) (o : Option Told) → IsOfRun run view → thread_of view thread ≡ o → pairs_of view (thread ∷ (option_map_or (λ told. told.upto) o 0 + 1) ∷ []) ≡ false
+  next_missing : (run : Run) (view : View) (thread : ℕ) (o : Option Told) → IsOfRun run view → thread_of view thread ≡ o → pairs_of view (thread ∷ (upto_told o + 1) ∷ []) ≡ false
   next_missing run view thread None of_run e = ap (λ o. known_in numbers_of o (1 ∷ [])) e
   next_missing run view thread (Some told) of_run e = missing run view thread told of_run e
 
@@ -106,7 +106,7 @@ module _ (prefix : (view : View) (thread n : ℕ) (told : Told) → thread_of vi
     λ h. record {
       known = h.known;
       all = λ n low high. let reached : number reads thread ≤ upto_of view thread = h.reached in
-          sym (same (thread ∷ n ∷ [])) ∙ upto_told view thread n (thread_of view thread) refl low (let le : n ≤ upto_of view thread = omega arith in le);
+          sym (same (thread ∷ n ∷ [])) ∙ told_upto view thread n (thread_of view thread) refl low (let le : n ≤ upto_of view thread = omega arith in le);
     },
     λ h. record {
       known = h.known;

@@ -14,7 +14,8 @@ use Rattle.pc_kernel.specs.Reads.{seen, kinds, history_of, reported_of}
 use Rattle.pc_view.specs.declared.view.View.{View}
 use Rattle.pc_join.proofs.Entries.{IsWalked}
 use Rattle.pc_view.specs.Views.{IsOfRun, source_of, thread_of, written_at}
-use Rattle.pc_view.specs.Audit.{Has, Departs, IsPast, IsOtherState, IsFirstOther, IsOfHistory, IsPrefixOf, IsComplete, upto_of}
+use Rattle.pc_view.specs.Audit.{Has, Departs, IsPast, IsOtherState, IsFirstOther, IsOfHistory, IsPrefixOf, IsComplete}
+use Rattle.pc_view.specs.Prefixes.{upto_told, upto_of}
 use Rattle.pc_view.proofs.Runs.{kind_after, nothing_written, state_of_run, within_run}
 
 -- the source of a run gives the kinds of a history's first messages
@@ -142,7 +143,7 @@ pub none_complete : (k : KernelRows) (view : View) (thread : ℕ) → IsSound k 
 none_complete k view thread sound none h = by_row (slice_get k.threads thread) refl
   where
     zero_upto : upto_of view thread ≡ 0
-    zero_upto = ap (λ o. option_map_or (λ told. told.upto) o 0) none
+    zero_upto = ap upto_told none
 
     by_row : (o : Option ThreadRow) → slice_get k.threads thread ≡ o → ⊥
     by_row None e = let known : IsTrue false = subst (λ o. IsTrue (is_some o)) e h.known in cc

@@ -1,13 +1,12 @@
 -- Where a view departs from a kernel's histories.
 use Rattle.std.specs.Prelude.{ℕ, ◌+◌, ◌<◌, ◌≤◌, ◌≡◌, ◌⊎◌, IsTrue, List, ◌∷◌, ◌++◌, length, take, Some, All}
-use Rattle.std.specs.Option.{option_map_or}
 use Rattle.pc_messages.specs.declared.kind.Kind.{Kind}
 use Rattle.pc_messages.specs.Run.{kind_at}
 use Rattle.pc_messages.specs.State.{state_of}
 use Rattle.pc_thread_view.specs.Told.{Told}
 use Rattle.pc_kernel.specs.Reads.{Reads, is_known, number}
 use Rattle.pc_view.specs.declared.view.View.{View}
-use Rattle.pc_view.specs.Views.{thread_of}
+use Rattle.pc_view.specs.Prefixes.{upto_of}
 
 -- the history has this message
 abbrev pub Has : List Kind → ℕ × Kind → Type 0
@@ -45,10 +44,6 @@ Departs kinds told number =
 pub record IsOfHistory (kinds : List Kind) (told : Told) : Type 0 where
   pub prefix : IsPrefixOf kinds told
   pub early : All (Has kinds) told.early
-
--- how long the known prefix of a thread is
-abbrev pub upto_of : View → ℕ → ℕ
-upto_of view thread = option_map_or (λ told. told.upto) (thread_of view thread) 0
 
 -- the kernel knows the thread, and the view all its messages so far
 pub record IsComplete (view : View) (reads : Reads) (thread : ℕ) : Type 0 where

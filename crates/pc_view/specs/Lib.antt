@@ -1,3 +1,4 @@
 pub mod Views
+pub mod Prefixes
 pub mod Audit
 pub mod Inner

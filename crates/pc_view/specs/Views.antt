@@ -1,5 +1,5 @@
 -- Views of many threads, and the runs that they are of.
-use Rattle.std.specs.Prelude.{ℕ, Bool, List, [], ◌∷◌, Option, Some, None}
+use Rattle.std.specs.Prelude.{ℕ, ◌&&◌, nat_le, Bool, false, List, [], ◌∷◌, length, Option, Some, None}
 use Rattle.std.specs.FinMap as map
 use Rattle.pc_messages.specs.declared.kind.Kind.{Kind}
 use Rattle.pc_messages.specs.declared.reported.Reported.{Reported}
@@ -38,6 +38,13 @@ source_of run [] = []
 source_of run (t ∷ []) = []
 source_of run (t ∷ n ∷ []) = written_at (kind_at (run t) n)
 source_of run (t ∷ n ∷ k ∷ m) = []
+
+-- the messages of the run, as pairs of a thread's name and a number
+abbrev pub pairs_in : Run → Members
+pairs_in run [] = false
+pairs_in run (t ∷ []) = false
+pairs_in run (t ∷ n ∷ []) = nat_le 1 n && nat_le n (length (run t))
+pairs_in run (t ∷ n ∷ k ∷ m) = false
 
 -- each thing that the view tells is what the source gives
 abbrev pub IsOfSource : View → Source → Type 0

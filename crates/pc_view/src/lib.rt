@@ -5,12 +5,15 @@
 #![tactic(auto)]
 
 mod auditing;
+mod laws;
 #[cfg(test)]
 mod tests;
 mod view;
 
 pub use auditing::{Stranger, audit, complete};
-pub use view::{
-    View, equality_is_exact, reads_are_those_of_the_run, views_of_the_same_messages_are_equal,
-    views_stay_as_the_run_goes_on,
+pub use laws::{
+    equality_is_exact, reads_are_those_of_the_run, sets_are_those_of_the_run, upto_is_the_greatest,
+    views_of_the_same_messages_are_equal, views_stay_as_the_run_goes_on,
+    views_tell_what_their_sets_tell,
 };
+pub use view::View;

@@ -331,3 +331,20 @@ fn threads_are_looked_up_in_order(rt: HostRuntime) -> Result<(), Fail> {
     assert!(rt; found.at(Tid(3)).is_none());
     Ok(())
 }
+
+// The first of t0 is known and the third; of t1 nothing; of t2 the third alone.
+#[test]
+fn what_is_known_without_a_gap(rt: HostRuntime) -> Result<(), Fail> {
+    let mask = Mask::new(3, 2)?;
+    let mut view = odd(rt.alloc(), mask)?;
+    view.merge(&view_of(rt.alloc(), 2, 3, Kind::Wakeup)?)?;
+    assert_eq!(rt; view.upto(Tid(0)), 1);
+    assert_eq!(rt; view.upto(Tid(1)), 0);
+    assert_eq!(rt; view.upto(Tid(2)), 0);
+    let reported = view.reported(Tid(0)).expect(&rt, "a state");
+    assert!(rt; reported.phase == Phase::Blocked);
+    assert_eq!(rt; reported.ran, 0);
+    assert!(rt; view.reported(Tid(1)).is_none());
+    assert!(rt; view.reported(Tid(2)).is_none());
+    Ok(())
+}

@@ -3,15 +3,13 @@
 ghost use Rattle.std.specs.Prelude.{ℕ, ◌+◌, ◌*◌, ◌≡◌, ◌≤◌, ◌<◌, ◌↔◌, Bool, true, false, List, [], ◌∷◌, Some, None, IsTrue, IsOk, IsSome, IfSome, IfOk, OnOk, MatchOption, option_copied, take, length, All};
 ghost use Rattle.pc_messages.specs.declared.message.TheConstants.{GREATEST_NUMBER};
 ghost use Rattle.pc_messages.specs.declared.kind.TheConstants.{MOST_TICKS};
-ghost use Rattle.pc_messages.specs.State.{state_of};
 ghost use Rattle.std.specs.FinMap as map;
 ghost use Rattle.pc_messages.specs.Run.{Run, IsWellFormed, kind_at, Extends};
 ghost use Rattle.pc_join.specs.Sets.{Members, Source, IsUnion, IsBetween, IsWithin, IsVoid, IsSameSet};
 ghost use Rattle.pc_join.specs.ByName.{IsNextName, HasShortNames};
 ghost use Rattle.pc_thread_view.specs.Told.{Told, numbers_of};
-ghost use Rattle.pc_view.specs.declared.view.View.{View};
 ghost use Rattle.pc_view.specs.Views.{is_same_view, pairs_of, thread_of, pair, prefix_pairs, IsOfRun, IsOfSource, IsPrefixOfRun};
-ghost use Rattle.pc_view.specs.Audit.{Has};
+ghost use Rattle.pc_view.specs.Prefixes.{upto_of, reported_in};
 ghost use Rattle.pc_view.specs.Inner.ViewLaws.{unique_view, stays_view, view_partial, view_equivalence};
 
 use pc_join::{ByName, Iter, Join, Lookups, OutOfMemory};
@@ -95,6 +93,26 @@ impl View {
         match self.threads.get(thread) {
             Some(held) => held.has(number),
             None => false,
+        }
+    }
+
+    /// The number up to which all messages of the thread are known; 0 where the first is not.
+    pub fn upto(&self, thread: Tid) -> u32
+        ensures { result ≡ upto_of self.now thread }
+    {
+        match self.threads.get(thread) {
+            Some(held) => held.upto(),
+            None => 0,
+        }
+    }
+
+    /// The state that these messages report; none where the first is not known.
+    pub fn reported(&self, thread: Tid) -> Option<Reported>
+        ensures { result ≡ reported_in self.now thread }
+    {
+        match self.threads.get(thread) {
+            Some(held) => held.reported(),
+            None => None,
         }
     }
 
@@ -189,36 +207,3 @@ fn is_same_thread(mine: &ThreadView, theirs: &ThreadView) -> bool
 {
     *mine == *theirs
 }
-
-/// Two views are equal exactly where the same is known.
-pub fn equality_is_exact()
-    ensures { (a b : View) → IsTrue (is_same_view a b) ↔ (a ≡ b) }
-{}
-
-/// Views of one run with the same messages are equal.
-pub fn views_of_the_same_messages_are_equal()
-    ensures { (run : Run) (a b : View) → IsOfRun run a → IsOfRun run b → IsSameSet (pairs_of a) (pairs_of b) → a ≡ b }
-{}
-
-/// A view of a run is a view of each run that goes on from it.
-pub fn views_stay_as_the_run_goes_on()
-    ensures { (longer shorter : Run) (view : View) → Extends longer shorter → IsOfRun shorter view → IsOfRun longer view }
-{}
-
-/// What a view of a run tells of a thread: the state of the run's messages up to the number, which it has, and it
-/// has not the next; where that is as far as the run goes, the state that the run gives. Each early message is one of
-/// the run.
-pub fn reads_are_those_of_the_run()
-    ensures reported { (run : Run) (view : View) (thread : ℕ) (told : Told) → IsOfRun run view → thread_of view thread ≡ Some told
-        → told.state ≡ state_of (take told.upto (run thread)) }
-    ensures within { (run : Run) (view : View) (thread : ℕ) (told : Told) → IsOfRun run view → thread_of view thread ≡ Some told
-        → told.upto ≤ length (run thread) }
-    ensures prefix { (view : View) (thread n : ℕ) (told : Told) → thread_of view thread ≡ Some told → 1 ≤ n → n ≤ told.upto
-        → pairs_of view (thread ∷ n ∷ []) ≡ true }
-    ensures whole { (run : Run) (view : View) (thread : ℕ) (told : Told) → IsOfRun run view → thread_of view thread ≡ Some told
-        → length (run thread) ≤ told.upto → told.state ≡ state_of (run thread) }
-    ensures missing { (run : Run) (view : View) (thread : ℕ) (told : Told) → IsOfRun run view → thread_of view thread ≡ Some told
-        → pairs_of view (thread ∷ (told.upto + 1) ∷ []) ≡ false }
-    ensures early { (run : Run) (view : View) (thread : ℕ) (told : Told) → IsOfRun run view → thread_of view thread ≡ Some told
-        → All (Has (run thread)) told.early }
-{}

@@ -1,5 +1,5 @@
 use Rattle.pc_view.specs.Inner.ViewLaws.{view_Decides}
-use Rattle.pc_view.proofs.view.equality_is_exact.Goals as goal
+use Rattle.pc_view.proofs.laws.equality_is_exact.Goals as goal
 
 pub returns : goal.returns
 returns c = view_Decides
