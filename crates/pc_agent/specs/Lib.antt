@@ -4,3 +4,4 @@ pub mod Shows
 pub mod Publishing
 pub mod Running
 pub mod Exchanging
+pub mod Inner

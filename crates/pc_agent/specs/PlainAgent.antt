@@ -71,9 +71,13 @@ pick_refused r cpu n names =
     ∷ (is_nothing (ready_list r cpu n names), refusal.NothingReady)
     ∷ [])
 
--- a thread that an agent may take over: it runs here, is not in the run list, and the kernel knows it and has it on no CPU
+-- the kernel knows the thread, and has it on no CPU
+abbrev pub is_idle : Reads → ℕ → Bool
+is_idle r t = is_known r t && is_none (place r t)
+
+-- a thread that an agent may take over: it runs here, is not in the run list, and is idle
 abbrev pub may_take : Reads → (ℕ → Bool) → List ℕ → ℕ → Bool
-may_take r runs list t = (runs t && not (has_name list t)) && (is_known r t && is_none (place r t))
+may_take r runs list t = (runs t && not (has_name list t)) && is_idle r t
 
 -- by what the view of the agent's set in the run reports
 abbrev pub may_steal : Reads → Run → ℕ → PlainAgent → ℕ → Bool

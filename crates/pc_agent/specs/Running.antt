@@ -1,8 +1,7 @@
 -- What an agent does to have a thread run: it picks one of its run list, or takes one over.
-use Rattle.std.specs.Prelude.{ℕ, ◌<◌, ◌≡◌, Bool, true, false, List, [], ◌∷◌, ◌++◌, Option, Some, None, Result, Ok, Err, is_some}
+use Rattle.std.specs.Prelude.{ℕ, ◌<◌, ◌≡◌, Bool, true, false, List, [], ◌∷◌, ◌++◌, Option, Some, None, Result, Ok, Err, MatchBool, is_some}
 use Rattle.pc_messages.specs.Run.{Run}
 use Rattle.pc_messages.specs.State.{state_of}
-use Rattle.pc_calls.specs.Conditions.{first_of}
 use Rattle.pc_calls.specs.declared.call.Call.{Call}
 use Rattle.pc_calls.specs.declared.call.Call.TheVariants as call
 use Rattle.pc_calls.specs.declared.refusal.Refusal.{Refusal}
@@ -13,7 +12,7 @@ use Rattle.pc_kernel.specs.Answers.{Shows}
 use Rattle.pc_kernel.specs.PlainKernel.{PlainKernel, kinds, number}
 use Rattle.pc_kernel.specs.Reads.{Reads, shown, on, is_pending}
 use Rattle.pc_kernel.specs.Rows.{KernelRows}
-use Rattle.pc_kernel.specs.Steps.{after, refused, refusals}
+use Rattle.pc_kernel.specs.Steps.{after, refused}
 use Rattle.pc_view.specs.Prefixes.{reports, upto}
 use Rattle.pc_agent.specs.declared.agent.Agent.{Agent}
 use Rattle.pc_agent.specs.PlainAgent.{PlainAgent, may_steal, pick_refused, ready_list}
@@ -52,10 +51,10 @@ Finds test (Some t) = IsLeast test t
 abbrev pub takes_over : ℕ → PlainAgent → ℕ → Call
 takes_over cpu p t = call.Associate t cpu (upto p.seen t)
 
--- why a steal is refused, in order, where this is the thread to be taken over
-abbrev pub steal_refused : Reads → ℕ → PlainAgent → Option ℕ → Option Refusal
-steal_refused r cpu p None = first_of ((is_some (on r cpu), Busy) ∷ (true, NothingToSteal) ∷ [])
-steal_refused r cpu p (Some t) = first_of ((is_some (on r cpu), Busy) ∷ refusals r (takes_over cpu p t))
+-- why no thread is taken over, where this is the least that may be
+abbrev pub take_refused : Reads → ℕ → PlainAgent → Option ℕ → Option Refusal
+take_refused r cpu p None = Some NothingToSteal
+take_refused r cpu p (Some t) = refused r (takes_over cpu p t)
 
 -- the thread is taken over, and goes to the end of the run list
 pub record IsTakenOver (P : PlainKernel) (run : Run) (p : PlainAgent) (t : ℕ) (old new : Agent) (kernel : KernelRows) : Type 0 where
@@ -63,16 +62,17 @@ pub record IsTakenOver (P : PlainKernel) (run : Run) (p : PlainAgent) (t : ℕ) 
   pub after : Shows kernel (after P (takes_over old.cpu p t))
   pub agent : ShowsAgent run (record p { list = p.list ++ t ∷ [] }) new
 
--- a steal: only the least thread that may be stolen is tried
+-- a steal for an idle CPU: only the least thread that may be stolen is tried
 abbrev pub IsStolen : PlainKernel → Run → PlainAgent → Result ℕ CallFault → Agent → Agent → KernelRows → Type 0
-IsStolen P run p (Ok t) old new kernel =
-    Finds (may_steal (shown P) run old.cpu p) (Some t)
-    × (steal_refused (shown P) old.cpu p (Some t) ≡ None)
-    × IsTakenOver P run p t old new kernel
+IsStolen P run p (Ok t) old new kernel = Finds (may_steal (shown P) run old.cpu p) (Some t) × IsTakenOver P run p t old new kernel
 IsStolen P run p (Err (Refused refusal)) old new kernel =
-    (t : Option ℕ) × Finds (may_steal (shown P) run old.cpu p) t × (steal_refused (shown P) old.cpu p t ≡ Some refusal)
-IsStolen P run p (Err OutOfMemory) old new kernel =
-    (t : ℕ) × Finds (may_steal (shown P) run old.cpu p) (Some t) × (is_some (on (shown P) old.cpu) ≡ false)
+    (t : Option ℕ) × Finds (may_steal (shown P) run old.cpu p) t × (take_refused (shown P) old.cpu p t ≡ Some refusal)
+IsStolen P run p (Err OutOfMemory) old new kernel = (t : ℕ) × Finds (may_steal (shown P) run old.cpu p) (Some t)
+
+-- a steal: refused first where a thread runs on the CPU
+abbrev pub Steals : PlainKernel → Run → PlainAgent → Result ℕ CallFault → Agent → Agent → KernelRows → Type 0
+Steals P run p result old new kernel =
+    MatchBool (is_some (on (shown P) old.cpu)) (result ≡ Err (Refused Busy)) (IsStolen P run p result old new kernel)
 
 -- the agent had seen the thread exactly: all its messages, the state that they report, and none of them waits
 pub record IsSeenExactly (P : PlainKernel) (run : Run) (p : PlainAgent) (t : ℕ) : Type 0 where

@@ -9,7 +9,7 @@ ghost use Rattle.pc_agent.specs.Shows.{ShowsAgent};
 use crate::counts::Counts;
 use pc_messages::{Cpu, Tid};
 use pc_run_queue::RunQueue;
-use pc_view::View;
+use pc_view::{View, views_stay_as_the_run_goes_on};
 use std::alloc::Global;
 
 /// The agent of one CPU: what it knows, which threads it would run, and how much of its queue it has sent to others.
@@ -100,4 +100,6 @@ impl Agent {
 pub fn agents_stay_as_the_run_goes_on()
     ensures { (longer shorter : Run) (p : PlainAgent) (agent : Agent) → Extends longer shorter → ShowsAgent shorter p agent
         → ShowsAgent longer p agent }
-{}
+{
+    views_stay_as_the_run_goes_on();
+}

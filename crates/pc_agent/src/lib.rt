@@ -11,8 +11,6 @@ mod exchange;
 mod pick;
 mod queue;
 mod steal;
-#[cfg(test)]
-mod tests;
 mod wire;
 
 pub use agent::Agent;

@@ -12,7 +12,7 @@ ghost use Rattle.pc_agent.specs.Counts.{pick_counted};
 ghost use Rattle.pc_agent.specs.PlainAgent.{pick_refused, ready_list};
 ghost use Rattle.pc_agent.specs.Publishing.{WhateverShown};
 ghost use Rattle.pc_agent.specs.Running.{IsPicked, left_by};
-ghost use Rattle.pc_agent.specs.Inner.Picks.{CommitsFirst};
+ghost use Rattle.pc_agent.specs.Inner.Picks.{CommitsFirst, unready_for};
 
 use crate::agent::Agent;
 use pc_calls::Refusal;
@@ -22,7 +22,10 @@ use pc_run_queue::RunQueue;
 
 /// Commits the first name that the kernel commits; what stood before it is dropped, and it leaves the list too.
 fn commit_first(list: &mut RunQueue, kernel: &mut Kernel, cpu: Cpu, aseq: u32) -> Result<Tid, Refusal>
-    ensures { CommitsFirst cpu aseq result list.old list.new kernel.old kernel.new }
+    ensures first { CommitsFirst cpu aseq result list.old list.new kernel.old kernel.new }
+    ensures limits { kernel.new.limits ≡ kernel.old.limits }
+    ensures extends { Extends (kinds (seen kernel.new)) (kinds (seen kernel.old)) }
+    ensures err { OnErr result (kernel.new ≡ kernel.old) }
 {
     while let Some(name) = list.take_first() {
         match kernel.commit(cpu, name, aseq) {
@@ -41,7 +44,6 @@ impl Agent {
     /// `Stale` with the count of now; `Busy` where a thread runs on its CPU; `NothingReady` where the kernel accepts none,
     /// and the run list then is empty.
     pub fn pick(&mut self, kernel: &mut Kernel, aseq: u32) -> Result<Tid, Refusal>
-        requires there { IsTrue (is_cpu (seen kernel.old) self.old.cpu) }
         ensures picks { WhateverShown kernel.old self.old (λ P run p. IsPicked aseq P run p result self.old self.new kernel.new) }
         ensures limits { kernel.new.limits ≡ kernel.old.limits }
         ensures extends { Extends (kinds (seen kernel.new)) (kinds (seen kernel.old)) }
@@ -56,7 +58,6 @@ impl Agent {
 
     /// The pick, before it is counted.
     fn try_pick(&mut self, kernel: &mut Kernel, aseq: u32) -> Result<Tid, Refusal>
-        requires there { IsTrue (is_cpu (seen kernel.old) self.old.cpu) }
         ensures picks { WhateverShown kernel.old self.old (λ P run p. IsPicked aseq P run p result self.old self.new kernel.new) }
         ensures limits { kernel.new.limits ≡ kernel.old.limits }
         ensures extends { Extends (kinds (seen kernel.new)) (kinds (seen kernel.old)) }
@@ -73,14 +74,14 @@ impl Agent {
 
 /// Why an agent does not even look at its run list.
 fn unready(kernel: &Kernel, cpu: Cpu, aseq: u32) -> Option<Refusal>
-    requires there { IsTrue (is_cpu (seen kernel.now) cpu) }
     ensures { result ≡ unready_for (seen kernel.now) cpu aseq }
 {
-    match kernel.aseq(cpu) {
-        Some(now) if now != aseq => Some(Refusal::Stale(now)),
-        _ => match kernel.running(cpu) {
-            Some(_) => Some(Refusal::Busy),
-            None => None,
-        },
+    let now = kernel.aseq(cpu).unwrap_or(0);
+    if now != aseq {
+        return Some(Refusal::Stale(now));
+    }
+    match kernel.running(cpu) {
+        Some(_) => Some(Refusal::Busy),
+        None => None,
     }
 }

@@ -20,7 +20,9 @@ use pc_calls::{CallFault, Refusal};
 use pc_delta::{Delta, take_in};
 use pc_join::OutOfMemory;
 use pc_kernel::Kernel;
+use pc_kernel::laws::reads_are_plain;
 use pc_messages::{Item, Tid};
+use pc_view::views_tell_what_their_sets_tell;
 use std::alloc::Global;
 
 /// The threads of the items, in their order; a tick has none.
@@ -29,8 +31,9 @@ fn threads_of(alloc: Global, items: &[Item]) -> Result<Vec<Tid>, OutOfMemory>
 {
     let mut threads = Vec::new(alloc);
     for item in items {
-        if let Item::Thread(message) = item {
-            threads.push(message.thread)?;
+        match item {
+            Item::Thread(message) => threads.push(message.thread)?,
+            Item::Tick(_) => {}
         }
     }
     Ok(threads)
@@ -45,6 +48,7 @@ impl Agent {
         ensures cpu { self.new.cpu ≡ self.old.cpu }
         ensures counts { self.new.counts ≡ self.old.counts }
     {
+        views_tell_what_their_sets_tell();
         let delta = Delta::of_items(self.alloc, items)?;
         let touched = threads_of(self.alloc, items)?;
         take_in(&mut self.view, &delta)?;
@@ -75,6 +79,7 @@ impl Agent {
         ensures cpu { self.new.cpu ≡ self.old.cpu }
         ensures counts { self.new.counts ≡ self.old.counts }
     {
+        reads_are_plain();
         match kernel.peek(self.cpu) {
             Ok((_, items)) => self.publish_items(items.as_slice(), wire),
             Err(CallFault::OutOfMemory) => Err(SendFault::OutOfMemory),
@@ -110,7 +115,6 @@ impl Agent {
     /// Removes from its queue the items that it has sent, and answers how many. It takes no memory. `TooMany` comes where
     /// something else removed items from the queue since they were sent.
     pub fn consume(&mut self, kernel: &mut Kernel) -> Result<u32, Refusal>
-        requires there { IsTrue (is_cpu (seen kernel.old) self.old.cpu) }
         ensures consumes { WhateverShown kernel.old self.old (λ P run p. IsConsumed P run p result self.old self.new kernel.new) }
         ensures fault { refusal_in result ≡ refused (seen kernel.old) (call.Consume self.old.cpu self.old.shown) }
         ensures limits { kernel.new.limits ≡ kernel.old.limits }

@@ -5,20 +5,21 @@ ghost use Rattle.pc_messages.specs.Run.{Extends};
 ghost use Rattle.pc_kernel.specs.Reads.{Reads, seen, kinds, is_cpu, on};
 ghost use Rattle.pc_run_queue.specs.Runs.{runs_in};
 ghost use Rattle.pc_agent.specs.Counts.{steal_counted};
-ghost use Rattle.pc_agent.specs.PlainAgent.{may_take};
+ghost use Rattle.pc_agent.specs.PlainAgent.{is_idle, may_take};
 ghost use Rattle.pc_agent.specs.Publishing.{WhateverShown};
-ghost use Rattle.pc_agent.specs.Running.{Finds, IsSeenExactly, IsStolen};
+ghost use Rattle.pc_agent.specs.Running.{Finds, IsSeenExactly, Steals};
 
 use crate::agent::Agent;
 use pc_calls::{CallFault, Refusal};
 use pc_kernel::Kernel;
+use pc_kernel::laws::accepted_associates_are_exact;
 use pc_messages::{Cpu, Tid};
 use pc_run_queue::{RunQueue, runs_on};
-use pc_view::View;
+use pc_view::{View, views_tell_what_their_sets_tell};
 
 /// Whether the kernel knows the thread and has it on no CPU.
-fn is_idle(kernel: &Kernel, thread: Tid) -> bool
-    ensures { result ≡ is_idle_thread (seen kernel.now) thread }
+fn idles(kernel: &Kernel, thread: Tid) -> bool
+    ensures { result ≡ is_idle (seen kernel.now) thread }
 {
     match kernel.status(thread) {
         Some(status) => status.running_on.is_none(),
@@ -26,12 +27,19 @@ fn is_idle(kernel: &Kernel, thread: Tid) -> bool
     }
 }
 
-/// The least thread that may be taken over.
+/// Whether the thread may be taken over.
+fn may_be_taken(view: &View, list: &RunQueue, cpu: Cpu, kernel: &Kernel, thread: Tid) -> bool
+    ensures { result ≡ may_take (seen kernel.now) (runs_in view.now cpu) list.now thread }
+{
+    runs_on(view, cpu, thread) && !list.has(thread) && idles(kernel, thread)
+}
+
+/// The least thread that may be taken over: one of those that the view tells of, each of which is looked at once.
 fn prey(view: &View, list: &RunQueue, cpu: Cpu, kernel: &Kernel) -> Option<Tid>
     ensures { Finds (may_take (seen kernel.now) (runs_in view.now cpu) list.now) result }
 {
     for (thread, _) in view.iter() {
-        if runs_on(view, cpu, thread) && !list.has(thread) && is_idle(kernel, thread) {
+        if may_be_taken(view, list, cpu, kernel, thread) {
             return Some(thread);
         }
     }
@@ -46,8 +54,7 @@ impl Agent {
     /// `Busy` where a thread runs on its CPU; `NothingToSteal` where there is no such thread; then want of memory; then
     /// what the kernel refuses: `Dead`, `Stale` with the number of now, `Pending`. Only the least thread is tried.
     pub fn steal(&mut self, kernel: &mut Kernel) -> Result<Tid, CallFault>
-        requires there { IsTrue (is_cpu (seen kernel.old) self.old.cpu) }
-        ensures steals { WhateverShown kernel.old self.old (λ P run p. IsStolen P run p result self.old self.new kernel.new) }
+        ensures steals { WhateverShown kernel.old self.old (λ P run p. Steals P run p result self.old self.new kernel.new) }
         ensures exact { IfOk result (λ thread. WhateverShown kernel.old self.old (λ P run p. IsSeenExactly P run p thread)) }
         ensures limits { kernel.new.limits ≡ kernel.old.limits }
         ensures extends { Extends (kinds (seen kernel.new)) (kinds (seen kernel.old)) }
@@ -65,8 +72,7 @@ impl Agent {
 
     /// The steal, before it is counted.
     fn try_steal(&mut self, kernel: &mut Kernel) -> Result<Tid, CallFault>
-        requires there { IsTrue (is_cpu (seen kernel.old) self.old.cpu) }
-        ensures steals { WhateverShown kernel.old self.old (λ P run p. IsStolen P run p result self.old self.new kernel.new) }
+        ensures steals { WhateverShown kernel.old self.old (λ P run p. Steals P run p result self.old self.new kernel.new) }
         ensures exact { IfOk result (λ thread. WhateverShown kernel.old self.old (λ P run p. IsSeenExactly P run p thread)) }
         ensures limits { kernel.new.limits ≡ kernel.old.limits }
         ensures extends { Extends (kinds (seen kernel.new)) (kinds (seen kernel.old)) }
@@ -77,6 +83,8 @@ impl Agent {
         ensures cpu { self.new.cpu ≡ self.old.cpu }
         ensures counts { self.new.counts ≡ self.old.counts }
     {
+        accepted_associates_are_exact();
+        views_tell_what_their_sets_tell();
         if kernel.running(self.cpu).is_some() {
             return Err(CallFault::Refused(Refusal::Busy));
         }

@@ -1,0 +1,22 @@
+-- Items of a run, as the run goes on.
+use Rattle.std.proofs.Common.{ℕ, zero, suc, ◌+◌, ◌-◌, ◌<◌, ◌≡◌, ◌==◌, Bool, true, false, List, [], ◌∷◌, ◌++◌, length, cond, Some, None, slice_get, get_or, refl, sym, ap, ◌∙◌, subst}
+use Rattle.pc_messages.specs.Items.{AreItemsOf, IsItemOf}
+use Rattle.pc_messages.specs.Run.{Extends, Run, kind_at}
+use Rattle.pc_messages.specs.declared.kind.Kind.{Kind}
+use Rattle.pc_messages.specs.declared.message.Item.{Item}
+use Rattle.pc_messages.specs.declared.message.Item.TheVariants.{Thread, Tick}
+use Rattle.pc_messages.specs.declared.message.Message.{Message}
+use Rattle.pc_delta.specs.Parts.{IsPartOfRun}
+use Rattle.pc_delta.specs.declared.part.Part.TheVariants.{One}
+use Rattle.pc_delta.proofs.OfRun.{part_stays}
+
+pub items_stay : (longer shorter : Run) → Extends longer shorter → (items : List Item) → AreItemsOf shorter items → AreItemsOf longer items
+items_stay longer shorter extends items are k d low = stays (get_or items k d) (are k d low)
+  where
+    stays : (item : Item) → IsItemOf shorter item → IsItemOf longer item
+    stays (Thread message) h = part_stays longer shorter extends (One message) h
+    stays (Tick cpu) h = h
+
+-- a run that is the same, thread by thread
+pub same_run : (run other : Run) (items : List Item) → ((t : ℕ) → run t ≡ other t) → AreItemsOf run items → AreItemsOf other items
+same_run run other items same are = subst (λ r. AreItemsOf r items) (λ i t. same t i) are

@@ -1,0 +1,8 @@
+pub mod Lists
+pub mod Taking
+pub mod Ready
+pub mod Stolen
+pub mod Unknown
+pub mod Delivered
+pub mod Items
+pub mod Published

@@ -1,0 +1,8 @@
+use Rattle.pc_agent.proofs.agent.agents_stay_as_the_run_goes_on.Goals as goal
+
+pub returns : goal.returns
+returns c longer shorter p agent extends h = record {
+  view = record { of_run = c.views_stay_as_the_run_goes_on.ensures longer shorter agent.view extends h.view.of_run; seen = h.view.seen };
+  list = h.list;
+  shown = h.shown;
+}

@@ -1,0 +1,22 @@
+-- The first name that the kernel commits, before it is counted.
+use Rattle.std.specs.Prelude.{ℕ, ◌==◌, ◌≡◌, not, List, [], ◌∷◌, Option, Some, Result, Ok, Err, is_some}
+use Rattle.pc_calls.specs.Conditions.{first_of}
+use Rattle.pc_calls.specs.declared.call.Call.TheVariants as call
+use Rattle.pc_calls.specs.declared.refusal.Refusal.{Refusal}
+use Rattle.pc_calls.specs.declared.refusal.Refusal.TheVariants.{Stale, Busy, NothingReady}
+use Rattle.pc_kernel.specs.Answers.{Steps, done}
+use Rattle.pc_kernel.specs.Reads.{Reads, seen, aseq, on}
+use Rattle.pc_kernel.specs.Rows.{KernelRows}
+use Rattle.pc_agent.specs.PlainAgent.{ready_list}
+
+-- why an agent does not even look at its run list, in order
+abbrev pub unready_for : Reads → ℕ → ℕ → Option Refusal
+unready_for r cpu n = first_of ((not (n == aseq r cpu), Stale (aseq r cpu)) ∷ (is_some (on r cpu), Busy) ∷ [])
+
+-- the first name of the list that the kernel commits is committed, and what follows it is left; where there is none, the list is
+-- empty and the kernel as it was
+abbrev pub CommitsFirst : ℕ → ℕ → Result ℕ Refusal → List ℕ → List ℕ → KernelRows → KernelRows → Type 0
+CommitsFirst cpu n (Ok t) names left old new =
+    (ready_list (seen old) cpu n names ≡ t ∷ left) × Steps done (call.Commit cpu t n) (Ok tt) old new
+CommitsFirst cpu n (Err refusal) names left old new =
+    (refusal ≡ NothingReady) × (ready_list (seen old) cpu n names ≡ []) × (left ≡ [])
