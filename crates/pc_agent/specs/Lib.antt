@@ -1,5 +1,6 @@
 pub mod PlainAgent
 pub mod Counts
+pub mod Wires
 pub mod Shows
 pub mod Publishing
 pub mod Running

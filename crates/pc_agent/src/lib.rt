@@ -8,6 +8,7 @@
 mod agent;
 mod counts;
 mod exchange;
+mod kept_wire;
 mod pick;
 mod queue;
 mod steal;
@@ -15,4 +16,5 @@ mod wire;
 
 pub use agent::Agent;
 pub use counts::Counts;
+pub use kept_wire::KeptWire;
 pub use wire::{SendFault, Wire};
