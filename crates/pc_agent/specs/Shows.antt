@@ -30,6 +30,6 @@ abbrev pub ShowsPart : Run → PlainAgent → Set → Agent → Type 0
 ShowsPart run p set agent = (some : Set) × IsBetween (as_members p.seen) (as_members set) (as_members some)
     × ShowsAgent run (record p { seen = some }) agent
 
--- what does not change: whose agent it is
-abbrev pub IsSameCpu : Agent → Agent → Type 0
-IsSameCpu old new = new.cpu ≡ old.cpu
+-- whose agent it is
+abbrev pub cpu_of : Agent → ℕ
+cpu_of agent = agent.cpu

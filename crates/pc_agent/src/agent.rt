@@ -4,7 +4,7 @@ ghost use Rattle.std.specs.Prelude.{ℕ, ◌≡◌};
 ghost use Rattle.pc_messages.specs.Run.{Run, Extends};
 ghost use Rattle.pc_agent.specs.declared.agent.Agent.{Agent};
 ghost use Rattle.pc_agent.specs.PlainAgent.{PlainAgent};
-ghost use Rattle.pc_agent.specs.Shows.{ShowsAgent};
+ghost use Rattle.pc_agent.specs.Shows.{ShowsAgent, cpu_of};
 
 use crate::counts::Counts;
 use pc_messages::{Cpu, Tid};
@@ -34,7 +34,7 @@ impl Agent {
     /// The CPU's agent, who knows nothing. It takes no memory.
     pub fn new(alloc: Global, cpu: Cpu) -> Agent
         ensures fresh { (run : Run) → ShowsAgent run fresh result }
-        ensures cpu { result.cpu ≡ cpu }
+        ensures cpu { cpu_of result ≡ cpu }
         ensures counts { result.counts ≡ none_counted }
     {
         Agent {
@@ -51,7 +51,7 @@ impl Agent {
     /// It takes no memory.
     pub fn restart(&mut self)
         ensures fresh { (run : Run) → ShowsAgent run fresh self.new }
-        ensures cpu { self.new.cpu ≡ self.old.cpu }
+        ensures cpu { cpu_of self.new ≡ cpu_of self.old }
         ensures counts { self.new.counts ≡ self.old.counts }
     {
         self.view = View::new(self.alloc);
@@ -61,7 +61,7 @@ impl Agent {
 
     /// The agent's CPU.
     pub fn cpu(&self) -> Cpu
-        ensures { result ≡ self.now.cpu }
+        ensures { result ≡ cpu_of self.now }
     {
         self.cpu
     }

@@ -5,6 +5,7 @@ ghost use Rattle.pc_view.specs.Views.{pairs_of};
 ghost use Rattle.pc_delta.specs.Digests.{set_of_digest};
 ghost use Rattle.pc_agent.specs.declared.counts.TheConstants.{MOST_COUNTED};
 ghost use Rattle.pc_agent.specs.Exchanging.{Delivers, IsAnswered};
+ghost use Rattle.pc_agent.specs.Shows.{cpu_of};
 
 use crate::agent::Agent;
 use crate::wire::{SendFault, Wire};
@@ -17,7 +18,7 @@ impl Agent {
     /// in; delivering it again completes it.
     pub fn deliver(&mut self, delta: &Delta) -> Result<(), OutOfMemory>
         ensures delivers { Delivers delta.now result self.old self.new }
-        ensures cpu { self.new.cpu ≡ self.old.cpu }
+        ensures cpu { cpu_of self.new ≡ cpu_of self.old }
         ensures counts { self.new.counts ≡ self.old.counts }
     {
         take_in(&mut self.view, delta)

@@ -12,6 +12,7 @@ ghost use Rattle.pc_agent.specs.Counts.{pick_counted};
 ghost use Rattle.pc_agent.specs.PlainAgent.{pick_refused, ready_list};
 ghost use Rattle.pc_agent.specs.Publishing.{WhateverShown};
 ghost use Rattle.pc_agent.specs.Running.{IsPicked, left_by};
+ghost use Rattle.pc_agent.specs.Shows.{cpu_of};
 ghost use Rattle.pc_agent.specs.Inner.Picks.{CommitsFirst, unready_for};
 
 use crate::agent::Agent;
@@ -48,7 +49,7 @@ impl Agent {
         ensures limits { kernel.new.limits ≡ kernel.old.limits }
         ensures extends { Extends (kinds (seen kernel.new)) (kinds (seen kernel.old)) }
         ensures err { OnErr result (kernel.new ≡ kernel.old) }
-        ensures cpu { self.new.cpu ≡ self.old.cpu }
+        ensures cpu { cpu_of self.new ≡ cpu_of self.old }
         ensures counts { self.new.counts ≡ pick_counted result self.old.counts }
     {
         let answered = self.try_pick(kernel, aseq);
@@ -62,7 +63,7 @@ impl Agent {
         ensures limits { kernel.new.limits ≡ kernel.old.limits }
         ensures extends { Extends (kinds (seen kernel.new)) (kinds (seen kernel.old)) }
         ensures err { OnErr result (kernel.new ≡ kernel.old) }
-        ensures cpu { self.new.cpu ≡ self.old.cpu }
+        ensures cpu { cpu_of self.new ≡ cpu_of self.old }
         ensures counts { self.new.counts ≡ self.old.counts }
     {
         if let Some(refusal) = unready(kernel, self.cpu, aseq) {

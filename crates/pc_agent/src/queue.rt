@@ -12,7 +12,7 @@ ghost use Rattle.pc_agent.specs.declared.counts.TheConstants.{MOST_COUNTED};
 ghost use Rattle.pc_agent.specs.Counts.{consume_counted};
 ghost use Rattle.pc_agent.specs.PlainAgent.{PlainAgent, threads_in};
 ghost use Rattle.pc_agent.specs.Publishing.{Copies, IsConsumed, IsPublished, WhateverShown};
-ghost use Rattle.pc_agent.specs.Shows.{ShowsAgent};
+ghost use Rattle.pc_agent.specs.Shows.{ShowsAgent, cpu_of};
 
 use crate::agent::Agent;
 use crate::wire::{SendFault, Wire};
@@ -45,7 +45,7 @@ impl Agent {
     pub fn copied(&mut self, items: &[Item]) -> Result<Delta, OutOfMemory>
         requires tellable { AreTellable items.now }
         ensures copies { Copies items.now result self.old self.new }
-        ensures cpu { self.new.cpu ≡ self.old.cpu }
+        ensures cpu { cpu_of self.new ≡ cpu_of self.old }
         ensures counts { self.new.counts ≡ self.old.counts }
     {
         views_tell_what_their_sets_tell();
@@ -60,7 +60,7 @@ impl Agent {
     /// Counts so many items at the front of its queue as sent.
     pub fn sent(&mut self, items: u32)
         ensures shown { (run : Run) (p : PlainAgent) → ShowsAgent run p self.old → ShowsAgent run (record p { shown = items }) self.new }
-        ensures cpu { self.new.cpu ≡ self.old.cpu }
+        ensures cpu { cpu_of self.new ≡ cpu_of self.old }
         ensures counts { self.new.counts ≡ self.old.counts }
     {
         self.shown = items;
@@ -76,7 +76,7 @@ impl Agent {
         ensures publishes { WhateverShown kernel.now self.old (λ P run p.
             IsPublished W.Sends (plain.content P self.old.cpu) run p result self.old self.new wire.old wire.new) }
         ensures fault { result ≡ Err SendFault.WireFault → W.faults wire.old < W.faults wire.new }
-        ensures cpu { self.new.cpu ≡ self.old.cpu }
+        ensures cpu { cpu_of self.new ≡ cpu_of self.old }
         ensures counts { self.new.counts ≡ self.old.counts }
     {
         reads_are_plain();
@@ -95,7 +95,7 @@ impl Agent {
         ensures publishes { (run : Run) (p : PlainAgent) → AreItemsOf run items.now → ShowsAgent run p self.old
             → IsPublished W.Sends items.now run p result self.old self.new wire.old wire.new }
         ensures fault { result ≡ Err SendFault.WireFault → W.faults wire.old < W.faults wire.new }
-        ensures cpu { self.new.cpu ≡ self.old.cpu }
+        ensures cpu { cpu_of self.new ≡ cpu_of self.old }
         ensures counts { self.new.counts ≡ self.old.counts }
     {
         let delta = match self.copied(items) {
@@ -121,7 +121,7 @@ impl Agent {
         ensures extends { Extends (kinds (seen kernel.new)) (kinds (seen kernel.old)) }
         ensures err { OnErr result (kernel.new ≡ kernel.old) }
         ensures agent_err { OnErr result (self.new ≡ self.old) }
-        ensures cpu { self.new.cpu ≡ self.old.cpu }
+        ensures cpu { cpu_of self.new ≡ cpu_of self.old }
         ensures counts { self.new.counts ≡ consume_counted result self.old.counts }
     {
         let items = self.shown;

@@ -8,6 +8,7 @@ ghost use Rattle.pc_agent.specs.Counts.{steal_counted};
 ghost use Rattle.pc_agent.specs.PlainAgent.{is_idle, may_take};
 ghost use Rattle.pc_agent.specs.Publishing.{WhateverShown};
 ghost use Rattle.pc_agent.specs.Running.{Finds, IsSeenExactly, Steals};
+ghost use Rattle.pc_agent.specs.Shows.{cpu_of};
 
 use crate::agent::Agent;
 use pc_calls::{CallFault, Refusal};
@@ -62,7 +63,7 @@ impl Agent {
         ensures list_err { OnErr result (self.new.list ≡ self.old.list) }
         ensures view { self.new.view ≡ self.old.view }
         ensures shown { self.new.shown ≡ self.old.shown }
-        ensures cpu { self.new.cpu ≡ self.old.cpu }
+        ensures cpu { cpu_of self.new ≡ cpu_of self.old }
         ensures counts { self.new.counts ≡ steal_counted result self.old.counts }
     {
         let answered = self.try_steal(kernel);
@@ -80,7 +81,7 @@ impl Agent {
         ensures list_err { OnErr result (self.new.list ≡ self.old.list) }
         ensures view { self.new.view ≡ self.old.view }
         ensures shown { self.new.shown ≡ self.old.shown }
-        ensures cpu { self.new.cpu ≡ self.old.cpu }
+        ensures cpu { cpu_of self.new ≡ cpu_of self.old }
         ensures counts { self.new.counts ≡ self.old.counts }
     {
         accepted_associates_are_exact();

@@ -1,4 +1,4 @@
 pub mod Agents
-pub mod Keeping
-pub mod Sending
-pub mod Telling
+pub mod Handling
+pub mod Laws
+pub mod Places

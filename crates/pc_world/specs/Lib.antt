@@ -1,4 +1,5 @@
 pub mod Inner
 pub mod PlainWorld
 pub mod Shows
+pub mod Starved
 pub mod Steps

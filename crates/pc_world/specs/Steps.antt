@@ -1,11 +1,11 @@
 -- What each event does to the plain world, and what it is replied.
-use Rattle.std.specs.Prelude.{ℕ, ◌≡◌, ◌&&◌, Bool, true, false, List, length, Option, Some, None, Result, Ok, Err, All, MatchBool, MatchOption, slice_get}
+use Rattle.std.specs.Prelude.{ℕ, ◌≡◌, ◌&&◌, Bool, true, false, List, [], ◌∷◌, ◌++◌, length, Option, Some, None, Result, Ok, Err, All, MatchBool, MatchOption, slice_get, is_some}
 use Rattle.pc_messages.specs.Run.{Run}
 use Rattle.pc_calls.specs.declared.call.Answer.{Answer}
 use Rattle.pc_calls.specs.declared.call.Call.{Call}
 use Rattle.pc_calls.specs.declared.call.Call.TheVariants as call
 use Rattle.pc_calls.specs.declared.event.Event.{Event}
-use Rattle.pc_calls.specs.declared.event.Event.TheVariants.{Publish, Consume, Deliver, Answer as AnswerDigest}
+use Rattle.pc_calls.specs.declared.event.Event.TheVariants.{Publish, Consume, Deliver, Answer as AnswerDigest, Pick, Steal, Crash}
 use Rattle.pc_calls.specs.declared.event.Reply.{Reply}
 use Rattle.pc_calls.specs.declared.event.Reply.TheVariants as reply
 use Rattle.pc_calls.specs.declared.refusal.Refusal.{Refusal}
@@ -13,12 +13,13 @@ use Rattle.pc_calls.specs.declared.refusal.Refusal.TheVariants as refusal
 use Rattle.pc_calls.specs.Events.{call_of, told_of}
 use Rattle.pc_join.specs.Sets.{has}
 use Rattle.pc_kernel.specs.PlainKernel.{kinds, content}
-use Rattle.pc_kernel.specs.Reads.{shown, is_cpu}
+use Rattle.pc_kernel.specs.Reads.{shown, is_cpu, on}
 use Rattle.pc_kernel.specs.Steps as kernel
-use Rattle.pc_kernel.specs.Steps.{at}
 use Rattle.pc_delta.specs.declared.part.Part.{Part}
 use Rattle.pc_delta.specs.Parts.{AreOfRun, pairs_of_part, pairs_of_parts}
-use Rattle.pc_world.specs.PlainWorld.{PlainWorld, Set, published, delivered, sending}
+use Rattle.pc_agent.specs.PlainAgent.{PlainAgent, Set, fresh, may_steal, pick_refused, ready_list, taking_in}
+use Rattle.pc_agent.specs.Running.{Finds, left_by, takes_over}
+use Rattle.pc_world.specs.PlainWorld.{PlainWorld, looked, published, sending, with_agent}
 
 -- an event that is a call of the kernel
 pub record IsCalled (w : PlainWorld) (c : Call) (told : Reply) (new : PlainWorld) : Type 0 where
@@ -34,31 +35,36 @@ pub record IsRefused (w : PlainWorld) (r : Refusal) (told : Reply) (new : PlainW
 abbrev pub IsBadCpu : PlainWorld → Reply → PlainWorld → Type 0
 IsBadCpu w told new = IsRefused w refusal.BadCpu told new
 
+-- the CPU is there and this holds, or the event is refused
+abbrev pub OnCpu : PlainWorld → ℕ → Reply → PlainWorld → Type 0 → Type 0
+OnCpu w c told new Holds = MatchBool (is_cpu (shown w.kernel) c) Holds (IsBadCpu w told new)
+
 -- the agent removes from its queue what it has sent, as the kernel answers
 abbrev pub IsConsumed : PlainWorld → ℕ → Result Answer Refusal → Reply → PlainWorld → Type 0
 IsConsumed w c (Ok answer) told new =
-    (told ≡ reply.Consumed (w.shown c))
-    × (new ≡ record w { kernel = kernel.after w.kernel (call.Consume c (w.shown c)); shown = at w.shown c 0 })
+    let p = w.agents c in
+    (told ≡ reply.Consumed p.shown)
+    × (new ≡ record (with_agent w c (record p { shown = 0 })) { kernel = kernel.after w.kernel (call.Consume c p.shown) })
 IsConsumed w c (Err r) told new = IsRefused w r told new
 
 abbrev pub IsConsuming : ℕ → PlainWorld → Reply → PlainWorld → Type 0
-IsConsuming c w told new = IsConsumed w c (kernel.reply w.kernel (call.Consume c (w.shown c))) told new
+IsConsuming c w told new = OnCpu w c told new (IsConsumed w c (kernel.reply w.kernel (call.Consume c (w.agents c).shown)) told new)
 
--- the agent sends what its queue holds
-pub record IsPublished (w : PlainWorld) (c : ℕ) (told : Reply) (new : PlainWorld) : Type 0 where
-  pub tells : told ≡ reply.Published (length w.sent) (length (content w.kernel c))
-  pub after : new ≡ published w c
+-- the agent sends what its queue holds; where the send is refused, it has copied it all the same
+abbrev pub IsPublished : PlainWorld → ℕ → Bool → Reply → PlainWorld → Type 0
+IsPublished w c false told new = (told ≡ reply.Published (length w.sent) (length (content w.kernel c))) × (new ≡ published w c)
+IsPublished w c true told new = (told ≡ reply.Refused refusal.WireFault) × (new ≡ looked w c)
 
-abbrev pub IsPublishing : ℕ → PlainWorld → Reply → PlainWorld → Type 0
-IsPublishing c w told new = MatchBool (is_cpu (shown w.kernel) c) (IsPublished w c told new) (IsBadCpu w told new)
+abbrev pub IsPublishing : ℕ → Bool → PlainWorld → Reply → PlainWorld → Type 0
+IsPublishing c fails w told new = OnCpu w c told new (IsPublished w c fails told new)
 
 -- an agent takes in what the delta with an index tells, where it was sent
 abbrev pub IsDelivered : PlainWorld → ℕ → Option Set → Reply → PlainWorld → Type 0
 IsDelivered w c None told new = IsRefused w refusal.NoDelta told new
-IsDelivered w c (Some set) told new = (told ≡ reply.Done) × (new ≡ delivered w c set)
+IsDelivered w c (Some set) told new = (told ≡ reply.Done) × (new ≡ with_agent w c (taking_in set (w.agents c)))
 
 abbrev pub IsDelivering : ℕ → ℕ → PlainWorld → Reply → PlainWorld → Type 0
-IsDelivering c k w told new = MatchBool (is_cpu (shown w.kernel) c) (IsDelivered w c (slice_get w.sent k) told new) (IsBadCpu w told new)
+IsDelivering c k w told new = OnCpu w c told new (IsDelivered w c (slice_get w.sent k) told new)
 
 -- the part tells something that the set has not
 abbrev pub IsNewTo : Set → Part → Type 0
@@ -78,7 +84,7 @@ pub record IsAnswerSet (run : Run) (view digest set : Set) : Type 0 where
 -- one agent answers another's digest of this moment; which of the answers it sends is its choice
 pub record IsAnswered (w : PlainWorld) (c asker : ℕ) (told : Reply) (new : PlainWorld) : Type 0 where
   pub set : Set
-  pub answers : IsAnswerSet (kinds w.kernel) (w.seen c) (w.seen asker) set
+  pub answers : IsAnswerSet (kinds w.kernel) (w.agents c).seen (w.agents asker).seen set
   pub tells : told ≡ reply.Answered (length w.sent)
   pub after : new ≡ sending w set
 
@@ -88,14 +94,70 @@ are_cpus w c other = is_cpu (shown w.kernel) c && is_cpu (shown w.kernel) other
 abbrev pub IsAnswering : ℕ → ℕ → PlainWorld → Reply → PlainWorld → Type 0
 IsAnswering c asker w told new = MatchBool (are_cpus w c asker) (IsAnswered w c asker told new) (IsBadCpu w told new)
 
--- an event that is no call of the kernel, of those that are built
+-- the agent commits the first of the names that the kernel would commit, and what follows it is left
+abbrev pub IsCommitted : PlainWorld → ℕ → ℕ → List ℕ → Reply → PlainWorld → Type 0
+IsCommitted w c n [] told new = ⊥
+IsCommitted w c n (t ∷ rest) told new =
+    (told ≡ reply.Committed t c)
+    × (new ≡ record (with_agent w c (record (w.agents c) { list = rest })) { kernel = kernel.after w.kernel (call.Commit c t n) })
+
+-- a pick, refused or not; where no name could be committed, the run list is empty
+abbrev pub IsPicked : PlainWorld → ℕ → ℕ → Option Refusal → Reply → PlainWorld → Type 0
+IsPicked w c n None told new = IsCommitted w c n (ready_list (shown w.kernel) c n (w.agents c).list) told new
+IsPicked w c n (Some r) told new =
+    (told ≡ reply.Refused r) × (new ≡ with_agent w c (record (w.agents c) { list = left_by r (w.agents c).list }))
+
+abbrev pub IsPicking : ℕ → ℕ → PlainWorld → Reply → PlainWorld → Type 0
+IsPicking c n w told new = OnCpu w c told new (IsPicked w c n (pick_refused (shown w.kernel) c n (w.agents c).list) told new)
+
+-- the agent takes a thread over, which goes to the end of its run list, unless the kernel refuses
+abbrev pub IsTakenOver : PlainWorld → ℕ → ℕ → Option Refusal → Reply → PlainWorld → Type 0
+IsTakenOver w c t None told new =
+    let p = w.agents c in
+    (told ≡ reply.Associated t c)
+    × (new ≡ record (with_agent w c (record p { list = p.list ++ t ∷ [] })) { kernel = kernel.after w.kernel (takes_over c p t) })
+IsTakenOver w c t (Some r) told new = IsRefused w r told new
+
+-- what is done with the least thread that may be stolen
+abbrev pub IsTried : PlainWorld → ℕ → Option ℕ → Reply → PlainWorld → Type 0
+IsTried w c None told new = IsRefused w refusal.NothingToSteal told new
+IsTried w c (Some t) told new = IsTakenOver w c t (kernel.refused (shown w.kernel) (takes_over c (w.agents c) t)) told new
+
+-- the threads that an agent may steal
+abbrev pub stealable : PlainWorld → ℕ → ℕ → Bool
+stealable w c t = may_steal (shown w.kernel) (kinds w.kernel) c (w.agents c) t
+
+-- a steal: refused where a thread runs on the CPU; else the least thread that may be stolen is tried, and no other
+abbrev pub IsStolen : PlainWorld → ℕ → Bool → Reply → PlainWorld → Type 0
+IsStolen w c true told new = IsRefused w refusal.Busy told new
+IsStolen w c false told new = (least : Option ℕ) × Finds (stealable w c) least × IsTried w c least told new
+
+abbrev pub IsStealing : ℕ → PlainWorld → Reply → PlainWorld → Type 0
+IsStealing c w told new = OnCpu w c told new (IsStolen w c (is_some (on (shown w.kernel) c)) told new)
+
+-- the agent starts again with nothing, and is awake
+abbrev pub IsCrashing : ℕ → PlainWorld → Reply → PlainWorld → Type 0
+IsCrashing c w told new =
+    OnCpu w c told new ((told ≡ reply.Done) × (new ≡ record (with_agent w c fresh) { kernel = kernel.after w.kernel (call.Rouse c) }))
+
+-- an event that is no call of the kernel
 abbrev pub IsOwnStep : PlainWorld → Event → Reply → PlainWorld → Type 0
-IsOwnStep w (Publish cpu false) told new = IsPublishing cpu w told new
+IsOwnStep w (Publish cpu fails) told new = IsPublishing cpu fails w told new
 IsOwnStep w (Consume cpu) told new = IsConsuming cpu w told new
 IsOwnStep w (Deliver cpu delta) told new = IsDelivering cpu delta w told new
 IsOwnStep w (AnswerDigest cpu asker) told new = IsAnswering cpu asker w told new
+IsOwnStep w (Pick cpu aseq) told new = IsPicking cpu aseq w told new
+IsOwnStep w (Steal cpu) told new = IsStealing cpu w told new
+IsOwnStep w (Crash cpu) told new = IsCrashing cpu w told new
 IsOwnStep w event told new = ⊥
 
 -- one event
 abbrev pub Step : PlainWorld → Event → Reply → PlainWorld → Type 0
 Step w event told new = MatchOption (call_of event) (IsOwnStep w event told new) (λ c. IsCalled w c told new)
+
+-- a list of events, one after another
+abbrev pub Run : PlainWorld → List Event → List Reply → PlainWorld → Type 0
+Run w [] [] new = new ≡ w
+Run w (event ∷ events) (told ∷ replies) new = (next : PlainWorld) × Step w event told next × Run next events replies new
+Run w [] (told ∷ replies) new = ⊥
+Run w (event ∷ events) [] new = ⊥

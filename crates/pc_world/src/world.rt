@@ -1,27 +1,28 @@
 //! The kernel, its agents, and what they sent.
 
-ghost use Rattle.std.specs.Prelude.{◌≡◌, ◌<◌, ◌≤◌, ◌^◌, length, None, IfOk, slice_get, option_copied};
-ghost use Rattle.pc_messages.specs.Items.{AreTellable};
-ghost use Rattle.pc_calls.specs.Events.{call_of, IsBuilt};
+ghost use Rattle.std.specs.Prelude.{◌≡◌, ◌<◌, ◌≤◌, None, Some, false, IfOk, OnErr, MatchOption, List, length, slice_get, option_copied};
+ghost use Rattle.pc_calls.specs.Events.{call_of};
 ghost use Rattle.pc_calls.specs.Limits.{bad_field};
 ghost use Rattle.pc_kernel.specs.Answers.{Shows};
 ghost use Rattle.pc_kernel.specs.PlainKernel.{kinds};
+ghost use Rattle.pc_kernel.specs.Reads.{seen, is_cpu};
 ghost use Rattle.pc_world.specs.PlainWorld.{PlainWorld, opened};
-ghost use Rattle.pc_world.specs.Steps.{IsAnswering, IsCalled, IsConsuming, IsDelivering, IsOwnStep, IsPublishing, Step};
-ghost use Rattle.pc_world.specs.Inner.Keeping.{KeepsRun};
-ghost use Rattle.pc_world.specs.Inner.Telling.{IsToldOf};
+ghost use Rattle.pc_world.specs.Steps.{Run, Step};
+ghost use Rattle.pc_world.specs.Inner.Agents.{AreOwn};
+ghost use Rattle.pc_world.specs.Inner.Laws.{RunsGoOn};
 
-use crate::agents::{Agent, new_agents};
+use crate::agents::new_agents;
+use pc_agent::{Agent, KeptWire, SendFault, agents_stay_as_the_run_goes_on};
 use pc_calls::{
     Answer, Call, CallFault, Event, LimitField, Limits, LimitsFault, Profile, Refusal, Reply,
 };
+use pc_delta::Delta;
 use pc_delta::laws::{parts_stay_as_the_run_goes_on, sets_are_pairs};
-use pc_delta::{Delta, delta_beyond, take_in};
 use pc_join::OutOfMemory;
 use pc_kernel::Kernel;
 use pc_kernel::laws::calls_extend_the_run;
-use pc_messages::{Cpu, Item};
-use pc_view::{View, views_stay_as_the_run_goes_on};
+use pc_messages::Cpu;
+use pc_view::View;
 use std::alloc::Global;
 
 /// A kernel, an agent for each of its CPUs, and every delta that an agent ever sent.
@@ -34,33 +35,31 @@ pub struct World {
     /// The agents of CPUs 0, 1, ..
     agents: Vec<Agent>,
     /// The deltas that were sent, in order.
-    sent: Vec<Delta>,
+    wire: KeptWire,
     ghost as_many: { length agents.items ≡ kernel.limits.cpus },
+    ghost own: { AreOwn agents.items },
 }
 
-/// A call of the kernel leaves each view and each delta of the kernel's run one of its run.
-fn calls_keep_the_run()
-    ensures { KeepsRun }
+/// What holds of a run holds of each run that goes on from it.
+fn runs_go_on()
+    ensures { RunsGoOn }
 {
     calls_extend_the_run();
-    views_stay_as_the_run_goes_on();
+    agents_stay_as_the_run_goes_on();
     parts_stay_as_the_run_goes_on();
 }
 
-/// What the kernel's answer to a call is replied.
-fn told(call: &Call, answered: Result<Answer, CallFault>) -> Result<Reply, OutOfMemory>
-    ensures { IfOk result (IsToldOf call.now answered) }
+/// The delta with this index.
+fn delta_at(sent: &[Delta], index: u64) -> Option<&Delta>
+    ensures { option_copied result ≡ slice_get sent.now index }
 {
-    match answered {
-        Ok(answer) => Ok(call.reply(answer)),
-        Err(CallFault::Refused(refusal)) => Ok(Reply::Refused(refusal)),
-        Err(CallFault::OutOfMemory) => Err(OutOfMemory),
-    }
+    sent.get(usize::try_from(index).ok()?)
 }
 
 impl World {
-    ghost use Rattle.pc_world.specs.Shows.{AreSent, Does, IsViewAt, ShowsWorld};
-    ghost use Rattle.pc_world.specs.Inner.Sending.{Sends};
+    ghost use Rattle.pc_world.specs.Shows.{AreSent, Does, IsViewAt, KeepsSent, ShowsWorld, Starves, deltas_of};
+    ghost use Rattle.pc_world.specs.Inner.Handling.{Handles};
+    ghost use Rattle.pc_world.specs.Inner.Places.{IsPlace};
 
     /// The world at the start, with limits of profile One.
     pub fn new(alloc: Global, limits: Limits) -> Result<World, LimitsFault>
@@ -87,7 +86,7 @@ impl World {
                     alloc,
                     kernel,
                     agents,
-                    sent: Vec::new(alloc),
+                    wire: KeptWire::new(alloc),
                 }),
             },
         }
@@ -104,8 +103,8 @@ impl World {
     pub fn view(&self, cpu: Cpu) -> Option<&View>
         ensures { (w : PlainWorld) → ShowsWorld self.now w → IsViewAt w cpu (option_copied result) }
     {
-        match self.agent(cpu) {
-            Some(agent) => Some(&agent.view),
+        match self.agents.get(cpu.index() as usize) {
+            Some(agent) => Some(agent.view()),
             None => None,
         }
     }
@@ -114,149 +113,181 @@ impl World {
     pub fn sent(&self) -> &[Delta]
         ensures { (w : PlainWorld) → ShowsWorld self.now w → AreSent (kinds w.kernel) w.sent result.now }
     {
-        self.sent.as_slice()
+        self.wire.sent()
+    }
+
+    /// Takes an event. Where memory runs out, an event that would not be refused may have been done in part: the agent of a
+    /// publish or a deliver may have taken in some of it, and of a publish that found no memory for its send all of it.
+    pub fn step(&mut self, event: Event) -> Result<Reply, OutOfMemory>
+        ensures step { IfOk result (Does (λ w. Step w event) self.old self.new) }
+        ensures starved { OnErr result (Starves event self.old self.new) }
+        ensures kept { (w : PlainWorld) → ShowsWorld self.old w → KeepsSent self.old self.new }
+    {
+        self.handle(event)
     }
 
     /// Takes an event.
-    pub fn step(&mut self, event: Event) -> Result<Reply, OutOfMemory>
-        requires built { IsBuilt event }
-        ensures step { IfOk result (Does (λ w. Step w event) self.old self.new) }
-    {
-        match event.call() {
-            Some(call) => self.call(call),
-            None => self.act(event),
-        }
-    }
-
-    /// Takes an event that is no call of the kernel.
-    fn act(&mut self, event: Event) -> Result<Reply, OutOfMemory>
-        requires built { IsBuilt event }
-        requires own { call_of event ≡ None }
-        ensures { IfOk result (Does (λ w. IsOwnStep w event) self.old self.new) }
+    fn handle(&mut self, event: Event) -> Result<Reply, OutOfMemory>
+        ensures { Handles event result self.old self.new }
     {
         match event {
-            Event::Publish { cpu, .. } => self.publish(cpu),
+            Event::Publish { cpu, fails } => self.publish(cpu, fails),
             Event::Consume { cpu } => self.consume(cpu),
             Event::Deliver { cpu, delta } => self.deliver(cpu, delta),
             Event::Answer { cpu, asker } => self.answer(cpu, asker),
+            Event::Pick { cpu, aseq } => self.pick(cpu, aseq),
+            Event::Steal { cpu } => self.steal(cpu),
+            Event::Crash { cpu } => self.crash(cpu),
             Event::Env(_)
             | Event::Associate { .. }
             | Event::Commit { .. }
             | Event::Sleep { .. }
             | Event::Rouse { .. }
-            | Event::Config { .. }
-            | Event::Pick { .. }
-            | Event::Steal { .. }
-            | Event::Crash { .. } => unreachable!(),
+            | Event::Config { .. } => match event.call() {
+                Some(call) => self.call(event, call),
+                None => unreachable!(),
+            },
         }
     }
 
-    /// The CPU's agent.
-    fn agent(&self, cpu: Cpu) -> Option<&Agent>
-        ensures { option_copied result ≡ slice_get self.now.agents.items cpu }
+    /// Where the CPU's agent stands.
+    fn place(&self, cpu: Cpu) -> Option<usize>
+        ensures { MatchOption result (is_cpu (seen self.now.kernel) cpu ≡ false) (IsPlace self.now cpu) }
     {
-        self.agents.get(cpu.index() as usize)
+        if cpu.index() < self.kernel.cpus() {
+            Some(cpu.index() as usize)
+        } else {
+            None
+        }
     }
 
-    /// A call of the kernel.
-    fn call(&mut self, call: Call) -> Result<Reply, OutOfMemory>
-        ensures { IfOk result (Does (λ w. IsCalled w call) self.old self.new) }
+    /// An event that is this call of the kernel.
+    fn call(&mut self, event: Event, call: Call) -> Result<Reply, OutOfMemory>
+        requires { call_of event ≡ Some call }
+        ensures { Handles event result self.old self.new }
     {
-        calls_keep_the_run();
-        let answered = self.kernel.apply(call);
-        told(&call, answered)
+        runs_go_on();
+        match self.kernel.apply(call) {
+            Ok(answer) => Ok(call.reply(answer)),
+            Err(CallFault::Refused(refusal)) => Ok(Reply::Refused(refusal)),
+            Err(CallFault::OutOfMemory) => Err(OutOfMemory),
+        }
     }
 
     /// The agent removes from its queue what it has sent.
     fn consume(&mut self, cpu: Cpu) -> Result<Reply, OutOfMemory>
-        ensures { IfOk result (Does (IsConsuming cpu) self.old self.new) }
+        ensures { Handles (Event.Consume cpu) result self.old self.new }
     {
-        calls_keep_the_run();
-        let items = match self.agent(cpu) {
-            None => return Ok(Reply::Refused(Refusal::BadCpu)),
-            Some(agent) => agent.shown,
+        runs_go_on();
+        let Some(place) = self.place(cpu) else {
+            return Ok(Reply::Refused(Refusal::BadCpu));
         };
-        match self.kernel.consume(cpu, items) {
+        match self.agents[place].consume(&mut self.kernel) {
+            Ok(items) => Ok(Reply::Consumed { items }),
             Err(refusal) => Ok(Reply::Refused(refusal)),
-            Ok(()) => {
-                let agent = &mut self.agents[cpu.index() as usize];
-                agent.shown = 0;
-                Ok(Reply::Consumed { items })
-            }
         }
     }
 
-    /// The agent takes in what its queue holds, and sends it.
-    fn publish(&mut self, cpu: Cpu) -> Result<Reply, OutOfMemory>
-        ensures { IfOk result (Does (IsPublishing cpu) self.old self.new) }
+    /// The agent takes in what its queue holds, and sends it, by a wire that may refuse it.
+    fn publish(&mut self, cpu: Cpu, fails: bool) -> Result<Reply, OutOfMemory>
+        ensures { Handles (Event.Publish cpu fails) result self.old self.new }
     {
-        match self.kernel.peek(cpu) {
-            Err(CallFault::Refused(refusal)) => Ok(Reply::Refused(refusal)),
-            Err(CallFault::OutOfMemory) => Err(OutOfMemory),
-            Ok((_, items)) => self.send(cpu, items.as_slice()),
+        runs_go_on();
+        let Some(place) = self.place(cpu) else {
+            return Ok(Reply::Refused(Refusal::BadCpu));
+        };
+        let index = self.wire.sent().len() as u64;
+        self.wire.set_refuses(fails);
+        match self.agents[place].publish(&self.kernel, &mut self.wire) {
+            Ok(items) => Ok(Reply::Published {
+                delta: index,
+                items,
+            }),
+            Err(SendFault::WireFault) => Ok(Reply::Refused(Refusal::WireFault)),
+            Err(SendFault::OutOfMemory) => Err(OutOfMemory),
         }
-    }
-
-    /// The agent takes in these items, which are all that its queue holds, and sends them.
-    fn send(&mut self, cpu: Cpu, items: &[Item]) -> Result<Reply, OutOfMemory>
-        requires there { cpu < self.old.kernel.limits.cpus }
-        requires few { length items.now < 2 ^ 32 }
-        requires tellable { AreTellable items.now }
-        ensures { IfOk result (Sends cpu items.now self.old self.new) }
-    {
-        let count = items.len() as u32;
-        let index = self.sent.len() as u64;
-        let delta = Delta::of_items(self.alloc, items)?;
-        // Room comes first: the agent counts as sent only what is.
-        self.sent.reserve(1)?;
-        let agent = &mut self.agents[cpu.index() as usize];
-        take_in(&mut agent.view, &delta)?;
-        agent.shown = count;
-        self.sent.push(delta)?;
-        Ok(Reply::Published {
-            delta: index,
-            items: count,
-        })
     }
 
     /// The agent takes in the delta with this index.
     fn deliver(&mut self, cpu: Cpu, index: u64) -> Result<Reply, OutOfMemory>
-        ensures { IfOk result (Does (IsDelivering cpu index) self.old self.new) }
+        ensures { Handles (Event.Deliver cpu index) result self.old self.new }
     {
-        if cpu.index() >= self.kernel.cpus() {
+        let Some(place) = self.place(cpu) else {
             return Ok(Reply::Refused(Refusal::BadCpu));
-        }
-        match delta_at(&self.sent, index) {
+        };
+        match delta_at(self.wire.sent(), index) {
             None => Ok(Reply::Refused(Refusal::NoDelta)),
-            Some(delta) => {
-                take_in(&mut self.agents[cpu.index() as usize].view, delta)?;
-                Ok(Reply::Done)
-            }
+            Some(delta) => match self.agents[place].deliver(delta) {
+                Ok(()) => Ok(Reply::Done),
+                Err(fault) => Err(fault),
+            },
         }
     }
 
     /// The agent sends what the asker's digest lacks.
     fn answer(&mut self, cpu: Cpu, asker: Cpu) -> Result<Reply, OutOfMemory>
-        ensures { IfOk result (Does (IsAnswering cpu asker) self.old self.new) }
+        ensures { Handles (Event.Answer cpu asker) result self.old self.new }
     {
         sets_are_pairs();
-        let index = self.sent.len() as u64;
-        let Some(agent) = self.agent(cpu) else {
+        let Some(place) = self.place(cpu) else {
             return Ok(Reply::Refused(Refusal::BadCpu));
         };
-        let Some(other) = self.agent(asker) else {
+        let Some(other) = self.place(asker) else {
             return Ok(Reply::Refused(Refusal::BadCpu));
         };
+        let index = self.wire.sent().len() as u64;
+        self.wire.set_refuses(false);
         // What the asker's digest would have, its view has: the digest need not be made.
-        let delta = delta_beyond(self.alloc, &agent.view, &other.view)?;
-        self.sent.push(delta)?;
-        Ok(Reply::Answered { delta: index })
+        match self.agents[place].answer_beyond(self.agents[other].view(), &mut self.wire) {
+            Ok(()) => Ok(Reply::Answered { delta: index }),
+            Err(SendFault::OutOfMemory) => Err(OutOfMemory),
+            Err(SendFault::WireFault) => unreachable!(),
+        }
     }
-}
 
-/// The delta with this index.
-fn delta_at(sent: &[Delta], index: u64) -> Option<&Delta>
-    ensures { option_copied result ≡ slice_get sent.now index }
-{
-    sent.get(usize::try_from(index).ok()?)
+    /// The agent commits the first thread of its run list that the kernel accepts.
+    fn pick(&mut self, cpu: Cpu, aseq: u32) -> Result<Reply, OutOfMemory>
+        ensures { Handles (Event.Pick cpu aseq) result self.old self.new }
+    {
+        runs_go_on();
+        let Some(place) = self.place(cpu) else {
+            return Ok(Reply::Refused(Refusal::BadCpu));
+        };
+        match self.agents[place].pick(&mut self.kernel, aseq) {
+            Ok(thread) => Ok(Reply::Committed { thread, cpu }),
+            Err(refusal) => Ok(Reply::Refused(refusal)),
+        }
+    }
+
+    /// The agent takes the least thread over that it may.
+    fn steal(&mut self, cpu: Cpu) -> Result<Reply, OutOfMemory>
+        ensures { Handles (Event.Steal cpu) result self.old self.new }
+    {
+        runs_go_on();
+        let Some(place) = self.place(cpu) else {
+            return Ok(Reply::Refused(Refusal::BadCpu));
+        };
+        match self.agents[place].steal(&mut self.kernel) {
+            Ok(thread) => Ok(Reply::Associated { thread, queue: cpu }),
+            Err(CallFault::Refused(refusal)) => Ok(Reply::Refused(refusal)),
+            Err(CallFault::OutOfMemory) => Err(OutOfMemory),
+        }
+    }
+
+    /// The agent starts again with nothing, and is awake.
+    fn crash(&mut self, cpu: Cpu) -> Result<Reply, OutOfMemory>
+        ensures { Handles (Event.Crash cpu) result self.old self.new }
+    {
+        runs_go_on();
+        let Some(place) = self.place(cpu) else {
+            return Ok(Reply::Refused(Refusal::BadCpu));
+        };
+        match self.kernel.rouse(cpu) {
+            Ok(()) => {
+                self.agents[place].restart();
+                Ok(Reply::Done)
+            }
+            Err(refusal) => Ok(Reply::Refused(refusal)),
+        }
+    }
 }

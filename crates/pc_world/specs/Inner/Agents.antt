@@ -1,17 +1,16 @@
--- Agents that know nothing.
-use Rattle.std.specs.Prelude.{ℕ, ◌≡◌, List, length, All}
+-- The agents of CPUs 0, 1, ..
+use Rattle.std.specs.Prelude.{ℕ, ◌≡◌, List, length, Some, slice_get}
 use Rattle.pc_messages.specs.Run.{Run}
-use Rattle.pc_join.specs.Sets.{IsVoid}
-use Rattle.pc_view.specs.Views.{pairs_of, IsOfRun}
-use Rattle.pc_world.specs.declared.agents.Agent.{Agent}
+use Rattle.pc_agent.specs.declared.agent.Agent.{Agent}
+use Rattle.pc_agent.specs.PlainAgent.{fresh}
+use Rattle.pc_agent.specs.Shows.{ShowsAgent, cpu_of}
 
--- the agent knows nothing and has sent nothing
-pub record IsNew (agent : Agent) : Type 0 where
-  pub nothing : IsVoid (pairs_of agent.view)
-  pub of_run : (run : Run) → IsOfRun run agent.view
-  pub shown : agent.shown ≡ 0
+-- each is the agent of its own CPU
+abbrev pub AreOwn : List Agent → Type 0
+AreOwn agents = (c : ℕ) (agent : Agent) → slice_get agents c ≡ Some agent → cpu_of agent ≡ c
 
 -- so many agents that know nothing
 pub record AreNew (count : ℕ) (agents : List Agent) : Type 0 where
   pub count_is : length agents ≡ count
-  pub each : All IsNew agents
+  pub own : AreOwn agents
+  pub fresh : (c : ℕ) (agent : Agent) → slice_get agents c ≡ Some agent → (run : Run) → ShowsAgent run fresh agent

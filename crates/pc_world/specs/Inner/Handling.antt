@@ -1,0 +1,20 @@
+-- What an event of the world comes to, with memory and without.
+use Rattle.std.specs.Prelude.{Result, Ok, Err}
+use Rattle.pc_calls.specs.declared.event.Event.{Event}
+use Rattle.pc_calls.specs.declared.event.Reply.{Reply}
+use Rattle.pc_join.specs.declared.join.OutOfMemory.{OutOfMemory}
+use Rattle.pc_world.specs.declared.world.World.{World}
+use Rattle.pc_world.specs.PlainWorld.{PlainWorld}
+use Rattle.pc_world.specs.Shows.{KeepsSent, ShowsWorld}
+use Rattle.pc_world.specs.Starved.{Starved}
+use Rattle.pc_world.specs.Steps.{Step}
+
+-- a step with its reply, or what the event leaves without memory
+abbrev pub Outcome : PlainWorld → Event → Result Reply OutOfMemory → PlainWorld → Type 0
+Outcome w event (Ok told) new = Step w event told new
+Outcome w event (Err fault) new = Starved w event new
+
+-- for every plain world that is shown before, such an outcome is shown after, and what was sent stays sent
+abbrev pub Handles : Event → Result Reply OutOfMemory → World → World → Type 0
+Handles event result old new =
+    (w : PlainWorld) → ShowsWorld old w → (w' : PlainWorld) × Outcome w event result w' × ShowsWorld new w' × KeepsSent old new

@@ -1,0 +1,43 @@
+-- What an event leaves for which there was no memory.
+use Rattle.std.specs.Prelude.{ℕ, ◌≡◌, ◌⊎◌, true, false, Some, None, Option, MatchOption, slice_get, is_some}
+use Rattle.pc_messages.specs.Items.{pairs_in}
+use Rattle.pc_calls.specs.declared.call.Call.{Call}
+use Rattle.pc_calls.specs.declared.call.Call.TheVariants as call
+use Rattle.pc_calls.specs.declared.event.Event.{Event}
+use Rattle.pc_calls.specs.declared.event.Event.TheVariants.{Publish, Deliver, Answer, Steal}
+use Rattle.pc_calls.specs.Events.{call_of}
+use Rattle.pc_join.specs.Sets.{IsBetween, as_members}
+use Rattle.pc_kernel.specs.PlainKernel.{content}
+use Rattle.pc_kernel.specs.Reads.{shown, is_cpu, on}
+use Rattle.pc_kernel.specs.Steps as kernel
+use Rattle.pc_agent.specs.PlainAgent.{Set}
+use Rattle.pc_agent.specs.Running.{Finds}
+use Rattle.pc_world.specs.PlainWorld.{PlainWorld, looked, with_agent}
+use Rattle.pc_world.specs.Steps.{are_cpus, stealable}
+
+-- the agent has taken in a part of the set, and nothing else changed
+pub record IsWidened (w : PlainWorld) (c : ℕ) (more : Set) (new : PlainWorld) : Type 0 where
+  pub set : Set
+  pub between : IsBetween (as_members (w.agents c).seen) (as_members more) (as_members set)
+  pub after : new ≡ with_agent w c (record (w.agents c) { seen = set })
+
+-- a call that takes memory, and is not refused
+abbrev pub IsCallStarved : PlainWorld → Call → Type 0
+IsCallStarved w (call.Env c) = kernel.refused (shown w.kernel) (call.Env c) ≡ None
+IsCallStarved w c = ⊥
+
+-- an event that is no call, takes memory, and is not refused; and what it leaves
+abbrev pub IsOwnStarved : PlainWorld → Event → PlainWorld → Type 0
+IsOwnStarved w (Publish cpu fails) new =
+    (is_cpu (shown w.kernel) cpu ≡ true) × (IsWidened w cpu (pairs_in (content w.kernel cpu)) new ⊎ (new ≡ looked w cpu))
+IsOwnStarved w (Deliver cpu delta) new =
+    (is_cpu (shown w.kernel) cpu ≡ true) × (set : Set) × (slice_get w.sent delta ≡ Some set) × IsWidened w cpu set new
+IsOwnStarved w (Answer cpu asker) new = (are_cpus w cpu asker ≡ true) × (new ≡ w)
+IsOwnStarved w (Steal cpu) new =
+    (is_cpu (shown w.kernel) cpu ≡ true) × (is_some (on (shown w.kernel) cpu) ≡ false)
+    × (t : ℕ) × Finds (stealable w cpu) (Some t) × (new ≡ w)
+IsOwnStarved w event new = ⊥
+
+-- an event for which there was no memory: none that is refused, and none that takes none; a call leaves all as it was
+abbrev pub Starved : PlainWorld → Event → PlainWorld → Type 0
+Starved w event new = MatchOption (call_of event) (IsOwnStarved w event new) (λ c. IsCallStarved w c × (new ≡ w))
