@@ -44,7 +44,7 @@ items_tell run items delta told of_run are = record { of_run = of_run run are; t
 
 pub has_copied : (run : Run) (p : PlainAgent) (items : List Item) (old new : Agent) (delta : List Part) (touched : List ℕ) → ReportsAreTold → ShowsDelta run (pairs_in items) delta → ShowsAgent run p old
     → IsTakenIn delta old.view new.view → touched ≡ threads_in items → new.list ≡ refreshed new.view old.cpu old.list touched → new.shown ≡ old.shown
-    → IsCopied run p items (Ok delta) old new
+    → IsCopied run p items (Ok delta) old.cpu new
 has_copied run p items old new delta touched law tells h taken names list count =
     let view = view_takes run p.seen (pairs_in items) old.view new.view delta h.view taken tells in
     let state : (t : ℕ) → reported_in new.view t ≡ reports run (copied run old.cpu items p).seen t = λ t. law run (copied run old.cpu items p).seen new.view t view.of_run view.seen in (
@@ -57,6 +57,6 @@ has_copied run p items old new delta touched law tells h taken names list count 
     )
 
 -- memory ran out
-pub starved : (run : Run) (p : PlainAgent) (items : List Item) (old new : Agent) (result : Result (List Part) OutOfMemory) → IsErr result → ShowsPart run p (pairs_in items) new → IsCopied run p items result old new
-starved run p items old new (Ok delta) e part = absurd (false≢true e)
-starved run p items old new (Err fault) e part = part
+pub starved : (run : Run) (p : PlainAgent) (items : List Item) (cpu : ℕ) (new : Agent) (result : Result (List Part) OutOfMemory) → IsErr result → ShowsPart run p (pairs_in items) new → IsCopied run p items result cpu new
+starved run p items cpu new (Ok delta) e part = absurd (false≢true e)
+starved run p items cpu new (Err fault) e part = part

@@ -53,13 +53,13 @@ module _ (r : Reads) (cpu n : ℕ) (names : List ℕ) where
       by_tests false false e = refl
 
 pub unready_picked : (P : PlainKernel) (run : Run) (p : PlainAgent) (n : ℕ) (old : Agent) (k k2 : KernelRows) (refusal : Refusal) → Shows k P → ShowsAgent run p old → unready_for (seen k) old.cpu n ≡ Some refusal
-    → IsPicked n P run p (Err refusal) old old k2
+    → IsPicked n P run p (Err refusal) old.cpu old k2
 unready_picked P run p n old k k2 refusal shows h e =
     let both = unready_refused (shown P) old.cpu n p.list refusal (ap (λ r. unready_for r old.cpu n) (sym shows.reads) ∙ e) in
     (both.0, record { view = h.view; list = h.list ∙ sym both.1; shown = h.shown })
 
 pub picked : (P : PlainKernel) (run : Run) (p : PlainAgent) (n : ℕ) (result : Result ℕ Refusal) (old new : Agent) (k k2 : KernelRows) → Shows k P → ShowsAgent run p old → unready_for (seen k) old.cpu n ≡ None
-    → CommitsFirst old.cpu n result old.list new.list k k2 → new.view ≡ old.view → new.shown ≡ old.shown → IsPicked n P run p result old new k2
+    → CommitsFirst old.cpu n result old.list new.list k k2 → new.view ≡ old.view → new.shown ≡ old.shown → IsPicked n P run p result old.cpu new k2
 picked P run p n (Ok t) old new k k2 shows h e first view count =
     let ready : ready_list (shown P) old.cpu n p.list ≡ t ∷ new.list = sym (λ i. ready_list (shows.reads i) old.cpu n (h.list i)) ∙ first.0 in
     let is = was_accepted (refused (shown P) (call.Commit old.cpu t n)) (accepted P (call.Commit old.cpu t n)) k k2 (after P (call.Commit old.cpu t n)) (first.1 P shows) in (
@@ -79,9 +79,9 @@ picked P run p n (Err refusal) old new k k2 shows h e first view count =
     )
 
 -- what is counted changes nothing of a pick
-pub pick_recounted : (n : ℕ) (P : PlainKernel) (run : Run) (p : PlainAgent) (result : Result ℕ Refusal) (old new other : Agent) (kernel : KernelRows) → other.view ≡ new.view → other.list ≡ new.list → other.shown ≡ new.shown
-    → IsPicked n P run p result old new kernel → IsPicked n P run p result old other kernel
-pick_recounted n P run p (Ok t) old new other kernel view list count h = (
+pub pick_recounted : (n : ℕ) (P : PlainKernel) (run : Run) (p : PlainAgent) (result : Result ℕ Refusal) (cpu : ℕ) (new other : Agent) (kernel : KernelRows) → other.view ≡ new.view → other.list ≡ new.list → other.shown ≡ new.shown
+    → IsPicked n P run p result cpu new kernel → IsPicked n P run p result cpu other kernel
+pick_recounted n P run p (Ok t) cpu new other kernel view list count h = (
   h.0,
   record {
     rest = h.1.rest;
@@ -91,5 +91,5 @@ pick_recounted n P run p (Ok t) old new other kernel view list count h = (
     agent = record { view = subst (λ v. ShowsView run p.seen v) (sym view) h.1.agent.view; list = list ∙ h.1.agent.list; shown = count ∙ h.1.agent.shown };
   },
 )
-pick_recounted n P run p (Err refusal) old new other kernel view list count h =
+pick_recounted n P run p (Err refusal) cpu new other kernel view list count h =
     (h.0, record { view = subst (λ v. ShowsView run p.seen v) (sym view) h.1.view; list = list ∙ h.1.list; shown = count ∙ h.1.shown })

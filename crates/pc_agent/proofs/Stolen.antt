@@ -40,16 +40,16 @@ module _ (P : PlainKernel) (run : Run) (p : PlainAgent) (old : Agent) (k : Kerne
   pub found : (o : Option ℕ) → Finds (may_take (seen k) (runs_in old.view old.cpu) old.list) o → Finds (may_steal (shown P) run old.cpu p) o
   found o finds = subst (λ test. Finds test o) test_same finds
 
-  pub on_busy : (result : Result ℕ CallFault) (new : Agent) (k2 : KernelRows) → is_some (on (seen k) old.cpu) ≡ true → result ≡ Err (Refused Busy) → Steals P run p result old new k2
+  pub on_busy : (result : Result ℕ CallFault) (new : Agent) (k2 : KernelRows) → is_some (on (seen k) old.cpu) ≡ true → result ≡ Err (Refused Busy) → Steals P run p result old.cpu new k2
   on_busy result new k2 busy e =
-      subst (λ c. MatchBool c (result ≡ Err (Refused Busy)) (IsStolen P run p result old new k2)) (sym (ap (λ r. is_some (on r old.cpu)) (sym shows.reads) ∙ busy)) e
+      subst (λ c. MatchBool c (result ≡ Err (Refused Busy)) (IsStolen P run p result old.cpu new k2)) (sym (ap (λ r. is_some (on r old.cpu)) (sym shows.reads) ∙ busy)) e
 
-  pub on_idle : (result : Result ℕ CallFault) (new : Agent) (k2 : KernelRows) → is_some (on (seen k) old.cpu) ≡ false → IsStolen P run p result old new k2 → Steals P run p result old new k2
+  pub on_idle : (result : Result ℕ CallFault) (new : Agent) (k2 : KernelRows) → is_some (on (seen k) old.cpu) ≡ false → IsStolen P run p result old.cpu new k2 → Steals P run p result old.cpu new k2
   on_idle result new k2 idle stolen =
-      subst (λ c. MatchBool c (result ≡ Err (Refused Busy)) (IsStolen P run p result old new k2)) (sym (ap (λ r. is_some (on r old.cpu)) (sym shows.reads) ∙ idle)) stolen
+      subst (λ c. MatchBool c (result ≡ Err (Refused Busy)) (IsStolen P run p result old.cpu new k2)) (sym (ap (λ r. is_some (on r old.cpu)) (sym shows.reads) ∙ idle)) stolen
 
   pub taken_over : (t n : ℕ) (new : Agent) (k2 : KernelRows) → n ≡ upto_of old.view t → Steps done (call.Associate t old.cpu n) (Ok tt) k k2 → new.view ≡ old.view → new.shown ≡ old.shown → new.list ≡ old.list ++ t ∷ []
-      → Finds (may_take (seen k) (runs_in old.view old.cpu) old.list) (Some t) → IsStolen P run p (Ok t) old new k2
+      → Finds (may_take (seen k) (runs_in old.view old.cpu) old.list) (Some t) → IsStolen P run p (Ok t) old.cpu new k2
   taken_over t n new k2 is steps view count list finds =
       let number_is : n ≡ upto p.seen t = is ∙ known t in
       let steps_here : Steps done (takes_over old.cpu p t) (Ok tt) k k2 = subst (λ m. Steps done (call.Associate t old.cpu m) (Ok tt) k k2) number_is steps in
@@ -63,7 +63,7 @@ module _ (P : PlainKernel) (run : Run) (p : PlainAgent) (old : Agent) (k : Kerne
       )
 
   pub not_taken : (t n : ℕ) (refusal : Refusal) (new : Agent) (k2 : KernelRows) → n ≡ upto_of old.view t → Steps done (call.Associate t old.cpu n) (Err refusal) k k2
-      → Finds (may_take (seen k) (runs_in old.view old.cpu) old.list) (Some t) → IsStolen P run p (Err (Refused refusal)) old new k2
+      → Finds (may_take (seen k) (runs_in old.view old.cpu) old.list) (Some t) → IsStolen P run p (Err (Refused refusal)) old.cpu new k2
   not_taken t n refusal new k2 is steps finds =
       let number_is : n ≡ upto p.seen t = is ∙ known t in
       let steps_here : Steps done (takes_over old.cpu p t) (Err refusal) k k2 = subst (λ m. Steps done (call.Associate t old.cpu m) (Err refusal) k k2) number_is steps in (
@@ -89,11 +89,11 @@ module _ (P : PlainKernel) (run : Run) (p : PlainAgent) (old : Agent) (k : Kerne
       take_length (x ∷ xs) ys = ap (λ l. x ∷ l) (take_length xs ys)
 
 -- what is counted changes nothing of a steal
-pub steal_recounted : (P : PlainKernel) (run : Run) (p : PlainAgent) (result : Result ℕ CallFault) (old new other : Agent) (kernel : KernelRows) → other.view ≡ new.view → other.list ≡ new.list → other.shown ≡ new.shown
-    → Steals P run p result old new kernel → Steals P run p result old other kernel
-steal_recounted P run p result old new other kernel view list count = by_test (is_some (on (shown P) old.cpu)) result
+pub steal_recounted : (P : PlainKernel) (run : Run) (p : PlainAgent) (result : Result ℕ CallFault) (cpu : ℕ) (new other : Agent) (kernel : KernelRows) → other.view ≡ new.view → other.list ≡ new.list → other.shown ≡ new.shown
+    → Steals P run p result cpu new kernel → Steals P run p result cpu other kernel
+steal_recounted P run p result cpu new other kernel view list count = by_test (is_some (on (shown P) cpu)) result
   where
-    by_test : (b : Bool) (r : Result ℕ CallFault) → MatchBool b (r ≡ Err (Refused Busy)) (IsStolen P run p r old new kernel) → MatchBool b (r ≡ Err (Refused Busy)) (IsStolen P run p r old other kernel)
+    by_test : (b : Bool) (r : Result ℕ CallFault) → MatchBool b (r ≡ Err (Refused Busy)) (IsStolen P run p r cpu new kernel) → MatchBool b (r ≡ Err (Refused Busy)) (IsStolen P run p r cpu other kernel)
     by_test true r h = h
     by_test false (Ok t) h = (
       h.0,

@@ -16,7 +16,7 @@ use Rattle.pc_agent.specs.declared.agent.Agent.{Agent}
 use Rattle.pc_agent.specs.declared.wire.SendFault.{SendFault}
 use Rattle.pc_agent.specs.declared.wire.SendFault.TheVariants.{OutOfMemory, WireFault}
 use Rattle.pc_agent.specs.PlainAgent.{PlainAgent, Set, copied}
-use Rattle.pc_agent.specs.Shows.{ShowsAgent, ShowsDelta, ShowsPart}
+use Rattle.pc_agent.specs.Shows.{ShowsAgent, ShowsDelta, ShowsPart, cpu_of}
 
 -- for every plain kernel that the kernel shows, every run that goes on from its, and whatever the agent shows of it
 abbrev pub WhateverShown : KernelRows → Agent → (PlainKernel → Run → PlainAgent → Type 0) → Type 0
@@ -25,13 +25,13 @@ WhateverShown kernel agent Says =
 
 -- the items are copied: the delta tells them, the view has them, the run list is refreshed; where memory ran out the view has
 -- a part of them, and nothing else changed
-abbrev pub IsCopied : Run → PlainAgent → List Item → Result (List Part) Starved → Agent → Agent → Type 0
-IsCopied run p items (Ok delta) old new = ShowsDelta run (pairs_in items) delta × ShowsAgent run (copied run old.cpu items p) new
-IsCopied run p items (Err fault) old new = ShowsPart run p (pairs_in items) new
+abbrev pub IsCopied : Run → PlainAgent → List Item → Result (List Part) Starved → ℕ → Agent → Type 0
+IsCopied run p items (Ok delta) cpu new = ShowsDelta run (pairs_in items) delta × ShowsAgent run (copied run cpu items p) new
+IsCopied run p items (Err fault) cpu new = ShowsPart run p (pairs_in items) new
 
 -- for every run that the items are of, and whatever the agent shows of it
 abbrev pub Copies : List Item → Result (List Part) Starved → Agent → Agent → Type 0
-Copies items result old new = (run : Run) (p : PlainAgent) → AreItemsOf run items → ShowsAgent run p old → IsCopied run p items result old new
+Copies items result old new = (run : Run) (p : PlainAgent) → AreItemsOf run items → ShowsAgent run p old → IsCopied run p items result (cpu_of old) new
 
 -- what a wire says of a send: the wire before, the delta, the answer, the wire after
 abbrev pub Sending : Type 0 → Type 1
@@ -49,22 +49,22 @@ sent_after run cpu items p = record (copied run cpu items p) { shown = length it
 
 -- a publish of these items: what counts as sent is what the wire took; after a fault of the wire only the count of sent items
 -- is as it was; memory may have run out before the send, or in it
-abbrev pub IsPublished : {W : Type 0} → Sending W → List Item → Run → PlainAgent → Result ℕ SendFault → Agent → Agent → W → W → Type 0
-IsPublished Sends items run p (Ok count) old new wire later =
+abbrev pub IsPublished : {W : Type 0} → Sending W → List Item → Run → PlainAgent → Result ℕ SendFault → ℕ → Agent → W → W → Type 0
+IsPublished Sends items run p (Ok count) cpu new wire later =
     (count ≡ length items)
     × IsHandedOn Sends run (pairs_in items) (Ok tt) wire later
-    × ShowsAgent run (sent_after run old.cpu items p) new
-IsPublished Sends items run p (Err WireFault) old new wire later =
-    IsHandedOn Sends run (pairs_in items) (Err WireFault) wire later × ShowsAgent run (copied run old.cpu items p) new
-IsPublished Sends items run p (Err OutOfMemory) old new wire later =
+    × ShowsAgent run (sent_after run cpu items p) new
+IsPublished Sends items run p (Err WireFault) cpu new wire later =
+    IsHandedOn Sends run (pairs_in items) (Err WireFault) wire later × ShowsAgent run (copied run cpu items p) new
+IsPublished Sends items run p (Err OutOfMemory) cpu new wire later =
     (ShowsPart run p (pairs_in items) new × (later ≡ wire))
-    ⊎ (IsHandedOn Sends run (pairs_in items) (Err OutOfMemory) wire later × ShowsAgent run (copied run old.cpu items p) new)
+    ⊎ (IsHandedOn Sends run (pairs_in items) (Err OutOfMemory) wire later × ShowsAgent run (copied run cpu items p) new)
 
 -- the items that the agent has sent leave its queue, as the kernel answers
-abbrev pub IsConsumed : PlainKernel → Run → PlainAgent → Result ℕ Refusal → Agent → Agent → KernelRows → Type 0
-IsConsumed P run p (Ok count) old new kernel =
+abbrev pub IsConsumed : PlainKernel → Run → PlainAgent → Result ℕ Refusal → ℕ → Agent → KernelRows → Type 0
+IsConsumed P run p (Ok count) cpu new kernel =
     (count ≡ p.shown)
-    × (reply P (call.Consume old.cpu p.shown) ≡ Ok Done)
-    × Shows kernel (after P (call.Consume old.cpu p.shown))
+    × (reply P (call.Consume cpu p.shown) ≡ Ok Done)
+    × Shows kernel (after P (call.Consume cpu p.shown))
     × ShowsAgent run (record p { shown = 0 }) new
-IsConsumed P run p (Err refusal) old new kernel = reply P (call.Consume old.cpu p.shown) ≡ Err refusal
+IsConsumed P run p (Err refusal) cpu new kernel = reply P (call.Consume cpu p.shown) ≡ Err refusal

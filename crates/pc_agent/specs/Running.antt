@@ -24,19 +24,19 @@ left_by NothingReady names = []
 left_by refusal names = names
 
 -- the first thread of the run list that the kernel would commit is committed, and what follows it is left
-pub record IsCommitted (P : PlainKernel) (run : Run) (p : PlainAgent) (n t : ℕ) (old new : Agent) (kernel : KernelRows) : Type 0 where
+pub record IsCommitted (P : PlainKernel) (run : Run) (p : PlainAgent) (cpu n t : ℕ) (new : Agent) (kernel : KernelRows) : Type 0 where
   pub rest : List ℕ
-  pub first : ready_list (shown P) old.cpu n p.list ≡ t ∷ rest
-  pub accepted : refused (shown P) (call.Commit old.cpu t n) ≡ None
-  pub after : Shows kernel (after P (call.Commit old.cpu t n))
+  pub first : ready_list (shown P) cpu n p.list ≡ t ∷ rest
+  pub accepted : refused (shown P) (call.Commit cpu t n) ≡ None
+  pub after : Shows kernel (after P (call.Commit cpu t n))
   pub agent : ShowsAgent run (record p { list = rest }) new
 
 -- a pick under a count of posts
-abbrev pub IsPicked : ℕ → PlainKernel → Run → PlainAgent → Result ℕ Refusal → Agent → Agent → KernelRows → Type 0
-IsPicked n P run p (Ok t) old new kernel =
-    (pick_refused (shown P) old.cpu n p.list ≡ None) × IsCommitted P run p n t old new kernel
-IsPicked n P run p (Err refusal) old new kernel =
-    (pick_refused (shown P) old.cpu n p.list ≡ Some refusal) × ShowsAgent run (record p { list = left_by refusal p.list }) new
+abbrev pub IsPicked : ℕ → PlainKernel → Run → PlainAgent → Result ℕ Refusal → ℕ → Agent → KernelRows → Type 0
+IsPicked n P run p (Ok t) cpu new kernel =
+    (pick_refused (shown P) cpu n p.list ≡ None) × IsCommitted P run p cpu n t new kernel
+IsPicked n P run p (Err refusal) cpu new kernel =
+    (pick_refused (shown P) cpu n p.list ≡ Some refusal) × ShowsAgent run (record p { list = left_by refusal p.list }) new
 
 -- the least number that passes the test; none, where none does
 pub record IsLeast (test : ℕ → Bool) (t : ℕ) : Type 0 where
@@ -57,22 +57,22 @@ take_refused r cpu p None = Some NothingToSteal
 take_refused r cpu p (Some t) = refused r (takes_over cpu p t)
 
 -- the thread is taken over, and goes to the end of the run list
-pub record IsTakenOver (P : PlainKernel) (run : Run) (p : PlainAgent) (t : ℕ) (old new : Agent) (kernel : KernelRows) : Type 0 where
-  pub accepted : refused (shown P) (takes_over old.cpu p t) ≡ None
-  pub after : Shows kernel (after P (takes_over old.cpu p t))
+pub record IsTakenOver (P : PlainKernel) (run : Run) (p : PlainAgent) (cpu t : ℕ) (new : Agent) (kernel : KernelRows) : Type 0 where
+  pub accepted : refused (shown P) (takes_over cpu p t) ≡ None
+  pub after : Shows kernel (after P (takes_over cpu p t))
   pub agent : ShowsAgent run (record p { list = p.list ++ t ∷ [] }) new
 
 -- a steal for an idle CPU: only the least thread that may be stolen is tried
-abbrev pub IsStolen : PlainKernel → Run → PlainAgent → Result ℕ CallFault → Agent → Agent → KernelRows → Type 0
-IsStolen P run p (Ok t) old new kernel = Finds (may_steal (shown P) run old.cpu p) (Some t) × IsTakenOver P run p t old new kernel
-IsStolen P run p (Err (Refused refusal)) old new kernel =
-    (t : Option ℕ) × Finds (may_steal (shown P) run old.cpu p) t × (take_refused (shown P) old.cpu p t ≡ Some refusal)
-IsStolen P run p (Err OutOfMemory) old new kernel = (t : ℕ) × Finds (may_steal (shown P) run old.cpu p) (Some t)
+abbrev pub IsStolen : PlainKernel → Run → PlainAgent → Result ℕ CallFault → ℕ → Agent → KernelRows → Type 0
+IsStolen P run p (Ok t) cpu new kernel = Finds (may_steal (shown P) run cpu p) (Some t) × IsTakenOver P run p cpu t new kernel
+IsStolen P run p (Err (Refused refusal)) cpu new kernel =
+    (t : Option ℕ) × Finds (may_steal (shown P) run cpu p) t × (take_refused (shown P) cpu p t ≡ Some refusal)
+IsStolen P run p (Err OutOfMemory) cpu new kernel = (t : ℕ) × Finds (may_steal (shown P) run cpu p) (Some t)
 
 -- a steal: refused first where a thread runs on the CPU
-abbrev pub Steals : PlainKernel → Run → PlainAgent → Result ℕ CallFault → Agent → Agent → KernelRows → Type 0
-Steals P run p result old new kernel =
-    MatchBool (is_some (on (shown P) old.cpu)) (result ≡ Err (Refused Busy)) (IsStolen P run p result old new kernel)
+abbrev pub Steals : PlainKernel → Run → PlainAgent → Result ℕ CallFault → ℕ → Agent → KernelRows → Type 0
+Steals P run p result cpu new kernel =
+    MatchBool (is_some (on (shown P) cpu)) (result ≡ Err (Refused Busy)) (IsStolen P run p result cpu new kernel)
 
 -- the agent had seen the thread exactly: all its messages, the state that they report, and none of them waits
 pub record IsSeenExactly (P : PlainKernel) (run : Run) (p : PlainAgent) (t : ℕ) : Type 0 where

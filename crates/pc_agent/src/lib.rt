@@ -14,7 +14,7 @@ mod queue;
 mod steal;
 mod wire;
 
-pub use agent::Agent;
+pub use agent::{Agent, agents_stay_as_the_run_goes_on};
 pub use counts::Counts;
 pub use kept_wire::KeptWire;
 pub use wire::{SendFault, Wire};

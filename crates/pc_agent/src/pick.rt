@@ -45,7 +45,7 @@ impl Agent {
     /// `Stale` with the count of now; `Busy` where a thread runs on its CPU; `NothingReady` where the kernel accepts none,
     /// and the run list then is empty.
     pub fn pick(&mut self, kernel: &mut Kernel, aseq: u32) -> Result<Tid, Refusal>
-        ensures picks { WhateverShown kernel.old self.old (λ P run p. IsPicked aseq P run p result self.old self.new kernel.new) }
+        ensures picks { WhateverShown kernel.old self.old (λ P run p. IsPicked aseq P run p result (cpu_of self.old) self.new kernel.new) }
         ensures limits { kernel.new.limits ≡ kernel.old.limits }
         ensures extends { Extends (kinds (seen kernel.new)) (kinds (seen kernel.old)) }
         ensures err { OnErr result (kernel.new ≡ kernel.old) }
@@ -59,7 +59,7 @@ impl Agent {
 
     /// The pick, before it is counted.
     fn try_pick(&mut self, kernel: &mut Kernel, aseq: u32) -> Result<Tid, Refusal>
-        ensures picks { WhateverShown kernel.old self.old (λ P run p. IsPicked aseq P run p result self.old self.new kernel.new) }
+        ensures picks { WhateverShown kernel.old self.old (λ P run p. IsPicked aseq P run p result (cpu_of self.old) self.new kernel.new) }
         ensures limits { kernel.new.limits ≡ kernel.old.limits }
         ensures extends { Extends (kinds (seen kernel.new)) (kinds (seen kernel.old)) }
         ensures err { OnErr result (kernel.new ≡ kernel.old) }

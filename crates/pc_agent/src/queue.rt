@@ -74,7 +74,7 @@ impl Agent {
         requires there { IsTrue (is_cpu (seen kernel.now) self.old.cpu) }
         requires room { W.faults wire.old < MOST_COUNTED }
         ensures publishes { WhateverShown kernel.now self.old (λ P run p.
-            IsPublished W.Sends (plain.content P self.old.cpu) run p result self.old self.new wire.old wire.new) }
+            IsPublished W.Sends (plain.content P self.old.cpu) run p result (cpu_of self.old) self.new wire.old wire.new) }
         ensures fault { result ≡ Err SendFault.WireFault → W.faults wire.old < W.faults wire.new }
         ensures cpu { cpu_of self.new ≡ cpu_of self.old }
         ensures counts { self.new.counts ≡ self.old.counts }
@@ -93,7 +93,7 @@ impl Agent {
         requires tellable { AreTellable items.now }
         requires room { W.faults wire.old < MOST_COUNTED }
         ensures publishes { (run : Run) (p : PlainAgent) → AreItemsOf run items.now → ShowsAgent run p self.old
-            → IsPublished W.Sends items.now run p result self.old self.new wire.old wire.new }
+            → IsPublished W.Sends items.now run p result (cpu_of self.old) self.new wire.old wire.new }
         ensures fault { result ≡ Err SendFault.WireFault → W.faults wire.old < W.faults wire.new }
         ensures cpu { cpu_of self.new ≡ cpu_of self.old }
         ensures counts { self.new.counts ≡ self.old.counts }
@@ -115,7 +115,7 @@ impl Agent {
     /// Removes from its queue the items that it has sent, and answers how many. It takes no memory. `TooMany` comes where
     /// something else removed items from the queue since they were sent.
     pub fn consume(&mut self, kernel: &mut Kernel) -> Result<u32, Refusal>
-        ensures consumes { WhateverShown kernel.old self.old (λ P run p. IsConsumed P run p result self.old self.new kernel.new) }
+        ensures consumes { WhateverShown kernel.old self.old (λ P run p. IsConsumed P run p result (cpu_of self.old) self.new kernel.new) }
         ensures fault { refusal_in result ≡ refused (seen kernel.old) (call.Consume self.old.cpu self.old.shown) }
         ensures limits { kernel.new.limits ≡ kernel.old.limits }
         ensures extends { Extends (kinds (seen kernel.new)) (kinds (seen kernel.old)) }

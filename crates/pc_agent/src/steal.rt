@@ -55,7 +55,7 @@ impl Agent {
     /// `Busy` where a thread runs on its CPU; `NothingToSteal` where there is no such thread; then want of memory; then
     /// what the kernel refuses: `Dead`, `Stale` with the number of now, `Pending`. Only the least thread is tried.
     pub fn steal(&mut self, kernel: &mut Kernel) -> Result<Tid, CallFault>
-        ensures steals { WhateverShown kernel.old self.old (λ P run p. Steals P run p result self.old self.new kernel.new) }
+        ensures steals { WhateverShown kernel.old self.old (λ P run p. Steals P run p result (cpu_of self.old) self.new kernel.new) }
         ensures exact { IfOk result (λ thread. WhateverShown kernel.old self.old (λ P run p. IsSeenExactly P run p thread)) }
         ensures limits { kernel.new.limits ≡ kernel.old.limits }
         ensures extends { Extends (kinds (seen kernel.new)) (kinds (seen kernel.old)) }
@@ -73,7 +73,7 @@ impl Agent {
 
     /// The steal, before it is counted.
     fn try_steal(&mut self, kernel: &mut Kernel) -> Result<Tid, CallFault>
-        ensures steals { WhateverShown kernel.old self.old (λ P run p. Steals P run p result self.old self.new kernel.new) }
+        ensures steals { WhateverShown kernel.old self.old (λ P run p. Steals P run p result (cpu_of self.old) self.new kernel.new) }
         ensures exact { IfOk result (λ thread. WhateverShown kernel.old self.old (λ P run p. IsSeenExactly P run p thread)) }
         ensures limits { kernel.new.limits ≡ kernel.old.limits }
         ensures extends { Extends (kinds (seen kernel.new)) (kinds (seen kernel.old)) }

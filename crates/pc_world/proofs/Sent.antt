@@ -3,8 +3,9 @@ use Rattle.std.proofs.Common.{◌≡◌, ℕ, zero, suc, List, [], ◌∷◌, �
 use Rattle.pc_messages.specs.Run.{Run}
 use Rattle.pc_delta.specs.declared.part.Part.{Part}
 use Rattle.pc_delta.specs.Parts.{AreOfRun}
-use Rattle.pc_world.specs.PlainWorld.{Set}
-use Rattle.pc_world.specs.Shows.{AreSent, ShowsDelta}
+use Rattle.pc_agent.specs.PlainAgent.{Set}
+use Rattle.pc_agent.specs.Shows.{ShowsDelta}
+use Rattle.pc_world.specs.Shows.{AreSent}
 
 -- the deltas that were sent
 pub sent_length : (run : Run) (sets : List Set) (deltas : List (List Part)) → AreSent run sets deltas → length deltas ≡ length sets

@@ -156,8 +156,8 @@ abbrev pub Step : PlainWorld → Event → Reply → PlainWorld → Type 0
 Step w event told new = MatchOption (call_of event) (IsOwnStep w event told new) (λ c. IsCalled w c told new)
 
 -- a list of events, one after another
-abbrev pub Run : PlainWorld → List Event → List Reply → PlainWorld → Type 0
-Run w [] [] new = new ≡ w
-Run w (event ∷ events) (told ∷ replies) new = (next : PlainWorld) × Step w event told next × Run next events replies new
-Run w [] (told ∷ replies) new = ⊥
-Run w (event ∷ events) [] new = ⊥
+abbrev pub Runs : PlainWorld → List Event → List Reply → PlainWorld → Type 0
+Runs w [] [] new = new ≡ w
+Runs w (event ∷ events) (told ∷ replies) new = (next : PlainWorld) × Step w event told next × Runs next events replies new
+Runs w [] (told ∷ replies) new = ⊥
+Runs w (event ∷ events) [] new = ⊥

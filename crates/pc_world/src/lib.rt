@@ -6,8 +6,6 @@
 #![tactic(auto)]
 
 mod agents;
-#[cfg(test)]
-mod tests;
 mod world;
 
 pub use pc_calls::{Event, Reply};

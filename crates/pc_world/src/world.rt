@@ -7,7 +7,7 @@ ghost use Rattle.pc_kernel.specs.Answers.{Shows};
 ghost use Rattle.pc_kernel.specs.PlainKernel.{kinds};
 ghost use Rattle.pc_kernel.specs.Reads.{seen, is_cpu};
 ghost use Rattle.pc_world.specs.PlainWorld.{PlainWorld, opened};
-ghost use Rattle.pc_world.specs.Steps.{Run, Step};
+ghost use Rattle.pc_world.specs.Steps.{Step};
 ghost use Rattle.pc_world.specs.Inner.Agents.{AreOwn};
 ghost use Rattle.pc_world.specs.Inner.Laws.{RunsGoOn};
 

@@ -15,5 +15,5 @@ returns-in-Ok-clause-publishes g c P run p shows extends h =
     let items = c.as_slice.result.now in
     let of_kernel : AreItemsOf (kinds (seen c.args.kernel.now)) items = subst (AreItemsOf _) (sym c.as_slice.ensures.value) c.in-Ok.ensures.of_run in
     let of_plain : AreItemsOf (plain.kinds P) items = same_run (kinds (seen c.args.kernel.now)) (plain.kinds P) items (λ t. ap (λ r. kinds r t) shows.reads ∙ (c.reads_are_plain.ensures P).kinds t) of_kernel in
-    subst (λ l. IsPublished g.W.Wire.Sends l run p c.publish_items.result c.args.self.now c.publish_items.new.self c.args.wire.now c.publish_items.new.wire) holds
+    subst (λ l. IsPublished g.W.Wire.Sends l run p c.publish_items.result c.args.self.now.cpu c.publish_items.new.self c.args.wire.now c.publish_items.new.wire) holds
     (c.publish_items.ensures.publishes run p (items_stay run (plain.kinds P) extends items of_plain) h)
