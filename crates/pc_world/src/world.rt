@@ -103,10 +103,17 @@ impl World {
     pub fn view(&self, cpu: Cpu) -> Option<&View>
         ensures { (w : PlainWorld) → ShowsWorld self.now w → IsViewAt w cpu (option_copied result) }
     {
-        match self.agents.get(cpu.index() as usize) {
+        match self.agent(cpu) {
             Some(agent) => Some(agent.view()),
             None => None,
         }
+    }
+
+    /// The CPU's agent; none of a CPU that is not there.
+    fn agent(&self, cpu: Cpu) -> Option<&Agent>
+        ensures { option_copied result ≡ slice_get self.now.agents.items cpu }
+    {
+        self.agents.get(cpu.index() as usize)
     }
 
     /// The deltas that were sent, in order.
@@ -212,6 +219,7 @@ impl World {
     fn deliver(&mut self, cpu: Cpu, index: u64) -> Result<Reply, OutOfMemory>
         ensures { Handles (Event.Deliver cpu index) result self.old self.new }
     {
+        runs_go_on();
         let Some(place) = self.place(cpu) else {
             return Ok(Reply::Refused(Refusal::BadCpu));
         };
@@ -269,8 +277,10 @@ impl World {
         };
         match self.agents[place].steal(&mut self.kernel) {
             Ok(thread) => Ok(Reply::Associated { thread, queue: cpu }),
-            Err(CallFault::Refused(refusal)) => Ok(Reply::Refused(refusal)),
-            Err(CallFault::OutOfMemory) => Err(OutOfMemory),
+            Err(fault) => match fault {
+                CallFault::Refused(refusal) => Ok(Reply::Refused(refusal)),
+                CallFault::OutOfMemory => Err(OutOfMemory),
+            },
         }
     }
 

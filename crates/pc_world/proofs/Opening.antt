@@ -1,0 +1,52 @@
+-- What a new world shows, and what it tells of an agent's view.
+use Rattle.std.proofs.Common.{◌≡◌, ℕ, zero, suc, ◌+◌, ◌<◌, ◌≤◌, true, false, ◌⊎◌, List, [], ◌∷◌, ◌++◌, length, Option, Some, None, slice_get, refl, sym, ◌∙◌, ap, subst, length-append, inl, inr, arith}
+use Rattle.std.proofs.lemmas.Bool.{cases_lt, lt-ltb}
+use Rattle.std.proofs.lemmas.Option.{same_Some, slice_get_within}
+use Rattle.pc_messages.specs.Run.{Run}
+use Rattle.pc_calls.specs.declared.limits.Limits.{Limits}
+use Rattle.pc_kernel.specs.Answers.{Shows}
+use Rattle.pc_kernel.specs.PlainKernel.{start, kinds}
+use Rattle.pc_kernel.specs.Reads.{shown, is_cpu}
+use Rattle.pc_agent.specs.declared.agent.Agent.{Agent}
+use Rattle.pc_agent.specs.PlainAgent.{fresh}
+use Rattle.pc_agent.specs.Shows.{ShowsAgent, cpu_of}
+use Rattle.pc_world.specs.declared.world.World.{World}
+use Rattle.pc_world.specs.PlainWorld.{PlainWorld, opened}
+use Rattle.pc_world.specs.Shows.{AreSent, ShowsWorld, deltas_of}
+use Rattle.pc_world.specs.Inner.Agents.{AreNew, AreOwn}
+
+-- an item of a list with one more is one of the list, or the last
+at_push : (xs : List Agent) (x a : Agent) (i : ℕ) → slice_get (xs ++ x ∷ []) i ≡ Some a → (slice_get xs i ≡ Some a) ⊎ ((i ≡ length xs) × (a ≡ x))
+at_push [] x a zero e = inr (refl, sym (same_Some x a e))
+at_push [] x a (suc i) e = cc
+at_push (y ∷ ys) x a zero e = inl e
+at_push (y ∷ ys) x a (suc i) e = elim (at_push ys x a i e) [ inl h ↦ inl h | inr h ↦ inr (ap suc h.0, h.1) ]
+
+pub new_more : (n : ℕ) (agents : List Agent) (agent : Agent) → AreNew n agents → cpu_of agent ≡ n → ((run : Run) → ShowsAgent run fresh agent) → AreNew (n + 1) (agents ++ agent ∷ [])
+new_more n agents agent h cpu starts =
+    let size = h.count_is in
+    record {
+      count_is = length-append agents (agent ∷ []) ∙ ap (λ k. k + 1) size;
+      own = λ c a e. elim (at_push agents agent a c e) [
+        | inl before ↦ h.own c a before
+        | inr last ↦ ap cpu_of last.1 ∙ cpu ∙ sym (last.0 ∙ size)
+      ];
+      fresh = λ c a e. elim (at_push agents agent a c e) [
+        | inl before ↦ h.fresh c a before
+        | inr last ↦ λ run. subst (ShowsAgent run fresh) (sym last.1) (starts run)
+      ];
+    }
+
+pub new_world : (world : World) (limits : Limits) (count : ℕ) → Shows world.kernel (start limits) → AreNew count world.agents.items → deltas_of world ≡ [] → ShowsWorld world (opened limits)
+new_world world limits count kernel agents sent = record {
+  kernel = kernel;
+  agents = λ c agent e. agents.fresh c agent e (kinds (start limits));
+  sent = subst (AreSent (kinds (start limits)) []) (sym sent) tt;
+}
+
+pub view_there : (world : World) (c : ℕ) (agent : Agent) → slice_get world.agents.items c ≡ Some agent → (w : PlainWorld) → ShowsWorld world w → (is_cpu (shown w.kernel) c ≡ true) × ShowsAgent (kinds w.kernel) (w.agents c) agent
+view_there world c agent there w h =
+    let many : length world.agents.items ≡ world.kernel.limits.cpus = world.as_many in
+    let low : c < length world.agents.items = slice_get_within world.agents.items c agent there in
+    let inside : c < world.kernel.limits.cpus = omega arith in
+    (ap (λ r. is_cpu r c) (sym h.kernel.reads) ∙ lt-ltb c world.kernel.limits.cpus inside, h.agents c agent there)

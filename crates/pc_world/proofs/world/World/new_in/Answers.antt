@@ -1,0 +1,9 @@
+use Rattle.pc_world.proofs.Opening.{new_world}
+use Rattle.pc_world.proofs.world.World.new_in.Goals as goal
+
+pub returns-in-Err-clause-refused : goal.returns-in-Err-clause-refused
+returns-in-Err-clause-refused c field e = (c.in-Err.ensures.refused field).0 (cc)
+
+pub returns-in-Ok-new_agents-clause-ok : goal.returns-in-Ok-new_agents-clause-ok
+returns-in-Ok-new_agents-clause-ok c =
+    new_world _ c.args.limits c.cpus.result c.in-Ok.ensures.ok c.in-Ok-new_agents.ensures c.new.ensures.sent

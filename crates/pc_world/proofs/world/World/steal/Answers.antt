@@ -1,0 +1,24 @@
+use Rattle.std.proofs.Common.{◌≡◌, Err, OnErr, refl, subst, ap, ◌∙◌}
+use Rattle.pc_agent.specs.Publishing.{WhateverShown}
+use Rattle.pc_agent.specs.Running.{Steals}
+use Rattle.pc_agent.specs.Shows.{cpu_of}
+use Rattle.pc_world.proofs.Own.{steal_done, steal_refused, steal_starved}
+use Rattle.pc_world.proofs.world.World.steal.Goals as goal
+
+pub returns-in-Ok : goal.returns-in-Ok
+returns-in-Ok c =
+    steal_done c.runs_go_on.ensures c.args.self.now _ c.args.cpu c.in-Some.place c.index_mut.result.now c.steal.new.self c.in-Some.ensures c.index_mut.ensures.value refl c.in-Ok.thread c.in-Ok.ensures.steals refl
+
+pub returns-in-Refused : goal.returns-in-Refused
+returns-in-Refused c =
+    steal_refused c.runs_go_on.ensures c.args.self.now _ c.args.cpu c.in-Some.place c.index_mut.result.now c.steal.new.self c.in-Some.ensures c.index_mut.ensures.value refl c.in-Refused.refusal
+    (subst (λ r. WhateverShown c.args.self.now.kernel c.index_mut.result.now (λ P run p. Steals P run p r (cpu_of c.index_mut.result.now) c.steal.new.self c.steal.new.kernel)) (c.in-Err.is ∙ ap Err c.in-Refused.is) c.steal.ensures.steals)
+    (subst (λ r. OnErr r (c.steal.new.kernel ≡ c.args.self.now.kernel)) c.in-Err.is c.steal.ensures.err) refl c.steal.ensures.view
+    (subst (λ r. OnErr r (c.steal.new.self.list ≡ c.index_mut.result.now.list)) c.in-Err.is c.steal.ensures.list_err) c.steal.ensures.shown
+
+pub returns-in-OutOfMemory : goal.returns-in-OutOfMemory
+returns-in-OutOfMemory c =
+    steal_starved c.runs_go_on.ensures c.args.self.now _ c.args.cpu c.in-Some.place c.index_mut.result.now c.steal.new.self c.in-Some.ensures c.index_mut.ensures.value refl _
+    (subst (λ r. WhateverShown c.args.self.now.kernel c.index_mut.result.now (λ P run p. Steals P run p r (cpu_of c.index_mut.result.now) c.steal.new.self c.steal.new.kernel)) (c.in-Err.is ∙ ap Err c.in-OutOfMemory.is) c.steal.ensures.steals)
+    (subst (λ r. OnErr r (c.steal.new.kernel ≡ c.args.self.now.kernel)) c.in-Err.is c.steal.ensures.err) refl c.steal.ensures.view
+    (subst (λ r. OnErr r (c.steal.new.self.list ≡ c.index_mut.result.now.list)) c.in-Err.is c.steal.ensures.list_err) c.steal.ensures.shown
