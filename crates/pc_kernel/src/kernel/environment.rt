@@ -25,8 +25,8 @@ impl Kernel {
     /// Creates a thread, whose name is the next one and whose home is the queue.
     pub fn create(&mut self, queue: Cpu, mask: u64, ready: bool) -> Result<Posted, CallFault>
         ensures step { StepsInMemory Answer.Posted (Call.Env (EnvCall.Create queue mask ready)) result self.old self.new }
-        ensures fault { (refusal : Refusal) →
-            (result ≡ Err (CallFault.Refused refusal)) ↔ (refused (seen self.old) (Call.Env (EnvCall.Create queue mask ready)) ≡ Some refusal) }
+        ensures fault { (refusal : Refusal) → (result ≡ Err (CallFault.Refused refusal))
+            ↔ (refused (seen self.old) (Call.Env (EnvCall.Create queue mask ready)) ≡ Some refusal) }
         ensures limits { self.new.limits ≡ self.old.limits }
         ensures extends { Extends (kinds (seen self.new)) (kinds (seen self.old)) }
         ensures err { OnErr result (self.new ≡ self.old) }
@@ -43,8 +43,8 @@ impl Kernel {
     /// Wakes a blocked thread.
     pub fn wake(&mut self, thread: Tid) -> Result<Posted, CallFault>
         ensures step { StepsInMemory Answer.Posted (Call.Env (EnvCall.Wake thread)) result self.old self.new }
-        ensures fault { (refusal : Refusal) →
-            (result ≡ Err (CallFault.Refused refusal)) ↔ (refused (seen self.old) (Call.Env (EnvCall.Wake thread)) ≡ Some refusal) }
+        ensures fault { (refusal : Refusal) → (result ≡ Err (CallFault.Refused refusal))
+            ↔ (refused (seen self.old) (Call.Env (EnvCall.Wake thread)) ≡ Some refusal) }
         ensures limits { self.new.limits ≡ self.old.limits }
         ensures extends { Extends (kinds (seen self.new)) (kinds (seen self.old)) }
         ensures err { OnErr result (self.new ≡ self.old) }
@@ -61,8 +61,8 @@ impl Kernel {
     /// Blocks the thread on the CPU, which it leaves after so many ticks.
     pub fn block(&mut self, cpu: Cpu, ran: u32) -> Result<Posted, CallFault>
         ensures step { StepsInMemory Answer.Posted (Call.Env (EnvCall.Block cpu ran)) result self.old self.new }
-        ensures fault { (refusal : Refusal) →
-            (result ≡ Err (CallFault.Refused refusal)) ↔ (refused (seen self.old) (Call.Env (EnvCall.Block cpu ran)) ≡ Some refusal) }
+        ensures fault { (refusal : Refusal) → (result ≡ Err (CallFault.Refused refusal))
+            ↔ (refused (seen self.old) (Call.Env (EnvCall.Block cpu ran)) ≡ Some refusal) }
         ensures limits { self.new.limits ≡ self.old.limits }
         ensures extends { Extends (kinds (seen self.new)) (kinds (seen self.old)) }
         ensures err { OnErr result (self.new ≡ self.old) }
@@ -73,8 +73,8 @@ impl Kernel {
     /// Takes the thread off the CPU by its own will; it is ready to run.
     pub fn yield_now(&mut self, cpu: Cpu, ran: u32) -> Result<Posted, CallFault>
         ensures step { StepsInMemory Answer.Posted (Call.Env (EnvCall.YieldNow cpu ran)) result self.old self.new }
-        ensures fault { (refusal : Refusal) →
-            (result ≡ Err (CallFault.Refused refusal)) ↔ (refused (seen self.old) (Call.Env (EnvCall.YieldNow cpu ran)) ≡ Some refusal) }
+        ensures fault { (refusal : Refusal) → (result ≡ Err (CallFault.Refused refusal))
+            ↔ (refused (seen self.old) (Call.Env (EnvCall.YieldNow cpu ran)) ≡ Some refusal) }
         ensures limits { self.new.limits ≡ self.old.limits }
         ensures extends { Extends (kinds (seen self.new)) (kinds (seen self.old)) }
         ensures err { OnErr result (self.new ≡ self.old) }
@@ -85,8 +85,8 @@ impl Kernel {
     /// Takes the thread off the CPU against its will; it is ready to run.
     pub fn preempt(&mut self, cpu: Cpu, ran: u32) -> Result<Posted, CallFault>
         ensures step { StepsInMemory Answer.Posted (Call.Env (EnvCall.Preempt cpu ran)) result self.old self.new }
-        ensures fault { (refusal : Refusal) →
-            (result ≡ Err (CallFault.Refused refusal)) ↔ (refused (seen self.old) (Call.Env (EnvCall.Preempt cpu ran)) ≡ Some refusal) }
+        ensures fault { (refusal : Refusal) → (result ≡ Err (CallFault.Refused refusal))
+            ↔ (refused (seen self.old) (Call.Env (EnvCall.Preempt cpu ran)) ≡ Some refusal) }
         ensures limits { self.new.limits ≡ self.old.limits }
         ensures extends { Extends (kinds (seen self.new)) (kinds (seen self.old)) }
         ensures err { OnErr result (self.new ≡ self.old) }
@@ -97,8 +97,8 @@ impl Kernel {
     /// Ends the thread on the CPU.
     pub fn die(&mut self, cpu: Cpu, ran: u32) -> Result<Posted, CallFault>
         ensures step { StepsInMemory Answer.Posted (Call.Env (EnvCall.Die cpu ran)) result self.old self.new }
-        ensures fault { (refusal : Refusal) →
-            (result ≡ Err (CallFault.Refused refusal)) ↔ (refused (seen self.old) (Call.Env (EnvCall.Die cpu ran)) ≡ Some refusal) }
+        ensures fault { (refusal : Refusal) → (result ≡ Err (CallFault.Refused refusal))
+            ↔ (refused (seen self.old) (Call.Env (EnvCall.Die cpu ran)) ≡ Some refusal) }
         ensures limits { self.new.limits ≡ self.old.limits }
         ensures extends { Extends (kinds (seen self.new)) (kinds (seen self.old)) }
         ensures err { OnErr result (self.new ≡ self.old) }
@@ -109,8 +109,8 @@ impl Kernel {
     /// Changes the CPUs on which a thread may run; a running thread keeps the CPU that it runs on.
     pub fn set_affinity(&mut self, thread: Tid, mask: u64) -> Result<Posted, CallFault>
         ensures step { StepsInMemory Answer.Posted (Call.Env (EnvCall.SetAffinity thread mask)) result self.old self.new }
-        ensures fault { (refusal : Refusal) →
-            (result ≡ Err (CallFault.Refused refusal)) ↔ (refused (seen self.old) (Call.Env (EnvCall.SetAffinity thread mask)) ≡ Some refusal) }
+        ensures fault { (refusal : Refusal) → (result ≡ Err (CallFault.Refused refusal))
+            ↔ (refused (seen self.old) (Call.Env (EnvCall.SetAffinity thread mask)) ≡ Some refusal) }
         ensures limits { self.new.limits ≡ self.old.limits }
         ensures extends { Extends (kinds (seen self.new)) (kinds (seen self.old)) }
         ensures err { OnErr result (self.new ≡ self.old) }
@@ -127,8 +127,8 @@ impl Kernel {
     /// Changes a thread's level.
     pub fn set_priority(&mut self, thread: Tid, level: u8) -> Result<Posted, CallFault>
         ensures step { StepsInMemory Answer.Posted (Call.Env (EnvCall.SetPriority thread level)) result self.old self.new }
-        ensures fault { (refusal : Refusal) →
-            (result ≡ Err (CallFault.Refused refusal)) ↔ (refused (seen self.old) (Call.Env (EnvCall.SetPriority thread level)) ≡ Some refusal) }
+        ensures fault { (refusal : Refusal) → (result ≡ Err (CallFault.Refused refusal))
+            ↔ (refused (seen self.old) (Call.Env (EnvCall.SetPriority thread level)) ≡ Some refusal) }
         ensures limits { self.new.limits ≡ self.old.limits }
         ensures extends { Extends (kinds (seen self.new)) (kinds (seen self.old)) }
         ensures err { OnErr result (self.new ≡ self.old) }
@@ -145,8 +145,8 @@ impl Kernel {
     /// Posts a tick of the CPU to its own queue.
     pub fn tick(&mut self, cpu: Cpu) -> Result<Posted, CallFault>
         ensures step { StepsInMemory Answer.Posted (Call.Env (EnvCall.Tick cpu)) result self.old self.new }
-        ensures fault { (refusal : Refusal) →
-            (result ≡ Err (CallFault.Refused refusal)) ↔ (refused (seen self.old) (Call.Env (EnvCall.Tick cpu)) ≡ Some refusal) }
+        ensures fault { (refusal : Refusal) → (result ≡ Err (CallFault.Refused refusal))
+            ↔ (refused (seen self.old) (Call.Env (EnvCall.Tick cpu)) ≡ Some refusal) }
         ensures limits { self.new.limits ≡ self.old.limits }
         ensures extends { Extends (kinds (seen self.new)) (kinds (seen self.old)) }
         ensures err { OnErr result (self.new ≡ self.old) }
@@ -166,8 +166,8 @@ impl Kernel {
         requires not_first { IsFalse (is_created kind) }
         requires ran { ran_given kind ≤ MOST_TICKS }
         ensures step { Leaves cpu kind result self.old self.new }
-        ensures fault { (refusal : Refusal) →
-            (result ≡ Err (CallFault.Refused refusal)) ↔ (first_of (leave_refusals (seen self.old) cpu) ≡ Some refusal) }
+        ensures fault { (refusal : Refusal) → (result ≡ Err (CallFault.Refused refusal))
+            ↔ (first_of (leave_refusals (seen self.old) cpu) ≡ Some refusal) }
         ensures limits { self.new.limits ≡ self.old.limits }
         ensures extends { Extends (kinds (seen self.new)) (kinds (seen self.old)) }
         ensures err { OnErr result (self.new ≡ self.old) }
