@@ -1,7 +1,6 @@
 //! Why a call is refused: the first of its conditions that holds.
 
 ghost use Rattle.std.specs.Prelude.{◌≡◌, ◌<◌, Some, length, slice_get, IfOk};
-ghost use Rattle.std.specs.List.{list_any};
 ghost use Rattle.std.specs.Result.{result_err};
 ghost use Rattle.pc_calls.specs.Conditions.{first_of};
 
@@ -12,7 +11,7 @@ use pc_messages::{Cpu, Kind, Level, LevelFault, Mask, MaskFault, Phase, Tid};
 use pc_queue::QueueFault;
 
 impl Tables {
-    ghost use Rattle.pc_messages.specs.Items.{is_of};
+    ghost use Rattle.pc_queue.specs.Queue.{is_pending};
     ghost use Rattle.pc_kernel.specs.Reads.{seen, number, content, on};
     ghost use Rattle.pc_kernel.specs.Steps.{refused, queue_refusals, post_refusals, mask_refusals, thread_refusals, leave_refusals};
 
@@ -126,7 +125,7 @@ impl Tables {
 
     /// Whether the queue holds a message of the thread.
     fn holds(&self, queue: Cpu, thread: Tid) -> bool
-        ensures { result ≡ list_any (is_of thread) (content (seen self.now) queue) }
+        ensures { result ≡ is_pending thread (content (seen self.now) queue) }
     {
         match self.cpu(queue) {
             Some(entry) => entry.queue.pending(thread),
