@@ -108,6 +108,7 @@ fn a_look_at_both_queues_of_a_moved_thread(rt: HostRuntime) -> Result<(), Fail> 
     kernel.consume(Cpu(0), 1)?;
     kernel.associate(Tid(0), Cpu(1), 1)?;
     kernel.wake(Tid(0))?;
+    assert_eq!(rt; kernel.queue_of(Tid(0)), Some(Cpu(1)));
     let (aseq, items) = kernel.peek(Cpu(0))?;
     assert_eq!(rt; aseq, 1);
     assert!(rt; items.is_empty());
@@ -217,6 +218,7 @@ fn a_look_at_the_last_place_and_the_last_post(rt: HostRuntime) -> Result<(), Fai
     assert_eq!(rt; aseq, 1);
     assert_eq!(rt; items.as_slice(), [message(0, 1, created)].as_slice());
     kernel.wake(Tid(0))?;
+    assert_eq!(rt; kernel.aseq(Cpu(0)), Some(2));
     let (aseq, items) = kernel.peek(Cpu(0))?;
     assert_eq!(rt; aseq, 2);
     let both = [message(0, 1, created), message(0, 2, Kind::Wakeup)];
