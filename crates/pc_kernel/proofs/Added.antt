@@ -15,7 +15,7 @@ use Rattle.pc_calls.specs.declared.call.Posted.{Posted}
 use Rattle.pc_kernel.specs.declared.cpus.CpuEntry.{CpuEntry}
 use Rattle.pc_kernel.specs.declared.cpus.Landing.{Landing}
 use Rattle.pc_calls.specs.declared.limits.Limits.{Limits}
-use Rattle.pc_kernel.specs.PlainKernel.{PlainKernel, is_on}
+use Rattle.pc_kernel.specs.PlainKernel.{PlainKernel, is_named}
 use Rattle.pc_kernel.specs.PlainKernel as plain
 use Rattle.pc_kernel.specs.Rows.{ThreadRow, CpuRow, KernelRows}
 use Rattle.pc_kernel.specs.Reads.{thread_row, shown}
@@ -114,14 +114,14 @@ pub find_none : (p : ℕ → Bool) (a n : ℕ) → ((c : ℕ) → a ≤ c → c 
 find_none p a zero h = refl
 find_none p a (suc n) h = rw (h a (omega arith) (omega arith)) (find_none p (a + 1) n (λ c l m. h c (omega arith) (omega arith)))
 
-is_on_none : (o : Option ℕ) (t : ℕ) → ((s : ℕ) → o ≡ Some s → s < t) → is_on o t ≡ false
+is_on_none : (o : Option ℕ) (t : ℕ) → ((s : ℕ) → o ≡ Some s → s < t) → is_named o t ≡ false
 is_on_none None t h = refl
 is_on_none (Some s) t h = let l = h s refl in grind (arith, nat_tests)
 
 -- no CPU has a thread on it that is not known
 place_none : (limits : Limits) (threads : List ThreadRow) (old : List CpuEntry) (P : PlainKernel) → IsKernel limits threads old → ShowsParts (rows limits threads old) P → plain.place_of P (length threads) ≡ None
 place_none limits threads old P k shows =
-    find_none (λ c. is_on (P.on c) (length threads)) 0 P.limits.cpus (λ c low high.
+    find_none (λ c. is_named (P.on c) (length threads)) 0 P.limits.cpus (λ c low high.
     let n : length old ≡ limits.cpus = sym (length-map old row_of) ∙ k.sound.cpus in
     let same : limits.cpus ≡ P.limits.cpus = ap (λ (l : Limits). l.cpus) shows.limits in
     elim (slice_get_cases old c).1 [

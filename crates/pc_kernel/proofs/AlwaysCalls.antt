@@ -16,7 +16,7 @@ use Rattle.pc_messages.specs.declared.kind.Kind.TheVariants as kind
 use Rattle.pc_messages.specs.declared.message.Message.{Message}
 use Rattle.pc_messages.specs.declared.reported.Phase.{Phase}
 use Rattle.pc_messages.specs.declared.reported.Phase.TheVariants.{Ready, Blocked as IsBlocked, Dead as IsDead}
-use Rattle.pc_kernel.specs.PlainKernel.{PlainKernel, kinds, is_known, threads, place_of, is_on}
+use Rattle.pc_kernel.specs.PlainKernel.{PlainKernel, kinds, is_known, threads, place_of, is_named}
 use Rattle.pc_kernel.specs.Reads.{shown}
 use Rattle.pc_kernel.specs.Reads as reads
 use Rattle.pc_kernel.specs.Facts.{waiting, numbered}
@@ -43,19 +43,19 @@ find_none p a (suc n) e c low high = elim (p a) as (λ b. p a ≡ b → (if b th
   ]
 ] refl e
 
-is_on_same : (o : Option ℕ) (t : ℕ) → o ≡ Some t → is_on o t ≡ true
+is_on_same : (o : Option ℕ) (t : ℕ) → o ≡ Some t → is_named o t ≡ true
 is_on_same o t e = rw e (elim (eqb_tells t t) [ inl h ↦ h.0 | inr h ↦ absurd (h.1 refl) ])
 
-is_on_true : (o : Option ℕ) (t : ℕ) → is_on o t ≡ true → o ≡ Some t
+is_on_true : (o : Option ℕ) (t : ℕ) → is_named o t ≡ true → o ≡ Some t
 is_on_true None t e = cc
 is_on_true (Some x) t e = ap Some (eqb-true x t e)
 
 pub place_has : (P : PlainKernel) (t c : ℕ) → place_of P t ≡ Some c → P.on c ≡ Some t
-place_has P t c e = is_on_true (P.on c) t (find_has (λ n. is_on (P.on n) t) (range_with_len 0 P.limits.cpus) c e)
+place_has P t c e = is_on_true (P.on c) t (find_has (λ n. is_named (P.on n) t) (range_with_len 0 P.limits.cpus) c e)
 
 pub no_place : (P : PlainKernel) (t : ℕ) → place_of P t ≡ None → (c : ℕ) → c < P.limits.cpus → P.on c ≡ Some t → ⊥
 no_place P t e c low on =
-    let no : is_on (P.on c) t ≡ false = find_none (λ n. is_on (P.on n) t) 0 P.limits.cpus e c (omega arith) (omega arith) in
+    let no : is_named (P.on c) t ≡ false = find_none (λ n. is_named (P.on n) t) 0 P.limits.cpus e c (omega arith) (omega arith) in
     let bad : true ≡ false = sym (is_on_same (P.on c) t on) ∙ no in cc
 
 -- tests

@@ -101,7 +101,7 @@ replays_refused call e old new h P shows =
     stays None answer Q P h = cc
     stays (Some refusal) answer Q P h = refl
 
-replay_then : (P : PlainKernel) (first then' : List Call) → replay P (first ++ then') ≡ replay (replay P first) then'
+pub replay_then : (P : PlainKernel) (first then' : List Call) → replay P (first ++ then') ≡ replay (replay P first) then'
 replay_then P [] then' = refl
 replay_then P (call ∷ first) then' = replay_then (after P call) first then'
 

@@ -8,7 +8,7 @@ use Rattle.std.proofs.lemmas.Option.{same_Some, slice_get-map, slice_get_within,
 use Rattle.pc_messages.specs.declared.message.Item.{Item}
 use Rattle.pc_kernel.specs.declared.cpus.CpuEntry.{CpuEntry}
 use Rattle.pc_calls.specs.declared.limits.Limits.{Limits}
-use Rattle.pc_kernel.specs.PlainKernel.{PlainKernel, is_on}
+use Rattle.pc_kernel.specs.PlainKernel.{PlainKernel, is_named}
 use Rattle.pc_kernel.specs.PlainKernel as plain
 use Rattle.pc_kernel.specs.Rows.{ThreadRow, CpuRow}
 use Rattle.pc_kernel.specs.Reads.{thread_row, cpu_row, shown}
@@ -68,11 +68,11 @@ cpus_moved cpus P Q c e new same shows there is others d =
     ]
 
 -- where a thread is found
-is_on_none : (o : Option ℕ) (t : ℕ) → (o ≡ Some t → ⊥) → is_on o t ≡ false
+is_on_none : (o : Option ℕ) (t : ℕ) → (o ≡ Some t → ⊥) → is_named o t ≡ false
 is_on_none None t n = refl
 is_on_none (Some s) t n = elim (eqb_tells s t) [ inl h ↦ absurd (n (ap (λ n. Some n) h.1)) | inr h ↦ h.0 ]
 
-is_on_same : (t : ℕ) → is_on (Some t) t ≡ true
+is_on_same : (t : ℕ) → is_named (Some t) t ≡ true
 is_on_same t = elim (eqb_tells t t) [ inl h ↦ h.0 | inr h ↦ absurd (h.1 refl) ]
 
 find_only : (p : ℕ → Bool) (a n k : ℕ) → p k ≡ true → ((c : ℕ) → (c == k) ≡ false → a ≤ c → c < a + n → p c ≡ false) → a ≤ k → k < a + n → find p (range_with_len a n) ≡ Some k
@@ -100,23 +100,23 @@ runs_in limits threads cpus P k shows c t within runs =
 gone : (limits : Limits) (threads : List ThreadRow) (cpus : List CpuEntry) (P : PlainKernel) (c t : ℕ) → IsKernel limits threads cpus → ShowsParts (rows limits threads cpus) P → place_in threads t ≡ Some c
     → plain.place_of (record P { on = at P.on c None }) t ≡ None
 gone limits threads cpus P c t k shows here =
-    find_none (λ d. is_on (at P.on c None d) t) 0 P.limits.cpus (λ d low high. elim (eqb_tells d c) [
+    find_none (λ d. is_named (at P.on c None d) t) 0 P.limits.cpus (λ d low high. elim (eqb_tells d c) [
       | inl h ↦ rw h.0 refl
       | inr h ↦ rw h.0 (is_on_none (P.on d) t (λ runs. h.1 (same_Some d c (sym (runs_in limits threads cpus P k shows d t (omega (arith, high)) runs) ∙ here))))
     ])
 
-other_stays : (P : PlainKernel) (c t s : ℕ) (o : Option ℕ) → is_on (P.on c) s ≡ false → is_on o s ≡ false → plain.place_of (record P { on = at P.on c o }) s ≡ plain.place_of P s
+other_stays : (P : PlainKernel) (c t s : ℕ) (o : Option ℕ) → is_named (P.on c) s ≡ false → is_named o s ≡ false → plain.place_of (record P { on = at P.on c o }) s ≡ plain.place_of P s
 other_stays P c t s o before after = λ i. find (λ d. each d i) (range_with_len 0 P.limits.cpus)
   where
-    each : (d : ℕ) → is_on (at P.on c o d) s ≡ is_on (P.on d) s
+    each : (d : ℕ) → is_named (at P.on c o d) s ≡ is_named (P.on d) s
     each d = elim (eqb_tells d c) [ inl h ↦ rw (h.0, h.1) (after ∙ sym before) | inr h ↦ rw h.0 refl ]
 
 -- the thread is on the CPU and nowhere else
 come : (limits : Limits) (threads : List ThreadRow) (cpus : List CpuEntry) (P : PlainKernel) (c t : ℕ) → IsKernel limits threads cpus → ShowsParts (rows limits threads cpus) P → place_in threads t ≡ None → c < P.limits.cpus
     → plain.place_of (record P { on = at P.on c (Some t) }) t ≡ Some c
 come limits threads cpus P c t k shows nowhere within =
-    find_only (λ d. is_on (at P.on c (Some t) d) t) 0 P.limits.cpus c (ap (λ o. is_on o t) (at_place P.on c (Some t)) ∙ is_on_same t)
-    (λ d ne low high. ap (λ o. is_on o t) (at_other P.on c d (Some t) ne) ∙ is_on_none (P.on d) t (λ runs. let bad : None ≡ Some d = sym nowhere ∙ runs_in limits threads cpus P k shows d t (omega (arith, high)) runs in cc))
+    find_only (λ d. is_named (at P.on c (Some t) d) t) 0 P.limits.cpus c (ap (λ o. is_named o t) (at_place P.on c (Some t)) ∙ is_on_same t)
+    (λ d ne low high. ap (λ o. is_named o t) (at_other P.on c d (Some t) ne) ∙ is_on_none (P.on d) t (λ runs. let bad : None ≡ Some d = sym nowhere ∙ runs_in limits threads cpus P k shows d t (omega (arith, high)) runs in cc))
     (omega arith) (omega (arith, within))
 
 not_same : (s t : ℕ) → (s == t) ≡ false → Some t ≢ Some s
@@ -139,7 +139,7 @@ becomes_off limits threads cpus c t row e k there cpu runs P shows =
       thread =
           threads_moved threads P P.home (at P.on c None) t row (record row { on = None }) parts.thread there
           (ap off_row as_thread.1 ∙ (λ i. record (thread_row P t) { on = sym (gone limits threads cpus P c t k parts (k.placed c t e cpu runs)) i }))
-          (λ s ne i. record (thread_row P s) { on = other_stays P c t s None (ap (λ o. is_on o s) on_it ∙ is_on_none (Some t) s (not_same s t ne)) refl i });
+          (λ s ne i. record (thread_row P s) { on = other_stays P c t s None (ap (λ o. is_named o s) on_it ∙ is_on_none (Some t) s (not_same s t ne)) refl i });
       cpu =
           cpus_moved cpus P Q c e (record e { running = None }) refl parts.cpu cpu
           (ap (λ (row : CpuRow). record row { on = None }) as_cpu.1 ∙ (λ i. record (cpu_row P c) { on = sym (at_place P.on c None) i }))
@@ -163,7 +163,7 @@ becomes_on limits threads cpus c t row e k there cpu nowhere idle P shows =
       thread =
           threads_moved threads P P.home (at P.on c (Some t)) t row (record row { on = Some c }) parts.thread there
           (ap (λ (row : ThreadRow). record row { on = Some c }) as_thread.1 ∙ (λ i. record (thread_row P t) { on = sym (come limits threads cpus P c t k parts place within) i }))
-          (λ s ne i. record (thread_row P s) { on = other_stays P c t s (Some t) (ap (λ o. is_on o s) idle_there) (is_on_none (Some t) s (not_same s t ne)) i });
+          (λ s ne i. record (thread_row P s) { on = other_stays P c t s (Some t) (ap (λ o. is_named o s) idle_there) (is_on_none (Some t) s (not_same s t ne)) i });
       cpu =
           cpus_moved cpus P Q c e (record e { running = Some t }) refl parts.cpu cpu
           (ap (λ (row : CpuRow). record row { on = Some t }) as_cpu.1 ∙ (λ i. record (cpu_row P c) { on = sym (at_place P.on c (Some t)) i }))

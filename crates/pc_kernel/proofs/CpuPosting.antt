@@ -8,8 +8,8 @@ use Rattle.std.proofs.lemmas.Option.{slice_get-map, same_Some}
 use Rattle.pc_messages.specs.declared.message.Item.{Item}
 use Rattle.pc_kernel.specs.declared.cpus.CpuEntry.{CpuEntry}
 use Rattle.pc_kernel.specs.declared.cpus.Landing.{Landing}
-use Rattle.pc_kernel.specs.Inner.Entries.{row_of, is_named, roused_entry, given_entry, woken_of, IsPosted}
-use Rattle.pc_kernel.specs.PlainKernel.{PlainKernel}
+use Rattle.pc_kernel.specs.Inner.Entries.{row_of, roused_entry, given_entry, woken_of, IsPosted}
+use Rattle.pc_kernel.specs.PlainKernel.{PlainKernel, is_named}
 use Rattle.pc_kernel.specs.PlainKernel as plain
 use Rattle.pc_kernel.specs.Reads.{cpu_row, shown}
 use Rattle.pc_kernel.specs.Rows.{CpuRow}

@@ -23,5 +23,6 @@ mod TickSent
 mod Marked
 mod Pending
 pub mod Answered
+mod Reached
 mod PostRefused
 pub mod Held

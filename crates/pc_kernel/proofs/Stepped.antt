@@ -1,6 +1,6 @@
 -- That a call of the code is its step, from the first refusal that it met and what it did.
-use Rattle.std.proofs.Common.{◌≡◌, ◌∙◌, ℕ, Bool, true, false, not, List, ◌∷◌, Option, Some, None, Result, Ok, Err, is_none, unwrap_or, refl, sym, ap, subst}
-use Rattle.std.specs.Result.{IsErrAnd}
+use Rattle.std.proofs.Common.{◌≡◌, ◌∙◌, ℕ, Bool, true, false, not, List, ◌∷◌, Option, Some, None, Result, Ok, Err, IfOk, OnErr, is_none, unwrap_or, refl, sym, ap, subst}
+use Rattle.std.specs.Result.{IsErrAnd, result_map_both}
 use Rattle.pc_messages.specs.declared.kind.Kind.{Kind}
 use Rattle.pc_calls.specs.declared.call.Call.{Call}
 use Rattle.pc_calls.specs.declared.call.Call.TheVariants.{Env}
@@ -43,6 +43,12 @@ sent_steps call posted old new h sends P shows =
     let e : refused (shown P) (Env call) ≡ None = subst (λ (r : Reads). refused r (Env call) ≡ None) shows.reads h in
     let s = sends P shows in
     rw e (ap answer.Posted s.0, s.1)
+
+-- either of the two
+pub posts_steps : {E : Type 0} (call : EnvCall) (r : Result Posted E) (old new : KernelRows) → refused (seen old) (Env call) ≡ None → IfOk r (λ posted. Sends (λ P. posting P call) posted old new) → OnErr r (new ≡ old)
+    → StepsInMemory answer.Posted (Env call) (result_map_both (λ posted. posted) (λ _. OutOfMemory) r) old new
+posts_steps call (Ok posted) old new h sends same = sent_steps call posted old new h sends
+posts_steps call (Err e) old new h sends same = out_of_memory_steps call old new h same
 
 -- the thread on a CPU leaves it, or not
 pub stays : (cpu : ℕ) (kind : Kind) (why : Refusal) (s : Result Posted CallFault) (old : KernelRows) → first_of (leave_refusals (seen old) cpu) ≡ Some why → IsErrAnd s (λ d. d ≡ Refused why) → Leaves cpu kind s old old

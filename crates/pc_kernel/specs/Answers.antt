@@ -6,7 +6,7 @@ use Rattle.pc_calls.specs.declared.call.Answer.TheVariants.{Done}
 use Rattle.pc_calls.specs.declared.refusal.Refusal.{Refusal}
 use Rattle.pc_calls.specs.declared.refusal.CallFault.{CallFault}
 use Rattle.pc_calls.specs.declared.refusal.CallFault.TheVariants.{Refused, OutOfMemory}
-use Rattle.pc_kernel.specs.PlainKernel.{PlainKernel, aseq}
+use Rattle.pc_kernel.specs.PlainKernel.{PlainKernel, start, aseq}
 use Rattle.pc_kernel.specs.Rows.{KernelRows}
 use Rattle.pc_kernel.specs.Reads.{seen, shown}
 use Rattle.pc_kernel.specs.Steps.{reply, after, replay}
@@ -40,6 +40,11 @@ RepliesInMemory tell (Err OutOfMemory) old new (Err refusal) Q = ⊥
 
 abbrev pub StepsInMemory : {A : Type 0} → (A → Answer) → Call → Result A CallFault → KernelRows → KernelRows → Type 0
 StepsInMemory tell call result old new = (P : PlainKernel) → Shows old P → RepliesInMemory tell result old new (reply P call) (after P call)
+
+-- a list of calls leads from the start of the kernel's limits to a plain kernel that it shows
+pub record IsReached (k : KernelRows) : Type 0 where
+  pub calls : List Call
+  pub shows : Shows k (replay (start k.limits) calls)
 
 -- every call without an answer of its own answers this
 abbrev pub done : Unit {0} → Answer

@@ -73,11 +73,11 @@ aseq P q = length (items_to P q)
 abbrev pub content : PlainKernel → ℕ → List Item
 content P q = drop (P.eaten q) (items_to P q)
 
--- this CPU has this thread on it
-abbrev pub is_on : Option ℕ → ℕ → Bool
-is_on None t = false
-is_on (Some other) t = other == t
+-- the option names this one
+abbrev pub is_named : Option ℕ → ℕ → Bool
+is_named None n = false
+is_named (Some m) n = m == n
 
 -- the CPU that a thread is on
 abbrev pub place_of : PlainKernel → ℕ → Option ℕ
-place_of P t = find (λ c. is_on (P.on c) t) (range_with_len 0 P.limits.cpus)
+place_of P t = find (λ c. is_named (P.on c) t) (range_with_len 0 P.limits.cpus)

@@ -1,8 +1,6 @@
 -- What can be read of a kernel, and what its reads answer.
 use Rattle.std.specs.Prelude.{ℕ, nat_lt, Bool, false, List, [], length, Option, Some, None, is_some, slice_get, if◌then◌else◌}
-use Rattle.std.specs.List.{list_any}
 use Rattle.std.specs.Option.{option_map, option_map_or, option_and_then}
-use Rattle.pc_messages.specs.Items.{is_of}
 use Rattle.pc_messages.specs.Mask.{allows}
 use Rattle.pc_messages.specs.State.{phase_of, mask_of, state_of}
 use Rattle.pc_messages.specs.declared.kind.Kind.{Kind}
@@ -11,6 +9,7 @@ use Rattle.pc_messages.specs.declared.reported.Phase.{Phase}
 use Rattle.pc_messages.specs.declared.reported.Reported.{Reported}
 use Rattle.pc_calls.specs.declared.limits.Limits.{Limits}
 use Rattle.pc_calls.specs.declared.call.Status.{Status}
+use Rattle.pc_queue.specs.Queue as queue
 use Rattle.pc_kernel.specs.Rows.{ThreadRow, CpuRow, KernelRows}
 use Rattle.pc_kernel.specs.PlainKernel as plain
 use Rattle.pc_kernel.specs.PlainKernel.{PlainKernel}
@@ -84,7 +83,7 @@ is_asleep r c = option_map_or (λ row. row.asleep) (r.cpu c) false
 
 -- the thread's home queue holds a message of it
 abbrev pub is_pending : Reads → ℕ → Bool
-is_pending r t = list_any (is_of t) (content r (home r t))
+is_pending r t = queue.is_pending t (content r (home r t))
 
 -- what the reads of a thread answer; none of one that is not known
 abbrev pub status_of : Reads → ℕ → Option Status

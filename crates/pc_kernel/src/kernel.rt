@@ -1,7 +1,7 @@
 //! The kernel model.
 
-ghost use Rattle.std.specs.Prelude.{◌≡◌, ◌≤◌, ◌↔◌, ℕ, nat_lt, Some, None, length, is_some, slice_get, IfOk, IfErr, IsFalse, ◌⊎◌};
-ghost use Rattle.std.specs.Option.{option_map, option_copied};
+ghost use Rattle.std.specs.Prelude.{◌≡◌, ◌≤◌, ◌↔◌, ℕ, nat_lt, Some, None, length, IfOk, IfErr, IsFalse, ◌⊎◌};
+ghost use Rattle.std.specs.Option.{option_copied};
 ghost use Rattle.pc_calls.specs.Limits.{bad_field};
 ghost use Rattle.pc_calls.specs.declared.limits.TheConstants.{MOST_CPUS, MOST_ROOM};
 ghost use Rattle.pc_messages.specs.Items.{AreItemsOf, AreTellable};
@@ -10,10 +10,9 @@ ghost use Rattle.pc_kernel.specs.PlainKernel.{start};
 mod agents;
 mod apply;
 mod environment;
-mod marks;
 
-use crate::cpus::{CpuEntry, fresh};
-use crate::threads::ThreadEntry;
+use crate::cpus::fresh;
+use crate::tables::Tables;
 use pc_calls::{CallFault, LimitField, Limits, LimitsFault, Profile, Refusal, Status};
 use pc_messages::{Cpu, Item, Kind, Reported, Tid};
 use std::alloc::Global;
@@ -22,25 +21,22 @@ use std::marker::Model;
 /// The kernel of one enclave: its threads, and its CPUs with a queue each.
 #[derive(Drop)]
 pub struct Kernel {
-    limits: Limits,
-    threads: Vec<ThreadEntry>,
-    cpus: Vec<CpuEntry>,
+    tables: Tables,
 }
 
 impl Model for Kernel {
     ghost use Rattle.pc_kernel.specs.Rows.{KernelRows};
-    ghost use Rattle.pc_kernel.specs.Inner.Entries.{rows, IsKernel};
+    ghost use Rattle.pc_kernel.specs.Answers.{IsReached};
 
     ghost Value = { KernelRows };
 
-    ghost view = { λ k. rows k.limits k.threads.items k.cpus.items };
+    ghost view = { λ k. k.tables };
 
-    ghost invariant = { λ k. IsKernel k.limits k.threads.items k.cpus.items };
+    ghost invariant = { λ k. IsReached k.tables };
 }
 
 impl Kernel {
-    ghost use Rattle.pc_kernel.specs.Answers.{Shows};
-    ghost use Rattle.pc_kernel.specs.Inner.Entries.{row_of};
+    ghost use Rattle.pc_kernel.specs.Answers.{Shows, IsReached};
     ghost use Rattle.pc_kernel.specs.Sound.{IsSound};
     ghost use Rattle.pc_calls.specs.declared.limits.LimitField.{LimitField};
     ghost use Rattle.pc_kernel.specs.Reads.{seen, kinds, status_of, reported_of, history_of, queue_of, aseq_of, aseq, content, is_known, is_cpu, on, is_asleep};
@@ -70,9 +66,11 @@ impl Kernel {
         }
         match fresh(alloc, limits) {
             Ok(cpus) => Ok(Kernel {
-                limits,
-                threads: Vec::new(alloc),
-                cpus,
+                tables: Tables {
+                    limits,
+                    threads: Vec::new(alloc),
+                    cpus,
+                },
             }),
             Err(_) => Err(LimitsFault::OutOfMemory),
         }
@@ -82,14 +80,21 @@ impl Kernel {
     pub fn is_sound(&self)
         ensures { IsSound self.now }
     {
-        let _ = &self.limits;
+        self.tables.is_sound();
+    }
+
+    /// A list of calls leads from the start to what the kernel shows. It does nothing.
+    pub fn is_reached(&self)
+        ensures { IsReached self.now }
+    {
+        let _ = &self.tables;
     }
 
     /// The limits.
     pub fn limits(&self) -> Limits
         ensures { result ≡ self.now.limits }
     {
-        self.limits
+        self.tables.limits()
     }
 
     /// How many CPUs there are.
@@ -98,8 +103,7 @@ impl Kernel {
         ensures some { 1 ≤ result }
         ensures few { result ≤ MOST_CPUS }
     {
-        let Limits { cpus, .. } = self.limits;
-        cpus
+        self.tables.cpus()
     }
 
     /// How many threads are known, which is the next name.
@@ -107,29 +111,14 @@ impl Kernel {
         ensures count { result ≡ length self.now.threads }
         ensures known { (t : ℕ) → is_known (seen self.now) t ≡ nat_lt t result }
     {
-        self.threads.len() as u32
-    }
-
-    /// The thread's row.
-    fn thread(&self, thread: Tid) -> Option<&ThreadEntry>
-        ensures { option_copied result ≡ slice_get self.now.threads thread }
-    {
-        self.threads.get(thread.index() as usize)
-    }
-
-    /// The CPU's row.
-    fn cpu(&self, cpu: Cpu) -> Option<&CpuEntry>
-        ensures row { option_map row_of (option_copied result) ≡ slice_get self.now.cpus cpu }
-        ensures there { is_some result ≡ is_cpu (seen self.now) cpu }
-    {
-        self.cpus.get(cpu.index() as usize)
+        self.tables.threads()
     }
 
     /// The thread's status word; none of a thread that is not known.
     pub fn status(&self, thread: Tid) -> Option<Status>
         ensures { result ≡ status_of (seen self.now) thread }
     {
-        let entry = self.thread(thread)?;
+        let entry = self.tables.thread(thread)?;
         Some(Status {
             number: entry.number(),
             running_on: entry.on(),
@@ -147,7 +136,7 @@ impl Kernel {
     pub fn state(&self, thread: Tid) -> Option<&Reported>
         ensures { option_copied result ≡ reported_of (seen self.now) thread }
     {
-        let entry = self.thread(thread)?;
+        let entry = self.tables.thread(thread)?;
         Some(entry.state())
     }
 
@@ -155,7 +144,7 @@ impl Kernel {
     pub fn queue_of(&self, thread: Tid) -> Option<Cpu>
         ensures { result ≡ queue_of (seen self.now) thread }
     {
-        let entry = self.thread(thread)?;
+        let entry = self.tables.thread(thread)?;
         Some(entry.home())
     }
 
@@ -163,7 +152,7 @@ impl Kernel {
     pub fn history(&self, thread: Tid) -> Option<&[Kind]>
         ensures { option_copied result ≡ history_of (seen self.now) thread }
     {
-        let entry = self.thread(thread)?;
+        let entry = self.tables.thread(thread)?;
         Some(entry.kinds())
     }
 
@@ -172,7 +161,7 @@ impl Kernel {
     pub fn aseq(&self, cpu: Cpu) -> Option<u32>
         ensures { result ≡ aseq_of (seen self.now) cpu }
     {
-        let entry = self.cpu(cpu)?;
+        let entry = self.tables.cpu(cpu)?;
         Some(entry.queue.aseq())
     }
 
@@ -186,8 +175,8 @@ impl Kernel {
         ensures bad_cpu { (result ≡ Err (CallFault.Refused Refusal.BadCpu)) ↔ IsFalse (is_cpu (seen self.now) cpu) }
         ensures memory { IfErr result (λ fault. (fault ≡ CallFault.Refused Refusal.BadCpu) ⊎ (fault ≡ CallFault.OutOfMemory)) }
     {
-        self.is_sound();
-        let entry = match self.cpu(cpu) {
+        self.tables.is_sound();
+        let entry = match self.tables.cpu(cpu) {
             Some(entry) => entry,
             None => return Err(CallFault::Refused(Refusal::BadCpu)),
         };
@@ -201,7 +190,7 @@ impl Kernel {
     pub fn running(&self, cpu: Cpu) -> Option<Tid>
         ensures { result ≡ on (seen self.now) cpu }
     {
-        let entry = self.cpu(cpu)?;
+        let entry = self.tables.cpu(cpu)?;
         entry.running
     }
 
@@ -209,7 +198,7 @@ impl Kernel {
     pub fn is_asleep(&self, cpu: Cpu) -> bool
         ensures { result ≡ is_asleep (seen self.now) cpu }
     {
-        match self.cpu(cpu) {
+        match self.tables.cpu(cpu) {
             Some(entry) => entry.asleep,
             None => false,
         }

@@ -7,6 +7,7 @@
 mod cpus;
 mod kernel;
 pub mod laws;
+mod tables;
 #[cfg(test)]
 mod tests;
 mod threads;

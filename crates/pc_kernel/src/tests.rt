@@ -1,5 +1,6 @@
 mod caller;
 mod calls;
+mod corners;
 mod refusals;
 mod rows;
 mod table;
@@ -136,6 +137,7 @@ fn the_first_thread(rt: HostRuntime) -> Result<(), Fail> {
     assert_eq!(rt; kernel.status(Tid(0)), None);
     assert_eq!(rt; kernel.create(Cpu(0), 3, true)?, posted(0, 1, 0, 1));
     kernel.is_sound();
+    kernel.is_reached();
     let kind = Kind::Created {
         mask: Mask::new(3, 2)?,
         ready: true,

@@ -1,3 +1,4 @@
+pub mod Built
 pub mod Items
 pub mod Mask
 pub mod Run

@@ -1,5 +1,5 @@
 -- Runs: the kinds of each thread's messages, in order.
-use Rattle.std.specs.Prelude.{ℕ, ◌-◌, ◌≤◌, ◌≡◌, ◌↔◌, ◌==◌, Bool, true, false, IsTrue, IsFalse, List, [], ◌∷◌, ◌++◌, length, Option, None, cond, slice_get, All}
+use Rattle.std.specs.Prelude.{ℕ, ◌-◌, ◌≤◌, ◌≡◌, ◌↔◌, ◌==◌, Bool, true, false, IsTrue, IsFalse, List, [], ◌∷◌, ◌++◌, Option, None, cond, slice_get, All}
 use Rattle.pc_messages.specs.declared.message.TheConstants.{GREATEST_NUMBER}
 use Rattle.pc_messages.specs.declared.kind.Kind.{Kind}
 use Rattle.pc_messages.specs.declared.kind.Kind.TheVariants.{Created, Blocked, Preempted, Yield, Dead, Wakeup, Affinity, Priority}
@@ -30,10 +30,6 @@ IsRun run = (t : ℕ) → IsBegun (run t)
 -- the kind of a thread's message with this number, where there is one; the first message has number 1
 abbrev pub kind_at : List Kind → ℕ → Option Kind
 kind_at kinds number = cond (number == 0) None (slice_get kinds (number - 1))
-
--- the run has the message of this thread and number
-abbrev pub InRun : Run → ℕ → ℕ → Type 0
-InRun run t number = (1 ≤ number) × (number ≤ length (run t))
 
 -- one run goes on from another
 abbrev pub Extends : Run → Run → Type 0

@@ -6,6 +6,7 @@
 #![tactic(auto)]
 
 mod kind;
+pub mod laws;
 mod level;
 mod mask;
 mod message;

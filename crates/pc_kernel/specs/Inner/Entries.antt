@@ -1,5 +1,5 @@
 -- What the code keeps of each CPU, as rows, and what a post does to it.
-use Rattle.std.specs.Prelude.{ℕ, ◌+◌, ◌<◌, ◌≡◌, ◌==◌, ◌&&◌, not, Bool, false, List, [], ◌∷◌, ◌++◌, length, map, Option, Some, None, slice_get, if◌then◌else◌}
+use Rattle.std.specs.Prelude.{ℕ, ◌+◌, ◌<◌, ◌≡◌, ◌==◌, ◌&&◌, not, false, List, [], ◌∷◌, ◌++◌, length, map, Option, Some, None, slice_get, if◌then◌else◌}
 use Rattle.std.specs.Option.{option_map, option_map_or, option_and_then}
 use Rattle.pc_messages.specs.declared.message.Item.{Item}
 use Rattle.pc_queue.specs.Queue.{Queue}
@@ -7,6 +7,7 @@ use Rattle.pc_kernel.specs.declared.cpus.CpuEntry.{CpuEntry}
 use Rattle.pc_kernel.specs.declared.cpus.Landing.{Landing}
 use Rattle.pc_calls.specs.declared.limits.Limits.{Limits}
 use Rattle.pc_kernel.specs.Rows.{ThreadRow, CpuRow, KernelRows}
+use Rattle.pc_kernel.specs.PlainKernel.{is_named}
 use Rattle.pc_kernel.specs.Sound.{IsSound}
 
 abbrev pub row_of : CpuEntry → CpuRow
@@ -46,11 +47,6 @@ fresh_cpu limits c =
 -- whom each queue wakes is there
 abbrev pub AreTargets : List CpuEntry → Type 0
 AreTargets cpus = (q c : ℕ) (e : CpuEntry) → slice_get cpus q ≡ Some e → e.target ≡ Some c → c < length cpus
-
--- the option names this number
-abbrev pub is_named : Option ℕ → ℕ → Bool
-is_named None n = false
-is_named (Some m) n = m == n
 
 -- the CPU's agent is awake, where it is the one named
 abbrev pub roused_entry : Option ℕ → ℕ → CpuEntry → CpuEntry

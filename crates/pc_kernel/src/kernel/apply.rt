@@ -15,8 +15,8 @@ impl Kernel {
     /// Makes the call.
     pub fn apply(&mut self, call: Call) -> Result<Answer, CallFault>
         ensures step { StepsInMemory itself call result self.old self.new }
-        ensures fault { (refusal : Refusal) →
-            (result ≡ Err (CallFault.Refused refusal)) ↔ (refused (seen self.old) call ≡ Some refusal) }
+        ensures fault { (refusal : Refusal) → (result ≡ Err (CallFault.Refused refusal))
+            ↔ (refused (seen self.old) call ≡ Some refusal) }
         ensures environment { result ≡ Err CallFault.OutOfMemory → (env : EnvCall) × (call ≡ Call.Env env) }
         ensures limits { self.new.limits ≡ self.old.limits }
         ensures extends { Extends (kinds (seen self.new)) (kinds (seen self.old)) }
@@ -40,8 +40,8 @@ impl Kernel {
     /// Makes the environment's call.
     fn apply_env(&mut self, call: EnvCall) -> Result<Posted, CallFault>
         ensures step { StepsInMemory Answer.Posted (Call.Env call) result self.old self.new }
-        ensures fault { (refusal : Refusal) →
-            (result ≡ Err (CallFault.Refused refusal)) ↔ (refused (seen self.old) (Call.Env call) ≡ Some refusal) }
+        ensures fault { (refusal : Refusal) → (result ≡ Err (CallFault.Refused refusal))
+            ↔ (refused (seen self.old) (Call.Env call) ≡ Some refusal) }
         ensures limits { self.new.limits ≡ self.old.limits }
         ensures extends { Extends (kinds (seen self.new)) (kinds (seen self.old)) }
         ensures err { OnErr result (self.new ≡ self.old) }

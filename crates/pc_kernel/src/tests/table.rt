@@ -44,6 +44,17 @@ pub(super) const fn ticked(queue: u8, aseq: u32) -> Wanted {
     }))
 }
 
+/// The same, where this agent is woken.
+pub(super) const fn ticked_to(queue: u8, aseq: u32, woken: u8) -> Wanted {
+    Ok(Answer::Posted(Posted {
+        thread: None,
+        number: None,
+        queue: Cpu(queue),
+        aseq,
+        woken: Some(Cpu(woken)),
+    }))
+}
+
 pub(super) const fn create(queue: u8, mask: u64, ready: bool) -> Call {
     Call::Env(EnvCall::Create {
         queue: Cpu(queue),

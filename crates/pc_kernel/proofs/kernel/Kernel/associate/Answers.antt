@@ -1,10 +1,14 @@
 use Rattle.std.proofs.Common.{sym, refl}
 use Rattle.pc_calls.specs.declared.call.Call.TheVariants.{Associate}
+use Rattle.pc_kernel.proofs.Reached.{does_reached}
 use Rattle.pc_kernel.proofs.Stepped.{refuses, does}
 use Rattle.pc_kernel.proofs.kernel.Kernel.associate.Goals as goal
 
+pub invariant_of-self : goal.invariant_of-self
+invariant_of-self c = does_reached (Associate c.args.thread c.args.queue c.args.number) c.self.inside.tables c.move_home.new.self (sym c.in-None.ensures) (λ P. refl) c.move_home.ensures.shown c.move_home.ensures.limits c.self.invariant
+
 pub returns-in-Some-clause-step : goal.returns-in-Some-clause-step
-returns-in-Some-clause-step c = refuses (Associate c.args.thread c.args.queue c.args.number) c.in-Some.refusal c.args.self.now (sym c.in-Some.ensures)
+returns-in-Some-clause-step c = rw (← c.self.view_is) (refuses (Associate c.args.thread c.args.queue c.args.number) c.in-Some.refusal c.self.inside.tables (sym c.in-Some.ensures))
 
 pub returns-in-None-clause-step : goal.returns-in-None-clause-step
-returns-in-None-clause-step c = does (Associate c.args.thread c.args.queue c.args.number) tt c.args.self.now c.move_home.new.self (sym c.in-None.ensures) (λ P. refl) c.move_home.ensures.shown
+returns-in-None-clause-step c = rw (← c.self.view_is) (does (Associate c.args.thread c.args.queue c.args.number) tt c.self.inside.tables c.move_home.new.self (sym c.in-None.ensures) (λ P. refl) c.move_home.ensures.shown)

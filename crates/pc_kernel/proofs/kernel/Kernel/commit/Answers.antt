@@ -1,10 +1,14 @@
 use Rattle.std.proofs.Common.{sym, refl}
 use Rattle.pc_calls.specs.declared.call.Call.TheVariants.{Commit}
+use Rattle.pc_kernel.proofs.Reached.{does_reached}
 use Rattle.pc_kernel.proofs.Stepped.{refuses, does}
 use Rattle.pc_kernel.proofs.kernel.Kernel.commit.Goals as goal
 
+pub invariant_of-self : goal.invariant_of-self
+invariant_of-self c = does_reached (Commit c.args.cpu c.args.thread c.args.aseq) c.self.inside.tables c.put_on.new.self (sym c.in-None.ensures) (λ P. refl) c.put_on.ensures.shown c.put_on.ensures.limits c.self.invariant
+
 pub returns-in-Some-clause-step : goal.returns-in-Some-clause-step
-returns-in-Some-clause-step c = refuses (Commit c.args.cpu c.args.thread c.args.aseq) c.in-Some.refusal c.args.self.now (sym c.in-Some.ensures)
+returns-in-Some-clause-step c = rw (← c.self.view_is) (refuses (Commit c.args.cpu c.args.thread c.args.aseq) c.in-Some.refusal c.self.inside.tables (sym c.in-Some.ensures))
 
 pub returns-in-None-clause-step : goal.returns-in-None-clause-step
-returns-in-None-clause-step c = does (Commit c.args.cpu c.args.thread c.args.aseq) tt c.args.self.now c.put_on.new.self (sym c.in-None.ensures) (λ P. refl) c.put_on.ensures.shown
+returns-in-None-clause-step c = rw (← c.self.view_is) (does (Commit c.args.cpu c.args.thread c.args.aseq) tt c.self.inside.tables c.put_on.new.self (sym c.in-None.ensures) (λ P. refl) c.put_on.ensures.shown)
