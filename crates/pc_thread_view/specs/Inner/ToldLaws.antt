@@ -93,14 +93,16 @@ here d ds = ap (λ b. b || is_early ds d.0) (itself d.0)
     itself : (n : ℕ) → (n == n) ≡ true
     itself n = grind (arith, nat_tests)
 
-first_least : (n : ℕ) (d e : ℕ × Kind) (ds es : List (ℕ × Kind)) → RiseAbove n (d ∷ ds) → RiseAbove n (e ∷ es) → ((m : ℕ) → is_early (d ∷ ds) m ≡ is_early (e ∷ es) m) → e.0 ≤ d.0
+first_least : (n : ℕ) (d e : ℕ × Kind) (ds es : List (ℕ × Kind)) → RiseAbove n (d ∷ ds) → RiseAbove n (e ∷ es)
+    → ((m : ℕ) → is_early (d ∷ ds) m ≡ is_early (e ∷ es) m) → e.0 ≤ d.0
 first_least n d e ds es h g same =
     elim (order_of d.0 e.0) [
       | inl lt ↦ absurd (false≢true (sym (lacks_below d.0 (e ∷ es) d.0 (lt, g.1) (omega arith)) ∙ sym (same d.0) ∙ here d ds))
       | inr le ↦ le
     ]
 
-same_rest : (d : ℕ × Kind) (ds es : List (ℕ × Kind)) (k : Kind) (m : ℕ) → RiseAbove d.0 ds → RiseAbove d.0 es → is_early (d ∷ ds) m ≡ is_early ((d.0, k) ∷ es) m → is_early ds m ≡ is_early es m
+same_rest : (d : ℕ × Kind) (ds es : List (ℕ × Kind)) (k : Kind) (m : ℕ) → RiseAbove d.0 ds → RiseAbove d.0 es
+    → is_early (d ∷ ds) m ≡ is_early ((d.0, k) ∷ es) m → is_early ds m ≡ is_early es m
 same_rest d ds es k m h g e =
     elim (order_of d.0 m) [
       | inl lt ↦ sym (ap (λ b. b || is_early ds m) (apart d.0 m lt)) ∙ e ∙ ap (λ b. b || is_early es m) (apart d.0 m lt)
@@ -113,7 +115,8 @@ same_rest d ds es k m h g e =
 le_both : (a b : ℕ) → a ≤ b → b ≤ a → a ≡ b
 le_both a b h e = omega arith
 
-same_early : (s : Source) (n : ℕ) (ds es : List (ℕ × Kind)) → RiseAbove n ds → RiseAbove n es → HasEach s ds → HasEach s es → ((m : ℕ) → is_early ds m ≡ is_early es m) → ds ≡ es
+same_early : (s : Source) (n : ℕ) (ds es : List (ℕ × Kind)) → RiseAbove n ds → RiseAbove n es → HasEach s ds → HasEach s es
+    → ((m : ℕ) → is_early ds m ≡ is_early es m) → ds ≡ es
 same_early s n [] [] h g a b same = refl
 same_early s n [] (e ∷ es) h g a b same = absurd (false≢true (same e.0 ∙ here e es))
 same_early s n (d ∷ ds) [] h g a b same = absurd (false≢true (sym (same d.0) ∙ here d ds))
@@ -126,7 +129,8 @@ same_early s n (d ∷ ds) (e ∷ es) h g a b same =
     let rest : ds ≡ es = same_early s d.0 ds es h.1 rise a.1 b.1 (λ m. same_rest d ds es e.1 m h.1 rise (on m)) in
     λ i. first i ∷ rest i
 
-early_of : (upto : ℕ) (ds es : List (ℕ × Kind)) (m : ℕ) → RiseAbove (upto + 1) ds → RiseAbove (upto + 1) es → (one_to upto m || is_early ds m) ≡ (one_to upto m || is_early es m) → is_early ds m ≡ is_early es m
+early_of : (upto : ℕ) (ds es : List (ℕ × Kind)) (m : ℕ) → RiseAbove (upto + 1) ds → RiseAbove (upto + 1) es
+    → (one_to upto m || is_early ds m) ≡ (one_to upto m || is_early es m) → is_early ds m ≡ is_early es m
 early_of upto ds es m h g e =
     elim (order_of upto m) [
       | inl lt ↦ sym (ap (λ b. b || is_early ds m) (prefix_no upto m lt)) ∙ e ∙ ap (λ b. b || is_early es m) (prefix_no upto m lt)
@@ -144,14 +148,16 @@ unique_told s a b of_a of_b same =
     λ i. record { upto = upto i; state = state i; early = early i }
 
 -- of a source that gives the same at the members
-kinds_stay : (s t : Source) (n upto : ℕ) (kinds : List Kind) → n + length kinds ≤ upto → ((m : ℕ) → 1 ≤ m → m ≤ upto → ¬ (s (m ∷ []) ≡ []) → t (m ∷ []) ≡ s (m ∷ [])) → HasKinds s n kinds → HasKinds t n kinds
+kinds_stay : (s t : Source) (n upto : ℕ) (kinds : List Kind) → n + length kinds ≤ upto
+    → ((m : ℕ) → 1 ≤ m → m ≤ upto → ¬ (s (m ∷ []) ≡ []) → t (m ∷ []) ≡ s (m ∷ [])) → HasKinds s n kinds → HasKinds t n kinds
 kinds_stay s t n upto [] h agrees g = tt
 kinds_stay s t n upto (k ∷ ks) h agrees g = (
   agrees (n + 1) (omega arith) (omega arith) (λ e. written_some k (sym g.0 ∙ e)) ∙ g.0,
   kinds_stay s t (n + 1) upto ks (omega arith) agrees g.1,
 )
 
-each_stay : (s t : Source) (early : List (ℕ × Kind)) → ((m : ℕ) → is_early early m ≡ true → ¬ (s (m ∷ []) ≡ []) → t (m ∷ []) ≡ s (m ∷ [])) → HasEach s early → HasEach t early
+each_stay : (s t : Source) (early : List (ℕ × Kind)) → ((m : ℕ) → is_early early m ≡ true → ¬ (s (m ∷ []) ≡ []) → t (m ∷ []) ≡ s (m ∷ []))
+    → HasEach s early → HasEach t early
 each_stay s t [] agrees g = tt
 each_stay s t (d ∷ ds) agrees g = (
   agrees d.0 (here d ds) (λ e. written_some d.1 (sym g.0 ∙ e)) ∙ g.0,
