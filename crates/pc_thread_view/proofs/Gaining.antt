@@ -4,6 +4,7 @@ use Rattle.std.proofs.lemmas.Bool.{false≢true}
 use Rattle.std.proofs.lemmas.Bool.Decides.{nat_tests}
 use Rattle.std.proofs.lemmas.List.Folds.{list_any-append}
 use Rattle.std.proofs.lemmas.List.{length-append}
+use Rattle.pc_join.proofs.Joins.{or_assoc}
 use Rattle.pc_messages.specs.declared.message.TheConstants.{GREATEST_NUMBER}
 use Rattle.pc_messages.specs.declared.kind.Kind.{Kind}
 use Rattle.pc_messages.specs.declared.reported.Reported.{Reported}
@@ -26,7 +27,7 @@ or_same false false h = refl
 eq_true : (n m : ℕ) → (n == m) ≡ true → n ≡ m
 eq_true n m e = grind (arith, nat_tests)
 
-eq_sym : (n m : ℕ) → (m == n) ≡ (n == m)
+pub eq_sym : (n m : ℕ) → (n == m) ≡ (m == n)
 eq_sym n m = grind (arith, nat_tests)
 
 in_prefix_yes : (upto n : ℕ) → 1 ≤ n → n ≤ upto → one_to upto n ≡ true
@@ -117,12 +118,8 @@ each_push : (s : Source) (early : List (ℕ × Kind)) (e : ℕ × Kind) → HasE
 each_push s [] e h k = (k, tt)
 each_push s (d ∷ ds) e h k = (h.0, each_push s ds e h.1 k)
 
-or_assoc : (a b c : Bool) → (a || (b || c)) ≡ ((a || b) || c)
-or_assoc true b c = refl
-or_assoc false b c = refl
-
 pub is_early-push : (early : List (ℕ × Kind)) (e : ℕ × Kind) (n : ℕ) → is_early (early ++ e ∷ []) n ≡ (is_early early n || (n == e.0))
-is_early-push early e n = list_any-append (λ d. d.0 == n) early (e ∷ []) ∙ ap (λ b. is_early early n || b) (sym (or_none (e.0 == n)) ∙ eq_sym n e.0)
+is_early-push early e n = list_any-append (λ d. d.0 == n) early (e ∷ []) ∙ ap (λ b. is_early early n || b) (sym (or_none (e.0 == n)) ∙ eq_sym e.0 n)
 
 pub not_created : (number : ℕ) (kind : Kind) → IsTrue (is_created kind) ↔ (number ≡ 1) → 2 ≤ number → IsFalse (is_created kind)
 not_created number kind h e = by_test (is_created kind) h.0
@@ -140,7 +137,7 @@ gains_push upto state early number kind sound well gap none new = record {
     gap = rise_push (upto + 1) early (number, kind) sound.gap gap none new;
     early = later_push early (number, kind) sound.early well.greatest (not_created number kind well.created (omega arith));
   };
-  union = λ n. ap (λ b. one_to upto n || b) (is_early-push early (number, kind) n) ∙ or_assoc (one_to upto n) (is_early early n) (n == number);
+  union = λ n. ap (λ b. one_to upto n || b) (is_early-push early (number, kind) n) ∙ sym (or_assoc (one_to upto n) (is_early early n) (n == number));
   of_source = λ s h g. record {
     prefix = h.prefix;
     gap = rise_push (upto + 1) early (number, kind) sound.gap gap none new;

@@ -3,6 +3,7 @@ use Rattle.std.proofs.Common.{ℕ, ◌+◌, ◌<◌, ◌≤◌, ◌≡◌, ◌==
 use Rattle.std.proofs.lemmas.Bool.{false≢true}
 use Rattle.std.proofs.lemmas.Bool.Decides.{nat_tests}
 use Rattle.std.proofs.lemmas.List.{length-append}
+use Rattle.pc_join.proofs.Joins.{or_assoc}
 use Rattle.pc_messages.specs.declared.kind.Kind.{Kind}
 use Rattle.pc_messages.specs.declared.reported.Reported.{Reported}
 use Rattle.pc_messages.specs.State.{state_of}
@@ -12,15 +13,11 @@ use Rattle.pc_join.specs.Inner.Ranges.{IsEither}
 use Rattle.pc_thread_view.specs.Told.{Told, IsSound, IsOfThread, IsPrefix, RiseAbove, IsStateOfSome, tells, is_early, written}
 use Rattle.pc_thread_view.specs.Inner.Taking.{IsLoose, IsLooselyOf, IsAbsorbed, IsSettled, Gains}
 use Rattle.pc_join.specs.Ranges.{one_to}
-use Rattle.pc_thread_view.proofs.Gaining.{kinds_push}
+use Rattle.pc_thread_view.proofs.Gaining.{eq_sym, kinds_push}
 use Rattle.pc_thread_view.proofs.Taking.{early_told, told_rest}
 
 prefix_next : (upto n : ℕ) → one_to (upto + 1) n ≡ (one_to upto n || (upto + 1 == n))
 prefix_next upto n = grind (arith, nat_tests)
-
-or_assoc : (a b c : Bool) → ((a || b) || c) ≡ (a || (b || c))
-or_assoc true b c = refl
-or_assoc false b c = refl
 
 or_swap : (a b c : Bool) → ((a || b) || c) ≡ ((a || c) || b)
 or_swap true b c = refl
@@ -31,9 +28,6 @@ or_swap false false false = refl
 
 prefix_yes : (upto n : ℕ) → 1 ≤ n → n ≤ upto → one_to upto n ≡ true
 prefix_yes upto n h e = grind (arith, nat_tests)
-
-eq_sym : (n m : ℕ) → (n == m) ≡ (m == n)
-eq_sym n m = grind (arith, nat_tests)
 
 -- one more kind at the end of a prefix
 pub prefix_push : (s : Source) (upto : ℕ) (state next : Option Reported) (kind : Kind) → IsPrefix s upto state → s ((upto + 1) ∷ []) ≡ written kind

@@ -1,6 +1,7 @@
 use Rattle.std.proofs.Common.{ap}
 use Rattle.pc_join.specs.Sets.{source_at}
-use Rattle.pc_view.specs.Views.{source_of, written_at}
+use Rattle.pc_thread_view.specs.Histories.{written_at}
+use Rattle.pc_view.specs.Views.{source_of}
 use Rattle.pc_view.proofs.view.View.insert.Goals as goal
 
 pub returns-clause-of_run : goal.returns-clause-of_run
