@@ -11,7 +11,7 @@ use Rattle.std.proofs.lemmas.List.Elements.{All-push, All-weaker}
 use Rattle.pc_messages.specs.declared.message.TheConstants.{GREATEST_NUMBER}
 use Rattle.pc_messages.specs.declared.kind.Kind.{Kind}
 use Rattle.pc_messages.specs.declared.reported.Reported.{Reported}
-use Rattle.pc_messages.specs.Run.{Run, is_created, kind_at}
+use Rattle.pc_messages.specs.Run.{Run, is_created}
 use Rattle.pc_join.specs.Sets.{Members, IsWithin, members_at, source_at, Source}
 use Rattle.pc_join.specs.Ranges.{in_ranges, numbers_in, IsFirstMissing, one_to}
 use Rattle.pc_join.specs.ByName.{AscendFrom, known_in, value_at}
@@ -19,7 +19,7 @@ use Rattle.pc_join.proofs.Entries.{IsWalked, walked_start, walked_found, walked_
 use Rattle.pc_thread_view.specs.Told.{Told, IsSound, IsOfThread, RiseAbove, HasEach, numbers_of, only, is_early, tells}
 use Rattle.pc_thread_view.specs.Inner.Taking.{AreTold}
 use Rattle.pc_thread_view.specs.Inner.ToldLaws.{lacks_next}
-use Rattle.pc_thread_view.proofs.Histories.{nothing_written, prefix_to}
+use Rattle.pc_thread_view.proofs.Histories.{prefix_to}
 use Rattle.pc_view.specs.declared.view.View.{View}
 use Rattle.pc_view.specs.Views.{IsPrefixOfRun, pairs_of, thread_of, pair, source_of}
 use Rattle.pc_delta.specs.declared.part.Part.{Part}
@@ -122,7 +122,7 @@ module _ (thread : ℕ) (told : Told) (known : Members) where
     number = entry.0;
     in_part = both (thread == thread) (entry.0 == entry.0) (itself thread) (itself entry.0);
     unknown = one.unknown;
-    of_run = λ run of_thread. nothing_written (kind_at (run thread) entry.0) entry.1 (telling.of_source (source_at (source_of run) thread) of_thread).0;
+    of_run = λ run of_thread. (telling.of_source (source_at (source_of run) thread) of_thread).0;
   })
 
   prefix_told : (o : Option Part) (parts : List Part) → MatchOption o (KnowsPrefix known told.upto) (λ part. IsUsefulOf thread told known part × TellsPrefix thread told.upto part) → parts ≡ [] ++ listed o

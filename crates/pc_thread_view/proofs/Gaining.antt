@@ -1,5 +1,5 @@
 -- One more message at the end of what a thread view tells.
-use Rattle.std.proofs.Common.{ℕ, suc, ◌+◌, ◌<◌, ◌≤◌, ◌≡◌, ◌==◌, ◌||◌, Bool, true, false, IsTrue, IsFalse, ◌↔◌, List, [], ◌∷◌, ◌++◌, length, Option, refl, sym, ap, ◌∙◌, subst, arith}
+use Rattle.std.proofs.Common.{ℕ, suc, ◌+◌, ◌<◌, ◌≤◌, ◌≡◌, ◌==◌, ◌||◌, Bool, true, false, IsTrue, IsFalse, ◌↔◌, List, [], ◌∷◌, ◌++◌, length, Option, refl, sym, ap, ◌∙◌, subst, arith, Some}
 use Rattle.std.proofs.lemmas.Bool.{false≢true}
 use Rattle.std.proofs.lemmas.Bool.Decides.{nat_tests}
 use Rattle.std.proofs.lemmas.List.Folds.{list_any-append}
@@ -11,7 +11,7 @@ use Rattle.pc_messages.specs.declared.reported.Reported.{Reported}
 use Rattle.pc_messages.specs.State.{state_of}
 use Rattle.pc_messages.specs.Run.{IsWellFormed, is_created}
 use Rattle.pc_join.specs.Sets.{Source}
-use Rattle.pc_thread_view.specs.Told.{Told, IsSound, RiseAbove, AreLater, HasKinds, HasEach, IsStateOfSome, tells, is_early, written}
+use Rattle.pc_thread_view.specs.Told.{Told, IsSound, RiseAbove, AreLater, HasKinds, HasEach, IsStateOfSome, tells, is_early}
 use Rattle.pc_thread_view.specs.Inner.Taking.{Gains, NoneAbove}
 use Rattle.pc_join.specs.Ranges.{one_to}
 
@@ -56,12 +56,12 @@ pub none_early : (n : ℕ) (early : List (ℕ × Kind)) → RiseAbove n early �
 none_early n [] h k = refl
 none_early n (e ∷ es) h k = absurd (omega arith)
 
-pub kinds_push : (s : Source) (n : ℕ) (kinds : List Kind) (kind : Kind) → HasKinds s n kinds → s ((n + length kinds + 1) ∷ []) ≡ written kind → HasKinds s n (kinds ++ kind ∷ [])
-kinds_push s n [] kind h e = (subst (λ m. s (m ∷ []) ≡ written kind) (at n) e, tt)
+pub kinds_push : (s : Source) (n : ℕ) (kinds : List Kind) (kind : Kind) → HasKinds s n kinds → s ((n + length kinds + 1) ∷ []) ≡ Some kind → HasKinds s n (kinds ++ kind ∷ [])
+kinds_push s n [] kind h e = (subst (λ m. s (m ∷ []) ≡ Some kind) (at n) e, tt)
   where
     at : (n : ℕ) → n + 0 + 1 ≡ n + 1
     at n = omega arith
-kinds_push s n (k ∷ ks) kind h e = (h.0, kinds_push s (n + 1) ks kind h.1 (subst (λ m. s (m ∷ []) ≡ written kind) (at n (length ks)) e))
+kinds_push s n (k ∷ ks) kind h e = (h.0, kinds_push s (n + 1) ks kind h.1 (subst (λ m. s (m ∷ []) ≡ Some kind) (at n (length ks)) e))
   where
     at : (n l : ℕ) → n + suc l + 1 ≡ n + 1 + l + 1
     at n l = omega arith
@@ -81,7 +81,7 @@ gains_next upto state next early number kind sound well e none some folded =
         prefix = record {
           kinds = h.prefix.kinds ++ kind ∷ [];
           count = length-append h.prefix.kinds (kind ∷ []) ∙ ap (λ n. n + 1) h.prefix.count;
-          of_source = kinds_push s 0 h.prefix.kinds kind h.prefix.of_source (subst (λ n. s (n ∷ []) ≡ written kind) (place (length h.prefix.kinds) upto h.prefix.count) g);
+          of_source = kinds_push s 0 h.prefix.kinds kind h.prefix.of_source (subst (λ n. s (n ∷ []) ≡ Some kind) (place (length h.prefix.kinds) upto h.prefix.count) g);
           folded = folded h.prefix.kinds h.prefix.count h.prefix.folded;
         };
         gap = tt;
@@ -114,7 +114,7 @@ later_push : (early : List (ℕ × Kind)) (e : ℕ × Kind) → AreLater early �
 later_push [] e h k c = (k, c, tt)
 later_push (d ∷ ds) e h k c = (h.0, h.1, later_push ds e h.2 k c)
 
-each_push : (s : Source) (early : List (ℕ × Kind)) (e : ℕ × Kind) → HasEach s early → s (e.0 ∷ []) ≡ written e.1 → HasEach s (early ++ e ∷ [])
+each_push : (s : Source) (early : List (ℕ × Kind)) (e : ℕ × Kind) → HasEach s early → s (e.0 ∷ []) ≡ Some e.1 → HasEach s (early ++ e ∷ [])
 each_push s [] e h k = (k, tt)
 each_push s (d ∷ ds) e h k = (h.0, each_push s ds e h.1 k)
 

@@ -7,13 +7,8 @@ use Rattle.pc_messages.specs.declared.kind.Kind.{Kind}
 use Rattle.pc_messages.specs.declared.reported.Reported.{Reported}
 use Rattle.pc_messages.specs.Run.{kind_at}
 use Rattle.pc_messages.specs.State.{state_of}
-use Rattle.pc_thread_view.specs.Told.{Told, IsOfThread, IsPrefix, HasKinds, HasEach, RiseAbove, written}
-use Rattle.pc_thread_view.specs.Histories.{Has, IsOfHistory, source_of_kinds, written_at}
-use Rattle.pc_thread_view.specs.Inner.ToldLaws.{same_kind, written_some}
-
-pub nothing_written : (o : Option Kind) (kind : Kind) → written_at o ≡ written kind → o ≡ Some kind
-nothing_written None kind e = absurd (written_some kind (sym e))
-nothing_written (Some k) kind e = ap (λ x. Some x) (same_kind k kind e)
+use Rattle.pc_thread_view.specs.Told.{Told, IsOfThread, IsPrefix, HasKinds, HasEach, RiseAbove}
+use Rattle.pc_thread_view.specs.Histories.{Has, IsOfHistory, source_of_kinds}
 
 pub kind_after : (kinds : List Kind) (n : ℕ) → kind_at kinds (n + 1) ≡ slice_get kinds n
 kind_after kinds n = ap (λ b. cond b None (slice_get kinds (n + 1 - 1))) (not_zero n) ∙ ap (slice_get kinds) (back n)
@@ -39,7 +34,7 @@ gives kinds n zero rest e = tt
 gives kinds n (suc k) [] e = tt
 gives kinds n (suc k) (x ∷ xs) e =
     let at = at_drop kinds n x xs e in
-    (ap written_at (kind_after kinds n ∙ at.0), gives kinds (n + 1) k xs (ap (λ m. drop m kinds) (one n) ∙ at.1))
+    (kind_after kinds n ∙ at.0, gives kinds (n + 1) k xs (ap (λ m. drop m kinds) (one n) ∙ at.1))
 
 pub prefix_from : (kinds : List Kind) (upto : ℕ) (state : Option Reported) → upto ≤ length kinds → state ≡ state_of (take upto kinds) → IsPrefix (source_of_kinds kinds) upto state
 prefix_from kinds upto state within e = record { kinds = take upto kinds; count = length-take-le upto kinds within; of_source = gives kinds 0 upto kinds refl; folded = e }
@@ -53,7 +48,7 @@ dropped (y ∷ ys) (suc i) x e = dropped ys i x e
 given : (kinds : List Kind) (n : ℕ) (first : List Kind) → HasKinds (source_of_kinds kinds) n first → (take (length first) (drop n kinds) ≡ first) × (length first ≤ length (drop n kinds))
 given kinds n [] h = (refl, omega arith)
 given kinds n (k ∷ ks) h =
-    let got : slice_get kinds n ≡ Some k = sym (kind_after kinds n) ∙ nothing_written (kind_at kinds (n + 1)) k h.0 in
+    let got : slice_get kinds n ≡ Some k = sym (kind_after kinds n) ∙ h.0 in
     let cut : drop n kinds ≡ k ∷ drop (n + 1) kinds = dropped kinds n k got ∙ ap (λ m. k ∷ drop m kinds) (sym (one n)) in
     let rest = given kinds (n + 1) ks h.1 in
     (ap (take (suc (length ks))) cut ∙ ap (λ xs. k ∷ xs) rest.0, subst (λ xs. suc (length ks) ≤ length xs) (sym cut) (let le = rest.1 in omega arith))
@@ -66,11 +61,11 @@ prefix_to kinds upto state p =
 -- early messages
 each_from : (kinds : List Kind) (early : List (ℕ × Kind)) → All (Has kinds) early → HasEach (source_of_kinds kinds) early
 each_from kinds [] all = tt
-each_from kinds (e ∷ es) all = (ap written_at (all 0 e (omega arith)), each_from kinds es (λ k d less. all (suc k) d (omega arith)))
+each_from kinds (e ∷ es) all = (all 0 e (omega arith), each_from kinds es (λ k d less. all (suc k) d (omega arith)))
 
 each_to : (kinds : List Kind) (early : List (ℕ × Kind)) → HasEach (source_of_kinds kinds) early → All (Has kinds) early
 each_to kinds [] h k d less = absurd (let none : ⊥ = omega arith in none)
-each_to kinds (e ∷ es) h zero d less = nothing_written (kind_at kinds e.0) e.1 h.0
+each_to kinds (e ∷ es) h zero d less = h.0
 each_to kinds (e ∷ es) h (suc k) d less = each_to kinds es h.1 k d (omega (arith, less))
 
 pub of_history : (kinds : List Kind) (told : Told) → IsOfHistory kinds told → RiseAbove (told.upto + 1) told.early → IsOfThread told (source_of_kinds kinds)

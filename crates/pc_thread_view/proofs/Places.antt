@@ -11,7 +11,7 @@ use Rattle.pc_messages.specs.declared.kind.Kind.{Kind}
 use Rattle.pc_messages.specs.declared.reported.Reported.{Reported}
 use Rattle.pc_messages.specs.Run.{IsWellFormed, is_created}
 use Rattle.pc_join.specs.Sets.{Source}
-use Rattle.pc_thread_view.specs.Told.{IsSound, RiseAbove, AreLater, HasEach, is_early, written}
+use Rattle.pc_thread_view.specs.Told.{IsSound, RiseAbove, AreLater, HasEach, is_early}
 use Rattle.pc_thread_view.specs.Inner.Taking.{IsPlace, BeginsWith, AreBelow, Gains}
 use Rattle.pc_join.specs.Ranges.{one_to}
 use Rattle.pc_thread_view.proofs.Gaining.{rise_from, not_created, eq_sym}
@@ -120,7 +120,7 @@ later_insert : (low high : List (ℕ × Kind)) (e : ℕ × Kind) → AreLater (l
 later_insert [] high e h k c = (k, c, h)
 later_insert (d ∷ low) high e h k c = (h.0, h.1, later_insert low high e h.2 k c)
 
-each_insert : (s : Source) (low high : List (ℕ × Kind)) (e : ℕ × Kind) → HasEach s (low ++ high) → s (e.0 ∷ []) ≡ written e.1 → HasEach s (low ++ e ∷ high)
+each_insert : (s : Source) (low high : List (ℕ × Kind)) (e : ℕ × Kind) → HasEach s (low ++ high) → s (e.0 ∷ []) ≡ Some e.1 → HasEach s (low ++ e ∷ high)
 each_insert s [] high e h k = (k, h)
 each_insert s (d ∷ low) high e h k = (h.0, each_insert s low high e h.1 k)
 

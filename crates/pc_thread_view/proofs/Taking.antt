@@ -1,5 +1,5 @@
 -- Two lists of messages, taken in by turns.
-use Rattle.std.proofs.Common.{ℕ, ◌+◌, ◌<◌, ◌≤◌, ◌≡◌, ◌==◌, ◌||◌, Bool, true, false, List, [], ◌∷◌, ◌++◌, length, get_or, refl, sym, ap, ◌∙◌, subst, arith, inl, inr}
+use Rattle.std.proofs.Common.{ℕ, ◌+◌, ◌<◌, ◌≤◌, ◌≡◌, ◌==◌, ◌||◌, Bool, true, false, List, [], ◌∷◌, ◌++◌, length, get_or, refl, sym, ap, ◌∙◌, subst, arith, inl, inr, Some}
 use Rattle.std.proofs.lemmas.Bool.{false≢true}
 use Rattle.std.proofs.lemmas.Bool.Decides.{nat_tests}
 use Rattle.pc_join.proofs.Joins.{or_assoc}
@@ -8,7 +8,7 @@ use Rattle.pc_messages.specs.Run.{IsWellFormed}
 use Rattle.pc_join.specs.Sets.{Source}
 use Rattle.pc_join.specs.Inner.Ranges.{IsEither, IsAmid}
 use Rattle.pc_join.specs.Inner.Turns.{IsNotAfter, IsTurn}
-use Rattle.pc_thread_view.specs.Told.{Told, IsSound, IsOfThread, RiseAbove, HasEach, tells, is_early, written}
+use Rattle.pc_thread_view.specs.Told.{Told, IsSound, IsOfThread, RiseAbove, HasEach, tells, is_early}
 use Rattle.pc_thread_view.specs.Inner.Taking.{Gains, NoneAbove, NoneAfter, AreTold, IsTaking}
 use Rattle.pc_join.specs.Ranges.{one_to}
 use Rattle.pc_thread_view.proofs.Gaining.{rise_from, eq_sym}
@@ -193,9 +193,9 @@ module _ (a : Told) (none more : List (ℕ × Kind)) (v : Told) (empty : none �
       ∙ shuffled (one_to a.upto n) (is_early a.early n) (is_early more n)
 
 -- one message
-pub one_of_source : (more : List (ℕ × Kind)) (one : ℕ × Kind) (s : Source) → 1 ≤ length more → length more < 2 → one ≡ get_or more 0 one → HasEach s more → s (one.0 ∷ []) ≡ written one.1
+pub one_of_source : (more : List (ℕ × Kind)) (one : ℕ × Kind) (s : Source) → 1 ≤ length more → length more < 2 → one ≡ get_or more 0 one → HasEach s more → s (one.0 ∷ []) ≡ Some one.1
 one_of_source [] one s h k e each = absurd (omega arith)
-one_of_source (d ∷ []) one s h k e each = subst (λ (x : ℕ × Kind). s (x.0 ∷ []) ≡ written x.1) (sym e) each.0
+one_of_source (d ∷ []) one s h k e each = subst (λ (x : ℕ × Kind). s (x.0 ∷ []) ≡ Some x.1) (sym e) each.0
 one_of_source (d ∷ e ∷ es) one s h k f each = absurd (omega arith)
 
 pub amid_nothing : (f g : ℕ → Bool) → IsAmid f g f

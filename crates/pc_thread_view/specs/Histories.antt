@@ -1,10 +1,10 @@
 -- What is told of one thread, against its history: the kinds of its messages, in order.
-use Rattle.std.specs.Prelude.{ℕ, ◌+◌, ◌≤◌, ◌≡◌, List, [], ◌∷◌, length, take, Option, Some, None, All}
+use Rattle.std.specs.Prelude.{ℕ, ◌+◌, ◌≤◌, ◌≡◌, List, [], ◌∷◌, length, take, Some, None, All}
 use Rattle.pc_messages.specs.declared.kind.Kind.{Kind}
 use Rattle.pc_messages.specs.Run.{kind_at}
 use Rattle.pc_messages.specs.State.{state_of}
 use Rattle.pc_join.specs.Sets.{Source}
-use Rattle.pc_thread_view.specs.Told.{Told, RiseAbove, TellsSome, written}
+use Rattle.pc_thread_view.specs.Told.{Told, RiseAbove, TellsSome}
 
 -- the history has this message
 abbrev pub Has : List Kind → ℕ × Kind → Type 0
@@ -27,13 +27,8 @@ pub record IsToldOf (kinds : List Kind) (told : Told) : Type 0 where
   pub gap : RiseAbove (told.upto + 1) told.early
   pub some : TellsSome told
 
--- a kind as numbers, where there is one
-abbrev pub written_at : Option Kind → List ℕ
-written_at None = []
-written_at (Some kind) = written kind
-
 -- the kind of each message of the history
 abbrev pub source_of_kinds : List Kind → Source
-source_of_kinds kinds [] = []
-source_of_kinds kinds (n ∷ []) = written_at (kind_at kinds n)
-source_of_kinds kinds (n ∷ k ∷ m) = []
+source_of_kinds kinds [] = None
+source_of_kinds kinds (n ∷ []) = kind_at kinds n
+source_of_kinds kinds (n ∷ k ∷ m) = None

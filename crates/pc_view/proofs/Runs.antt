@@ -8,7 +8,7 @@ use Rattle.std.proofs.lemmas.Bool.Decides.{nat_tests}
 use Rattle.std.proofs.lemmas.Bool.{false≢true}
 use Rattle.pc_messages.specs.State.{state_of}
 use Rattle.pc_thread_view.specs.Inner.ToldLaws.{lacks_next}
-use Rattle.pc_thread_view.specs.Histories.{IsOfHistory, written_at}
+use Rattle.pc_thread_view.specs.Histories.{IsOfHistory}
 use Rattle.pc_thread_view.proofs.Histories.{of_history, prefix_from, to_history}
 use Rattle.pc_messages.specs.declared.kind.Kind.{Kind}
 use Rattle.pc_messages.specs.declared.reported.Reported.{Reported}
@@ -34,12 +34,12 @@ kind_on xs ys n h = by_test (n == 0) h
     by_test true h = refl
     by_test false h = got_append xs ys (n - 1) h
 
-pub goes_on : (longer shorter : Run) → Extends longer shorter → (m : List ℕ) → ¬ (source_of shorter m ≡ []) → source_of longer m ≡ source_of shorter m
+pub goes_on : (longer shorter : Run) → Extends longer shorter → (m : List ℕ) → ¬ (source_of shorter m ≡ None) → source_of longer m ≡ source_of shorter m
 goes_on longer shorter extends [] h = refl
 goes_on longer shorter extends (t ∷ []) h = refl
 goes_on longer shorter extends (t ∷ n ∷ []) h =
     let more = extends t in
-    ap (λ kinds. written_at (kind_at kinds n)) more.1 ∙ ap written_at (kind_on (shorter t) more.0 n (λ e. h (ap written_at e)))
+    ap (λ kinds. kind_at kinds n) more.1 ∙ kind_on (shorter t) more.0 n h
 goes_on longer shorter extends (t ∷ n ∷ k ∷ m) h = refl
 
 -- a folded prefix

@@ -1,5 +1,5 @@
 -- Views of many threads, and the runs that they are of.
-use Rattle.std.specs.Prelude.{ℕ, ◌&&◌, ◌≤◌, ◌≡◌, nat_le, Bool, false, [], ◌∷◌, length, take, Option, Some}
+use Rattle.std.specs.Prelude.{ℕ, ◌&&◌, ◌≤◌, ◌≡◌, nat_le, Bool, false, [], ◌∷◌, length, take, Option, Some, None}
 use Rattle.std.specs.FinMap as map
 use Rattle.pc_messages.specs.declared.reported.Reported.{Reported}
 use Rattle.pc_messages.specs.Run.{Run}
@@ -30,7 +30,7 @@ prefix_pairs thread upto = members_at thread (numbers_to upto)
 
 -- the kind of each message of the run
 abbrev pub source_of : Run → Source
-source_of run [] = []
+source_of run [] = None
 source_of run (t ∷ m) = source_of_kinds (run t) m
 
 -- the messages of the run, as pairs of a thread's name and a number
