@@ -22,17 +22,9 @@ pub or_other : (a b : Bool) → a ≡ false → (a || b) ≡ true → b ≡ true
 or_other true b e h = absurd (cc)
 or_other false b e h = h
 
-pub or_assoc : (a b c : Bool) → ((a || b) || c) ≡ (a || (b || c))
-or_assoc true b c = refl
-or_assoc false b c = refl
-
 pub and_none : (b : Bool) → (b && false) ≡ false
 and_none true = refl
 and_none false = refl
-
-pub and_parts : (a b : Bool) → (a && b) ≡ true → (a ≡ true) × (b ≡ true)
-and_parts true b e = (refl, e)
-and_parts false b e = absurd (false≢true e)
 
 pub both : (a b : Bool) → a ≡ true → b ≡ true → (a && b) ≡ true
 both true b e f = f

@@ -41,7 +41,7 @@ same_within s t f g m = by_test (s m) (t m) (f m) (g m)
     by_test false false f g = refl
 
 pub covers_both : (a b : RangesByName) → IsDigest a → IsDigest b → IsWithin (set_of_digest b) (set_of_digest a) → IsWithin (set_of_digest a) (set_of_digest b) → a ≡ b
-covers_both a b of_a of_b back there = unique_digest (λ m. []) a b (of_a (λ m. [])) (of_b (λ m. [])) (same_within (set_of_digest a) (set_of_digest b) there back)
+covers_both a b of_a of_b back there = unique_digest (λ m. None) a b (of_a (λ m. None)) (of_b (λ m. None)) (same_within (set_of_digest a) (set_of_digest b) there back)
 
 pub same_both : (a b : RangesByName) → a ≡ b → IsWithin (set_of_digest b) (set_of_digest a) × IsWithin (set_of_digest a) (set_of_digest b)
 same_both a b e = (λ m h. ap (λ d. set_of_digest d m) e ∙ h, λ m h. sym (ap (λ d. set_of_digest d m) e) ∙ h)

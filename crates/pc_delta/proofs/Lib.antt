@@ -11,3 +11,4 @@ pub mod Refusals
 pub mod Gathering
 pub mod Telling
 pub mod Wakeups
+pub mod Mixes

@@ -1,16 +1,14 @@
 -- Parts of one run, and of runs that go on from it.
-use Rattle.std.proofs.Common.{ℕ, suc, zero, ◌-◌, ◌≡◌, ◌==◌, cond, Bool, true, false, List, [], ◌∷◌, ◌++◌, Option, Some, None, refl, sym, ap, subst, ◌∙◌}
+use Rattle.std.proofs.Common.{ℕ, suc, zero, ◌-◌, ◌≤◌, ◌≡◌, length, take, arith, ◌==◌, cond, Bool, true, false, List, [], ◌∷◌, ◌++◌, Option, Some, None, sym, ap, subst, ◌∙◌}
 use Rattle.std.specs.List.{slice_get}
 use Rattle.std.proofs.lemmas.Bool.{false≢true}
 use Rattle.std.proofs.lemmas.List.Elements.{All-weaker}
 use Rattle.pc_messages.specs.declared.kind.Kind.{Kind}
 use Rattle.pc_messages.specs.declared.reported.Reported.{Reported}
 use Rattle.pc_messages.specs.Run.{Run, Extends, kind_at}
-use Rattle.pc_join.specs.Sets.{Source, source_at}
-use Rattle.pc_thread_view.specs.Told.{Told, IsPrefix}
-use Rattle.pc_thread_view.specs.Inner.ToldLaws.{unique_told, stays_told}
-use Rattle.pc_view.specs.Views.{source_of, IsPrefixOfRun}
-use Rattle.pc_view.proofs.Runs.{goes_on, folded_of}
+use Rattle.pc_messages.specs.State.{state_of}
+use Rattle.std.proofs.lemmas.List.{length-append, take-append-le}
+use Rattle.pc_view.specs.Views.{IsPrefixOfRun}
 use Rattle.pc_delta.specs.declared.part.Part.{Part}
 use Rattle.pc_delta.specs.declared.part.Part.TheVariants.{One, Folded}
 use Rattle.pc_delta.specs.Parts.{IsPartOfRun, AreOfRun}
@@ -18,11 +16,8 @@ use Rattle.pc_delta.specs.Faults.{place_of, HasNoConflict}
 use Rattle.pc_delta.proofs.Lists.{all_at}
 
 -- two states of one prefix of a run
-same_state : (s : Source) (upto : ℕ) (a b : Reported) → IsPrefix s upto (Some a) → IsPrefix s upto (Some b) → a ≡ b
-same_state s upto a b p q =
-    let told : ◌≡◌ {A = Told} (record { upto = upto; state = Some a; early = [] }) (record { upto = upto; state = Some b; early = [] })
-    = unique_told s (record { upto = upto; state = Some a; early = [] }) (record { upto = upto; state = Some b; early = [] }) (folded_of s upto a p) (folded_of s upto b q) (λ m. refl) in
-    inside (ap (λ t. t.state) told)
+same_state : (run : Run) (t upto : ℕ) (a b : Reported) → IsPrefixOfRun run t upto (Some a) → IsPrefixOfRun run t upto (Some b) → a ≡ b
+same_state run t upto a b p q = inside (p.1 ∙ sym q.1)
   where
     inside : {a b : Reported} → ◌≡◌ {A = Option Reported} (Some a) (Some b) → a ≡ b
     inside e = cc
@@ -42,7 +37,7 @@ same_part run (Folded t u r) (Folded t' u' r') of_a of_b e =
     let thread : t ≡ t' = ap (λ p. p.0) e in
     let upto : u ≡ u' = ap (λ p. p.1) e in
     let there : IsPrefixOfRun run t' u' (Some r) = subst (λ x. IsPrefixOfRun run t' x (Some r)) upto (subst (λ x. IsPrefixOfRun run x u (Some r)) thread of_a) in
-    let state : r ≡ r' = same_state (source_at (source_of run) t') u' r r' there of_b in
+    let state : r ≡ r' = same_state run t' u' r r' there of_b in
     λ i. Folded (thread i) (upto i) (state i)
 
 pub no_conflict : (run : Run) (parts : List Part) → AreOfRun run parts → HasNoConflict parts
@@ -67,8 +62,11 @@ part_stays longer shorter extends (One m) of_run =
     let more = extends m.thread in
     ap (λ kinds. kind_at kinds m.number) more.1 ∙ kind_on (shorter m.thread) more.0 m.number m.kind of_run
 part_stays longer shorter extends (Folded t u r) of_run =
-    (stays_told (source_at (source_of shorter) t) (source_at (source_of longer) t) (record { upto = u; state = Some r; early = [] })
-    (λ m k some. goes_on longer shorter extends (t ∷ m) some) (folded_of (source_at (source_of shorter) t) u r of_run)).prefix
+    let more = extends t in
+    (subst (λ kinds. u ≤ length kinds) (sym more.1) (longer_yet (shorter t) more.0 u of_run.0), of_run.1 ∙ ap state_of (sym (ap (take u) more.1 ∙ take-append-le u (shorter t) more.0 of_run.0)))
+  where
+    longer_yet : (xs ys : List Kind) (n : ℕ) → n ≤ length xs → n ≤ length (xs ++ ys)
+    longer_yet xs ys n h = let both = length-append xs ys in omega arith
 
 pub parts_stay : (longer shorter : Run) → Extends longer shorter → (parts : List Part) → AreOfRun shorter parts → AreOfRun longer parts
 parts_stay longer shorter extends parts of_run = All-weaker (IsPartOfRun shorter) (IsPartOfRun longer) (part_stays longer shorter extends) parts of_run

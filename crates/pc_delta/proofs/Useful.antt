@@ -10,24 +10,27 @@ use Rattle.std.proofs.lemmas.List.{append_assoc}
 use Rattle.std.proofs.lemmas.List.Elements.{All-push, All-weaker}
 use Rattle.pc_messages.specs.declared.message.TheConstants.{GREATEST_NUMBER}
 use Rattle.pc_messages.specs.declared.kind.Kind.{Kind}
-use Rattle.pc_messages.specs.Run.{is_created, kind_at}
+use Rattle.pc_messages.specs.declared.reported.Reported.{Reported}
+use Rattle.pc_messages.specs.Run.{Run, is_created}
 use Rattle.pc_join.specs.Sets.{Members, IsWithin, members_at, source_at, Source}
 use Rattle.pc_join.specs.Ranges.{in_ranges, numbers_in, IsFirstMissing, one_to}
 use Rattle.pc_join.specs.ByName.{AscendFrom, known_in, value_at}
 use Rattle.pc_join.proofs.Entries.{IsWalked, walked_start, walked_found, walked_on, walked_all, walked_weaker}
-use Rattle.pc_thread_view.specs.Told.{Told, IsSound, IsOfThread, RiseAbove, HasEach, numbers_of, only, is_early, tells, written}
+use Rattle.pc_thread_view.specs.Told.{Told, IsSound, IsOfThread, RiseAbove, HasEach, numbers_of, only, is_early, tells}
 use Rattle.pc_thread_view.specs.Inner.Taking.{AreTold}
-use Rattle.pc_thread_view.specs.Inner.ToldLaws.{same_kind, written_some, lacks_next}
+use Rattle.pc_thread_view.specs.Inner.ToldLaws.{lacks_next}
+use Rattle.pc_thread_view.proofs.Histories.{prefix_to}
 use Rattle.pc_view.specs.declared.view.View.{View}
-use Rattle.pc_view.specs.Views.{pairs_of, thread_of, pair, source_of, written_at}
+use Rattle.pc_view.specs.Views.{IsPrefixOfRun, pairs_of, thread_of, pair, source_of}
 use Rattle.pc_delta.specs.declared.part.Part.{Part}
-use Rattle.pc_delta.specs.declared.part.Part.TheVariants.{One}
+use Rattle.pc_delta.specs.declared.part.Part.TheVariants.{Folded, One}
 use Rattle.pc_delta.specs.declared.fault.DeltaFault.TheVariants as fault
 use Rattle.pc_delta.specs.Faults.{first_fault, first_of, fault_of, is_misplaced}
 use Rattle.pc_delta.specs.Parts.{set_of_part, set_of, IsPartOfRun}
 use Rattle.pc_delta.specs.Exchange.{IsAnswerTo, IsNews}
 use Rattle.pc_delta.specs.Inner.Answering.{IsLacking, IsUseful, IsUsefulOf, IsToldAt, IsOneOf, KnowsPrefix, TellsAll, TellsPrefix, asked_by, listed}
-use Rattle.pc_delta.proofs.Bools.{or_left, or_right, or_cases, and_parts, both}
+use Rattle.std.proofs.lemmas.Bool.{and_parts}
+use Rattle.pc_delta.proofs.Bools.{or_left, or_right, or_cases, both}
 use Rattle.pc_delta.proofs.Lists.{all_none, all_first, all_rest, all_cons, left_item, none_left}
 use Rattle.pc_delta.proofs.Intake.{set_of-append}
 
@@ -88,9 +91,12 @@ one_sound thread number kind h g created = λ i. first_of ((not_zero number h i,
     placed : is_misplaced (is_created kind) number ≡ false
     placed = ap (λ b. is_misplaced b number) created ∙ not_one number h
 
-kind_from : (o : Option Kind) (kind : Kind) → written_at o ≡ written kind → o ≡ Some kind
-kind_from None kind e = absurd (written_some kind (sym e))
-kind_from (Some k) kind e = ap (λ x. Some x) (same_kind k kind e)
+-- a prefix that is told of a run's thread is one of the run
+pub folded_of_run : (thread : ℕ) (told : Told) (upto : ℕ) (reported : Reported) → upto ≡ told.upto → ◌≡◌ {A = Option Reported} (Some reported) told.state
+    → (run : Run) → IsOfThread told (source_at (source_of run) thread) → IsPartOfRun run (Folded thread upto reported)
+folded_of_run thread told upto reported u r run h =
+    let prefix = prefix_to (run thread) told.upto told.state h.prefix in
+    subst (λ n. IsPrefixOfRun run thread n (Some reported)) (sym u) (subst (λ o. IsPrefixOfRun run thread told.upto o) (sym r) prefix)
 
 -- of a thread: what is told so far, and what is left of the early messages
 pub record IsTelling (thread : ℕ) (told : Told) (known : Members) (left : List (ℕ × Kind)) (parts : List Part) : Type 0 where
@@ -116,7 +122,7 @@ module _ (thread : ℕ) (told : Told) (known : Members) where
     number = entry.0;
     in_part = both (thread == thread) (entry.0 == entry.0) (itself thread) (itself entry.0);
     unknown = one.unknown;
-    of_run = λ run of_thread. kind_from (kind_at (run thread) entry.0) entry.1 (telling.of_source (source_at (source_of run) thread) of_thread).0;
+    of_run = λ run of_thread. (telling.of_source (source_at (source_of run) thread) of_thread).0;
   })
 
   prefix_told : (o : Option Part) (parts : List Part) → MatchOption o (KnowsPrefix known told.upto) (λ part. IsUsefulOf thread told known part × TellsPrefix thread told.upto part) → parts ≡ [] ++ listed o

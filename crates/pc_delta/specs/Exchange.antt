@@ -1,5 +1,6 @@
 -- What an exchange of deltas does: views that take parts in, and parts that answer a digest.
 use Rattle.std.specs.Prelude.{ℕ, ◌≡◌, true, false, List, ◌∷◌, [], All}
+use Rattle.std.specs.List.{list_any}
 use Rattle.pc_messages.specs.Run.{Run}
 use Rattle.pc_join.specs.Sets.{Members, IsWithin, IsUnion, IsBetween}
 use Rattle.pc_view.specs.declared.view.View.{View}
@@ -40,3 +41,17 @@ pub record IsAnswerTo (view : View) (asked : Members) (parts : List Part) : Type
 -- the parts answer a digest from a view
 abbrev pub IsAnswer : View → RangesByName → List Part → Type 0
 IsAnswer view digest parts = IsAnswerTo view (set_of_digest digest) parts
+
+-- a view of the run took in a set of messages, and is of the run
+pub record Takes (run : Run) (set : Members) (old new : View) : Type 0 where
+  pub union : IsUnion (pairs_of old) set (pairs_of new)
+  pub of_run : IsOfRun run old → IsOfRun run new
+
+-- a view took in one set after another
+abbrev pub TakesEach : Run → List Members → View → View → Type 0
+TakesEach run [] old new = new ≡ old
+TakesEach run (set ∷ sets) old new = (mid : View) × Takes run set old mid × TakesEach run sets mid new
+
+-- the union of the sets
+abbrev pub all_of : List Members → Members
+all_of sets m = list_any (λ set. set m) sets

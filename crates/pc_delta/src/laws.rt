@@ -6,7 +6,7 @@ ghost use Rattle.pc_messages.specs.Items.{AreItemsOf, pairs_in};
 ghost use Rattle.pc_messages.specs.declared.message.Item.{Item};
 ghost use Rattle.pc_messages.specs.declared.message.Message.{Message};
 ghost use Rattle.pc_messages.specs.declared.reported.Reported.{Reported};
-ghost use Rattle.pc_join.specs.Sets.{IsSameSet, as_members};
+ghost use Rattle.pc_join.specs.Sets.{IsSameSet, IsUnion, Members, as_members};
 ghost use Rattle.pc_view.specs.declared.view.View.{View};
 ghost use Rattle.pc_view.specs.Views.{pairs_of, IsOfRun};
 ghost use Rattle.pc_delta.specs.declared.part.Part.{Part};
@@ -14,7 +14,7 @@ ghost use Rattle.pc_delta.specs.declared.part.Part.TheVariants.{One, Folded};
 ghost use Rattle.pc_delta.specs.Parts.{set_of, AreOfRun, all_parts, pairs_of_parts, parts_in};
 ghost use Rattle.pc_delta.specs.Faults.{HasNoConflict, IsPossiblePrefix, fault_of, first_fault};
 ghost use Rattle.pc_delta.specs.Digests.{RangesByName, set_of_digest, is_same_digest};
-ghost use Rattle.pc_delta.specs.Exchange.{IsTakenIn, IsPartlyTakenIn};
+ghost use Rattle.pc_delta.specs.Exchange.{IsTakenIn, IsPartlyTakenIn, Takes, TakesEach, all_of};
 ghost use Rattle.pc_delta.specs.Worked.{NoParts, Numbers, Misplaced, Ran, FirstPart, Places, Pairs};
 
 /// Views of one run that took in lists of deltas of that run are equal where what they knew before and the deltas'
@@ -24,6 +24,21 @@ pub fn equal_unions_give_equal_views()
         → IsOfRun run start → AreOfRun run (all_parts deltas) → AreOfRun run (all_parts others)
         → IsSameSet (λ m. pairs_of before m || set_of (all_parts deltas) m) (λ m. pairs_of start m || set_of (all_parts others) m)
         → IsTakenIn (all_parts deltas) before after → IsTakenIn (all_parts others) start end → after ≡ end }
+{}
+
+/// Whatever calls a view of a run took messages in by, it has the union of their sets, and is of the run; so where two
+/// views took in equal unions they are equal. A delta, a message, a folded prefix or another view is one step each, by
+/// the clauses `done`, `union` and `of_run` of the call that took it in.
+pub fn taking_in_is_union_whatever_the_mix()
+    ensures delta { (run : Run) (parts : List Part) (old new : View) → AreOfRun run parts → IsTakenIn parts old new
+        → Takes run (set_of parts) old new }
+    ensures union { (run : Run) (sets : List Members) (old new : View) → TakesEach run sets old new
+        → IsUnion (pairs_of old) (all_of sets) (pairs_of new) }
+    ensures of_run { (run : Run) (sets : List Members) (old new : View) → TakesEach run sets old new
+        → IsOfRun run old → IsOfRun run new }
+    ensures equal { (run : Run) (sets others : List Members) (before after start end : View) → IsOfRun run before
+        → IsOfRun run start → TakesEach run sets before after → TakesEach run others start end
+        → IsSameSet (λ m. pairs_of before m || all_of sets m) (λ m. pairs_of start m || all_of others m) → after ≡ end }
 {}
 
 /// Where memory ran out, taking the same parts in again completes it.

@@ -1,14 +1,15 @@
 -- Sets of members and sources: the words in which every join is stated.
-use Rattle.std.specs.Prelude.{ℕ, ◌≡◌, ◌==◌, ◌||◌, ◌&&◌, Bool, true, false, List, [], ◌∷◌}
+use Rattle.std.specs.Prelude.{ℕ, ◌≡◌, ◌==◌, ◌||◌, ◌&&◌, Bool, true, false, List, [], ◌∷◌, Option, None}
 use Rattle.std.specs.List.{list_any}
+use Rattle.pc_messages.specs.declared.kind.Kind.{Kind}
 
 -- A set, as a test. A member is a path of numbers, as a thread's name and the number of one of its messages.
 abbrev pub Members : Type 0
 Members = List ℕ → Bool
 
--- What stands at each member; the empty list where nothing does.
+-- The kind of message that stands at each member; none where nothing does.
 abbrev pub Source : Type 0
-Source = List ℕ → List ℕ
+Source = List ℕ → Option Kind
 
 -- each member of s is one of t
 abbrev pub IsWithin : Members → Members → Type 0
@@ -33,7 +34,7 @@ pub record IsBetween (s t u : Members) : Type 0 where
 
 -- t gives what s gives, at each member of the set at which s gives anything
 abbrev pub AgreesOn : Members → Source → Source → Type 0
-AgreesOn set s t = (m : List ℕ) → set m ≡ true → ¬ (s m ≡ []) → t m ≡ s m
+AgreesOn set s t = (m : List ℕ) → set m ≡ true → ¬ (s m ≡ None) → t m ≡ s m
 
 -- x is a join of a and b: all are of the source, and x has the union of their sets
 pub record IsJoin {A : Type 0} (known : A → Members) (is_of : A → Source → Type 0) (s : Source) (a b x : A) : Type 0 where

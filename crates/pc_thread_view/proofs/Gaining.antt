@@ -1,16 +1,17 @@
 -- One more message at the end of what a thread view tells.
-use Rattle.std.proofs.Common.{ℕ, suc, ◌+◌, ◌<◌, ◌≤◌, ◌≡◌, ◌==◌, ◌||◌, Bool, true, false, IsTrue, IsFalse, ◌↔◌, List, [], ◌∷◌, ◌++◌, length, Option, refl, sym, ap, ◌∙◌, subst, arith}
+use Rattle.std.proofs.Common.{ℕ, suc, ◌+◌, ◌<◌, ◌≤◌, ◌≡◌, ◌==◌, ◌||◌, Bool, true, false, IsTrue, IsFalse, ◌↔◌, List, [], ◌∷◌, ◌++◌, length, Option, refl, sym, ap, ◌∙◌, subst, arith, Some}
 use Rattle.std.proofs.lemmas.Bool.{false≢true}
 use Rattle.std.proofs.lemmas.Bool.Decides.{nat_tests}
 use Rattle.std.proofs.lemmas.List.Folds.{list_any-append}
 use Rattle.std.proofs.lemmas.List.{length-append}
+use Rattle.pc_join.proofs.Joins.{or_assoc}
 use Rattle.pc_messages.specs.declared.message.TheConstants.{GREATEST_NUMBER}
 use Rattle.pc_messages.specs.declared.kind.Kind.{Kind}
 use Rattle.pc_messages.specs.declared.reported.Reported.{Reported}
 use Rattle.pc_messages.specs.State.{state_of}
 use Rattle.pc_messages.specs.Run.{IsWellFormed, is_created}
 use Rattle.pc_join.specs.Sets.{Source}
-use Rattle.pc_thread_view.specs.Told.{Told, IsSound, RiseAbove, AreLater, HasKinds, HasEach, IsStateOfSome, tells, is_early, written}
+use Rattle.pc_thread_view.specs.Told.{Told, IsSound, RiseAbove, AreLater, HasKinds, HasEach, IsStateOfSome, tells, is_early}
 use Rattle.pc_thread_view.specs.Inner.Taking.{Gains, NoneAbove}
 use Rattle.pc_join.specs.Ranges.{one_to}
 
@@ -26,7 +27,7 @@ or_same false false h = refl
 eq_true : (n m : ℕ) → (n == m) ≡ true → n ≡ m
 eq_true n m e = grind (arith, nat_tests)
 
-eq_sym : (n m : ℕ) → (m == n) ≡ (n == m)
+pub eq_sym : (n m : ℕ) → (n == m) ≡ (m == n)
 eq_sym n m = grind (arith, nat_tests)
 
 in_prefix_yes : (upto n : ℕ) → 1 ≤ n → n ≤ upto → one_to upto n ≡ true
@@ -55,12 +56,12 @@ pub none_early : (n : ℕ) (early : List (ℕ × Kind)) → RiseAbove n early �
 none_early n [] h k = refl
 none_early n (e ∷ es) h k = absurd (omega arith)
 
-pub kinds_push : (s : Source) (n : ℕ) (kinds : List Kind) (kind : Kind) → HasKinds s n kinds → s ((n + length kinds + 1) ∷ []) ≡ written kind → HasKinds s n (kinds ++ kind ∷ [])
-kinds_push s n [] kind h e = (subst (λ m. s (m ∷ []) ≡ written kind) (at n) e, tt)
+pub kinds_push : (s : Source) (n : ℕ) (kinds : List Kind) (kind : Kind) → HasKinds s n kinds → s ((n + length kinds + 1) ∷ []) ≡ Some kind → HasKinds s n (kinds ++ kind ∷ [])
+kinds_push s n [] kind h e = (subst (λ m. s (m ∷ []) ≡ Some kind) (at n) e, tt)
   where
     at : (n : ℕ) → n + 0 + 1 ≡ n + 1
     at n = omega arith
-kinds_push s n (k ∷ ks) kind h e = (h.0, kinds_push s (n + 1) ks kind h.1 (subst (λ m. s (m ∷ []) ≡ written kind) (at n (length ks)) e))
+kinds_push s n (k ∷ ks) kind h e = (h.0, kinds_push s (n + 1) ks kind h.1 (subst (λ m. s (m ∷ []) ≡ Some kind) (at n (length ks)) e))
   where
     at : (n l : ℕ) → n + suc l + 1 ≡ n + 1 + l + 1
     at n l = omega arith
@@ -80,7 +81,7 @@ gains_next upto state next early number kind sound well e none some folded =
         prefix = record {
           kinds = h.prefix.kinds ++ kind ∷ [];
           count = length-append h.prefix.kinds (kind ∷ []) ∙ ap (λ n. n + 1) h.prefix.count;
-          of_source = kinds_push s 0 h.prefix.kinds kind h.prefix.of_source (subst (λ n. s (n ∷ []) ≡ written kind) (place (length h.prefix.kinds) upto h.prefix.count) g);
+          of_source = kinds_push s 0 h.prefix.kinds kind h.prefix.of_source (subst (λ n. s (n ∷ []) ≡ Some kind) (place (length h.prefix.kinds) upto h.prefix.count) g);
           folded = folded h.prefix.kinds h.prefix.count h.prefix.folded;
         };
         gap = tt;
@@ -113,16 +114,12 @@ later_push : (early : List (ℕ × Kind)) (e : ℕ × Kind) → AreLater early �
 later_push [] e h k c = (k, c, tt)
 later_push (d ∷ ds) e h k c = (h.0, h.1, later_push ds e h.2 k c)
 
-each_push : (s : Source) (early : List (ℕ × Kind)) (e : ℕ × Kind) → HasEach s early → s (e.0 ∷ []) ≡ written e.1 → HasEach s (early ++ e ∷ [])
+each_push : (s : Source) (early : List (ℕ × Kind)) (e : ℕ × Kind) → HasEach s early → s (e.0 ∷ []) ≡ Some e.1 → HasEach s (early ++ e ∷ [])
 each_push s [] e h k = (k, tt)
 each_push s (d ∷ ds) e h k = (h.0, each_push s ds e h.1 k)
 
-or_assoc : (a b c : Bool) → (a || (b || c)) ≡ ((a || b) || c)
-or_assoc true b c = refl
-or_assoc false b c = refl
-
 pub is_early-push : (early : List (ℕ × Kind)) (e : ℕ × Kind) (n : ℕ) → is_early (early ++ e ∷ []) n ≡ (is_early early n || (n == e.0))
-is_early-push early e n = list_any-append (λ d. d.0 == n) early (e ∷ []) ∙ ap (λ b. is_early early n || b) (sym (or_none (e.0 == n)) ∙ eq_sym n e.0)
+is_early-push early e n = list_any-append (λ d. d.0 == n) early (e ∷ []) ∙ ap (λ b. is_early early n || b) (sym (or_none (e.0 == n)) ∙ eq_sym e.0 n)
 
 pub not_created : (number : ℕ) (kind : Kind) → IsTrue (is_created kind) ↔ (number ≡ 1) → 2 ≤ number → IsFalse (is_created kind)
 not_created number kind h e = by_test (is_created kind) h.0
@@ -140,7 +137,7 @@ gains_push upto state early number kind sound well gap none new = record {
     gap = rise_push (upto + 1) early (number, kind) sound.gap gap none new;
     early = later_push early (number, kind) sound.early well.greatest (not_created number kind well.created (omega arith));
   };
-  union = λ n. ap (λ b. one_to upto n || b) (is_early-push early (number, kind) n) ∙ or_assoc (one_to upto n) (is_early early n) (n == number);
+  union = λ n. ap (λ b. one_to upto n || b) (is_early-push early (number, kind) n) ∙ sym (or_assoc (one_to upto n) (is_early early n) (n == number));
   of_source = λ s h g. record {
     prefix = h.prefix;
     gap = rise_push (upto + 1) early (number, kind) sound.gap gap none new;

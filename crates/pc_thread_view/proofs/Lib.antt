@@ -4,3 +4,4 @@ pub mod Taking
 pub mod Settling
 pub mod Places
 pub mod Slots
+pub mod Histories

@@ -5,15 +5,16 @@ use Rattle.std.specs.List.Sorted.{IsNonDecreasingBy, IsPartitionPoint}
 use Rattle.std.proofs.lemmas.Bool.{false≢true}
 use Rattle.std.proofs.lemmas.Bool.Decides.{nat_tests}
 use Rattle.std.proofs.lemmas.List.Folds.{list_any-append}
+use Rattle.pc_join.proofs.Joins.{or_assoc, or_comm}
 use Rattle.pc_messages.specs.declared.message.TheConstants.{GREATEST_NUMBER}
 use Rattle.pc_messages.specs.declared.kind.Kind.{Kind}
 use Rattle.pc_messages.specs.declared.reported.Reported.{Reported}
 use Rattle.pc_messages.specs.Run.{IsWellFormed, is_created}
 use Rattle.pc_join.specs.Sets.{Source}
-use Rattle.pc_thread_view.specs.Told.{IsSound, RiseAbove, AreLater, HasEach, is_early, written}
+use Rattle.pc_thread_view.specs.Told.{IsSound, RiseAbove, AreLater, HasEach, is_early}
 use Rattle.pc_thread_view.specs.Inner.Taking.{IsPlace, BeginsWith, AreBelow, Gains}
 use Rattle.pc_join.specs.Ranges.{one_to}
-use Rattle.pc_thread_view.proofs.Gaining.{rise_from, not_created}
+use Rattle.pc_thread_view.proofs.Gaining.{rise_from, not_created, eq_sym}
 
 above : (n : ℕ) (xs : List (ℕ × Kind)) (j : ℕ) (d : ℕ × Kind) → RiseAbove n xs → j < length xs → n < (get_or xs j d).0
 above n [] j d h lt = absurd (omega arith)
@@ -119,26 +120,13 @@ later_insert : (low high : List (ℕ × Kind)) (e : ℕ × Kind) → AreLater (l
 later_insert [] high e h k c = (k, c, h)
 later_insert (d ∷ low) high e h k c = (h.0, h.1, later_insert low high e h.2 k c)
 
-each_insert : (s : Source) (low high : List (ℕ × Kind)) (e : ℕ × Kind) → HasEach s (low ++ high) → s (e.0 ∷ []) ≡ written e.1 → HasEach s (low ++ e ∷ high)
+each_insert : (s : Source) (low high : List (ℕ × Kind)) (e : ℕ × Kind) → HasEach s (low ++ high) → s (e.0 ∷ []) ≡ Some e.1 → HasEach s (low ++ e ∷ high)
 each_insert s [] high e h k = (k, h)
 each_insert s (d ∷ low) high e h k = (h.0, each_insert s low high e h.1 k)
 
-or_comm : (a b : Bool) → (a || b) ≡ (b || a)
-or_comm true true = refl
-or_comm true false = refl
-or_comm false true = refl
-or_comm false false = refl
-
-or_assoc : (a b c : Bool) → (a || (b || c)) ≡ ((a || b) || c)
-or_assoc true b c = refl
-or_assoc false b c = refl
-
-eq_sym : (n m : ℕ) → (m == n) ≡ (n == m)
-eq_sym n m = grind (arith, nat_tests)
-
 is_early-insert : (low high : List (ℕ × Kind)) (e : ℕ × Kind) (n : ℕ) → is_early (low ++ e ∷ high) n ≡ (is_early (low ++ high) n || (n == e.0))
-is_early-insert [] high e n = or_comm (e.0 == n) (is_early high n) ∙ ap (λ b. is_early high n || b) (eq_sym n e.0)
-is_early-insert (d ∷ low) high e n = ap (λ b. (d.0 == n) || b) (is_early-insert low high e n) ∙ or_assoc (d.0 == n) (is_early (low ++ high) n) (n == e.0)
+is_early-insert [] high e n = or_comm (e.0 == n) (is_early high n) ∙ ap (λ b. is_early high n || b) (eq_sym e.0 n)
+is_early-insert (d ∷ low) high e n = ap (λ b. (d.0 == n) || b) (is_early-insert low high e n) ∙ sym (or_assoc (d.0 == n) (is_early (low ++ high) n) (n == e.0))
 
 module _ (upto : ℕ) (state : Option Reported) (early : List (ℕ × Kind)) (number p : ℕ) (kind : Kind) (sound : IsSound (record { upto = upto; state = state; early = early })) (well : IsWellFormed number kind) (gap : upto + 1 < number) (h : IsPlace early number p) where
   joined : take p early ++ drop p early ≡ early
@@ -157,7 +145,7 @@ module _ (upto : ℕ) (state : Option Reported) (early : List (ℕ × Kind)) (nu
     };
     union = λ n.
         ap (λ b. one_to upto n || b) (is_early-insert (take p early) (drop p early) (number, kind) n ∙ ap (λ es. is_early es n || (n == number)) joined)
-        ∙ or_assoc (one_to upto n) (is_early early n) (n == number);
+        ∙ sym (or_assoc (one_to upto n) (is_early early n) (n == number));
     of_source = λ s a g. record {
       prefix = a.prefix;
       gap = rises;

@@ -1,26 +1,23 @@
 -- A prefix that grows, and the early messages that it reaches.
-use Rattle.std.proofs.Common.{ℕ, ◌+◌, ◌<◌, ◌≤◌, ◌≡◌, ◌==◌, ◌||◌, Bool, true, false, List, [], ◌∷◌, ◌++◌, length, drop, Option, refl, sym, ap, ◌∙◌, subst, arith}
+use Rattle.std.proofs.Common.{ℕ, ◌+◌, ◌<◌, ◌≤◌, ◌≡◌, ◌==◌, ◌||◌, Bool, true, false, List, [], ◌∷◌, ◌++◌, length, drop, Option, refl, sym, ap, ◌∙◌, subst, arith, Some}
 use Rattle.std.proofs.lemmas.Bool.{false≢true}
 use Rattle.std.proofs.lemmas.Bool.Decides.{nat_tests}
 use Rattle.std.proofs.lemmas.List.{length-append}
+use Rattle.pc_join.proofs.Joins.{or_assoc}
 use Rattle.pc_messages.specs.declared.kind.Kind.{Kind}
 use Rattle.pc_messages.specs.declared.reported.Reported.{Reported}
 use Rattle.pc_messages.specs.State.{state_of}
 use Rattle.pc_messages.specs.Run.{IsWellFormed}
 use Rattle.pc_join.specs.Sets.{Source}
 use Rattle.pc_join.specs.Inner.Ranges.{IsEither}
-use Rattle.pc_thread_view.specs.Told.{Told, IsSound, IsOfThread, IsPrefix, RiseAbove, IsStateOfSome, tells, is_early, written}
+use Rattle.pc_thread_view.specs.Told.{Told, IsSound, IsOfThread, IsPrefix, RiseAbove, IsStateOfSome, tells, is_early}
 use Rattle.pc_thread_view.specs.Inner.Taking.{IsLoose, IsLooselyOf, IsAbsorbed, IsSettled, Gains}
 use Rattle.pc_join.specs.Ranges.{one_to}
-use Rattle.pc_thread_view.proofs.Gaining.{kinds_push}
+use Rattle.pc_thread_view.proofs.Gaining.{eq_sym, kinds_push}
 use Rattle.pc_thread_view.proofs.Taking.{early_told, told_rest}
 
 prefix_next : (upto n : ℕ) → one_to (upto + 1) n ≡ (one_to upto n || (upto + 1 == n))
 prefix_next upto n = grind (arith, nat_tests)
-
-or_assoc : (a b c : Bool) → ((a || b) || c) ≡ (a || (b || c))
-or_assoc true b c = refl
-or_assoc false b c = refl
 
 or_swap : (a b c : Bool) → ((a || b) || c) ≡ ((a || c) || b)
 or_swap true b c = refl
@@ -32,16 +29,13 @@ or_swap false false false = refl
 prefix_yes : (upto n : ℕ) → 1 ≤ n → n ≤ upto → one_to upto n ≡ true
 prefix_yes upto n h e = grind (arith, nat_tests)
 
-eq_sym : (n m : ℕ) → (n == m) ≡ (m == n)
-eq_sym n m = grind (arith, nat_tests)
-
 -- one more kind at the end of a prefix
-pub prefix_push : (s : Source) (upto : ℕ) (state next : Option Reported) (kind : Kind) → IsPrefix s upto state → s ((upto + 1) ∷ []) ≡ written kind
+pub prefix_push : (s : Source) (upto : ℕ) (state next : Option Reported) (kind : Kind) → IsPrefix s upto state → s ((upto + 1) ∷ []) ≡ Some kind
     → ((kinds : List Kind) → length kinds ≡ upto → state ≡ state_of kinds → next ≡ state_of (kinds ++ kind ∷ [])) → IsPrefix s (upto + 1) next
 prefix_push s upto state next kind h g folded = record {
   kinds = h.kinds ++ kind ∷ [];
   count = length-append h.kinds (kind ∷ []) ∙ ap (λ n. n + 1) h.count;
-  of_source = kinds_push s 0 h.kinds kind h.of_source (subst (λ n. s (n ∷ []) ≡ written kind) (place (length h.kinds) upto h.count) g);
+  of_source = kinds_push s 0 h.kinds kind h.of_source (subst (λ n. s (n ∷ []) ≡ Some kind) (place (length h.kinds) upto h.count) g);
   folded = folded h.kinds h.count h.folded;
 }
   where
@@ -66,7 +60,7 @@ module _ (upto : ℕ) (state : Option Reported) (first : ℕ × Kind) (rest : Li
         ∙ or_assoc (one_to upto n) (upto + 1 == n) (is_early rest n)
         ∙ ap (λ m. one_to upto n || ((m == n) || is_early rest n)) (sym e);
     of_source = λ s h. record {
-      prefix = subst (λ m. IsPrefix s m next) (sym e) (prefix_push s upto state next first.1 h.prefix (subst (λ m. s (m ∷ []) ≡ written first.1) e h.early.0) folded);
+      prefix = subst (λ m. IsPrefix s m next) (sym e) (prefix_push s upto state next first.1 h.prefix (subst (λ m. s (m ∷ []) ≡ Some first.1) e h.early.0) folded);
       early = h.early.1;
     };
     fewer = omega arith;
@@ -182,7 +176,7 @@ module _ (upto number : ℕ) (state next : Option Reported) (early : List (ℕ �
         ∙ or_swap (one_to upto n) (upto + 1 == n) (is_early early n)
         ∙ ap (λ b. (one_to upto n || is_early early n) || b) (ap (λ m. m == n) (sym e) ∙ eq_sym number n);
     of_source = λ s a g. h.of_source s (record {
-      prefix = subst (λ m. IsPrefix s m next) (sym e) (prefix_push s upto state next kind a.prefix (subst (λ m. s (m ∷ []) ≡ written kind) e g) folded);
+      prefix = subst (λ m. IsPrefix s m next) (sym e) (prefix_push s upto state next kind a.prefix (subst (λ m. s (m ∷ []) ≡ Some kind) e g) folded);
       early = a.early;
     });
   }

@@ -1,16 +1,17 @@
 -- Two lists of messages, taken in by turns.
-use Rattle.std.proofs.Common.{ℕ, ◌+◌, ◌<◌, ◌≤◌, ◌≡◌, ◌==◌, ◌||◌, Bool, true, false, List, [], ◌∷◌, ◌++◌, length, get_or, refl, sym, ap, ◌∙◌, subst, arith, inl, inr}
+use Rattle.std.proofs.Common.{ℕ, ◌+◌, ◌<◌, ◌≤◌, ◌≡◌, ◌==◌, ◌||◌, Bool, true, false, List, [], ◌∷◌, ◌++◌, length, get_or, refl, sym, ap, ◌∙◌, subst, arith, inl, inr, Some}
 use Rattle.std.proofs.lemmas.Bool.{false≢true}
 use Rattle.std.proofs.lemmas.Bool.Decides.{nat_tests}
+use Rattle.pc_join.proofs.Joins.{or_assoc}
 use Rattle.pc_messages.specs.declared.kind.Kind.{Kind}
 use Rattle.pc_messages.specs.Run.{IsWellFormed}
 use Rattle.pc_join.specs.Sets.{Source}
 use Rattle.pc_join.specs.Inner.Ranges.{IsEither, IsAmid}
 use Rattle.pc_join.specs.Inner.Turns.{IsNotAfter, IsTurn}
-use Rattle.pc_thread_view.specs.Told.{Told, IsSound, IsOfThread, RiseAbove, HasEach, tells, is_early, written}
+use Rattle.pc_thread_view.specs.Told.{Told, IsSound, IsOfThread, RiseAbove, HasEach, tells, is_early}
 use Rattle.pc_thread_view.specs.Inner.Taking.{Gains, NoneAbove, NoneAfter, AreTold, IsTaking}
 use Rattle.pc_join.specs.Ranges.{one_to}
-use Rattle.pc_thread_view.proofs.Gaining.{rise_from}
+use Rattle.pc_thread_view.proofs.Gaining.{rise_from, eq_sym}
 
 pub taking_start : (old : Told) (first other : List (ℕ × Kind)) → IsSound old → AreTold first → AreTold other → NoneAfter old.early first → NoneAfter old.early other → IsTaking old first other old first other
 taking_start old first other sound f o fa oa = record {
@@ -55,9 +56,6 @@ after_rest early e (d ∷ ds) h k = none_wider e.0 d.0 early (let g = h.rise.1.0
 after_other : (early : List (ℕ × Kind)) (e : ℕ × Kind) (es : List (ℕ × Kind)) → IsNotAfter e es → NoneAbove e.0 early → NoneAfter early es
 after_other early e [] h k = tt
 after_other early e (d ∷ ds) h k = none_wider e.0 d.0 early h k
-
-eq_sym : (n m : ℕ) → (n == m) ≡ (m == n)
-eq_sym n m = grind (arith, nat_tests)
 
 taken_left : (a e l r : Bool) → ((a || e) || (l || r)) ≡ (a || ((e || l) || r))
 taken_left true e l r = refl
@@ -163,9 +161,6 @@ module _ (a b v : Told) (h : b.upto ≤ a.upto) where
   amid_in_place e = record { at_least = e.at_least; at_most = λ n k. sym (in_place n) ∙ e.at_most n k }
 
 -- a join after the other's prefix was taken in
-or_assoc : (a b c : Bool) → ((a || b) || c) ≡ (a || (b || c))
-or_assoc true b c = refl
-or_assoc false b c = refl
 
 module _ (a b m v : Told) (e : IsEither (tells a) (one_to b.upto) (tells m)) where
   pub union_advanced : IsEither (tells m) (is_early b.early) (tells v) → IsEither (tells a) (tells b) (tells v)
@@ -198,9 +193,9 @@ module _ (a : Told) (none more : List (ℕ × Kind)) (v : Told) (empty : none �
       ∙ shuffled (one_to a.upto n) (is_early a.early n) (is_early more n)
 
 -- one message
-pub one_of_source : (more : List (ℕ × Kind)) (one : ℕ × Kind) (s : Source) → 1 ≤ length more → length more < 2 → one ≡ get_or more 0 one → HasEach s more → s (one.0 ∷ []) ≡ written one.1
+pub one_of_source : (more : List (ℕ × Kind)) (one : ℕ × Kind) (s : Source) → 1 ≤ length more → length more < 2 → one ≡ get_or more 0 one → HasEach s more → s (one.0 ∷ []) ≡ Some one.1
 one_of_source [] one s h k e each = absurd (omega arith)
-one_of_source (d ∷ []) one s h k e each = subst (λ (x : ℕ × Kind). s (x.0 ∷ []) ≡ written x.1) (sym e) each.0
+one_of_source (d ∷ []) one s h k e each = subst (λ (x : ℕ × Kind). s (x.0 ∷ []) ≡ Some x.1) (sym e) each.0
 one_of_source (d ∷ e ∷ es) one s h k f each = absurd (omega arith)
 
 pub amid_nothing : (f g : ℕ → Bool) → IsAmid f g f

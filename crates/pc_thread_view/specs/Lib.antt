@@ -1,3 +1,4 @@
 pub mod Told
+pub mod Histories
 pub mod Same
 pub mod Inner

@@ -1,15 +1,27 @@
 -- Whether the same is told of a thread, as a test.
-use Rattle.std.specs.Prelude.{ℕ, ◌==◌, ◌&&◌, Bool, List, [], ◌∷◌, Option, Some, None}
+use Rattle.std.specs.Prelude.{ℕ, ◌==◌, ◌&&◌, cond, Bool, List, [], ◌∷◌, Option, Some, None}
 use Rattle.std.specs.Cmp.Lexicographic.{pointwise}
 use Rattle.pc_messages.specs.declared.kind.Kind.{Kind}
+use Rattle.pc_messages.specs.declared.kind.Kind.TheVariants.{Created, Blocked, Preempted, Yield, Dead, Wakeup, Affinity, Priority}
 use Rattle.pc_messages.specs.declared.reported.Phase.{Phase}
 use Rattle.pc_messages.specs.declared.reported.Phase.TheVariants as phase
 use Rattle.pc_messages.specs.declared.reported.Reported.{Reported}
-use Rattle.pc_thread_view.specs.Told.{Told, written}
+use Rattle.pc_thread_view.specs.Told.{Told}
 
 -- the lists have the same numbers
 abbrev pub same_numbers : List ℕ → List ℕ → Bool
 same_numbers xs ys = pointwise (λ x y. x == y) xs ys
+
+-- a kind, written as numbers
+abbrev pub written : Kind → List ℕ
+written (Created mask ready) = 0 ∷ mask ∷ cond ready 1 0 ∷ []
+written (Blocked ran) = 1 ∷ ran ∷ []
+written (Preempted ran) = 2 ∷ ran ∷ []
+written (Yield ran) = 3 ∷ ran ∷ []
+written (Dead ran) = 4 ∷ ran ∷ []
+written Wakeup = 5 ∷ []
+written (Affinity mask) = 6 ∷ mask ∷ []
+written (Priority level) = 7 ∷ level ∷ []
 
 -- a phase, as a number
 abbrev pub phase_number : Phase → ℕ

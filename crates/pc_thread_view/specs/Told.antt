@@ -1,10 +1,9 @@
 -- What is told of one thread: a folded prefix of its messages, and early messages past a gap.
-use Rattle.std.specs.Prelude.{ℕ, ◌+◌, ◌*◌, ◌<◌, ◌≤◌, ◌≡◌, ◌==◌, ◌||◌, cond, Bool, true, IsFalse, List, [], ◌∷◌, length, Option, MatchOption}
+use Rattle.std.specs.Prelude.{ℕ, ◌+◌, ◌*◌, ◌<◌, ◌≤◌, ◌≡◌, ◌==◌, ◌||◌, Bool, true, IsFalse, List, [], ◌∷◌, length, Option, MatchOption, Some}
 use Rattle.std.specs.List.{list_any}
 use Rattle.pc_messages.specs.declared.message.TheConstants.{GREATEST_NUMBER}
 use Rattle.pc_messages.specs.declared.kind.TheConstants.{MOST_TICKS}
 use Rattle.pc_messages.specs.declared.kind.Kind.{Kind}
-use Rattle.pc_messages.specs.declared.kind.Kind.TheVariants.{Created, Blocked, Preempted, Yield, Dead, Wakeup, Affinity, Priority}
 use Rattle.pc_messages.specs.declared.reported.Reported.{Reported}
 use Rattle.pc_messages.specs.State.{state_of}
 use Rattle.pc_messages.specs.Run.{is_created}
@@ -16,17 +15,6 @@ pub record Told : Type 0 where
   pub upto : ℕ
   pub state : Option Reported
   pub early : List (ℕ × Kind)
-
--- a kind, written as numbers
-abbrev pub written : Kind → List ℕ
-written (Created mask ready) = 0 ∷ mask ∷ cond ready 1 0 ∷ []
-written (Blocked ran) = 1 ∷ ran ∷ []
-written (Preempted ran) = 2 ∷ ran ∷ []
-written (Yield ran) = 3 ∷ ran ∷ []
-written (Dead ran) = 4 ∷ ran ∷ []
-written Wakeup = 5 ∷ []
-written (Affinity mask) = 6 ∷ mask ∷ []
-written (Priority level) = 7 ∷ level ∷ []
 
 -- an early message has the number
 abbrev pub is_early : List (ℕ × Kind) → ℕ → Bool
@@ -52,12 +40,12 @@ RiseAbove n (e ∷ es) = (n < e.0) × RiseAbove e.0 es
 -- the source gives these kinds, from the number after n on
 abbrev pub HasKinds : Source → ℕ → List Kind → Type 0
 HasKinds s n [] = Unit {0}
-HasKinds s n (kind ∷ kinds) = (s ((n + 1) ∷ []) ≡ written kind) × HasKinds s (n + 1) kinds
+HasKinds s n (kind ∷ kinds) = (s ((n + 1) ∷ []) ≡ Some kind) × HasKinds s (n + 1) kinds
 
 -- the source gives each of these messages
 abbrev pub HasEach : Source → List (ℕ × Kind) → Type 0
 HasEach s [] = Unit {0}
-HasEach s (e ∷ es) = (s (e.0 ∷ []) ≡ written e.1) × HasEach s es
+HasEach s (e ∷ es) = (s (e.0 ∷ []) ≡ Some e.1) × HasEach s es
 
 -- the state is that of the source's kinds up to the number
 pub record IsPrefix (s : Source) (upto : ℕ) (state : Option Reported) : Type 0 where

@@ -8,7 +8,7 @@ ghost use Rattle.pc_messages.specs.State.{state_of};
 ghost use Rattle.pc_messages.specs.declared.kind.Kind.{Kind};
 ghost use Rattle.pc_join.specs.Sets.{Source};
 ghost use Rattle.pc_join.specs.Inner.Ranges.{IsEither, IsAmid};
-ghost use Rattle.pc_thread_view.specs.Told.{Told, IsSound, IsOfThread, RiseAbove, AreLater, HasEach, IsStateOfSome, tells, is_early, written};
+ghost use Rattle.pc_thread_view.specs.Told.{Told, IsSound, IsOfThread, RiseAbove, AreLater, HasEach, IsStateOfSome, tells, is_early};
 ghost use Rattle.pc_thread_view.specs.Inner.Taking.{Gains, NoneAbove, NoneAfter, IsLoose, IsAbsorbed, IsSettled, IsPlace, BeginsWith, AreTold, AreAmong};
 ghost use Rattle.pc_join.specs.Ranges.{one_to};
 ghost use Rattle.pc_thread_view.specs.Inner.Held.{told};

@@ -10,4 +10,4 @@ mod held;
 mod tests;
 mod view;
 
-pub use view::{ThreadView, equality_is_exact};
+pub use view::{ThreadView, equality_is_exact, of_a_history_in_plain_words};

@@ -5,7 +5,9 @@ ghost use Rattle.pc_messages.specs.declared.message.TheConstants.{GREATEST_NUMBE
 ghost use Rattle.pc_messages.specs.declared.kind.TheConstants.{MOST_TICKS};
 ghost use Rattle.pc_messages.specs.Run.{IsWellFormed};
 ghost use Rattle.pc_join.specs.Sets.{Members, Source, IsUnion, IsBetween, IsWithin, IsVoid, IsSameSet};
-ghost use Rattle.pc_thread_view.specs.Told.{Told, IsSound, IsOfThread, TellsSome, numbers_of, only, tells, written};
+ghost use Rattle.pc_messages.specs.declared.kind.Kind.{Kind};
+ghost use Rattle.pc_thread_view.specs.Told.{Told, IsSound, IsOfThread, RiseAbove, TellsSome, numbers_of, only, tells};
+ghost use Rattle.pc_thread_view.specs.Histories.{IsOfHistory, source_of_kinds};
 ghost use Rattle.pc_thread_view.specs.Inner.ToldLaws.{unique_told, stays_told};
 ghost use Rattle.pc_thread_view.specs.Same.{is_same_told};
 ghost use Rattle.pc_thread_view.specs.Inner.SameLaws.{told_partial, told_equivalence};
@@ -41,7 +43,7 @@ impl ThreadView {
     pub fn of(alloc: Global, number: u32, kind: Kind) -> Self
         requires { IsWellFormed number kind }
         ensures known { IsSameSet (numbers_of result) (only number) }
-        ensures of_source { (s : Source) → s (number ∷ []) ≡ written kind → IsOfThread result s }
+        ensures of_source { (s : Source) → s (number ∷ []) ≡ Some kind → IsOfThread result s }
         ensures sound { IsSound result }
     {
         let mut held = Held {
@@ -74,7 +76,7 @@ impl ThreadView {
         requires { IsWellFormed number kind }
         ensures union { OnOk result (IsUnion (numbers_of self.old) (only number) (numbers_of self.new)) }
         ensures between { IsBetween (numbers_of self.old) (only number) (numbers_of self.new) }
-        ensures of_source { (s : Source) → IsOfThread self.old s → s (number ∷ []) ≡ written kind → IsOfThread self.new s }
+        ensures of_source { (s : Source) → IsOfThread self.old s → s (number ∷ []) ≡ Some kind → IsOfThread self.new s }
         ensures known { IsTrue (tells self.old number) → self.new ≡ self.old }
         ensures known_succeeds { IsTrue (tells self.old number) → IsOk result }
         ensures err { OnErr result (self.new ≡ self.old) }
@@ -179,4 +181,11 @@ impl Eq for ThreadView {
 /// Two views are equal exactly where they tell the same.
 pub fn equality_is_exact()
     ensures { (a b : Told) → IsTrue (is_same_told a b) ↔ (a ≡ b) }
+{}
+
+/// What is told of a thread is what the source of its history gives exactly where it is of the history, and the early
+/// messages ascend past the first that is missing.
+pub fn of_a_history_in_plain_words()
+    ensures { (kinds : List Kind) (told : Told) → IsOfThread told (source_of_kinds kinds)
+        ↔ (IsOfHistory kinds told × RiseAbove (told.upto + 1) told.early) }
 {}

@@ -1,70 +1,32 @@
 -- What a view tells, against the histories of a kernel.
-use Rattle.std.proofs.Common.{ℕ, suc, zero, ◌+◌, ◌<◌, ◌≤◌, ◌≡◌, false, IsTrue, List, [], ◌∷◌, ◌++◌, length, take, drop, get_or, slice_get, Option, Some, None, is_some, All, refl, sym, ap, ◌∙◌, subst, arith, inl, inr}
+use Rattle.std.proofs.Common.{ℕ, suc, zero, ◌<◌, ◌≤◌, ◌≡◌, false, IsTrue, List, [], ◌∷◌, ◌++◌, length, take, drop, get_or, slice_get, Option, Some, None, is_some, All, refl, sym, ap, ◌∙◌, subst, arith, inl, inr}
 use Rattle.std.proofs.lemmas.Bool.{false≢true}
-use Rattle.std.proofs.lemmas.List.{take_all, length-take-le}
+use Rattle.std.proofs.lemmas.List.{take_all}
 use Rattle.std.specs.Option.{option_map, option_map_or, option_and_then}
 use Rattle.pc_messages.specs.declared.kind.Kind.{Kind}
-use Rattle.pc_messages.specs.Run.{Run, kind_at}
+use Rattle.pc_messages.specs.Run.{Run}
 use Rattle.pc_messages.specs.State.{state_of}
 use Rattle.pc_join.specs.Sets.{IsVoid, source_at}
-use Rattle.pc_thread_view.specs.Told.{Told, IsOfThread, IsView, HasKinds, HasEach, RiseAbove, numbers_of}
+use Rattle.pc_thread_view.specs.Told.{Told, IsOfThread, IsView, numbers_of}
+use Rattle.pc_thread_view.specs.Histories.{Has, IsOfHistory, IsPrefixOf}
+use Rattle.pc_thread_view.proofs.Histories.{of_history}
 use Rattle.pc_kernel.specs.Rows.{KernelRows, ThreadRow}
 use Rattle.pc_kernel.specs.Sound.{IsSound}
 use Rattle.pc_kernel.specs.Reads.{seen, kinds, history_of, reported_of}
 use Rattle.pc_view.specs.declared.view.View.{View}
 use Rattle.pc_join.proofs.Entries.{IsWalked}
-use Rattle.pc_view.specs.Views.{IsOfRun, source_of, thread_of, written_at}
-use Rattle.pc_view.specs.Audit.{Has, Departs, IsPast, IsOtherState, IsFirstOther, IsOfHistory, IsPrefixOf, IsComplete}
+use Rattle.pc_view.specs.Views.{IsOfRun, source_of, thread_of}
+use Rattle.pc_view.specs.Audit.{Departs, IsPast, IsOtherState, IsFirstOther, IsComplete}
 use Rattle.pc_view.specs.Prefixes.{upto_told, upto_of}
-use Rattle.pc_view.proofs.Runs.{kind_after, nothing_written, state_of_run, within_run}
-
--- the source of a run gives the kinds of a history's first messages
-at_drop : {A : Type 0} (xs : List A) (n : ℕ) (y : A) (ys : List A) → drop n xs ≡ y ∷ ys → (slice_get xs n ≡ Some y) × (drop (suc n) xs ≡ ys)
-at_drop [] zero y ys e = cc
-at_drop [] (suc n) y ys e = cc
-at_drop (x ∷ xs) zero y ys e = (ap (λ l. slice_get l 0) e, ap (drop 1) e)
-at_drop (x ∷ xs) (suc n) y ys e = at_drop xs n y ys e
-
-gives : (run : Run) (t n k : ℕ) (rest : List Kind) → drop n (run t) ≡ rest → HasKinds (source_at (source_of run) t) n (take k rest)
-gives run t n zero rest e = tt
-gives run t n (suc k) [] e = tt
-gives run t n (suc k) (x ∷ xs) e =
-    let at = at_drop (run t) n x xs e in
-    (ap written_at (kind_after (run t) n ∙ at.0), gives run t (n + 1) k xs (ap (λ m. drop m (run t)) (one n) ∙ at.1))
-  where
-    one : (n : ℕ) → n + 1 ≡ suc n
-    one n = omega arith
-
--- each early message of a history is of the run
-each_of : (run : Run) (t : ℕ) (early : List (ℕ × Kind)) → All (Has (run t)) early → HasEach (source_at (source_of run) t) early
-each_of run t [] all = tt
-each_of run t (e ∷ es) all = (ap written_at (all 0 e (omega arith)), each_of run t es (λ k d less. all (suc k) d (omega arith)))
-
-pub of_history : (run : Run) (t : ℕ) (told : Told) → IsOfHistory (run t) told → RiseAbove (told.upto + 1) told.early → IsOfThread told (source_at (source_of run) t)
-of_history run t told h gap = record {
-  prefix = record {
-    kinds = take told.upto (run t);
-    count = length-take-le told.upto (run t) h.prefix.within;
-    of_source = gives run t 0 told.upto (run t) refl;
-    folded = h.prefix.state;
-  };
-  gap = gap;
-  early = each_of run t told.early h.early;
-}
-
--- what departs from a history is not of the run
-has_of : (run : Run) (t : ℕ) (before : List (ℕ × Kind)) (n : ℕ) (kind : Kind) (after : List (ℕ × Kind)) → HasEach (source_at (source_of run) t) (before ++ (n, kind) ∷ after) → Has (run t) (n, kind)
-has_of run t [] n kind after h = nothing_written (kind_at (run t) n) kind h.0
-has_of run t (b ∷ bs) n kind after h = has_of run t bs n kind after h.1
-
--- each early message that is told of a run's thread is one of the run
-had_each : (run : Run) (t : ℕ) (early : List (ℕ × Kind)) → HasEach (source_at (source_of run) t) early → All (Has (run t)) early
-had_each run t [] h k d less = absurd (let none : ⊥ = omega arith in none)
-had_each run t (e ∷ es) h zero d less = nothing_written (kind_at (run t) e.0) e.1 h.0
-had_each run t (e ∷ es) h (suc k) d less = had_each run t es h.1 k d (omega (arith, less))
+use Rattle.pc_view.proofs.Runs.{history_of_run, state_of_run, within_run}
 
 pub early_of_run : (run : Run) (view : View) (thread : ℕ) (told : Told) → IsOfRun run view → thread_of view thread ≡ Some told → All (Has (run thread)) told.early
-early_of_run run view thread told of_run there = had_each run thread told.early (of_run.each thread told there).early
+early_of_run run view thread told of_run there = (history_of_run run view thread told of_run there).early
+
+-- what departs from a history is not of the run
+has_at : {A : Type 0} (P : A → Type 0) (before : List A) (x : A) (after : List A) → All P (before ++ x ∷ after) → P x
+has_at P [] x after h = h 0 x (omega arith)
+has_at P (b ∷ bs) x after h = has_at P bs x after (λ k d less. h (suc k) d (omega arith))
 
 module _ (run : Run) (view : View) (thread : ℕ) (told : Told) (number : ℕ) (of_run : IsOfRun run view) (there : thread_of view thread ≡ Some told) where
   not_past : IsPast (run thread) told number → ⊥
@@ -74,7 +36,7 @@ module _ (run : Run) (view : View) (thread : ℕ) (told : Told) (number : ℕ) (
   not_other (_, other, _) = other (state_of_run run view thread told of_run there)
 
   not_first : IsFirstOther (run thread) told.early number → ⊥
-  not_first f = f.other (has_of run thread f.before number f.kind f.after (subst (HasEach (source_at (source_of run) thread)) f.among (of_run.each thread told there).early))
+  not_first f = f.other (has_at (Has (run thread)) f.before (number, f.kind) f.after (subst (All (Has (run thread))) f.among (early_of_run run view thread told of_run there)))
 
   pub departs_not : Departs (run thread) told number → ⊥
   departs_not (inl past) = not_past past
@@ -90,7 +52,7 @@ pub record IsOfHistories (run : Run) (thread : ℕ) (told : Told) : Type 0 where
 pub of_histories : (run : Run) (thread : ℕ) (told : Told) → IsOfHistory (run thread) told → IsView told → IsOfHistories run thread told
 of_histories run thread told h view = record {
   history = h;
-  of_thread = of_history run thread told h view.sound.gap;
+  of_thread = of_history (run thread) told h view.sound.gap;
   not_void = λ void. false≢true (sym (void (view.some.0 ∷ [])) ∙ view.some.1);
 }
 

@@ -1,7 +1,8 @@
 -- How far views and sets of pairs know a thread without a gap.
 use Rattle.std.proofs.Common.{ℕ, suc, zero, ◌+◌, ◌<◌, ◌≤◌, ◌≡◌, ◌==◌, ◌⊎◌, if◌then◌else◌, max, nat_le, Bool, true, false, IsTrue, ◌↔◌, List, [], ◌∷◌, ◌||◌, ◌&&◌, length, take, Option, Some, None, All, refl, sym, ap, ◌∙◌, subst, arith, inl, inr}
 use Rattle.std.specs.List.{slice_get}
-use Rattle.std.proofs.lemmas.Bool.{false≢true, cases_lt}
+use Rattle.std.proofs.lemmas.Bool.{and_parts, cases_lt, false≢true}
+use Rattle.std.specs.Cmp.Derive.{both_true}
 use Rattle.std.proofs.lemmas.Bool.Decides.{nat_tests}
 use Rattle.pc_messages.specs.State.{state_of}
 use Rattle.pc_messages.specs.declared.kind.Kind.{Kind}
@@ -13,29 +14,22 @@ use Rattle.pc_thread_view.specs.Told.{Told, is_early, numbers_of}
 use Rattle.pc_view.specs.declared.view.View.{View}
 use Rattle.pc_view.specs.Views.{IsOfRun, pairs_in, pairs_of, thread_of}
 use Rattle.pc_view.specs.Prefixes.{upto_told, upto_of, state_told, reported_in, has_upto, top, upto_within, upto, reports}
-use Rattle.pc_view.specs.Audit.{Has}
+use Rattle.pc_thread_view.specs.Histories.{Has}
+use Rattle.pc_thread_view.proofs.Histories.{kind_after}
 use Rattle.pc_view.proofs.Audits.{early_of_run}
-use Rattle.pc_view.proofs.Runs.{kind_after, state_of_run, within_run, has_prefix, missing_next}
+use Rattle.pc_view.proofs.Runs.{state_of_run, within_run, has_prefix, missing_next}
 
 le_both : {a b : ℕ} → a ≤ b → b ≤ a → a ≡ b
 le_both h e = omega arith
 
 -- all numbers up to one
-split : (a b : Bool) → (a && b) ≡ true → (a ≡ true) × (b ≡ true)
-split true b h = (refl, h)
-split false b h = absurd (false≢true h)
-
-both : (a b : Bool) → a ≡ true → b ≡ true → (a && b) ≡ true
-both true b h e = e
-both false b h e = absurd (false≢true h)
-
 last_or_less : (m n : ℕ) → m ≤ suc n → (m ≡ suc n) ⊎ (m ≤ n)
 last_or_less m n h = grind arith
 
 each_upto : (set : List (ℕ × ℕ)) (t n : ℕ) → has_upto set t n ≡ true → (m : ℕ) → 1 ≤ m → m ≤ n → IsTrue (has set t m)
 each_upto set t zero h m low high = absurd (let none : ⊥ = omega arith in none)
 each_upto set t (suc n) h m low high =
-    let parts = split (has set t (suc n)) (has_upto set t n) h in
+    let parts = and_parts (has set t (suc n)) (has_upto set t n) h in
     elim (last_or_less m n high) [
       | inl e ↦ subst (λ k. IsTrue (has set t k)) (sym e) parts.0
       | inr le ↦ each_upto set t n parts.1 m low le
@@ -43,7 +37,7 @@ each_upto set t (suc n) h m low high =
 
 all_upto : (set : List (ℕ × ℕ)) (t n : ℕ) → ((m : ℕ) → 1 ≤ m → m ≤ n → IsTrue (has set t m)) → has_upto set t n ≡ true
 all_upto set t zero h = refl
-all_upto set t (suc n) h = both (has set t (suc n)) (has_upto set t n) (h (suc n) (omega arith) (omega arith)) (all_upto set t n (λ m low high. h m low (omega arith)))
+all_upto set t (suc n) h = both_true {s = has set t (suc n)} {t = has_upto set t n} (h (suc n) (omega arith) (omega arith)) (all_upto set t n (λ m low high. h m low (omega arith)))
 
 found : (b : Bool) (n k : ℕ) (P : ℕ → Type 0) → (b ≡ true → P n) → P k → P (if b then n else k)
 found true n k P h p = h refl
@@ -87,7 +81,7 @@ at_most_top [] t m h = absurd (false≢true h)
 at_most_top (p ∷ ps) t m h =
     elim (here_or_later ((p.0 == t) && (p.1 == m)) (has ps t m) h) [
       | inl here ↦
-          let number : p.1 ≡ m = same_number p.1 m (split (p.0 == t) (p.1 == m) here).1 in
+          let number : p.1 ≡ m = same_number p.1 m (and_parts (p.0 == t) (p.1 == m) here).1 in
           max_left p.1 (top ps) m (omega (arith, number))
       | inr later ↦ max_right p.1 (top ps) m (at_most_top ps t m later)
     ]

@@ -1,22 +1,25 @@
 -- Views and the runs that they are of.
-use Rattle.std.proofs.Common.{ℕ, suc, zero, ◌+◌, ◌-◌, ◌<◌, ◌≤◌, ◌≡◌, ◌==◌, ◌⊎◌, cond, Bool, true, false, IsTrue, ◌↔◌, List, [], ◌∷◌, ◌++◌, ◌||◌, ◌&&◌, length, take, drop, Option, Some, None, refl, sym, ap, ◌∙◌, subst, arith}
+use Rattle.std.proofs.Common.{ℕ, suc, zero, ◌+◌, ◌-◌, ◌<◌, ◌≤◌, ◌≡◌, ◌==◌, ◌⊎◌, cond, Bool, true, false, IsTrue, ◌↔◌, List, [], ◌∷◌, ◌++◌, ◌||◌, ◌&&◌, length, take, Option, Some, None, refl, sym, ap, ◌∙◌, arith, inl, inr}
 use Rattle.std.specs.List.{slice_get}
 use Rattle.std.specs.Bool.{Decides}
 use Rattle.std.specs.Ordering.{nat_cmp}
 use Rattle.std.specs.FinMap as map
 use Rattle.std.proofs.lemmas.Bool.Decides.{nat_tests}
+use Rattle.std.proofs.lemmas.Bool.{false≢true}
 use Rattle.pc_messages.specs.State.{state_of}
-use Rattle.pc_thread_view.specs.Inner.ToldLaws.{same_kind, written_some, lacks_next}
+use Rattle.pc_thread_view.specs.Inner.ToldLaws.{lacks_next}
+use Rattle.pc_thread_view.specs.Histories.{IsOfHistory}
+use Rattle.pc_thread_view.proofs.Histories.{of_history, prefix_from, to_history}
 use Rattle.pc_messages.specs.declared.kind.Kind.{Kind}
 use Rattle.pc_messages.specs.declared.reported.Reported.{Reported}
 use Rattle.pc_messages.specs.Run.{Run, Extends, kind_at}
 use Rattle.pc_join.specs.Sets.{Source, IsVoid, source_at, members_at}
 use Rattle.pc_join.proofs.Puts.{or_none}
 use Rattle.pc_join.specs.ByName.{members_by_name, known_in, IsOfByName}
-use Rattle.pc_thread_view.specs.Told.{Told, IsOfThread, IsPrefix, HasKinds, numbers_of, is_early, written}
+use Rattle.pc_thread_view.specs.Told.{Told, IsOfThread, TellsSome, numbers_of, is_early, tells}
 use Rattle.pc_join.specs.Ranges.{one_to}
 use Rattle.pc_view.specs.declared.view.View.{View}
-use Rattle.pc_view.specs.Views.{source_of, written_at, IsOfRun, thread_of, pairs_of, prefix_pairs}
+use Rattle.pc_view.specs.Views.{source_of, IsOfRun, IsPrefixOfRun, TellsOfRun, thread_of, pairs_of, prefix_pairs}
 
 -- a run that goes on gives what it gave
 got_append : {A : Type 0} (xs ys : List A) (i : ℕ) → ¬ (slice_get xs i ≡ None) → slice_get (xs ++ ys) i ≡ slice_get xs i
@@ -31,17 +34,17 @@ kind_on xs ys n h = by_test (n == 0) h
     by_test true h = refl
     by_test false h = got_append xs ys (n - 1) h
 
-pub goes_on : (longer shorter : Run) → Extends longer shorter → (m : List ℕ) → ¬ (source_of shorter m ≡ []) → source_of longer m ≡ source_of shorter m
+pub goes_on : (longer shorter : Run) → Extends longer shorter → (m : List ℕ) → ¬ (source_of shorter m ≡ None) → source_of longer m ≡ source_of shorter m
 goes_on longer shorter extends [] h = refl
 goes_on longer shorter extends (t ∷ []) h = refl
 goes_on longer shorter extends (t ∷ n ∷ []) h =
     let more = extends t in
-    ap (λ kinds. written_at (kind_at kinds n)) more.1 ∙ ap written_at (kind_on (shorter t) more.0 n (λ e. h (ap written_at e)))
+    ap (λ kinds. kind_at kinds n) more.1 ∙ kind_on (shorter t) more.0 n h
 goes_on longer shorter extends (t ∷ n ∷ k ∷ m) h = refl
 
 -- a folded prefix
-pub folded_of : (s : Source) (upto : ℕ) (reported : Reported) → IsPrefix s upto (Some reported) → IsOfThread (record { upto = upto; state = Some reported; early = [] }) s
-folded_of s upto reported p = record { prefix = p; gap = tt; early = tt }
+pub folded_of : (run : Run) (thread upto : ℕ) (reported : Reported) → IsPrefixOfRun run thread upto (Some reported) → IsOfThread (record { upto = upto; state = Some reported; early = [] }) (source_at (source_of run) thread)
+folded_of run thread upto reported p = record { prefix = prefix_from (run thread) upto (Some reported) p.0 p.1; gap = tt; early = tt }
 
 -- a folded prefix tells its numbers alone
 pub folded_members : (thread upto : ℕ) (reported : Reported) (m : List ℕ) → members_at thread (numbers_of (record { upto = upto; state = Some reported; early = [] })) m ≡ prefix_pairs thread upto m
@@ -71,48 +74,15 @@ pub same_threads : (a b : View) (r : Bool) → IsTrue r ↔ (a.threads ≡ b.thr
 same_threads a b r h = (λ t. let e = h.0 t in λ i. record { threads = e i }, λ e. h.1 (ap (λ v. v.threads) e))
 
 -- what a view of a run tells of a thread
-pub nothing_written : (o : Option Kind) (kind : Kind) → written_at o ≡ written kind → o ≡ Some kind
-nothing_written None kind e = absurd (written_some kind (sym e))
-nothing_written (Some k) kind e = ap (λ x. Some x) (same_kind k kind e)
-
-dropped : {A : Type 0} (xs : List A) (i : ℕ) (x : A) → slice_get xs i ≡ Some x → drop i xs ≡ x ∷ drop (suc i) xs
-dropped [] i x e = cc
-dropped (y ∷ ys) zero x e = let h : y ≡ x = cc in λ i. h i ∷ ys
-dropped (y ∷ ys) (suc i) x e = dropped ys i x e
-
-pub kind_after : (kinds : List Kind) (n : ℕ) → kind_at kinds (n + 1) ≡ slice_get kinds n
-kind_after kinds n = ap (λ b. cond b None (slice_get kinds (n + 1 - 1))) (not_zero n) ∙ ap (slice_get kinds) (back n)
-  where
-    not_zero : (n : ℕ) → (n + 1 == 0) ≡ false
-    not_zero n = grind (arith, nat_tests)
-
-    back : (n : ℕ) → n + 1 - 1 ≡ n
-    back n = omega arith
-
-prefix_kinds : (run : Run) (t n : ℕ) (kinds : List Kind) → HasKinds (source_at (source_of run) t) n kinds → (take (length kinds) (drop n (run t)) ≡ kinds) × (length kinds ≤ length (drop n (run t)))
-prefix_kinds run t n [] h = (refl, omega arith)
-prefix_kinds run t n (k ∷ ks) h =
-    let got : slice_get (run t) n ≡ Some k = sym (kind_after (run t) n) ∙ nothing_written (kind_at (run t) (n + 1)) k h.0 in
-    let cut : drop n (run t) ≡ k ∷ drop (n + 1) (run t) = dropped (run t) n k got ∙ ap (λ m. k ∷ drop m (run t)) (one n) in
-    let rest = prefix_kinds run t (n + 1) ks h.1 in
-    (ap (take (suc (length ks))) cut ∙ ap (λ xs. k ∷ xs) rest.0, subst (λ xs. suc (length ks) ≤ length xs) (sym cut) (let le = rest.1 in omega arith))
-  where
-    one : (n : ℕ) → suc n ≡ n + 1
-    one n = omega arith
-
 module _ (run : Run) (view : View) (thread : ℕ) (told : Told) (of_run : IsOfRun run view) (there : thread_of view thread ≡ Some told) where
-  prefix : IsPrefix (source_at (source_of run) thread) told.upto told.state
-  prefix = (of_run.each thread told there).prefix
+  pub history_of_run : IsOfHistory (run thread) told
+  history_of_run = to_history (run thread) told (of_run.each thread told there)
 
   pub state_of_run : told.state ≡ state_of (take told.upto (run thread))
-  state_of_run =
-      let p = prefix_kinds run thread 0 prefix.kinds prefix.of_source in
-      prefix.folded ∙ ap state_of (sym p.0 ∙ ap (λ n. take n (run thread)) prefix.count)
+  state_of_run = history_of_run.prefix.state
 
   pub within_run : told.upto ≤ length (run thread)
-  within_run =
-      let p = prefix_kinds run thread 0 prefix.kinds prefix.of_source in
-      subst (λ n. n ≤ length (run thread)) prefix.count p.1
+  within_run = history_of_run.prefix.within
 
   pub missing_next : pairs_of view (thread ∷ (told.upto + 1) ∷ []) ≡ false
   missing_next = ap (λ o. known_in numbers_of o ((told.upto + 1) ∷ [])) there ∙ lacks_next told (of_run.each thread told there).gap
@@ -122,3 +92,46 @@ has_prefix view thread n told there h e = ap (λ o. known_in numbers_of o (n ∷
   where
     yes : (u n : ℕ) → 1 ≤ n → n ≤ u → one_to u n ≡ true
     yes u n h e = grind (arith, nat_tests)
+
+-- of a run, in plain words
+void_none : (told : Told) → ((n : ℕ) → tells told n ≡ false) → IsVoid (numbers_of told)
+void_none told none [] = refl
+void_none told none (n ∷ []) = none n
+void_none told none (n ∷ k ∷ m) = refl
+
+first_early : (told : Told) (early : List (ℕ × Kind)) → told.early ≡ early → told.upto ≡ 0 → ¬ IsVoid (numbers_of told) → TellsSome told
+first_early told [] e low some = absurd (some (void_none told (λ n. ap (λ u. one_to u n || is_early told.early n) low ∙ ap (λ es. one_to 0 n || is_early es n) e ∙ or_false n)))
+  where
+    or_false : (n : ℕ) → (one_to 0 n || false) ≡ false
+    or_false n = grind (arith, nat_tests)
+first_early told (d ∷ ds) e low some = (d.0, ap (λ es. one_to told.upto d.0 || is_early es d.0) e ∙ here (one_to told.upto d.0) (d.0 == d.0) (is_early ds d.0) (itself d.0))
+  where
+    here : (a b c : Bool) → b ≡ true → (a || (b || c)) ≡ true
+    here true b c h = refl
+    here false true c h = refl
+    here false false c h = absurd (false≢true h)
+
+    itself : (n : ℕ) → (n == n) ≡ true
+    itself n = grind (arith, nat_tests)
+
+tells_some : (told : Told) → ¬ IsVoid (numbers_of told) → TellsSome told
+tells_some told some = by_upto (cases 0 told.upto)
+  where
+    by_upto : (0 < told.upto) ⊎ (told.upto ≤ 0) → TellsSome told
+    by_upto (inl prefix) = (1, yes told.upto (is_early told.early 1) prefix)
+      where
+        yes : (u : ℕ) (b : Bool) → 0 < u → (one_to u 1 || b) ≡ true
+        yes u b h = ap (λ a. a || b) (one_in u h)
+          where
+            one_in : (u : ℕ) → 0 < u → one_to u 1 ≡ true
+            one_in u h = grind (arith, nat_tests)
+    by_upto (inr empty) = first_early told told.early refl (omega arith) some
+
+not_void : (told : Told) → TellsSome told → ¬ IsVoid (numbers_of told)
+not_void told some void = false≢true (sym (void (some.0 ∷ [])) ∙ some.1)
+
+pub in_plain_words : (run : Run) (view : View) → IsOfRun run view ↔ TellsOfRun run view
+in_plain_words run view = (
+  λ of_run t told there. record { history = history_of_run run view t told of_run there; gap = (of_run.each t told there).gap; some = tells_some told (of_run.kept t told there) },
+  λ plain. record { kept = λ t told there. not_void told (plain t told there).some; each = λ t told there. of_history (run t) told (plain t told there).history (plain t told there).gap },
+)

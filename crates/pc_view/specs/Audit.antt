@@ -1,21 +1,12 @@
 -- Where a view departs from a kernel's histories.
-use Rattle.std.specs.Prelude.{ℕ, ◌+◌, ◌<◌, ◌≤◌, ◌≡◌, ◌⊎◌, IsTrue, List, ◌∷◌, ◌++◌, length, take, Some, All}
+use Rattle.std.specs.Prelude.{ℕ, ◌+◌, ◌<◌, ◌≤◌, ◌≡◌, ◌⊎◌, IsTrue, List, ◌∷◌, ◌++◌, length, take, All}
 use Rattle.pc_messages.specs.declared.kind.Kind.{Kind}
-use Rattle.pc_messages.specs.Run.{kind_at}
 use Rattle.pc_messages.specs.State.{state_of}
 use Rattle.pc_thread_view.specs.Told.{Told}
+use Rattle.pc_thread_view.specs.Histories.{Has, IsPrefixOf}
 use Rattle.pc_kernel.specs.Reads.{Reads, is_known, number}
 use Rattle.pc_view.specs.declared.view.View.{View}
 use Rattle.pc_view.specs.Prefixes.{upto_of}
-
--- the history has this message
-abbrev pub Has : List Kind → ℕ × Kind → Type 0
-Has kinds message = kind_at kinds message.0 ≡ Some message.1
-
--- what is told as a prefix is one of the history, with the state that it reports
-pub record IsPrefixOf (kinds : List Kind) (told : Told) : Type 0 where
-  pub within : told.upto ≤ length kinds
-  pub state : told.state ≡ state_of (take told.upto kinds)
 
 -- the number is that of the first early message that the history has not, or has otherwise
 pub record IsFirstOther (kinds : List Kind) (early : List (ℕ × Kind)) (number : ℕ) : Type 0 where
@@ -39,11 +30,6 @@ IsOtherState kinds told number = (told.upto ≤ length kinds) × (¬ (told.state
 abbrev pub Departs : List Kind → Told → ℕ → Type 0
 Departs kinds told number =
     IsPast kinds told number ⊎ (IsOtherState kinds told number ⊎ (IsPrefixOf kinds told × IsFirstOther kinds told.early number))
-
--- all that is told of a thread is of its history
-pub record IsOfHistory (kinds : List Kind) (told : Told) : Type 0 where
-  pub prefix : IsPrefixOf kinds told
-  pub early : All (Has kinds) told.early
 
 -- the kernel knows the thread, and the view all its messages so far
 pub record IsComplete (view : View) (reads : Reads) (thread : ℕ) : Type 0 where

@@ -1,12 +1,13 @@
 -- Views of many threads, and the runs that they are of.
-use Rattle.std.specs.Prelude.{ℕ, ◌&&◌, nat_le, Bool, false, List, [], ◌∷◌, length, Option, Some, None}
+use Rattle.std.specs.Prelude.{ℕ, ◌&&◌, ◌≤◌, ◌≡◌, nat_le, Bool, false, [], ◌∷◌, length, take, Option, Some, None}
 use Rattle.std.specs.FinMap as map
-use Rattle.pc_messages.specs.declared.kind.Kind.{Kind}
 use Rattle.pc_messages.specs.declared.reported.Reported.{Reported}
-use Rattle.pc_messages.specs.Run.{Run, kind_at}
-use Rattle.pc_join.specs.Sets.{Members, Source, members_at, source_at}
+use Rattle.pc_messages.specs.Run.{Run}
+use Rattle.pc_messages.specs.State.{state_of}
+use Rattle.pc_join.specs.Sets.{Members, Source, members_at}
 use Rattle.pc_join.specs.ByName.{members_by_name, IsOfByName, is_same_by_name}
-use Rattle.pc_thread_view.specs.Told.{Told, IsOfThread, IsPrefix, numbers_of, only, written}
+use Rattle.pc_thread_view.specs.Told.{Told, IsOfThread, numbers_of, only}
+use Rattle.pc_thread_view.specs.Histories.{IsToldOf, source_of_kinds}
 use Rattle.pc_join.specs.Ranges.{numbers_to}
 use Rattle.pc_thread_view.specs.Same.{is_same_told}
 use Rattle.pc_view.specs.declared.view.View.{View}
@@ -27,17 +28,10 @@ pair thread number = members_at thread (only number)
 abbrev pub prefix_pairs : ℕ → ℕ → Members
 prefix_pairs thread upto = members_at thread (numbers_to upto)
 
--- a kind as numbers, where there is one
-abbrev pub written_at : Option Kind → List ℕ
-written_at None = []
-written_at (Some kind) = written kind
-
 -- the kind of each message of the run
 abbrev pub source_of : Run → Source
-source_of run [] = []
-source_of run (t ∷ []) = []
-source_of run (t ∷ n ∷ []) = written_at (kind_at (run t) n)
-source_of run (t ∷ n ∷ k ∷ m) = []
+source_of run [] = None
+source_of run (t ∷ m) = source_of_kinds (run t) m
 
 -- the messages of the run, as pairs of a thread's name and a number
 abbrev pub pairs_in : Run → Members
@@ -54,9 +48,13 @@ IsOfSource view s = IsOfByName numbers_of IsOfThread view.threads s
 abbrev pub IsOfRun : Run → View → Type 0
 IsOfRun run view = IsOfSource view (source_of run)
 
--- the state is that of the run's first messages of the thread
+-- the same in plain words: of each thread, what is told is of its history in the run
+abbrev pub TellsOfRun : Run → View → Type 0
+TellsOfRun run view = (t : ℕ) (told : Told) → thread_of view t ≡ Some told → IsToldOf (run t) told
+
+-- the run has so many messages of the thread, and this is the state that they report
 abbrev pub IsPrefixOfRun : Run → ℕ → ℕ → Option Reported → Type 0
-IsPrefixOfRun run thread upto state = IsPrefix (source_at (source_of run) thread) upto state
+IsPrefixOfRun run thread upto state = (upto ≤ length (run thread)) × (state ≡ state_of (take upto (run thread)))
 
 -- the same is known under the same names
 abbrev pub is_same_view : View → View → Bool

@@ -9,7 +9,8 @@ ghost use Rattle.pc_kernel.specs.Reads.{seen, kinds, reported_of};
 ghost use Rattle.pc_kernel.specs.Sound.{IsSound};
 ghost use Rattle.pc_thread_view.specs.Told.{Told, IsView};
 ghost use Rattle.pc_view.specs.Views.{IsOfRun, source_of, thread_of};
-ghost use Rattle.pc_view.specs.Audit.{Departs, Has, IsComplete, IsFirstOther, IsOfHistory, IsPrefixOf};
+ghost use Rattle.pc_thread_view.specs.Histories.{Has, IsOfHistory, IsPrefixOf};
+ghost use Rattle.pc_view.specs.Audit.{Departs, IsComplete, IsFirstOther};
 
 use crate::view::View;
 use pc_kernel::Kernel;

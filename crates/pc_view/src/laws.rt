@@ -6,9 +6,9 @@ ghost use Rattle.pc_messages.specs.Run.{Run, Extends};
 ghost use Rattle.pc_join.specs.Sets.{IsSameSet, IsWithin, as_members, has};
 ghost use Rattle.pc_thread_view.specs.Told.{Told};
 ghost use Rattle.pc_view.specs.declared.view.View.{View};
-ghost use Rattle.pc_view.specs.Views.{is_same_view, pairs_in, pairs_of, thread_of, IsOfRun};
+ghost use Rattle.pc_view.specs.Views.{is_same_view, pairs_in, pairs_of, thread_of, IsOfRun, TellsOfRun};
 ghost use Rattle.pc_view.specs.Prefixes.{upto, upto_of, reported_in, reports};
-ghost use Rattle.pc_view.specs.Audit.{Has};
+ghost use Rattle.pc_thread_view.specs.Histories.{Has};
 
 /// Two views are equal exactly where the same is known.
 pub fn equality_is_exact()
@@ -61,4 +61,9 @@ pub fn sets_are_those_of_the_run()
     ensures within { (run : Run) (view : View) → IsOfRun run view → IsWithin (pairs_of view) (pairs_in run) }
     ensures prefix { (view : View) (t n : ℕ) → 1 ≤ n → n ≤ upto_of view t → pairs_of view (t ∷ n ∷ []) ≡ true }
     ensures next { (run : Run) (view : View) (t : ℕ) → IsOfRun run view → pairs_of view (t ∷ (upto_of view t + 1) ∷ []) ≡ false }
+{}
+
+/// A view is of a run exactly where what it tells of each thread is of the thread's history in the run.
+pub fn of_a_run_in_plain_words()
+    ensures { (run : Run) (view : View) → IsOfRun run view ↔ TellsOfRun run view }
 {}

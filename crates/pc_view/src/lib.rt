@@ -12,8 +12,8 @@ mod view;
 
 pub use auditing::{Stranger, audit, complete};
 pub use laws::{
-    equality_is_exact, reads_are_those_of_the_run, sets_are_those_of_the_run, upto_is_the_greatest,
-    views_of_the_same_messages_are_equal, views_stay_as_the_run_goes_on,
-    views_tell_what_their_sets_tell,
+    equality_is_exact, of_a_run_in_plain_words, reads_are_those_of_the_run,
+    sets_are_those_of_the_run, upto_is_the_greatest, views_of_the_same_messages_are_equal,
+    views_stay_as_the_run_goes_on, views_tell_what_their_sets_tell,
 };
 pub use view::View;

@@ -1,17 +1,44 @@
 -- The test of what is told decides that it is equal.
-use Rattle.std.specs.Prelude.{ℕ, ◌≡◌, ◌==◌, true, false, List, [], ◌∷◌, Option, Some, None, refl}
+use Rattle.std.specs.Prelude.{ℕ, ◌≡◌, ◌==◌, true, false, List, [], ◌∷◌, Option, Some, None, refl, cond}
 use Rattle.std.proofs.Common.{sym, ap, ◌∙◌}
 use Rattle.std.specs.Bool.{Decides}
 use Rattle.std.specs.Cmp.{IsEquivalence, IsPartialEquivalence, decided, partial_equiv_from_equiv}
 use Rattle.std.specs.Cmp.Lexicographic.{pointwise_decides}
 use Rattle.pc_join.specs.Inner.Equal.{number_Decides, pair_Decides}
 use Rattle.pc_messages.specs.declared.kind.Kind.{Kind}
+use Rattle.pc_messages.specs.declared.kind.Kind.TheVariants.{Created, Blocked, Preempted, Yield, Dead, Wakeup, Affinity, Priority}
 use Rattle.pc_messages.specs.declared.reported.Phase.{Phase}
 use Rattle.pc_messages.specs.declared.reported.Phase.TheVariants as phase
 use Rattle.pc_messages.specs.declared.reported.Reported.{Reported}
-use Rattle.pc_thread_view.specs.Told.{Told, written}
-use Rattle.pc_thread_view.specs.Same.{is_same_early, is_same_told, phase_number, same_numbers, state_numbers}
-use Rattle.pc_thread_view.specs.Inner.ToldLaws.{same_kind}
+use Rattle.pc_thread_view.specs.Told.{Told}
+use Rattle.pc_thread_view.specs.Same.{written, is_same_early, is_same_told, phase_number, same_numbers, state_numbers}
+
+-- a kind read back from its numbers
+read : List ℕ → Kind
+read [] = Wakeup
+read (tag ∷ []) = Wakeup
+read (tag ∷ n ∷ []) = by_tag tag n
+  where
+    by_tag : ℕ → ℕ → Kind
+    by_tag tag n =
+        cond (tag == 1) (Blocked n) (cond (tag == 2) (Preempted n) (cond (tag == 3) (Yield n) (cond (tag == 4) (Dead n) (cond (tag == 6) (Affinity n) (Priority n)))))
+read (tag ∷ mask ∷ ready ∷ rest) = Created mask (ready == 1)
+
+read_written : (kind : Kind) → read (written kind) ≡ kind
+unfolding read
+read_written (Created mask true) = refl
+read_written (Created mask false) = refl
+read_written (Blocked ran) = refl
+read_written (Preempted ran) = refl
+read_written (Yield ran) = refl
+read_written (Dead ran) = refl
+read_written Wakeup = refl
+read_written (Affinity mask) = refl
+read_written (Priority level) = refl
+
+-- the numbers tell the kind
+same_kind : (a b : Kind) → written a ≡ written b → a ≡ b
+same_kind a b e = sym (read_written a) ∙ ap read e ∙ read_written b
 
 numbers_Decide : (xs ys : List ℕ) → Decides (same_numbers xs ys) (xs ≡ ys)
 numbers_Decide = pointwise_decides number_Decides

@@ -1,16 +1,16 @@
 -- How a thread view takes messages in: one at its end, one at its place, and while a prefix grows.
-use Rattle.std.specs.Prelude.{ℕ, ◌<◌, ◌≤◌, ◌≡◌, ◌==◌, ◌||◌, Bool, true, false, List, [], ◌∷◌, length, take, drop}
+use Rattle.std.specs.Prelude.{ℕ, ◌<◌, ◌≤◌, ◌≡◌, ◌==◌, ◌||◌, Bool, true, false, List, [], ◌∷◌, length, take, drop, Some}
 use Rattle.pc_messages.specs.declared.message.TheConstants.{GREATEST_NUMBER}
 use Rattle.pc_messages.specs.declared.kind.Kind.{Kind}
 use Rattle.pc_join.specs.Sets.{Source}
 use Rattle.pc_join.specs.Ranges.{one_to}
-use Rattle.pc_thread_view.specs.Told.{Told, AreLater, HasEach, IsOfThread, IsPrefix, IsSound, IsStateOfSome, RiseAbove, is_early, tells, written}
+use Rattle.pc_thread_view.specs.Told.{Told, AreLater, HasEach, IsOfThread, IsPrefix, IsSound, IsStateOfSome, RiseAbove, is_early, tells}
 
 -- one more message was taken in
 pub record Gains (old : Told) (number : ℕ) (kind : Kind) (new : Told) : Type 0 where
   pub sound : IsSound new
   pub union : (n : ℕ) → tells new n ≡ (tells old n || (n == number))
-  pub of_source : (s : Source) → IsOfThread old s → s (number ∷ []) ≡ written kind → IsOfThread new s
+  pub of_source : (s : Source) → IsOfThread old s → s (number ∷ []) ≡ Some kind → IsOfThread new s
 
 -- no early message has a number above n
 abbrev pub NoneAbove : ℕ → List (ℕ × Kind) → Type 0

@@ -1,51 +1,19 @@
 -- The laws of a join, of what is told of one thread.
-use Rattle.std.specs.Prelude.{ℕ, ◌+◌, ◌<◌, ◌≤◌, ◌≡◌, ◌==◌, ◌⊎◌, ◌||◌, cond, Bool, true, false, List, [], ◌∷◌, length, refl}
+use Rattle.std.specs.Prelude.{ℕ, ◌+◌, ◌<◌, ◌≤◌, ◌≡◌, ◌==◌, ◌⊎◌, ◌||◌, Bool, true, false, List, [], ◌∷◌, length, refl, Some, Option, None}
 use Rattle.std.proofs.Common.{sym, ap, subst, ◌∙◌, arith, inl, inr}
 use Rattle.std.proofs.lemmas.Bool.{false≢true}
 use Rattle.std.proofs.lemmas.Bool.Decides.{nat_tests}
 use Rattle.pc_messages.specs.declared.kind.Kind.{Kind}
-use Rattle.pc_messages.specs.declared.kind.Kind.TheVariants.{Created, Blocked, Preempted, Yield, Dead, Wakeup, Affinity, Priority}
 use Rattle.pc_messages.specs.State.{state_of}
 use Rattle.pc_join.specs.Sets.{Source, IsSameSet, AgreesOn}
-use Rattle.pc_thread_view.specs.Told.{Told, IsOfThread, HasKinds, HasEach, RiseAbove, numbers_of, tells, is_early, written}
+use Rattle.pc_thread_view.specs.Told.{Told, IsOfThread, HasKinds, HasEach, RiseAbove, numbers_of, tells, is_early}
 use Rattle.pc_join.specs.Ranges.{one_to}
 
--- a kind read back from its numbers
-read : List ℕ → Kind
-read [] = Wakeup
-read (tag ∷ []) = Wakeup
-read (tag ∷ n ∷ []) = by_tag tag n
-  where
-    by_tag : ℕ → ℕ → Kind
-    by_tag tag n =
-        cond (tag == 1) (Blocked n) (cond (tag == 2) (Preempted n) (cond (tag == 3) (Yield n) (cond (tag == 4) (Dead n) (cond (tag == 6) (Affinity n) (Priority n)))))
-read (tag ∷ mask ∷ ready ∷ rest) = Created mask (ready == 1)
+some_inside : {a b : Kind} → ◌≡◌ {A = Option Kind} (Some a) (Some b) → a ≡ b
+some_inside e = cc
 
-read_written : (kind : Kind) → read (written kind) ≡ kind
-unfolding read
-read_written (Created mask true) = refl
-read_written (Created mask false) = refl
-read_written (Blocked ran) = refl
-read_written (Preempted ran) = refl
-read_written (Yield ran) = refl
-read_written (Dead ran) = refl
-read_written Wakeup = refl
-read_written (Affinity mask) = refl
-read_written (Priority level) = refl
-
--- the numbers tell the kind
-pub same_kind : (a b : Kind) → written a ≡ written b → a ≡ b
-same_kind a b e = sym (read_written a) ∙ ap read e ∙ read_written b
-
-pub written_some : (a : Kind) → ¬ (written a ≡ [])
-written_some (Created mask ready) e = cc
-written_some (Blocked ran) e = cc
-written_some (Preempted ran) e = cc
-written_some (Yield ran) e = cc
-written_some (Dead ran) e = cc
-written_some Wakeup e = cc
-written_some (Affinity mask) e = cc
-written_some (Priority level) e = cc
+some_not_none : {a : Kind} → ¬ (◌≡◌ {A = Option Kind} (Some a) None)
+some_not_none e = cc
 
 -- no message is told at or below where the early ones rise from
 pub lacks_below : (n : ℕ) (early : List (ℕ × Kind)) (m : ℕ) → RiseAbove n early → m ≤ n → is_early early m ≡ false
@@ -82,7 +50,7 @@ same_kinds s n [] [] e h g = refl
 same_kinds s n [] (j ∷ js) e h g = absurd (omega arith)
 same_kinds s n (k ∷ ks) [] e h g = absurd (omega arith)
 same_kinds s n (k ∷ ks) (j ∷ js) e h g =
-    let one : k ≡ j = same_kind k j (sym h.0 ∙ g.0) in
+    let one : k ≡ j = some_inside (sym h.0 ∙ g.0) in
     let rest : ks ≡ js = same_kinds s (n + 1) ks js (omega arith) h.1 g.1 in
     λ i. one i ∷ rest i
 
@@ -93,14 +61,16 @@ here d ds = ap (λ b. b || is_early ds d.0) (itself d.0)
     itself : (n : ℕ) → (n == n) ≡ true
     itself n = grind (arith, nat_tests)
 
-first_least : (n : ℕ) (d e : ℕ × Kind) (ds es : List (ℕ × Kind)) → RiseAbove n (d ∷ ds) → RiseAbove n (e ∷ es) → ((m : ℕ) → is_early (d ∷ ds) m ≡ is_early (e ∷ es) m) → e.0 ≤ d.0
+first_least : (n : ℕ) (d e : ℕ × Kind) (ds es : List (ℕ × Kind)) → RiseAbove n (d ∷ ds) → RiseAbove n (e ∷ es)
+    → ((m : ℕ) → is_early (d ∷ ds) m ≡ is_early (e ∷ es) m) → e.0 ≤ d.0
 first_least n d e ds es h g same =
     elim (order_of d.0 e.0) [
       | inl lt ↦ absurd (false≢true (sym (lacks_below d.0 (e ∷ es) d.0 (lt, g.1) (omega arith)) ∙ sym (same d.0) ∙ here d ds))
       | inr le ↦ le
     ]
 
-same_rest : (d : ℕ × Kind) (ds es : List (ℕ × Kind)) (k : Kind) (m : ℕ) → RiseAbove d.0 ds → RiseAbove d.0 es → is_early (d ∷ ds) m ≡ is_early ((d.0, k) ∷ es) m → is_early ds m ≡ is_early es m
+same_rest : (d : ℕ × Kind) (ds es : List (ℕ × Kind)) (k : Kind) (m : ℕ) → RiseAbove d.0 ds → RiseAbove d.0 es
+    → is_early (d ∷ ds) m ≡ is_early ((d.0, k) ∷ es) m → is_early ds m ≡ is_early es m
 same_rest d ds es k m h g e =
     elim (order_of d.0 m) [
       | inl lt ↦ sym (ap (λ b. b || is_early ds m) (apart d.0 m lt)) ∙ e ∙ ap (λ b. b || is_early es m) (apart d.0 m lt)
@@ -113,20 +83,22 @@ same_rest d ds es k m h g e =
 le_both : (a b : ℕ) → a ≤ b → b ≤ a → a ≡ b
 le_both a b h e = omega arith
 
-same_early : (s : Source) (n : ℕ) (ds es : List (ℕ × Kind)) → RiseAbove n ds → RiseAbove n es → HasEach s ds → HasEach s es → ((m : ℕ) → is_early ds m ≡ is_early es m) → ds ≡ es
+same_early : (s : Source) (n : ℕ) (ds es : List (ℕ × Kind)) → RiseAbove n ds → RiseAbove n es → HasEach s ds → HasEach s es
+    → ((m : ℕ) → is_early ds m ≡ is_early es m) → ds ≡ es
 same_early s n [] [] h g a b same = refl
 same_early s n [] (e ∷ es) h g a b same = absurd (false≢true (same e.0 ∙ here e es))
 same_early s n (d ∷ ds) [] h g a b same = absurd (false≢true (sym (same d.0) ∙ here d ds))
 same_early s n (d ∷ ds) (e ∷ es) h g a b same =
     let number : d.0 ≡ e.0 = le_both d.0 e.0 (first_least n e d es ds g h (λ m. sym (same m))) (first_least n d e ds es h g same) in
-    let kind : d.1 ≡ e.1 = same_kind d.1 e.1 (sym a.0 ∙ ap (λ m. s (m ∷ [])) number ∙ b.0) in
+    let kind : d.1 ≡ e.1 = some_inside (sym a.0 ∙ ap (λ m. s (m ∷ [])) number ∙ b.0) in
     let first : d ≡ e = λ i. (number i, kind i) in
     let rise : RiseAbove d.0 es = subst (λ m. RiseAbove m es) (sym number) g.1 in
     let on : (m : ℕ) → is_early (d ∷ ds) m ≡ is_early ((d.0, e.1) ∷ es) m = λ m. same m ∙ ap (λ k. (k == m) || is_early es m) (sym number) in
     let rest : ds ≡ es = same_early s d.0 ds es h.1 rise a.1 b.1 (λ m. same_rest d ds es e.1 m h.1 rise (on m)) in
     λ i. first i ∷ rest i
 
-early_of : (upto : ℕ) (ds es : List (ℕ × Kind)) (m : ℕ) → RiseAbove (upto + 1) ds → RiseAbove (upto + 1) es → (one_to upto m || is_early ds m) ≡ (one_to upto m || is_early es m) → is_early ds m ≡ is_early es m
+early_of : (upto : ℕ) (ds es : List (ℕ × Kind)) (m : ℕ) → RiseAbove (upto + 1) ds → RiseAbove (upto + 1) es
+    → (one_to upto m || is_early ds m) ≡ (one_to upto m || is_early es m) → is_early ds m ≡ is_early es m
 early_of upto ds es m h g e =
     elim (order_of upto m) [
       | inl lt ↦ sym (ap (λ b. b || is_early ds m) (prefix_no upto m lt)) ∙ e ∙ ap (λ b. b || is_early es m) (prefix_no upto m lt)
@@ -144,17 +116,19 @@ unique_told s a b of_a of_b same =
     λ i. record { upto = upto i; state = state i; early = early i }
 
 -- of a source that gives the same at the members
-kinds_stay : (s t : Source) (n upto : ℕ) (kinds : List Kind) → n + length kinds ≤ upto → ((m : ℕ) → 1 ≤ m → m ≤ upto → ¬ (s (m ∷ []) ≡ []) → t (m ∷ []) ≡ s (m ∷ [])) → HasKinds s n kinds → HasKinds t n kinds
+kinds_stay : (s t : Source) (n upto : ℕ) (kinds : List Kind) → n + length kinds ≤ upto
+    → ((m : ℕ) → 1 ≤ m → m ≤ upto → ¬ (s (m ∷ []) ≡ None) → t (m ∷ []) ≡ s (m ∷ [])) → HasKinds s n kinds → HasKinds t n kinds
 kinds_stay s t n upto [] h agrees g = tt
 kinds_stay s t n upto (k ∷ ks) h agrees g = (
-  agrees (n + 1) (omega arith) (omega arith) (λ e. written_some k (sym g.0 ∙ e)) ∙ g.0,
+  agrees (n + 1) (omega arith) (omega arith) (λ e. some_not_none (sym g.0 ∙ e)) ∙ g.0,
   kinds_stay s t (n + 1) upto ks (omega arith) agrees g.1,
 )
 
-each_stay : (s t : Source) (early : List (ℕ × Kind)) → ((m : ℕ) → is_early early m ≡ true → ¬ (s (m ∷ []) ≡ []) → t (m ∷ []) ≡ s (m ∷ [])) → HasEach s early → HasEach t early
+each_stay : (s t : Source) (early : List (ℕ × Kind)) → ((m : ℕ) → is_early early m ≡ true → ¬ (s (m ∷ []) ≡ None) → t (m ∷ []) ≡ s (m ∷ []))
+    → HasEach s early → HasEach t early
 each_stay s t [] agrees g = tt
 each_stay s t (d ∷ ds) agrees g = (
-  agrees d.0 (here d ds) (λ e. written_some d.1 (sym g.0 ∙ e)) ∙ g.0,
+  agrees d.0 (here d ds) (λ e. some_not_none (sym g.0 ∙ e)) ∙ g.0,
   each_stay s t ds (λ m k. agrees m (or_right (d.0 == m) (is_early ds m) k)) g.1,
 )
   where

@@ -2,7 +2,7 @@ use Rattle.std.proofs.Common.{suc, take, drop, All, sym, ap, ◌∙◌, subst, a
 use Rattle.std.proofs.lemmas.Bool.{false≢true}
 use Rattle.std.proofs.lemmas.List.{take_more, take_all}
 use Rattle.std.proofs.lemmas.List.Elements.{All-push}
-use Rattle.pc_view.specs.Audit.{Has}
+use Rattle.pc_thread_view.specs.Histories.{Has}
 use Rattle.pc_view.proofs.Audits.{among_at}
 use Rattle.pc_view.proofs.auditing.first_other.Goals as goal
 

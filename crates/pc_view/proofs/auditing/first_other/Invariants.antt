@@ -1,5 +1,5 @@
 use Rattle.std.proofs.Common.{All, take}
-use Rattle.pc_view.specs.Audit.{Has}
+use Rattle.pc_thread_view.specs.Histories.{Has}
 use Rattle.pc_view.proofs.auditing.first_other.Given as goal
 
 abbrev pub invariant-loop-message : goal.invariant-loop-message

@@ -12,4 +12,4 @@ returns-clause-union c = OnOk_then c.put.result c.put.ensures.union (λ union m.
 
 pub returns-clause-of_run : goal.returns-clause-of_run
 returns-clause-of_run c = λ run a p. c.put.ensures.of_source (source_of run) a
-    (subst (λ v. IsOfThread v (source_at (source_of run) c.args.thread)) (sym c.folded-prefix.ensures) (folded_of (source_at (source_of run) c.args.thread) c.args.upto c.args.reported p))
+    (subst (λ v. IsOfThread v (source_at (source_of run) c.args.thread)) (sym c.folded-prefix.ensures) (folded_of run c.args.thread c.args.upto c.args.reported p))
