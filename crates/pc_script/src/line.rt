@@ -15,8 +15,6 @@ use crate::grammar::command_of;
 use crate::lines::first_word;
 use crate::machine::Machine;
 use crate::outcome::ScriptFault;
-use crate::short::write_line;
-use crate::text::LineEnd;
 use std::io::Write;
 
 /// What a line asks for.
@@ -66,13 +64,7 @@ fn answer<M: Machine, W: Write>(
     let Ok(response) = machine.answer(command) else {
         return Err(ScriptFault::OutOfMemory);
     };
-    let mut line = LineEnd::new();
-    let written = if write_line(&mut line, &response) {
-        writer.write_all(line.as_slice())
-    } else {
-        writeln!(writer, "{response}")
-    };
-    match written {
+    match response.write_to(writer) {
         Ok(()) => Ok(()),
         Err(_) => Err(ScriptFault::Write),
     }

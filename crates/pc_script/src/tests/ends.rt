@@ -135,7 +135,7 @@ impl Read for WakeLines {
 }
 
 #[test]
-fn a_script_of_the_greatest_length_ends_soon(rt: HostRuntime) {
+fn a_script_of_the_greatest_length_is_answered_whole(rt: HostRuntime) {
     let alloc = rt.alloc();
     let mut reader = WakeLines {
         at: 0,
