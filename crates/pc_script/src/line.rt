@@ -38,10 +38,13 @@ pub(crate) fn has_no_reply(line: &[u8]) -> bool
 fn asked(line: &[u8]) -> Wish
     ensures { IsAsked line.now result }
 {
-    if has_no_reply(line) {
+    if line.first().copied() == Some(b'#') {
         return Wish::Nothing;
     }
-    match command_of(line) {
+    let Some((name, rest)) = first_word(line) else {
+        return Wish::Nothing;
+    };
+    match command_of(name, rest) {
         Some(command) => Wish::Answer(command),
         None => Wish::Stop,
     }
