@@ -6,7 +6,7 @@ ghost use Rattle.std.specs.Io.KnownBytes.{Appends};
 ghost use Rattle.pc_calls.specs.declared.limits.Profile.{Profile};
 ghost use Rattle.pc_script.specs.Grammar.{HasNoReply, IsBuilt, IsFault};
 ghost use Rattle.pc_script.specs.Responses.{response_text, text_line};
-ghost use Rattle.pc_script.specs.Inner.Steps.{IsAsked, TakesLine};
+ghost use Rattle.pc_script.specs.Inner.Steps.{FoundNoMemory, IsAsked, TakesLine};
 ghost use Rattle.pc_script.specs.declared.command.Command.{Command};
 ghost use Rattle.pc_script.specs.declared.response.Response.{Response};
 
@@ -61,7 +61,9 @@ fn answer<M: Machine, W: Write>(
         × ((profile : Profile) (commands : List Command) (responses : List Response) → M.StandsAfter profile machine.old commands responses
         → M.StandsAfter profile machine.new (commands ++ command ∷ []) (responses ++ response ∷ []))
         × Appends (W.contents writer.old) (W.contents writer.new) (text_line (response_text response))) }
-    ensures no_memory { result ≡ Err ScriptFault.OutOfMemory → writer.new ≡ writer.old }
+    ensures no_memory { result ≡ Err ScriptFault.OutOfMemory → (writer.new ≡ writer.old)
+        × ((profile : Profile) (commands : List Command) (responses : List Response) → M.StandsAfter profile machine.old commands responses
+        → M.RanOut profile commands responses command) }
     ensures read_all { (result ≢ Err ScriptFault.Read) × (result ≢ Err ScriptFault.TooLong) }
 {
     let Ok(response) = machine.answer(command) else {
@@ -82,7 +84,8 @@ pub(crate) fn take_line<M: Machine, W: Write>(
     ensures ok { IfOk result (λ goes. MatchBool goes
         (TakesLine M.StandsAfter line.now machine.old machine.new (W.contents writer.old) (W.contents writer.new))
         (IsFault line.now × (machine.new ≡ machine.old) × (writer.new ≡ writer.old))) }
-    ensures no_memory { result ≡ Err ScriptFault.OutOfMemory → writer.new ≡ writer.old }
+    ensures no_memory { result ≡ Err ScriptFault.OutOfMemory → (writer.new ≡ writer.old)
+        × FoundNoMemory M.StandsAfter M.RanOut machine.old line.now }
     ensures read_all { (result ≢ Err ScriptFault.Read) × (result ≢ Err ScriptFault.TooLong) }
 {
     match asked(line) {
