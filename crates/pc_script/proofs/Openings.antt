@@ -1,12 +1,10 @@
 -- The profile of a script, and what is told of the lines after it.
-use Rattle.std.proofs.Common.{◌≡◌, ℕ, zero, suc, ◌+◌, List, [], ◌∷◌, ◌++◌, Option, Some, None, Result, Ok, Err, IfOk, IfSome, length, take, refl, sym, subst, arith, add-one}
+use Rattle.std.proofs.Common.{◌≡◌, ℕ, suc, ◌+◌, List, [], ◌∷◌, ◌++◌, Option, Some, None, Result, Ok, Err, IfOk, IfSome, length, refl, sym, subst, arith, add-one}
 use Rattle.std.proofs.Math.Nat.{zero-add, add-zero}
-use Rattle.std.proofs.Math.Seq.{take-nil}
 use Rattle.std.specs.Io.KnownBytes.{Appends}
-use Rattle.std.proofs.KnownBytes.{Appends-nil, Appends-trans}
+use Rattle.std.proofs.KnownBytes.{Appends-trans}
 use Rattle.pc_script.specs.Grammar.{HasNoReply}
-use Rattle.pc_script.specs.Scripts.{Script, IsTold, IsToldUntil, IsOutputOf, IsOutput, IsOutputUntilOf, IsOutputUntil}
-use Rattle.pc_script.specs.Scripts as script
+use Rattle.pc_script.specs.Scripts.{IsTold, IsToldUntil, IsOutputOf, IsOutput, IsOutputUntilOf, IsOutputUntil}
 use Rattle.pc_script.specs.Text.{lines}
 use Rattle.pc_script.specs.Versions.{IsVersionTwo, Opens, no_reply, version_two, version_one, at_end, opening_text}
 use Rattle.pc_script.specs.declared.command.Command.{Command}
