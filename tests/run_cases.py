@@ -7,6 +7,7 @@ An example is a script of examples/ beside what it prints. A case is a folder of
   stdout    what the program has to write (none: nothing), or stdout-is-not-fixed where only its being there is wanted
   stderr    what it has to write on standard error (none: nothing)
   status    its exit status (none: 0)
+  run       a bash script in place of args and stdin: its first argument is the program, and what it writes and its status are compared
 Every other file of the folder lies where the program runs.
 """
 import argparse
@@ -36,12 +37,11 @@ def standard_input(case, folder):
 def faults_of(case, program):
     """What differs from the wanted, as a list of texts."""
     args = (case / "args").read_text().splitlines() if (case / "args").is_file() else ["replay"]
+    words = ["bash", "run", str(program)] if (case / "run").is_file() else [str(program), *args]
     status = int((case / "status").read_text()) if (case / "status").is_file() else 0
     with tempfile.TemporaryDirectory() as folder:
         shutil.copytree(case, folder, dirs_exist_ok=True)
-        run = subprocess.run(
-            [str(program), *args], cwd=folder, input=standard_input(case, folder), capture_output=True, timeout=SECONDS
-        )
+        run = subprocess.run(words, cwd=folder, input=standard_input(case, folder), capture_output=True, timeout=SECONDS)
     faults = []
     if run.returncode != status:
         faults.append(f"status {run.returncode}, wanted {status}")

@@ -1,13 +1,10 @@
 -- The profile of a script, and what is told of the lines after it.
-use Rattle.std.proofs.Common.{◌≡◌, ℕ, zero, suc, ◌+◌, List, [], ◌∷◌, ◌++◌, Option, Some, None, Result, Ok, Err, IfOk, IfSome, length, take, refl, sym, subst, arith, add-one}
+use Rattle.std.proofs.Common.{◌≡◌, ℕ, suc, ◌+◌, List, [], ◌∷◌, ◌++◌, Option, Some, None, Result, Ok, Err, IfOk, IfSome, length, refl, sym, subst, arith, add-one}
 use Rattle.std.proofs.Math.Nat.{zero-add, add-zero}
-use Rattle.std.proofs.Math.Seq.{take-nil}
 use Rattle.std.specs.Io.KnownBytes.{Appends}
-use Rattle.std.proofs.KnownBytes.{Appends-nil, Appends-trans}
+use Rattle.std.proofs.KnownBytes.{Appends-trans}
 use Rattle.pc_script.specs.Grammar.{HasNoReply}
-use Rattle.pc_script.specs.Scripts.{Script, IsTold, IsOutputOf, IsOutput, IsOutputOfFirstLines}
-use Rattle.pc_script.specs.Scripts as script
-use Rattle.pc_script.specs.Inner.Steps.{IsToldOfFirstLines}
+use Rattle.pc_script.specs.Scripts.{IsTold, IsToldUntil, IsOutputOf, IsOutput, IsOutputUntilOf, IsOutputUntil}
 use Rattle.pc_script.specs.Text.{lines}
 use Rattle.pc_script.specs.Versions.{IsVersionTwo, Opens, no_reply, version_two, version_one, at_end, opening_text}
 use Rattle.pc_script.specs.declared.command.Command.{Command}
@@ -67,19 +64,6 @@ Opens-length (version_two h) = omega arith
 Opens-length (version_one h k) = omega arith
 Opens-length at_end = refl
 
-Opens-take : {profile : Profile} {passed : ℕ} {rest all : List (List ℕ)} (count : ℕ) → Opens profile passed rest all → Opens profile passed (take count rest) (take (passed + count) all)
-Opens-take {profile} {rest} count (no_reply {passed = before} {line} {more} h opens) =
-    let next : suc (before + count) ≡ suc before + count = omega arith in
-    subst (λ n. Opens profile (suc before) (take count rest) (take n (line ∷ more))) next (no_reply h (Opens-take count opens))
-Opens-take count (version_two {line} {more} h) =
-    let next : suc count ≡ 1 + count = omega arith in
-    subst (λ n. Opens Two 1 (take count more) (take n (line ∷ more))) next (version_two h)
-Opens-take zero (version_one h k) = at_end
-Opens-take (suc count) (version_one {line} {more} h k) =
-    let next : suc count ≡ 0 + suc count = omega arith in
-    subst (λ n. Opens One 0 (line ∷ take count more) (take n (line ∷ more))) next (version_one h k)
-Opens-take count at_end = rw (take-nil count, take-nil (0 + count)) at_end
-
 -- ---- the whole output
 
 -- what is told of the rest is a part of the output of the whole
@@ -93,37 +77,16 @@ output_of_told {profile} {passed} {rest} IsRun before now after opens written (t
   Appends-trans before now after _ _ written more,
 )
 
--- the same of the first lines of the rest
-pub output_of_told_first : {profile : Profile} {passed : ℕ} {rest : List (List ℕ)} (IsRun : Profile → List Command → List Response → Type 0) (text : List ℕ) (before now after : Option (List ℕ))
-    → Opens profile passed rest (lines text) → Appends before now (opening_text profile)
-    → (told : List ℕ) × IsToldOfFirstLines (IsRun profile) (suc passed) rest told × Appends now after told
-    → (output : List ℕ) × IsOutputOfFirstLines IsRun text output × Appends before after output
-output_of_told_first {profile} {passed} {rest} IsRun text before now after opens written (told, (count, tells), more) = (
+-- the same until memory runs out
+output_of_told_until : {profile : Profile} {passed : ℕ} {rest all : List (List ℕ)} (IsRun : Profile → List Command → List Response → Type 0)
+    (RanOut : Profile → List Command → List Response → Command → Type 0) (before now after : Option (List ℕ))
+    → Opens profile passed rest all → Appends before now (opening_text profile)
+    → (told : List ℕ) × IsToldUntil (IsRun profile) (RanOut profile) (suc passed) rest told × Appends now after told
+    → (output : List ℕ) × IsOutputUntilOf IsRun RanOut all output × Appends before after output
+output_of_told_until {profile} {passed} {rest} IsRun RanOut before now after opens written (told, tells, more) = (
   opening_text profile ++ told,
-  (passed + count, record { profile = profile; passed = passed; rest = take count rest; told = told; opens = Opens-take count opens; tells = tells; text = refl }),
+  record { profile = profile; passed = passed; rest = rest; told = told; opens = opens; tells = tells; text = refl },
   Appends-trans before now after _ _ written more,
-)
-
--- before the first line nothing was told, whatever the text
-pub nothing_told : (IsRun : Profile → List Command → List Response → Type 0) (text known : Option (List ℕ))
-    → ((profile : Profile) → IsRun profile [] [])
-    → IfSome text (λ bytes. (output : List ℕ) × IsOutputOfFirstLines IsRun bytes output × Appends known known output)
-nothing_told IsRun None known law = tt
-nothing_told IsRun (Some bytes) known law = (
-  [],
-  (
-    0,
-    record {
-      profile = One;
-      passed = 0;
-      rest = [];
-      told = [];
-      opens = at_end;
-      tells = record { commands = []; responses = []; asks = script.at_end; run = law One; text = refl };
-      text = refl;
-    },
-  ),
-  Appends-nil known,
 )
 
 -- what a text's call tells, where the text is known
@@ -136,10 +99,12 @@ whole_told IsRun (Some bytes) text before now after (Ok outcome) is opens writte
     subst (λ t. (output : List ℕ) × IsOutput IsRun t outcome output × Appends before after output) (sym is) (output_of_told IsRun before now after opens written h)
 whole_told IsRun known text before now after (Err e) is opens written h = tt
 
-pub first_told : {profile : Profile} {passed : ℕ} {rest : List (List ℕ)} (IsRun : Profile → List Command → List Response → Type 0) (known : Option (List ℕ)) (text : List ℕ) (before now after : Option (List ℕ))
+pub until_told : {profile : Profile} {passed : ℕ} {rest : List (List ℕ)} (IsRun : Profile → List Command → List Response → Type 0)
+    (RanOut : Profile → List Command → List Response → Command → Type 0) (known : Option (List ℕ)) (text : List ℕ) (before now after : Option (List ℕ))
     → IfSome known (λ bytes. bytes ≡ text) → Opens profile passed rest (lines text) → Appends before now (opening_text profile)
-    → (told : List ℕ) × IsToldOfFirstLines (IsRun profile) (suc passed) rest told × Appends now after told
-    → IfSome known (λ bytes. (output : List ℕ) × IsOutputOfFirstLines IsRun bytes output × Appends before after output)
-first_told IsRun None text before now after is opens written h = tt
-first_told IsRun (Some bytes) text before now after is opens written h =
-    subst (λ t. (output : List ℕ) × IsOutputOfFirstLines IsRun t output × Appends before after output) (sym is) (output_of_told_first IsRun text before now after opens written h)
+    → (told : List ℕ) × IsToldUntil (IsRun profile) (RanOut profile) (suc passed) rest told × Appends now after told
+    → IfSome known (λ bytes. (output : List ℕ) × IsOutputUntil IsRun RanOut bytes output × Appends before after output)
+until_told IsRun RanOut None text before now after is opens written h = tt
+until_told IsRun RanOut (Some bytes) text before now after is opens written h =
+    subst (λ t. (output : List ℕ) × IsOutputUntil IsRun RanOut t output × Appends before after output) (sym is)
+    (output_of_told_until IsRun RanOut before now after opens written h)

@@ -1,12 +1,12 @@
 -- What the lines of a script do, one after another.
-use Rattle.std.proofs.Common.{◌≡◌, ℕ, suc, ◌+◌, List, [], ◌∷◌, ◌++◌, Option, Result, Ok, Err, IfOk, length, take, refl, sym, subst, arith, append-nil}
+use Rattle.std.proofs.Common.{◌≡◌, ℕ, suc, ◌+◌, List, [], ◌∷◌, ◌++◌, Option, Result, Ok, Err, IfOk, length, refl, sym, subst, arith, append-nil}
 use Rattle.std.specs.Io.KnownBytes.{Appends}
 use Rattle.std.proofs.KnownBytes.{Appends-nil, Appends-trans}
 use Rattle.std.proofs.lemmas.Grind.{flat_map-append}
 use Rattle.pc_script.specs.Grammar.{Spells, HasNoReply, IsFault}
 use Rattle.pc_script.specs.Responses.{response_text, text_line}
-use Rattle.pc_script.specs.Scripts.{Script, at_end, no_reply, command, fault, responses_text, outcome_text, IsTold}
-use Rattle.pc_script.specs.Inner.Steps.{TakesLine, IsToldOfFirstLines}
+use Rattle.pc_script.specs.Scripts.{Script, at_end, no_reply, command, fault, responses_text, outcome_text, IsTold, IsToldUntil}
+use Rattle.pc_script.specs.Inner.Steps.{TakesLine, FoundNoMemory}
 use Rattle.pc_script.specs.Text.{words}
 use Rattle.pc_script.specs.declared.command.Command.{Command}
 use Rattle.pc_script.specs.declared.outcome.Outcome.{Outcome}
@@ -87,17 +87,33 @@ HasRun-more profile {number} {script} {before} {now} {after} ran taken = record 
 
 -- ---- what was written
 
--- what was told of the first of some lines
-pub told_so_far : {M : Type 0} {StandsAfter : M → List Command → List Response → Type 0} (IsRun : List Command → List Response → Type 0) (all : List (List ℕ)) (count : ℕ) {number : ℕ} {script : List (List ℕ)} {machine : M} {before now : Option (List ℕ)}
-    → ((m : M) (commands : List Command) (responses : List Response) → StandsAfter m commands responses → IsRun commands responses)
-    → script ≡ take count all → HasRun StandsAfter number script machine before now
-    → (told : List ℕ) × IsToldOfFirstLines IsRun number all told × Appends before now told
-told_so_far IsRun all count {number} {machine} law is ran =
-    let asks = subst (λ s. Script number s ran.commands Finished) is ran.asks in (
-      responses_text ran.responses,
-      (count, record { commands = ran.commands; responses = ran.responses; asks = asks; run = law machine ran.commands ran.responses ran.stands; text = sym (append-nil (responses_text ran.responses)) }),
-      ran.text,
-    )
+-- what was told until memory ran out
+pub told_until : {M : Type 0} {StandsAfter : Profile → M → List Command → List Response → Type 0} (profile : Profile)
+    (IsRun : List Command → List Response → Type 0) (RanOut : Profile → List Command → List Response → Command → Type 0) (all : List (List ℕ))
+    {number : ℕ} {script : List (List ℕ)} {machine : M} {before now : Option (List ℕ)} (line : List ℕ) (others : List (List ℕ))
+    → ((m : M) (commands : List Command) (responses : List Response) → StandsAfter profile m commands responses → IsRun commands responses)
+    → script ++ line ∷ others ≡ all → HasRun (StandsAfter profile) number script machine before now → FoundNoMemory StandsAfter RanOut machine line
+    → (told : List ℕ) × IsToldUntil IsRun (RanOut profile) number all told × Appends before now told
+told_until profile IsRun RanOut all {script} {machine} line others law whole ran none = (
+  responses_text ran.responses,
+  record {
+    before = script;
+    line = line;
+    after = others;
+    cut = sym whole;
+    tells = record {
+      commands = ran.commands;
+      responses = ran.responses;
+      asks = ran.asks;
+      run = law machine ran.commands ran.responses ran.stands;
+      text = sym (append-nil (responses_text ran.responses));
+    };
+    command = none.command;
+    asks = none.asks;
+    ran_out = none.ran_out profile ran.commands ran.responses ran.stands;
+  },
+  ran.text,
+)
 
 -- what was told of all of them
 pub told_at_end : {M : Type 0} {StandsAfter : M → List Command → List Response → Type 0} (IsRun : List Command → List Response → Type 0) (all : List (List ℕ)) {number : ℕ} {script : List (List ℕ)} {machine : M} {before now : Option (List ℕ)}

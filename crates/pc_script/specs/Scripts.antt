@@ -1,5 +1,5 @@
 -- What a script asks for, how it ends, and what is written.
-use Rattle.std.specs.Prelude.{◌≡◌, ℕ, suc, List, [], ◌∷◌, ◌++◌, flat_map, take, codes, decimal}
+use Rattle.std.specs.Prelude.{◌≡◌, ℕ, suc, List, [], ◌∷◌, ◌++◌, flat_map, codes, decimal}
 use Rattle.pc_calls.specs.declared.limits.Profile.{Profile}
 use Rattle.pc_script.specs.Grammar.{Spells, HasNoReply, IsFault}
 use Rattle.pc_script.specs.Responses.{response_text, text_line}
@@ -55,6 +55,31 @@ pub record IsOutputOf (IsRun : Profile → List Command → List Response → Ty
 abbrev pub IsOutput : (Profile → List Command → List Response → Type 0) → List ℕ → Outcome → List ℕ → Type 0
 IsOutput IsRun text outcome output = IsOutputOf IsRun (lines text) outcome output
 
--- the responses of a text's first lines
-abbrev pub IsOutputOfFirstLines : (Profile → List Command → List Response → Type 0) → List ℕ → List ℕ → Type 0
-IsOutputOfFirstLines IsRun text output = (count : ℕ) × IsOutputOf IsRun (take count (lines text)) Finished output
+-- What is told of lines until memory runs out: a line asks for a command whose answer found none, and what is told is that of
+-- the lines before it
+pub record IsToldUntil (IsRun : List Command → List Response → Type 0) (RanOut : List Command → List Response → Command → Type 0)
+    (number : ℕ) (script : List (List ℕ)) (told : List ℕ) : Type 0 where
+  pub before : List (List ℕ)
+  pub line : List ℕ
+  pub after : List (List ℕ)
+  pub cut : script ≡ before ++ line ∷ after
+  pub tells : IsTold IsRun number before Finished told
+  pub command : Command
+  pub asks : Spells (words line) command
+  pub ran_out : RanOut tells.commands tells.responses command
+
+-- the output until memory runs out at a command
+pub record IsOutputUntilOf (IsRun : Profile → List Command → List Response → Type 0)
+    (RanOut : Profile → List Command → List Response → Command → Type 0) (script : List (List ℕ)) (output : List ℕ) : Type 0 where
+  pub profile : Profile
+  pub passed : ℕ
+  pub rest : List (List ℕ)
+  pub told : List ℕ
+  pub opens : Opens profile passed rest script
+  pub tells : IsToldUntil (IsRun profile) (RanOut profile) (suc passed) rest told
+  pub text : output ≡ opening_text profile ++ told
+
+-- a text's output until memory runs out at a command
+abbrev pub IsOutputUntil : (Profile → List Command → List Response → Type 0) → (Profile → List Command → List Response → Command → Type 0)
+    → List ℕ → List ℕ → Type 0
+IsOutputUntil IsRun RanOut text output = IsOutputUntilOf IsRun RanOut (lines text) output

@@ -12,7 +12,6 @@ use crate::fields::{
     Arguments, Count, Failure, Index, Level, Mask, Processor, Processors, Queue, State, Target,
     Thread,
 };
-use crate::lines::first_word;
 use pc_calls::{EnvCall, Event, Limits};
 
 /// The first word of a command.
@@ -159,11 +158,10 @@ fn is_built(command: &Command) -> bool
     }
 }
 
-/// The command that this line spells.
-pub(crate) fn command_of(line: &[u8]) -> Option<Command>
-    ensures { IsReading (words line.now) result }
+/// The command that a line with this first word spells, and with the words of this text after it.
+pub(crate) fn command_of(name: &[u8], rest: &[u8]) -> Option<Command>
+    ensures { IsReading (name.now ∷ words rest.now) result }
 {
-    let (name, rest) = first_word(line)?;
     let verb = verb_of(name)?;
     let command = read_as(verb, rest)?;
     if is_built(&command) {

@@ -6,7 +6,7 @@ ghost use Rattle.std.specs.Io.KnownBytes.{Appends};
 ghost use Rattle.pc_calls.specs.declared.limits.Profile.{Profile};
 ghost use Rattle.pc_script.specs.Grammar.{HasNoReply, IsBuilt, IsFault};
 ghost use Rattle.pc_script.specs.Responses.{response_text, text_line};
-ghost use Rattle.pc_script.specs.Inner.Steps.{IsAsked, TakesLine};
+ghost use Rattle.pc_script.specs.Inner.Steps.{FoundNoMemory, IsAsked, TakesLine};
 ghost use Rattle.pc_script.specs.declared.command.Command.{Command};
 ghost use Rattle.pc_script.specs.declared.response.Response.{Response};
 
@@ -15,8 +15,6 @@ use crate::grammar::command_of;
 use crate::lines::first_word;
 use crate::machine::Machine;
 use crate::outcome::ScriptFault;
-use crate::short::write_line;
-use crate::text::LineEnd;
 use std::io::Write;
 
 /// What a line asks for.
@@ -40,10 +38,13 @@ pub(crate) fn has_no_reply(line: &[u8]) -> bool
 fn asked(line: &[u8]) -> Wish
     ensures { IsAsked line.now result }
 {
-    if has_no_reply(line) {
+    if line.first().copied() == Some(b'#') {
         return Wish::Nothing;
     }
-    match command_of(line) {
+    let Some((name, rest)) = first_word(line) else {
+        return Wish::Nothing;
+    };
+    match command_of(name, rest) {
         Some(command) => Wish::Answer(command),
         None => Wish::Stop,
     }
@@ -60,19 +61,15 @@ fn answer<M: Machine, W: Write>(
         × ((profile : Profile) (commands : List Command) (responses : List Response) → M.StandsAfter profile machine.old commands responses
         → M.StandsAfter profile machine.new (commands ++ command ∷ []) (responses ++ response ∷ []))
         × Appends (W.contents writer.old) (W.contents writer.new) (text_line (response_text response))) }
-    ensures no_memory { result ≡ Err ScriptFault.OutOfMemory → writer.new ≡ writer.old }
+    ensures no_memory { result ≡ Err ScriptFault.OutOfMemory → (writer.new ≡ writer.old)
+        × ((profile : Profile) (commands : List Command) (responses : List Response) → M.StandsAfter profile machine.old commands responses
+        → M.RanOut profile commands responses command) }
     ensures read_all { (result ≢ Err ScriptFault.Read) × (result ≢ Err ScriptFault.TooLong) }
 {
     let Ok(response) = machine.answer(command) else {
         return Err(ScriptFault::OutOfMemory);
     };
-    let mut line = LineEnd::new();
-    let written = if write_line(&mut line, &response) {
-        writer.write_all(line.as_slice())
-    } else {
-        writeln!(writer, "{response}")
-    };
-    match written {
+    match response.write_to(writer) {
         Ok(()) => Ok(()),
         Err(_) => Err(ScriptFault::Write),
     }
@@ -87,7 +84,8 @@ pub(crate) fn take_line<M: Machine, W: Write>(
     ensures ok { IfOk result (λ goes. MatchBool goes
         (TakesLine M.StandsAfter line.now machine.old machine.new (W.contents writer.old) (W.contents writer.new))
         (IsFault line.now × (machine.new ≡ machine.old) × (writer.new ≡ writer.old))) }
-    ensures no_memory { result ≡ Err ScriptFault.OutOfMemory → writer.new ≡ writer.old }
+    ensures no_memory { result ≡ Err ScriptFault.OutOfMemory → (writer.new ≡ writer.old)
+        × FoundNoMemory M.StandsAfter M.RanOut machine.old line.now }
     ensures read_all { (result ≢ Err ScriptFault.Read) × (result ≢ Err ScriptFault.TooLong) }
 {
     match asked(line) {

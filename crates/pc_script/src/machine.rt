@@ -1,6 +1,6 @@
 //! What answers a script's commands.
 
-ghost use Rattle.std.specs.Prelude.{List, [], ◌∷◌, ◌++◌, IfOk};
+ghost use Rattle.std.specs.Prelude.{List, [], ◌∷◌, ◌++◌, IfOk, OnErr};
 ghost use Rattle.pc_calls.specs.declared.limits.Profile.{Profile};
 ghost use Rattle.pc_script.specs.Grammar.{IsBuilt};
 ghost use Rattle.pc_script.specs.declared.command.Command.{Command};
@@ -14,11 +14,14 @@ use std::alloc::{AllocError, Global};
 /// What answers commands, one after another, as a script of some profile asks for them.
 ///
 /// `IsRun` is what a list of commands and the list of their responses have to do with each other. `StandsAfter`
-/// says that a machine was started, took these commands and gave these responses.
+/// says that a machine was started, took these commands and gave these responses. `RanOut` says that one which did so
+/// found no memory for the answer to the command after them.
 pub trait Machine: Drop {
     ghost IsRun: { Profile → List Command → List Response → Type 0 };
 
     ghost StandsAfter: { Profile → Self → List Command → List Response → Type 0 };
+
+    ghost RanOut: { Profile → List Command → List Response → Command → Type 0 };
 
     /// A machine that took no command yet.
     fn start(alloc: Global, profile: Profile) -> Self
@@ -29,11 +32,11 @@ pub trait Machine: Drop {
     /// Takes a command. After an error the machine isn't used again.
     fn answer(&mut self, command: Command) -> Result<Response, AllocError>
         requires built { IsBuilt command }
-        ensures { IfOk result (λ response. (profile : Profile) (commands : List Command) (responses : List Response)
+        ensures ok { IfOk result (λ response. (profile : Profile) (commands : List Command) (responses : List Response)
             → StandsAfter profile self.old commands responses
-            → StandsAfter profile self.new (commands ++ command ∷ []) (responses ++ response ∷ [])) };
-
-    ghost is_run_of_none: { (profile : Profile) → IsRun profile [] [] };
+            → StandsAfter profile self.new (commands ++ command ∷ []) (responses ++ response ∷ [])) }
+        ensures no_memory { OnErr result ((profile : Profile) (commands : List Command) (responses : List Response)
+            → StandsAfter profile self.old commands responses → RanOut profile commands responses command) };
 
     ghost is_run_after: { (profile : Profile) (machine : Self) (commands : List Command) (responses : List Response)
         → StandsAfter profile machine commands responses → IsRun profile commands responses };

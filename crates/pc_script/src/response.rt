@@ -1,8 +1,15 @@
 //! What commands are answered.
 
+ghost use Rattle.std.specs.Prelude.{OnOk};
+ghost use Rattle.std.specs.Io.KnownBytes.{Appends};
+ghost use Rattle.pc_script.specs.Responses.{response_text, text_line};
+
 use crate::lists::ShownThreads;
+use crate::short::write_line;
+use crate::text::LineEnd;
 use pc_calls::{LimitField, Refusal, Reply, Status};
 use pc_messages::{Phase, Tid};
+use std::io::{self, Write};
 
 /// What a command is answered. Its text is one line, but for [`Response::View`].
 #[derive(Debug, Drop)]
@@ -31,4 +38,17 @@ pub enum Response {
     View(ShownThreads),
     /// `refused`, and why the question has no answer.
     Refused(Refusal),
+}
+
+impl Response {
+    /// Writes the response's text and a line feed: a view line by line, every other response in one piece.
+    pub fn write_to<W: Write>(&self, writer: &mut W) -> io::Result<()>
+        ensures { OnOk result (Appends (W.contents writer.old) (W.contents writer.new) (text_line (response_text self.now))) }
+    {
+        let mut line = LineEnd::new();
+        match write_line(&mut line, self) {
+            None => writer.write_all(line.as_slice()),
+            Some(threads) => writeln!(writer, "{threads}end"),
+        }
+    }
 }

@@ -3,8 +3,7 @@
 ghost use Rattle.std.specs.Prelude.{◌≡◌, ◌≢◌, ◌⊎◌, ◌+◌, ℕ, suc, List, [], ◌<◌, ◌≤◌, length, IfOk, IfSome, OnOk};
 ghost use Rattle.std.specs.Io.KnownBytes.{Appends, Consumes};
 ghost use Rattle.pc_script.specs.Inner.Left.{lines_of_rest};
-ghost use Rattle.pc_script.specs.Scripts.{IsOutput, IsOutputOfFirstLines, IsTold, outcome_text};
-ghost use Rattle.pc_script.specs.Inner.Steps.{IsToldOfFirstLines};
+ghost use Rattle.pc_script.specs.Scripts.{IsOutput, IsOutputUntil, IsTold, IsToldUntil, outcome_text};
 ghost use Rattle.pc_script.specs.Versions.{opening_text};
 
 use crate::input::{MOST_BYTES, read_text};
@@ -57,7 +56,7 @@ fn run_lines<M: Machine, W: Write>(
         × IsTold (M.IsRun opening.now.profile) (suc opening.now.passed) (lines_of_rest opening.now.rest) outcome told
         × Appends (W.contents writer.old) (W.contents writer.new) told) }
     ensures no_memory { result ≡ Err ScriptFault.OutOfMemory → (told : List ℕ)
-        × IsToldOfFirstLines (M.IsRun opening.now.profile) (suc opening.now.passed) (lines_of_rest opening.now.rest) told
+        × IsToldUntil (M.IsRun opening.now.profile) (M.RanOut opening.now.profile) (suc opening.now.passed) (lines_of_rest opening.now.rest) told
         × Appends (W.contents writer.old) (W.contents writer.new) told }
     ensures read_all { (result ≢ Err ScriptFault.Read) × (result ≢ Err ScriptFault.TooLong) }
 {
@@ -84,8 +83,8 @@ pub fn run_script<M: Machine, R: Read, W: Write>(
 ) -> Result<Outcome, ScriptFault>
     ensures ok { IfOk result (λ outcome. IfSome (R.remaining reader.old) (λ text. (output : List ℕ) × IsOutput M.IsRun text outcome output
         × Appends (W.contents writer.old) (W.contents writer.new) output)) }
-    ensures no_memory { result ≡ Err ScriptFault.OutOfMemory → IfSome (R.remaining reader.old) (λ text. (output : List ℕ)
-        × IsOutputOfFirstLines M.IsRun text output × Appends (W.contents writer.old) (W.contents writer.new) output) }
+    ensures no_memory { result ≡ Err ScriptFault.OutOfMemory → (writer.new ≡ writer.old) ⊎ IfSome (R.remaining reader.old) (λ text. (output : List ℕ)
+        × IsOutputUntil M.IsRun M.RanOut text output × Appends (W.contents writer.old) (W.contents writer.new) output) }
     ensures unread { (result ≡ Err ScriptFault.Read) ⊎ (result ≡ Err ScriptFault.TooLong) → writer.new ≡ writer.old }
     ensures too_long { result ≡ Err ScriptFault.TooLong → IfSome (R.remaining reader.old) (λ text. MOST_BYTES < length text) }
     ensures short { OnOk result (IfSome (R.remaining reader.old) (λ text. length text ≤ MOST_BYTES)) }

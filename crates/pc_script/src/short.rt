@@ -1,14 +1,15 @@
-//! The lines of the responses that are asked for most, made in one piece.
+//! The texts of responses that are one line, made in one piece.
 //!
-//! A response's `Display` writes the same texts piece by piece, through a formatter. A script has a line for each of its
-//! commands, so the responses to nearly all of them are put together here, each from its last byte to its first.
+//! A script has a line for each of its commands, so these are not written piece by piece through a formatter: each is put
+//! together here, from its last byte to its first.
 
-ghost use Rattle.std.specs.Prelude.{◌≡◌, ◌++◌, ◌≤◌, ◌<◌, ◌+◌, IsTrue, [], decimal, drop, length};
-ghost use Rattle.pc_script.specs.Responses.{number_or_dash, posted_text, refusal_text, reply_text, response_text, status_text, subject_text, text_line};
+ghost use Rattle.std.specs.Prelude.{◌≡◌, ◌++◌, ◌≤◌, ◌<◌, ◌+◌, MatchOption, [], decimal, drop, length};
+ghost use Rattle.pc_script.specs.Responses.{limit_text, number_or_dash, phase_text, posted_text, refusal_text, reply_text, response_text, status_text, subject_text, text_line};
 
+use crate::lists::ShownThreads;
 use crate::response::Response;
 use crate::text::{LineEnd, ROOM};
-use pc_calls::{Posted, Refusal, Reply, Status};
+use pc_calls::{LimitField, Posted, Refusal, Reply, Status};
 use pc_messages::{Cpu, Phase, Tid};
 
 /// Writes whose item was posted, and its number, or `-` where it has neither.
@@ -74,6 +75,30 @@ fn write_pair(line: &mut LineEnd, before: &[u8], first: u64, between: &[u8], sec
     line.text(before);
 }
 
+/// A phase by its name.
+pub(crate) fn phase_name(phase: Phase) -> &'static str
+    ensures { result.now ≡ phase_text phase }
+{
+    match phase {
+        Phase::Ready => "ready",
+        Phase::Blocked => "blocked",
+        Phase::Dead => "dead",
+    }
+}
+
+/// A limit by its name.
+fn limit_name(limit: LimitField) -> &'static str
+    ensures { (result.now ≡ limit_text limit) × (length result.now ≤ 20) }
+{
+    match limit {
+        LimitField::Cpus => "cpus",
+        LimitField::Threads => "threads",
+        LimitField::Numbers => "numbers",
+        LimitField::Room => "room",
+        LimitField::Posts => "posts",
+    }
+}
+
 /// Writes what the kernel says of a thread.
 #[inline(always)]
 fn write_status(line: &mut LineEnd, thread: Tid, status: Status, phase: Phase)
@@ -85,11 +110,7 @@ fn write_status(line: &mut LineEnd, thread: Tid, status: Status, phase: Phase)
         line.number(u64::from(cpu.index()));
         line.text(b" c");
     }
-    line.text(match phase {
-        Phase::Ready => b"ready",
-        Phase::Blocked => b"blocked",
-        Phase::Dead => b"dead",
-    });
+    line.text(phase_name(phase).as_bytes());
     line.text(b" ");
     line.number(u64::from(status.number));
     line.text(b" n");
@@ -195,12 +216,13 @@ fn write_reply(line: &mut LineEnd, reply: Reply)
     }
 }
 
-/// Writes the line of a response, where it is one of those that are asked for most. Answers false for the others.
+/// Writes the line of a response. Answers a view's threads: a view has a line for each, and isn't written.
 #[inline(always)]
-pub(crate) fn write_line(line: &mut LineEnd, response: &Response) -> bool
+pub(crate) fn write_line<'a>(line: &mut LineEnd, response: &'a Response) -> Option<&'a ShownThreads>
     requires empty { (line.old.start ≡ ROOM) × (drop line.old.start line.old.bytes ≡ []) }
     ensures start { line.new.start ≤ ROOM }
-    ensures written { IsTrue result → drop line.new.start line.new.bytes ≡ text_line (response_text response.now) }
+    ensures written { MatchOption result (drop line.new.start line.new.bytes ≡ text_line (response_text response.now))
+        (λ threads. response.now ≡ Response.View threads.now) }
 {
     line.text(b"\n");
     match response {
@@ -212,7 +234,20 @@ pub(crate) fn write_line(line: &mut LineEnd, response: &Response) -> bool
         } => write_status(line, *thread, *status, *phase),
         Response::Truth(true) => line.text(b"yes"),
         Response::Truth(false) => line.text(b"no"),
-        _ => return false,
+        Response::Sameness(true) => line.text(b"equal"),
+        Response::Sameness(false) => line.text(b"differ"),
+        Response::Opened => line.text(b"ok"),
+        Response::NoEnclave => line.text(b"refused NoEnclave"),
+        Response::HaveEnclave => line.text(b"refused HaveEnclave"),
+        Response::BadLimits(limit) => {
+            line.text(limit_name(*limit).as_bytes());
+            line.text(b"refused BadLimits ");
+        }
+        Response::Refused(refusal) => {
+            write_refusal(line, *refusal);
+            line.text(b"refused ");
+        }
+        Response::View(threads) => return Some(threads),
     }
-    true
+    None
 }

@@ -138,6 +138,8 @@ impl Machine for Echo {
 
     ghost StandsAfter = { λ _ _ commands responses. length commands ≡ length responses };
 
+    ghost RanOut = { λ _ commands responses _. length commands ≡ length responses };
+
     fn start(alloc: Global, profile: Profile) -> Self {
         Echo { alloc, profile }
     }
@@ -149,8 +151,6 @@ impl Machine for Echo {
             Command::Read(question) => told(self.alloc, question),
         }
     }
-
-    ghost is_run_of_none = { λ _. refl };
 
     ghost is_run_after = { λ _ _ _ _ h. h };
 }

@@ -1,3 +1,4 @@
+pub mod Bools
 pub mod Looking
 pub mod Showing
 pub mod Shown

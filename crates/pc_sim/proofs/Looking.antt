@@ -1,5 +1,6 @@
 -- What is told of an agent that sleeps, of two views, and of one.
 use Rattle.std.proofs.Common.{◌≡◌, ℕ, ◌+◌, ◌≤◌, ◌<◌, ◌&&◌, ◌↔◌, Bool, true, false, IsTrue, List, [], ◌∷◌, take, Option, Some, None, MatchBool, nat_lt, refl, sym, ◌∙◌, ap, subst, inl, inr, arith}
+use Rattle.std.specs.FinMap as map
 use Rattle.std.proofs.lemmas.Bool.{false≢true, cases_lt, lt-ltb}
 use Rattle.std.proofs.lemmas.Bool.Decides.{nat_tests}
 use Rattle.pc_messages.specs.Run.{Run}
@@ -21,8 +22,10 @@ use Rattle.pc_script.specs.declared.response.Response.TheVariants as response
 use Rattle.pc_world.specs.PlainWorld.{PlainWorld, Set}
 use Rattle.pc_world.specs.Shows.{IsViewAt}
 use Rattle.pc_world.specs.Steps.{are_cpus}
-use Rattle.pc_sim.specs.Inner.Showing.{ShowsAll}
+use Rattle.pc_sim.specs.Inner.Showing.{rows_told, ShowsAll}
 use Rattle.pc_sim.specs.Reads.{HasAll, IsAsleep, IsComparing, IsCompleting, IsShowing}
+use Rattle.pc_sim.proofs.Bools.{both}
+use Rattle.pc_sim.proofs.Showing.{shows_all}
 use Rattle.pc_sim.proofs.Shown.{rows_shown}
 
 match_true : (b : Bool) (P Q : Type 0) → b ≡ true → P → MatchBool b P Q
@@ -30,10 +33,6 @@ match_true b P Q e p = subst (λ c. MatchBool c P Q) (sym e) p
 
 match_false : (b : Bool) (P Q : Type 0) → b ≡ false → Q → MatchBool b P Q
 match_false b P Q e q = subst (λ c. MatchBool c P Q) (sym e) q
-
-both : (a b : Bool) → a ≡ true → b ≡ true → (a && b) ≡ true
-both true b e f = f
-both false b e f = absurd (false≢true e)
 
 first_missing : (a b : Bool) → a ≡ false → (a && b) ≡ false
 first_missing a b e = ap (λ x. x && b) e
@@ -57,12 +56,13 @@ asleep_nowhere k c high w h =
 -- a view is shown
 pub show_told : (w : PlainWorld) (c : ℕ) (view : View) (rows : List ShownThread)
     → ((run : Run) (view : View) (thread : ℕ) (told : Told) → IsOfRun run view → thread_of view thread ≡ Some told → told.state ≡ state_of (take told.upto (run thread)))
-    → IsViewAt w c (Some view) → ShowsAll (thread_of view) rows → IsShowing w c (response.View rows)
+    → IsViewAt w c (Some view) → rows ≡ rows_told (map.entries view.threads) → IsShowing w c (response.View rows)
 show_told w c view rows reported here all =
     match_true (is_cpu (shown w.kernel) c) _ _ here.0 record {
       rows = rows;
       tells = refl;
-      shown = rows_shown view.threads (kinds w.kernel) (source_of (kinds w.kernel)) (w.seen c) (λ t told known. reported (kinds w.kernel) view t told here.1.of_run known) here.1.of_run here.1.seen rows all;
+      shown = rows_shown view.threads (kinds w.kernel) (source_of (kinds w.kernel)) (w.seen c) (λ t told known. reported (kinds w.kernel) view t told here.1.of_run known) here.1.of_run here.1.seen rows
+          (subst (ShowsAll (map.get view.threads)) (sym all) (shows_all view.threads));
     }
 
 pub show_nowhere : (w : PlainWorld) (c : ℕ) → IsViewAt w c None → IsShowing w c (response.Refused refusal.BadCpu)

@@ -1,77 +1,69 @@
--- Going over a view by name, a row at a time.
-use Rattle.std.proofs.Common.{◌≡◌, ℕ, ◌+◌, ◌^◌, ◌≤◌, ◌<◌, ◌==◌, ◌||◌, Bool, true, false, List, [], ◌∷◌, ◌++◌, map, All, Option, Some, None, IsSome, IfSome, is_some, refl, sym, ◌∙◌, ap, subst, inl, inr, arith}
+-- The rows of a view are those of its entries.
+use Rattle.std.proofs.Common.{◌≡◌, ℕ, ◌+◌, ◌≤◌, ◌==◌, true, List, [], ◌∷◌, ◌++◌, map as map_list, All, Some, IsSome, refl, sym, ◌∙◌, ap, subst, inl, inr, arith, append-nil, append_assoc}
 use Rattle.std.specs.List.{list_any}
-use Rattle.std.proofs.lemmas.Bool.{cases_lt, eq-eqb}
-use Rattle.std.proofs.lemmas.List.Elements.{All-weaker, All-push, All-nil, All-map, All-tail}
-use Rattle.std.proofs.lemmas.List.{map_push}
-use Rattle.std.proofs.lemmas.List.Folds.{list_any-append}
-use Rattle.pc_join.specs.ByName.{IsLeastFrom}
+use Rattle.std.specs.Ordering.{nat_cmp}
+use Rattle.std.specs.FinMap as map
+use Rattle.std.proofs.lemmas.Bool.{eq-eqb}
+use Rattle.std.proofs.lemmas.List.Elements.{All-weaker, All-nil, All-cons, All-map}
+use Rattle.pc_join.specs.ByName.{AscendFrom, value_at}
+use Rattle.pc_join.proofs.Entries.{at_first, at_later, entries_ascend, same_or_other}
 use Rattle.pc_thread_view.specs.Told.{Told}
 use Rattle.pc_script.specs.declared.lists.ShownThread.{ShownThread}
-use Rattle.pc_sim.specs.ShownViews.{RiseFrom}
-use Rattle.pc_sim.specs.Inner.Showing.{row_told, IsRow, ShowsBelow, ShowsAll}
+use Rattle.pc_sim.specs.Inner.Showing.{row_told, rows_told, IsRow, ShowsAll}
+use Rattle.pc_sim.proofs.Bools.{or_left, or_right}
+use Rattle.pc_sim.proofs.Telling.{names_rise}
 
-rise_push : (n t : ℕ) (xs : List ℕ) → RiseFrom n xs → n ≤ t → All (λ x. x < t) xs → RiseFrom n (xs ++ t ∷ [])
-rise_push n t [] h low below = (low, tt)
-rise_push n t (x ∷ xs) h low below =
-    let first : x < t = below 0 0 (omega arith) in
-    (h.0, rise_push (x + 1) t xs h.1 (omega arith) (All-tail (λ y. y < t) x xs below))
+-- each entry stands under its name
+each_found : (n : ℕ) (es : List (ℕ × Told)) → AscendFrom n es → All (λ e. (n ≤ e.0) × (value_at es e.0 ≡ Some e.1)) es
+each_found n [] h = All-nil (λ (e : ℕ × Told). (n ≤ e.0) × (value_at [] e.0 ≡ Some e.1))
+each_found n (e ∷ es) h =
+    All-cons (λ (x : ℕ × Told). (n ≤ x.0) × (value_at (e ∷ es) x.0 ≡ Some x.1)) e es (h.0, at_first e es)
+    (All-weaker (λ (x : ℕ × Told). (e.0 + 1 ≤ x.0) × (value_at es x.0 ≡ Some x.1)) (λ (x : ℕ × Told). (n ≤ x.0) × (value_at (e ∷ es) x.0 ≡ Some x.1))
+    (λ x (above, found). (later x above, at_later e es x.0 (other x above) ∙ found)) es (each_found (e.0 + 1) es h.1))
+  where
+    first : n ≤ e.0
+    first = h.0
 
-pub shows_none : (known : ℕ → Option Told) → ShowsBelow known 0 []
-shows_none known =
-    record { ascending = tt; below = All-nil (λ (row : ShownThread). row.thread < 0); each = All-nil (IsRow known); every = λ t e s. absurd (omega arith) }
+    later : (x : ℕ × Told) → e.0 + 1 ≤ x.0 → n ≤ x.0
+    later x above = omega (arith, first)
 
-names_below : (from t : ℕ) (rows : List ShownThread) → from ≤ t → All (λ (row : ShownThread). row.thread < from) rows → All (λ x. x < t) (map (λ (row : ShownThread). row.thread) rows)
-names_below from t rows le h =
-    All-map (λ x. x < t) (λ (row : ShownThread). row.thread) rows (All-weaker (λ (row : ShownThread). row.thread < from) (λ (row : ShownThread). row.thread < t) (λ r e. omega arith) rows h)
+    other : (x : ℕ × Told) → e.0 + 1 ≤ x.0 → ¬ (x.0 ≡ e.0)
+    other x above same = absurd (omega arith)
 
-or_true : (a : Bool) → (a || true) ≡ true
-or_true true = refl
-or_true false = refl
+-- what stands under a name has its row
+every_shown : (es : List (ℕ × Told)) (t : ℕ) → IsSome (value_at es t) → list_any (λ row. row.thread == t) (rows_told es) ≡ true
+every_shown [] t some = some
+every_shown (e ∷ es) t some = elim (same_or_other t e.0) [
+  | inl same ↦ or_left (e.0 == t) (list_any (λ (row : ShownThread). row.thread == t) (rows_told es)) (eq-eqb e.0 t (sym same))
+  | inr other ↦ or_right (e.0 == t) (list_any (λ (row : ShownThread). row.thread == t) (rows_told es)) (every_shown es t (subst IsSome (at_later e es t other) some))
+]
 
-or_left : (a b : Bool) → a ≡ true → (a || b) ≡ true
-or_left a b e = rw e refl
+names_told : (es : List (ℕ × Told)) → map_list (λ (row : ShownThread). row.thread) (rows_told es) ≡ map_list (λ (e : ℕ × Told). e.0) es
+names_told [] = refl
+names_told (e ∷ es) = ap (λ names. e.0 ∷ names) (names_told es)
 
-or_right : (a b : Bool) → b ≡ true → (a || b) ≡ true
-or_right a b e = rw e (or_true a)
-
-pub shows_more : (known : ℕ → Option Told) (from t : ℕ) (told : Told) (rows : List ShownThread) → ShowsBelow known from rows → IsLeastFrom known from t → known t ≡ Some told
-    → ShowsBelow known (t + 1) (rows ++ row_told t told ∷ [])
-shows_more known from t told rows h next there =
-    let row : ShownThread = row_told t told in
-    let reached = next.reached in
+pub shows_all : (a : map.FinMap nat_cmp Told) → ShowsAll (map.get a) (rows_told (map.entries a))
+shows_all a =
+    let es = map.entries a in
+    let ascend : AscendFrom 0 es = entries_ascend a in
     record {
-      ascending = subst (RiseFrom 0) (sym (map_push (λ (r : ShownThread). r.thread) rows row)) (rise_push 0 t (map (λ (r : ShownThread). r.thread) rows) h.ascending (omega arith) (names_below from t rows next.reached h.below));
-      below = All-push (λ (r : ShownThread). r.thread < t + 1) rows row (All-weaker (λ (r : ShownThread). r.thread < from) (λ (r : ShownThread). r.thread < t + 1) (λ r e. omega arith) rows h.below) (omega arith);
-      each = All-push (IsRow known) rows row h.each (told, there, refl);
-      every = λ n low some. elim (cases_lt n from) [
-        | inl before ↦
-            list_any-append (λ (r : ShownThread). r.thread == n) rows (row ∷ [])
-            ∙ or_left (list_any (λ (r : ShownThread). r.thread == n) rows) (list_any (λ (r : ShownThread). r.thread == n) (row ∷ [])) (h.every n before some)
-        | inr after ↦
-            let at_least : t ≤ n = next.least n some after in
-            let same : t ≡ n = omega arith in
-            list_any-append (λ (r : ShownThread). r.thread == n) rows (row ∷ [])
-            ∙ or_right (list_any (λ (r : ShownThread). r.thread == n) rows) (list_any (λ (r : ShownThread). r.thread == n) (row ∷ [])) (or_left (t == n) false (eq-eqb t n same))
-      ];
+      ascending = rw (names_told es) (names_rise 0 es ascend);
+      each = All-map (IsRow (map.get a)) (λ (e : ℕ × Told). row_told e.0 e.1) es
+          (All-weaker (λ (e : ℕ × Told). (0 ≤ e.0) × (value_at es e.0 ≡ Some e.1)) (λ (e : ℕ × Told). IsRow (map.get a) (row_told e.0 e.1))
+          (λ e (_, found). (e.1, map.get-entries a e.0 ∙ found, refl)) es (each_found 0 es ascend));
+      every = λ t some. every_shown es t (subst IsSome (map.get-entries a t) some);
     }
 
-pub shows_all : (known : ℕ → Option Told) (from : ℕ) (rows : List ShownThread) → ShowsBelow known from rows → ((name : ℕ) → IsSome (known name) → name < from) → ShowsAll known rows
-shows_all known from rows h none = record { ascending = h.ascending; each = h.each; every = λ t some. h.every t (none t some) some }
+-- ---- row by row
 
--- the same, of what the next name holds
-pub shows_next : (known : ℕ → Option Told) (from t : ℕ) (rows more : List ShownThread) → ShowsBelow known from rows → IsLeastFrom known from t
-    → IfSome (known t) (λ told. more ≡ rows ++ row_told t told ∷ []) → ShowsBelow known (t + 1) more
-shows_next known from t rows more h next added =
-    elim (known t) as (λ o. known t ≡ o → IfSome o (λ told. more ≡ rows ++ row_told t told ∷ []) → ShowsBelow known (t + 1) more) [
-      | None ↦ λ e a. let bad : false ≡ true = sym (ap is_some e) ∙ next.held in cc
-      | Some told ↦ λ e a. subst (ShowsBelow known (t + 1)) (sym a) (shows_more known from t told rows h next e)
-    ] refl added
+-- the rows so far, and those of the entries that are left, are all
+pub shown_start : (all left : List (ℕ × Told)) (rows : List ShownThread) → left ≡ all → rows ≡ [] → rows ++ rows_told left ≡ rows_told all
+shown_start all left rows is none = ap (λ xs. xs ++ rows_told left) none ∙ ap rows_told is
 
--- no name is above the greatest
-pub shows_last : (known : ℕ → Option Told) (t : ℕ) (rows : List ShownThread) → ShowsBelow known (t + 1) rows → ((name : ℕ) → IsSome (known name) → name < 2 ^ 32) → (t + 1 < 2 ^ 32 → ⊥)
-    → ShowsAll known rows
-shows_last known t rows h short last = shows_all known (t + 1) rows h (λ name some. let low = short name some in fits name low)
-  where
-    fits : (name : ℕ) → name < 2 ^ 32 → name < t + 1
-    fits name low = elim (cases_lt name (t + 1)) [ inl below ↦ below | inr high ↦ absurd (last (omega arith)) ]
+pub shown_on : (all left after : List (ℕ × Told)) (rows more : List ShownThread) (t : ℕ) (told : Told) → left ≡ (t, told) ∷ after
+    → more ≡ rows ++ row_told t told ∷ [] → rows ++ rows_told left ≡ rows_told all → more ++ rows_told after ≡ rows_told all
+shown_on all left after rows more t told is pushed so_far =
+    ap (λ xs. xs ++ rows_told after) pushed ∙ append_assoc rows (row_told t told ∷ []) (rows_told after) ∙ ap (λ es. rows ++ rows_told es) (sym is) ∙ so_far
+
+pub shown_end : (all left : List (ℕ × Told)) (rows : List ShownThread) → left ≡ [] → rows ++ rows_told left ≡ rows_told all → rows ≡ rows_told all
+shown_end all left rows is so_far = sym (append-nil rows) ∙ ap (λ xs. rows ++ rows_told xs) (sym is) ∙ so_far

@@ -1,6 +1,7 @@
 -- The rows of a view of a set in a run are those that the set has in the run.
-use Rattle.std.proofs.Common.{◌≡◌, ℕ, ◌+◌, ◌≤◌, ◌<◌, ◌==◌, ◌||◌, Bool, true, false, List, [], ◌∷◌, map, take, Some, None, IsSome, refl, sym, ◌∙◌, ap, subst, inl, inr, arith}
+use Rattle.std.proofs.Common.{◌≡◌, All, ℕ, ◌+◌, ◌≤◌, ◌<◌, ◌==◌, ◌||◌, Bool, true, false, List, [], ◌∷◌, map, take, Some, None, IsSome, refl, sym, ◌∙◌, ap, subst, inl, inr, arith}
 use Rattle.std.specs.List.{list_any}
+use Rattle.std.specs.List.Sorted.{IsStrictlyIncreasing}
 use Rattle.std.specs.Ordering.{nat_cmp}
 use Rattle.std.specs.FinMap as map
 use Rattle.std.proofs.lemmas.Bool.{cases_lt, eq-eqb}
@@ -15,9 +16,10 @@ use Rattle.pc_join.specs.Ranges.{one_to}
 use Rattle.pc_thread_view.specs.Told.{Told, tells, numbers_of, is_early, IsOfThread}
 use Rattle.pc_script.specs.declared.lists.ShownThread.{ShownThread}
 use Rattle.pc_world.specs.PlainWorld.{Set}
-use Rattle.pc_sim.specs.ShownViews.{RiseFrom, IsPrefix, IsShown, IsShownThread}
+use Rattle.pc_sim.specs.ShownViews.{IsPrefix, IsShown, IsShownThread}
 use Rattle.pc_sim.specs.Inner.Showing.{IsRow, ShowsAll}
-use Rattle.pc_sim.proofs.Telling.{told_prefix, told_ends, told_early, numbers_rise, numbers_early}
+use Rattle.pc_sim.proofs.Telling.{told_prefix, told_ends, told_early, numbers_above, numbers_rise, numbers_early}
+use Rattle.pc_sim.proofs.Bools.{or_left, or_right}
 
 -- what is told of a thread that is known is not nothing
 void_of : (told : Told) → ((n : ℕ) → tells told n ≡ false) → IsVoid (numbers_of told)
@@ -34,18 +36,11 @@ nothing_told told low none n = elim (cases_lt told.upto n) [
   | inr below ↦ ap (λ b. b || is_early told.early n) (nothing_at_zero told.upto n below low) ∙ ap (λ early. is_early early n) none
 ]
 
-or_yes : (a b : Bool) → b ≡ true → (a || b) ≡ true
-or_yes true b e = refl
-or_yes false b e = e
-
-or_first : (a b : Bool) → a ≡ true → (a || b) ≡ true
-or_first a b e = rw e refl
-
 first_is_early : (d : ℕ × Kind) (ds : List (ℕ × Kind)) → is_early (d ∷ ds) d.0 ≡ true
-first_is_early d ds = or_first (d.0 == d.0) (is_early ds d.0) (eq-eqb d.0 d.0 refl)
+first_is_early d ds = or_left (d.0 == d.0) (is_early ds d.0) (eq-eqb d.0 d.0 refl)
 
 early_told : (told : Told) (d : ℕ × Kind) (ds : List (ℕ × Kind)) → told.early ≡ d ∷ ds → tells told d.0 ≡ true
-early_told told d ds e = or_yes (one_to told.upto d.0) (is_early told.early d.0) (ap (λ early. is_early early d.0) e ∙ first_is_early d ds)
+early_told told d ds e = or_right (one_to told.upto d.0) (is_early told.early d.0) (ap (λ early. is_early early d.0) e ∙ first_is_early d ds)
 
 some_of_early : (told : Told) (early : List (ℕ × Kind)) → told.early ≡ early → told.upto ≤ 0 → ¬ IsVoid (numbers_of told) → (n : ℕ) × (tells told n ≡ true)
 some_of_early told [] e low h = absurd (h (void_of told (nothing_told told low e)))
@@ -56,10 +51,6 @@ some_told told h = elim (cases_lt 0 told.upto) [
   | inl prefix ↦ (1, told_prefix told 1 (omega arith) (omega arith))
   | inr empty ↦ some_of_early told told.early refl empty h
 ]
-
-rise_lower : (n m : ℕ) (xs : List ℕ) → n ≤ m → RiseFrom m xs → RiseFrom n xs
-rise_lower n m [] low h = tt
-rise_lower n m (x ∷ xs) low h = let first = h.0 in (omega arith, h.1)
 
 module _ (threads : map.FinMap nat_cmp Told) (run : Run) (s : Source) (set : Set)
     (states : (t : ℕ) (told : Told) → map.get threads t ≡ Some told → told.state ≡ state_of (take told.upto (run t)))
@@ -83,9 +74,9 @@ module _ (threads : map.FinMap nat_cmp Told) (run : Run) (s : Source) (set : Set
           ends = told_has t (told.upto + 1) told known ∙ told_ends told thread.gap;
         };
         state = ap (λ (r : ShownThread). r.reported) is ∙ states t told known ∙ ap (λ n. state_of (take n (run t))) (sym upto);
-        ascending = subst (λ n. RiseFrom (n + 1) row.early) (sym upto)
-            (subst (RiseFrom (told.upto + 1)) (sym numbers)
-            (rise_lower (told.upto + 1) (told.upto + 1 + 1) (map (λ e. e.0) told.early) (omega arith) (numbers_rise (told.upto + 1) told.early thread.gap)));
+        above = subst (λ n. All (λ m. n < m) row.early) (sym upto)
+            (subst (All (λ m. told.upto < m)) (sym numbers) (All-weaker (λ m. told.upto + 1 < m) (λ m. told.upto < m) (λ m h. omega arith) (map (λ e. e.0) told.early) (numbers_above (told.upto + 1) told.early thread.gap)));
+        ascending = subst IsStrictlyIncreasing (sym numbers) (numbers_rise (told.upto + 1) told.early thread.gap);
         early = λ n above. ap (list_any (λ x. x == n)) numbers ∙ numbers_early told.early n
             ∙ sym (told_early told n (subst (λ m. m < n) upto above)) ∙ sym (told_has t n told known);
       }

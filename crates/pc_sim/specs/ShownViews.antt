@@ -1,6 +1,7 @@
 -- What `show` tells of the view of a set in a run.
-use Rattle.std.specs.Prelude.{ℕ, ◌+◌, ◌≤◌, ◌<◌, ◌≡◌, ◌==◌, true, false, List, [], ◌∷◌, take, map, All}
+use Rattle.std.specs.Prelude.{ℕ, ◌+◌, ◌≤◌, ◌<◌, ◌≡◌, ◌==◌, true, false, List, take, map, All}
 use Rattle.std.specs.List.{list_any}
+use Rattle.std.specs.List.Sorted.{IsStrictlyIncreasing}
 use Rattle.pc_messages.specs.Run.{Run}
 use Rattle.pc_messages.specs.State.{state_of}
 use Rattle.pc_join.specs.Sets.{has}
@@ -12,21 +13,17 @@ pub record IsPrefix (set : Set) (thread upto : ℕ) : Type 0 where
   pub known : (n : ℕ) → 1 ≤ n → n ≤ upto → has set thread n ≡ true
   pub ends : has set thread (upto + 1) ≡ false
 
--- the numbers ascend, and the first is at least n
-abbrev pub RiseFrom : ℕ → List ℕ → Type 0
-RiseFrom n [] = Unit {0}
-RiseFrom n (x ∷ xs) = (n ≤ x) × RiseFrom (x + 1) xs
-
 -- the row tells the state of the known prefix of a thread in the set, and the known numbers above the prefix
 pub record IsShownThread (run : Run) (set : Set) (row : ShownThread) : Type 0 where
   pub some : (n : ℕ) × (has set row.thread n ≡ true)
   pub upto : IsPrefix set row.thread row.upto
   pub state : row.reported ≡ state_of (take row.upto (run row.thread))
-  pub ascending : RiseFrom (row.upto + 1) row.early
+  pub above : All (λ n. row.upto < n) row.early
+  pub ascending : IsStrictlyIncreasing row.early
   pub early : (n : ℕ) → row.upto < n → list_any (λ x. x == n) row.early ≡ has set row.thread n
 
 -- a row for each thread of which the set has a number, in the order of their names
 pub record IsShown (run : Run) (set : Set) (rows : List ShownThread) : Type 0 where
-  pub ascending : RiseFrom 0 (map (λ row. row.thread) rows)
+  pub ascending : IsStrictlyIncreasing (map (λ row. row.thread) rows)
   pub each : All (IsShownThread run set) rows
   pub every : (t n : ℕ) → has set t n ≡ true → list_any (λ row. row.thread == t) rows ≡ true

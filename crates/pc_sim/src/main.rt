@@ -3,9 +3,9 @@
 
 ghost use Rattle.std.specs.Prelude.{◌≡◌, ◌+◌, ◌⊎◌, ◌<◌, ◌≤◌, List, ℕ, length, IfOk, IfSome, OnOk, Err};
 ghost use Rattle.std.specs.Io.KnownBytes.{Appends, Consumes};
-ghost use Rattle.pc_script.specs.Scripts.{IsOutput, IsOutputOfFirstLines};
+ghost use Rattle.pc_script.specs.Scripts.{IsOutput, IsOutputUntil};
 ghost use Rattle.pc_script.specs.declared.input.TheConstants.{MOST_BYTES};
-ghost use Rattle.pc_sim.specs.Session.{IsSession};
+ghost use Rattle.pc_sim.specs.Session.{IsSession, RanOut};
 
 mod command_line;
 mod ending;
@@ -31,8 +31,8 @@ pub fn run_script<R: Read, W: Write>(
 ) -> Result<Outcome, ScriptFault>
     ensures ok { IfOk result (λ outcome. IfSome (R.remaining reader.old) (λ text. (output : List ℕ) × IsOutput IsSession text outcome output
         × Appends (W.contents writer.old) (W.contents writer.new) output)) }
-    ensures no_memory { result ≡ Err ScriptFault.OutOfMemory → IfSome (R.remaining reader.old) (λ text. (output : List ℕ)
-        × IsOutputOfFirstLines IsSession text output × Appends (W.contents writer.old) (W.contents writer.new) output) }
+    ensures no_memory { result ≡ Err ScriptFault.OutOfMemory → (writer.new ≡ writer.old) ⊎ IfSome (R.remaining reader.old) (λ text. (output : List ℕ)
+        × IsOutputUntil IsSession RanOut text output × Appends (W.contents writer.old) (W.contents writer.new) output) }
     ensures unread { (result ≡ Err ScriptFault.Read) ⊎ (result ≡ Err ScriptFault.TooLong) → writer.new ≡ writer.old }
     ensures too_long { result ≡ Err ScriptFault.TooLong → IfSome (R.remaining reader.old) (λ text. MOST_BYTES < length text) }
     ensures short { OnOk result (IfSome (R.remaining reader.old) (λ text. length text ≤ MOST_BYTES)) }

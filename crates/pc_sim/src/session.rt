@@ -4,8 +4,8 @@ ghost use Rattle.std.specs.Prelude.{◌≡◌, List, [], ◌∷◌, ◌++◌, No
 ghost use Rattle.pc_script.specs.declared.command.Command.{Command};
 ghost use Rattle.pc_script.specs.declared.response.Response.{Response};
 ghost use Rattle.pc_script.specs.Grammar.{IsBuilt};
-ghost use Rattle.pc_sim.specs.Session.{IsSession};
-ghost use Rattle.pc_sim.specs.Inner.Sessions.{Answers, StandsAfter, Steps, is_session, is_session_of_none};
+ghost use Rattle.pc_sim.specs.Session.{IsSession, RanOut};
+ghost use Rattle.pc_sim.specs.Inner.Sessions.{Answers, StandsAfter, Steps, is_session};
 
 use crate::reads::answer_of;
 use pc_calls::{LimitsFault, Profile};
@@ -65,6 +65,8 @@ impl Machine for Session {
 
     ghost StandsAfter = { λ profile session. StandsAfter profile session.profile session.world };
 
+    ghost RanOut = { RanOut };
+
     fn start(alloc: Global, profile: Profile) -> Session {
         Session {
             alloc,
@@ -79,8 +81,6 @@ impl Machine for Session {
             Some(world) => act(self.alloc, world, command),
         }
     }
-
-    ghost is_run_of_none = { is_session_of_none };
 
     ghost is_run_after = { λ profile session commands told stands. is_session profile session.profile session.world commands told stands };
 }

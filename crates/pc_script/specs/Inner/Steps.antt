@@ -1,9 +1,9 @@
 -- What one line of a script does.
-use Rattle.std.specs.Prelude.{ℕ, List, [], ◌∷◌, ◌++◌, Option, take}
+use Rattle.std.specs.Prelude.{ℕ, List, [], ◌∷◌, ◌++◌, Option}
 use Rattle.std.specs.Io.KnownBytes.{Appends}
 use Rattle.pc_calls.specs.declared.limits.Profile.{Profile}
 use Rattle.pc_script.specs.Grammar.{Spells, HasNoReply, IsFault}
-use Rattle.pc_script.specs.Scripts.{Script, IsTold, responses_text}
+use Rattle.pc_script.specs.Scripts.{Script, responses_text}
 use Rattle.pc_script.specs.Text.{words}
 use Rattle.pc_script.specs.declared.command.Command.{Command}
 use Rattle.pc_script.specs.declared.line.Wish.{Wish}
@@ -36,6 +36,10 @@ pub record TakesLine {M : Type 0} (StandsAfter : Profile → M → List Command 
       → StandsAfter profile new (past ++ commands) (told ++ responses)
   pub text : Appends before after (responses_text responses)
 
--- what is told of the first of some lines, of which the first has this number
-abbrev pub IsToldOfFirstLines : (List Command → List Response → Type 0) → ℕ → List (List ℕ) → List ℕ → Type 0
-IsToldOfFirstLines IsRun number script told = (count : ℕ) × IsTold IsRun number (take count script) Finished told
+-- The line asks for a command, and the machine found no memory for its answer
+pub record FoundNoMemory {M : Type 0} (StandsAfter : Profile → M → List Command → List Response → Type 0)
+    (RanOut : Profile → List Command → List Response → Command → Type 0) (machine : M) (line : List ℕ) : Type 0 where
+  pub command : Command
+  pub asks : Spells (words line) command
+  pub ran_out : (profile : Profile) (past : List Command) (told : List Response) → StandsAfter profile machine past told
+      → RanOut profile past told command

@@ -2,13 +2,20 @@
 
 use crate::command::{Command, Read};
 use crate::grammar::command_of;
+use crate::lines::first_word;
 use pc_calls::{EnvCall, Event, Limits};
 use pc_messages::{Cpu, Tid};
 use std::process::Abort;
 
+/// The command that a line spells.
+fn read(line: &[u8]) -> Option<Command> {
+    let (name, rest) = first_word(line)?;
+    command_of(name, rest)
+}
+
 /// Asserts that a line spells a command.
 fn reads(rt: &impl Abort, line: &[u8], command: Command) {
-    assert_eq!(rt; command_of(line), Some(command));
+    assert_eq!(rt; read(line), Some(command));
 }
 
 /// The command of a call of the environment.
@@ -106,7 +113,7 @@ fn what_is_no_command_is_not_read(rt: HostRuntime) {
         b"deliver 1 99999999999999999999",
         b"deliver 1 184467440737095516150",
     ] {
-        assert_eq!(rt; command_of(line), None);
+        assert_eq!(rt; read(line), None);
     }
 }
 

@@ -28,6 +28,30 @@ impl Read for Repeated {
     }
 }
 
+/// Gives what another reader gives, and counts the reads: those that gave bytes, those that gave none or failed, and
+/// those that came after one of these.
+#[derive(Drop)]
+struct Counted {
+    inner: Repeated,
+    gave: u32,
+    ended: u32,
+    late: u32,
+}
+
+impl Read for Counted {
+    fn read(&mut self, buf: &mut [u8]) -> io::Result<usize> {
+        if self.ended > 0 {
+            self.late = self.late.saturating_add(1);
+        }
+        let given = self.inner.read(buf);
+        match &given {
+            Ok(0) | Err(_) => self.ended = self.ended.saturating_add(1),
+            Ok(_) => self.gave = self.gave.saturating_add(1),
+        }
+        given
+    }
+}
+
 /// Takes so many bytes, one at a time, and then fails.
 #[derive(Drop)]
 struct Filling {
@@ -92,6 +116,80 @@ fn a_read_that_fails_ends_the_reading(rt: HostRuntime) {
 }
 
 #[test]
+fn nothing_is_read_after_the_end_or_a_failed_read(rt: HostRuntime) {
+    let alloc = rt.alloc();
+    for (length, fails) in [
+        (0, false),
+        (0, true),
+        (1, false),
+        (1, true),
+        (200_000, false),
+        (200_000, true),
+    ] {
+        let inner = Repeated {
+            byte: b'\n',
+            left: length,
+            fails,
+        };
+        let mut reader = Counted {
+            inner,
+            gave: 0,
+            ended: 0,
+            late: 0,
+        };
+        let mut writer: Vec<u8> = Vec::new(alloc);
+        let ended = run_script::<Echo, _, _>(alloc, &mut reader, &mut writer);
+        assert_eq!(rt; ended.is_err(), fails);
+        assert_eq!(rt; (reader.ended, reader.late), (1, 0));
+        assert_eq!(rt; reader.gave > 0, length > 0);
+        assert_eq!(rt; reader.inner.left, 0);
+    }
+}
+
+#[test]
+fn nothing_is_read_past_the_greatest_length(rt: HostRuntime) {
+    let alloc = rt.alloc();
+    let inner = Repeated {
+        byte: b'\n',
+        left: 16_777_217,
+        fails: true,
+    };
+    let mut reader = Counted {
+        inner,
+        gave: 0,
+        ended: 0,
+        late: 0,
+    };
+    let mut writer: Vec<u8> = Vec::new(alloc);
+    assert_eq!(rt;
+        run_script::<Echo, _, _>(alloc, &mut reader, &mut writer),
+        Err(ScriptFault::TooLong)
+    );
+    assert_eq!(rt; (reader.ended, reader.late), (0, 0));
+}
+
+#[test]
+fn what_was_written_before_a_failed_write_is_a_front_of_the_output(rt: HostRuntime) {
+    let alloc = rt.alloc();
+    let output =
+        b"ok\nrefused Stale 1\nt0 upto 2 blocked mask 3 ran 5 early -\nt12 upto 0 - early 2 1000000\nend\nfault line 5\n".as_slice();
+    for room in 0..=output.len() {
+        let mut reader = b"version 2\nwake t1\n# x\nshow 0\nx\nwake t2\n".as_slice();
+        let mut writer = Filling {
+            room,
+            taken: Vec::new(alloc),
+        };
+        let ended = run_script::<Echo, _, _>(alloc, &mut reader, &mut writer);
+        assert_eq!(rt; writer.taken.as_slice(), &output[..room]);
+        if room < output.len() {
+            assert_eq!(rt; ended, Err(ScriptFault::Write));
+        } else {
+            assert_eq!(rt; ended, Ok(Outcome::FaultLine(5)));
+        }
+    }
+}
+
+#[test]
 fn a_write_that_fails_ends_the_script(rt: HostRuntime) {
     let alloc = rt.alloc();
     for (script, room) in [
@@ -135,7 +233,7 @@ impl Read for WakeLines {
 }
 
 #[test]
-fn a_script_of_the_greatest_length_ends_soon(rt: HostRuntime) {
+fn a_script_of_the_greatest_length_is_answered_whole(rt: HostRuntime) {
     let alloc = rt.alloc();
     let mut reader = WakeLines {
         at: 0,

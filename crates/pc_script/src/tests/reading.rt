@@ -1,8 +1,8 @@
 //! Lines that are read, and what is written of the answers.
 
 use super::gives;
-use crate::laws::words_spell_one_command;
 use crate::outcome::Outcome;
+use std::io::Write;
 
 #[test]
 fn an_empty_script_has_no_output(rt: HostRuntime) {
@@ -11,7 +11,7 @@ fn an_empty_script_has_no_output(rt: HostRuntime) {
 }
 
 #[test]
-fn each_command_is_read(rt: HostRuntime) {
+fn arguments_reach_the_machine(rt: HostRuntime) {
     let alloc = rt.alloc();
     for (script, output) in [
         (b"enclave 2 8 100 16 1000".as_slice(), b"ok\n".as_slice()),
@@ -70,7 +70,7 @@ fn what_is_sent_and_compared_is_answered(rt: HostRuntime) {
 }
 
 #[test]
-fn silent_lines_are_counted(rt: HostRuntime) {
+fn silent_lines_have_no_reply(rt: HostRuntime) {
     let alloc = rt.alloc();
     for (script, output) in [
         (
@@ -88,6 +88,21 @@ fn silent_lines_are_counted(rt: HostRuntime) {
 }
 
 #[test]
-fn the_law_of_the_text_holds(_rt: HostRuntime) {
-    words_spell_one_command();
+fn silent_lines_are_counted(rt: HostRuntime) {
+    let alloc = rt.alloc();
+    for (script, line) in [
+        (b"\n# x\n   \nx".as_slice(), 4),
+        (b"\r\n#\r\nx\r\nwake t1", 3),
+        (b"\n\n\n\n\n\n\n\n\n x \n", 10),
+    ] {
+        let mut output: Vec<u8> = Vec::new(alloc);
+        assert!(rt; writeln!(output, "fault line {line}").is_ok());
+        gives(
+            &rt,
+            alloc,
+            script,
+            output.as_slice(),
+            Outcome::FaultLine(line),
+        );
+    }
 }

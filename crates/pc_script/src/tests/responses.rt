@@ -3,29 +3,24 @@
 use super::shown;
 use crate::lists::{EarlyNumbers, ShownThread};
 use crate::response::Response;
-use crate::short::write_line;
-use crate::text::LineEnd;
 use pc_calls::{LimitField, Posted, Refusal, Reply, Status};
 use pc_messages::{Cpu, Level, Mask, Phase, Reported, Tid};
 use std::alloc::Global;
 use std::test::Fail;
 
-/// What is written of a response that has one line; nothing where its pieces and its line are not the same.
+/// What is written of a response, without the line feed at its end.
 fn text_of(alloc: Global, response: &Response) -> Result<String, Fail> {
-    let text = format!(in alloc; "{response}")?;
-    let mut line = LineEnd::new();
-    let is_written = write_line(&mut line, response);
-    let whole = format!(in alloc; "{text}\n")?;
-    if !is_written || line.as_slice() != whole.as_bytes() {
-        return Ok(String::new(alloc));
-    }
-    Ok(text)
+    let mut written: Vec<u8> = Vec::new(alloc);
+    response.write_to(&mut written)?;
+    let Some((b'\n', text)) = written.as_slice().split_last() else {
+        return Err(Fail::from("no line feed at the end"));
+    };
+    Ok(String::from_str(alloc, std::str::from_utf8(text)?)?)
 }
 
 /// What is written of a refusal, to a question and to an event; nothing where the two differ.
 fn refusal_text(alloc: Global, refusal: Refusal) -> Result<String, Fail> {
-    let response = Response::Refused(refusal);
-    let text = format!(in alloc; "{response}")?;
+    let text = text_of(alloc, &Response::Refused(refusal))?;
     if text.as_str() != reply_text(alloc, Reply::Refused(refusal))?.as_str() {
         return Ok(String::new(alloc));
     }
@@ -102,7 +97,7 @@ fn what_is_answered_to_an_enclave(rt: HostRuntime) -> Result<(), Fail> {
             "refused BadLimits posts",
         ),
     ] {
-        assert_eq!(rt; format!(in rt.alloc(); "{response}")?.as_str(), text);
+        assert_eq!(rt; text_of(rt.alloc(), &response)?.as_str(), text);
     }
     Ok(())
 }
@@ -235,12 +230,39 @@ fn levels_are_shown(rt: HostRuntime) -> Result<(), Fail> {
 }
 
 #[test]
+fn whether_it_is_so_is_told(rt: HostRuntime) -> Result<(), Fail> {
+    for (response, text) in [
+        (Response::Truth(true), "yes"),
+        (Response::Truth(false), "no"),
+        (Response::Sameness(true), "equal"),
+        (Response::Sameness(false), "differ"),
+    ] {
+        assert_eq!(rt; text_of(rt.alloc(), &response)?.as_str(), text);
+    }
+    Ok(())
+}
+
+#[test]
+fn a_view_has_a_line_for_each_thread(rt: HostRuntime) -> Result<(), Fail> {
+    let alloc = rt.alloc();
+    let response = Response::View(shown(alloc)?);
+    assert_eq!(rt;
+        text_of(alloc, &response)?.as_str(),
+        "t0 upto 2 blocked mask 3 ran 5 early -\nt12 upto 0 - early 2 1000000\nend"
+    );
+    Ok(())
+}
+
+#[test]
 fn lists_keep_their_order(rt: HostRuntime) -> Result<(), Fail> {
     let mut numbers = EarlyNumbers::new(rt.alloc());
     numbers.push(7)?;
     numbers.push(3)?;
     assert_eq!(rt; numbers.as_slice(), [7, 3].as_slice());
     let threads = shown(rt.alloc())?;
-    assert_eq!(rt; threads.as_slice().len(), 2);
+    let [first, second] = threads.as_slice() else {
+        return Ok(assert!(rt; false));
+    };
+    assert_eq!(rt; (first.thread, second.thread), (Tid(0), Tid(12)));
     Ok(())
 }

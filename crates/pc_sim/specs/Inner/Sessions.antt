@@ -6,7 +6,7 @@ use Rattle.pc_script.specs.declared.response.Response.{Response}
 use Rattle.pc_world.specs.PlainWorld.{PlainWorld}
 use Rattle.pc_world.specs.Shows.{ShowsWorld}
 use Rattle.pc_world.specs.declared.world.World.{World}
-use Rattle.pc_sim.specs.Session.{Session, IsStep, IsRun, IsSession, IsWorldStep, none}
+use Rattle.pc_sim.specs.Session.{Session, IsStep, IsRun, IsSession, IsWorldStep}
 
 -- before an accepted `enclave` there is no world
 abbrev pub ShowsSession : Option World → Session → Type 0
@@ -29,9 +29,6 @@ Answers command old new told =
 abbrev pub StandsAfter : Profile → Profile → Option World → List Command → List Response → Type 0
 StandsAfter profile judged world commands told =
     (judged ≡ profile) × ((s : Session) × IsRun profile None commands told s × ShowsSession world s)
-
-pub is_session_of_none : (profile : Profile) → IsSession profile [] []
-is_session_of_none profile = (None, none)
 
 pub is_session : (profile judged : Profile) (world : Option World) (commands : List Command) (told : List Response)
     → StandsAfter profile judged world commands told → IsSession profile commands told

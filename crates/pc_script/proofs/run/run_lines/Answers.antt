@@ -3,7 +3,7 @@ use Rattle.std.proofs.lemmas.Iterator.Consumers.{YieldsList-from_first, YieldsLi
 use Rattle.std.proofs.lemmas.List.{length_push, map-append, length-map}
 use Rattle.std.proofs.lemmas.Result.{err_from_is_err_and}
 use Rattle.pc_script.specs.Inner.Left.{lines_left, lines_of_rest}
-use Rattle.pc_script.proofs.Progress.{HasRun-none, HasRun-more, told_so_far, told_at_fault, passed_fault}
+use Rattle.pc_script.proofs.Progress.{HasRun-none, HasRun-more, told_until, told_at_fault, passed_fault}
 use Rattle.pc_script.specs.declared.outcome.ScriptFault.TheVariants.{OutOfMemory}
 use Rattle.pc_script.proofs.Splits.{list_at}
 use Rattle.pc_script.proofs.run.run_lines.Goals as goal
@@ -24,9 +24,12 @@ returns-in_err-take_line-clause-no_memory g c = λ is.
     let road = YieldsList-from_first (λ (line : Bor (List ℕ)). line.now) lines_left {s = c.into_iter-line-iterator.result} all (cc) in
     let passed = err_from_is_err_and c.from_residual.result c.from_residual.ensures.1 in
     let memory = passed_fault c.take_line.result c.from_residual.result c.in_err-take_line.field-0.0 passed.0 OutOfMemory c.in_err-take_line.was passed.2 passed.1 is in
+    let turn = YieldsList-turn road c.loop-line.yielded _ c.loop-line.yielded_by c.next.result c.next.new.self c.in-Some.line c.in-Some.is c.next.ensures.steps in
     let front = YieldsList-so_far road c.loop-line.yielded _ c.loop-line.yielded_by in
-    let told = told_so_far (g.M.Machine.IsRun c.args.opening.now.profile) all (length c.loop-line.yielded) (g.met.M.Machine.is_run_after c.args.opening.now.profile) front c.loop-line.invariant.ran in
-    rw (c.take_line.ensures.no_memory memory) told
+    let whole = list_at all _ c.in-Some.line.now (length c.loop-line.yielded) front turn.0 turn.1 in
+    let none = c.take_line.ensures.no_memory memory in
+    let told = told_until c.args.opening.now.profile (g.M.Machine.IsRun c.args.opening.now.profile) g.M.Machine.RanOut all c.in-Some.line.now (drop (length c.loop-line.yielded + 1) all) (g.met.M.Machine.is_run_after c.args.opening.now.profile) whole c.loop-line.invariant.ran none.1 in
+    rw none.0 told
 
 pub returns-then-not-branch-clause-ok : goal.returns-then-not-branch-clause-ok
 returns-then-not-branch-clause-ok g c =

@@ -1,10 +1,7 @@
-use Rattle.std.proofs.Common.{arith}
-use Rattle.pc_script.proofs.Openings.{Opens-length, nothing_told, whole_told, first_told}
+use Rattle.std.proofs.Common.{arith, inr}
+use Rattle.pc_script.proofs.Openings.{Opens-length, whole_told, until_told}
 use Rattle.pc_script.proofs.Splits.{lines-few}
 use Rattle.pc_script.proofs.run.run_script.Goals as goal
-
-pub returns-in_err-text-clause-no_memory : goal.returns-in_err-text-clause-no_memory
-returns-in_err-text-clause-no_memory g c = λ is. nothing_told g.M.Machine.IsRun _ _ g.met.M.Machine.is_run_of_none
 
 pub run_lines-requires-clause-short : goal.run_lines-requires-clause-short
 run_lines-requires-clause-short g c =
@@ -22,4 +19,4 @@ pub returns-clause-no_memory : goal.returns-clause-no_memory
 returns-clause-no_memory g c = λ is.
     let whole = c.as_slice.ensures.value in
     let opens = rw whole at c.opening_of-opening.ensures in
-    first_told g.M.Machine.IsRun _ c.in_ok-text.text.items _ _ _ c.in_ok-text.ensures.ok opens c.in_ok-write_opening.ensures.ok (c.run_lines.ensures.no_memory is)
+    inr (until_told g.M.Machine.IsRun g.M.Machine.RanOut _ c.in_ok-text.text.items _ _ _ c.in_ok-text.ensures.ok opens c.in_ok-write_opening.ensures.ok (c.run_lines.ensures.no_memory is))

@@ -1,24 +1,15 @@
-use Rattle.std.proofs.Common.{◌≡◌, ◌+◌, arith, subst, sym, ap, ◌∙◌}
-use Rattle.pc_view.specs.Views.{thread_of}
-use Rattle.pc_sim.specs.Inner.Showing.{ShowsBelow}
-use Rattle.pc_sim.proofs.Showing.{shows_none, shows_next, shows_last, shows_all}
+use Rattle.std.proofs.Common.{◌∙◌, ◌++◌, ◌∷◌, [], ap}
+use Rattle.std.specs.FinMap as map
+use Rattle.pc_sim.proofs.Showing.{shown_start, shown_on, shown_end}
 use Rattle.pc_sim.proofs.show.shown_threads.Goals as goal
 
-pub names-init : goal.names-init
-names-init c = subst (ShowsBelow (thread_of c.args.view.now) 0) (sym c.new-rows.ensures) (shows_none (thread_of c.args.view.now))
+pub loop-thread-init : goal.loop-thread-init
+loop-thread-init c = shown_start (map.entries c.args.view.now.threads) c.into_iter-thread-iterator.result c.new-rows.result (c.into_iter-thread-iterator.ensures.into_iter_gives ∙ c.iter-thread-items.ensures.entries) c.new-rows.ensures
 
-pub returns-in-None : goal.returns-in-None
-returns-in-None c = shows_all (thread_of c.args.view.now) c.names.from c.names.rows c.names.invariant c.in-None.ensures.least
+pub loop-thread-preserved : goal.loop-thread-preserved
+loop-thread-preserved c =
+    shown_on (map.entries c.args.view.now.threads) c.loop-thread.thread-iterator c.next.new.self c.loop-thread.rows c.push.new.self c.in-Some.thread c.in-Some.known.now
+    c.in-Some.ensures.steps (c.in_ok-push.ensures.ok ∙ ap (λ row. c.loop-thread.rows ++ row ∷ []) c.in_ok-row_of.ensures) c.loop-thread.invariant
 
-pub returns-in-None-checked_add : goal.returns-in-None-checked_add
-returns-in-None-checked_add c =
-    shows_last (thread_of c.args.view.now) c.in-Some.thread c.push_row.new.rows
-    (shows_next (thread_of c.args.view.now) c.names.from c.in-Some.thread c.names.rows c.push_row.new.rows c.names.invariant c.in-Some.ensures.least.least c.in_ok-push_row-in-Some.ensures)
-    c.in-Some.ensures.short
-    (λ low. c.in-None-checked_add.ensures (omega arith))
-
-pub names-preserved : goal.names-preserved
-names-preserved c =
-    let after : c.in-Some-checked_add.after ≡ c.in-Some.thread + 1 = c.in-Some-checked_add.ensures.1 ∙ ap (λ n. n + 1) c.index.ensures in
-    subst (λ n. ShowsBelow (thread_of c.args.view.now) n c.push_row.new.rows) (sym after)
-    (shows_next (thread_of c.args.view.now) c.names.from c.in-Some.thread c.names.rows c.push_row.new.rows c.names.invariant c.in-Some.ensures.least.least c.in_ok-push_row-in-Some.ensures)
+pub returns : goal.returns
+returns c = shown_end (map.entries c.args.view.now.threads) c.loop-thread.thread-iterator c.loop-thread.rows c.in-None.ensures.steps.0 c.loop-thread.invariant

@@ -1,10 +1,7 @@
-use Rattle.std.proofs.Common.{◌-◌, ◌^◌}
-use Rattle.pc_view.specs.Views.{thread_of}
-use Rattle.pc_sim.specs.Inner.Showing.{ShowsBelow}
+use Rattle.std.proofs.Common.{◌≡◌, ◌++◌}
+use Rattle.std.specs.FinMap as map
+use Rattle.pc_sim.specs.Inner.Showing.{rows_told}
 use Rattle.pc_sim.proofs.show.shown_threads.Given as goal
 
-abbrev pub invariant-names : goal.invariant-names
-invariant-names l = ShowsBelow (thread_of l.view) l.from l.rows
-
-abbrev pub decreases-names : goal.decreases-names
-decreases-names l = 2 ^ 32 - l.from
+abbrev pub invariant-loop-thread : goal.invariant-loop-thread
+invariant-loop-thread l = l.rows ++ rows_told l.thread-iterator ≡ rows_told (map.entries l.view.threads)
