@@ -1,5 +1,5 @@
 -- Which events are calls of the kernel, and what a call is replied.
-use Rattle.std.specs.Prelude.{true, false, Option, Some, None, Result, Ok, Err}
+use Rattle.std.specs.Prelude.{Option, Some, None, Result, Ok, Err}
 use Rattle.pc_calls.specs.declared.call.Answer.{Answer}
 use Rattle.pc_calls.specs.declared.call.Answer.TheVariants as answer
 use Rattle.pc_calls.specs.declared.call.Call.{Call}
@@ -45,12 +45,3 @@ reply_to c answer.Done = done_told c
 abbrev pub told_of : Call → Result Answer Refusal → Reply
 told_of c (Ok answer) = reply_to c answer
 told_of c (Err refusal) = reply.Refused refusal
-
--- the events that the world of today can do: agents do not pick, steal and crash yet, and no send is refused
-abbrev pub IsBuilt : Event → Type 0
-IsBuilt (Pick cpu aseq) = ⊥
-IsBuilt (Steal cpu) = ⊥
-IsBuilt (Crash cpu) = ⊥
-IsBuilt (Publish cpu true) = ⊥
-IsBuilt (Publish cpu false) = Unit {0}
-IsBuilt event = Unit {0}

@@ -1,7 +1,7 @@
 //! Events of a world of a kernel and its agents, and their replies.
 
-ghost use Rattle.std.specs.Prelude.{◌≡◌, ◌↔◌, IsTrue};
-ghost use Rattle.pc_calls.specs.Events.{call_of, done_told, reply_to, IsBuilt};
+ghost use Rattle.std.specs.Prelude.{◌≡◌};
+ghost use Rattle.pc_calls.specs.Events.{call_of, done_told, reply_to};
 
 use crate::call::{Answer, Call, EnvCall, Posted};
 use crate::refusal::Refusal;
@@ -121,27 +121,6 @@ impl Event {
             | Event::Pick { .. }
             | Event::Steal { .. }
             | Event::Crash { .. } => None,
-        }
-    }
-}
-
-impl Event {
-    /// Whether the world of today can do it: agents do not pick, steal and crash yet, and no send is refused.
-    pub const fn is_built(&self) -> bool
-        ensures { IsTrue result ↔ IsBuilt self.now }
-    {
-        match self {
-            Event::Publish { fails, .. } => !*fails,
-            Event::Pick { .. } | Event::Steal { .. } | Event::Crash { .. } => false,
-            Event::Env(_)
-            | Event::Associate { .. }
-            | Event::Commit { .. }
-            | Event::Sleep { .. }
-            | Event::Rouse { .. }
-            | Event::Config { .. }
-            | Event::Consume { .. }
-            | Event::Deliver { .. }
-            | Event::Answer { .. } => true,
         }
     }
 }

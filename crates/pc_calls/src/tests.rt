@@ -155,21 +155,6 @@ fn events_that_are_no_calls(rt: HostRuntime) {
 }
 
 #[test]
-fn what_is_built(rt: HostRuntime) {
-    let cpu = Cpu(1);
-    assert!(rt; Event::Publish { cpu, fails: false }.is_built());
-    assert!(rt; Event::Consume { cpu }.is_built());
-    assert!(rt; Event::Deliver { cpu, delta: 0 }.is_built());
-    assert!(rt; Event::Answer { cpu, asker: Cpu(2) }.is_built());
-    assert!(rt; Event::Rouse { cpu }.is_built());
-    assert!(rt; Event::Env(EnvCall::Tick { cpu }).is_built());
-    assert!(rt; !Event::Publish { cpu, fails: true }.is_built());
-    assert!(rt; !Event::Pick { cpu, aseq: 1 }.is_built());
-    assert!(rt; !Event::Steal { cpu }.is_built());
-    assert!(rt; !Event::Crash { cpu }.is_built());
-}
-
-#[test]
 fn what_calls_are_replied(rt: HostRuntime) {
     let (cpu, queue, thread) = (Cpu(1), Cpu(2), Tid(3));
     let rows = [

@@ -7,7 +7,7 @@ use Rattle.std.proofs.lemmas.Fmt.{decimal_injective, decimal_digit, first_decima
 use Rattle.pc_calls.specs.declared.call.EnvCall.TheVariants as env
 use Rattle.pc_calls.specs.declared.event.Event.TheVariants as event
 use Rattle.pc_script.specs.Grammar.{Field, Processors, Processor, Queue, Level, Count, Mask, Index, Thread, State, Target, Failure, field_words, state_word, target_word, thread_name, IsInRange, words_of, AreInRange, row_of, Spells}
-use Rattle.pc_script.specs.Inner.Readings.{Kind, failure, kind_of, kinds_of, is_word, IsWritten}
+use Rattle.pc_script.specs.Inner.Readings.{Kind, failure, kind_of, kinds_of, is_word}
 use Rattle.pc_script.specs.Inner.Verbs.{back, name_of, kinds}
 use Rattle.pc_script.specs.declared.command.Command.{Command}
 use Rattle.pc_script.specs.declared.command.Command.TheVariants as command
@@ -236,17 +236,17 @@ is_split-kinds any = elim any as (λ word. is_split (kinds word) ≡ true) [ ver
 
 -- ---- commands that cannot be read
 
-pub no_words : (command : Command) → IsWritten [] command → ⊥
+pub no_words : (command : Command) → Spells [] command → ⊥
 no_words command h = cc (h.1)
 
-pub no_verb : (word : List ℕ) (rest : List (List ℕ)) → ((any : Verb) → word ≡ name_of any → ⊥) → (command : Command) → IsWritten (word ∷ rest) command → ⊥
+pub no_verb : (word : List ℕ) (rest : List (List ℕ)) → ((any : Verb) → word ≡ name_of any → ⊥) → (command : Command) → Spells (word ∷ rest) command → ⊥
 no_verb word rest none command h =
     let has = verb_for command in
     let first : word ≡ (row_of command).name = cc (h.1) in
     none has.word (first ∙ sym has.named)
 
 -- the verb of a command whose words begin with a verb's
-begins : (verb : Verb) (rest : List (List ℕ)) (command : Command) → IsWritten (name_of verb ∷ rest) command → (verb_for command).word ≡ verb
+begins : (verb : Verb) (rest : List (List ℕ)) (command : Command) → Spells (name_of verb ∷ rest) command → (verb_for command).word ≡ verb
 begins verb rest command h =
     let has = verb_for command in
     let first : name_of verb ≡ (row_of command).name = cc (h.1) in
@@ -254,15 +254,15 @@ begins verb rest command h =
 
 pub no_row : (verb : Verb) (rest : List (List ℕ))
     → ((any : List Field) → kinds_of any ≡ kinds verb → AreInRange any → rest ≡ words_of any → ⊥)
-    → (command : Command) → IsWritten (name_of verb ∷ rest) command → ⊥
+    → (command : Command) → Spells (name_of verb ∷ rest) command → ⊥
 no_row verb rest none command h =
     let has = verb_for command in
     let kinded : kinds_of (row_of command).fields ≡ kinds verb = sym has.kinded ∙ ap kinds (begins verb rest command h) in
     none (row_of command).fields kinded h.0 (cc (h.1))
 
 -- words are those of one command at most
-pub one_written : (spelled : List (List ℕ)) (one other : Command) → IsWritten spelled one → IsWritten spelled other → one ≡ other
-one_written spelled one other h k =
+pub one_spelled : (spelled : List (List ℕ)) (one other : Command) → Spells spelled one → Spells spelled other → one ≡ other
+one_spelled spelled one other h k =
     let first = verb_for one in
     let second = verb_for other in
     let rows : (row_of one).name ∷ words_of (row_of one).fields ≡ (row_of other).name ∷ words_of (row_of other).fields = sym h.1 ∙ k.1 in
@@ -272,6 +272,3 @@ one_written spelled one other h k =
     let fields : (row_of one).fields ≡ (row_of other).fields =
     same_fields (kinds first.word) (is_split-kinds first.word) (row_of one).fields (row_of other).fields (sym first.kinded) kinded h.0 k.0 (cc (rows)) in
     sym first.same ∙ ap (λ word. back word (row_of one).fields) verbs ∙ ap (back second.word) fields ∙ second.same
-
-pub one_spelled : (spelled : List (List ℕ)) (one other : Command) → Spells spelled one → Spells spelled other → one ≡ other
-one_spelled spelled one other h k = one_written spelled one other (h.1, h.2) (k.1, k.2)

@@ -1,10 +1,10 @@
 -- The words of commands. A line of a script asks for a command where its words are the command's.
-use Rattle.std.specs.Prelude.{◌≡◌, ℕ, ◌^◌, ◌<◌, Bool, true, false, List, [], ◌∷◌, ◌++◌, Option, Some, None, IfSome, ◌⊎◌, slice_get, codes, decimal}
+use Rattle.std.specs.Prelude.{◌≡◌, ℕ, ◌^◌, ◌<◌, ◌⊎◌, Bool, true, false, List, [], ◌∷◌, ◌++◌, slice_get, codes, decimal}
+use Rattle.std.specs.Prelude.{Option, Some, None, IfSome}
 use Rattle.pc_calls.specs.declared.call.EnvCall.{EnvCall}
 use Rattle.pc_calls.specs.declared.call.EnvCall.TheVariants as env
 use Rattle.pc_calls.specs.declared.event.Event.{Event}
 use Rattle.pc_calls.specs.declared.event.Event.TheVariants as event
-use Rattle.pc_calls.specs.Events.{IsBuilt as IsBuiltEvent}
 use Rattle.pc_script.specs.Text.{words}
 use Rattle.pc_script.specs.declared.command.Command.{Command}
 use Rattle.pc_script.specs.declared.command.Command.TheVariants as command
@@ -141,17 +141,9 @@ row_of (command.Read question) = read_row question
 
 -- ---- lines
 
--- all commands but those of events that are not built
-abbrev pub IsBuilt : Command → Type 0
-IsBuilt (command.Event event) = IsBuiltEvent event
-IsBuilt _ = Unit {0}
-
 -- these words are the command's
 abbrev pub Spells : List (List ℕ) → Command → Type 0
-Spells spelled command =
-    IsBuilt command
-    × AreInRange (row_of command).fields
-    × (spelled ≡ (row_of command).name ∷ words_of (row_of command).fields)
+Spells spelled command = AreInRange (row_of command).fields × (spelled ≡ (row_of command).name ∷ words_of (row_of command).fields)
 
 -- a line without words, or whose first byte is `#`
 abbrev pub HasNoReply : List ℕ → Type 0

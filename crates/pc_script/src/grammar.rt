@@ -1,8 +1,8 @@
 //! From a line to the command that its words spell.
 
 ghost use Rattle.std.specs.Prelude.{◌≡◌, ◌∷◌, List, IsTrue, ◌↔◌, MatchOption};
-ghost use Rattle.pc_script.specs.Grammar.{Field, AreInRange, IsBuilt, words_of};
-ghost use Rattle.pc_script.specs.Inner.Readings.{IsReading, IsWritten, kinds_of};
+ghost use Rattle.pc_script.specs.Grammar.{Field, AreInRange, Spells, words_of};
+ghost use Rattle.pc_script.specs.Inner.Readings.{IsReading, kinds_of};
 ghost use Rattle.pc_script.specs.Inner.Verbs.{kinds, name_of};
 ghost use Rattle.pc_script.specs.Text.{words};
 ghost use Rattle.pc_script.specs.declared.grammar.Verb.{Verb};
@@ -114,7 +114,7 @@ macro_rules! read {
 fn read_as(verb: Verb, text: &[u8]) -> Option<Command>
     ensures { MatchOption result
         ((any : List Field) → kinds_of any ≡ kinds verb → AreInRange any → words text.now ≡ words_of any → ⊥)
-        (IsWritten (name_of verb ∷ words text.now)) }
+        (Spells (name_of verb ∷ words text.now)) }
 {
     read!(verb, text,
         Enclave(Processors(cpus), Count(threads), Count(numbers), Count(room), Count(posts)) =>
@@ -148,25 +148,10 @@ fn read_as(verb: Verb, text: &[u8]) -> Option<Command>
     )
 }
 
-/// Whether the project answers the command.
-fn is_built(command: &Command) -> bool
-    ensures { IsTrue result ↔ IsBuilt command.now }
-{
-    match command {
-        Command::Event(event) => event.is_built(),
-        Command::Enclave(_) | Command::Read(_) => true,
-    }
-}
-
 /// The command that a line with this first word spells, and with the words of this text after it.
 pub(crate) fn command_of(name: &[u8], rest: &[u8]) -> Option<Command>
     ensures { IsReading (name.now ∷ words rest.now) result }
 {
     let verb = verb_of(name)?;
-    let command = read_as(verb, rest)?;
-    if is_built(&command) {
-        Some(command)
-    } else {
-        None
-    }
+    read_as(verb, rest)
 }

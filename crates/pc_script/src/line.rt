@@ -4,7 +4,7 @@ ghost use Rattle.std.specs.Prelude.{◌≡◌, ◌≢◌, ℕ, List, [], ◌∷�
 ghost use Rattle.std.specs.Bool.{MatchBool};
 ghost use Rattle.std.specs.Io.KnownBytes.{Appends};
 ghost use Rattle.pc_calls.specs.declared.limits.Profile.{Profile};
-ghost use Rattle.pc_script.specs.Grammar.{HasNoReply, IsBuilt, IsFault};
+ghost use Rattle.pc_script.specs.Grammar.{HasNoReply, IsFault};
 ghost use Rattle.pc_script.specs.Responses.{response_text, text_line};
 ghost use Rattle.pc_script.specs.Inner.Steps.{FoundNoMemory, IsAsked, TakesLine};
 ghost use Rattle.pc_script.specs.declared.command.Command.{Command};
@@ -56,7 +56,6 @@ fn answer<M: Machine, W: Write>(
     command: Command,
     writer: &mut W,
 ) -> Result<(), ScriptFault>
-    requires built { IsBuilt command }
     ensures ok { OnOk result ((response : Response)
         × ((profile : Profile) (commands : List Command) (responses : List Response) → M.StandsAfter profile machine.old commands responses
         → M.StandsAfter profile machine.new (commands ++ command ∷ []) (responses ++ response ∷ []))

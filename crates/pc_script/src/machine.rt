@@ -2,7 +2,6 @@
 
 ghost use Rattle.std.specs.Prelude.{List, [], ◌∷◌, ◌++◌, IfOk, OnErr};
 ghost use Rattle.pc_calls.specs.declared.limits.Profile.{Profile};
-ghost use Rattle.pc_script.specs.Grammar.{IsBuilt};
 ghost use Rattle.pc_script.specs.declared.command.Command.{Command};
 ghost use Rattle.pc_script.specs.declared.response.Response.{Response};
 
@@ -31,7 +30,6 @@ pub trait Machine: Drop {
 
     /// Takes a command. After an error the machine isn't used again.
     fn answer(&mut self, command: Command) -> Result<Response, AllocError>
-        requires built { IsBuilt command }
         ensures ok { IfOk result (λ response. (profile : Profile) (commands : List Command) (responses : List Response)
             → StandsAfter profile self.old commands responses
             → StandsAfter profile self.new (commands ++ command ∷ []) (responses ++ response ∷ [])) }

@@ -19,7 +19,8 @@ use Rattle.pc_view.specs.Prefixes.{upto_of, upto_told}
 use Rattle.pc_view.specs.Views.{pairs_of, thread_of, source_of, IsOfRun}
 use Rattle.pc_script.specs.declared.lists.ShownThread.{ShownThread}
 use Rattle.pc_script.specs.declared.response.Response.TheVariants as response
-use Rattle.pc_world.specs.PlainWorld.{PlainWorld, Set}
+use Rattle.pc_agent.specs.PlainAgent.{Set}
+use Rattle.pc_world.specs.PlainWorld.{PlainWorld}
 use Rattle.pc_world.specs.Shows.{IsViewAt}
 use Rattle.pc_world.specs.Steps.{are_cpus}
 use Rattle.pc_sim.specs.Inner.Showing.{rows_told, ShowsAll}
@@ -61,7 +62,7 @@ show_told w c view rows reported here all =
     match_true (is_cpu (shown w.kernel) c) _ _ here.0 record {
       rows = rows;
       tells = refl;
-      shown = rows_shown view.threads (kinds w.kernel) (source_of (kinds w.kernel)) (w.seen c) (λ t told known. reported (kinds w.kernel) view t told here.1.of_run known) here.1.of_run here.1.seen rows
+      shown = rows_shown view.threads (kinds w.kernel) (source_of (kinds w.kernel)) (w.agents c).seen (λ t told known. reported (kinds w.kernel) view t told here.1.of_run known) here.1.of_run here.1.seen rows
           (subst (ShowsAll (map.get view.threads)) (sym all) (shows_all view.threads));
     }
 
@@ -123,7 +124,7 @@ module _ (prefix : (view : View) (thread n : ℕ) (told : Told) → thread_of vi
       → IsTrue truth ↔ IsComplete view (seen k) thread → IsCompleting w c thread (response.Truth truth)
   complete_told w k c thread view truth shows here exact =
       let same : IsTrue truth ↔ IsComplete view (shown w.kernel) thread = subst (λ r. IsTrue truth ↔ IsComplete view r thread) shows.reads exact in
-      let all = has_all (kinds w.kernel) (shown w.kernel) view (w.seen c) thread here.1.of_run here.1.seen in
+      let all = has_all (kinds w.kernel) (shown w.kernel) view (w.agents c).seen thread here.1.of_run here.1.seen in
       match_true (is_cpu (shown w.kernel) c) _ _ here.0 record { truth = truth; complete = (λ t. all.0 (same.0 t), λ g. same.1 (all.1 g)); tells = refl }
 
 pub complete_nowhere : (w : PlainWorld) (c thread : ℕ) → IsViewAt w c None → IsCompleting w c thread (response.Refused refusal.BadCpu)

@@ -1,5 +1,5 @@
 -- The rows of a view of a set in a run are those that the set has in the run.
-use Rattle.std.proofs.Common.{◌≡◌, All, ℕ, ◌+◌, ◌≤◌, ◌<◌, ◌==◌, ◌||◌, Bool, true, false, List, [], ◌∷◌, map, take, Some, None, IsSome, refl, sym, ◌∙◌, ap, subst, inl, inr, arith}
+use Rattle.std.proofs.Common.{◌≡◌, All, ℕ, ◌+◌, ◌≤◌, ◌<◌, ◌==◌, ◌||◌, true, false, List, [], ◌∷◌, map, take, Some, None, IsSome, refl, sym, ◌∙◌, ap, subst, inl, inr, arith}
 use Rattle.std.specs.List.{list_any}
 use Rattle.std.specs.List.Sorted.{IsStrictlyIncreasing}
 use Rattle.std.specs.Ordering.{nat_cmp}
@@ -15,7 +15,7 @@ use Rattle.pc_join.specs.ByName.{IsOfByName, members_by_name, known_in}
 use Rattle.pc_join.specs.Ranges.{one_to}
 use Rattle.pc_thread_view.specs.Told.{Told, tells, numbers_of, is_early, IsOfThread}
 use Rattle.pc_script.specs.declared.lists.ShownThread.{ShownThread}
-use Rattle.pc_world.specs.PlainWorld.{Set}
+use Rattle.pc_agent.specs.PlainAgent.{Set}
 use Rattle.pc_sim.specs.ShownViews.{IsPrefix, IsShown, IsShownThread}
 use Rattle.pc_sim.specs.Inner.Showing.{IsRow, ShowsAll}
 use Rattle.pc_sim.proofs.Telling.{told_prefix, told_ends, told_early, numbers_above, numbers_rise, numbers_early}

@@ -13,7 +13,8 @@ use Rattle.pc_script.specs.declared.command.Read.TheVariants.{Status, Asleep, Sh
 use Rattle.pc_script.specs.declared.lists.ShownThread.{ShownThread}
 use Rattle.pc_script.specs.declared.response.Response.{Response}
 use Rattle.pc_script.specs.declared.response.Response.TheVariants as response
-use Rattle.pc_world.specs.PlainWorld.{PlainWorld, Set}
+use Rattle.pc_agent.specs.PlainAgent.{Set}
+use Rattle.pc_world.specs.PlainWorld.{PlainWorld}
 use Rattle.pc_world.specs.Steps.{are_cpus}
 use Rattle.pc_sim.specs.ShownViews.{IsShown}
 
@@ -36,7 +37,7 @@ IsAsleep w c told = MatchBool (is_cpu (shown w.kernel) c) (told ≡ response.Tru
 pub record IsShow (w : PlainWorld) (c : ℕ) (told : Response) : Type 0 where
   pub rows : List ShownThread
   pub tells : told ≡ response.View rows
-  pub shown : IsShown (kinds w.kernel) (w.seen c) rows
+  pub shown : IsShown (kinds w.kernel) (w.agents c).seen rows
 
 abbrev pub IsShowing : PlainWorld → ℕ → Response → Type 0
 IsShowing w c told = MatchBool (is_cpu (shown w.kernel) c) (IsShow w c told) (IsNowhere told)
@@ -44,7 +45,7 @@ IsShowing w c told = MatchBool (is_cpu (shown w.kernel) c) (IsShow w c told) (Is
 -- whether two agents have taken in the same messages
 pub record IsSameness (w : PlainWorld) (c other : ℕ) (told : Response) : Type 0 where
   pub truth : Bool
-  pub same : IsTrue truth ↔ IsSameSet (as_members (w.seen c)) (as_members (w.seen other))
+  pub same : IsTrue truth ↔ IsSameSet (as_members (w.agents c).seen) (as_members (w.agents other).seen)
   pub tells : told ≡ response.Sameness truth
 
 abbrev pub IsComparing : PlainWorld → ℕ → ℕ → Response → Type 0
@@ -58,7 +59,7 @@ pub record HasAll (reads : kernel.Reads) (set : Set) (thread : ℕ) : Type 0 whe
 -- whether an agent has taken in all messages of a thread
 pub record IsCompleteness (w : PlainWorld) (c thread : ℕ) (told : Response) : Type 0 where
   pub truth : Bool
-  pub complete : IsTrue truth ↔ HasAll (shown w.kernel) (w.seen c) thread
+  pub complete : IsTrue truth ↔ HasAll (shown w.kernel) (w.agents c).seen thread
   pub tells : told ≡ response.Truth truth
 
 abbrev pub IsCompleting : PlainWorld → ℕ → ℕ → Response → Type 0

@@ -5,7 +5,6 @@ use Rattle.pc_calls.specs.declared.limits.Limits.{Limits}
 use Rattle.pc_calls.specs.declared.limits.LimitField.{LimitField}
 use Rattle.pc_calls.specs.declared.limits.Profile.{Profile}
 use Rattle.pc_calls.specs.Limits.{bad_field}
-use Rattle.pc_script.specs.Grammar.{IsBuilt}
 use Rattle.pc_script.specs.declared.command.Command.{Command}
 use Rattle.pc_script.specs.declared.command.Command.TheVariants.{Enclave, Event, Read}
 use Rattle.pc_script.specs.declared.response.Response.{Response}
@@ -52,4 +51,4 @@ IsSession profile commands told = (end' : Session) × IsRun profile None command
 
 -- memory ran out at the next command of a session
 abbrev pub RanOut : Profile → List Command → List Response → Command → Type 0
-RanOut profile commands told next = IsSession profile commands told × IsBuilt next
+RanOut profile commands told next = IsSession profile commands told

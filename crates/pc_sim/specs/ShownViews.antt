@@ -6,7 +6,7 @@ use Rattle.pc_messages.specs.Run.{Run}
 use Rattle.pc_messages.specs.State.{state_of}
 use Rattle.pc_join.specs.Sets.{has}
 use Rattle.pc_script.specs.declared.lists.ShownThread.{ShownThread}
-use Rattle.pc_world.specs.PlainWorld.{Set}
+use Rattle.pc_agent.specs.PlainAgent.{Set}
 
 -- upto is the greatest number such that the set has the thread's numbers from 1 to it, or 0
 pub record IsPrefix (set : Set) (thread upto : ℕ) : Type 0 where

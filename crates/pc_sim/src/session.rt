@@ -3,7 +3,6 @@
 ghost use Rattle.std.specs.Prelude.{◌≡◌, List, [], ◌∷◌, ◌++◌, None, IfOk};
 ghost use Rattle.pc_script.specs.declared.command.Command.{Command};
 ghost use Rattle.pc_script.specs.declared.response.Response.{Response};
-ghost use Rattle.pc_script.specs.Grammar.{IsBuilt};
 ghost use Rattle.pc_sim.specs.Session.{IsSession, RanOut};
 ghost use Rattle.pc_sim.specs.Inner.Sessions.{Answers, StandsAfter, Steps, is_session};
 
@@ -47,7 +46,6 @@ fn open(
 
 /// Answers a command that meets a world.
 fn act(alloc: Global, world: &mut World, command: Command) -> Result<Response, AllocError>
-    requires built { IsBuilt command }
     ensures { IfOk result (Answers command world.old world.new) }
 {
     match command {

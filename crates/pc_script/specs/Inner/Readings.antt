@@ -1,16 +1,13 @@
 -- Reading the words of a command.
 use Rattle.std.specs.Prelude.{◌≡◌, ℕ, Bool, true, false, List, [], ◌∷◌, map, Option, Some, None}
-use Rattle.pc_script.specs.Grammar.{Field, Processors, Processor, Queue, Level, Count, Mask, Index, Thread, State, Target, Failure, field_words, IsInRange, words_of, AreInRange, row_of, Spells}
+use Rattle.pc_script.specs.Grammar.{Field, Processors, Processor, Queue, Level, Count, Mask, Index, Thread, State, Target, Failure}
+use Rattle.pc_script.specs.Grammar.{field_words, IsInRange, words_of, AreInRange, row_of, Spells}
 use Rattle.pc_script.specs.declared.command.Command.{Command}
 
 -- a command was read exactly where the words spell one
 abbrev pub IsReading : List (List ℕ) → Option Command → Type 0
 IsReading spelled None = (command : Command) → Spells spelled command → ⊥
 IsReading spelled (Some command) = Spells spelled command
-
--- these words are the command's, whether it is built or not
-abbrev pub IsWritten : List (List ℕ) → Command → Type 0
-IsWritten spelled command = AreInRange (row_of command).fields × (spelled ≡ (row_of command).name ∷ words_of (row_of command).fields)
 
 -- What a field says, whatever its value
 pub data Kind : Type 0 where

@@ -135,15 +135,3 @@ fn malformed_agent_calls_are_faults(rt: HostRuntime) {
         is_fault(&rt, rt.alloc(), line);
     }
 }
-
-#[test]
-fn commands_that_are_not_built_are_faults(rt: HostRuntime) {
-    for line in [
-        b"pick 0 1".as_slice(),
-        b"steal 0",
-        b"crash 0",
-        b"publish 0 fail",
-    ] {
-        is_fault(&rt, rt.alloc(), line);
-    }
-}
