@@ -1,5 +1,5 @@
 -- What a session shows after its commands.
-use Rattle.std.specs.Prelude.{◌≡◌, List, [], Option, Some, None}
+use Rattle.std.specs.Prelude.{◌≡◌, List, Option, Some, None}
 use Rattle.pc_calls.specs.declared.limits.Profile.{Profile}
 use Rattle.pc_script.specs.declared.command.Command.{Command}
 use Rattle.pc_script.specs.declared.response.Response.{Response}
