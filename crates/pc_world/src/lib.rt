@@ -1,11 +1,12 @@
 //! The world of a kernel and its agents, which takes events one after another.
 //!
 //! What a world is and what each event does is defined over sets and lists in `specs/PlainWorld.antt` and
-//! `specs/Steps.antt`. An agent picks, steals and crashes in none of the events that are built so far, and no send is
-//! refused.
+//! `specs/Steps.antt`; what an event leaves for which there was no memory, in `specs/Starved.antt`.
 #![tactic(auto)]
 
 mod agents;
+#[cfg(test)]
+mod tests;
 mod world;
 
 pub use pc_calls::{Event, Reply};

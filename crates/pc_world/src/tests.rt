@@ -70,9 +70,6 @@ const fn answer(cpu: u8, asker: u8) -> Event {
 /// The place of the first event that the world did not reply as wanted.
 fn first_wrong(world: &mut World, rows: &[(Event, Reply)]) -> Option<usize> {
     for (place, (event, wanted)) in rows.iter().enumerate() {
-        if !event.is_built() {
-            return Some(place);
-        }
         match world.step(*event) {
             Ok(reply) if reply == *wanted => {}
             _ => return Some(place),
