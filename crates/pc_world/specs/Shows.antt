@@ -14,8 +14,8 @@ use Rattle.pc_agent.specs.Shows.{ShowsAgent, ShowsDelta, ShowsView}
 use Rattle.pc_agent.specs.Wires.{sent_by}
 use Rattle.pc_world.specs.declared.world.World.{World}
 use Rattle.pc_world.specs.PlainWorld.{PlainWorld}
-use Rattle.pc_world.specs.Starved.{Starved}
-use Rattle.pc_world.specs.Steps.{Step}
+use Rattle.pc_world.specs.Starved.{IsCutShort, Starved}
+use Rattle.pc_world.specs.Steps.{Runs, Step}
 
 -- the deltas tell these sets, one after another
 abbrev pub AreSent : Run → List Set → List (List Part) → Type 0
@@ -49,3 +49,11 @@ Starves event old new = (w : PlainWorld) → ShowsWorld old w → (w' : PlainWor
 -- what was sent stays sent, and more may follow
 abbrev pub KeepsSent : World → World → Type 0
 KeepsSent old new = (more : List (List Part)) × (deltas_of new ≡ deltas_of old ++ more)
+
+-- for every plain world that is shown before, the events were done, one after another, with these replies
+abbrev pub RunsThrough : List Event → List Reply → World → World → Type 0
+RunsThrough events replies old new = (w : PlainWorld) → ShowsWorld old w → (w' : PlainWorld) × Runs w events replies w' × ShowsWorld new w'
+
+-- for every plain world that is shown before, some first events were done, and the next one as far as it goes without memory
+abbrev pub RunsInPart : List Event → World → World → Type 0
+RunsInPart events old new = (w : PlainWorld) → ShowsWorld old w → (w' : PlainWorld) × IsCutShort w events w' × ShowsWorld new w'

@@ -1,10 +1,11 @@
 -- What an event leaves for which there was no memory.
-use Rattle.std.specs.Prelude.{ℕ, ◌≡◌, ◌⊎◌, true, false, Some, None, Option, MatchOption, slice_get, is_some}
+use Rattle.std.specs.Prelude.{ℕ, ◌≡◌, ◌⊎◌, List, [], ◌∷◌, ◌++◌, true, false, Some, None, Option, MatchOption, slice_get, is_some}
 use Rattle.pc_messages.specs.Items.{pairs_in}
 use Rattle.pc_calls.specs.declared.call.Call.{Call}
 use Rattle.pc_calls.specs.declared.call.Call.TheVariants as call
 use Rattle.pc_calls.specs.declared.event.Event.{Event}
 use Rattle.pc_calls.specs.declared.event.Event.TheVariants.{Publish, Deliver, Answer, Steal}
+use Rattle.pc_calls.specs.declared.event.Reply.{Reply}
 use Rattle.pc_calls.specs.Events.{call_of}
 use Rattle.pc_join.specs.Sets.{IsBetween, as_members}
 use Rattle.pc_kernel.specs.PlainKernel.{content}
@@ -13,7 +14,7 @@ use Rattle.pc_kernel.specs.Steps as kernel
 use Rattle.pc_agent.specs.PlainAgent.{Set}
 use Rattle.pc_agent.specs.Running.{Finds}
 use Rattle.pc_world.specs.PlainWorld.{PlainWorld, looked, with_agent}
-use Rattle.pc_world.specs.Steps.{are_cpus, stealable}
+use Rattle.pc_world.specs.Steps.{Runs, are_cpus, stealable}
 
 -- the agent has taken in a part of the set, and nothing else changed
 pub record IsWidened (w : PlainWorld) (c : ℕ) (more : Set) (new : PlainWorld) : Type 0 where
@@ -41,3 +42,18 @@ IsOwnStarved w event new = ⊥
 -- an event for which there was no memory: none that is refused, and none that takes none; a call leaves all as it was
 abbrev pub Starved : PlainWorld → Event → PlainWorld → Type 0
 Starved w event new = MatchOption (call_of event) (IsOwnStarved w event new) (λ c. IsCallStarved w c × (new ≡ w))
+
+-- the first of these events found no memory
+abbrev pub IsFirstStarved : PlainWorld → List Event → PlainWorld → Type 0
+IsFirstStarved w [] new = ⊥
+IsFirstStarved w (event ∷ rest) new = Starved w event new
+
+-- some first events were done, in order, and the next one as far as it goes without memory
+pub record IsCutShort (w : PlainWorld) (events : List Event) (new : PlainWorld) : Type 0 where
+  pub done : List Event
+  pub rest : List Event
+  pub replies : List Reply
+  pub reached : PlainWorld
+  pub order : events ≡ done ++ rest
+  pub ran : Runs w done replies reached
+  pub next : (new ≡ reached) ⊎ IsFirstStarved reached rest new

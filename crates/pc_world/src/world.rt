@@ -1,6 +1,6 @@
 //! The kernel, its agents, and what they sent.
 
-ghost use Rattle.std.specs.Prelude.{◌≡◌, ◌<◌, ◌≤◌, None, Some, false, IfOk, OnErr, MatchOption, List, length, slice_get, option_copied};
+ghost use Rattle.std.specs.Prelude.{◌≡◌, ◌<◌, ◌≤◌, None, Some, false, IfOk, OnOk, OnErr, MatchOption, [], ◌∷◌, ◌++◌, List, length, slice_get, option_copied};
 ghost use Rattle.pc_calls.specs.Events.{call_of};
 ghost use Rattle.pc_calls.specs.Limits.{bad_field};
 ghost use Rattle.pc_kernel.specs.Answers.{Shows};
@@ -14,14 +14,14 @@ ghost use Rattle.pc_world.specs.Inner.Laws.{RunsGoOn};
 use crate::agents::new_agents;
 use pc_agent::{Agent, KeptWire, SendFault, agents_stay_as_the_run_goes_on};
 use pc_calls::{
-    Answer, Call, CallFault, Event, LimitField, Limits, LimitsFault, Profile, Refusal, Reply,
+    Answer, Call, CallFault, Event, LimitField, Limits, LimitsFault, Posted, Profile, Refusal, Reply,
 };
 use pc_delta::Delta;
 use pc_delta::laws::{parts_stay_as_the_run_goes_on, sets_are_pairs};
 use pc_join::OutOfMemory;
 use pc_kernel::Kernel;
 use pc_kernel::laws::calls_extend_the_run;
-use pc_messages::Cpu;
+use pc_messages::{Cpu, Tid};
 use pc_view::View;
 use std::alloc::Global;
 
@@ -56,9 +56,19 @@ fn delta_at(sent: &[Delta], index: u64) -> Option<&Delta>
     sent.get(usize::try_from(index).ok()?)
 }
 
+/// Puts an item at the end.
+fn add<T: Drop>(items: &mut Vec<T>, item: T) -> Result<(), OutOfMemory>
+    ensures ok { OnOk result (items.new.items ≡ items.old.items ++ item ∷ []) }
+{
+    match items.push(item) {
+        Ok(()) => Ok(()),
+        Err(_) => Err(OutOfMemory),
+    }
+}
+
 impl World {
-    ghost use Rattle.pc_world.specs.Shows.{AreSent, Does, IsViewAt, KeepsSent, ShowsWorld, Starves, deltas_of};
-    ghost use Rattle.pc_world.specs.Inner.Handling.{Handles};
+    ghost use Rattle.pc_world.specs.Shows.{AreSent, Does, IsViewAt, KeepsSent, RunsInPart, RunsThrough, ShowsWorld, Starves, deltas_of};
+    ghost use Rattle.pc_world.specs.Inner.Handling.{Handles, StepsInPart, StepsInto};
     ghost use Rattle.pc_world.specs.Inner.Places.{IsPlace};
 
     /// The world at the start, with limits of profile One.
@@ -131,6 +141,32 @@ impl World {
         ensures kept { (w : PlainWorld) → ShowsWorld self.old w → KeepsSent self.old self.new }
     {
         self.handle(event)
+    }
+
+    /// Takes events, one after another, and gives the reply of each. Where memory runs out, some first events were done, in
+    /// their order, and the next one as far as [`World::step`] says.
+    pub fn run(&mut self, events: &[Event]) -> Result<Vec<Reply>, OutOfMemory>
+        ensures run { IfOk result (λ replies. RunsThrough events.now replies.items self.old self.new) }
+        ensures starved { OnErr result (RunsInPart events.now self.old self.new) }
+    {
+        let mut replies = Vec::new(self.alloc);
+        for event in events {
+            self.step_into(*event, &mut replies)?;
+        }
+        Ok(replies)
+    }
+
+    /// Takes an event, and puts its reply at the end.
+    fn step_into(&mut self, event: Event, replies: &mut Vec<Reply>) -> Result<(), OutOfMemory>
+        ensures ok { OnOk result (StepsInto event replies.old.items replies.new.items self.old self.new) }
+        ensures starved { OnErr result (StepsInPart event self.old self.new) }
+    {
+        // The checker finds the types that a reply nests only where the function names them.
+        let _: (Option<Posted>, Option<Tid>, Option<Cpu>, Option<Refusal>) = (None, None, None, None);
+        match self.step(event) {
+            Ok(reply) => add(replies, reply),
+            Err(fault) => Err(fault),
+        }
     }
 
     /// Takes an event.

@@ -1,11 +1,11 @@
 -- What an event of the world comes to, with memory and without.
-use Rattle.std.specs.Prelude.{Result, Ok, Err}
+use Rattle.std.specs.Prelude.{◌≡◌, ◌⊎◌, List, [], ◌∷◌, ◌++◌, Result, Ok, Err}
 use Rattle.pc_calls.specs.declared.event.Event.{Event}
 use Rattle.pc_calls.specs.declared.event.Reply.{Reply}
 use Rattle.pc_join.specs.declared.join.OutOfMemory.{OutOfMemory}
 use Rattle.pc_world.specs.declared.world.World.{World}
 use Rattle.pc_world.specs.PlainWorld.{PlainWorld}
-use Rattle.pc_world.specs.Shows.{KeepsSent, ShowsWorld}
+use Rattle.pc_world.specs.Shows.{Does, KeepsSent, ShowsWorld}
 use Rattle.pc_world.specs.Starved.{Starved}
 use Rattle.pc_world.specs.Steps.{Step}
 
@@ -18,3 +18,12 @@ Outcome w event (Err fault) new = Starved w event new
 abbrev pub Handles : Event → Result Reply OutOfMemory → World → World → Type 0
 Handles event result old new =
     (w : PlainWorld) → ShowsWorld old w → (w' : PlainWorld) × Outcome w event result w' × ShowsWorld new w' × KeepsSent old new
+
+-- for every plain world that is shown before, the event was done, or left what it leaves without memory
+abbrev pub StepsInPart : Event → World → World → Type 0
+StepsInPart event old new =
+    (w : PlainWorld) → ShowsWorld old w → (w' : PlainWorld) × (Starved w event w' ⊎ ((told : Reply) × Step w event told w')) × ShowsWorld new w'
+
+-- an event was done, and its reply stands at the end
+abbrev pub StepsInto : Event → List Reply → List Reply → World → World → Type 0
+StepsInto event before after old new = (told : Reply) × (after ≡ before ++ told ∷ []) × Does (λ w. Step w event) old new told

@@ -1,0 +1,6 @@
+use Rattle.std.proofs.Common.{take}
+use Rattle.pc_world.specs.Shows.{RunsThrough}
+use Rattle.pc_world.proofs.world.World.run.Given as goal
+
+abbrev pub invariant-loop-event : goal.invariant-loop-event
+invariant-loop-event l = RunsThrough (take l.event-index l.events) l.replies.items l.initial.self l.self
