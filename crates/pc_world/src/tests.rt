@@ -49,6 +49,55 @@ const fn publish(cpu: u8) -> Event {
     }
 }
 
+/// The agent's send is refused.
+const fn publish_in_vain(cpu: u8) -> Event {
+    Event::Publish {
+        cpu: Cpu(cpu),
+        fails: true,
+    }
+}
+
+const fn pick(cpu: u8, aseq: u32) -> Event {
+    Event::Pick {
+        cpu: Cpu(cpu),
+        aseq,
+    }
+}
+
+const fn steal(cpu: u8) -> Event {
+    Event::Steal { cpu: Cpu(cpu) }
+}
+
+const fn crash(cpu: u8) -> Event {
+    Event::Crash { cpu: Cpu(cpu) }
+}
+
+const fn published(delta: u64, items: u32) -> Reply {
+    Reply::Published { delta, items }
+}
+
+const fn consumed(items: u32) -> Reply {
+    Reply::Consumed { items }
+}
+
+const fn committed(thread: u32, cpu: u8) -> Reply {
+    Reply::Committed {
+        thread: Tid(thread),
+        cpu: Cpu(cpu),
+    }
+}
+
+const fn associated(thread: u32, queue: u8) -> Reply {
+    Reply::Associated {
+        thread: Tid(thread),
+        queue: Cpu(queue),
+    }
+}
+
+const fn refused(refusal: Refusal) -> Reply {
+    Reply::Refused(refusal)
+}
+
 const fn consume(cpu: u8) -> Event {
     Event::Consume { cpu: Cpu(cpu) }
 }
@@ -216,6 +265,10 @@ fn what_the_agents_refuse(rt: HostRuntime) -> Result<(), Fail> {
             (consume(2), nowhere()),
             (answer(2, 0), nowhere()),
             (answer(0, 2), nowhere()),
+            (publish_in_vain(2), nowhere()),
+            (pick(2, 0), nowhere()),
+            (steal(2), nowhere()),
+            (crash(2), nowhere()),
             (consume(0), Reply::Consumed { items: 0 }),
             (publish(0), Reply::Published { delta: 0, items: 0 }),
         ],
@@ -269,5 +322,121 @@ fn a_cpu_that_is_not_there_has_no_view(rt: HostRuntime) -> Result<(), Fail> {
     assert!(rt; world.view(Cpu(2)).is_none());
     assert_eq!(rt; world.sent().len(), 0);
     assert_eq!(rt; world.kernel().cpus(), 2);
+    Ok(())
+}
+
+// A thread that blocked is dropped from the run list, which then is empty.
+#[test]
+fn an_agent_picks_until_nothing_is_ready(rt: HostRuntime) -> Result<(), Fail> {
+    let yields = Event::Env(EnvCall::YieldNow {
+        cpu: Cpu(0),
+        ran: 2,
+    });
+    let blocks = Event::Env(EnvCall::Block {
+        cpu: Cpu(0),
+        ran: 3,
+    });
+    let rows = [
+        (create(0, true), posted(0, 1, 0, 1)),
+        (publish(0), published(0, 1)),
+        (consume(0), consumed(1)),
+        (pick(0, 1), committed(0, 0)),
+        (yields, posted(0, 2, 0, 2)),
+        (publish(0), published(1, 1)),
+        (pick(0, 1), refused(Refusal::Stale(2))),
+        (pick(0, 2), committed(0, 0)),
+        (blocks, posted(0, 3, 0, 3)),
+        (publish(0), published(2, 2)),
+        (pick(0, 3), refused(Refusal::NothingReady)),
+    ];
+    gives(&rt, rt.alloc(), &rows)
+}
+
+// The agent that lost the first thread drops it, and commits the second.
+#[test]
+fn an_agent_steals_when_nothing_is_pending(rt: HostRuntime) -> Result<(), Fail> {
+    let rows = [
+        (create(0, true), posted(0, 1, 0, 1)),
+        (create(0, true), posted(1, 1, 0, 2)),
+        (publish(0), published(0, 2)),
+        (steal(1), refused(Refusal::NothingToSteal)),
+        (deliver(1, 0), Reply::Done),
+        (steal(1), refused(Refusal::Pending)),
+        (consume(0), consumed(2)),
+        (steal(1), associated(0, 1)),
+        (pick(0, 2), committed(1, 0)),
+        (pick(1, 0), committed(0, 1)),
+        (steal(1), refused(Refusal::Busy)),
+    ];
+    gives(&rt, rt.alloc(), &rows)
+}
+
+#[test]
+fn a_crash_leaves_the_queue_as_it_is(rt: HostRuntime) -> Result<(), Fail> {
+    let rows = [
+        (create(0, true), posted(0, 1, 0, 1)),
+        (publish(0), published(0, 1)),
+        (crash(0), Reply::Done),
+        (consume(0), consumed(0)),
+        (publish(0), published(1, 1)),
+        (consume(0), consumed(1)),
+    ];
+    gives(&rt, rt.alloc(), &rows)
+}
+
+#[test]
+fn a_crashed_agent_takes_its_thread_back(rt: HostRuntime) -> Result<(), Fail> {
+    let mut world = World::new(rt.alloc(), small())?;
+    let rows = [
+        (create(0, true), posted(0, 1, 0, 1)),
+        (publish(0), published(0, 1)),
+        (consume(0), consumed(1)),
+        (crash(0), Reply::Done),
+    ];
+    assert_eq!(rt; first_wrong(&mut world, &rows), None);
+    assert!(rt; !knows(&world, 0, 1));
+    let rows = [
+        (deliver(0, 0), Reply::Done),
+        (pick(0, 1), refused(Refusal::NothingReady)),
+        (steal(0), associated(0, 0)),
+        (steal(0), refused(Refusal::NothingToSteal)),
+        (pick(0, 1), committed(0, 0)),
+    ];
+    assert_eq!(rt; first_wrong(&mut world, &rows), None);
+    assert!(rt; knows(&world, 0, 1));
+    Ok(())
+}
+
+#[test]
+fn a_crash_wakes_a_sleeping_agent(rt: HostRuntime) -> Result<(), Fail> {
+    let mut world = World::new(rt.alloc(), small())?;
+    let sleep = Event::Sleep {
+        cpu: Cpu(1),
+        aseq: 0,
+    };
+    assert_eq!(rt; first_wrong(&mut world, &[(sleep, Reply::Done)]), None);
+    assert!(rt; world.kernel().is_asleep(Cpu(1)));
+    assert_eq!(rt; first_wrong(&mut world, &[(crash(1), Reply::Done)]), None);
+    assert!(rt; !world.kernel().is_asleep(Cpu(1)));
+    Ok(())
+}
+
+// The agent has taken the message in, and nothing was sent.
+#[test]
+fn a_send_is_refused(rt: HostRuntime) -> Result<(), Fail> {
+    let mut world = World::new(rt.alloc(), small())?;
+    let rows = [
+        (create(0, true), posted(0, 1, 0, 1)),
+        (publish_in_vain(0), refused(Refusal::WireFault)),
+        (consume(0), consumed(0)),
+        (deliver(1, 0), refused(Refusal::NoDelta)),
+    ];
+    assert_eq!(rt; first_wrong(&mut world, &rows), None);
+    assert!(rt; knows(&world, 0, 1));
+    assert_eq!(rt; world.sent().len(), 0);
+    assert_eq!(rt;
+        first_wrong(&mut world, &[(publish(0), published(0, 1))]),
+        None
+    );
     Ok(())
 }

@@ -74,6 +74,24 @@ fn a_publish_is_read(rt: HostRuntime) {
         fails: false,
     };
     reads(&rt, b"publish 255", Command::Event(publish));
+    let in_vain = Event::Publish {
+        cpu: Cpu(0),
+        fails: true,
+    };
+    reads(&rt, b"publish 0 fail", Command::Event(in_vain));
+}
+
+#[test]
+fn a_pick_a_steal_and_a_crash_are_read(rt: HostRuntime) {
+    let pick = Event::Pick {
+        cpu: Cpu(255),
+        aseq: 4_294_967_295,
+    };
+    reads(&rt, b"pick 255 4294967295", Command::Event(pick));
+    let steal = Event::Steal { cpu: Cpu(255) };
+    reads(&rt, b"steal 255", Command::Event(steal));
+    let crash = Event::Crash { cpu: Cpu(0) };
+    reads(&rt, b"crash 0", Command::Event(crash));
 }
 
 #[test]

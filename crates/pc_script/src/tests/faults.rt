@@ -135,3 +135,21 @@ fn malformed_agent_calls_are_faults(rt: HostRuntime) {
         is_fault(&rt, rt.alloc(), line);
     }
 }
+
+#[test]
+fn malformed_picks_steals_and_crashes_are_faults(rt: HostRuntime) {
+    for line in [
+        b"pick 0".as_slice(),
+        b"pick 0 t0",
+        b"pick 256 0",
+        b"pick 0 4294967296",
+        b"steal",
+        b"steal 0 0",
+        b"crash t0",
+        b"crash 01",
+        b"publish 0 Fail",
+        b"publish 0 fail fail",
+    ] {
+        is_fault(&rt, rt.alloc(), line);
+    }
+}
