@@ -1,17 +1,17 @@
 //! Agents beside a kernel of two CPUs, with ample memory and a wire that keeps what it took: values written down by hand.
 
+use crate::counts::MOST_COUNTED;
 use crate::{Agent, Counts, KeptWire, SendFault};
 use pc_calls::{CallFault, Limits, Refusal};
-use pc_delta::Digest;
+use pc_delta::{Delta, Digest};
 use pc_kernel::Kernel;
-use pc_messages::{Cpu, Item, Kind, Mask, Message, Tid};
+use pc_messages::{Cpu, Tid};
 use pc_view::View;
 use std::alloc::Global;
-use std::process::Abort;
 use std::test::Fail;
 
 /// Two CPUs, eight threads.
-fn kernel(alloc: Global) -> Result<Kernel, Fail> {
+fn two_cpus(alloc: Global) -> Option<Kernel> {
     let limits = Limits {
         cpus: 2,
         threads: 8,
@@ -19,36 +19,122 @@ fn kernel(alloc: Global) -> Result<Kernel, Fail> {
         room: 16,
         posts: 1_000,
     };
-    Ok(Kernel::new(alloc, limits)?)
+    match Kernel::new(alloc, limits) {
+        Ok(kernel) => Some(kernel),
+        Err(_) => None,
+    }
 }
 
-/// A kernel with so many ready threads of queue 0 that may run on both CPUs, and the agents of both CPUs.
-fn ready(alloc: Global, threads: u32) -> Result<(Kernel, Agent, Agent), Fail> {
-    let mut kernel = kernel(alloc)?;
+/// A kernel with so many ready threads of queue 0 that may run on both CPUs.
+fn ready(alloc: Global, threads: u32) -> Option<Kernel> {
+    let mut kernel = two_cpus(alloc)?;
     for _ in 0..threads {
-        kernel.create(Cpu(0), 3, true)?;
+        if kernel.create(Cpu(0), 3, true).is_err() {
+            return None;
+        }
     }
-    Ok((
-        kernel,
-        Agent::new(alloc, Cpu(0)),
-        Agent::new(alloc, Cpu(1)),
-    ))
+    Some(kernel)
 }
 
-/// Agent 0 publishes and consumes, and agent 1 takes the delta in.
-fn share(
-    kernel: &mut Kernel,
-    first: &mut Agent,
-    second: &mut Agent,
+/// The agent publishes; nothing where its CPU is not there, or the wire has counted all the faults that it can.
+fn published(
+    kernel: &Kernel,
+    agent: &mut Agent,
     wire: &mut KeptWire,
-) -> Result<(), Fail> {
-    let place = wire.sent().len();
-    first.publish(kernel, wire)?;
-    first.consume(kernel)?;
-    if let Some(delta) = wire.sent().get(place) {
-        second.deliver(delta)?;
+) -> Option<Result<u32, SendFault>> {
+    if agent.cpu().0 >= kernel.cpus() {
+        return None;
     }
-    Ok(())
+    if wire.faults() >= MOST_COUNTED {
+        return None;
+    }
+    Some(agent.publish(kernel, wire))
+}
+
+/// Whether the agent publishes and consumes so many items.
+fn publishes_and_consumes(
+    kernel: &mut Kernel,
+    agent: &mut Agent,
+    wire: &mut KeptWire,
+    items: u32,
+) -> bool {
+    published(kernel, agent, wire) == Some(Ok(items)) && consumed(agent, kernel) == Some(items)
+}
+
+fn consumed(agent: &mut Agent, kernel: &mut Kernel) -> Option<u32> {
+    match agent.consume(kernel) {
+        Ok(items) => Some(items),
+        Err(_) => None,
+    }
+}
+
+fn picked(agent: &mut Agent, kernel: &mut Kernel, aseq: u32) -> Option<Tid> {
+    match agent.pick(kernel, aseq) {
+        Ok(thread) => Some(thread),
+        Err(_) => None,
+    }
+}
+
+fn pick_refusal(agent: &mut Agent, kernel: &mut Kernel, aseq: u32) -> Option<Refusal> {
+    match agent.pick(kernel, aseq) {
+        Ok(_) => None,
+        Err(refusal) => Some(refusal),
+    }
+}
+
+fn stolen(agent: &mut Agent, kernel: &mut Kernel) -> Option<Tid> {
+    match agent.steal(kernel) {
+        Ok(thread) => Some(thread),
+        Err(_) => None,
+    }
+}
+
+fn steal_refusal(agent: &mut Agent, kernel: &mut Kernel) -> Option<Refusal> {
+    match agent.steal(kernel) {
+        Err(CallFault::Refused(refusal)) => Some(refusal),
+        _ => None,
+    }
+}
+
+/// Whether the agent takes in the delta that was sent at this place.
+fn delivers(agent: &mut Agent, wire: &KeptWire, place: usize) -> bool {
+    match wire.sent().get(place) {
+        Some(delta) => agent.deliver(delta).is_ok(),
+        None => false,
+    }
+}
+
+/// How many parts the delta has that was sent at this place.
+fn parts_of(wire: &KeptWire, place: usize) -> Option<usize> {
+    Some(wire.sent().get(place)?.parts().len())
+}
+
+/// The agent answers the other's digest.
+fn answered(
+    alloc: Global,
+    agent: &Agent,
+    other: &Agent,
+    wire: &mut KeptWire,
+) -> Option<Result<(), SendFault>> {
+    if wire.faults() >= MOST_COUNTED {
+        return None;
+    }
+    match Digest::of(alloc, other.view()) {
+        Ok(digest) => Some(agent.answer(&digest, wire)),
+        Err(_) => None,
+    }
+}
+
+/// The agent answers the other, with no digest.
+fn answered_beyond(
+    agent: &Agent,
+    other: &Agent,
+    wire: &mut KeptWire,
+) -> Option<Result<(), SendFault>> {
+    if wire.faults() >= MOST_COUNTED {
+        return None;
+    }
+    Some(agent.answer_beyond(other.view(), wire))
 }
 
 fn lists(agent: &Agent, wanted: &[u32]) -> bool {
@@ -71,82 +157,122 @@ fn a_new_agent_knows_nothing(rt: HostRuntime) {
 }
 
 #[test]
-fn what_was_sent_is_consumed(rt: HostRuntime) -> Result<(), Fail> {
-    let (mut kernel, mut agent, _) = ready(rt.alloc(), 1)?;
-    kernel.tick(Cpu(0))?;
+fn what_was_sent_is_shown(rt: HostRuntime) -> Result<(), Fail> {
+    let mut kernel = ready(rt.alloc(), 1).ok_or("no kernel")?;
+    assert!(rt; kernel.tick(Cpu(0)).is_ok());
+    let mut agent = Agent::new(rt.alloc(), Cpu(0));
     let mut wire = KeptWire::new(rt.alloc());
-    assert_eq!(rt; agent.publish(&kernel, &mut wire), Ok(2));
+    assert_eq!(rt; published(&kernel, &mut agent, &mut wire), Some(Ok(2)));
     assert_eq!(rt; agent.shown(), 2);
     assert!(rt; agent.view().knows(Tid(0), 1));
     assert!(rt; lists(&agent, &[0]));
     assert_eq!(rt; wire.sent().len(), 1);
-    assert_eq!(rt; wire.sent()[0].parts().len(), 1);
-    // What is posted after the publish stays.
-    kernel.tick(Cpu(0))?;
-    assert_eq!(rt; agent.consume(&mut kernel), Ok(2));
-    assert_eq!(rt; agent.shown(), 0);
-    assert_eq!(rt; kernel.peek(Cpu(0))?.1.len(), 1);
-    assert_eq!(rt; agent.consume(&mut kernel), Ok(0));
-    assert_eq!(rt; agent.counts().taken, 2);
+    assert_eq!(rt; parts_of(&wire, 0), Some(1));
     Ok(())
 }
 
 #[test]
+fn what_was_sent_is_consumed(rt: HostRuntime) -> Result<(), Fail> {
+    let mut kernel = ready(rt.alloc(), 2).ok_or("no kernel")?;
+    let mut agent = Agent::new(rt.alloc(), Cpu(0));
+    let mut wire = KeptWire::new(rt.alloc());
+    assert_eq!(rt; published(&kernel, &mut agent, &mut wire), Some(Ok(2)));
+    // What is posted after the publish stays.
+    assert!(rt; kernel.tick(Cpu(0)).is_ok());
+    assert_eq!(rt; consumed(&mut agent, &mut kernel), Some(2));
+    assert_eq!(rt; agent.shown(), 0);
+    assert_eq!(rt; waiting(&kernel), Some(1));
+    assert_eq!(rt; consumed(&mut agent, &mut kernel), Some(0));
+    assert_eq!(rt; agent.counts().taken, 2);
+    Ok(())
+}
+
+/// How many items wait in queue 0.
+fn waiting(kernel: &Kernel) -> Option<usize> {
+    match kernel.peek(Cpu(0)) {
+        Ok((_, items)) => Some(items.len()),
+        Err(_) => None,
+    }
+}
+
+#[test]
 fn a_refused_send_is_not_counted_as_sent(rt: HostRuntime) -> Result<(), Fail> {
-    let (mut kernel, mut agent, _) = ready(rt.alloc(), 1)?;
+    let mut kernel = ready(rt.alloc(), 1).ok_or("no kernel")?;
+    let mut agent = Agent::new(rt.alloc(), Cpu(0));
     let mut wire = KeptWire::new(rt.alloc());
     wire.set_refuses(true);
-    assert_eq!(rt; agent.publish(&kernel, &mut wire), Err(SendFault::WireFault));
-    assert_eq!(rt; wire.faults(), 1);
-    assert_eq!(rt; wire.sent().len(), 0);
+    let refused = published(&kernel, &mut agent, &mut wire);
+    assert_eq!(rt; refused, Some(Err(SendFault::WireFault)));
     assert_eq!(rt; agent.shown(), 0);
     assert!(rt; agent.view().knows(Tid(0), 1));
     assert!(rt; lists(&agent, &[0]));
-    assert_eq!(rt; agent.consume(&mut kernel), Ok(0));
+    assert_eq!(rt; consumed(&mut agent, &mut kernel), Some(0));
+    wire.set_refuses(false);
+    assert_eq!(rt; published(&kernel, &mut agent, &mut wire), Some(Ok(1)));
+    Ok(())
+}
+
+#[test]
+fn a_wire_counts_what_it_refuses(rt: HostRuntime) -> Result<(), Fail> {
+    let kernel = two_cpus(rt.alloc()).ok_or("no kernel")?;
+    let mut agent = Agent::new(rt.alloc(), Cpu(0));
+    let mut wire = KeptWire::new(rt.alloc());
+    assert_eq!(rt; wire.faults(), 0);
+    wire.set_refuses(true);
+    let refused = published(&kernel, &mut agent, &mut wire);
+    assert_eq!(rt; refused, Some(Err(SendFault::WireFault)));
+    assert_eq!(rt; wire.faults(), 1);
+    assert_eq!(rt; wire.sent().len(), 0);
     wire.set_refuses(false);
     assert_eq!(rt; wire.faults(), 0);
-    assert_eq!(rt; agent.publish(&kernel, &mut wire), Ok(1));
+    assert_eq!(rt; published(&kernel, &mut agent, &mut wire), Some(Ok(0)));
     assert_eq!(rt; wire.sent().len(), 1);
     Ok(())
 }
 
 #[test]
 fn an_empty_queue_is_published_as_an_empty_delta(rt: HostRuntime) -> Result<(), Fail> {
-    let kernel = kernel(rt.alloc())?;
+    let kernel = two_cpus(rt.alloc()).ok_or("no kernel")?;
     let mut agent = Agent::new(rt.alloc(), Cpu(1));
     let mut wire = KeptWire::new(rt.alloc());
-    assert_eq!(rt; agent.publish(&kernel, &mut wire), Ok(0));
+    assert_eq!(rt; published(&kernel, &mut agent, &mut wire), Some(Ok(0)));
     assert_eq!(rt; wire.sent().len(), 1);
-    assert_eq!(rt; wire.sent()[0].parts().len(), 0);
+    assert_eq!(rt; parts_of(&wire, 0), Some(0));
     Ok(())
 }
 
 #[test]
 fn items_that_something_else_removed_are_too_many(rt: HostRuntime) -> Result<(), Fail> {
-    let (mut kernel, mut agent, _) = ready(rt.alloc(), 2)?;
+    let mut kernel = ready(rt.alloc(), 2).ok_or("no kernel")?;
+    let mut agent = Agent::new(rt.alloc(), Cpu(0));
     let mut wire = KeptWire::new(rt.alloc());
-    agent.publish(&kernel, &mut wire)?;
-    kernel.consume(Cpu(0), 1)?;
-    assert_eq!(rt; agent.consume(&mut kernel), Err(Refusal::TooMany));
+    assert_eq!(rt; published(&kernel, &mut agent, &mut wire), Some(Ok(2)));
+    assert!(rt; kernel.consume(Cpu(0), 1).is_ok());
+    assert!(rt; agent.consume(&mut kernel) == Err(Refusal::TooMany));
     assert_eq!(rt; agent.shown(), 2);
     assert_eq!(rt; agent.counts().taken, 0);
     Ok(())
 }
 
-#[test]
-fn items_are_copied_without_a_kernel(rt: HostRuntime) -> Result<(), Fail> {
-    let mut agent = Agent::new(rt.alloc(), Cpu(0));
-    let message = Message {
-        thread: Tid(4),
-        number: 1,
-        kind: Kind::Created {
-            mask: Mask::new(1, 2)?,
-            ready: true,
+/// The delta that the agent copies what queue 0 holds to.
+fn copied(kernel: &Kernel, agent: &mut Agent) -> Option<Delta> {
+    match kernel.peek(Cpu(0)) {
+        Ok((_, items)) => match agent.copied(items.as_slice()) {
+            Ok(delta) => Some(delta),
+            Err(_) => None,
         },
-    };
-    let delta = agent.copied(&[Item::Thread(message), Item::Tick(Cpu(0))])?;
+        Err(_) => None,
+    }
+}
+
+#[test]
+fn items_are_copied_and_then_counted_as_sent(rt: HostRuntime) -> Result<(), Fail> {
+    let mut kernel = ready(rt.alloc(), 1).ok_or("no kernel")?;
+    assert!(rt; kernel.tick(Cpu(0)).is_ok());
+    let mut agent = Agent::new(rt.alloc(), Cpu(0));
+    let delta = copied(&kernel, &mut agent).ok_or("no delta")?;
     assert_eq!(rt; delta.parts().len(), 1);
-    assert!(rt; lists(&agent, &[4]));
+    assert!(rt; lists(&agent, &[0]));
     assert_eq!(rt; agent.shown(), 0);
     agent.sent(2);
     assert_eq!(rt; agent.shown(), 2);
@@ -154,78 +280,105 @@ fn items_are_copied_without_a_kernel(rt: HostRuntime) -> Result<(), Fail> {
 }
 
 #[test]
-fn a_pick_is_refused_in_order(rt: HostRuntime) -> Result<(), Fail> {
-    let (mut kernel, mut agent, _) = ready(rt.alloc(), 1)?;
+fn a_pick_commits_the_first(rt: HostRuntime) -> Result<(), Fail> {
+    let mut kernel = ready(rt.alloc(), 1).ok_or("no kernel")?;
+    let mut agent = Agent::new(rt.alloc(), Cpu(0));
     let mut wire = KeptWire::new(rt.alloc());
-    assert_eq!(rt; agent.pick(&mut kernel, 1), Err(Refusal::NothingReady));
-    agent.publish(&kernel, &mut wire)?;
-    assert_eq!(rt; agent.pick(&mut kernel, 0), Err(Refusal::Stale(1)));
-    assert!(rt; lists(&agent, &[0]));
-    assert_eq!(rt; agent.pick(&mut kernel, 1), Ok(Tid(0)));
+    assert_eq!(rt; published(&kernel, &mut agent, &mut wire), Some(Ok(1)));
+    assert_eq!(rt; picked(&mut agent, &mut kernel, 1), Some(Tid(0)));
     assert!(rt; kernel.running(Cpu(0)) == Some(Tid(0)));
     assert!(rt; lists(&agent, &[]));
+    assert_eq!(rt; agent.counts().commits, 1);
+    Ok(())
+}
+
+#[test]
+fn a_pick_is_refused_in_order(rt: HostRuntime) -> Result<(), Fail> {
+    let mut kernel = ready(rt.alloc(), 1).ok_or("no kernel")?;
+    let mut agent = Agent::new(rt.alloc(), Cpu(0));
+    let mut wire = KeptWire::new(rt.alloc());
+    assert!(rt; pick_refusal(&mut agent, &mut kernel, 1) == Some(Refusal::NothingReady));
+    assert_eq!(rt; published(&kernel, &mut agent, &mut wire), Some(Ok(1)));
+    assert!(rt; pick_refusal(&mut agent, &mut kernel, 0) == Some(Refusal::Stale(1)));
+    assert!(rt; lists(&agent, &[0]));
+    assert_eq!(rt; picked(&mut agent, &mut kernel, 1), Some(Tid(0)));
     // Stale before busy, and busy before an empty run list.
-    assert_eq!(rt; agent.pick(&mut kernel, 7), Err(Refusal::Stale(1)));
-    assert_eq!(rt; agent.pick(&mut kernel, 1), Err(Refusal::Busy));
-    let counts = agent.counts();
-    assert_eq!(rt; counts.commits, 1);
-    assert_eq!(rt; counts.stale, 2);
-    assert_eq!(rt; counts.other, 2);
-    assert_eq!(rt; counts.pending, 0);
+    assert!(rt; pick_refusal(&mut agent, &mut kernel, 7) == Some(Refusal::Stale(1)));
+    assert!(rt; pick_refusal(&mut agent, &mut kernel, 1) == Some(Refusal::Busy));
+    assert_eq!(rt; agent.counts().stale, 2);
+    assert_eq!(rt; agent.counts().other, 2);
+    assert_eq!(rt; agent.counts().pending, 0);
     Ok(())
 }
 
 #[test]
 fn a_pick_drops_what_the_kernel_refuses(rt: HostRuntime) -> Result<(), Fail> {
-    let (mut kernel, mut agent, _) = ready(rt.alloc(), 3)?;
+    let mut kernel = ready(rt.alloc(), 3).ok_or("no kernel")?;
+    let mut agent = Agent::new(rt.alloc(), Cpu(0));
     let mut wire = KeptWire::new(rt.alloc());
-    agent.publish(&kernel, &mut wire)?;
-    agent.consume(&mut kernel)?;
-    kernel.associate(Tid(0), Cpu(1), 1)?;
+    assert!(rt; publishes_and_consumes(&mut kernel, &mut agent, &mut wire, 3));
+    assert!(rt; kernel.associate(Tid(0), Cpu(1), 1).is_ok());
     assert!(rt; lists(&agent, &[0, 1, 2]));
-    assert_eq!(rt; agent.pick(&mut kernel, 3), Ok(Tid(1)));
+    assert_eq!(rt; picked(&mut agent, &mut kernel, 3), Some(Tid(1)));
     assert!(rt; lists(&agent, &[2]));
-    kernel.yield_now(Cpu(0), 1)?;
-    kernel.associate(Tid(2), Cpu(1), 1)?;
-    assert_eq!(rt; agent.pick(&mut kernel, 4), Err(Refusal::NothingReady));
+    assert!(rt; kernel.yield_now(Cpu(0), 1).is_ok());
+    assert!(rt; kernel.associate(Tid(2), Cpu(1), 1).is_ok());
+    assert!(rt; pick_refusal(&mut agent, &mut kernel, 4) == Some(Refusal::NothingReady));
     assert!(rt; lists(&agent, &[]));
     Ok(())
 }
 
 #[test]
 fn a_thread_is_stolen_once_nothing_of_it_waits(rt: HostRuntime) -> Result<(), Fail> {
-    let (mut kernel, mut agent, mut thief) = ready(rt.alloc(), 2)?;
+    let mut kernel = ready(rt.alloc(), 2).ok_or("no kernel")?;
+    let mut agent = Agent::new(rt.alloc(), Cpu(0));
+    let mut thief = Agent::new(rt.alloc(), Cpu(1));
     let mut wire = KeptWire::new(rt.alloc());
-    agent.publish(&kernel, &mut wire)?;
-    assert_eq!(rt; thief.steal(&mut kernel), Err(CallFault::Refused(Refusal::NothingToSteal)));
-    thief.deliver(&wire.sent()[0])?;
-    assert_eq!(rt; thief.steal(&mut kernel), Err(CallFault::Refused(Refusal::Pending)));
+    assert_eq!(rt; published(&kernel, &mut agent, &mut wire), Some(Ok(2)));
+    assert!(rt; steal_refusal(&mut thief, &mut kernel) == Some(Refusal::NothingToSteal));
+    assert!(rt; delivers(&mut thief, &wire, 0));
+    assert!(rt; steal_refusal(&mut thief, &mut kernel) == Some(Refusal::Pending));
     assert!(rt; lists(&thief, &[]));
-    agent.consume(&mut kernel)?;
-    assert_eq!(rt; thief.steal(&mut kernel), Ok(Tid(0)));
+    assert_eq!(rt; consumed(&mut agent, &mut kernel), Some(2));
+    assert_eq!(rt; stolen(&mut thief, &mut kernel), Some(Tid(0)));
     assert!(rt; kernel.queue_of(Tid(0)) == Some(Cpu(1)));
     assert!(rt; lists(&thief, &[0]));
+    assert_eq!(rt; thief.counts().steals, 1);
+    assert_eq!(rt; thief.counts().pending, 1);
+    assert_eq!(rt; thief.counts().other, 1);
+    Ok(())
+}
+
+#[test]
+fn a_stolen_thread_runs_on_the_other_cpu(rt: HostRuntime) -> Result<(), Fail> {
+    let mut kernel = ready(rt.alloc(), 2).ok_or("no kernel")?;
+    let mut agent = Agent::new(rt.alloc(), Cpu(0));
+    let mut thief = Agent::new(rt.alloc(), Cpu(1));
+    let mut wire = KeptWire::new(rt.alloc());
+    assert!(rt; publishes_and_consumes(&mut kernel, &mut agent, &mut wire, 2));
+    assert!(rt; delivers(&mut thief, &wire, 0));
+    assert_eq!(rt; stolen(&mut thief, &mut kernel), Some(Tid(0)));
     // Agent 0 drops t0, which is no longer its own.
-    assert_eq!(rt; agent.pick(&mut kernel, 2), Ok(Tid(1)));
-    assert_eq!(rt; thief.pick(&mut kernel, 0), Ok(Tid(0)));
-    assert_eq!(rt; thief.steal(&mut kernel), Err(CallFault::Refused(Refusal::Busy)));
-    let counts = thief.counts();
-    assert_eq!(rt; counts.steals, 1);
-    assert_eq!(rt; counts.commits, 1);
-    assert_eq!(rt; counts.pending, 1);
-    assert_eq!(rt; counts.other, 2);
+    assert_eq!(rt; picked(&mut agent, &mut kernel, 2), Some(Tid(1)));
+    assert_eq!(rt; picked(&mut thief, &mut kernel, 0), Some(Tid(0)));
+    assert!(rt; steal_refusal(&mut thief, &mut kernel) == Some(Refusal::Busy));
+    assert_eq!(rt; thief.counts().commits, 1);
+    assert_eq!(rt; thief.counts().other, 1);
     Ok(())
 }
 
 #[test]
 fn only_the_least_thread_is_tried(rt: HostRuntime) -> Result<(), Fail> {
-    let (mut kernel, mut agent, mut thief) = ready(rt.alloc(), 2)?;
+    let mut kernel = ready(rt.alloc(), 2).ok_or("no kernel")?;
+    let mut agent = Agent::new(rt.alloc(), Cpu(0));
+    let mut thief = Agent::new(rt.alloc(), Cpu(1));
     let mut wire = KeptWire::new(rt.alloc());
-    share(&mut kernel, &mut agent, &mut thief, &mut wire)?;
-    kernel.set_affinity(Tid(0), 3)?;
-    kernel.consume(Cpu(0), 1)?;
+    assert!(rt; publishes_and_consumes(&mut kernel, &mut agent, &mut wire, 2));
+    assert!(rt; delivers(&mut thief, &wire, 0));
+    assert!(rt; kernel.set_affinity(Tid(0), 3).is_ok());
+    assert!(rt; kernel.consume(Cpu(0), 1).is_ok());
     // t1 could be had, but t0 comes first, and it has a message that the thief did not see.
-    assert_eq!(rt; thief.steal(&mut kernel), Err(CallFault::Refused(Refusal::Stale(2))));
+    assert!(rt; steal_refusal(&mut thief, &mut kernel) == Some(Refusal::Stale(2)));
     assert!(rt; lists(&thief, &[]));
     assert_eq!(rt; thief.counts().stale, 1);
     Ok(())
@@ -233,64 +386,91 @@ fn only_the_least_thread_is_tried(rt: HostRuntime) -> Result<(), Fail> {
 
 #[test]
 fn the_dead_are_not_stolen(rt: HostRuntime) -> Result<(), Fail> {
-    let (mut kernel, mut agent, mut thief) = ready(rt.alloc(), 1)?;
+    let mut kernel = ready(rt.alloc(), 1).ok_or("no kernel")?;
+    let mut agent = Agent::new(rt.alloc(), Cpu(0));
+    let mut thief = Agent::new(rt.alloc(), Cpu(1));
     let mut wire = KeptWire::new(rt.alloc());
-    share(&mut kernel, &mut agent, &mut thief, &mut wire)?;
-    kernel.commit(Cpu(0), Tid(0), 1)?;
+    assert!(rt; publishes_and_consumes(&mut kernel, &mut agent, &mut wire, 1));
+    assert!(rt; delivers(&mut thief, &wire, 0));
+    assert!(rt; kernel.commit(Cpu(0), Tid(0), 1).is_ok());
     // One that runs is no candidate; a dead one is dead before it is stale.
-    assert_eq!(rt; thief.steal(&mut kernel), Err(CallFault::Refused(Refusal::NothingToSteal)));
-    kernel.die(Cpu(0), 5)?;
-    assert_eq!(rt; thief.steal(&mut kernel), Err(CallFault::Refused(Refusal::Dead)));
+    assert!(rt; steal_refusal(&mut thief, &mut kernel) == Some(Refusal::NothingToSteal));
+    assert!(rt; kernel.die(Cpu(0), 5).is_ok());
+    assert!(rt; steal_refusal(&mut thief, &mut kernel) == Some(Refusal::Dead));
     assert_eq!(rt; thief.counts().other, 2);
     Ok(())
 }
 
 #[test]
-fn a_restarted_agent_takes_its_threads_back(rt: HostRuntime) -> Result<(), Fail> {
-    let (mut kernel, mut agent, _) = ready(rt.alloc(), 1)?;
+fn a_restarted_agent_knows_nothing(rt: HostRuntime) -> Result<(), Fail> {
+    let mut kernel = ready(rt.alloc(), 1).ok_or("no kernel")?;
+    let mut agent = Agent::new(rt.alloc(), Cpu(0));
     let mut wire = KeptWire::new(rt.alloc());
-    agent.publish(&kernel, &mut wire)?;
+    assert!(rt; publishes_and_consumes(&mut kernel, &mut agent, &mut wire, 1));
+    assert!(rt; kernel.tick(Cpu(0)).is_ok());
+    assert_eq!(rt; published(&kernel, &mut agent, &mut wire), Some(Ok(1)));
     agent.restart();
     assert!(rt; agent.view() == &View::new(rt.alloc()));
     assert!(rt; lists(&agent, &[]));
     assert_eq!(rt; agent.shown(), 0);
-    agent.publish(&kernel, &mut wire)?;
-    agent.consume(&mut kernel)?;
-    agent.restart();
-    agent.deliver(&wire.sent()[0])?;
-    assert_eq!(rt; agent.pick(&mut kernel, 1), Err(Refusal::NothingReady));
-    assert_eq!(rt; agent.steal(&mut kernel), Ok(Tid(0)));
-    assert_eq!(rt; agent.steal(&mut kernel), Err(CallFault::Refused(Refusal::NothingToSteal)));
-    assert_eq!(rt; agent.pick(&mut kernel, 1), Ok(Tid(0)));
+    assert!(rt; agent.cpu() == Cpu(0));
     // The counts outlive a restart.
     assert_eq!(rt; agent.counts().taken, 1);
-    assert!(rt; agent.cpu() == Cpu(0));
+    Ok(())
+}
+
+#[test]
+fn a_restarted_agent_takes_its_threads_back(rt: HostRuntime) -> Result<(), Fail> {
+    let mut kernel = ready(rt.alloc(), 1).ok_or("no kernel")?;
+    let mut agent = Agent::new(rt.alloc(), Cpu(0));
+    let mut wire = KeptWire::new(rt.alloc());
+    assert!(rt; publishes_and_consumes(&mut kernel, &mut agent, &mut wire, 1));
+    agent.restart();
+    assert!(rt; delivers(&mut agent, &wire, 0));
+    assert!(rt; pick_refusal(&mut agent, &mut kernel, 1) == Some(Refusal::NothingReady));
+    assert_eq!(rt; stolen(&mut agent, &mut kernel), Some(Tid(0)));
+    assert!(rt; steal_refusal(&mut agent, &mut kernel) == Some(Refusal::NothingToSteal));
+    assert_eq!(rt; picked(&mut agent, &mut kernel, 1), Some(Tid(0)));
     Ok(())
 }
 
 #[test]
 fn an_answer_tells_what_a_digest_lacks(rt: HostRuntime) -> Result<(), Fail> {
-    let (mut kernel, mut agent, mut other) = ready(rt.alloc(), 2)?;
+    let kernel = ready(rt.alloc(), 2).ok_or("no kernel")?;
+    let mut agent = Agent::new(rt.alloc(), Cpu(0));
+    let mut other = Agent::new(rt.alloc(), Cpu(1));
     let mut wire = KeptWire::new(rt.alloc());
-    agent.publish(&kernel, &mut wire)?;
-    agent.consume(&mut kernel)?;
-    agent.answer(&Digest::of(rt.alloc(), other.view())?, &mut wire)?;
-    other.deliver(&wire.sent()[1])?;
-    assert!(rt; other.view() == agent.view());
-    agent.answer(&Digest::of(rt.alloc(), other.view())?, &mut wire)?;
-    assert_eq!(rt; wire.sent()[2].parts().len(), 0);
-    other.restart();
-    agent.answer_beyond(other.view(), &mut wire)?;
-    assert_eq!(rt; wire.sent()[3].parts().len(), 2);
-    wire.set_refuses(true);
-    assert_eq!(rt; agent.answer_beyond(other.view(), &mut wire), Err(SendFault::WireFault));
+    assert_eq!(rt; published(&kernel, &mut agent, &mut wire), Some(Ok(2)));
     assert_eq!(rt;
-        agent.answer(&Digest::of(rt.alloc(), other.view())?, &mut wire),
-        Err(SendFault::WireFault)
+        answered(rt.alloc(), &agent, &other, &mut wire),
+        Some(Ok(()))
     );
-    assert_eq!(rt; wire.faults(), 2);
+    assert!(rt; delivers(&mut other, &wire, 1));
+    assert!(rt; other.view() == agent.view());
+    assert_eq!(rt;
+        answered(rt.alloc(), &agent, &other, &mut wire),
+        Some(Ok(()))
+    );
+    assert_eq!(rt; parts_of(&wire, 2), Some(0));
+    other.restart();
+    assert_eq!(rt; answered_beyond(&agent, &other, &mut wire), Some(Ok(())));
+    assert_eq!(rt; parts_of(&wire, 3), Some(2));
     assert_eq!(rt; wire.sent().len(), 4);
     Ok(())
+}
+
+#[test]
+fn an_answer_is_refused_as_a_send_is(rt: HostRuntime) {
+    let agent = Agent::new(rt.alloc(), Cpu(0));
+    let other = Agent::new(rt.alloc(), Cpu(1));
+    let mut wire = KeptWire::new(rt.alloc());
+    wire.set_refuses(true);
+    let beyond = answered_beyond(&agent, &other, &mut wire);
+    assert_eq!(rt; beyond, Some(Err(SendFault::WireFault)));
+    let digest = answered(rt.alloc(), &agent, &other, &mut wire);
+    assert_eq!(rt; digest, Some(Err(SendFault::WireFault)));
+    assert_eq!(rt; wire.faults(), 2);
+    assert_eq!(rt; wire.sent().len(), 0);
 }
 
 #[test]
