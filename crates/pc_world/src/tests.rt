@@ -440,3 +440,29 @@ fn a_send_is_refused(rt: HostRuntime) -> Result<(), Fail> {
     );
     Ok(())
 }
+
+/// Whether the world replies so to a list of events.
+fn runs_as(world: &mut World, events: &[Event], wanted: &[Reply]) -> bool {
+    // The checker finds the types that a reply nests only where the function names them.
+    let _: (Option<Posted>, Option<Tid>, Option<Cpu>, Option<Refusal>) = (None, None, None, None);
+    match world.run(events) {
+        Ok(replies) => replies.as_slice() == wanted,
+        Err(_) => false,
+    }
+}
+
+#[test]
+fn a_list_of_events_is_replied_in_order(rt: HostRuntime) -> Result<(), Fail> {
+    let mut world = World::new(rt.alloc(), small())?;
+    let events = [create(0, true), publish(0), consume(0), deliver(1, 0)];
+    let replies = [
+        posted(0, 1, 0, 1),
+        Reply::Published { delta: 0, items: 1 },
+        Reply::Consumed { items: 1 },
+        Reply::Done,
+    ];
+    assert!(rt; runs_as(&mut world, &events, &replies));
+    assert!(rt; runs_as(&mut world, &[], &[]));
+    assert!(rt; knows(&world, 1, 1));
+    Ok(())
+}
