@@ -1,10 +1,9 @@
 -- What an agent shows that took a delta in.
-use Rattle.std.proofs.Common.{ℕ, ◌≡◌, List, Result, Ok, Err, OnOk, IsErr, ◌∙◌, sym, ap, subst}
+use Rattle.std.proofs.Common.{ℕ, ◌≡◌, List, Result, Ok, Err, OnOk, IsErr, ◌∙◌}
 use Rattle.std.proofs.lemmas.Bool.{false≢true}
 use Rattle.pc_messages.specs.Items.{pairs_in, AreItemsOf}
 use Rattle.pc_messages.specs.Run.{Run}
 use Rattle.pc_messages.specs.declared.message.Item.{Item}
-use Rattle.pc_messages.specs.declared.reported.Reported.{Reported}
 use Rattle.pc_join.specs.Sets.{IsSameSet, as_members}
 use Rattle.pc_join.specs.declared.join.OutOfMemory.{OutOfMemory}
 use Rattle.pc_view.specs.declared.view.View.{View}

@@ -1,12 +1,9 @@
 -- Items of a run, as the run goes on.
-use Rattle.std.proofs.Common.{ℕ, zero, suc, ◌+◌, ◌-◌, ◌<◌, ◌≡◌, ◌==◌, Bool, true, false, List, [], ◌∷◌, ◌++◌, length, cond, Some, None, slice_get, get_or, refl, sym, ap, ◌∙◌, subst}
+use Rattle.std.proofs.Common.{ℕ, ◌≡◌, List, get_or, subst}
 use Rattle.pc_messages.specs.Items.{AreItemsOf, IsItemOf}
-use Rattle.pc_messages.specs.Run.{Extends, Run, kind_at}
-use Rattle.pc_messages.specs.declared.kind.Kind.{Kind}
+use Rattle.pc_messages.specs.Run.{Extends, Run}
 use Rattle.pc_messages.specs.declared.message.Item.{Item}
 use Rattle.pc_messages.specs.declared.message.Item.TheVariants.{Thread, Tick}
-use Rattle.pc_messages.specs.declared.message.Message.{Message}
-use Rattle.pc_delta.specs.Parts.{IsPartOfRun}
 use Rattle.pc_delta.specs.declared.part.Part.TheVariants.{One}
 use Rattle.pc_delta.proofs.OfRun.{part_stays}
 

@@ -1,6 +1,5 @@
 -- What an agent shows that published items.
-use Rattle.std.proofs.Common.{ℕ, ◌≡◌, ◌⊎◌, List, length, Result, Ok, Err, refl, inl, inr, subst, sym}
-use Rattle.pc_messages.specs.Items.{pairs_in}
+use Rattle.std.proofs.Common.{ℕ, List, length, Ok, Err, refl, inr}
 use Rattle.pc_messages.specs.Run.{Run}
 use Rattle.pc_messages.specs.declared.message.Item.{Item}
 use Rattle.pc_delta.specs.declared.part.Part.{Part}

@@ -1,9 +1,8 @@
 -- The names of a run list that the kernel would commit.
-use Rattle.std.proofs.Common.{ℕ, ◌≡◌, ◌==◌, not, Bool, true, false, List, [], ◌∷◌, Option, Some, None, Result, Ok, Err, is_some, if◌then◌else◌, OnErr, refl, sym, ap, ◌∙◌, subst}
+use Rattle.std.proofs.Common.{ℕ, ◌≡◌, ◌==◌, not, Bool, true, false, List, [], ◌∷◌, Option, Some, None, Result, Ok, Err, is_some, refl, sym, ap, ◌∙◌, subst}
 use Rattle.pc_messages.specs.Run.{Run}
 use Rattle.pc_calls.specs.Conditions.{first_of}
 use Rattle.pc_calls.specs.declared.call.Answer.{Answer}
-use Rattle.pc_calls.specs.declared.call.Call.{Call}
 use Rattle.pc_calls.specs.declared.call.Call.TheVariants as call
 use Rattle.pc_calls.specs.declared.refusal.Refusal.{Refusal}
 use Rattle.pc_calls.specs.declared.refusal.Refusal.TheVariants.{Stale, Busy, NothingReady}

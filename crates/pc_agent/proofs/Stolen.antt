@@ -1,12 +1,11 @@
 -- What a steal did, in the words of the plain agent.
-use Rattle.std.proofs.Common.{ℕ, ◌+◌, ◌≤◌, ◌≡◌, Bool, true, false, List, [], ◌∷◌, ◌++◌, length, take, Option, Some, None, Result, Ok, Err, MatchBool, MatchOption, is_some, OnOk, refl, sym, ap, ◌∙◌, subst, arith}
+use Rattle.std.proofs.Common.{ℕ, ◌≡◌, Bool, true, false, List, [], ◌∷◌, ◌++◌, length, take, Option, Some, Result, Ok, Err, MatchBool, is_some, OnOk, refl, sym, ap, ◌∙◌, subst}
 use Rattle.std.specs.Result.{is_err}
 use Rattle.std.proofs.lemmas.Bool.{false≢true}
 use Rattle.pc_join.specs.declared.join.OutOfMemory.{OutOfMemory as Starved}
 use Rattle.pc_messages.specs.Run.{Run, Extends}
 use Rattle.pc_messages.specs.State.{state_of}
 use Rattle.pc_messages.specs.declared.kind.Kind.{Kind}
-use Rattle.pc_messages.specs.declared.reported.Reported.{Reported}
 use Rattle.pc_calls.specs.declared.call.Call.TheVariants as call
 use Rattle.pc_calls.specs.declared.refusal.Refusal.{Refusal}
 use Rattle.pc_calls.specs.declared.refusal.Refusal.TheVariants.{Busy}
@@ -14,16 +13,15 @@ use Rattle.pc_calls.specs.declared.refusal.CallFault.{CallFault}
 use Rattle.pc_calls.specs.declared.refusal.CallFault.TheVariants.{Refused, OutOfMemory}
 use Rattle.pc_kernel.specs.Answers.{Shows, Steps, done}
 use Rattle.pc_kernel.specs.Exact.{AcceptedAssociatesAreExact}
-use Rattle.pc_kernel.specs.PlainKernel.{PlainKernel, kinds, number}
-use Rattle.pc_kernel.specs.Reads.{Reads, seen, shown, on}
+use Rattle.pc_kernel.specs.PlainKernel.{PlainKernel, kinds}
+use Rattle.pc_kernel.specs.Reads.{seen, shown, on}
 use Rattle.pc_kernel.specs.Rows.{KernelRows}
 use Rattle.pc_kernel.specs.Steps.{accepted, after, refused}
-use Rattle.pc_view.specs.declared.view.View.{View}
 use Rattle.pc_view.specs.Prefixes.{reported_in, reports, upto, upto_of}
 use Rattle.pc_run_queue.specs.Runs.{may_run, runs_in}
 use Rattle.pc_agent.specs.declared.agent.Agent.{Agent}
-use Rattle.pc_agent.specs.PlainAgent.{PlainAgent, may_steal, may_take, runs_here}
-use Rattle.pc_agent.specs.Running.{Finds, IsSeenExactly, IsStolen, Steals, take_refused, takes_over}
+use Rattle.pc_agent.specs.PlainAgent.{PlainAgent, may_steal, may_take}
+use Rattle.pc_agent.specs.Running.{Finds, IsSeenExactly, IsStolen, Steals, takes_over}
 use Rattle.pc_agent.specs.Shows.{ShowsAgent, ShowsView}
 use Rattle.pc_agent.proofs.Ready.{was_accepted, was_refused}
 

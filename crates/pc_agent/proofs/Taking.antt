@@ -1,5 +1,5 @@
 -- What a view shows that took parts in.
-use Rattle.std.proofs.Common.{ℕ, ◌≡◌, ◌==◌, ◌||◌, ◌&&◌, Bool, true, false, List, [], ◌∷◌, ◌++◌, cond, filter, refl, sym, ap, ◌∙◌, subst, inl, inr}
+use Rattle.std.proofs.Common.{ℕ, ◌≡◌, ◌==◌, ◌||◌, ◌&&◌, Bool, true, false, List, [], ◌∷◌, ◌++◌, cond, filter, refl, sym, ap, ◌∙◌, inl, inr}
 use Rattle.std.specs.List.{list_any}
 use Rattle.std.proofs.lemmas.Bool.{false≢true}
 use Rattle.std.proofs.lemmas.Bool.Decides.{eqb_tells}
@@ -9,7 +9,6 @@ use Rattle.pc_view.specs.declared.view.View.{View}
 use Rattle.pc_view.specs.Views.{pairs_of, IsOfRun}
 use Rattle.pc_delta.specs.declared.part.Part.{Part}
 use Rattle.pc_delta.specs.Exchange.{IsTakenIn, IsPartlyTakenIn}
-use Rattle.pc_delta.specs.Parts.{set_of}
 use Rattle.pc_agent.specs.PlainAgent.{Set}
 use Rattle.pc_agent.specs.Shows.{ShowsDelta, ShowsView}
 use Rattle.pc_agent.proofs.Lists.{as_members-append}
@@ -60,7 +59,7 @@ kept_has : (members : Members) (pairs : Set) (t n : ℕ) → has (kept members p
 kept_has members pairs t n =
     any_filter (λ p. (p.0 == t) && (p.1 == n)) (λ p. members (p.0 ∷ p.1 ∷ [])) (members (t ∷ n ∷ []))
     (λ p e. let parts = both_hold (p.0 == t) (p.1 == n) e in
-      ap (λ q. members (q ∷ p.1 ∷ [])) (eq_is p.0 t parts.0) ∙ ap (λ q. members (t ∷ q ∷ [])) (eq_is p.1 n parts.1)) pairs
+    ap (λ q. members (q ∷ p.1 ∷ [])) (eq_is p.0 t parts.0) ∙ ap (λ q. members (t ∷ q ∷ [])) (eq_is p.1 n parts.1)) pairs
 
 -- a set that lies between a list and what a second one adds is a list too: the first, and what it has of the second
 module _ (set gained : Set) (between : Members) (h : IsBetween (as_members set) (as_members gained) between) where

@@ -1,5 +1,5 @@
 -- A thread of which a view tells nothing may not be taken over.
-use Rattle.std.proofs.Common.{ℕ, ◌≡◌, ◌&&◌, not, Bool, false, List, Option, Some, None, refl, ap, ◌∙◌}
+use Rattle.std.proofs.Common.{ℕ, ◌≡◌, ◌&&◌, not, false, List, Option, Some, None, refl, ap}
 use Rattle.pc_kernel.specs.Reads.{Reads}
 use Rattle.pc_thread_view.specs.Told.{Told}
 use Rattle.pc_view.specs.declared.view.View.{View}

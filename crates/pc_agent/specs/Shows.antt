@@ -1,5 +1,5 @@
 -- What an agent and a delta show: of a run, and of which set.
-use Rattle.std.specs.Prelude.{ℕ, ◌≡◌, List, ◌++◌}
+use Rattle.std.specs.Prelude.{ℕ, ◌≡◌, List}
 use Rattle.pc_messages.specs.Run.{Run}
 use Rattle.pc_join.specs.Sets.{as_members, IsSameSet, IsBetween}
 use Rattle.pc_view.specs.declared.view.View.{View}

@@ -22,7 +22,12 @@ use pc_messages::{Cpu, Tid};
 use pc_run_queue::RunQueue;
 
 /// Commits the first name that the kernel commits; what stood before it is dropped, and it leaves the list too.
-fn commit_first(list: &mut RunQueue, kernel: &mut Kernel, cpu: Cpu, aseq: u32) -> Result<Tid, Refusal>
+fn commit_first(
+    list: &mut RunQueue,
+    kernel: &mut Kernel,
+    cpu: Cpu,
+    aseq: u32,
+) -> Result<Tid, Refusal>
     ensures first { CommitsFirst cpu aseq result list.old list.new kernel.old kernel.new }
     ensures limits { kernel.new.limits ≡ kernel.old.limits }
     ensures extends { Extends (kinds (seen kernel.new)) (kinds (seen kernel.old)) }

@@ -52,8 +52,7 @@ impl Agent {
         let delta = Delta::of_items(self.alloc, items)?;
         let touched = threads_of(self.alloc, items)?;
         take_in(&mut self.view, &delta)?;
-        self.list
-            .refresh(&self.view, touched.as_slice(), self.cpu)?;
+        self.list.refresh(&self.view, touched.as_slice(), self.cpu)?;
         Ok(delta)
     }
 

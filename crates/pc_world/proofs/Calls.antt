@@ -1,20 +1,18 @@
 -- What a world shows after a call of the kernel.
-use Rattle.std.proofs.Common.{◌≡◌, ℕ, List, Option, Some, None, Result, Ok, Err, MatchOption, slice_get, refl, sym, ◌∙◌, ap, subst}
+use Rattle.std.proofs.Common.{◌≡◌, Option, Some, None, Ok, Err, MatchOption, slice_get, refl, sym, ◌∙◌, ap, subst}
 use Rattle.pc_calls.specs.declared.call.Call.{Call}
-use Rattle.pc_calls.specs.declared.call.Call.TheVariants as call
 use Rattle.pc_calls.specs.declared.call.Answer.{Answer}
 use Rattle.pc_calls.specs.declared.event.Event.{Event}
 use Rattle.pc_calls.specs.declared.event.Reply.{Reply}
 use Rattle.pc_calls.specs.declared.event.Reply.TheVariants as replies
 use Rattle.pc_calls.specs.declared.refusal.Refusal.{Refusal}
-use Rattle.pc_calls.specs.declared.refusal.CallFault.{CallFault}
 use Rattle.pc_calls.specs.declared.refusal.CallFault.TheVariants.{Refused, OutOfMemory}
 use Rattle.pc_calls.specs.Events.{call_of, reply_to, told_of}
 use Rattle.pc_kernel.specs.Answers.{Shows, RepliesInMemory, StepsInMemory, itself}
 use Rattle.pc_kernel.specs.PlainKernel.{PlainKernel, kinds}
 use Rattle.pc_kernel.specs.Reads.{shown}
 use Rattle.pc_kernel.specs.Rows.{KernelRows}
-use Rattle.pc_kernel.specs.Steps.{accepted, after, after_of, changed, refused, reply, reply_of}
+use Rattle.pc_kernel.specs.Steps.{accepted, after, after_of, changed, refused, reply_of}
 use Rattle.pc_join.specs.declared.join.OutOfMemory.{OutOfMemory as Starving}
 use Rattle.pc_world.specs.declared.world.World.{World}
 use Rattle.pc_world.specs.PlainWorld.{PlainWorld}

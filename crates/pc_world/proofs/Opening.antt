@@ -1,6 +1,6 @@
 -- What a new world shows, and what it tells of an agent's view.
-use Rattle.std.proofs.Common.{◌≡◌, ℕ, zero, suc, ◌+◌, ◌<◌, ◌≤◌, true, false, ◌⊎◌, List, [], ◌∷◌, ◌++◌, length, Option, Some, None, slice_get, refl, sym, ◌∙◌, ap, subst, length-append, inl, inr, arith}
-use Rattle.std.proofs.lemmas.Bool.{cases_lt, lt-ltb}
+use Rattle.std.proofs.Common.{◌≡◌, ℕ, zero, suc, ◌+◌, ◌<◌, true, ◌⊎◌, List, [], ◌∷◌, ◌++◌, length, Some, slice_get, refl, sym, ◌∙◌, ap, subst, length-append, inl, inr, arith}
+use Rattle.std.proofs.lemmas.Bool.{lt-ltb}
 use Rattle.std.proofs.lemmas.Option.{same_Some, slice_get_within}
 use Rattle.pc_messages.specs.Run.{Run}
 use Rattle.pc_calls.specs.declared.limits.Limits.{Limits}
@@ -13,7 +13,7 @@ use Rattle.pc_agent.specs.Shows.{ShowsAgent, cpu_of}
 use Rattle.pc_world.specs.declared.world.World.{World}
 use Rattle.pc_world.specs.PlainWorld.{PlainWorld, opened}
 use Rattle.pc_world.specs.Shows.{AreSent, ShowsWorld, deltas_of}
-use Rattle.pc_world.specs.Inner.Agents.{AreNew, AreOwn}
+use Rattle.pc_world.specs.Inner.Agents.{AreNew}
 
 -- an item of a list with one more is one of the list, or the last
 at_push : (xs : List Agent) (x a : Agent) (i : ℕ) → slice_get (xs ++ x ∷ []) i ≡ Some a → (slice_get xs i ≡ Some a) ⊎ ((i ≡ length xs) × (a ≡ x))

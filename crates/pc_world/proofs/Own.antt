@@ -1,10 +1,8 @@
 -- What a world shows after an event of one agent.
-use Rattle.std.proofs.Common.{◌≡◌, ℕ, ◌⊎◌, ◌&&◌, Bool, true, false, List, [], ◌∷◌, ◌++◌, length, Option, Some, None, Result, Ok, Err, MatchBool, is_some, slice_get, get_or, set, refl, sym, ◌∙◌, ap, subst, inl, inr}
-use Rattle.std.proofs.lemmas.Bool.{false≢true}
+use Rattle.std.proofs.Common.{◌≡◌, ℕ, Bool, true, false, List, [], ◌∷◌, ◌++◌, length, Option, Some, None, Result, Ok, Err, MatchBool, is_some, slice_get, get_or, set, refl, sym, ◌∙◌, ap, subst, inl, inr}
 use Rattle.std.proofs.lemmas.Bool.Decides.{eqb_tells}
 use Rattle.pc_messages.specs.Items.{pairs_in}
 use Rattle.pc_messages.specs.Run.{Run, Extends}
-use Rattle.pc_messages.specs.declared.message.Item.{Item}
 use Rattle.pc_calls.specs.declared.call.Answer.TheVariants.{Done}
 use Rattle.pc_calls.specs.declared.call.Call.TheVariants as call
 use Rattle.pc_calls.specs.declared.event.Event.TheVariants as event
@@ -14,26 +12,24 @@ use Rattle.pc_calls.specs.declared.refusal.Refusal.{Refusal}
 use Rattle.pc_calls.specs.declared.refusal.Refusal.TheVariants as refusals
 use Rattle.pc_calls.specs.declared.refusal.CallFault.TheVariants as faults
 use Rattle.pc_join.specs.declared.join.OutOfMemory.{OutOfMemory as Starving}
-use Rattle.pc_join.specs.Sets.{IsBetween, as_members}
 use Rattle.pc_kernel.specs.Answers.{Replies, Shows, Steps, done}
 use Rattle.pc_kernel.specs.PlainKernel.{PlainKernel, kinds, content}
-use Rattle.pc_kernel.specs.Reads.{seen, shown, is_cpu, on}
+use Rattle.pc_kernel.specs.Reads.{shown, is_cpu, on}
 use Rattle.pc_kernel.specs.Rows.{KernelRows}
-use Rattle.pc_kernel.specs.Steps.{accepted, after, after_of, at, changed, refused, reply, reply_of}
+use Rattle.pc_kernel.specs.Steps.{after, after_of, at, changed, refused, reply_of}
 use Rattle.pc_delta.specs.declared.part.Part.{Part}
 use Rattle.pc_agent.specs.declared.agent.Agent.{Agent}
 use Rattle.pc_agent.specs.declared.kept_wire.KeptWire.{KeptWire}
 use Rattle.pc_agent.specs.declared.wire.SendFault.TheVariants as sending
-use Rattle.pc_agent.specs.Exchanging.{Delivers, IsDelivered}
-use Rattle.pc_agent.specs.PlainAgent.{PlainAgent, Set, copied, fresh, pick_refused, ready_list, taking_in}
+use Rattle.pc_agent.specs.Exchanging.{Delivers}
+use Rattle.pc_agent.specs.PlainAgent.{PlainAgent, copied, fresh, taking_in}
 use Rattle.pc_agent.specs.Publishing.{IsConsumed, IsPublished, WhateverShown, sent_after}
 use Rattle.pc_agent.specs.Running.{Finds, IsPicked, IsStolen, Steals, left_by, takes_over, take_refused}
-use Rattle.pc_agent.specs.Shows.{ShowsAgent, ShowsDelta, ShowsPart, ShowsView, cpu_of}
+use Rattle.pc_agent.specs.Shows.{ShowsAgent, ShowsView, cpu_of}
 use Rattle.pc_agent.specs.Wires.{Keeps, sent_by}
 use Rattle.pc_world.specs.declared.world.World.{World}
 use Rattle.pc_world.specs.PlainWorld.{PlainWorld, looked, published, with_agent}
 use Rattle.pc_world.specs.Shows.{AreSent, KeepsSent, ShowsWorld, deltas_of}
-use Rattle.pc_world.specs.Starved.{IsWidened}
 use Rattle.pc_world.specs.Steps as steps
 use Rattle.pc_world.specs.Steps.{stealable}
 use Rattle.pc_world.specs.Inner.Handling.{Handles}
@@ -125,10 +121,10 @@ module _ (goes : RunsGoOn) (old new : World) (c place : ℕ) (agent more : Agent
         let number : index ≡ length w.sent = at_end ∙ sent_length (kinds w.kernel) w.sent (deltas_of old) h.sent in (
           published w c,
           on_cpu w (replies.Published index items) (published w c) _ h
-          (subst (λ b. steps.IsPublished w c b (replies.Published index items) (published w c)) (sym goes_out) ((λ i. replies.Published (number i) (said.0 i)), refl)),
+              (subst (λ b. steps.IsPublished w c b (replies.Published index items) (published w c)) (sym goes_out) ((λ i. replies.Published (number i) (said.0 i)), refl)),
           world_after goes old new w c place more w.kernel (sent_after (kinds w.kernel) c (content w.kernel c) (w.agents c)) (w.sent ++ pairs_in (content w.kernel c) ∷ []) h where_is agents
-          (subst (λ k. Shows k w.kernel) (sym kernel) h.kernel) (same_run (kinds w.kernel)) said.2
-          (subst (AreSent (kinds w.kernel) (w.sent ++ pairs_in (content w.kernel c) ∷ [])) (sym grown) (sent_more (kinds w.kernel) w.sent (deltas_of old) (pairs_in (content w.kernel c)) delta h.sent said.1.shows)),
+              (subst (λ k. Shows k w.kernel) (sym kernel) h.kernel) (same_run (kinds w.kernel)) said.2
+              (subst (AreSent (kinds w.kernel) (w.sent ++ pairs_in (content w.kernel c) ∷ [])) (sym grown) (sent_more (kinds w.kernel) w.sent (deltas_of old) (pairs_in (content w.kernel c)) delta h.sent said.1.shows)),
           (delta ∷ [], grown),
         )
 
@@ -195,7 +191,7 @@ module _ (goes : RunsGoOn) (old new : World) (c place : ℕ) (agent more : Agent
       let w' : PlainWorld = record (with_agent w c (record p { list = said.1.rest })) { kernel = after P (call.Commit c t n) } in (
         w',
         on_cpu w (replies.Committed t c) w' _ h
-        (subst (λ o. steps.IsPicked w c n o (replies.Committed t c) w') (sym said.0) (subst (λ l. steps.IsCommitted w c n l (replies.Committed t c) w') (sym said.1.first) (refl, refl))),
+            (subst (λ o. steps.IsPicked w c n o (replies.Committed t c) w') (sym said.0) (subst (λ l. steps.IsCommitted w c n l (replies.Committed t c) w') (sym said.1.first) (refl, refl))),
         after_call w (after P (call.Commit c t n)) (record p { list = said.1.rest }) h said.1.after (goes.calls P (call.Commit c t n)) said.1.agent sent,
         kept_same old new sent,
       )
@@ -229,8 +225,8 @@ module _ (goes : RunsGoOn) (old new : World) (c place : ℕ) (agent more : Agent
       by_test false e said = (
         w',
         on_cpu w (replies.Associated t c) w' _ h
-        (subst (λ b. steps.IsStolen w c b (replies.Associated t c) w') (sym e)
-        (Some t, said.0, subst (λ o. steps.IsTakenOver w c t o (replies.Associated t c) w') (sym said.1.accepted) (refl, refl))),
+            (subst (λ b. steps.IsStolen w c b (replies.Associated t c) w') (sym e)
+            (Some t, said.0, subst (λ o. steps.IsTakenOver w c t o (replies.Associated t c) w') (sym said.1.accepted) (refl, refl))),
         after_call w (after w.kernel (takes_over c (w.agents c) t)) (record (w.agents c) { list = (w.agents c).list ++ t ∷ [] }) h said.1.after (goes.calls w.kernel (takes_over c (w.agents c) t)) said.1.agent sent,
         kept_same old new sent,
       )

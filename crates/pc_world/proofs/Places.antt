@@ -1,16 +1,14 @@
 -- Lists of agents, and a world in which one of them is another.
-use Rattle.std.proofs.Common.{◌≡◌, ℕ, zero, suc, ◌+◌, ◌<◌, ◌≤◌, Bool, true, false, List, [], ◌∷◌, ◌++◌, length, Some, None, MatchBool, slice_get, get_or, set, refl, sym, ◌∙◌, ap, subst, inl, inr, arith}
+use Rattle.std.proofs.Common.{◌≡◌, ℕ, zero, suc, ◌<◌, Bool, true, false, List, [], ◌∷◌, ◌++◌, length, Some, MatchBool, slice_get, get_or, set, refl, sym, ◌∙◌, ap, subst, inl, inr, arith}
 use Rattle.std.proofs.lemmas.Bool.{cases_eq}
 use Rattle.std.proofs.lemmas.Bool.Decides.{eqb_tells}
 use Rattle.std.proofs.lemmas.Option.{same_Some}
 use Rattle.pc_messages.specs.Run.{Run, Extends}
-use Rattle.pc_messages.specs.declared.kind.Kind.{Kind}
-use Rattle.pc_calls.specs.declared.call.Call.{Call}
 use Rattle.pc_kernel.specs.Answers.{Shows}
 use Rattle.pc_kernel.specs.PlainKernel.{PlainKernel, kinds}
 use Rattle.pc_kernel.specs.Reads.{seen, shown, is_cpu}
 use Rattle.pc_kernel.specs.Rows.{KernelRows}
-use Rattle.pc_kernel.specs.Steps.{after, at}
+use Rattle.pc_kernel.specs.Steps.{at}
 use Rattle.pc_delta.specs.declared.part.Part.{Part}
 use Rattle.pc_agent.specs.declared.agent.Agent.{Agent}
 use Rattle.pc_agent.specs.PlainAgent.{PlainAgent, Set}

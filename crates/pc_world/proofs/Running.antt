@@ -1,11 +1,11 @@
 -- Events, one after another.
-use Rattle.std.proofs.Common.{◌≡◌, ℕ, zero, suc, ◌+◌, ◌<◌, ◌≤◌, ◌⊎◌, List, [], ◌∷◌, ◌++◌, length, take, drop, get_or, Ok, Err, Result, IfOk, OnErr, refl, sym, ◌∙◌, ap, subst, inl, inr, arith}
+use Rattle.std.proofs.Common.{◌≡◌, ℕ, zero, suc, ◌+◌, ◌<◌, ◌≤◌, ◌⊎◌, List, [], ◌∷◌, ◌++◌, length, take, drop, get_or, Ok, Err, Result, OnErr, refl, sym, ap, subst, inl, inr}
 use Rattle.pc_calls.specs.declared.event.Event.{Event}
 use Rattle.pc_calls.specs.declared.event.Reply.{Reply}
 use Rattle.pc_delta.proofs.Lists.{all_taken, left_item, taken_item}
 use Rattle.pc_world.specs.declared.world.World.{World}
 use Rattle.pc_world.specs.PlainWorld.{PlainWorld}
-use Rattle.pc_world.specs.Shows.{Does, RunsInPart, RunsThrough, ShowsWorld, Starves}
+use Rattle.pc_world.specs.Shows.{Does, RunsInPart, RunsThrough, Starves}
 use Rattle.pc_world.specs.Starved.{IsCutShort, IsFirstStarved, Starved}
 use Rattle.pc_world.specs.Steps.{Runs, Step}
 use Rattle.pc_world.specs.Inner.Handling.{StepsInPart}

@@ -1,5 +1,5 @@
 -- What a world shows: its kernel the plain kernel, each agent the plain agent of its CPU, and what was sent.
-use Rattle.std.specs.Prelude.{ℕ, ◌≡◌, List, [], ◌∷◌, ◌++◌, Option, Some, None, Result, Ok, Err, IsTrue, IsFalse, slice_get}
+use Rattle.std.specs.Prelude.{ℕ, ◌≡◌, List, [], ◌∷◌, ◌++◌, Option, Some, None, IsTrue, IsFalse, slice_get}
 use Rattle.pc_messages.specs.Run.{Run}
 use Rattle.pc_calls.specs.declared.event.Event.{Event}
 use Rattle.pc_calls.specs.declared.event.Reply.{Reply}
@@ -15,7 +15,7 @@ use Rattle.pc_agent.specs.Wires.{sent_by}
 use Rattle.pc_world.specs.declared.world.World.{World}
 use Rattle.pc_world.specs.PlainWorld.{PlainWorld}
 use Rattle.pc_world.specs.Starved.{IsCutShort, Starved}
-use Rattle.pc_world.specs.Steps.{Runs, Step}
+use Rattle.pc_world.specs.Steps.{Runs}
 
 -- the deltas tell these sets, one after another
 abbrev pub AreSent : Run → List Set → List (List Part) → Type 0

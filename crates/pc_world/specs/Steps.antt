@@ -17,7 +17,7 @@ use Rattle.pc_kernel.specs.Reads.{shown, is_cpu, on}
 use Rattle.pc_kernel.specs.Steps as kernel
 use Rattle.pc_delta.specs.declared.part.Part.{Part}
 use Rattle.pc_delta.specs.Parts.{AreOfRun, pairs_of_part, pairs_of_parts}
-use Rattle.pc_agent.specs.PlainAgent.{PlainAgent, Set, fresh, may_steal, pick_refused, ready_list, taking_in}
+use Rattle.pc_agent.specs.PlainAgent.{Set, fresh, may_steal, pick_refused, ready_list, taking_in}
 use Rattle.pc_agent.specs.Running.{Finds, left_by, takes_over}
 use Rattle.pc_world.specs.PlainWorld.{PlainWorld, looked, published, sending, with_agent}
 

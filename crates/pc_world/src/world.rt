@@ -14,7 +14,8 @@ ghost use Rattle.pc_world.specs.Inner.Laws.{RunsGoOn};
 use crate::agents::new_agents;
 use pc_agent::{Agent, KeptWire, SendFault, agents_stay_as_the_run_goes_on};
 use pc_calls::{
-    Answer, Call, CallFault, Event, LimitField, Limits, LimitsFault, Posted, Profile, Refusal, Reply,
+    Answer, Call, CallFault, Event, LimitField, Limits, LimitsFault, Posted, Profile, Refusal,
+    Reply,
 };
 use pc_delta::Delta;
 use pc_delta::laws::{parts_stay_as_the_run_goes_on, sets_are_pairs};
@@ -162,7 +163,9 @@ impl World {
         ensures starved { OnErr result (StepsInPart event self.old self.new) }
     {
         // The checker finds the types that a reply nests only where the function names them.
-        let _: (Option<Posted>, Option<Tid>, Option<Cpu>, Option<Refusal>) = (None, None, None, None);
+        let _: (Option<Posted>, Option<Tid>, Option<Cpu>, Option<Refusal>) = (
+            None, None, None, None,
+        );
         match self.step(event) {
             Ok(reply) => add(replies, reply),
             Err(fault) => Err(fault),

@@ -1,5 +1,5 @@
 -- The first name that the kernel commits, before it is counted.
-use Rattle.std.specs.Prelude.{ℕ, ◌==◌, ◌≡◌, not, List, [], ◌∷◌, Option, Some, Result, Ok, Err, is_some}
+use Rattle.std.specs.Prelude.{ℕ, ◌==◌, ◌≡◌, not, List, [], ◌∷◌, Option, Result, Ok, Err, is_some}
 use Rattle.pc_calls.specs.Conditions.{first_of}
 use Rattle.pc_calls.specs.declared.call.Call.TheVariants as call
 use Rattle.pc_calls.specs.declared.refusal.Refusal.{Refusal}

@@ -1,5 +1,5 @@
 -- The laws of the crates below that every event of the world stands on.
-use Rattle.std.specs.Prelude.{ℕ, ◌≡◌, List}
+use Rattle.std.specs.Prelude.{List}
 use Rattle.pc_messages.specs.Run.{Run, Extends}
 use Rattle.pc_calls.specs.declared.call.Call.{Call}
 use Rattle.pc_kernel.specs.PlainKernel.{PlainKernel, kinds}

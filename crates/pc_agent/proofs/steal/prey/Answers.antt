@@ -1,10 +1,6 @@
-use Rattle.std.proofs.Common.{◌≡◌, ◌<◌, ℕ, Bool, false, Option, Some, None, refl, sym, ap, ◌∙◌}
-use Rattle.std.specs.FinMap as map
-use Rattle.pc_join.proofs.Entries.{walked_start, walked_below, walked_on, walked_all}
-use Rattle.pc_kernel.specs.Reads.{Reads, seen}
-use Rattle.pc_thread_view.specs.Told.{Told}
-use Rattle.pc_run_queue.specs.Runs.{runs_in}
-use Rattle.pc_agent.specs.PlainAgent.{may_take}
+use Rattle.std.proofs.Common.{sym, ◌∙◌}
+use Rattle.pc_join.proofs.Entries.{walked_start, walked_below, walked_on}
+use Rattle.pc_kernel.specs.Reads.{seen}
 use Rattle.pc_agent.proofs.Unknown.{untold}
 use Rattle.pc_agent.proofs.steal.prey.Goals as goal
 

@@ -1,5 +1,4 @@
-use Rattle.std.proofs.Common.{refl, ap, ◌∙◌}
-use Rattle.pc_run_queue.specs.Runs.{refreshed}
+use Rattle.std.proofs.Common.{refl, ◌∙◌}
 use Rattle.pc_agent.proofs.Delivered.{has_copied, items_tell, starved, takes_some}
 use Rattle.pc_agent.proofs.agent.Agent.copied.Goals as goal
 

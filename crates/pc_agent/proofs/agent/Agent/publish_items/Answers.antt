@@ -1,5 +1,4 @@
-use Rattle.std.proofs.Common.{Ok, Err, inl, refl, sym, subst}
-use Rattle.pc_agent.specs.Publishing.{IsCopied}
+use Rattle.std.proofs.Common.{inl, refl}
 use Rattle.pc_agent.proofs.Published.{not_sent, was_sent}
 use Rattle.pc_agent.proofs.agent.Agent.publish_items.Goals as goal
 

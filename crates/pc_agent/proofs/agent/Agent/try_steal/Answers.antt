@@ -1,6 +1,5 @@
-use Rattle.std.proofs.Common.{◌≡◌, ℕ, Bool, Some, None, Result, Ok, Err, MatchBool, is_some, [], ◌∷◌, ◌++◌, refl, sym, ap, ◌∙◌, subst}
+use Rattle.std.proofs.Common.{◌≡◌, ℕ, Some, None, is_some, refl, sym, ap, ◌∙◌}
 use Rattle.pc_view.specs.Prefixes.{reported_in, reports, upto, upto_of}
-use Rattle.pc_agent.specs.Running.{Finds}
 use Rattle.pc_agent.proofs.Stolen.{found, not_taken, on_busy, on_idle, seen_exactly, taken_over, was_pushed}
 use Rattle.pc_agent.proofs.agent.Agent.try_steal.Goals as goal
 

@@ -1,4 +1,4 @@
-use Rattle.std.proofs.Common.{◌≡◌, length, Ok, Err, refl, sym, subst, ap, ◌∙◌}
+use Rattle.std.proofs.Common.{length, Ok, refl, subst, ap}
 use Rattle.pc_agent.specs.Exchanging.{IsAnswered}
 use Rattle.pc_agent.specs.Wires.{Keeps}
 use Rattle.pc_view.specs.Views.{pairs_of}

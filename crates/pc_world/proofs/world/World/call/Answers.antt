@@ -1,11 +1,8 @@
-use Rattle.std.proofs.Common.{◌≡◌, Some, None, Ok, Err, refl, sym, subst, ap, ◌∙◌}
-use Rattle.pc_calls.specs.declared.call.Call.TheVariants as call
-use Rattle.pc_calls.specs.declared.refusal.CallFault.TheVariants.{Refused, OutOfMemory}
+use Rattle.std.proofs.Common.{◌≡◌, None, Err, refl, sym, subst, ap, ◌∙◌}
 use Rattle.pc_kernel.specs.Answers.{StepsInMemory, itself}
 use Rattle.pc_kernel.specs.Reads.{shown}
 use Rattle.pc_kernel.specs.Steps.{refused}
 use Rattle.pc_world.specs.Starved.{IsCallStarved}
-use Rattle.pc_world.specs.PlainWorld.{PlainWorld}
 use Rattle.pc_world.proofs.Calls.{call_done, call_starved}
 use Rattle.pc_world.proofs.world.World.call.Goals as goal
 

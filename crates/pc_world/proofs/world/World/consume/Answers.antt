@@ -1,4 +1,4 @@
-use Rattle.std.proofs.Common.{refl, OnErr}
+use Rattle.std.proofs.Common.{refl}
 use Rattle.pc_world.proofs.Own.{consume_done, consume_refused}
 use Rattle.pc_world.proofs.world.World.consume.Goals as goal
 

@@ -1,4 +1,4 @@
-use Rattle.std.proofs.Common.{◌≡◌, true, slice_get, refl, sym, ap, ◌∙◌}
+use Rattle.std.proofs.Common.{slice_get, refl, sym, ap, ◌∙◌}
 use Rattle.pc_world.proofs.Own.{deliver_done, deliver_none, deliver_starved}
 use Rattle.pc_world.proofs.world.World.deliver.Goals as goal
 

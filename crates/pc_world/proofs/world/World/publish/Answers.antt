@@ -1,4 +1,4 @@
-use Rattle.std.proofs.Common.{◌≡◌, Err, length, refl, sym, subst, ap, ◌∙◌}
+use Rattle.std.proofs.Common.{Err, length, refl, subst, ap, ◌∙◌}
 use Rattle.pc_kernel.specs.PlainKernel.{content}
 use Rattle.pc_agent.specs.Publishing.{IsPublished, WhateverShown}
 use Rattle.pc_agent.specs.Shows.{cpu_of}

@@ -1,4 +1,3 @@
-use Rattle.std.proofs.Common.{refl}
 use Rattle.pc_world.proofs.Running.{done_in, on_err, starved_in}
 use Rattle.pc_world.proofs.world.World.step_into.Goals as goal
 

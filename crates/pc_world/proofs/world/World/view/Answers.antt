@@ -1,4 +1,4 @@
-use Rattle.std.proofs.Common.{sym, ◌∙◌}
+use Rattle.std.proofs.Common.{sym}
 use Rattle.pc_world.proofs.Opening.{view_there}
 use Rattle.pc_world.proofs.world.World.view.Goals as goal
 
