@@ -11,6 +11,9 @@
     generate.py answer-half LINES   the same to an agent that knows half of them
     generate.py answer-equal LINES  the same to an agent that knows all of them
     generate.py big-delta LINES     a queue of 65,536 messages, published again and again
+    generate.py rounds LINES        64 agents that pick, have the thread yield, publish and consume, over 4,096 threads
+    generate.py steals LINES        one agent steals all threads of another (half as many as lines, 4,096 at most), then finds none, again and again
+    generate.py restarts LINES      agents that crash, learn all of 4,096 threads from an answer, and take threads back
 """
 import random
 import sys
@@ -207,6 +210,59 @@ def big_delta(lines):
         yield "publish 0"
 
 
+def rounds(lines):
+    """Each agent in turn picks, its thread yields, and it publishes and consumes that; its run list stays as long."""
+    yield f"enclave {CPUS} {THREADS} 1000000 65536 4294967295"
+    posts = [THREADS // CPUS] * CPUS
+    for thread in range(THREADS):
+        yield f"create {thread % CPUS} {2**CPUS - 1} ready"
+    for cpu in range(CPUS):
+        yield f"publish {cpu}"
+        yield f"consume {cpu}"
+    for turn in range((lines - 1 - THREADS - 2 * CPUS) // 4):
+        cpu = turn % CPUS
+        yield f"pick {cpu} {posts[cpu]}"
+        yield f"yield {cpu} 1"
+        posts[cpu] += 1
+        yield f"publish {cpu}"
+        yield f"consume {cpu}"
+
+
+def steals(lines):
+    """Agent 1 steals the threads of agent 0, whose run list it finds ever longer in its own; then there is none left."""
+    threads = min(THREADS, lines // 2)
+    yield f"enclave {CPUS} {THREADS} 1000000 65536 4294967295"
+    for _ in range(threads):
+        yield f"create 0 {2**CPUS - 1} ready"
+    yield from ("publish 0", "consume 0", "deliver 1 0")
+    for _ in range(max(0, lines - 4 - threads)):
+        yield "steal 1"
+
+
+def restarts(lines):
+    """In turn an agent crashes, another answers what it lacks, it takes that in, steals two threads and publishes."""
+    yield f"enclave {CPUS} {THREADS} 1000000 65536 4294967295"
+    for thread in range(THREADS):
+        yield f"create {thread % CPUS} {2**CPUS - 1} ready"
+    sent = 0
+    for cpu in range(CPUS):
+        yield f"publish {cpu}"
+        yield f"consume {cpu}"
+        sent += 1
+    for cpu in range(CPUS):
+        for delta in range(CPUS):
+            yield f"deliver {cpu} {delta}"
+    for turn in range((lines - 1 - THREADS - 2 * CPUS - CPUS * CPUS) // 6):
+        cpu = turn % CPUS
+        yield f"crash {cpu}"
+        yield f"answer {(cpu + 1) % CPUS} {cpu}"
+        yield f"deliver {cpu} {sent}"
+        yield f"steal {cpu}"
+        yield f"steal {cpu}"
+        yield f"publish {cpu}"
+        sent += 2
+
+
 SCRIPTS = {
     "first-run": first_run,
     "kernel-calls": kernel_calls,
@@ -218,6 +274,9 @@ SCRIPTS = {
     "answer-half": answers(1),
     "answer-equal": answers(2),
     "big-delta": big_delta,
+    "rounds": rounds,
+    "steals": steals,
+    "restarts": restarts,
 }
 
 
