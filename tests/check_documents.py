@@ -6,6 +6,7 @@
   definitions  each definition that docs/DEFINITIONS.md names is there, and its lines are counted right
   names        each `Type::name`, `Module.word` and path of a file in any other document is there
   crates       docs/ARCHITECTURE.md has each crate, and what it stands on, as crates.txt has it
+  refusals     docs/FORMATS.md and docs/GLOSSARY.md have a row for each refusal
   examples     each example's script has its output beside it
   citations    no file cites the papers that the project was made from
 
@@ -358,6 +359,14 @@ class Checker:
             for lower in told:
                 self.expect(lower in below.get(name, ()), "docs/ARCHITECTURE.md", f"`{name}` does not stand on `{lower}`")
 
+    def check_refusals(self):
+        text = (ROOT / "crates/pc_calls/src/refusal.rt").read_text()
+        refusals = set(re.findall(r"^    (\w+)(?:\(\w+\))?,$", re.search(r"enum Refusal \{(.*?)^\}", text, re.M | re.S)[1], re.M))
+        for name in ("FORMATS", "GLOSSARY"):
+            told = set(re.findall(r"^\| `(\w+)[^`]*` \|", (ROOT / f"docs/{name}.md").read_text(), re.M))
+            for refusal in sorted(refusals):
+                self.expect(refusal in told, f"docs/{name}.md", f"it has no row for `{refusal}`")
+
     def check_examples(self):
         for script in sorted((ROOT / "examples").glob("*.script")):
             self.expect(script.with_suffix(".output").is_file(), f"examples/{script.name}", "it has no output beside it")
@@ -385,6 +394,7 @@ def main():
     checker.check_definitions()
     checker.check_names()
     checker.check_crates()
+    checker.check_refusals()
     checker.check_examples()
     checker.check_citations()
     for finding in checker.findings:
