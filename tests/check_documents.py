@@ -138,6 +138,12 @@ def impl_names(header):
     return (names[0], names[-1]) if len(parts) > 1 else ("", names[0])
 
 
+def all_below(below, name):
+    """All that a crate stands on, through others too."""
+    lower = below.get(name, set())
+    return lower.union(*(all_below(below, crate) for crate in lower))
+
+
 class Checker:
     def __init__(self):
         self.checked, self.findings = 0, []
@@ -358,6 +364,13 @@ class Checker:
         for name, told in rows.items():
             for lower in told:
                 self.expect(lower in below.get(name, ()), "docs/ARCHITECTURE.md", f"`{name}` does not stand on `{lower}`")
+        arrows = re.findall(r"^    (\w+) --> (\w+)$", (ROOT / "docs/ARCHITECTURE.md").read_text(), re.M)
+        drawn = {name: {lower for upper, lower in arrows if upper == name} for name in below}
+        for upper, lower in arrows:
+            self.expect(lower in below.get(upper, ()), "docs/ARCHITECTURE.md", f"an arrow from `{upper}` to `{lower}`, on which it does not stand")
+        for name in below:
+            missing = all_below(below, name) & set(self.crates) - all_below(drawn, name)
+            self.expect(not missing, "docs/ARCHITECTURE.md", f"no arrows lead from `{name}` to {', '.join(sorted(missing))}")
 
     def check_refusals(self):
         text = (ROOT / "crates/pc_calls/src/refusal.rt").read_text()
