@@ -1,0 +1,420 @@
+#!/usr/bin/env python3
+"""Checks that the documents speak of what is there. It reads the sources and proves nothing.
+
+  promises     each function, clause, type, definition and file that the tables of docs/PROMISES.md name is there
+  public       each function with a contract that a crate exports is named by docs/PROMISES.md
+  definitions  each definition that docs/DEFINITIONS.md names is there, and its lines are counted right
+  names        each `Type::name`, `Module.word` and path of a file in any other document is there
+  crates       docs/ARCHITECTURE.md has each crate, and what it stands on, as crates.txt has it
+  refusals     docs/FORMATS.md and docs/GLOSSARY.md have a row for each refusal
+  examples     each example's script has its output beside it
+  citations    no file cites the papers that the project was made from
+
+A line for each finding, then `documents: N checked, M findings`. The exit status is 0 only where there is none.
+"""
+import pathlib
+import re
+import sys
+from dataclasses import dataclass, field
+
+ROOT = pathlib.Path(__file__).resolve().parent.parent
+IDENTIFIER = re.compile(r"[A-Za-z_]\w*")
+SPAN = re.compile(r"`([^`]+)`")
+FILE_NAME = re.compile(r"[\w./*-]+\.(?:rt|antt|edit|md|py|txt|script|output)|[\w.*-]+/[\w./*-]*")
+
+# A name inside a type or a trait: a ghost, a constant, or a field.
+INNER_NAME = re.compile(r"\bghost (\w+)[ :=]|\bconst ([A-Z_]+):|^    (?:pub )?(\w+): ")
+# Names that are std's, and words of the language.
+FOREIGN = {"Err", "Ok", "IsStrictlyIncreasing"}
+
+# What the papers are cited by: numbers of their theorems, definitions, requests and rows, and their names.
+CITATIONS = re.compile(
+    r"\bT[1-5]\.\d+|\bD(?:1[0-5]|[1-9])\b|\bR(?:1[0-6]|[1-9])\b|\bW\d+\b|\brows? \d+\b"
+    r"|\b(?:paper|document)s? 0?[1-4]\b|\b0[1-4]-(?:scope|theorems|requests|formats)|\bissue #?\d+|/work/"
+)
+
+
+@dataclass
+class Function:
+    crate: str
+    owner: str  # the type or trait, or "" of a free function
+    module: str  # the file's path under src, without its suffix
+    name: str
+    is_pub: bool
+    of_trait: str = ""  # the trait that an impl meets, or that declares it
+    clauses: set = field(default_factory=set)
+    has_contract: bool = False
+
+    def __str__(self):
+        return f"{self.crate} {self.owner + '::' if self.owner else ''}{self.name}"
+
+
+class Crate:
+    """The names of one crate's sources and definitions."""
+
+    def __init__(self, folder):
+        self.name = folder.name
+        self.folder = folder
+        self.functions, self.tests, self.types, self.words = [], [], set(), set()
+        self.traits, self.met = set(), set()
+        for path in sorted(folder.glob("src/**/*.rt")):
+            module = str(path.relative_to(folder / "src").with_suffix(""))
+            is_test = module == "tests" or module.startswith("tests/")
+            self.read_source(path.read_text(), module, self.tests if is_test else self.functions)
+        root = folder / "src/lib.rt"
+        text = (root if root.is_file() else folder / "src/main.rt").read_text()
+        self.is_program = not root.is_file()
+        self.open_modules = set(re.findall(r"^pub mod (\w+);", text, re.M))
+        self.exports = set()
+        for many, one in re.findall(r"^pub use [\w:]*::(?:\{([^}]*)\}|(\w+));", text, re.M):
+            self.exports |= set(IDENTIFIER.findall(many or one))
+        self.definitions = {}
+        for path in folder.glob("specs/**/*.antt"):
+            module = ".".join(path.relative_to(folder / "specs").with_suffix("").parts)
+            found = re.findall(r"^\s*(?:[a-z]+ )*?pub (?:record |data |mod )?([^\s:(){}]+)", path.read_text(), re.M)
+            constructors = re.findall(r"^  (\w+) :", path.read_text(), re.M)
+            self.definitions[module] = set(found) | set(constructors)
+
+    def read_source(self, text, module, into):
+        owner, of_trait, last, in_enum = "", "", None, False
+        for line in text.splitlines():
+            if line.startswith("}"):
+                owner, of_trait, last, in_enum = "", "", None, False
+            header = re.match(r"impl(.*)\{$|impl(.*)$", line)
+            if header:
+                of_trait, owner = impl_names(header[1] or header[2] or "")
+                self.met.add((owner, of_trait))
+            declared = re.match(r"(?:pub(?:\(crate\))? )?(struct|enum|trait) (\w+)", line)
+            if declared:
+                self.types.add(declared[2])
+                in_enum = declared[1] == "enum"
+                if declared[1] == "trait":
+                    self.traits.add(declared[2])
+                    owner = of_trait = declared[2]
+            variant = re.match(r"    (\w+)(?:[,({ ]|$)", line)
+            if in_enum and variant:
+                self.words.add(variant[1])
+            inner = INNER_NAME.search(line)
+            if inner:
+                self.words |= set(filter(None, inner.groups()))
+            self.words |= set(re.findall(r'b"(\w+)"', line))  # words of a script
+            function = re.match(r"\s*(pub(?:\(crate\))? )?(?:const )?fn (\w+)", line)
+            if function:
+                is_pub = function[1] == "pub " or owner in self.traits or bool(of_trait)
+                last = Function(self.name, owner, module, function[2], is_pub, of_trait)
+                into.append(last)
+            clause = re.match(r"\s*ensures (?:(\w+) )?\{", line)
+            if clause and last:
+                last.has_contract = True
+                last.clauses |= {clause[1]} if clause[1] else set()
+
+    def exported(self, function):
+        if not function.is_pub or (function.of_trait and function.owner != function.of_trait):
+            return False
+        if self.is_program:
+            return function.module == "main" and not function.owner
+        if function.owner:
+            return function.owner in self.exports
+        return function.name in self.exports or function.module.split("/")[0] in self.open_modules
+
+    def knows(self, word):
+        return (word in self.types or word in self.words or any(f.name == word or word in f.clauses for f in self.functions)
+                or any(word in words for words in self.definitions.values()) or word in self.definitions
+                or any(word == trait for _, trait in self.met))
+
+
+def impl_names(header):
+    """The trait (or none) and the type of an impl's header."""
+    text = header.strip()
+    if text.startswith("<"):
+        depth = 0
+        for place, letter in enumerate(text):
+            depth += (letter == "<") - (letter == ">" and text[place - 1] != "-")
+            if depth == 0:
+                text = text[place + 1:]
+                break
+    parts = text.split(" for ")
+    names = [(re.match(r"(?:\w+::)*(\w+)", part.strip()) or ["", ""])[1] for part in parts]
+    return (names[0], names[-1]) if len(parts) > 1 else ("", names[0])
+
+
+def all_below(below, name):
+    """All that a crate stands on, through others too."""
+    lower = below.get(name, set())
+    return lower.union(*(all_below(below, crate) for crate in lower))
+
+
+class Checker:
+    def __init__(self):
+        self.checked, self.findings = 0, []
+        folders = [path for path in sorted((ROOT / "crates").iterdir()) if (path / "src").is_dir()]
+        self.crates = {folder.name: Crate(folder) for folder in folders}
+        self.named = set()
+
+    def expect(self, holds, where, finding):
+        self.checked += 1
+        if not holds:
+            self.findings.append(f"{where}: {finding}")
+
+    # Names
+
+    def clauses_of(self, function):
+        """Its own clauses, and those of the trait's method that it meets."""
+        clauses = set(function.clauses)
+        if function.of_trait and function.of_trait != function.owner:
+            for crate in self.crates.values():
+                for other in crate.functions:
+                    if other.owner == other.of_trait == function.of_trait and other.name == function.name:
+                        clauses |= other.clauses
+        return clauses
+
+    def functions_at(self, crates, path):
+        """The functions that a path of names stands for: `name`, `Type::name`, `module::name`, `tests::module::name`."""
+        *above, name = path
+        found = []
+        for crate in crates:
+            for function in crate.tests if above[:1] == ["tests"] else crate.functions:
+                if function.name != name:
+                    continue
+                if not above or function.owner == above[-1] or (not function.owner and function.module.split("/") == above):
+                    found.append(function)
+        return found
+
+    def is_definition(self, crates, name):
+        module, word = name.rsplit(".", 1)
+        own = [crate for crate in crates if module in crate.definitions]
+        where = own or [crate for crate in self.crates.values() if module in crate.definitions]
+        return any(word in crate.definitions[module] for crate in where)
+
+    def is_file(self, crates, name):
+        places = [ROOT, ROOT / "docs", *(crate.folder for crate in crates), *(crate.folder / "src" for crate in crates)]
+        return any(any(place.glob(name.rstrip("/"))) for place in places)
+
+    def is_known(self, word):
+        return word in FOREIGN or word in self.crates or any(crate.knows(word) for crate in self.crates.values())
+
+    # PROMISES
+
+    def check_carriers(self, where, crate, cell):
+        """The cell of a table that names what carries a promise."""
+        types, group, place = [], [], 0
+        for span in SPAN.finditer(cell):
+            before, text, place = cell[place:span.start()], span[1].replace("<V>", ""), span.end()
+            if ";" in before:
+                types, group = [], []
+            head, _, tail = text.partition(": ")
+            clauses = tail.split(", ") if tail else []
+            if FILE_NAME.fullmatch(text):
+                self.expect(self.is_file([crate], text), where, f"there is no file `{text}`")
+                continue
+            if re.fullmatch(r"[A-Z]\w*(?:\.\w+)+", text):
+                self.expect(self.is_definition([crate], text), where, f"there is no definition `{text}`")
+                continue
+            words = text.split(", ")
+            if before.strip() == ":" and group:
+                for function in group:
+                    self.expect_clauses(where, function, words)
+                continue
+            path = head.split("::")
+            if not all(IDENTIFIER.fullmatch(part) for part in path):
+                continue
+            if len(path) > 1:
+                found = self.functions_at([crate], path)
+                self.expect(found and any(f.is_pub or path[0] == "tests" for f in found), where, f"there is no public function `{head}`")
+                types = [path[-2]]
+            else:
+                found = self.methods(crate, types, head)
+                if not found and head in crate.types:
+                    types = types + [head] if before.strip() == "and" else [head]
+                    self.expect_of_type(where, crate, head, clauses)
+                    continue
+                if not found and not (types and clauses):
+                    found = [f for f in crate.functions if f.name == head and f.is_pub]
+                if not found and not clauses:
+                    in_tests = "`tests::" in cell and any(f.name == head for f in crate.tests)
+                    self.expect(in_tests or self.is_known(head), where, f"nothing is named `{head}`")
+                    continue
+                self.expect(found, where, f"there is no public function `{head}`")
+            group = group + found if not clauses else group
+            self.named |= {(f.crate, f.owner, f.name) for f in found}
+            for function in found if len(found) == 1 or not clauses or types else []:
+                self.expect_clauses(where, function, clauses)
+            if len(found) > 1 and clauses and not types:
+                carried = any(set(clauses) <= self.clauses_of(f) for f in found)
+                self.expect(carried, where, f"no `{head}` has the clauses {', '.join(clauses)}")
+
+    def methods(self, crate, types, name):
+        """The functions of this name of the types that were named last, or else the crate's free one."""
+        own = [f for f in crate.functions if f.name == name and f.owner in types and f.is_pub]
+        return own or [f for f in crate.functions if f.name == name and not f.owner and f.is_pub and not types]
+
+    def expect_clauses(self, where, function, clauses):
+        for clause in clauses:
+            self.expect(clause in self.clauses_of(function), where, f"`{function}` has no clause `{clause}`")
+
+    def expect_of_type(self, where, crate, name, words):
+        """What stands behind a type's name: traits that it meets, or clauses of its functions."""
+        for word in words:
+            has = (name, word) in crate.met or any(word in self.clauses_of(f) for f in crate.functions if f.owner == name)
+            self.expect(has, where, f"`{name}` has no clause `{word}` and meets no such trait")
+
+    def check_promised(self, where, crate, cell, carries):
+        """The cell of a table that says a promise: whatever it names is there. It may name what carries it, too."""
+        for text in SPAN.findall(cell):
+            path = text.split("::")
+            if not all(IDENTIFIER.fullmatch(part) for part in path):
+                continue
+            found = [f for f in self.functions_at([crate], path) if f.is_pub]
+            if carries:
+                self.named |= {(f.crate, f.owner, f.name) for f in found}
+            self.expect(found or self.is_known(path[-1]), where, f"nothing is named `{text}`")
+
+    def check_promises(self):
+        crate = None
+        for number, line in enumerate((ROOT / "docs/PROMISES.md").read_text().splitlines(), 1):
+            where = f"docs/PROMISES.md:{number}"
+            heading = re.match(r"#+ (?:`(\w+)`)?", line)
+            if heading:
+                crate = self.crates.get(heading[1]) if heading[1] else None
+                self.expect(crate or not heading[1], where, f"there is no crate `{heading[1]}`")
+            cells = [cell.strip() for cell in line.strip().strip("|").split(" | ")]
+            if crate and line.startswith("|") and len(cells) == 2 and not line.startswith("|-") and cells[1] != "carried by":
+                self.check_promised(where, crate, cells[0], cells[1].startswith("the clause of each"))
+                self.check_carriers(where, crate, cells[1])
+            elif crate and line.startswith("|") and len(cells) != 2:
+                self.expect(line.startswith("|-"), where, "a line of a table without two cells")
+
+    def check_public(self):
+        for crate in self.crates.values():
+            for function in crate.functions:
+                key = (function.crate, function.owner, function.name)
+                if function.has_contract and crate.exported(function):
+                    self.expect(key in self.named, "docs/PROMISES.md", f"it does not name `{function}`, which has a public contract")
+
+    # DEFINITIONS, and the other documents
+
+    def check_definitions(self):
+        crates = []
+        for number, line in enumerate((ROOT / "docs/DEFINITIONS.md").read_text().splitlines(), 1):
+            where, module = f"docs/DEFINITIONS.md:{number}", ""
+            if line.startswith("#"):
+                names = SPAN.findall(line)
+                crates = [self.crates[name] for name in names if name in self.crates]
+                self.expect(len(crates) == len(names), where, "there is no such crate")
+            counted = re.match(r"\| `(\w+)` \| ([\d,]+) \| ([\d,]+|-) \|", line)
+            if counted:
+                self.expect_counts(where, *counted.groups())
+            for text in SPAN.findall(line):
+                if text in self.crates:
+                    continue
+                if re.fullmatch(r"(?:Inner\.)?[A-Z]\w*\.[A-Za-z_]\w*", text):
+                    module = text.rsplit(".", 1)[0]
+                    self.expect(self.is_definition(crates, text), where, f"there is no definition `{text}`")
+                elif module and IDENTIFIER.fullmatch(text):
+                    holds = self.is_definition(crates, f"{module}.{text}") or self.is_known(text)
+                    self.expect(holds, where, f"there is no definition `{text}` in `{module}`")
+                elif re.fullmatch(r"[A-Z]\w*", text):
+                    self.expect(self.is_known(text), where, f"nothing is named `{text}`")
+
+    def expect_counts(self, where, name, top, inner):
+        folder = ROOT / "crates" / name / "specs"
+        for pattern, told in (("*.antt", top), ("Inner/*.antt", inner)):
+            files = [path for path in folder.glob(pattern) if path.name not in ("Lib.antt", "Inner.antt")]
+            lines = sum(len(path.read_text().splitlines()) for path in files)
+            told = 0 if told == "-" else int(told.replace(",", ""))
+            self.expect(lines == told, where, f"`{name}` has {lines} lines of {pattern}, not {told}")
+
+    def check_names(self):
+        for path in [ROOT / "README.md", ROOT / "CHANGELOG.md", *sorted((ROOT / "docs").glob("*.md"))]:
+            if not path.is_file():
+                continue
+            for number, line in enumerate(path.read_text().splitlines(), 1):
+                where = f"{path.relative_to(ROOT)}:{number}"
+                if path.name == "DEFINITIONS.md" or path.name == "PROMISES.md" and line.startswith("|"):
+                    continue
+                for text in SPAN.findall(line):
+                    parts = text.split(": ")[0].split("::")
+                    if len(parts) > 1 and all(IDENTIFIER.fullmatch(part) for part in parts):
+                        self.expect(self.is_item(parts), where, f"there is no `{text}`")
+                    elif re.fullmatch(r"[A-Z][a-z]\w*\.[A-Za-z_]\w*", text) and not FILE_NAME.fullmatch(text):
+                        self.expect(self.is_definition([], text), where, f"there is no definition `{text}`")
+                    elif re.fullmatch(r"(?:\w+/)+[\w./-]+\.(?:rt|antt|md|py|script|output)", text):
+                        holds = self.is_file(self.crates.values(), text)
+                        self.expect(holds, where, f"there is no file `{text}`")
+
+    def is_item(self, parts):
+        """A function, a variant, a field, a constant or a ghost of a type, or an item of a module."""
+        everywhere = list(self.crates.values())
+        if self.functions_at(everywhere, parts):
+            return True
+        return any((parts[-2] in crate.types or parts[-2] in self.crates) and crate.knows(parts[-1]) for crate in everywhere)
+
+    def check_crates(self):
+        below = {}
+        for line in (ROOT / "crates.txt").read_text().splitlines():
+            name, _, libraries = line.partition(": ")
+            if name in self.crates:
+                below[name] = set(libraries.split())
+        rows = {}
+        for line in (ROOT / "docs/ARCHITECTURE.md").read_text().splitlines():
+            cells = line.split(" | ")
+            if len(cells) == 4 and line.startswith("| `"):
+                rows[SPAN.search(cells[0])[1]] = SPAN.findall(cells[2])
+        self.expect(set(rows) == set(self.crates) == set(below), "docs/ARCHITECTURE.md", "its crates are not those of crates.txt")
+        for name, told in rows.items():
+            for lower in told:
+                self.expect(lower in below.get(name, ()), "docs/ARCHITECTURE.md", f"`{name}` does not stand on `{lower}`")
+        arrows = re.findall(r"^    (\w+) --> (\w+)$", (ROOT / "docs/ARCHITECTURE.md").read_text(), re.M)
+        drawn = {name: {lower for upper, lower in arrows if upper == name} for name in below}
+        for upper, lower in arrows:
+            self.expect(lower in below.get(upper, ()), "docs/ARCHITECTURE.md", f"an arrow from `{upper}` to `{lower}`, on which it does not stand")
+        for name in below:
+            missing = all_below(below, name) & set(self.crates) - all_below(drawn, name)
+            self.expect(not missing, "docs/ARCHITECTURE.md", f"no arrows lead from `{name}` to {', '.join(sorted(missing))}")
+
+    def check_refusals(self):
+        text = (ROOT / "crates/pc_calls/src/refusal.rt").read_text()
+        refusals = set(re.findall(r"^    (\w+)(?:\(\w+\))?,$", re.search(r"enum Refusal \{(.*?)^\}", text, re.M | re.S)[1], re.M))
+        for name in ("FORMATS", "GLOSSARY"):
+            told = set(re.findall(r"^\| `(\w+)[^`]*` \|", (ROOT / f"docs/{name}.md").read_text(), re.M))
+            for refusal in sorted(refusals):
+                self.expect(refusal in told, f"docs/{name}.md", f"it has no row for `{refusal}`")
+
+    def check_examples(self):
+        for script in sorted((ROOT / "examples").glob("*.script")):
+            self.expect(script.with_suffix(".output").is_file(), f"examples/{script.name}", "it has no output beside it")
+        for output in sorted((ROOT / "examples").glob("*.output")):
+            self.expect(output.with_suffix(".script").is_file(), f"examples/{output.name}", "it has no script beside it")
+
+    def check_citations(self):
+        kept = {".rt", ".antt", ".edit", ".md", ".txt", ".py", ".script", ".output", ""}
+        for path in sorted(ROOT.rglob("*")):
+            parts = path.relative_to(ROOT).parts
+            if {".git", "out", "__pycache__"} & set(parts) or path.suffix not in kept or not path.is_file():
+                continue
+            if parts[:2] == ("tests", "cases") or path == pathlib.Path(__file__).resolve():
+                continue
+            text = path.read_text(errors="replace")
+            cited = CITATIONS.search(text)
+            number = text.count("\n", 0, cited.start()) + 1 if cited else 1
+            self.expect(not cited, f"{path.relative_to(ROOT)}:{number}", f"it cites `{cited[0] if cited else ''}`")
+
+
+def main():
+    checker = Checker()
+    checker.check_promises()
+    checker.check_public()
+    checker.check_definitions()
+    checker.check_names()
+    checker.check_crates()
+    checker.check_refusals()
+    checker.check_examples()
+    checker.check_citations()
+    for finding in checker.findings:
+        print(finding)
+    print(f"documents: {checker.checked} checked, {len(checker.findings)} findings")
+    return 1 if checker.findings else 0
+
+
+if __name__ == "__main__":
+    sys.exit(main())
