@@ -31,10 +31,13 @@ AT_ONCE = 8
 
 RT = """\
 #!/usr/bin/env bash
-# Stands in for rt: takes a moment, records when, and fails for the crate that RT_FAILS names.
+# Stands in for rt: takes what input it gets and a moment, records when, and fails for the crate that RT_FAILS names, is
+# killed at that of RT_KILLED, and does not end at that of RT_HANGS.
 name=${PWD##*/}
 [ "$1" != ci ] || name=gate
 echo "begin $name $(date +%s.%N) $*" >>"$RT_RECORD"
+cat >/dev/null
+[ "$name" != "${RT_KILLED:-}" ] || kill -KILL $$
 [ "$name" != "${RT_HANGS:-}" ] || { echo "$$" >>"$RT_RECORD.processes"; sleep 300 & echo "$!" >>"$RT_RECORD.processes"; wait; }
 sleep "${RT_SECONDS:-0.05}"
 if [ "$name" = "${RT_FAILS:-}" ]; then
@@ -42,7 +45,7 @@ if [ "$name" = "${RT_FAILS:-}" ]; then
     exit 1
 fi
 if [ "$1" = ci ]; then echo "3 passed, 0 failed"; fi
-if [ "$1" = run ]; then
+if [ "$1" = run ] && [ -z "${RT_LEAVES_NONE:-}" ]; then
     mkdir -p out
     sum=$(find .. -name '*.rt' -exec cat {} +)
     # As rt does, it leaves the program as it is where no content has changed.
@@ -338,6 +341,17 @@ class Launcher(unittest.TestCase):
         self.assertIn("low could not be built", last)
         log = pathlib.Path(last.split(" is ")[-1])
         self.assertEqual(log.read_text().splitlines(), [f"log line {it}" for it in range(1, 31)])
+
+    def test_a_killed_crate_is_a_failed_one(self):
+        status, out, errors = self.run_it(RT_KILLED="left")
+        self.assertEqual((status, out), (5, ""))
+        self.assertNotIn("pc_sim ..", errors)
+        self.assertIn("left could not be built", errors.splitlines()[-1])
+
+    def test_a_build_that_leaves_no_program(self):
+        status, out, errors = self.run_it(RT_LEAVES_NONE="yes")
+        self.assertEqual((status, out), (5, ""))
+        self.assertIn("left no program", errors.splitlines()[-1])
 
     def test_a_failed_crate_ends_those_beside_it(self):
         self.with_memory(100)
