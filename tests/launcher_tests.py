@@ -12,9 +12,10 @@ import signal
 import subprocess
 import sys
 import tempfile
+import threading
 import time
 import unittest
-from concurrent.futures import ThreadPoolExecutor
+from concurrent.futures import ProcessPoolExecutor
 
 ROOT = pathlib.Path(__file__).resolve().parent.parent
 # Which stands on which: a diamond. The kit's libraries have no line.
@@ -25,7 +26,7 @@ left: low thiserror
 right: low   # beside left
 pc_sim: left right clap
 """
-TOOLS = "awk bash cat cmp date dirname env find flock head mkdir mktemp mv nproc python3 readlink rm seq sleep sort tail tee touch".split()
+TOOLS = "awk bash cat cmp date dirname env find flock head mkdir mktemp mv python3 readlink rm seq sleep sort tail tee touch".split()
 SECONDS = 30
 AT_ONCE = 8
 
@@ -38,7 +39,7 @@ name=${PWD##*/}
 echo "begin $name $(date +%s.%N) $*" >>"$RT_RECORD"
 cat >/dev/null
 [ "$name" != "${RT_KILLED:-}" ] || kill -KILL $$
-[ "$name" != "${RT_HANGS:-}" ] || { echo "$$" >>"$RT_RECORD.processes"; sleep 300 & echo "$!" >>"$RT_RECORD.processes"; wait; }
+[ "$name" != "${RT_HANGS:-}" ] || { echo "$$" >>"$RT_RECORD.processes"; sleep 20 & echo "$!" >>"$RT_RECORD.processes"; wait; }
 sleep "${RT_SECONDS:-0.05}"
 if [ "$name" = "${RT_FAILS:-}" ]; then
     for line in $(seq 30); do echo "log line $line"; done
@@ -76,6 +77,7 @@ class Launcher(unittest.TestCase):
             it.mkdir()
         shutil.copy(ROOT / "pc-sim", self.tree)
         shutil.copy(ROOT / "test", self.tree)
+        self.put_machine(cores=4, gigabytes=100)
         (self.tree / "crates.txt").write_text(CRATES)
         for name in ("low", "left", "right", "pc_sim"):
             for part in ("src", "specs", "must-fail"):
@@ -86,17 +88,25 @@ class Launcher(unittest.TestCase):
         self.program = self.tree / "crates/pc_sim/out/pc_sim"
         for tool in TOOLS:
             (self.bin / tool).symlink_to(shutil.which(tool))
-        self.put_rt()
+        self.put_command("rt", RT)
+
+    def put_machine(self, cores, gigabytes):
+        """Lets the launcher see so many cores, and so much free memory."""
+        self.put_command("nproc", f"#!/usr/bin/env bash\necho {cores}\n")
+        text, told = (ROOT / "pc-sim").read_text(), self.top / "meminfo"
+        told.write_text(f"MemTotal: 999999999 kB\nMemAvailable: {gigabytes * 1024 * 1024} kB\n")
+        self.assertEqual(text.count("/proc/meminfo"), 1)
+        (self.tree / "pc-sim").write_text(text.replace("/proc/meminfo", str(told)))
+
+    def put_command(self, name, text):
+        (self.bin / name).write_text(text)
+        (self.bin / name).chmod(0o755)
 
     def set_dates(self, seconds):
         """Dates each source this long from now."""
         at = time.time() + seconds
         for it in [*self.tree.rglob("*.rt"), *self.tree.rglob("*.antt"), self.tree / "crates.txt"]:
             os.utime(it, (at, at))
-
-    def put_rt(self):
-        (self.bin / "rt").write_text(RT)
-        (self.bin / "rt").chmod(0o755)
 
     def put_program(self, text=PROGRAM, seconds=-50):
         """A program as an earlier build left it, this long from now."""
@@ -112,14 +122,13 @@ class Launcher(unittest.TestCase):
             "PATH": str(self.bin), "TMPDIR": str(self.temporary), "RT_RECORD": str(self.record), "PROGRAM": PROGRAM, **environment
         }
         how = {"stdout": subprocess.PIPE, "stderr": subprocess.PIPE, "text": True, "cwd": self.top, "env": environment}
-        return subprocess.Popen([str(self.tree / command), *args], stdin=stdin, **how)
+        process = subprocess.Popen([str(self.tree / command), *args], stdin=stdin, **how)
+        self.addCleanup(process.kill)
+        return process
 
     def ended(self, process, given=None):
         """The status, standard output and standard error of what was started."""
-        try:
-            out, errors = process.communicate(given, timeout=SECONDS)
-        finally:
-            process.kill()
+        out, errors = process.communicate(given, timeout=SECONDS)
         return process.returncode, out, errors
 
     def run_it(self, *args, **environment):
@@ -152,10 +161,14 @@ class Launcher(unittest.TestCase):
     def wait_for_text(self, process, wanted):
         """Reads standard error until a line has the text, and returns what was read."""
         read = ""
+        limit = threading.Timer(SECONDS, process.kill)
+        limit.start()
+        self.addCleanup(limit.cancel)
         while wanted not in read:
             line = process.stderr.readline()
             self.assertTrue(line, f"ended without {wanted!r}: {read}")
             read += line
+        limit.cancel()
         return read
 
     def hold_lock(self):
@@ -283,41 +296,34 @@ class Launcher(unittest.TestCase):
     # The order of the crates
 
     def test_crates_beside_each_other_are_built_side_by_side(self):
-        self.with_memory(100)
-        (self.bin / "nproc").unlink()
-        (self.bin / "nproc").write_text("#!/usr/bin/env bash\necho 4\n")
-        (self.bin / "nproc").chmod(0o755)
-        self.assertEqual(self.run_it(RT_SECONDS="0.5")[0], 0)
-        _, began, ended = self.calls()
-        self.assertLess(began["left"], ended["right"])
-        self.assertLess(began["right"], ended["left"])
-        self.assert_none_before_what_it_stands_on()
+        for cores, gigabytes in ((4, 100), (2, 8)):
+            with self.subTest(cores=cores, gigabytes=gigabytes):
+                _, began, ended = self.calls_on(cores, gigabytes)
+                self.assertLess(began["left"], ended["right"])
+                self.assertLess(began["right"], ended["left"])
 
-    def test_one_after_the_other_where_memory_is_short(self):
-        for gigabytes in (7, 1):
-            with self.subTest(gigabytes):
-                self.with_memory(gigabytes)
-                self.program.unlink(missing_ok=True)
-                self.forget_calls()
-                self.assertEqual(self.run_it()[0], 0)
-                _, began, ended = self.calls()
+    def test_one_after_the_other_where_cores_or_memory_are_short(self):
+        for cores, gigabytes in ((1, 100), (4, 7), (4, 1)):
+            with self.subTest(cores=cores, gigabytes=gigabytes):
+                _, began, ended = self.calls_on(cores, gigabytes)
                 self.assertLessEqual(ended["left"], began["right"])
-                self.assert_none_before_what_it_stands_on()
+
+    def calls_on(self, cores, gigabytes):
+        """The calls of a build from nothing on such a machine."""
+        self.put_machine(cores, gigabytes)
+        self.program.unlink(missing_ok=True)
+        self.forget_calls()
+        self.assertEqual(self.run_it(RT_SECONDS="0.25")[0], 0)
+        self.assert_none_before_what_it_stands_on()
+        return self.calls()
 
     def assert_none_before_what_it_stands_on(self):
         _, began, ended = self.calls()
         for low, high in (("low", "left"), ("low", "right"), ("left", "pc_sim"), ("right", "pc_sim")):
             self.assertLessEqual(ended[low], began[high], f"{high} began before {low} was built")
 
-    def with_memory(self, gigabytes):
-        """Lets the launcher read that so much memory is free."""
-        text, told = (ROOT / "pc-sim").read_text(), self.top / "meminfo"
-        told.write_text(f"MemTotal: 999999999 kB\nMemAvailable: {gigabytes * 1024 * 1024} kB\n")
-        self.assertEqual(text.count("/proc/meminfo"), 1)
-        (self.tree / "pc-sim").write_text(text.replace("/proc/meminfo", str(told)))
-
-    def test_lines_in_any_order_are_built_lowest_first(self):
-        (self.tree / "crates.txt").write_text("pc_sim: left right\nright: low\nleft staticlib: low\nlow:")
+    def test_lines_in_any_order_are_built_lowest_first_and_the_program_last(self):
+        (self.tree / "crates.txt").write_text("pc_sim: left\nright: low\nleft staticlib: low\nlow:")
         self.set_dates(-100)
         self.assert_built_once(self.run_it()[2])
         self.assert_none_before_what_it_stands_on()
@@ -354,8 +360,7 @@ class Launcher(unittest.TestCase):
         self.assertIn("left no program", errors.splitlines()[-1])
 
     def test_a_failed_crate_ends_those_beside_it(self):
-        self.with_memory(100)
-        status, out, errors = self.run_it(RT_FAILS="left", RT_HANGS="right")
+        status, out, errors = self.run_it(RT_FAILS="left", RT_HANGS="right", RT_SECONDS="0.5")
         self.assertEqual((status, out), (5, ""))
         self.assertEqual(sorted(self.calls()[0]), [("left", "lib"), ("low", "lib"), ("right", "lib")])
         self.assertIn("pc-sim: [3/4] right stopped\n", errors)
@@ -447,6 +452,15 @@ class Launcher(unittest.TestCase):
         self.assert_one_line(read, "./test")
         self.assert_built_once(errors)
 
+    def test_a_start_that_is_ended_while_it_waits_leaves_nothing(self):
+        self.hold_lock()
+        start = self.begin()
+        self.wait_for_text(start, "waiting")
+        start.terminate()
+        began = time.monotonic()
+        self.assertEqual(self.ended(start), (-signal.SIGTERM, "", ""))
+        self.assertLess(time.monotonic() - began, 5)
+
     def test_the_program_does_not_hold_the_lock(self):
         start = self.begin(stdin=subprocess.PIPE)
         self.wait_for_text(start, "built in")
@@ -458,7 +472,7 @@ class Launcher(unittest.TestCase):
 
     def test_no_start_builds_while_the_gate_runs(self):
         self.put_stand_ins_of_tests()
-        gate = self.begin(command="test", RT_SECONDS="0.5")
+        gate = self.begin(command="test", RT_SECONDS="1")
         self.wait_for_calls(1)
         start = self.begin()
         self.wait_for_text(start, "waiting")
@@ -514,23 +528,24 @@ class Launcher(unittest.TestCase):
         self.assertEqual(self.run_it("x", command="../linked"), (0, "arguments 1:\n<x>\n", ""))
 
 
-def result_of(test):
+def faults_of(name):
+    """What failed in a test, as a list of texts."""
     result = unittest.TestResult()
-    test.run(result)
-    return result
+    Launcher(name).run(result)
+    return [text for _, text in [*result.failures, *result.errors]]
 
 
 def main():
-    tests = list(unittest.defaultTestLoader.loadTestsFromTestCase(Launcher))
-    # They mostly wait, so several run at once. Several parts of one can fail; it counts once.
-    with ThreadPoolExecutor(AT_ONCE) as pool:
-        results = list(pool.map(result_of, tests))
-    for test, result in zip(tests, results):
-        for _, text in [*result.failures, *result.errors]:
-            print(f"launcher, {test.id().rpartition('.')[2]}: {text}")
-    passed = sum(it.wasSuccessful() for it in results)
-    print(f"{passed} passed, {len(tests) - passed} failed")
-    return 0 if passed == len(tests) else 1
+    names = unittest.defaultTestLoader.getTestCaseNames(Launcher)
+    # They mostly wait, so several run at once: in processes, since a thread that starts a command lends it the files that others write.
+    with ProcessPoolExecutor(AT_ONCE) as pool:
+        found = dict(zip(names, pool.map(faults_of, names)))
+    for name, faults in found.items():
+        for fault in faults:
+            print(f"launcher, {name}: {fault}")
+    failed = sum(map(bool, found.values()))
+    print(f"{len(names) - failed} passed, {failed} failed")
+    return 1 if failed else 0
 
 
 if __name__ == "__main__":
