@@ -53,6 +53,7 @@ if [ "$1" = run ] && [ -z "${RT_LEAVES_NONE:-}" ]; then
     [ -e out/pc_sim ] && [ "$sum" = "$(cat out/sum 2>/dev/null)" ] || printf '%s' "$PROGRAM" >out/pc_sim
     printf '%s' "$sum" >out/sum
     python3 -c 'import os; os.chmod("out/pc_sim", 0o755)'
+    sleep "${RT_LINGERS:-0}"
 fi
 echo "end $name $(date +%s.%N)" >>"$RT_RECORD"
 """
@@ -170,6 +171,12 @@ class Launcher(unittest.TestCase):
             read += line
         limit.cancel()
         return read
+
+    def wait_until(self, holds):
+        ends = time.monotonic() + SECONDS
+        while not holds():
+            self.assertLess(time.monotonic(), ends)
+            time.sleep(0.01)
 
     def hold_lock(self):
         lock = open(self.tree / ".build.lock", "a")
@@ -323,10 +330,10 @@ class Launcher(unittest.TestCase):
             self.assertLessEqual(ended[low], began[high], f"{high} began before {low} was built")
 
     def test_lines_in_any_order_are_built_lowest_first_and_the_program_last(self):
-        (self.tree / "crates.txt").write_text("pc_sim: left\nright: low\nleft staticlib: low\nlow:")
-        self.set_dates(-100)
-        self.assert_built_once(self.run_it()[2])
-        self.assert_none_before_what_it_stands_on()
+        (self.tree / "crates.txt").write_text("pc_sim: left\nleft staticlib: low\nright: low\nlow:")
+        for cores in (1, 4):
+            with self.subTest(cores=cores):
+                self.calls_on(cores, 100)
 
     def test_crates_that_stand_on_each_other(self):
         (self.tree / "crates.txt").write_text("low: left\nleft: low\nright:\npc_sim: left right\n")
@@ -412,10 +419,7 @@ class Launcher(unittest.TestCase):
         return pathlib.Path(f"{self.record}.processes")
 
     def wait_for_processes(self, count):
-        ends = time.monotonic() + SECONDS
-        while not self.processes().exists() or len(self.processes().read_text().split()) < count:
-            self.assertLess(time.monotonic(), ends)
-            time.sleep(0.01)
+        self.wait_until(lambda: self.processes().exists() and len(self.processes().read_text().split()) >= count)
 
     def assert_nothing_runs(self):
         """None of the stand-in's processes runs: what was ended may still wait to be fetched by its parent."""
@@ -438,6 +442,23 @@ class Launcher(unittest.TestCase):
         status, out, errors = self.ended(second)
         self.assertEqual((status, out), (0, "arguments 1:\n<second>\n"))
         self.assert_one_line(errors, "waiting for another start")
+
+    def test_a_program_is_not_started_before_its_build_has_ended(self):
+        first = self.begin(RT_LINGERS="1")
+        read = self.wait_for_text(first, "pc_sim ..")
+        self.wait_until(lambda: os.access(self.program, os.X_OK))
+        second = self.begin()
+        self.assert_one_line(self.ended(second)[2], "waiting for another start")
+        self.assert_built_once(read + self.ended(first)[2])
+
+    def test_after_a_build_that_was_interrupted_at_its_end_another_is_made(self):
+        first = self.begin(RT_LINGERS="5")
+        self.wait_for_text(first, "pc_sim ..")
+        self.wait_until(lambda: os.access(self.program, os.X_OK))
+        first.terminate()
+        self.assertEqual(self.ended(first)[0], -signal.SIGTERM)
+        self.forget_calls()
+        self.assert_built_once(self.run_it()[2])
 
     def test_a_start_waits_while_the_lock_is_held(self):
         lock = self.hold_lock()
@@ -505,10 +526,7 @@ class Launcher(unittest.TestCase):
         (self.tree / "tests/run_cases.py").write_text("import sys\nprint('cases:', *sys.argv[1:])\n")
 
     def wait_for_calls(self, count):
-        ends = time.monotonic() + SECONDS
-        while len(self.calls()[0]) < count:
-            self.assertLess(time.monotonic(), ends)
-            time.sleep(0.01)
+        self.wait_until(lambda: len(self.calls()[0]) >= count)
 
     # What is handed through
 
