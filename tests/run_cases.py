@@ -64,15 +64,24 @@ def faults_of_example(script, program):
     return [f"status {run.returncode}, standard output {run.stdout[:400]!r}, wanted {wanted[:400]!r}"]
 
 
+def counted(line):
+    """The counts of a last line `N passed, M failed`. Any other line is one failure: what wrote it did not come to its end."""
+    counts = re.fullmatch(r"(\d+) passed, (\d+) failed", line.strip())
+    return (int(counts[1]), int(counts[2])) if counts else (0, 1)
+
+
 def main():
     parser = argparse.ArgumentParser(description=__doc__, formatter_class=argparse.RawDescriptionHelpFormatter)
     parser.add_argument("--gate-status", type=int, default=0, help="the exit status of the gate, to be counted too")
     parser.add_argument("--gate-line", default="0 passed, 0 failed", help="the gate's last line")
+    parser.add_argument("--also", action="append", default=[], help="the last line of further tests, to be counted too")
     options = parser.parse_args()
-    counted = re.fullmatch(r"(\d+) passed, (\d+) failed", options.gate_line.strip())
-    passed, failed = (int(counted[1]), int(counted[2])) if counted else (0, 1)
+    passed, failed = counted(options.gate_line)
     if options.gate_status != 0 and failed == 0:
         failed = 1
+    for line in options.also:
+        more_passed, more_failed = counted(line)
+        passed, failed = passed + more_passed, failed + more_failed
     cases = sorted(path for path in (ROOT / "tests/cases").iterdir() if path.is_dir())
     if not cases:
         print("no case in tests/cases")
