@@ -6,7 +6,7 @@ mod rows;
 mod table;
 
 use crate::{CallFault, Kernel, LimitField, Limits, LimitsFault, Posted, Profile, Refusal, Status};
-use pc_messages::{Cpu, Item, Kind, Mask, Message, Phase, Tid};
+use pc_messages::{Cpu, Phase, Tid};
 use std::alloc::Global;
 use std::test::Fail;
 
@@ -129,49 +129,16 @@ fn the_profile_of_new(rt: HostRuntime) {
 }
 
 #[test]
-fn the_first_thread(rt: HostRuntime) -> Result<(), Fail> {
+fn what_is_read_of_cpus(rt: HostRuntime) -> Result<(), Fail> {
     let mut kernel = Kernel::new(rt.alloc(), limits(2, 8, 100, 16, 1_000))?;
-    assert_eq!(rt; kernel.cpus(), 2);
-    assert_eq!(rt; kernel.limits(), limits(2, 8, 100, 16, 1_000));
-    assert_eq!(rt; kernel.threads(), 0);
-    assert_eq!(rt; kernel.status(Tid(0)), None);
+    assert_eq!(rt; kernel.create(Cpu(2), 3, true), refused(Refusal::BadCpu));
     assert_eq!(rt; kernel.create(Cpu(0), 3, true)?, posted(0, 1, 0, 1));
-    kernel.is_sound();
-    kernel.is_reached();
-    let kind = Kind::Created {
-        mask: Mask::new(3, 2)?,
-        ready: true,
-    };
-    let message = Item::Thread(Message {
-        thread: Tid(0),
-        number: 1,
-        kind,
-    });
-    assert_eq!(rt; kernel.threads(), 1);
-    assert_eq!(rt; kernel.queue_of(Tid(0)), Some(Cpu(0)));
-    assert_eq!(rt; kernel.queue_of(Tid(1)), None);
-    assert_eq!(rt;
-        kernel.history(Tid(0)).ok_or("no thread")?,
-        [kind].as_slice()
-    );
     assert_eq!(rt; kernel.aseq(Cpu(0)), Some(1));
     assert_eq!(rt; kernel.aseq(Cpu(1)), Some(0));
     assert_eq!(rt; kernel.aseq(Cpu(2)), None);
     assert_eq!(rt; kernel.running(Cpu(0)), None);
     assert!(rt; !kernel.is_asleep(Cpu(0)));
     assert!(rt; !kernel.is_asleep(Cpu(2)));
-    let (aseq, items) = kernel.peek(Cpu(0))?;
-    assert_eq!(rt; aseq, 1);
-    assert_eq!(rt; items.as_slice(), [message].as_slice());
-    let (aseq, items) = kernel.peek(Cpu(1))?;
-    assert_eq!(rt; aseq, 0);
-    assert!(rt; items.is_empty());
-    assert!(rt;
-        matches!(
-            kernel.peek(Cpu(2)),
-            Err(CallFault::Refused(Refusal::BadCpu))
-        )
-    );
     Ok(())
 }
 
