@@ -146,6 +146,7 @@ fn names_leave_from_both_ends(rt: HostRuntime) -> Result<(), Fail> {
     let view = ready(rt.alloc())?;
     let mut queue = refreshed(rt.alloc(), &view, &[Tid(2), Tid(0), Tid(1)], Cpu(0))?;
     assert!(rt; queue.take_first() == Some(Tid(2)));
+    assert!(rt; !queue.has(Tid(7)));
     queue.push(Tid(7))?;
     assert!(rt; lists(&queue, &[0, 1, 7]));
     assert!(rt; queue.take_last() == Some(Tid(7)));
