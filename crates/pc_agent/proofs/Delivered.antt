@@ -1,5 +1,5 @@
--- What an agent shows that took a delta in.
-use Rattle.std.proofs.Common.{ℕ, ◌≡◌, List, Result, Ok, Err, OnOk, IsErr, ◌∙◌}
+-- What an agent shows that took messages in.
+use Rattle.std.proofs.Common.{ℕ, ◌≡◌, ◌||◌, List, length, Result, Ok, Err, OnOk, IsErr, sym, ap, ◌∙◌, subst, inl, inr}
 use Rattle.std.proofs.lemmas.Bool.{false≢true}
 use Rattle.pc_messages.specs.Items.{pairs_in, AreItemsOf}
 use Rattle.pc_messages.specs.Run.{Run}
@@ -7,21 +7,24 @@ use Rattle.pc_messages.specs.declared.message.Item.{Item}
 use Rattle.pc_join.specs.Sets.{IsSameSet, as_members}
 use Rattle.pc_join.specs.declared.join.OutOfMemory.{OutOfMemory}
 use Rattle.pc_view.specs.declared.view.View.{View}
-use Rattle.pc_view.specs.Prefixes.{reported_in, reports}
+use Rattle.pc_view.specs.Prefixes.{reported_in, reports, upto, upto_of}
 use Rattle.pc_view.specs.Views.{IsOfRun, pairs_of}
 use Rattle.pc_delta.specs.declared.part.Part.{Part}
 use Rattle.pc_delta.specs.Exchange.{IsPartlyTakenIn, IsTakenIn}
-use Rattle.pc_delta.specs.Parts.{AreOfRun, set_of}
-use Rattle.pc_run_queue.specs.Runs.{level_told, may_run, refreshed, refreshed_by}
+use Rattle.pc_delta.specs.Parts.{AreOfRun, parts_in, set_of}
+use Rattle.pc_run_queue.specs.Runs.{level_told, may_run, refreshed_by}
 use Rattle.pc_agent.specs.declared.agent.Agent.{Agent}
+use Rattle.pc_agent.specs.declared.wire.SendFault.{SendFault}
+use Rattle.pc_agent.specs.declared.wire.SendFault.TheVariants as fault
 use Rattle.pc_agent.specs.Exchanging.{IsDelivered}
+use Rattle.pc_agent.specs.Own.{HasCopied, HasPartlyCopied, Publishes}
 use Rattle.pc_agent.specs.PlainAgent.{PlainAgent, Set, copied, threads_in}
-use Rattle.pc_agent.specs.Publishing.{IsCopied}
+use Rattle.pc_agent.specs.Publishing.{IsCopied, IsPublished, Sending}
 use Rattle.pc_agent.specs.Shows.{ShowsAgent, ShowsDelta, ShowsPart}
 use Rattle.pc_agent.proofs.Taking.{view_takes, view_takes_some}
 
 -- a part of a delta
-pub takes_some : (run : Run) (p : PlainAgent) (set : Set) (old new : Agent) (delta : List Part) → ShowsDelta run set delta → ShowsAgent run p old → IsPartlyTakenIn delta old.view new.view
+takes_some : (run : Run) (p : PlainAgent) (set : Set) (old new : Agent) (delta : List Part) → ShowsDelta run set delta → ShowsAgent run p old → IsPartlyTakenIn delta old.view new.view
     → new.list ≡ old.list → new.shown ≡ old.shown → ShowsPart run p set new
 takes_some run p set old new delta tells h partly list count =
     let some = view_takes_some run p.seen set old.view new.view delta h.view partly tells in
@@ -33,29 +36,49 @@ delivered run p set (Ok done) old new delta tells h taken partly list count =
     record { view = view_takes run p.seen set old.view new.view delta h.view taken tells; list = list ∙ h.list; shown = count ∙ h.shown }
 delivered run p set (Err fault) old new delta tells h taken partly list count = takes_some run p set old new delta tells h partly list count
 
--- the view law, of a plain agent
+-- nothing is a part of every delta
+pub takes_none : (parts : List Part) (view : View) → IsPartlyTakenIn parts view view
+takes_none parts view = record { between = record { at_least = λ m e. e; at_most = λ m e. ap (λ b. b || set_of parts m) e }; of_run = λ run of_run parts_of_run. of_run }
+
+-- the laws of views and of the parts of items
 abbrev pub ReportsAreTold : Type 0
 ReportsAreTold = (run : Run) (set : Set) (view : View) (t : ℕ) → IsOfRun run view → IsSameSet (pairs_of view) (as_members set) → reported_in view t ≡ reports run set t
 
--- what a delta of items tells
-pub items_tell : (run : Run) (items : List Item) (delta : List Part) → IsSameSet (set_of delta) (as_members (pairs_in items)) → ((r : Run) → AreItemsOf r items → AreOfRun r delta) → AreItemsOf run items → ShowsDelta run (pairs_in items) delta
-items_tell run items delta told of_run are = record { of_run = of_run run are; told = told }
+abbrev pub UptosAreTold : Type 0
+UptosAreTold = (run : Run) (set : Set) (view : View) (t : ℕ) → IsOfRun run view → IsSameSet (pairs_of view) (as_members set) → upto_of view t ≡ upto set t
 
-pub has_copied : (run : Run) (p : PlainAgent) (items : List Item) (old new : Agent) (delta : List Part) (touched : List ℕ) → ReportsAreTold → ShowsDelta run (pairs_in items) delta → ShowsAgent run p old
-    → IsTakenIn delta old.view new.view → touched ≡ threads_in items → new.list ≡ refreshed new.view old.cpu old.list touched → new.shown ≡ old.shown
-    → IsCopied run p items (Ok delta) old.cpu new
-has_copied run p items old new delta touched law tells h taken names list count =
-    let view = view_takes run p.seen (pairs_in items) old.view new.view delta h.view taken tells in
-    let state : (t : ℕ) → reported_in new.view t ≡ reports run (copied run old.cpu items p).seen t = λ t. law run (copied run old.cpu items p).seen new.view t view.of_run view.seen in (
-      tells,
-      record {
-        view = view;
-        list = list ∙ λ i. refreshed_by (λ t. may_run (state t i) old.cpu) (λ t. level_told (state t i)) (h.list i) (names i);
-        shown = count ∙ h.shown;
-      },
-    )
+abbrev pub ItemsAreTold : Type 0
+ItemsAreTold = (items : List Item) → IsSameSet (set_of (parts_in items)) (as_members (pairs_in items))
 
--- memory ran out
-pub starved : (run : Run) (p : PlainAgent) (items : List Item) (cpu : ℕ) (new : Agent) (result : Result (List Part) OutOfMemory) → IsErr result → ShowsPart run p (pairs_in items) new → IsCopied run p items result cpu new
-starved run p items cpu new (Ok delta) e part = absurd (false≢true e)
-starved run p items cpu new (Err fault) e part = part
+abbrev pub ItemsAreOfRun : Type 0
+ItemsAreOfRun = (run : Run) (items : List Item) → AreItemsOf run items → AreOfRun run (parts_in items)
+
+module _ (reported : ReportsAreTold) (told : ItemsAreTold) (told_of_run : ItemsAreOfRun) (run : Run) (p : PlainAgent) (items : List Item) (old new : Agent) (are : AreItemsOf run items) (h : ShowsAgent run p old) where
+  pub items_tell : ShowsDelta run (pairs_in items) (parts_in items)
+  items_tell = record { of_run = told_of_run run items are; told = told items }
+
+  pub some_copied : HasPartlyCopied items old new → ShowsPart run p (pairs_in items) new
+  some_copied has = takes_some run p (pairs_in items) old new (parts_in items) items_tell h has.view has.list has.shown
+
+  pub all_copied : (count : ℕ) → HasCopied items old new count → ShowsAgent run (record (copied run old.cpu items p) { shown = count }) new
+  all_copied count has =
+      let view = view_takes run p.seen (pairs_in items) old.view new.view (parts_in items) h.view has.view items_tell in
+      let state : (t : ℕ) → reported_in new.view t ≡ reports run (copied run old.cpu items p).seen t = λ t. reported run (copied run old.cpu items p).seen new.view t view.of_run view.seen in
+      record { view = view; list = has.list ∙ λ i. refreshed_by (λ t. may_run (state t i) old.cpu) (λ t. level_told (state t i)) (h.list i) (threads_in items); shown = has.shown }
+
+  -- what else is as it was
+  counted : (count n : ℕ) → count ≡ n → ShowsAgent run (record (copied run old.cpu items p) { shown = count }) new → ShowsAgent run (record (copied run old.cpu items p) { shown = n }) new
+  counted count n e a = record { view = a.view; list = a.list; shown = a.shown ∙ e }
+
+  pub has_copied : (delta : List Part) → delta ≡ parts_in items → HasCopied items old new old.shown → IsCopied run p items (Ok delta) old.cpu new
+  has_copied delta is has = (subst (ShowsDelta run (pairs_in items)) (sym is) items_tell, counted old.shown p.shown h.shown (all_copied old.shown has))
+
+  pub has_partly_copied : (result : Result (List Part) OutOfMemory) → IsErr result → HasPartlyCopied items old new → IsCopied run p items result old.cpu new
+  has_partly_copied (Ok delta) e has = absurd (false≢true e)
+  has_partly_copied (Err fault) e has = some_copied has
+
+  pub published : {W : Type 0} (Sends : Sending W) (result : Result ℕ SendFault) (wire later : W) → Publishes Sends items result old new wire later → IsPublished Sends items run p result old.cpu new wire later
+  published Sends (Ok count) wire later has = (has.0, record { shows = items_tell; sent = has.1 }, counted count (length items) has.0 (all_copied count has.2))
+  published Sends (Err fault.WireFault) wire later has = (record { shows = items_tell; sent = has.0 }, counted old.shown p.shown h.shown (all_copied old.shown has.1))
+  published Sends (Err fault.OutOfMemory) wire later (inl some) = inl (some_copied some.0, some.1)
+  published Sends (Err fault.OutOfMemory) wire later (inr all) = inr (record { shows = items_tell; sent = all.0 }, counted old.shown p.shown h.shown (all_copied old.shown all.1))

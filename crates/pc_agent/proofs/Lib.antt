@@ -5,4 +5,3 @@ pub mod Stolen
 pub mod Unknown
 pub mod Delivered
 pub mod Items
-pub mod Published

@@ -1,105 +1,128 @@
 -- What a steal did, in the words of the plain agent.
-use Rattle.std.proofs.Common.{ℕ, ◌≡◌, Bool, true, false, List, [], ◌∷◌, ◌++◌, length, take, Option, Some, Result, Ok, Err, MatchBool, is_some, OnOk, refl, sym, ap, ◌∙◌, subst}
+use Rattle.std.proofs.Common.{ℕ, ◌≡◌, Bool, true, false, List, [], ◌∷◌, ◌++◌, length, take, Option, Some, None, Result, Ok, Err, IfOk, MatchBool, is_some, OnOk, refl, sym, ap, ◌∙◌, subst}
 use Rattle.std.specs.Result.{is_err}
+use Rattle.std.proofs.Math.Seq.{take-append_seam}
 use Rattle.std.proofs.lemmas.Bool.{false≢true}
 use Rattle.pc_join.specs.declared.join.OutOfMemory.{OutOfMemory as Starved}
-use Rattle.pc_messages.specs.Run.{Run, Extends}
+use Rattle.pc_messages.specs.Run.{Run}
 use Rattle.pc_messages.specs.State.{state_of}
-use Rattle.pc_messages.specs.declared.kind.Kind.{Kind}
+use Rattle.pc_calls.specs.declared.call.Call.{Call}
 use Rattle.pc_calls.specs.declared.call.Call.TheVariants as call
+use Rattle.pc_calls.specs.declared.call.Answer.TheVariants.{Done}
 use Rattle.pc_calls.specs.declared.refusal.Refusal.{Refusal}
-use Rattle.pc_calls.specs.declared.refusal.Refusal.TheVariants.{Busy}
+use Rattle.pc_calls.specs.declared.refusal.Refusal.TheVariants.{Busy, NothingToSteal}
 use Rattle.pc_calls.specs.declared.refusal.CallFault.{CallFault}
 use Rattle.pc_calls.specs.declared.refusal.CallFault.TheVariants.{Refused, OutOfMemory}
-use Rattle.pc_kernel.specs.Answers.{Shows, Steps, done}
+use Rattle.pc_kernel.specs.Answers.{Accepts, Shows, Steps, done}
 use Rattle.pc_kernel.specs.Exact.{AcceptedAssociatesAreExact}
 use Rattle.pc_kernel.specs.PlainKernel.{PlainKernel, kinds}
-use Rattle.pc_kernel.specs.Reads.{seen, shown, on}
+use Rattle.pc_kernel.specs.Reads.{Reads, seen, shown, on}
 use Rattle.pc_kernel.specs.Rows.{KernelRows}
-use Rattle.pc_kernel.specs.Steps.{accepted, after, refused}
-use Rattle.pc_view.specs.Prefixes.{reported_in, reports, upto, upto_of}
+use Rattle.pc_kernel.specs.Steps.{after, refused}
+use Rattle.pc_view.specs.declared.view.View.{View}
+use Rattle.pc_view.specs.Prefixes.{upto, upto_of}
 use Rattle.pc_run_queue.specs.Runs.{may_run, runs_in}
 use Rattle.pc_agent.specs.declared.agent.Agent.{Agent}
+use Rattle.pc_agent.specs.Own.{HasTakenOver, StealsAsSeen}
 use Rattle.pc_agent.specs.PlainAgent.{PlainAgent, may_steal, may_take}
-use Rattle.pc_agent.specs.Running.{Finds, IsSeenExactly, IsStolen, Steals, takes_over}
+use Rattle.pc_agent.specs.Publishing.{WhateverShown}
+use Rattle.pc_agent.specs.Running.{Finds, IsSeenExactly, IsTakenOver, Steals, StealsBy, TriesLeast, takes_over, takes_up_to}
 use Rattle.pc_agent.specs.Shows.{ShowsAgent, ShowsView}
-use Rattle.pc_agent.proofs.Ready.{was_accepted, was_refused}
+use Rattle.pc_agent.proofs.Delivered.{ReportsAreTold, UptosAreTold}
+use Rattle.pc_agent.proofs.Ready.{accepts, not_refused}
 
 -- what is not an error did what it says
 pub was_pushed : (result : Result (Unit {0}) Starved) (Q : Type 0) → is_err result ≡ false → OnOk result Q → Q
 was_pushed (Ok done) Q e h = h
 was_pushed (Err fault) Q e h = absurd (false≢true (sym e))
 
-module _ (P : PlainKernel) (run : Run) (p : PlainAgent) (old : Agent) (k : KernelRows) (shows : Shows k P) (h : ShowsAgent run p old)
-    (state : (t : ℕ) → reported_in old.view t ≡ reports run p.seen t) (known : (t : ℕ) → upto_of old.view t ≡ upto p.seen t) where
-  test_same : may_take (seen k) (runs_in old.view old.cpu) old.list ≡ may_steal (shown P) run old.cpu p
-  test_same = λ i. may_take (shows.reads i) (λ t. may_run (state t i) old.cpu) (h.list i)
+-- a steal for a busy CPU, and for an idle one
+module _ (view : View) (cpu : ℕ) (result : Result ℕ CallFault) (old new : List ℕ) (before after : KernelRows) where
+  abbrev Tries : Type 0
+  Tries = TriesLeast (seen before) (may_take (seen before) (runs_in view cpu) old) (takes_up_to (upto_of view) cpu) (λ t. HasTakenOver (takes_up_to (upto_of view) cpu t) t old new before after) result
 
-  pub found : (o : Option ℕ) → Finds (may_take (seen k) (runs_in old.view old.cpu) old.list) o → Finds (may_steal (shown P) run old.cpu p) o
-  found o finds = subst (λ test. Finds test o) test_same finds
+  pub for_busy : is_some (on (seen before) cpu) ≡ true → result ≡ Err (Refused Busy) → StealsAsSeen view cpu result old new before after
+  for_busy busy e = subst (λ b. MatchBool b (result ≡ Err (Refused Busy)) Tries) (sym busy) e
 
-  pub on_busy : (result : Result ℕ CallFault) (new : Agent) (k2 : KernelRows) → is_some (on (seen k) old.cpu) ≡ true → result ≡ Err (Refused Busy) → Steals P run p result old.cpu new k2
-  on_busy result new k2 busy e =
-      subst (λ c. MatchBool c (result ≡ Err (Refused Busy)) (IsStolen P run p result old.cpu new k2)) (sym (ap (λ r. is_some (on r old.cpu)) (sym shows.reads) ∙ busy)) e
+  pub for_idle : is_some (on (seen before) cpu) ≡ false → Tries → StealsAsSeen view cpu result old new before after
+  for_idle idle tries = subst (λ b. MatchBool b (result ≡ Err (Refused Busy)) Tries) (sym idle) tries
 
-  pub on_idle : (result : Result ℕ CallFault) (new : Agent) (k2 : KernelRows) → is_some (on (seen k) old.cpu) ≡ false → IsStolen P run p result old.cpu new k2 → Steals P run p result old.cpu new k2
-  on_idle result new k2 idle stolen =
-      subst (λ c. MatchBool c (result ≡ Err (Refused Busy)) (IsStolen P run p result old.cpu new k2)) (sym (ap (λ r. is_some (on r old.cpu)) (sym shows.reads) ∙ idle)) stolen
+-- the least thread that may be taken over was found, and tried
+module _ (view : View) (cpu : ℕ) (old : List ℕ) (before : KernelRows) (idle : is_some (on (seen before) cpu) ≡ false) where
+  abbrev Found : Option ℕ → Type 0
+  Found o = Finds (may_take (seen before) (runs_in view cpu) old) o
 
-  pub taken_over : (t n : ℕ) (new : Agent) (k2 : KernelRows) → n ≡ upto_of old.view t → Steps done (call.Associate t old.cpu n) (Ok tt) k k2 → new.view ≡ old.view → new.shown ≡ old.shown → new.list ≡ old.list ++ t ∷ []
-      → Finds (may_take (seen k) (runs_in old.view old.cpu) old.list) (Some t) → IsStolen P run p (Ok t) old.cpu new k2
-  taken_over t n new k2 is steps view count list finds =
-      let number_is : n ≡ upto p.seen t = is ∙ known t in
-      let steps_here : Steps done (takes_over old.cpu p t) (Ok tt) k k2 = subst (λ m. Steps done (call.Associate t old.cpu m) (Ok tt) k k2) number_is steps in
-      let was = was_accepted (refused (shown P) (takes_over old.cpu p t)) (accepted P (takes_over old.cpu p t)) k k2 (after P (takes_over old.cpu p t)) (steps_here P shows) in (
-        found (Some t) finds,
-        record {
-          accepted = was.0;
-          after = was.1;
-          agent = record { view = subst (λ v. ShowsView run p.seen v) (sym view) h.view; list = list ∙ ap (λ l. l ++ t ∷ []) h.list; shown = count ∙ h.shown };
-        },
-      )
+  pub none_found : Found None → StealsAsSeen view cpu (Err (Refused NothingToSteal)) old old before before
+  none_found none = for_idle view cpu (Err (Refused NothingToSteal)) old old before before idle (None, none, refl)
 
-  pub not_taken : (t n : ℕ) (refusal : Refusal) (new : Agent) (k2 : KernelRows) → n ≡ upto_of old.view t → Steps done (call.Associate t old.cpu n) (Err refusal) k k2
-      → Finds (may_take (seen k) (runs_in old.view old.cpu) old.list) (Some t) → IsStolen P run p (Err (Refused refusal)) old.cpu new k2
-  not_taken t n refusal new k2 is steps finds =
-      let number_is : n ≡ upto p.seen t = is ∙ known t in
-      let steps_here : Steps done (takes_over old.cpu p t) (Err refusal) k k2 = subst (λ m. Steps done (call.Associate t old.cpu m) (Err refusal) k k2) number_is steps in (
-        Some t,
-        found (Some t) finds,
-        was_refused (refused (shown P) (takes_over old.cpu p t)) (accepted P (takes_over old.cpu p t)) refusal k k2 (after P (takes_over old.cpu p t)) (steps_here P shows),
-      )
+  module _ (t : ℕ) (found : Found (Some t)) where
+    pub none_left : (new : List ℕ) → StealsAsSeen view cpu (Err OutOfMemory) old new before before
+    none_left new = for_idle view cpu (Err OutOfMemory) old new before before idle (t, found)
 
-  pub seen_exactly : (t n : ℕ) (k2 : KernelRows) → AcceptedAssociatesAreExact → Extends run (kinds P) → n ≡ upto_of old.view t → Steps done (call.Associate t old.cpu n) (Ok tt) k k2 → IsSeenExactly P run p t
-  seen_exactly t n k2 law extends is steps =
-      let number_is : n ≡ upto p.seen t = is ∙ known t in
-      let was = was_accepted (refused (shown P) (call.Associate t old.cpu n)) (accepted P (call.Associate t old.cpu n)) k k2 (after P (call.Associate t old.cpu n)) (steps P shows) in
-      let exact = law P t old.cpu n was.0 in
-      let whole : upto p.seen t ≡ length (kinds P t) = sym number_is ∙ exact.current in
-      record {
-        whole = whole;
-        state = ap (λ m. state_of (take m (run t))) whole ∙ ap (λ l. state_of (take (length (kinds P t)) l)) (extends t).1 ∙ ap state_of (take_length (kinds P t) (extends t).0);
-        nothing_waits = exact.nothing_waits;
-      }
-    where
-      take_length : (xs ys : List Kind) → take (length xs) (xs ++ ys) ≡ xs
-      take_length [] ys = refl
-      take_length (x ∷ xs) ys = ap (λ l. x ∷ l) (take_length xs ys)
+    module _ (n : ℕ) (is : n ≡ upto_of view t) (new : List ℕ) (after : KernelRows) where
+      pub was_taken : None ≡ refused (seen before) (call.Associate t cpu n) → Steps done (call.Associate t cpu n) (Ok tt) before after → new ≡ old ++ t ∷ [] → StealsAsSeen view cpu (Ok t) old new before after
+      was_taken accepted steps list =
+          let same : call.Associate t cpu n ≡ takes_up_to (upto_of view) cpu t = ap (λ m. call.Associate t cpu m) is in
+          for_idle view cpu (Ok t) old new before after idle (
+            found,
+            ap (λ takes. refused (seen before) takes) (sym same) ∙ sym accepted,
+            record { kernel = subst (λ takes. Accepts takes Done before after) same (accepts (call.Associate t cpu n) before after steps); list = list },
+          )
 
--- what is counted changes nothing of a steal
-pub steal_recounted : (P : PlainKernel) (run : Run) (p : PlainAgent) (result : Result ℕ CallFault) (cpu : ℕ) (new other : Agent) (kernel : KernelRows) → other.view ≡ new.view → other.list ≡ new.list → other.shown ≡ new.shown
-    → Steals P run p result cpu new kernel → Steals P run p result cpu other kernel
-steal_recounted P run p result cpu new other kernel view list count = by_test (is_some (on (shown P) cpu)) result
+      pub was_not_taken : (refusal : Refusal) → Some refusal ≡ refused (seen before) (call.Associate t cpu n) → StealsAsSeen view cpu (Err (Refused refusal)) old new before after
+      was_not_taken refusal why =
+          for_idle view cpu (Err (Refused refusal)) old new before after idle (Some t, found, ap (λ m. refused (seen before) (call.Associate t cpu m)) (sym is) ∙ sym why)
+
+-- what follows of a thread that was taken over
+also : (r : Reads) (cpu : ℕ) (test : ℕ → Bool) (takes : ℕ → Call) (Taken More : ℕ → Type 0) (result : Result ℕ CallFault) → ((t : ℕ) → Taken t → More t) → StealsBy r cpu test takes Taken result → StealsBy r cpu test takes More result
+also r cpu test takes Taken More result more = by_test (is_some (on r cpu)) result
   where
-    by_test : (b : Bool) (r : Result ℕ CallFault) → MatchBool b (r ≡ Err (Refused Busy)) (IsStolen P run p r cpu new kernel) → MatchBool b (r ≡ Err (Refused Busy)) (IsStolen P run p r cpu other kernel)
-    by_test true r h = h
-    by_test false (Ok t) h = (
-      h.0,
-      record {
-        accepted = h.1.accepted;
-        after = h.1.after;
-        agent = record { view = subst (λ v. ShowsView run p.seen v) (sym view) h.1.agent.view; list = list ∙ h.1.agent.list; shown = count ∙ h.1.agent.shown };
-      },
-    )
+    by_test : (b : Bool) (result : Result ℕ CallFault) → MatchBool b (result ≡ Err (Refused Busy)) (TriesLeast r test takes Taken result) → MatchBool b (result ≡ Err (Refused Busy)) (TriesLeast r test takes More result)
+    by_test true result h = h
+    by_test false (Ok t) h = (h.0, h.1, more t h.2)
     by_test false (Err (Refused refusal)) h = h
     by_test false (Err OutOfMemory) h = h
+
+-- what holds of a thread that was taken over
+had : (r : Reads) (cpu : ℕ) (test : ℕ → Bool) (takes : ℕ → Call) (Taken : ℕ → Type 0) (t : ℕ) → StealsBy r cpu test takes Taken (Ok t) → Taken t
+had r cpu test takes Taken t = by_test (is_some (on r cpu))
+  where
+    by_test : (b : Bool) → MatchBool b (◌≡◌ {A = Result ℕ CallFault} (Ok t) (Err (Refused Busy))) (TriesLeast r test takes Taken (Ok t)) → Taken t
+    by_test true e = absurd (let none : ⊥ = cc in none)
+    by_test false h = h.2
+
+module _ (reported : ReportsAreTold) (known : UptosAreTold) (old : Agent) (k : KernelRows) where
+  module _ (P : PlainKernel) (run : Run) (p : PlainAgent) (shows : Shows k P) (h : ShowsAgent run p old) where
+    test_same : may_take (seen k) (runs_in old.view old.cpu) old.list ≡ may_steal (shown P) run old.cpu p
+    test_same = λ i. may_take (shows.reads i) (λ t. may_run (reported run p.seen old.view t h.view.of_run h.view.seen i) old.cpu) (h.list i)
+
+    takes_same : takes_up_to (upto_of old.view) old.cpu ≡ takes_over old.cpu p
+    takes_same = λ i t. call.Associate t old.cpu (known run p.seen old.view t h.view.of_run h.view.seen i)
+
+    pub stolen : (result : Result ℕ CallFault) (new : Agent) (k2 : KernelRows) → StealsAsSeen old.view old.cpu result old.list new.list k k2 → new.view ≡ old.view → new.shown ≡ old.shown → Steals P run p result old.cpu new k2
+    stolen result new k2 steals view count =
+        let Taken : ℕ → Type 0 = λ t. IsTakenOver P run p old.cpu t new k2 in
+        let here = also (seen k) old.cpu (may_take (seen k) (runs_in old.view old.cpu) old.list) (takes_up_to (upto_of old.view) old.cpu) (λ t. HasTakenOver (takes_up_to (upto_of old.view) old.cpu t) t old.list new.list k k2) Taken result taken steals in
+        let by_reads = subst (λ r. StealsBy r old.cpu (may_take (seen k) (runs_in old.view old.cpu) old.list) (takes_up_to (upto_of old.view) old.cpu) Taken result) shows.reads here in
+        let by_test = subst (λ test. StealsBy (shown P) old.cpu test (takes_up_to (upto_of old.view) old.cpu) Taken result) test_same by_reads in
+        subst (λ takes. StealsBy (shown P) old.cpu (may_steal (shown P) run old.cpu p) takes Taken result) takes_same by_test
+      where
+        taken : (t : ℕ) → HasTakenOver (takes_up_to (upto_of old.view) old.cpu t) t old.list new.list k k2 → IsTakenOver P run p old.cpu t new k2
+        taken t took = record {
+          after = subst (λ takes. Shows k2 (after P (takes t))) takes_same (took.kernel P shows).1;
+          agent = record { view = subst (λ v. ShowsView run p.seen v) (sym view) h.view; list = took.list ∙ ap (λ l. l ++ t ∷ []) h.list; shown = count ∙ h.shown };
+        }
+
+  pub exactly : AcceptedAssociatesAreExact → (result : Result ℕ CallFault) (left : List ℕ) (k2 : KernelRows) → StealsAsSeen old.view old.cpu result old.list left k k2
+      → IfOk result (λ t. WhateverShown k old (λ P run p. IsSeenExactly P run p t))
+  exactly law (Err fault) left k2 steals = tt
+  exactly law (Ok t) left k2 steals = λ P run p shows extends h.
+      let took : HasTakenOver (takes_up_to (upto_of old.view) old.cpu t) t old.list left k k2 =
+      had (seen k) old.cpu (may_take (seen k) (runs_in old.view old.cpu) old.list) (takes_up_to (upto_of old.view) old.cpu) (λ u. HasTakenOver (takes_up_to (upto_of old.view) old.cpu u) u old.list left k k2) t steals in
+      let exact = law P t old.cpu (upto_of old.view t) (not_refused P (takes_up_to (upto_of old.view) old.cpu t) (took.kernel P shows).0) in
+      let whole : upto p.seen t ≡ length (kinds P t) = sym (known run p.seen old.view t h.view.of_run h.view.seen) ∙ exact.current in
+      record {
+        whole = whole;
+        state = ap (λ m. state_of (take m (run t))) whole ∙ ap (λ l. state_of (take (length (kinds P t)) l)) (extends t).1 ∙ ap state_of (take-append_seam (kinds P t) (extends t).0);
+        nothing_waits = exact.nothing_waits;
+      }

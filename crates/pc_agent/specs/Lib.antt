@@ -5,4 +5,5 @@ pub mod Shows
 pub mod Publishing
 pub mod Running
 pub mod Exchanging
+pub mod Own
 pub mod Inner

@@ -58,9 +58,10 @@ from_first test (t ∷ ts) = if test t then t ∷ ts else from_first test ts
 abbrev pub ready_list : Reads → ℕ → ℕ → List ℕ → List ℕ
 ready_list r cpu n names = from_first (λ t. is_none (refused r (call.Commit cpu t n))) names
 
-abbrev pub is_nothing : List ℕ → Bool
-is_nothing [] = true
-is_nothing (t ∷ ts) = false
+-- no name is in the list
+abbrev pub is_empty_list : List ℕ → Bool
+is_empty_list [] = true
+is_empty_list (t ∷ ts) = false
 
 -- why a pick is refused, in order
 abbrev pub pick_refused : Reads → ℕ → ℕ → List ℕ → Option Refusal
@@ -68,7 +69,7 @@ pick_refused r cpu n names =
     first_of (
     (not (n == aseq r cpu), refusal.Stale (aseq r cpu))
     ∷ (is_some (on r cpu), refusal.Busy)
-    ∷ (is_nothing (ready_list r cpu n names), refusal.NothingReady)
+    ∷ (is_empty_list (ready_list r cpu n names), refusal.NothingReady)
     ∷ [])
 
 -- the kernel knows the thread, and has it on no CPU

@@ -12,10 +12,11 @@ use Rattle.pc_kernel.specs.PlainKernel.{PlainKernel, kinds}
 use Rattle.pc_kernel.specs.Rows.{KernelRows}
 use Rattle.pc_kernel.specs.Steps.{after, reply}
 use Rattle.pc_delta.specs.declared.part.Part.{Part}
+use Rattle.pc_delta.specs.Parts.{parts_in}
 use Rattle.pc_agent.specs.declared.agent.Agent.{Agent}
 use Rattle.pc_agent.specs.declared.wire.SendFault.{SendFault}
 use Rattle.pc_agent.specs.declared.wire.SendFault.TheVariants.{OutOfMemory, WireFault}
-use Rattle.pc_agent.specs.PlainAgent.{PlainAgent, Set, copied}
+use Rattle.pc_agent.specs.PlainAgent.{PlainAgent, copied}
 use Rattle.pc_agent.specs.Shows.{ShowsAgent, ShowsDelta, ShowsPart, cpu_of}
 
 -- for every plain kernel that the kernel shows, every run that goes on from its, and whatever the agent shows of it
@@ -37,11 +38,10 @@ Copies items result old new = (run : Run) (p : PlainAgent) → AreItemsOf run it
 abbrev pub Sending : Type 0 → Type 1
 Sending W = W → List Part → Result (Unit {0}) SendFault → W → Type 0
 
--- a delta of the run that tells the set was handed to the wire, which answered so
-pub record IsHandedOn {W : Type 0} (Sends : Sending W) (run : Run) (set : Set) (answer : Result (Unit {0}) SendFault) (wire later : W) : Type 0 where
-  pub delta : List Part
-  pub shows : ShowsDelta run set delta
-  pub sent : Sends wire delta answer later
+-- the delta of the items, one part for each message, was handed to the wire, which answered so; it is of the run
+pub record IsHandedOn {W : Type 0} (Sends : Sending W) (run : Run) (items : List Item) (answer : Result (Unit {0}) SendFault) (wire later : W) : Type 0 where
+  pub shows : ShowsDelta run (pairs_in items) (parts_in items)
+  pub sent : Sends wire (parts_in items) answer later
 
 -- the agent, after it copied the items, and after it also sent them
 abbrev pub sent_after : Run → ℕ → List Item → PlainAgent → PlainAgent
@@ -52,13 +52,13 @@ sent_after run cpu items p = record (copied run cpu items p) { shown = length it
 abbrev pub IsPublished : {W : Type 0} → Sending W → List Item → Run → PlainAgent → Result ℕ SendFault → ℕ → Agent → W → W → Type 0
 IsPublished Sends items run p (Ok count) cpu new wire later =
     (count ≡ length items)
-    × IsHandedOn Sends run (pairs_in items) (Ok tt) wire later
+    × IsHandedOn Sends run items (Ok tt) wire later
     × ShowsAgent run (sent_after run cpu items p) new
 IsPublished Sends items run p (Err WireFault) cpu new wire later =
-    IsHandedOn Sends run (pairs_in items) (Err WireFault) wire later × ShowsAgent run (copied run cpu items p) new
+    IsHandedOn Sends run items (Err WireFault) wire later × ShowsAgent run (copied run cpu items p) new
 IsPublished Sends items run p (Err OutOfMemory) cpu new wire later =
     (ShowsPart run p (pairs_in items) new × (later ≡ wire))
-    ⊎ (IsHandedOn Sends run (pairs_in items) (Err OutOfMemory) wire later × ShowsAgent run (copied run cpu items p) new)
+    ⊎ (IsHandedOn Sends run items (Err OutOfMemory) wire later × ShowsAgent run (copied run cpu items p) new)
 
 -- the items that the agent has sent leave its queue, as the kernel answers
 abbrev pub IsConsumed : PlainKernel → Run → PlainAgent → Result ℕ Refusal → ℕ → Agent → KernelRows → Type 0

@@ -38,41 +38,50 @@ IsPicked n P run p (Ok t) cpu new kernel =
 IsPicked n P run p (Err refusal) cpu new kernel =
     (pick_refused (shown P) cpu n p.list ≡ Some refusal) × ShowsAgent run (record p { list = left_by refusal p.list }) new
 
--- the least number that passes the test; none, where none does
+-- the number passes the test, and no lesser one does
 pub record IsLeast (test : ℕ → Bool) (t : ℕ) : Type 0 where
   pub passes : test t ≡ true
   pub least : (other : ℕ) → other < t → test other ≡ false
 
+-- this is the least number that passes the test; none is, where no number passes
 abbrev pub Finds : (ℕ → Bool) → Option ℕ → Type 0
 Finds test None = (t : ℕ) → test t ≡ false
 Finds test (Some t) = IsLeast test t
 
--- the call that takes a thread over, under the number up to which the agent knows it
-abbrev pub takes_over : ℕ → PlainAgent → ℕ → Call
-takes_over cpu p t = call.Associate t cpu (upto p.seen t)
+-- the call that takes a thread over for a CPU, under the number up to which it is known
+abbrev pub takes_up_to : (ℕ → ℕ) → ℕ → ℕ → Call
+takes_up_to known cpu t = call.Associate t cpu (known t)
 
--- why no thread is taken over, where this is the least that may be
-abbrev pub take_refused : Reads → ℕ → PlainAgent → Option ℕ → Option Refusal
-take_refused r cpu p None = Some NothingToSteal
-take_refused r cpu p (Some t) = refused r (takes_over cpu p t)
+-- why no thread is taken over by these calls, where this is the least that may be
+abbrev pub take_refused : Reads → (ℕ → Call) → Option ℕ → Option Refusal
+take_refused r takes None = Some NothingToSteal
+take_refused r takes (Some t) = refused r (takes t)
+
+-- a steal for an idle CPU: of the threads that pass the test only the least is tried, by its call; where the call is accepted,
+-- this holds of the thread
+abbrev pub TriesLeast : Reads → (ℕ → Bool) → (ℕ → Call) → (ℕ → Type 0) → Result ℕ CallFault → Type 0
+TriesLeast r test takes Taken (Ok t) = Finds test (Some t) × (refused r (takes t) ≡ None) × Taken t
+TriesLeast r test takes Taken (Err (Refused refusal)) = (t : Option ℕ) × Finds test t × (take_refused r takes t ≡ Some refusal)
+TriesLeast r test takes Taken (Err OutOfMemory) = (t : ℕ) × Finds test (Some t)
+
+-- a steal: refused first where a thread runs on the CPU
+abbrev pub StealsBy : Reads → ℕ → (ℕ → Bool) → (ℕ → Call) → (ℕ → Type 0) → Result ℕ CallFault → Type 0
+StealsBy r cpu test takes Taken result =
+    MatchBool (is_some (on r cpu)) (result ≡ Err (Refused Busy)) (TriesLeast r test takes Taken result)
+
+-- the call by which an agent takes a thread over: up to where its set knows it
+abbrev pub takes_over : ℕ → PlainAgent → ℕ → Call
+takes_over cpu p t = takes_up_to (upto p.seen) cpu t
 
 -- the thread is taken over, and goes to the end of the run list
 pub record IsTakenOver (P : PlainKernel) (run : Run) (p : PlainAgent) (cpu t : ℕ) (new : Agent) (kernel : KernelRows) : Type 0 where
-  pub accepted : refused (shown P) (takes_over cpu p t) ≡ None
   pub after : Shows kernel (after P (takes_over cpu p t))
   pub agent : ShowsAgent run (record p { list = p.list ++ t ∷ [] }) new
 
--- a steal for an idle CPU: only the least thread that may be stolen is tried
-abbrev pub IsStolen : PlainKernel → Run → PlainAgent → Result ℕ CallFault → ℕ → Agent → KernelRows → Type 0
-IsStolen P run p (Ok t) cpu new kernel = Finds (may_steal (shown P) run cpu p) (Some t) × IsTakenOver P run p cpu t new kernel
-IsStolen P run p (Err (Refused refusal)) cpu new kernel =
-    (t : Option ℕ) × Finds (may_steal (shown P) run cpu p) t × (take_refused (shown P) cpu p t ≡ Some refusal)
-IsStolen P run p (Err OutOfMemory) cpu new kernel = (t : ℕ) × Finds (may_steal (shown P) run cpu p) (Some t)
-
--- a steal: refused first where a thread runs on the CPU
+-- a steal, by what the view of the agent's set in the run reports
 abbrev pub Steals : PlainKernel → Run → PlainAgent → Result ℕ CallFault → ℕ → Agent → KernelRows → Type 0
 Steals P run p result cpu new kernel =
-    MatchBool (is_some (on (shown P) cpu)) (result ≡ Err (Refused Busy)) (IsStolen P run p result cpu new kernel)
+    StealsBy (shown P) cpu (may_steal (shown P) run cpu p) (takes_over cpu p) (λ t. IsTakenOver P run p cpu t new kernel) result
 
 -- the agent had seen the thread exactly: all its messages, the state that they report, and none of them waits
 pub record IsSeenExactly (P : PlainKernel) (run : Run) (p : PlainAgent) (t : ℕ) : Type 0 where

@@ -76,14 +76,16 @@ impl Agent {
 
     /// The names of the threads that it would run, the first one first.
     pub fn run_list(&self) -> &[Tid]
-        ensures { (run : Run) (p : PlainAgent) → ShowsAgent run p self.now → result.now ≡ p.list }
+        ensures same { result.now ≡ self.now.list }
+        ensures shows { (run : Run) (p : PlainAgent) → ShowsAgent run p self.now → result.now ≡ p.list }
     {
         self.list.names()
     }
 
     /// How many items at the front of its queue it has sent.
     pub fn shown(&self) -> u32
-        ensures { (run : Run) (p : PlainAgent) → ShowsAgent run p self.now → result ≡ p.shown }
+        ensures same { result ≡ self.now.shown }
+        ensures shows { (run : Run) (p : PlainAgent) → ShowsAgent run p self.now → result ≡ p.shown }
     {
         self.shown
     }

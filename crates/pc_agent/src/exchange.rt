@@ -1,8 +1,9 @@
 //! What agents tell each other.
 
-ghost use Rattle.std.specs.Prelude.{◌≡◌, ◌<◌, Err};
+ghost use Rattle.std.specs.Prelude.{◌≡◌, ◌<◌, Err, OnOk};
 ghost use Rattle.pc_view.specs.Views.{pairs_of};
 ghost use Rattle.pc_delta.specs.Digests.{set_of_digest};
+ghost use Rattle.pc_delta.specs.Exchange.{IsTakenIn, IsPartlyTakenIn};
 ghost use Rattle.pc_agent.specs.declared.counts.TheConstants.{MOST_COUNTED};
 ghost use Rattle.pc_agent.specs.Exchanging.{Delivers, IsAnswered};
 ghost use Rattle.pc_agent.specs.Shows.{cpu_of};
@@ -18,6 +19,10 @@ impl Agent {
     /// in; delivering it again completes it.
     pub fn deliver(&mut self, delta: &Delta) -> Result<(), OutOfMemory>
         ensures delivers { Delivers delta.now result self.old self.new }
+        ensures done { OnOk result (IsTakenIn delta.now self.old.view self.new.view) }
+        ensures partly { IsPartlyTakenIn delta.now self.old.view self.new.view }
+        ensures list { self.new.list ≡ self.old.list }
+        ensures sent { self.new.shown ≡ self.old.shown }
         ensures cpu { cpu_of self.new ≡ cpu_of self.old }
         ensures counts { self.new.counts ≡ self.old.counts }
     {

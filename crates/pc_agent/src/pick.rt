@@ -3,9 +3,10 @@
 ghost use Rattle.std.specs.Prelude.{◌≡◌, ◌≢◌, ◌∷◌, [], List, None, Some, Ok, IfOk, IfErr, OnErr, IsTrue, IsFalse, is_some};
 ghost use Rattle.pc_messages.specs.Run.{Extends};
 ghost use Rattle.pc_calls.specs.Conditions.{refusal_in};
+ghost use Rattle.pc_calls.specs.declared.call.Answer.TheVariants.{Done};
 ghost use Rattle.pc_calls.specs.declared.call.Call.{Call};
 ghost use Rattle.pc_calls.specs.declared.call.Call.TheVariants as call;
-ghost use Rattle.pc_kernel.specs.Answers.{Steps, done};
+ghost use Rattle.pc_kernel.specs.Answers.{Accepts};
 ghost use Rattle.pc_kernel.specs.Reads.{seen, kinds, is_cpu, aseq, on};
 ghost use Rattle.pc_kernel.specs.Steps.{refused};
 ghost use Rattle.pc_agent.specs.Counts.{pick_counted};
@@ -13,7 +14,8 @@ ghost use Rattle.pc_agent.specs.PlainAgent.{pick_refused, ready_list};
 ghost use Rattle.pc_agent.specs.Publishing.{WhateverShown};
 ghost use Rattle.pc_agent.specs.Running.{IsPicked, left_by};
 ghost use Rattle.pc_agent.specs.Shows.{cpu_of};
-ghost use Rattle.pc_agent.specs.Inner.Picks.{CommitsFirst, unready_for};
+ghost use Rattle.pc_agent.specs.Inner.Goes.{GoesOn};
+ghost use Rattle.pc_agent.specs.Inner.Picks.{CommitsFirst, Picks, unready_for};
 
 use crate::agent::Agent;
 use pc_calls::Refusal;
@@ -29,9 +31,7 @@ fn commit_first(
     aseq: u32,
 ) -> Result<Tid, Refusal>
     ensures first { CommitsFirst cpu aseq result list.old list.new kernel.old kernel.new }
-    ensures limits { kernel.new.limits ≡ kernel.old.limits }
-    ensures extends { Extends (kinds (seen kernel.new)) (kinds (seen kernel.old)) }
-    ensures err { OnErr result (kernel.new ≡ kernel.old) }
+    ensures goes_on { GoesOn result kernel.old kernel.new }
 {
     while let Some(name) = list.take_first() {
         match kernel.commit(cpu, name, aseq) {
@@ -41,41 +41,6 @@ fn commit_first(
         }
     }
     Err(Refusal::NothingReady)
-}
-
-impl Agent {
-    /// Commits the first thread of its run list that the kernel accepts, under the count of posts that it read. It takes
-    /// no memory.
-    ///
-    /// `Stale` with the count of now; `Busy` where a thread runs on its CPU; `NothingReady` where the kernel accepts none,
-    /// and the run list then is empty.
-    pub fn pick(&mut self, kernel: &mut Kernel, aseq: u32) -> Result<Tid, Refusal>
-        ensures picks { WhateverShown kernel.old self.old (λ P run p. IsPicked aseq P run p result (cpu_of self.old) self.new kernel.new) }
-        ensures limits { kernel.new.limits ≡ kernel.old.limits }
-        ensures extends { Extends (kinds (seen kernel.new)) (kinds (seen kernel.old)) }
-        ensures err { OnErr result (kernel.new ≡ kernel.old) }
-        ensures cpu { cpu_of self.new ≡ cpu_of self.old }
-        ensures counts { self.new.counts ≡ pick_counted result self.old.counts }
-    {
-        let answered = self.try_pick(kernel, aseq);
-        self.counts.count_pick(&answered);
-        answered
-    }
-
-    /// The pick, before it is counted.
-    fn try_pick(&mut self, kernel: &mut Kernel, aseq: u32) -> Result<Tid, Refusal>
-        ensures picks { WhateverShown kernel.old self.old (λ P run p. IsPicked aseq P run p result (cpu_of self.old) self.new kernel.new) }
-        ensures limits { kernel.new.limits ≡ kernel.old.limits }
-        ensures extends { Extends (kinds (seen kernel.new)) (kinds (seen kernel.old)) }
-        ensures err { OnErr result (kernel.new ≡ kernel.old) }
-        ensures cpu { cpu_of self.new ≡ cpu_of self.old }
-        ensures counts { self.new.counts ≡ self.old.counts }
-    {
-        if let Some(refusal) = unready(kernel, self.cpu, aseq) {
-            return Err(refusal);
-        }
-        commit_first(&mut self.list, kernel, self.cpu, aseq)
-    }
 }
 
 /// Why an agent does not even look at its run list.
@@ -89,5 +54,42 @@ fn unready(kernel: &Kernel, cpu: Cpu, aseq: u32) -> Option<Refusal>
     match kernel.running(cpu) {
         Some(_) => Some(Refusal::Busy),
         None => None,
+    }
+}
+
+/// A pick from a run list, for a CPU.
+fn pick_from(list: &mut RunQueue, kernel: &mut Kernel, cpu: Cpu, aseq: u32) -> Result<Tid, Refusal>
+    ensures picks { Picks cpu aseq result list.old list.new kernel.old kernel.new }
+    ensures goes_on { GoesOn result kernel.old kernel.new }
+{
+    if let Some(refusal) = unready(kernel, cpu, aseq) {
+        return Err(refusal);
+    }
+    commit_first(list, kernel, cpu, aseq)
+}
+
+impl Agent {
+    /// Commits the first thread of its run list that the kernel accepts, under the count of posts that it read. It takes
+    /// no memory.
+    ///
+    /// `Stale` with the count of now; `Busy` where a thread runs on its CPU; `NothingReady` where the kernel accepts none,
+    /// and the run list then is empty.
+    pub fn pick(&mut self, kernel: &mut Kernel, aseq: u32) -> Result<Tid, Refusal>
+        ensures picks { WhateverShown kernel.old self.old (λ P run p. IsPicked aseq P run p result (cpu_of self.old) self.new kernel.new) }
+        ensures refused { refusal_in result ≡ pick_refused (seen kernel.old) (cpu_of self.old) aseq self.old.list }
+        ensures first { IfOk result (λ thread. ready_list (seen kernel.old) (cpu_of self.old) aseq self.old.list ≡ thread ∷ self.new.list) }
+        ensures list_err { IfErr result (λ refusal. self.new.list ≡ left_by refusal self.old.list) }
+        ensures kernel { IfOk result (λ thread. Accepts (call.Commit (cpu_of self.old) thread aseq) Done kernel.old kernel.new) }
+        ensures view { self.new.view ≡ self.old.view }
+        ensures sent { self.new.shown ≡ self.old.shown }
+        ensures limits { kernel.new.limits ≡ kernel.old.limits }
+        ensures extends { Extends (kinds (seen kernel.new)) (kinds (seen kernel.old)) }
+        ensures err { OnErr result (kernel.new ≡ kernel.old) }
+        ensures cpu { cpu_of self.new ≡ cpu_of self.old }
+        ensures counts { self.new.counts ≡ pick_counted result self.old.counts }
+    {
+        let answered = pick_from(&mut self.list, kernel, self.cpu, aseq);
+        self.counts.count_pick(&answered);
+        answered
     }
 }

@@ -1,15 +1,21 @@
 //! What an agent does with its own queue.
 
-ghost use Rattle.std.specs.Prelude.{◌≡◌, ◌<◌, ◌^◌, List, length, Ok, Err, IfOk, OnErr, IsTrue};
+ghost use Rattle.std.specs.Prelude.{◌≡◌, ◌<◌, ◌^◌, List, length, Ok, Err, IfOk, OnOk, OnErr, IsTrue};
 ghost use Rattle.pc_messages.specs.Items.{AreItemsOf, AreTellable};
 ghost use Rattle.pc_messages.specs.Run.{Run, Extends};
+ghost use Rattle.pc_calls.specs.declared.call.Answer.TheVariants.{Done};
 ghost use Rattle.pc_calls.specs.declared.call.Call.TheVariants as call;
 ghost use Rattle.pc_calls.specs.Conditions.{refusal_in};
+ghost use Rattle.pc_kernel.specs.Answers.{Accepts};
 ghost use Rattle.pc_kernel.specs.Reads.{seen, kinds, content, is_cpu};
 ghost use Rattle.pc_kernel.specs.PlainKernel as plain;
 ghost use Rattle.pc_kernel.specs.Steps.{refused};
+ghost use Rattle.pc_delta.specs.Exchange.{IsTakenIn, IsPartlyTakenIn};
+ghost use Rattle.pc_delta.specs.Parts.{parts_in};
+ghost use Rattle.pc_run_queue.specs.Runs.{refreshed};
 ghost use Rattle.pc_agent.specs.declared.counts.TheConstants.{MOST_COUNTED};
 ghost use Rattle.pc_agent.specs.Counts.{consume_counted};
+ghost use Rattle.pc_agent.specs.Own.{Publishes};
 ghost use Rattle.pc_agent.specs.PlainAgent.{PlainAgent, threads_in};
 ghost use Rattle.pc_agent.specs.Publishing.{Copies, IsConsumed, IsPublished, WhateverShown};
 ghost use Rattle.pc_agent.specs.Shows.{ShowsAgent, cpu_of};
@@ -17,6 +23,7 @@ ghost use Rattle.pc_agent.specs.Shows.{ShowsAgent, cpu_of};
 use crate::agent::Agent;
 use crate::wire::{SendFault, Wire};
 use pc_calls::{CallFault, Refusal};
+use pc_delta::laws::{parts_of_items_are_of_the_run, parts_stay_as_the_run_goes_on};
 use pc_delta::{Delta, take_in};
 use pc_join::OutOfMemory;
 use pc_kernel::Kernel;
@@ -45,10 +52,17 @@ impl Agent {
     pub fn copied(&mut self, items: &[Item]) -> Result<Delta, OutOfMemory>
         requires tellable { AreTellable items.now }
         ensures copies { Copies items.now result self.old self.new }
+        ensures told { IfOk result (λ delta. delta ≡ parts_in items.now) }
+        ensures taken { OnOk result (IsTakenIn (parts_in items.now) self.old.view self.new.view) }
+        ensures partly { IsPartlyTakenIn (parts_in items.now) self.old.view self.new.view }
+        ensures refreshed { OnOk result (self.new.list ≡ refreshed self.new.view (cpu_of self.old) self.old.list (threads_in items.now)) }
+        ensures list_err { OnErr result (self.new.list ≡ self.old.list) }
+        ensures sent { self.new.shown ≡ self.old.shown }
         ensures cpu { cpu_of self.new ≡ cpu_of self.old }
         ensures counts { self.new.counts ≡ self.old.counts }
     {
         views_tell_what_their_sets_tell();
+        parts_of_items_are_of_the_run();
         let delta = Delta::of_items(self.alloc, items)?;
         let touched = threads_of(self.alloc, items)?;
         take_in(&mut self.view, &delta)?;
@@ -59,6 +73,9 @@ impl Agent {
     /// Counts so many items at the front of its queue as sent.
     pub fn sent(&mut self, items: u32)
         ensures shown { (run : Run) (p : PlainAgent) → ShowsAgent run p self.old → ShowsAgent run (record p { shown = items }) self.new }
+        ensures count { self.new.shown ≡ items }
+        ensures view { self.new.view ≡ self.old.view }
+        ensures list { self.new.list ≡ self.old.list }
         ensures cpu { cpu_of self.new ≡ cpu_of self.old }
         ensures counts { self.new.counts ≡ self.old.counts }
     {
@@ -74,11 +91,15 @@ impl Agent {
         requires room { W.faults wire.old < MOST_COUNTED }
         ensures publishes { WhateverShown kernel.now self.old (λ P run p.
             IsPublished W.Sends (plain.content P self.old.cpu) run p result (cpu_of self.old) self.new wire.old wire.new) }
+        ensures own { Publishes W.Sends (content (seen kernel.now) (cpu_of self.old)) result self.old self.new wire.old wire.new }
         ensures fault { result ≡ Err SendFault.WireFault → W.faults wire.old < W.faults wire.new }
         ensures cpu { cpu_of self.new ≡ cpu_of self.old }
         ensures counts { self.new.counts ≡ self.old.counts }
     {
         reads_are_plain();
+        views_tell_what_their_sets_tell();
+        parts_of_items_are_of_the_run();
+        parts_stay_as_the_run_goes_on();
         match kernel.peek(self.cpu) {
             Ok((_, items)) => self.publish_items(items.as_slice(), wire),
             Err(CallFault::OutOfMemory) => Err(SendFault::OutOfMemory),
@@ -91,8 +112,7 @@ impl Agent {
         requires few { length items.now < 2 ^ 32 }
         requires tellable { AreTellable items.now }
         requires room { W.faults wire.old < MOST_COUNTED }
-        ensures publishes { (run : Run) (p : PlainAgent) → AreItemsOf run items.now → ShowsAgent run p self.old
-            → IsPublished W.Sends items.now run p result (cpu_of self.old) self.new wire.old wire.new }
+        ensures own { Publishes W.Sends items.now result self.old self.new wire.old wire.new }
         ensures fault { result ≡ Err SendFault.WireFault → W.faults wire.old < W.faults wire.new }
         ensures cpu { cpu_of self.new ≡ cpu_of self.old }
         ensures counts { self.new.counts ≡ self.old.counts }
@@ -115,6 +135,11 @@ impl Agent {
     /// something else removed items from the queue since they were sent.
     pub fn consume(&mut self, kernel: &mut Kernel) -> Result<u32, Refusal>
         ensures consumes { WhateverShown kernel.old self.old (λ P run p. IsConsumed P run p result (cpu_of self.old) self.new kernel.new) }
+        ensures count { IfOk result (λ count. count ≡ self.old.shown) }
+        ensures nothing_sent { OnOk result (self.new.shown ≡ 0) }
+        ensures kernel { OnOk result (Accepts (call.Consume (cpu_of self.old) self.old.shown) Done kernel.old kernel.new) }
+        ensures view { self.new.view ≡ self.old.view }
+        ensures list { self.new.list ≡ self.old.list }
         ensures fault { refusal_in result ≡ refused (seen kernel.old) (call.Consume self.old.cpu self.old.shown) }
         ensures limits { kernel.new.limits ≡ kernel.old.limits }
         ensures extends { Extends (kinds (seen kernel.new)) (kinds (seen kernel.old)) }

@@ -5,10 +5,12 @@ ghost use Rattle.pc_messages.specs.Run.{Extends};
 ghost use Rattle.pc_kernel.specs.Reads.{Reads, seen, kinds, is_cpu, on};
 ghost use Rattle.pc_run_queue.specs.Runs.{runs_in};
 ghost use Rattle.pc_agent.specs.Counts.{steal_counted};
+ghost use Rattle.pc_agent.specs.Own.{StealsAsSeen};
 ghost use Rattle.pc_agent.specs.PlainAgent.{is_idle, may_take};
 ghost use Rattle.pc_agent.specs.Publishing.{WhateverShown};
 ghost use Rattle.pc_agent.specs.Running.{Finds, IsSeenExactly, Steals};
 ghost use Rattle.pc_agent.specs.Shows.{cpu_of};
+ghost use Rattle.pc_agent.specs.Inner.Goes.{GoesOn};
 
 use crate::agent::Agent;
 use pc_calls::{CallFault, Refusal};
@@ -47,6 +49,36 @@ fn prey(view: &View, list: &RunQueue, cpu: Cpu, kernel: &Kernel) -> Option<Tid>
     None
 }
 
+/// A steal for a CPU, by what a view tells, into a run list.
+fn take_least(
+    view: &View,
+    list: &mut RunQueue,
+    kernel: &mut Kernel,
+    cpu: Cpu,
+) -> Result<Tid, CallFault>
+    ensures takes { StealsAsSeen view.now cpu result list.old list.new kernel.old kernel.new }
+    ensures goes_on { GoesOn result kernel.old kernel.new }
+    ensures left { OnErr result (list.new ≡ list.old) }
+{
+    if kernel.running(cpu).is_some() {
+        return Err(CallFault::Refused(Refusal::Busy));
+    }
+    let Some(thread) = prey(view, list, cpu, kernel) else {
+        return Err(CallFault::Refused(Refusal::NothingToSteal));
+    };
+    // The name is put first: once the kernel has accepted, nothing may fail.
+    if list.push(thread).is_err() {
+        return Err(CallFault::OutOfMemory);
+    }
+    match kernel.associate(thread, cpu, view.upto(thread)) {
+        Ok(()) => Ok(thread),
+        Err(refusal) => {
+            list.take_last();
+            Err(CallFault::Refused(refusal))
+        }
+    }
+}
+
 impl Agent {
     /// Takes the least thread over that it may: one that its view reports ready and allowed on its CPU, that is not in its
     /// run list, and that the kernel knows and has on no CPU; a thread of its own queue too, which is how a restarted agent
@@ -56,6 +88,7 @@ impl Agent {
     /// what the kernel refuses: `Dead`, `Stale` with the number of now, `Pending`. Only the least thread is tried.
     pub fn steal(&mut self, kernel: &mut Kernel) -> Result<Tid, CallFault>
         ensures steals { WhateverShown kernel.old self.old (λ P run p. Steals P run p result (cpu_of self.old) self.new kernel.new) }
+        ensures own { StealsAsSeen self.old.view (cpu_of self.old) result self.old.list self.new.list kernel.old kernel.new }
         ensures exact { IfOk result (λ thread. WhateverShown kernel.old self.old (λ P run p. IsSeenExactly P run p thread)) }
         ensures limits { kernel.new.limits ≡ kernel.old.limits }
         ensures extends { Extends (kinds (seen kernel.new)) (kinds (seen kernel.old)) }
@@ -66,42 +99,10 @@ impl Agent {
         ensures cpu { cpu_of self.new ≡ cpu_of self.old }
         ensures counts { self.new.counts ≡ steal_counted result self.old.counts }
     {
-        let answered = self.try_steal(kernel);
-        self.counts.count_steal(&answered);
-        answered
-    }
-
-    /// The steal, before it is counted.
-    fn try_steal(&mut self, kernel: &mut Kernel) -> Result<Tid, CallFault>
-        ensures steals { WhateverShown kernel.old self.old (λ P run p. Steals P run p result (cpu_of self.old) self.new kernel.new) }
-        ensures exact { IfOk result (λ thread. WhateverShown kernel.old self.old (λ P run p. IsSeenExactly P run p thread)) }
-        ensures limits { kernel.new.limits ≡ kernel.old.limits }
-        ensures extends { Extends (kinds (seen kernel.new)) (kinds (seen kernel.old)) }
-        ensures err { OnErr result (kernel.new ≡ kernel.old) }
-        ensures list_err { OnErr result (self.new.list ≡ self.old.list) }
-        ensures view { self.new.view ≡ self.old.view }
-        ensures shown { self.new.shown ≡ self.old.shown }
-        ensures cpu { cpu_of self.new ≡ cpu_of self.old }
-        ensures counts { self.new.counts ≡ self.old.counts }
-    {
         accepted_associates_are_exact();
         views_tell_what_their_sets_tell();
-        if kernel.running(self.cpu).is_some() {
-            return Err(CallFault::Refused(Refusal::Busy));
-        }
-        let Some(thread) = prey(&self.view, &self.list, self.cpu, kernel) else {
-            return Err(CallFault::Refused(Refusal::NothingToSteal));
-        };
-        // The name is put first: once the kernel has accepted, nothing may fail.
-        if self.list.push(thread).is_err() {
-            return Err(CallFault::OutOfMemory);
-        }
-        match kernel.associate(thread, self.cpu, self.view.upto(thread)) {
-            Ok(()) => Ok(thread),
-            Err(refusal) => {
-                self.list.take_last();
-                Err(CallFault::Refused(refusal))
-            }
-        }
+        let answered = take_least(&self.view, &mut self.list, kernel, self.cpu);
+        self.counts.count_steal(&answered);
+        answered
     }
 }

@@ -1,13 +1,15 @@
--- The first name that the kernel commits, before it is counted.
-use Rattle.std.specs.Prelude.{ℕ, ◌==◌, ◌≡◌, not, List, [], ◌∷◌, Option, Result, Ok, Err, is_some}
+-- A pick, before it is counted.
+use Rattle.std.specs.Prelude.{ℕ, ◌==◌, ◌≡◌, not, List, [], ◌∷◌, Option, Some, None, Result, Ok, Err, is_some}
 use Rattle.pc_calls.specs.Conditions.{first_of}
+use Rattle.pc_calls.specs.declared.call.Answer.TheVariants.{Done}
 use Rattle.pc_calls.specs.declared.call.Call.TheVariants as call
 use Rattle.pc_calls.specs.declared.refusal.Refusal.{Refusal}
 use Rattle.pc_calls.specs.declared.refusal.Refusal.TheVariants.{Stale, Busy, NothingReady}
-use Rattle.pc_kernel.specs.Answers.{Steps, done}
+use Rattle.pc_kernel.specs.Answers.{Accepts, Steps, done}
 use Rattle.pc_kernel.specs.Reads.{Reads, seen, aseq, on}
 use Rattle.pc_kernel.specs.Rows.{KernelRows}
-use Rattle.pc_agent.specs.PlainAgent.{ready_list}
+use Rattle.pc_agent.specs.PlainAgent.{pick_refused, ready_list}
+use Rattle.pc_agent.specs.Running.{left_by}
 
 -- why an agent does not even look at its run list, in order
 abbrev pub unready_for : Reads → ℕ → ℕ → Option Refusal
@@ -20,3 +22,11 @@ CommitsFirst cpu n (Ok t) names left old new =
     (ready_list (seen old) cpu n names ≡ t ∷ left) × Steps done (call.Commit cpu t n) (Ok tt) old new
 CommitsFirst cpu n (Err refusal) names left old new =
     (refusal ≡ NothingReady) × (ready_list (seen old) cpu n names ≡ []) × (left ≡ [])
+
+-- a pick from a run list, of which these names are left
+abbrev pub Picks : ℕ → ℕ → Result ℕ Refusal → List ℕ → List ℕ → KernelRows → KernelRows → Type 0
+Picks cpu n (Ok t) names left old new =
+    (pick_refused (seen old) cpu n names ≡ None)
+    × (ready_list (seen old) cpu n names ≡ t ∷ left)
+    × Accepts (call.Commit cpu t n) Done old new
+Picks cpu n (Err refusal) names left old new = (pick_refused (seen old) cpu n names ≡ Some refusal) × (left ≡ left_by refusal names)

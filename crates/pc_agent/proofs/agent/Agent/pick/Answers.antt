@@ -1,7 +1,19 @@
 use Rattle.std.proofs.Common.{refl}
-use Rattle.pc_agent.proofs.Ready.{pick_recounted}
+use Rattle.pc_agent.proofs.Ready.{pick_accepted, pick_first, pick_left, pick_refusal, picked}
 use Rattle.pc_agent.proofs.agent.Agent.pick.Goals as goal
 
 pub returns-clause-picks : goal.returns-clause-picks
 returns-clause-picks c P run p shows extends h =
-    pick_recounted c.args.aseq P run p c.try_pick-answered.result c.args.self.now.cpu c.try_pick-answered.new.self _ c.try_pick-answered.new.kernel refl refl refl (c.try_pick-answered.ensures.picks P run p shows extends h)
+    picked P run p c.args.aseq c.pick_from-answered.result c.args.self.now _ c.args.kernel.now c.pick_from-answered.new.kernel shows h c.pick_from-answered.ensures.picks refl refl
+
+pub returns-clause-refused : goal.returns-clause-refused
+returns-clause-refused c = pick_refusal _ _ _ _ _ _ c.pick_from-answered.result c.pick_from-answered.ensures.picks
+
+pub returns-clause-first : goal.returns-clause-first
+returns-clause-first c = pick_first _ _ _ _ _ _ c.pick_from-answered.result c.pick_from-answered.ensures.picks
+
+pub returns-clause-list_err : goal.returns-clause-list_err
+returns-clause-list_err c = pick_left _ _ _ _ _ _ c.pick_from-answered.result c.pick_from-answered.ensures.picks
+
+pub returns-clause-kernel : goal.returns-clause-kernel
+returns-clause-kernel c = pick_accepted _ _ _ _ _ _ c.pick_from-answered.result c.pick_from-answered.ensures.picks

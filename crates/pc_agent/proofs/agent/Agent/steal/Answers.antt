@@ -1,7 +1,13 @@
 use Rattle.std.proofs.Common.{refl}
-use Rattle.pc_agent.proofs.Stolen.{steal_recounted}
+use Rattle.pc_agent.proofs.Stolen.{exactly, stolen}
 use Rattle.pc_agent.proofs.agent.Agent.steal.Goals as goal
 
 pub returns-clause-steals : goal.returns-clause-steals
 returns-clause-steals c P run p shows extends h =
-    steal_recounted P run p c.try_steal-answered.result c.args.self.now.cpu c.try_steal-answered.new.self _ c.try_steal-answered.new.kernel refl refl refl (c.try_steal-answered.ensures.steals P run p shows extends h)
+    let law = c.views_tell_what_their_sets_tell.ensures in
+    stolen law.reported law.upto c.args.self.now c.args.kernel.now P run p shows h c.take_least-answered.result _ c.take_least-answered.new.kernel c.take_least-answered.ensures.takes refl refl
+
+pub returns-clause-exact : goal.returns-clause-exact
+returns-clause-exact c =
+    let law = c.views_tell_what_their_sets_tell.ensures in
+    exactly law.reported law.upto c.args.self.now c.args.kernel.now c.accepted_associates_are_exact.ensures c.take_least-answered.result _ _ c.take_least-answered.ensures.takes
