@@ -2,6 +2,7 @@ pub mod Lists
 pub mod Taking
 pub mod Ready
 pub mod Stolen
-pub mod Unknown
+pub mod Walk
+pub mod Preys
 pub mod Delivered
 pub mod Items

@@ -3,7 +3,7 @@
 ghost use Rattle.std.specs.Prelude.{◌≡◌, ◌≢◌, ◌∷◌, [], List, None, Some, Ok, IfOk, OnErr, IsTrue, is_some};
 ghost use Rattle.pc_messages.specs.Run.{Extends};
 ghost use Rattle.pc_kernel.specs.Reads.{Reads, seen, kinds, is_cpu, on};
-ghost use Rattle.pc_run_queue.specs.Runs.{runs_in};
+ghost use Rattle.pc_run_queue.specs.Runs.{may_run, runs_in};
 ghost use Rattle.pc_agent.specs.Counts.{steal_counted};
 ghost use Rattle.pc_agent.specs.Own.{StealsAsSeen};
 ghost use Rattle.pc_agent.specs.PlainAgent.{is_idle, may_take};
@@ -16,8 +16,9 @@ use crate::agent::Agent;
 use pc_calls::{CallFault, Refusal};
 use pc_kernel::Kernel;
 use pc_kernel::laws::accepted_associates_are_exact;
-use pc_messages::{Cpu, Tid};
-use pc_run_queue::{RunQueue, runs_on};
+use pc_messages::{Cpu, Phase, Tid};
+use pc_run_queue::RunQueue;
+use pc_thread_view::ThreadView;
 use pc_view::{View, views_tell_what_their_sets_tell};
 
 /// Whether the kernel knows the thread and has it on no CPU.
@@ -30,19 +31,32 @@ fn idles(kernel: &Kernel, thread: Tid) -> bool
     }
 }
 
-/// Whether the thread may be taken over.
-fn may_be_taken(view: &View, list: &RunQueue, cpu: Cpu, kernel: &Kernel, thread: Tid) -> bool
-    ensures { result ≡ may_take (seen kernel.now) (runs_in view.now cpu) list.now thread }
+/// Whether a thread of which this is known is ready and allowed on the CPU.
+fn runs(held: &ThreadView, cpu: Cpu) -> bool
+    ensures { result ≡ may_run held.now.state cpu }
 {
-    runs_on(view, cpu, thread) && !list.has(thread) && idles(kernel, thread)
+    match held.reported() {
+        Some(state) => match state.phase {
+            Phase::Ready => state.mask.allows(cpu),
+            Phase::Blocked | Phase::Dead => false,
+        },
+        None => false,
+    }
+}
+
+/// Whether a thread of which this is known may be taken over. The run list, whose answer costs most, is asked last.
+fn may_be_taken(thread: Tid, held: &ThreadView, list: &RunQueue, cpu: Cpu, kernel: &Kernel) -> bool
+    ensures { result ≡ may_take (seen kernel.now) (λ _. may_run held.now.state cpu) list.now thread }
+{
+    runs(held, cpu) && idles(kernel, thread) && !list.has(thread)
 }
 
 /// The least thread that may be taken over: one of those that the view tells of, each of which is looked at once.
 fn prey(view: &View, list: &RunQueue, cpu: Cpu, kernel: &Kernel) -> Option<Tid>
     ensures { Finds (may_take (seen kernel.now) (runs_in view.now cpu) list.now) result }
 {
-    for (thread, _) in view.iter() {
-        if may_be_taken(view, list, cpu, kernel, thread) {
+    for (thread, held) in view.iter() {
+        if may_be_taken(thread, held, list, cpu, kernel) {
             return Some(thread);
         }
     }
