@@ -18,13 +18,14 @@ use Rattle.pc_kernel.specs.Reads.{shown, is_cpu, on}
 use Rattle.pc_kernel.specs.Rows.{KernelRows}
 use Rattle.pc_kernel.specs.Steps.{after, after_of, at, changed, refused, reply_of}
 use Rattle.pc_delta.specs.declared.part.Part.{Part}
+use Rattle.pc_delta.specs.Parts.{parts_in}
 use Rattle.pc_agent.specs.declared.agent.Agent.{Agent}
 use Rattle.pc_agent.specs.declared.kept_wire.KeptWire.{KeptWire}
 use Rattle.pc_agent.specs.declared.wire.SendFault.TheVariants as sending
 use Rattle.pc_agent.specs.Exchanging.{Delivers}
 use Rattle.pc_agent.specs.PlainAgent.{PlainAgent, copied, fresh, taking_in}
 use Rattle.pc_agent.specs.Publishing.{IsConsumed, IsPublished, WhateverShown, sent_after}
-use Rattle.pc_agent.specs.Running.{Finds, IsPicked, IsStolen, Steals, left_by, takes_over, take_refused}
+use Rattle.pc_agent.specs.Running.{Finds, IsPicked, IsTakenOver, Steals, TriesLeast, left_by, takes_over, take_refused}
 use Rattle.pc_agent.specs.Shows.{ShowsAgent, ShowsView, cpu_of}
 use Rattle.pc_agent.specs.Wires.{Keeps, sent_by}
 use Rattle.pc_world.specs.declared.world.World.{World}
@@ -115,7 +116,7 @@ module _ (goes : RunsGoOn) (old new : World) (c place : ℕ) (agent more : Agent
         → Handles (event.Publish c fails) (Ok (replies.Published index items)) old new
     publish_done index items at_end says w h =
         let said = said_here (Ok items) says w h in
-        let delta = said.1.delta in
+        let delta : List Part = parts_in (content w.kernel c) in
         let goes_out : fails ≡ false = sym refuses ∙ said.1.sent.0 in
         let grown : deltas_of new ≡ deltas_of old ++ delta ∷ [] = said.1.sent.1 ∙ ap (λ l. l ++ delta ∷ []) sent in
         let number : index ≡ length w.sent = at_end ∙ sent_length (kinds w.kernel) w.sent (deltas_of old) h.sent in (
@@ -208,6 +209,11 @@ module _ (goes : RunsGoOn) (old new : World) (c place : ℕ) (agent more : Agent
         kept_same old new sent,
       )
 
+  -- what a steal for an idle CPU did
+  abbrev is_stolen : PlainWorld → Result ℕ faults.the_data → Type 0
+  is_stolen w result =
+      TriesLeast (shown w.kernel) (stealable w c) (takes_over c (w.agents c)) (λ t. IsTakenOver w.kernel (kinds w.kernel) (w.agents c) c t more new.kernel) result
+
   said_stolen : (result : Result ℕ faults.the_data) → WhateverShown old.kernel agent (λ P run p. Steals P run p result (cpu_of agent) more new.kernel) → (w : PlainWorld) → ShowsWorld old w
       → Steals w.kernel (kinds w.kernel) (w.agents c) result c more new.kernel
   said_stolen result says w h = subst (λ n. Steals w.kernel (kinds w.kernel) (w.agents c) result n more new.kernel) is_own (of_world _ says w h)
@@ -219,15 +225,15 @@ module _ (goes : RunsGoOn) (old new : World) (c place : ℕ) (agent more : Agent
       w' : PlainWorld
       w' = record (with_agent w c (record (w.agents c) { list = (w.agents c).list ++ t ∷ [] })) { kernel = after w.kernel (takes_over c (w.agents c) t) }
 
-      by_test : (b : Bool) → is_some (on (shown w.kernel) c) ≡ b → MatchBool b (◌≡◌ {A = Result ℕ faults.the_data} (Ok t) (Err (faults.Refused refusals.Busy))) (IsStolen w.kernel (kinds w.kernel) (w.agents c) (Ok t) c more new.kernel)
+      by_test : (b : Bool) → is_some (on (shown w.kernel) c) ≡ b → MatchBool b (◌≡◌ {A = Result ℕ faults.the_data} (Ok t) (Err (faults.Refused refusals.Busy))) (is_stolen w (Ok t))
           → (w'' : PlainWorld) × steps.IsStealing c w (replies.Associated t c) w'' × ShowsWorld new w'' × KeepsSent old new
       by_test true e said = absurd (let none : ⊥ = cc in none)
       by_test false e said = (
         w',
         on_cpu w (replies.Associated t c) w' _ h
             (subst (λ b. steps.IsStolen w c b (replies.Associated t c) w') (sym e)
-            (Some t, said.0, subst (λ o. steps.IsTakenOver w c t o (replies.Associated t c) w') (sym said.1.accepted) (refl, refl))),
-        after_call w (after w.kernel (takes_over c (w.agents c) t)) (record (w.agents c) { list = (w.agents c).list ++ t ∷ [] }) h said.1.after (goes.calls w.kernel (takes_over c (w.agents c) t)) said.1.agent sent,
+            (Some t, said.0, subst (λ o. steps.IsTakenOver w c t o (replies.Associated t c) w') (sym said.1) (refl, refl))),
+        after_call w (after w.kernel (takes_over c (w.agents c) t)) (record (w.agents c) { list = (w.agents c).list ++ t ∷ [] }) h said.2.after (goes.calls w.kernel (takes_over c (w.agents c) t)) said.2.agent sent,
         kept_same old new sent,
       )
 
@@ -242,11 +248,11 @@ module _ (goes : RunsGoOn) (old new : World) (c place : ℕ) (agent more : Agent
       rest : ShowsWorld new w × KeepsSent old new
       rest = (after_none w h kernel same_shown sent, kept_same old new sent)
 
-      tried : (o : Option ℕ) → take_refused (shown w.kernel) c (w.agents c) o ≡ Some refusal → steps.IsTried w c o (replies.Refused refusal) w
+      tried : (o : Option ℕ) → take_refused (shown w.kernel) (takes_over c (w.agents c)) o ≡ Some refusal → steps.IsTried w c o (replies.Refused refusal) w
       tried None e = record { refused = ap replies.Refused (let is : refusal ≡ refusals.NothingToSteal = cc in is); same = refl }
       tried (Some t) e = subst (λ o. steps.IsTakenOver w c t o (replies.Refused refusal) w) (sym e) (record { refused = refl; same = refl })
 
-      by_test : (b : Bool) → is_some (on (shown w.kernel) c) ≡ b → MatchBool b (◌≡◌ {A = Result ℕ faults.the_data} (Err (faults.Refused refusal)) (Err (faults.Refused refusals.Busy))) (IsStolen w.kernel (kinds w.kernel) (w.agents c) (Err (faults.Refused refusal)) c more new.kernel)
+      by_test : (b : Bool) → is_some (on (shown w.kernel) c) ≡ b → MatchBool b (◌≡◌ {A = Result ℕ faults.the_data} (Err (faults.Refused refusal)) (Err (faults.Refused refusals.Busy))) (is_stolen w (Err (faults.Refused refusal)))
           → (w'' : PlainWorld) × steps.IsStealing c w (replies.Refused refusal) w'' × ShowsWorld new w'' × KeepsSent old new
       by_test true e said = (
         w,
@@ -268,7 +274,7 @@ module _ (goes : RunsGoOn) (old new : World) (c place : ℕ) (agent more : Agent
       same_shown : ShowsAgent (kinds w.kernel) (w.agents c) more
       same_shown = let was = h.agents c agent there in record { view = subst (λ v. ShowsView (kinds w.kernel) (w.agents c).seen v) (sym view) was.view; list = list ∙ was.list; shown = count ∙ was.shown }
 
-      by_test : (b : Bool) → is_some (on (shown w.kernel) c) ≡ b → MatchBool b (◌≡◌ {A = Result ℕ faults.the_data} (Err faults.OutOfMemory) (Err (faults.Refused refusals.Busy))) (IsStolen w.kernel (kinds w.kernel) (w.agents c) (Err faults.OutOfMemory) c more new.kernel)
+      by_test : (b : Bool) → is_some (on (shown w.kernel) c) ≡ b → MatchBool b (◌≡◌ {A = Result ℕ faults.the_data} (Err faults.OutOfMemory) (Err (faults.Refused refusals.Busy))) (is_stolen w (Err faults.OutOfMemory))
           → (w'' : PlainWorld)
           × ((is_cpu (shown w.kernel) c ≡ true) × (is_some (on (shown w.kernel) c) ≡ false) × (t : ℕ) × Finds (stealable w c) (Some t) × (w'' ≡ w)) × ShowsWorld new w'' × KeepsSent old new
       by_test true e said = absurd (let none : ⊥ = cc in none)
