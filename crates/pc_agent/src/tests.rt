@@ -329,6 +329,45 @@ fn a_pick_drops_what_the_kernel_refuses(rt: HostRuntime) -> Result<(), Fail> {
 }
 
 #[test]
+fn a_pick_drops_what_may_not_run(rt: HostRuntime) -> Result<(), Fail> {
+    let mut kernel = ready(rt.alloc(), 3).ok_or("no kernel")?;
+    let mut agent = Agent::new(rt.alloc(), Cpu(0));
+    let mut wire = KeptWire::new(rt.alloc());
+    assert_eq!(rt; published(&kernel, &mut agent, &mut wire), Some(Ok(3)));
+    // t0 is blocked, and t1 is not allowed on the agent's CPU.
+    assert!(rt; kernel.commit(Cpu(0), Tid(0), 3).is_ok());
+    assert!(rt; kernel.block(Cpu(0), 1).is_ok());
+    assert!(rt; kernel.set_affinity(Tid(1), 2).is_ok());
+    assert!(rt; lists(&agent, &[0, 1, 2]));
+    assert_eq!(rt; picked(&mut agent, &mut kernel, 5), Some(Tid(2)));
+    assert!(rt; lists(&agent, &[]));
+    Ok(())
+}
+
+#[test]
+fn a_busy_pick_keeps_the_run_list(rt: HostRuntime) -> Result<(), Fail> {
+    let mut kernel = ready(rt.alloc(), 2).ok_or("no kernel")?;
+    let mut agent = Agent::new(rt.alloc(), Cpu(0));
+    let mut wire = KeptWire::new(rt.alloc());
+    assert_eq!(rt; published(&kernel, &mut agent, &mut wire), Some(Ok(2)));
+    assert_eq!(rt; picked(&mut agent, &mut kernel, 2), Some(Tid(0)));
+    assert!(rt; pick_refusal(&mut agent, &mut kernel, 2) == Some(Refusal::Busy));
+    assert!(rt; lists(&agent, &[1]));
+    Ok(())
+}
+
+#[test]
+fn a_higher_level_is_listed_first(rt: HostRuntime) -> Result<(), Fail> {
+    let mut kernel = ready(rt.alloc(), 3).ok_or("no kernel")?;
+    assert!(rt; kernel.set_priority(Tid(1), 5).is_ok());
+    assert!(rt; kernel.set_priority(Tid(2), 7).is_ok());
+    let mut agent = Agent::new(rt.alloc(), Cpu(0));
+    assert!(rt; copied(&kernel, &mut agent).is_some());
+    assert!(rt; lists(&agent, &[2, 1, 0]));
+    Ok(())
+}
+
+#[test]
 fn a_thread_is_stolen_once_nothing_of_it_waits(rt: HostRuntime) -> Result<(), Fail> {
     let mut kernel = ready(rt.alloc(), 2).ok_or("no kernel")?;
     let mut agent = Agent::new(rt.alloc(), Cpu(0));
@@ -381,6 +420,20 @@ fn only_the_least_thread_is_tried(rt: HostRuntime) -> Result<(), Fail> {
     assert!(rt; steal_refusal(&mut thief, &mut kernel) == Some(Refusal::Stale(2)));
     assert!(rt; lists(&thief, &[]));
     assert_eq!(rt; thief.counts().stale, 1);
+    Ok(())
+}
+
+#[test]
+fn a_steal_is_stale_before_it_is_pending(rt: HostRuntime) -> Result<(), Fail> {
+    let mut kernel = ready(rt.alloc(), 1).ok_or("no kernel")?;
+    let mut agent = Agent::new(rt.alloc(), Cpu(0));
+    let mut thief = Agent::new(rt.alloc(), Cpu(1));
+    let mut wire = KeptWire::new(rt.alloc());
+    assert_eq!(rt; published(&kernel, &mut agent, &mut wire), Some(Ok(1)));
+    assert!(rt; delivers(&mut thief, &wire, 0));
+    // Both messages of t0 wait in its queue; the thief saw the first.
+    assert!(rt; kernel.set_affinity(Tid(0), 3).is_ok());
+    assert!(rt; steal_refusal(&mut thief, &mut kernel) == Some(Refusal::Stale(2)));
     Ok(())
 }
 
@@ -490,4 +543,32 @@ fn counts_stay_at_their_greatest_value(rt: HostRuntime) {
                 ..Counts::new()
             }
     );
+}
+
+#[test]
+fn each_count_is_raised(rt: HostRuntime) -> Result<(), Fail> {
+    let mut kernel = ready(rt.alloc(), 1).ok_or("no kernel")?;
+    let mut agent = Agent::new(rt.alloc(), Cpu(0));
+    let mut thief = Agent::new(rt.alloc(), Cpu(1));
+    let mut wire = KeptWire::new(rt.alloc());
+    assert_eq!(rt; published(&kernel, &mut agent, &mut wire), Some(Ok(1)));
+    assert!(rt; delivers(&mut thief, &wire, 0));
+    assert!(rt; steal_refusal(&mut thief, &mut kernel) == Some(Refusal::Pending));
+    assert_eq!(rt; consumed(&mut agent, &mut kernel), Some(1));
+    assert_eq!(rt; stolen(&mut thief, &mut kernel), Some(Tid(0)));
+    assert!(rt; kernel.tick(Cpu(1)).is_ok());
+    assert!(rt; publishes_and_consumes(&mut kernel, &mut thief, &mut wire, 1));
+    assert!(rt; pick_refusal(&mut thief, &mut kernel, 0) == Some(Refusal::Stale(1)));
+    assert_eq!(rt; picked(&mut thief, &mut kernel, 1), Some(Tid(0)));
+    assert!(rt; pick_refusal(&mut thief, &mut kernel, 1) == Some(Refusal::Busy));
+    let each_once = Counts {
+        taken: 1,
+        commits: 1,
+        steals: 1,
+        stale: 1,
+        pending: 1,
+        other: 1,
+    };
+    assert!(rt; thief.counts() == each_once);
+    Ok(())
 }
