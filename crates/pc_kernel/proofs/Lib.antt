@@ -10,6 +10,7 @@ pub mod AlwaysCalls
 pub mod AlwaysEvery
 pub mod AlwaysTold
 pub mod Posting
+pub mod Posts
 pub mod Refusals
 pub mod ShownReads
 mod CpuPosting

@@ -3,6 +3,7 @@ pub mod Exact
 pub mod Facts
 pub mod Inner
 pub mod PlainKernel
+pub mod Posted
 pub mod Reads
 pub mod Rows
 pub mod Sound

@@ -1,6 +1,7 @@
 //! What holds after every list of calls, whatever they are and whether they were refused.
 
 ghost use Rattle.pc_kernel.specs.Facts.{AlwaysAtHome, AlwaysPlaced, SleepersHadNoPost, RunsAreBegun, NamesAreDense, CallsExtend};
+ghost use Rattle.pc_kernel.specs.Posted.{HomesAreThere, MessagesArePosted, NoMoreIsEaten, OnlyConsumesTake, PostsAreMessages, QueuesGoOn};
 ghost use Rattle.pc_kernel.specs.Exact.{ReadsArePlain, AcceptedAssociatesAreExact, AcceptedCommitsAreExact};
 
 /// A thread's messages that were not consumed all stand in its home queue and are its last ones, in order.
@@ -44,4 +45,26 @@ pub fn accepted_associates_are_exact()
 /// the CPU, and the Aseq is the count of all posts to its queue.
 pub fn accepted_commits_are_exact()
     ensures { AcceptedCommitsAreExact }
+{}
+
+/// A thread's messages are exactly what was posted of it, to whatever queues.
+pub fn messages_are_posted()
+    ensures posted { MessagesArePosted }
+    ensures of_the_run { PostsAreMessages }
+{}
+
+/// A call only adds to the end of a queue, and only a consume that is accepted takes from its front.
+pub fn queues_go_on()
+    ensures items { QueuesGoOn }
+    ensures eaten { OnlyConsumesTake }
+{}
+
+/// No queue loses more items than were posted to it.
+pub fn queues_lose_only_what_was_posted()
+    ensures { NoMoreIsEaten }
+{}
+
+/// The home queue of a known thread is that of a CPU that is there.
+pub fn homes_are_there()
+    ensures { HomesAreThere }
 {}
