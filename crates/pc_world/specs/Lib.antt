@@ -1,5 +1,7 @@
+pub mod Facts
 pub mod Inner
 pub mod PlainWorld
+pub mod Reached
 pub mod Shows
 pub mod Starved
 pub mod Steps

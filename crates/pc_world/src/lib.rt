@@ -5,6 +5,7 @@
 #![tactic(auto)]
 
 mod agents;
+pub mod laws;
 #[cfg(test)]
 mod tests;
 mod world;

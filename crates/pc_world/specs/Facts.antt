@@ -1,0 +1,113 @@
+-- What holds of every world that events lead to, and of every step.
+use Rattle.std.specs.Prelude.{ℕ, ◌≤◌, ◌≡◌, ◌⊎◌, ◌↔◌, true, nat_lt, List, [], length, take, Contains}
+use Rattle.pc_messages.specs.Items.{pairs_in}
+use Rattle.pc_messages.specs.Run.{Run, IsBegun}
+use Rattle.pc_messages.specs.State.{state_of}
+use Rattle.pc_calls.specs.declared.call.Call.{Call}
+use Rattle.pc_calls.specs.declared.event.Event.{Event}
+use Rattle.pc_calls.specs.declared.event.Event.TheVariants.{Commit, Consume, Pick, Steal}
+use Rattle.pc_calls.specs.declared.event.Reply.{Reply}
+use Rattle.pc_calls.specs.declared.event.Reply.TheVariants.{Associated, Committed, Consumed}
+use Rattle.pc_calls.specs.declared.limits.Limits.{Limits}
+use Rattle.pc_join.specs.Sets.{has}
+use Rattle.pc_kernel.specs.Exact.{IsExactCommit}
+use Rattle.pc_kernel.specs.Facts.{HadNoPost, IsAtHome, IsPlaced, waiting}
+use Rattle.pc_kernel.specs.PlainKernel.{start, kinds, number, is_known, threads, content}
+use Rattle.pc_kernel.specs.Reads.{shown, is_cpu}
+use Rattle.pc_kernel.specs.Steps.{replay}
+use Rattle.pc_view.specs.Prefixes.{reports, upto}
+use Rattle.pc_agent.specs.PlainAgent.{Set}
+use Rattle.pc_world.specs.PlainWorld.{PlainWorld}
+use Rattle.pc_world.specs.Reached.{Reached}
+use Rattle.pc_world.specs.Steps.{Step}
+
+-- the kernel is where a list of calls leads to
+abbrev pub KernelsAreReplays : Type 0
+KernelsAreReplays = (limits : Limits) (w : PlainWorld) → Reached limits w → (calls : List Call) × (w.kernel ≡ replay (start limits) calls)
+
+-- what holds of a kernel after every list of calls
+abbrev pub MessagesStayHome : Type 0
+MessagesStayHome = (limits : Limits) (w : PlainWorld) (t : ℕ) → Reached limits w → IsAtHome w.kernel t
+
+abbrev pub ThreadsArePlaced : Type 0
+ThreadsArePlaced = (limits : Limits) (w : PlainWorld) (c t : ℕ) → Reached limits w → IsPlaced w.kernel c t
+
+abbrev pub SleepersHadNoPost : Type 0
+SleepersHadNoPost = (limits : Limits) (w : PlainWorld) (c : ℕ) → Reached limits w → HadNoPost w.kernel c
+
+abbrev pub RunsAreBegun : Type 0
+RunsAreBegun = (limits : Limits) (w : PlainWorld) (t : ℕ) → Reached limits w → IsBegun (kinds w.kernel t)
+
+abbrev pub NamesAreDense : Type 0
+NamesAreDense =
+    (limits : Limits) (w : PlainWorld) (t : ℕ) → Reached limits w → is_known w.kernel t ≡ nat_lt t (threads w.kernel)
+
+-- the run has a message of the thread with this number
+abbrev pub IsInRun : Run → ℕ → ℕ → Type 0
+IsInRun run t n = (1 ≤ n) × (n ≤ length (run t))
+
+-- all pairs of the set are of messages of the run
+abbrev pub LiesIn : Run → Set → Type 0
+LiesIn run set = (t n : ℕ) → has set t n ≡ true → IsInRun run t n
+
+-- what the agents have taken in, and what was sent, are messages of the kernel's run
+abbrev pub SeenLiesInTheRun : Type 0
+SeenLiesInTheRun = (limits : Limits) (w : PlainWorld) (c : ℕ) → Reached limits w → LiesIn (kinds w.kernel) (w.agents c).seen
+
+abbrev pub SentLiesInTheRun : Type 0
+SentLiesInTheRun = (limits : Limits) (w : PlainWorld) (set : Set) → Reached limits w → Contains w.sent set → LiesIn (kinds w.kernel) set
+
+-- the message stands in some queue; it is in some set that was sent
+abbrev pub Waits : PlainWorld → ℕ → ℕ → Type 0
+Waits w t n = (q : ℕ) × (has (pairs_in (content w.kernel q)) t n ≡ true)
+
+abbrev pub WasSent : PlainWorld → ℕ → ℕ → Type 0
+WasSent w t n = (set : Set) × Contains w.sent set × (has set t n ≡ true)
+
+-- the messages of the run are those that stand in queues and those that were sent, and no others
+abbrev pub NothingIsLost : Type 0
+NothingIsLost = (limits : Limits) (w : PlainWorld) (t n : ℕ) → Reached limits w → (Waits w t n ⊎ WasSent w t n) ↔ IsInRun (kinds w.kernel) t n
+
+-- an agent's queue holds as many items as the agent has sent of it, and their messages were sent
+abbrev pub ShownWasSent : Type 0
+ShownWasSent =
+    (limits : Limits) (w : PlainWorld) (c t n : ℕ) → Reached limits w →
+    has (pairs_in (take (w.agents c).shown (content w.kernel c))) t n ≡ true → WasSent w t n
+
+abbrev pub ShownIsThere : Type 0
+ShownIsThere = (limits : Limits) (w : PlainWorld) (c : ℕ) → Reached limits w → (w.agents c).shown ≤ length (content w.kernel c)
+
+-- a set that has all that stands in queues and all that was sent has of each thread all messages
+abbrev pub HasAll : PlainWorld → Set → Type 0
+HasAll w set = (t n : ℕ) → Waits w t n ⊎ WasSent w t n → has set t n ≡ true
+
+abbrev pub AllIsComplete : Type 0
+AllIsComplete =
+    (limits : Limits) (w : PlainWorld) (set : Set) (t : ℕ) → Reached limits w → HasAll w set → number w.kernel t ≤ upto set t
+
+-- an agent on a CPU that is there consumes what it has sent
+abbrev pub ConsumesTakeWhatWasSent : Type 0
+ConsumesTakeWhatWasSent =
+    (limits : Limits) (w new : PlainWorld) (c : ℕ) (told : Reply) → Reached limits w → is_cpu (shown w.kernel) c ≡ true →
+    Step w (Consume c) told new → told ≡ Consumed (w.agents c).shown
+
+-- the agent knows all messages of the thread and reports the state that they report, and none of them stands in any queue
+pub record IsExactSteal (w : PlainWorld) (c t : ℕ) : Type 0 where
+  pub whole : upto (w.agents c).seen t ≡ number w.kernel t
+  pub state : reports (kinds w.kernel) (w.agents c).seen t ≡ state_of (kinds w.kernel t)
+  pub nothing_waits : (q : ℕ) → waiting w.kernel t q ≡ []
+
+abbrev pub StealsAreExact : Type 0
+StealsAreExact = (limits : Limits) (w new : PlainWorld) (c t : ℕ) → Reached limits w → Step w (Steal c) (Associated t c) new → IsExactSteal w c t
+
+-- whatever world it is done in
+abbrev pub CommitsAreExact : Type 0
+CommitsAreExact = (w new : PlainWorld) (c t n : ℕ) → Step w (Commit c t n) (Committed t c) new → IsExactCommit w.kernel c t n
+
+abbrev pub PicksAreExact : Type 0
+PicksAreExact = (w new : PlainWorld) (c t n : ℕ) → Step w (Pick c n) (Committed t c) new → IsExactCommit w.kernel c t n
+
+-- every event can be done
+abbrev pub EveryEventHasAStep : Type 0
+EveryEventHasAStep =
+    (limits : Limits) (w : PlainWorld) (event : Event) → Reached limits w → (told : Reply) × (new : PlainWorld) × Step w event told new

@@ -1,0 +1,101 @@
+//! What holds after every list of events, whatever they are: with crashes anywhere, deltas that are lost, late or repeated,
+//! answers to digests of long ago, and want of memory at any event.
+
+ghost use Rattle.pc_world.specs.Facts.{AllIsComplete, CommitsAreExact, ConsumesTakeWhatWasSent, EveryEventHasAStep, KernelsAreReplays, MessagesStayHome, NamesAreDense, NothingIsLost, PicksAreExact, RunsAreBegun, SeenLiesInTheRun, SentLiesInTheRun, ShownIsThere, ShownWasSent, SleepersHadNoPost, StealsAreExact, ThreadsArePlaced};
+ghost use Rattle.pc_world.specs.Inner.Laws.{KernelLaws};
+
+use pc_kernel::laws::{
+    accepted_associates_are_exact, accepted_commits_are_exact, calls_extend_the_run, homes_are_there,
+    messages_are_posted, messages_stay_home, queues_go_on, queues_lose_only_what_was_posted,
+    reads_are_plain, runs_are_begun, sleepers_had_no_post, threads_are_placed,
+};
+use pc_view::upto_is_the_greatest;
+
+/// The laws of the kernel.
+fn kernel_laws()
+    ensures { KernelLaws }
+{
+    messages_stay_home();
+    threads_are_placed();
+    sleepers_had_no_post();
+    runs_are_begun();
+    calls_extend_the_run();
+    reads_are_plain();
+    accepted_associates_are_exact();
+    accepted_commits_are_exact();
+    messages_are_posted();
+    queues_go_on();
+    queues_lose_only_what_was_posted();
+    homes_are_there();
+}
+
+/// The kernel of a world that events lead to is the replay of a list of calls.
+pub fn kernels_are_replays()
+    ensures { KernelsAreReplays }
+{
+    kernel_laws();
+}
+
+/// The facts of every kernel hold in every world that events lead to: messages stay home, threads are placed, sleepers had
+/// no post, runs are begun, and names are dense.
+pub fn kernel_facts_hold()
+    ensures home { MessagesStayHome }
+    ensures placed { ThreadsArePlaced }
+    ensures rested { SleepersHadNoPost }
+    ensures begun { RunsAreBegun }
+    ensures dense { NamesAreDense }
+{
+    kernel_laws();
+}
+
+/// What an agent has taken in, and what was sent, are messages of the kernel's run.
+pub fn views_are_of_the_run()
+    ensures seen { SeenLiesInTheRun }
+    ensures sent { SentLiesInTheRun }
+{
+    kernel_laws();
+}
+
+/// The messages in queues together with those that were sent are all messages of the run, and no others. What an agent
+/// counts as sent stands at the front of its queue, and was sent. So whoever takes in all that waits and all that was sent
+/// knows every thread to its last message.
+pub fn nothing_is_lost()
+    ensures all { NothingIsLost }
+    ensures shown { ShownWasSent }
+    ensures short { ShownIsThere }
+    ensures complete { AllIsComplete }
+{
+    kernel_laws();
+    upto_is_the_greatest();
+}
+
+/// An agent on a CPU that is there removes from its queue exactly what it has sent; it is never refused.
+pub fn consumes_remove_what_was_sent()
+    ensures { ConsumesTakeWhatWasSent }
+{
+    kernel_laws();
+}
+
+/// Where a steal succeeds, the thief had seen all messages of the thread and reported the state that the kernel reports,
+/// and no queue held a message of it.
+pub fn steals_are_exact()
+    ensures { StealsAreExact }
+{
+    kernel_laws();
+}
+
+/// Where a commit or a pick succeeds, the count that was handed in was that of all posts to the CPU's queue, the CPU was
+/// idle, and the thread was ready, allowed, at home there and on no CPU.
+pub fn commits_are_exact()
+    ensures commits { CommitsAreExact }
+    ensures picks { PicksAreExact }
+{
+    kernel_laws();
+}
+
+/// Every event has a step from every world that events lead to.
+pub fn every_event_has_a_step()
+    ensures { EveryEventHasAStep }
+{
+    kernel_laws();
+}
