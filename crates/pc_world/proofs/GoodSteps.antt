@@ -29,7 +29,7 @@ use Rattle.pc_agent.specs.Running.{left_by, takes_over}
 use Rattle.pc_world.specs.Facts.{IsInRun, LiesIn}
 use Rattle.pc_world.specs.PlainWorld.{PlainWorld, looked, published, sending, with_agent}
 use Rattle.pc_world.specs.Reached.{IsAnsweredLate, LeadsTo}
-use Rattle.pc_world.specs.Starved.{IsWidened, Starved}
+use Rattle.pc_world.specs.Starved.{IsPublishStarved, IsWidened, Starved}
 use Rattle.pc_world.specs.Steps.{IsAnswered, IsBadCpu, IsCommitted, IsConsumed, IsDelivered, IsPicked, IsPublished, IsRefused, IsStolen, IsTakenOver, IsTried, Step, are_cpus}
 use Rattle.pc_world.specs.Inner.Laws.{KernelLaws}
 use Rattle.pc_world.proofs.Good.{Goes, IsGood, Moves, WereSent, calm, passed, sent_still, taken_le}
@@ -260,6 +260,11 @@ module _ (laws : KernelLaws) (limits : Limits) (w : PlainWorld) (h : IsGood limi
         | inr added ↦ lies t n added
       ]) (omega arith))
 
+  publish_starved_goes : (c : ℕ) (fails : Bool) (new : PlainWorld) → IsPublishStarved w c fails new → Goes w new
+  publish_starved_goes c true new part = widened_goes c (pairs_in (content w.kernel c)) new (content_in_run c) part
+  publish_starved_goes c false new (inl part) = widened_goes c (pairs_in (content w.kernel c)) new (content_in_run c) part
+  publish_starved_goes c false new (inr all) = subst (Goes w) (sym all) (looked_goes c)
+
   starved_goes : (e : Event) (new : PlainWorld) → Starved w e new → Goes w new
   starved_goes (event.Env c) new s = still new s.1
   starved_goes (event.Associate t queue n) new s = still new s.1
@@ -267,10 +272,7 @@ module _ (laws : KernelLaws) (limits : Limits) (w : PlainWorld) (h : IsGood limi
   starved_goes (event.Sleep cpu n) new s = still new s.1
   starved_goes (event.Rouse cpu) new s = still new s.1
   starved_goes (event.Config queue target) new s = still new s.1
-  starved_goes (event.Publish cpu fails) new s = elim s.1 [
-    | inl part ↦ widened_goes cpu (pairs_in (content w.kernel cpu)) new (content_in_run cpu) part
-    | inr all ↦ subst (Goes w) (sym all) (looked_goes cpu)
-  ]
+  starved_goes (event.Publish cpu fails) new s = publish_starved_goes cpu fails new s.1
   starved_goes (event.Consume cpu) new s = absurd s
   starved_goes (event.Deliver cpu k) new s = widened_goes cpu s.1 new (at_index k s.1 s.2) s.3
   starved_goes (event.Answer cpu asker) new s = still new s.1

@@ -31,6 +31,7 @@ use Rattle.pc_agent.specs.Wires.{Keeps, sent_by}
 use Rattle.pc_world.specs.declared.world.World.{World}
 use Rattle.pc_world.specs.PlainWorld.{PlainWorld, looked, published, with_agent}
 use Rattle.pc_world.specs.Shows.{AreSent, KeepsSent, ShowsWorld, deltas_of}
+use Rattle.pc_world.specs.Starved.{IsPublishStarved, IsWidened}
 use Rattle.pc_world.specs.Steps as steps
 use Rattle.pc_world.specs.Steps.{stealable}
 use Rattle.pc_world.specs.Inner.Handling.{Handles}
@@ -47,6 +48,11 @@ at_itself f n m = elim (eqb_tells m n) [ inl e ↦ rw e.0 (ap f (sym e.1)) | inr
 was_done : (P : PlainKernel) (o : Option Refusal) (old new : KernelRows) (Q R : PlainKernel) → Replies done (Ok tt) old new (reply_of o Done) (after_of o Q R) → (o ≡ None) × Shows new (after_of o Q R)
 was_done P None old new Q R h = (refl, h.1)
 was_done P (Some why) old new Q R h = absurd h
+
+-- a part of what the queue holds was taken in, whether the wire refuses or not
+in_part : (w : PlainWorld) (c : ℕ) (fails : Bool) (new : PlainWorld) → IsWidened w c (pairs_in (content w.kernel c)) new → IsPublishStarved w c fails new
+in_part w c false new part = inl part
+in_part w c true new part = part
 
 module _ (goes : RunsGoOn) (old new : World) (c place : ℕ) (agent more : Agent) (where_is : IsPlace old c place) (read : agent ≡ get_or old.agents.items place agent) (agents : new.agents.items ≡ set old.agents.items place more) where
   there : slice_get old.agents.items c ≡ Some agent
@@ -148,14 +154,15 @@ module _ (goes : RunsGoOn) (old new : World) (c place : ℕ) (agent more : Agent
           let same : deltas_of new ≡ deltas_of old = ap sent_by part.1 ∙ sent in
           let some = part.0 in (
             with_agent w c (record (w.agents c) { seen = some.0 }),
-            (plain_cpu old.kernel w.kernel c true h.kernel where_is.there, inl (record { set = some.0; between = some.1; after = refl })),
+            (plain_cpu old.kernel w.kernel c true h.kernel where_is.there, in_part w c fails _ (record { set = some.0; between = some.1; after = refl })),
             after_own w (record (w.agents c) { seen = some.0 }) h kernel some.2 same,
             kept_same old new same,
           )
       | inr whole ↦
+          let goes_out : fails ≡ false = sym refuses ∙ whole.0.sent.0 in
           let same : deltas_of new ≡ deltas_of old = whole.0.sent.1 ∙ sent in (
             looked w c,
-            (plain_cpu old.kernel w.kernel c true h.kernel where_is.there, inr refl),
+            (plain_cpu old.kernel w.kernel c true h.kernel where_is.there, subst (λ b. IsPublishStarved w c b (looked w c)) (sym goes_out) (inr refl)),
             after_own w (copied (kinds w.kernel) c (content w.kernel c) (w.agents c)) h kernel whole.1 same,
             kept_same old new same,
           )

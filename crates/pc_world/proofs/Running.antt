@@ -1,11 +1,12 @@
 -- Events, one after another.
-use Rattle.std.proofs.Common.{◌≡◌, ℕ, zero, suc, ◌+◌, ◌<◌, ◌≤◌, ◌⊎◌, List, [], ◌∷◌, ◌++◌, length, take, drop, get_or, Ok, Err, Result, OnErr, refl, sym, ap, subst, inl, inr}
+use Rattle.std.proofs.Common.{◌≡◌, ℕ, zero, suc, ◌+◌, ◌<◌, ◌≤◌, ◌⊎◌, List, [], ◌∷◌, ◌++◌, length, take, drop, get_or, Ok, Err, Result, OnErr, refl, sym, ◌∙◌, ap, append_assoc, subst, inl, inr}
+use Rattle.std.proofs.lemmas.List.{append-nil}
 use Rattle.pc_calls.specs.declared.event.Event.{Event}
 use Rattle.pc_calls.specs.declared.event.Reply.{Reply}
 use Rattle.pc_delta.proofs.Lists.{all_taken, left_item, taken_item}
 use Rattle.pc_world.specs.declared.world.World.{World}
 use Rattle.pc_world.specs.PlainWorld.{PlainWorld}
-use Rattle.pc_world.specs.Shows.{Does, RunsInPart, RunsThrough, Starves}
+use Rattle.pc_world.specs.Shows.{Does, KeepsSent, RunsInPart, RunsThrough, ShowsWorld, Starves, deltas_of}
 use Rattle.pc_world.specs.Starved.{IsCutShort, IsFirstStarved, Starved}
 use Rattle.pc_world.specs.Steps.{Runs, Step}
 use Rattle.pc_world.specs.Inner.Handling.{StepsInPart}
@@ -75,3 +76,16 @@ done_in event told before after does w h = let next = does w h in (next.0, inr (
 
 pub starved_in : (event : Event) (before after : World) → Starves event before after → StepsInPart event before after
 starved_in event before after starves w h = let next = starves w h in (next.0, inl next.1, next.2)
+
+-- what was sent stays sent, over several events
+pub keeps_none : (world : World) → KeepsSent world world
+keeps_none world = ([], sym (append-nil (deltas_of world)))
+
+pub keeps_then : (old mid new : World) → KeepsSent old mid → KeepsSent mid new → KeepsSent old new
+keeps_then old mid new first then' =
+    (first.0 ++ then'.0, then'.1 ∙ ap (λ l. l ++ then'.0) first.1 ∙ append_assoc (deltas_of old) first.0 then'.0)
+
+-- of the world that some first events led to
+pub keeps_on : (events : List Event) (replies : List Reply) (old mid new : World) → RunsThrough events replies old mid → ((w : PlainWorld) → ShowsWorld old w → KeepsSent old mid)
+    → ((w : PlainWorld) → ShowsWorld mid w → KeepsSent mid new) → (w : PlainWorld) → ShowsWorld old w → KeepsSent old new
+keeps_on events replies old mid new ran kept next w h = let reached = ran w h in keeps_then old mid new (kept w h) (next reached.0 reached.2)

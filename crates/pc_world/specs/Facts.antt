@@ -66,7 +66,8 @@ WasSent w t n = (set : Set) × Contains w.sent set × (has set t n ≡ true)
 
 -- the messages of the run are those that stand in queues and those that were sent, and no others
 abbrev pub NothingIsLost : Type 0
-NothingIsLost = (limits : Limits) (w : PlainWorld) (t n : ℕ) → Reached limits w → (Waits w t n ⊎ WasSent w t n) ↔ IsInRun (kinds w.kernel) t n
+NothingIsLost =
+    (limits : Limits) (w : PlainWorld) (t n : ℕ) → Reached limits w → (Waits w t n ⊎ WasSent w t n) ↔ IsInRun (kinds w.kernel) t n
 
 -- an agent's queue holds as many items as the agent has sent of it, and their messages were sent
 abbrev pub ShownWasSent : Type 0
@@ -98,7 +99,8 @@ pub record IsExactSteal (w : PlainWorld) (c t : ℕ) : Type 0 where
   pub nothing_waits : (q : ℕ) → waiting w.kernel t q ≡ []
 
 abbrev pub StealsAreExact : Type 0
-StealsAreExact = (limits : Limits) (w new : PlainWorld) (c t : ℕ) → Reached limits w → Step w (Steal c) (Associated t c) new → IsExactSteal w c t
+StealsAreExact =
+    (limits : Limits) (w new : PlainWorld) (c t : ℕ) → Reached limits w → Step w (Steal c) (Associated t c) new → IsExactSteal w c t
 
 -- whatever world it is done in
 abbrev pub CommitsAreExact : Type 0

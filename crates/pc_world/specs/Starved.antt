@@ -1,5 +1,5 @@
 -- What an event leaves for which there was no memory.
-use Rattle.std.specs.Prelude.{ℕ, ◌≡◌, ◌⊎◌, List, [], ◌∷◌, ◌++◌, true, false, Some, None, MatchOption, slice_get, is_some}
+use Rattle.std.specs.Prelude.{ℕ, ◌≡◌, ◌⊎◌, List, [], ◌∷◌, ◌++◌, true, false, Some, None, Bool, MatchOption, slice_get, is_some}
 use Rattle.pc_messages.specs.Items.{pairs_in}
 use Rattle.pc_calls.specs.declared.call.Call.{Call}
 use Rattle.pc_calls.specs.declared.call.Call.TheVariants as call
@@ -27,10 +27,15 @@ abbrev pub IsCallStarved : PlainWorld → Call → Type 0
 IsCallStarved w (call.Env c) = kernel.refused (shown w.kernel) (call.Env c) ≡ None
 IsCallStarved w c = ⊥
 
+-- a publish: the agent has taken in a part of what its queue holds, or all of it, where its send found no memory; a send that
+-- its wire refuses asks for none
+abbrev pub IsPublishStarved : PlainWorld → ℕ → Bool → PlainWorld → Type 0
+IsPublishStarved w c false new = IsWidened w c (pairs_in (content w.kernel c)) new ⊎ (new ≡ looked w c)
+IsPublishStarved w c true new = IsWidened w c (pairs_in (content w.kernel c)) new
+
 -- an event that is no call, takes memory, and is not refused; and what it leaves
 abbrev pub IsOwnStarved : PlainWorld → Event → PlainWorld → Type 0
-IsOwnStarved w (Publish cpu fails) new =
-    (is_cpu (shown w.kernel) cpu ≡ true) × (IsWidened w cpu (pairs_in (content w.kernel cpu)) new ⊎ (new ≡ looked w cpu))
+IsOwnStarved w (Publish cpu fails) new = (is_cpu (shown w.kernel) cpu ≡ true) × IsPublishStarved w cpu fails new
 IsOwnStarved w (Deliver cpu delta) new =
     (is_cpu (shown w.kernel) cpu ≡ true) × (set : Set) × (slice_get w.sent delta ≡ Some set) × IsWidened w cpu set new
 IsOwnStarved w (Answer cpu asker) new = (are_cpus w cpu asker ≡ true) × (new ≡ w)

@@ -5,9 +5,10 @@ ghost use Rattle.pc_world.specs.Facts.{AllIsComplete, CommitsAreExact, ConsumesT
 ghost use Rattle.pc_world.specs.Inner.Laws.{KernelLaws};
 
 use pc_kernel::laws::{
-    accepted_associates_are_exact, accepted_commits_are_exact, calls_extend_the_run, homes_are_there,
-    messages_are_posted, messages_stay_home, queues_go_on, queues_lose_only_what_was_posted,
-    reads_are_plain, runs_are_begun, sleepers_had_no_post, threads_are_placed,
+    accepted_associates_are_exact, accepted_commits_are_exact, calls_extend_the_run,
+    homes_are_there, messages_are_posted, messages_stay_home, queues_go_on,
+    queues_lose_only_what_was_posted, reads_are_plain, runs_are_begun, sleepers_had_no_post,
+    threads_are_placed,
 };
 use pc_view::upto_is_the_greatest;
 

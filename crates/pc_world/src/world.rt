@@ -129,7 +129,8 @@ impl World {
 
     /// The deltas that were sent, in order.
     pub fn sent(&self) -> &[Delta]
-        ensures { (w : PlainWorld) → ShowsWorld self.now w → AreSent (kinds w.kernel) w.sent result.now }
+        ensures same { result.now ≡ deltas_of self.now }
+        ensures tell { (w : PlainWorld) → ShowsWorld self.now w → AreSent (kinds w.kernel) w.sent result.now }
     {
         self.wire.sent()
     }
@@ -149,6 +150,7 @@ impl World {
     pub fn run(&mut self, events: &[Event]) -> Result<Vec<Reply>, OutOfMemory>
         ensures run { IfOk result (λ replies. RunsThrough events.now replies.items self.old self.new) }
         ensures starved { OnErr result (RunsInPart events.now self.old self.new) }
+        ensures kept { (w : PlainWorld) → ShowsWorld self.old w → KeepsSent self.old self.new }
     {
         let mut replies = Vec::new(self.alloc);
         for event in events {
@@ -161,6 +163,7 @@ impl World {
     fn step_into(&mut self, event: Event, replies: &mut Vec<Reply>) -> Result<(), OutOfMemory>
         ensures ok { OnOk result (StepsInto event replies.old.items replies.new.items self.old self.new) }
         ensures starved { OnErr result (StepsInPart event self.old self.new) }
+        ensures kept { (w : PlainWorld) → ShowsWorld self.old w → KeepsSent self.old self.new }
     {
         // The checker finds the types that a reply nests only where the function names them.
         let _: (Option<Posted>, Option<Tid>, Option<Cpu>, Option<Refusal>) = (

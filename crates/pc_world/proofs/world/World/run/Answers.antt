@@ -1,15 +1,25 @@
-use Rattle.std.proofs.Common.{◌+◌, take, sym, subst}
+use Rattle.std.proofs.Common.{◌+◌, take, sym, subst, rules}
 use Rattle.pc_world.specs.Shows.{RunsThrough}
-use Rattle.pc_world.proofs.Running.{on_err, runs_next, stops_in}
+use Rattle.pc_world.proofs.Running.{keeps_none, keeps_on, on_err, runs_next, stops_in}
 use Rattle.pc_world.proofs.world.World.run.Goals as goal
 
 pub returns-in_err-step_into-clause-starved : goal.returns-in_err-step_into-clause-starved
 returns-in_err-step_into-clause-starved c =
     on_err c.from_residual.result _
-    (stops_in c.args.events.now c.loop-event.event-index c.event-item.result c.event-item.is c.loop-event-test.true c.loop-event.replies.items c.args.self.now c.loop-event.self c.loop-event.invariant c.step_into.new.self c.in_err-step_into.ensures.starved)
+    (stops_in c.args.events.now c.loop-event.event-index c.event-item.result c.event-item.is c.loop-event-test.true c.loop-event.replies.items c.args.self.now c.loop-event.self c.loop-event.invariant.ran c.step_into.new.self c.in_err-step_into.ensures.starved)
+
+pub returns-in_err-step_into-clause-kept : goal.returns-in_err-step_into-clause-kept
+returns-in_err-step_into-clause-kept c =
+    keeps_on (take c.loop-event.event-index c.args.events.now) c.loop-event.replies.items c.args.self.now c.loop-event.self c.step_into.new.self c.loop-event.invariant.ran c.loop-event.invariant.kept c.step_into.ensures.kept
+
+pub loop-event-init : goal.loop-event-init
+loop-event-init c = record { ran = search rules; kept = λ w h. keeps_none c.args.self.now }
 
 pub loop-event-preserved : goal.loop-event-preserved
 loop-event-preserved c =
     let did = c.in_ok-step_into.ensures.ok in
-    subst (λ l. RunsThrough (take (c.loop-event.event-index + 1) c.args.events.now) l c.args.self.now c.step_into.new.self) (sym did.1)
-    (runs_next c.args.events.now c.loop-event.event-index c.event-item.result c.event-item.is c.loop-event-test.true c.loop-event.replies.items c.args.self.now c.loop-event.self c.loop-event.invariant did.0 c.step_into.new.self did.2)
+    record {
+      ran = subst (λ l. RunsThrough (take (c.loop-event.event-index + 1) c.args.events.now) l c.args.self.now c.step_into.new.self) (sym did.1)
+          (runs_next c.args.events.now c.loop-event.event-index c.event-item.result c.event-item.is c.loop-event-test.true c.loop-event.replies.items c.args.self.now c.loop-event.self c.loop-event.invariant.ran did.0 c.step_into.new.self did.2);
+      kept = keeps_on (take c.loop-event.event-index c.args.events.now) c.loop-event.replies.items c.args.self.now c.loop-event.self c.step_into.new.self c.loop-event.invariant.ran c.loop-event.invariant.kept c.step_into.ensures.kept;
+    }

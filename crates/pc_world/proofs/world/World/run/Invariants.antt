@@ -1,6 +1,10 @@
 use Rattle.std.proofs.Common.{take}
-use Rattle.pc_world.specs.Shows.{RunsThrough}
+use Rattle.pc_world.specs.PlainWorld.{PlainWorld}
+use Rattle.pc_world.specs.Shows.{KeepsSent, RunsThrough, ShowsWorld}
 use Rattle.pc_world.proofs.world.World.run.Given as goal
 
 abbrev pub invariant-loop-event : goal.invariant-loop-event
-invariant-loop-event l = RunsThrough (take l.event-index l.events) l.replies.items l.initial.self l.self
+invariant-loop-event l = record {
+  ran : RunsThrough (take l.event-index l.events) l.replies.items l.initial.self l.self;
+  kept : (w : PlainWorld) → ShowsWorld l.initial.self w → KeepsSent l.initial.self l.self;
+}
