@@ -3,7 +3,7 @@
 ghost use Rattle.std.specs.Prelude.{[], ◌∷◌, IfOk, true};
 ghost use Rattle.pc_kernel.specs.Answers.{Replays};
 
-use crate::tests::table::{SMALL, commit, create, tick};
+use crate::tests::{SMALL, posted};
 use crate::{Answer, Call, CallFault, EnvCall, Kernel};
 use pc_messages::{Cpu, Tid};
 use std::test::Fail;
@@ -60,8 +60,8 @@ fn a_running_thread_is_not_moved(rt: HostRuntime) -> Result<(), Fail> {
 #[test]
 fn a_thread_moves_beside_one_that_runs(rt: HostRuntime) -> Result<(), Fail> {
     let mut kernel = Kernel::new(rt.alloc(), SMALL)?;
-    kernel.create(Cpu(0), 3, true)?;
-    kernel.consume(Cpu(0), 1)?;
+    assert_eq!(rt; kernel.create(Cpu(0), 3, true), Ok(posted(0, 1, 0, 1)));
+    assert_eq!(rt; kernel.consume(Cpu(0), 1), Ok(()));
     let moved = run_and_move(&mut kernel, Cpu(0), Tid(1), 2, Tid(0), Cpu(1), 1);
     assert_eq!(rt; moved, Ok(true));
     assert_eq!(rt; kernel.running(Cpu(0)), Some(Tid(1)));
@@ -72,7 +72,18 @@ fn a_thread_moves_beside_one_that_runs(rt: HostRuntime) -> Result<(), Fail> {
 #[test]
 fn three_calls_in_a_row(rt: HostRuntime) -> Result<(), Fail> {
     let mut kernel = Kernel::new(rt.alloc(), SMALL)?;
-    let last = three(&mut kernel, create(0, 3, true), tick(0), commit(0, 0, 2));
+    let create = Call::Env(EnvCall::Create {
+        queue: Cpu(0),
+        mask: 3,
+        ready: true,
+    });
+    let tick = Call::Env(EnvCall::Tick { cpu: Cpu(0) });
+    let commit = Call::Commit {
+        cpu: Cpu(0),
+        thread: Tid(0),
+        aseq: 2,
+    };
+    let last = three(&mut kernel, create, tick, commit);
     assert_eq!(rt; last, Ok(Answer::Done));
     Ok(())
 }
