@@ -10,7 +10,8 @@
   examples     each example's script has its output beside it
   citations    no file cites the papers that the project was made from
 
-A line for each finding, then `documents: N checked, M findings`. The exit status is 0 only where there is none.
+A line for each finding, how much was looked at, and then `N passed, M failed`, of these eight checks. The exit status is 0
+only where none failed.
 """
 import pathlib
 import re
@@ -402,18 +403,27 @@ class Checker:
 
 def main():
     checker = Checker()
-    checker.check_promises()
-    checker.check_public()
-    checker.check_definitions()
-    checker.check_names()
-    checker.check_crates()
-    checker.check_refusals()
-    checker.check_examples()
-    checker.check_citations()
+    # `public` looks at what `promises` found named, so it comes after it
+    checks = [
+        checker.check_promises,
+        checker.check_public,
+        checker.check_definitions,
+        checker.check_names,
+        checker.check_crates,
+        checker.check_refusals,
+        checker.check_examples,
+        checker.check_citations,
+    ]
+    failed = 0
+    for check in checks:
+        before = len(checker.findings)
+        check()
+        failed += len(checker.findings) > before
     for finding in checker.findings:
-        print(finding)
-    print(f"documents: {checker.checked} checked, {len(checker.findings)} findings")
-    return 1 if checker.findings else 0
+        print(f"documents, {finding}")
+    print(f"documents: {checker.checked} looked at, {len(checker.findings)} findings")
+    print(f"{len(checks) - failed} passed, {failed} failed")
+    return 1 if failed else 0
 
 
 if __name__ == "__main__":

@@ -499,7 +499,7 @@ class Launcher(unittest.TestCase):
         self.wait_for_text(start, "waiting")
         status, out, errors = self.ended(gate)
         self.assertEqual((status, errors), (0, ""))
-        self.assertEqual(out.splitlines()[-1], "cases: --gate-status 0 --gate-line 3 passed, 0 failed --also 2 passed, 0 failed")
+        self.assertEqual(out.splitlines()[-1], "cases: --gate-status 0 --gate-line 3 passed, 0 failed --also 2 passed, 0 failed --also 5 passed, 0 failed")
         self.assertEqual(self.ended(start)[0], 0)
         words, began, ended = self.calls()
         self.assertEqual(words[0][1], "ci")
@@ -523,6 +523,7 @@ class Launcher(unittest.TestCase):
         """What `test` runs after the gate: each prints what it was given."""
         (self.tree / "tests").mkdir()
         (self.tree / "tests/launcher_tests.py").write_text("print('2 passed, 0 failed')\n")
+        (self.tree / "tests/check_documents.py").write_text("print('5 passed, 0 failed')\n")
         (self.tree / "tests/run_cases.py").write_text("import sys\nprint('cases:', *sys.argv[1:])\n")
 
     def wait_for_calls(self, count):
