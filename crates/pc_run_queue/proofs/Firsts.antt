@@ -11,12 +11,12 @@ append_none [] = refl
 append_none (x ∷ xs) = ap (λ l. x ∷ l) (append_none xs)
 
 -- filters that pass the same
-filter_same : (p q : ℕ → Bool) (xs : List ℕ) → ((t : ℕ) → p t ≡ q t) → filter p xs ≡ filter q xs
+pub filter_same : (p q : ℕ → Bool) (xs : List ℕ) → ((t : ℕ) → p t ≡ q t) → filter p xs ≡ filter q xs
 filter_same p q [] h = refl
 filter_same p q (x ∷ xs) h = λ i. cond (h x i) (x ∷ filter_same p q xs h i) (filter_same p q xs h i)
 
 -- two filters, one after the other
-filter_twice : (p q : ℕ → Bool) (xs : List ℕ) → filter (λ t. p t && q t) xs ≡ filter q (filter p xs)
+pub filter_twice : (p q : ℕ → Bool) (xs : List ℕ) → filter (λ t. p t && q t) xs ≡ filter q (filter p xs)
 filter_twice p q [] = refl
 filter_twice p q (x ∷ xs) = by_test (p x) (filter_twice p q xs)
   where
@@ -24,13 +24,13 @@ filter_twice p q (x ∷ xs) = by_test (p x) (filter_twice p q xs)
     by_test true ih = λ i. cond (q x) (x ∷ ih i) (ih i)
     by_test false ih = ih
 
-and_comm : (a b : Bool) → (a && b) ≡ (b && a)
+pub and_comm : (a b : Bool) → (a && b) ≡ (b && a)
 and_comm true true = refl
 and_comm true false = refl
 and_comm false true = refl
 and_comm false false = refl
 
-and_same : (a : Bool) → (a && a) ≡ a
+pub and_same : (a : Bool) → (a && a) ≡ a
 and_same true = refl
 and_same false = refl
 

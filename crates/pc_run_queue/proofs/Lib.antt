@@ -2,3 +2,4 @@ pub mod Counts
 pub mod Firsts
 pub mod Order
 pub mod Ends
+pub mod Sorting
