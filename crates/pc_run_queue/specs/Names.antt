@@ -24,6 +24,10 @@ firsts (x ∷ xs) = x ∷ without x (firsts xs)
 abbrev pub with_new : (ℕ → Bool) → List ℕ → List ℕ → List ℕ
 with_new test old names = old ++ firsts (filter (λ t. test t && not (has_name old t)) names)
 
+-- the levels, the highest first
+abbrev pub levels : List ℕ
+levels = 7 ∷ 6 ∷ 5 ∷ 4 ∷ 3 ∷ 2 ∷ 1 ∷ 0 ∷ []
+
 -- the names of the highest level first, those of one level in their order
 abbrev pub by_level : (ℕ → ℕ) → List ℕ → List ℕ
-by_level level names = flat_map (λ l. filter (λ t. level t == l) names) (7 ∷ 6 ∷ 5 ∷ 4 ∷ 3 ∷ 2 ∷ 1 ∷ 0 ∷ [])
+by_level level names = flat_map (λ l. filter (λ t. level t == l) names) levels
