@@ -1,5 +1,7 @@
 //! Tests: events with the replies that were written down by hand.
 
+mod disturbed;
+
 use crate::{Event, Reply, World};
 use pc_calls::{EnvCall, LimitField, Limits, LimitsFault, Posted, Profile, Refusal};
 use pc_messages::{Cpu, Phase, Tid};
