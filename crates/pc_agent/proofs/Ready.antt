@@ -10,7 +10,7 @@ use Rattle.pc_calls.specs.declared.refusal.Refusal.{Refusal}
 use Rattle.pc_calls.specs.declared.refusal.Refusal.TheVariants.{Stale, Busy, NothingReady}
 use Rattle.pc_kernel.specs.Answers.{Accepts, Replies, Shows, Steps, done}
 use Rattle.pc_kernel.specs.PlainKernel.{PlainKernel}
-use Rattle.pc_kernel.specs.Reads.{Reads, seen, shown, aseq, on}
+use Rattle.pc_kernel.specs.Reads.{Reads, seen, shown, aseq_read, on}
 use Rattle.pc_kernel.specs.Rows.{KernelRows}
 use Rattle.pc_kernel.specs.Steps.{accepted, after, refused, reply, reply_of}
 use Rattle.pc_agent.specs.declared.agent.Agent.{Agent}
@@ -37,23 +37,23 @@ not_refused P made e = no_refusal (refused (shown P) made) (accepted P made) e
 
 module _ (r : Reads) (cpu n : ℕ) (names : List ℕ) where
   abbrev first_two : Bool → Bool → Option Refusal
-  first_two stale busy = first_of ((stale, Stale (aseq r cpu)) ∷ (busy, Busy) ∷ [])
+  first_two stale busy = first_of ((stale, Stale (aseq_read r cpu)) ∷ (busy, Busy) ∷ [])
 
   abbrev all_three : Bool → Bool → Option Refusal
-  all_three stale busy = first_of ((stale, Stale (aseq r cpu)) ∷ (busy, Busy) ∷ (is_empty_list (ready_list r cpu n names), NothingReady) ∷ [])
+  all_three stale busy = first_of ((stale, Stale (aseq_read r cpu)) ∷ (busy, Busy) ∷ (is_empty_list (ready_list r cpu n names), NothingReady) ∷ [])
 
   -- a pick that did not look at its list
   pub unready_refused : (refusal : Refusal) → unready_for r cpu n ≡ Some refusal → (pick_refused r cpu n names ≡ Some refusal) × (names ≡ left_by refusal names)
-  unready_refused refusal e = by_tests (not (n == aseq r cpu)) (is_some (on r cpu)) e
+  unready_refused refusal e = by_tests (not (n == aseq_read r cpu)) (is_some (on r cpu)) e
     where
       by_tests : (stale busy : Bool) → first_two stale busy ≡ Some refusal → (all_three stale busy ≡ Some refusal) × (names ≡ left_by refusal names)
-      by_tests true busy e = (e, let is : Stale (aseq r cpu) ≡ refusal = cc in ap (λ why. left_by why names) is)
+      by_tests true busy e = (e, let is : Stale (aseq_read r cpu) ≡ refusal = cc in ap (λ why. left_by why names) is)
       by_tests false true e = (e, let is : Busy ≡ refusal = cc in ap (λ why. left_by why names) is)
       by_tests false false e = absurd (let none : ⊥ = cc in none)
 
   -- a pick that did
   looked_at : unready_for r cpu n ≡ None → pick_refused r cpu n names ≡ first_of ((is_empty_list (ready_list r cpu n names), NothingReady) ∷ [])
-  looked_at e = by_tests (not (n == aseq r cpu)) (is_some (on r cpu)) e
+  looked_at e = by_tests (not (n == aseq_read r cpu)) (is_some (on r cpu)) e
     where
       by_tests : (stale busy : Bool) → first_two stale busy ≡ None → all_three stale busy ≡ first_of ((is_empty_list (ready_list r cpu n names), NothingReady) ∷ [])
       by_tests true busy e = absurd (let none : ⊥ = cc in none)

@@ -8,7 +8,7 @@ use Rattle.pc_calls.specs.Conditions.{first_of}
 use Rattle.pc_calls.specs.declared.call.Call.TheVariants as call
 use Rattle.pc_calls.specs.declared.refusal.Refusal.{Refusal}
 use Rattle.pc_calls.specs.declared.refusal.Refusal.TheVariants as refusal
-use Rattle.pc_kernel.specs.Reads.{Reads, is_known, place, aseq, on}
+use Rattle.pc_kernel.specs.Reads.{Reads, is_known, place, aseq_read, on}
 use Rattle.pc_kernel.specs.Steps.{refused}
 use Rattle.pc_view.specs.Prefixes.{reports}
 use Rattle.pc_run_queue.specs.Names.{has_name}
@@ -67,7 +67,7 @@ is_empty_list (t ∷ ts) = false
 abbrev pub pick_refused : Reads → ℕ → ℕ → List ℕ → Option Refusal
 pick_refused r cpu n names =
     first_of (
-    (not (n == aseq r cpu), refusal.Stale (aseq r cpu))
+    (not (n == aseq_read r cpu), refusal.Stale (aseq_read r cpu))
     ∷ (is_some (on r cpu), refusal.Busy)
     ∷ (is_empty_list (ready_list r cpu n names), refusal.NothingReady)
     ∷ [])

@@ -7,7 +7,7 @@ ghost use Rattle.pc_calls.specs.declared.call.Answer.TheVariants.{Done};
 ghost use Rattle.pc_calls.specs.declared.call.Call.{Call};
 ghost use Rattle.pc_calls.specs.declared.call.Call.TheVariants as call;
 ghost use Rattle.pc_kernel.specs.Answers.{Accepts};
-ghost use Rattle.pc_kernel.specs.Reads.{seen, kinds, is_cpu, aseq, on};
+ghost use Rattle.pc_kernel.specs.Reads.{seen, kinds_read, is_cpu, aseq_read, on};
 ghost use Rattle.pc_kernel.specs.Steps.{refused};
 ghost use Rattle.pc_agent.specs.Counts.{pick_counted};
 ghost use Rattle.pc_agent.specs.PlainAgent.{pick_refused, ready_list};
@@ -83,7 +83,7 @@ impl Agent {
         ensures view { self.new.view ≡ self.old.view }
         ensures sent { self.new.shown ≡ self.old.shown }
         ensures limits { kernel.new.limits ≡ kernel.old.limits }
-        ensures extends { Extends (kinds (seen kernel.new)) (kinds (seen kernel.old)) }
+        ensures extends { Extends (kinds_read (seen kernel.new)) (kinds_read (seen kernel.old)) }
         ensures err { OnErr result (kernel.new ≡ kernel.old) }
         ensures cpu { cpu_of self.new ≡ cpu_of self.old }
         ensures counts { self.new.counts ≡ pick_counted result self.old.counts }

@@ -7,7 +7,7 @@ ghost use Rattle.pc_calls.specs.declared.call.Answer.TheVariants.{Done};
 ghost use Rattle.pc_calls.specs.declared.call.Call.TheVariants as call;
 ghost use Rattle.pc_calls.specs.Conditions.{refusal_in};
 ghost use Rattle.pc_kernel.specs.Answers.{Accepts};
-ghost use Rattle.pc_kernel.specs.Reads.{seen, kinds, content, is_cpu};
+ghost use Rattle.pc_kernel.specs.Reads.{seen, kinds_read, content_read, is_cpu};
 ghost use Rattle.pc_kernel.specs.PlainKernel as plain;
 ghost use Rattle.pc_kernel.specs.Steps.{refused};
 ghost use Rattle.pc_delta.specs.Exchange.{IsTakenIn, IsPartlyTakenIn};
@@ -91,7 +91,7 @@ impl Agent {
         requires room { W.faults wire.old < MOST_COUNTED }
         ensures publishes { WhateverShown kernel.now self.old (λ P run p.
             IsPublished W.Sends (plain.content P self.old.cpu) run p result (cpu_of self.old) self.new wire.old wire.new) }
-        ensures own { Publishes W.Sends (content (seen kernel.now) (cpu_of self.old)) result self.old self.new wire.old wire.new }
+        ensures own { Publishes W.Sends (content_read (seen kernel.now) (cpu_of self.old)) result self.old self.new wire.old wire.new }
         ensures fault { result ≡ Err SendFault.WireFault → W.faults wire.old < W.faults wire.new }
         ensures cpu { cpu_of self.new ≡ cpu_of self.old }
         ensures counts { self.new.counts ≡ self.old.counts }
@@ -142,7 +142,7 @@ impl Agent {
         ensures list { self.new.list ≡ self.old.list }
         ensures fault { refusal_in result ≡ refused (seen kernel.old) (call.Consume self.old.cpu self.old.shown) }
         ensures limits { kernel.new.limits ≡ kernel.old.limits }
-        ensures extends { Extends (kinds (seen kernel.new)) (kinds (seen kernel.old)) }
+        ensures extends { Extends (kinds_read (seen kernel.new)) (kinds_read (seen kernel.old)) }
         ensures err { OnErr result (kernel.new ≡ kernel.old) }
         ensures agent_err { OnErr result (self.new ≡ self.old) }
         ensures cpu { cpu_of self.new ≡ cpu_of self.old }

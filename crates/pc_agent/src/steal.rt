@@ -2,7 +2,7 @@
 
 ghost use Rattle.std.specs.Prelude.{◌≡◌, ◌≢◌, ◌∷◌, [], List, None, Some, Ok, IfOk, OnErr, IsTrue, is_some};
 ghost use Rattle.pc_messages.specs.Run.{Extends};
-ghost use Rattle.pc_kernel.specs.Reads.{Reads, seen, kinds, is_cpu, on};
+ghost use Rattle.pc_kernel.specs.Reads.{Reads, seen, kinds_read, is_cpu, on};
 ghost use Rattle.pc_run_queue.specs.Runs.{may_run, runs_in};
 ghost use Rattle.pc_agent.specs.Counts.{steal_counted};
 ghost use Rattle.pc_agent.specs.Own.{StealsAsSeen};
@@ -105,7 +105,7 @@ impl Agent {
         ensures own { StealsAsSeen self.old.view (cpu_of self.old) result self.old.list self.new.list kernel.old kernel.new }
         ensures exact { IfOk result (λ thread. WhateverShown kernel.old self.old (λ P run p. IsSeenExactly P run p thread)) }
         ensures limits { kernel.new.limits ≡ kernel.old.limits }
-        ensures extends { Extends (kinds (seen kernel.new)) (kinds (seen kernel.old)) }
+        ensures extends { Extends (kinds_read (seen kernel.new)) (kinds_read (seen kernel.old)) }
         ensures err { OnErr result (kernel.new ≡ kernel.old) }
         ensures list_err { OnErr result (self.new.list ≡ self.old.list) }
         ensures view { self.new.view ≡ self.old.view }

@@ -48,13 +48,13 @@ commit_call P cpu t a h n =
 call_kept : (P : PlainKernel) (call : Call) → IsKept P → NoneHold (refusals (shown P) call) → IsKept (changed P call)
 call_kept P (Env call) h n = env_kept P call h n
 call_kept P (Consume cpu count) h n =
-    let size : length (reads.content (shown P) cpu) ≡ length (content P cpu) = ap length (shown-content P cpu (not_false (reads.is_cpu (shown P) cpu) n.0)) in
-    let low : count ≤ length (reads.content (shown P) cpu) = ltb-false (length (reads.content (shown P) cpu)) count n.1.0 in
+    let size : length (reads.content_read (shown P) cpu) ≡ length (content P cpu) = ap length (shown-content P cpu (not_false (reads.is_cpu (shown P) cpu) n.0)) in
+    let low : count ≤ length (reads.content_read (shown P) cpu) = ltb-false (length (reads.content_read (shown P) cpu)) count n.1.0 in
     consume_kept P cpu count h (subst (λ m. count ≤ m) size low)
 call_kept P (Associate t queue number) h n = associate_kept P t queue h n.0 n.1.0 n.1.1.1.1.0 n.1.1.1.1.1.0
 call_kept P (Commit cpu t a) h n = commit_call P cpu t a h n
 call_kept P (Sleep cpu a) h n =
-    sleep_kept P cpu a h (eqb-true a (reads.aseq (shown P) cpu) (not_false (a == reads.aseq (shown P) cpu) n.1.0) ∙ shown-aseq P cpu (not_false (reads.is_cpu (shown P) cpu) n.0))
+    sleep_kept P cpu a h (eqb-true a (reads.aseq_read (shown P) cpu) (not_false (a == reads.aseq_read (shown P) cpu) n.1.0) ∙ shown-aseq P cpu (not_false (reads.is_cpu (shown P) cpu) n.0))
 call_kept P (Rouse cpu) h n = rouse_kept P cpu h
 call_kept P (Config queue None) h n = config_none_kept P queue h
 call_kept P (Config queue (Some cpu)) h n = config_kept P queue cpu h

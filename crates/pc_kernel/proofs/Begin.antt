@@ -8,7 +8,7 @@ use Rattle.pc_calls.specs.declared.limits.Profile.TheVariants.{Two}
 use Rattle.pc_kernel.specs.declared.cpus.CpuEntry.{CpuEntry}
 use Rattle.pc_calls.specs.Limits.{bad_field}
 use Rattle.pc_messages.specs.Items.{IsItemOf}
-use Rattle.pc_kernel.specs.Reads.{seen, kinds}
+use Rattle.pc_kernel.specs.Reads.{seen, kinds_read}
 use Rattle.std.proofs.lemmas.List.Elements.{All-nil}
 use Rattle.pc_kernel.specs.PlainKernel.{start}
 use Rattle.pc_kernel.specs.Rows.{ThreadRow, CpuRow}
@@ -33,7 +33,7 @@ fresh_row limits threads cpus c h l = record {
   posts = omega arith;
   target = λ d e. let same : c ≡ d = cc in omega arith;
   on = λ t e. cc;
-  of_run = All-nil (IsItemOf (kinds (seen (rows limits threads cpus))));
+  of_run = All-nil (IsItemOf (kinds_read (seen (rows limits threads cpus))));
   tellable = record { well_formed = λ m w. absurd (omega (arith, w.1)); alike = λ m n w. absurd (omega (arith, w.1)) };
 }
 

@@ -5,14 +5,14 @@ use Rattle.pc_messages.specs.Items.{AreItemsOf, AreTellable}
 use Rattle.pc_messages.specs.declared.message.Item.{Item}
 use Rattle.pc_calls.specs.declared.limits.TheConstants.{MOST_ROOM}
 use Rattle.pc_kernel.specs.Rows.{CpuRow, KernelRows}
-use Rattle.pc_kernel.specs.Reads.{seen, kinds}
+use Rattle.pc_kernel.specs.Reads.{seen, kinds_read}
 use Rattle.pc_kernel.specs.Inner.Entries.{row_of}
 use Rattle.pc_kernel.specs.declared.cpus.CpuEntry.{CpuEntry}
 use Rattle.pc_kernel.specs.Sound.{IsCpuRow, IsSound}
 use Rattle.pc_kernel.proofs.Ranges.{ranges}
 
 pub record AreHeld (k : KernelRows) (items : List Item) : Type 0 where
-  pub of_run : AreItemsOf (kinds (seen k)) items
+  pub of_run : AreItemsOf (kinds_read (seen k)) items
   pub tellable : AreTellable items
   pub few : length items ≤ MOST_ROOM
 

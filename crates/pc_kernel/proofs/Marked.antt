@@ -11,7 +11,7 @@ use Rattle.pc_kernel.specs.declared.cpus.CpuEntry.{CpuEntry}
 use Rattle.pc_calls.specs.declared.limits.Limits.{Limits}
 use Rattle.pc_kernel.specs.PlainKernel.{PlainKernel}
 use Rattle.pc_kernel.specs.Rows.{ThreadRow, CpuRow, KernelRows}
-use Rattle.pc_kernel.specs.Reads.{seen, on, place, content}
+use Rattle.pc_kernel.specs.Reads.{seen, on, place, content_read}
 use Rattle.pc_kernel.specs.Inner.Entries.{row_of, rows, place_in, IsKernel}
 use Rattle.pc_kernel.specs.Inner.Sends.{Becomes}
 use Rattle.pc_kernel.specs.Steps.{at}
@@ -59,7 +59,7 @@ both_moved change limits threads cpus i t row new j c e fresh old k is index kno
 seen_on : (limits : Limits) (threads : List ThreadRow) (cpus : List CpuEntry) (c : ℕ) (e : CpuEntry) → slice_get cpus c ≡ Some e → on (seen (rows limits threads cpus)) c ≡ e.running
 seen_on limits threads cpus c e there = ap (option_and_then (λ (row : CpuRow). row.on)) (slice_get-map row_of cpus c ∙ ap (option_map row_of) there)
 
-pub seen_content : (limits : Limits) (threads : List ThreadRow) (cpus : List CpuEntry) (c : ℕ) (e : CpuEntry) → slice_get cpus c ≡ Some e → content (seen (rows limits threads cpus)) c ≡ e.queue.items
+pub seen_content : (limits : Limits) (threads : List ThreadRow) (cpus : List CpuEntry) (c : ℕ) (e : CpuEntry) → slice_get cpus c ≡ Some e → content_read (seen (rows limits threads cpus)) c ≡ e.queue.items
 seen_content limits threads cpus c e there = rw (slice_get-map, there) refl
 
 -- the thread on a CPU leaves it
@@ -150,12 +150,12 @@ aimed limits threads cpus i c e old target k is index there read target_there =
 
 -- the first items go
 pub cut : (r : Result (Unit {0}) TooMany) (limits : Limits) (threads : List ThreadRow) (cpus : List CpuEntry) (i c n : ℕ) (e : CpuEntry) (queue : Queue) (old : KernelRows) → IsKernel limits threads cpus → rows limits threads cpus ≡ old
-    → i ≡ c → c < old.limits.cpus → e ≡ get_or cpus i e → n ≤ length (content (seen old) c) → (IsErr r ↔ (length e.queue.items < n)) → OnOk r (queue ≡ cut_queue e.queue n)
+    → i ≡ c → c < old.limits.cpus → e ≡ get_or cpus i e → n ≤ length (content_read (seen old) c) → (IsErr r ↔ (length e.queue.items < n)) → OnOk r (queue ≡ cut_queue e.queue n)
     → Moved (λ P. record P { eaten = at P.eaten c (P.eaten c + n) }) old limits threads (set cpus i (record e { queue = queue }))
 cut r limits threads cpus i c n e queue old k is index there read few too_many ok =
     let within : c < limits.cpus = subst (λ (k : KernelRows). c < k.limits.cpus) (sym is) there in
     let get : slice_get cpus c ≡ Some e = cpu_read limits threads cpus i c e k index within read in
-    let few_here : n ≤ length (content (seen (rows limits threads cpus)) c) = subst (λ (k : KernelRows). n ≤ length (content (seen k) c)) (sym is) few in
+    let few_here : n ≤ length (content_read (seen (rows limits threads cpus)) c) = subst (λ (k : KernelRows). n ≤ length (content_read (seen k) c)) (sym is) few in
     let held : n ≤ length e.queue.items = subst (λ (items : List Item). n ≤ length items) (seen_content limits threads cpus c e get) few_here in
     rw (done r held too_many ok)
     (cpu_moved (λ P. record P { eaten = at P.eaten c (P.eaten c + n) }) limits threads cpus i c e (record e { queue = cut_queue e.queue n }) old k is index there read (λ cpu. (

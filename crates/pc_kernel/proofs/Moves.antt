@@ -11,7 +11,7 @@ use Rattle.pc_queue.specs.Queue.{Queue}
 use Rattle.pc_kernel.specs.declared.cpus.CpuEntry.{CpuEntry}
 use Rattle.pc_calls.specs.declared.limits.Limits.{Limits}
 use Rattle.pc_kernel.specs.Rows.{ThreadRow, CpuRow, KernelRows}
-use Rattle.pc_kernel.specs.Reads.{seen, kinds}
+use Rattle.pc_kernel.specs.Reads.{seen, kinds_read}
 use Rattle.pc_kernel.specs.Inner.Entries.{row_of, rows, place_in, IsKernel}
 use Rattle.pc_kernel.specs.Sound.{IsThreadRow, IsCpuRow}
 use Rattle.pc_kernel.proofs.Items.{items_of_same}
@@ -21,14 +21,14 @@ use Rattle.pc_kernel.proofs.Slots.{slice_get_set_same, slice_get_set_other, slic
 thread_row_kept : (old new : KernelRows) (row : ThreadRow) → new.limits ≡ old.limits → IsThreadRow old row → IsThreadRow new row
 thread_row_kept old new row same h = record { home = rw same h.home; told = h.told; numbers = rw same h.numbers; begun = h.begun; ran = h.ran }
 
-cpu_row_kept : (old new : KernelRows) (row : CpuRow) → new.limits ≡ old.limits → length new.threads ≡ length old.threads → ((t : ℕ) → kinds (seen new) t ≡ kinds (seen old) t) → IsCpuRow old row → IsCpuRow new row
+cpu_row_kept : (old new : KernelRows) (row : CpuRow) → new.limits ≡ old.limits → length new.threads ≡ length old.threads → ((t : ℕ) → kinds_read (seen new) t ≡ kinds_read (seen old) t) → IsCpuRow old row → IsCpuRow new row
 cpu_row_kept old new row limits count same h = record {
   room = rw limits h.room;
   held = h.held;
   posts = rw limits h.posts;
   target = rw limits h.target;
   on = rw count h.on;
-  of_run = items_of_same (kinds (seen old)) (kinds (seen new)) row.content same h.of_run;
+  of_run = items_of_same (kinds_read (seen old)) (kinds_read (seen new)) row.content same h.of_run;
   tellable = h.tellable;
 }
 
@@ -141,7 +141,7 @@ cut_row k e n h =
       posts = h.posts;
       target = h.target;
       on = h.on;
-      of_run = All-drop (IsItemOf (kinds (seen k))) n e.queue.items h.of_run;
+      of_run = All-drop (IsItemOf (kinds_read (seen k))) n e.queue.items h.of_run;
       tellable = record {
         well_formed = λ m there. h.tellable.well_formed m (contains_drop n e.queue.items (item.Thread m) there);
         alike = λ one other a b. h.tellable.alike one other (contains_drop n e.queue.items (item.Thread one) a) (contains_drop n e.queue.items (item.Thread other) b);

@@ -6,12 +6,12 @@ use Rattle.pc_messages.specs.Items.{is_of}
 use Rattle.pc_queue.specs.Queue as queue
 use Rattle.pc_kernel.specs.declared.cpus.CpuEntry.{CpuEntry}
 use Rattle.pc_kernel.specs.Rows.{CpuRow, KernelRows}
-use Rattle.pc_kernel.specs.Reads.{seen, content}
+use Rattle.pc_kernel.specs.Reads.{seen, content_read}
 use Rattle.pc_kernel.specs.Inner.Entries.{row_of}
 use Rattle.pc_kernel.specs.Sound.{IsSound}
 
 -- the queue holds a message of the thread
-pub pending_seen : (k : KernelRows) (o : Option CpuEntry) (q t : ℕ) (e : CpuEntry) → option_map row_of o ≡ slice_get k.cpus q → o ≡ Some e → queue.is_pending t e.queue.items ≡ list_any (is_of t) (content (seen k) q)
+pub pending_seen : (k : KernelRows) (o : Option CpuEntry) (q t : ℕ) (e : CpuEntry) → option_map row_of o ≡ slice_get k.cpus q → o ≡ Some e → queue.is_pending t e.queue.items ≡ list_any (is_of t) (content_read (seen k) q)
 pending_seen k o q t e there is =
     ap (λ (o : Option CpuRow). list_any (is_of t) (option_map_or (λ row. row.content) o [])) (sym (ap (option_map row_of) is) ∙ there)
 

@@ -12,7 +12,7 @@ use Rattle.pc_calls.specs.declared.refusal.Refusal.{Refusal}
 use Rattle.pc_calls.specs.declared.refusal.Refusal.TheVariants as refusal
 use Rattle.pc_kernel.specs.declared.cpus.CpuEntry.{CpuEntry}
 use Rattle.pc_kernel.specs.Rows.{ThreadRow, CpuRow, KernelRows}
-use Rattle.pc_kernel.specs.Reads.{seen, content, aseq, home, number}
+use Rattle.pc_kernel.specs.Reads.{seen, content_read, aseq_read, home, number_read}
 use Rattle.pc_kernel.specs.Steps.{queue_refusals, post_refusals}
 use Rattle.pc_kernel.specs.Inner.Entries.{row_of, rows, IsKernel}
 use Rattle.pc_kernel.proofs.Marked.{cpu_read, thread_read, seen_content}
@@ -34,8 +34,8 @@ queue_refused limits threads cpus i q e old o k is index there read why =
     let within : q < limits.cpus = subst (λ (k : KernelRows). q < k.limits.cpus) (sym is) there in
     let at : slice_get cpus q ≡ Some e = cpu_read limits threads cpus i q e k index within read in
     let has = k.queues q e at in
-    let held : content (seen (rows limits threads cpus)) q ≡ e.queue.items = seen_content limits threads cpus q e at in
-    let posts : aseq (seen (rows limits threads cpus)) q ≡ e.queue.posts = ap (λ (o : Option CpuRow). option_map_or (λ row. row.posts) o 0) (slice_get-map row_of cpus q ∙ ap (option_map row_of) at) in
+    let held : content_read (seen (rows limits threads cpus)) q ≡ e.queue.items = seen_content limits threads cpus q e at in
+    let posts : aseq_read (seen (rows limits threads cpus)) q ≡ e.queue.posts = ap (λ (o : Option CpuRow). option_map_or (λ row. row.posts) o 0) (slice_get-map row_of cpus q ∙ ap (option_map row_of) at) in
     let full = ap (λ room. nat_le room (length e.queue.items)) has.0 ∙ ap (λ items. nat_le limits.room (length items)) (sym held) in
     let spent = ap (λ most. nat_le most e.queue.posts) has.1 ∙ ap (nat_le limits.posts) (sym posts) in
     let F : Bool → Bool → Option Refusal = λ a b. first_of ((a, refusal.QueueFull) ∷ (b, refusal.PostsSpent) ∷ []) in
@@ -43,7 +43,7 @@ queue_refused limits threads cpus i q e old o k is index there read why =
     ap (option_map refused_as) why
     ∙ same_order (nat_le e.queue.room (length e.queue.items)) (nat_le e.queue.most e.queue.posts)
     ∙ ap (λ a. F a (nat_le e.queue.most e.queue.posts)) full
-    ∙ ap (F (nat_le limits.room (length (content (seen (rows limits threads cpus)) q)))) spent)
+    ∙ ap (F (nat_le limits.room (length (content_read (seen (rows limits threads cpus)) q)))) spent)
 
 pub post_refused : (limits : Limits) (threads : List ThreadRow) (cpus : List CpuEntry) (i t n q : ℕ) (row : ThreadRow) (old : KernelRows) (o : Option Refusal) → rows limits threads cpus ≡ old → i ≡ t → t < length old.threads → row ≡ get_or threads i row
     → n ≡ length row.kinds → n < limits.numbers → q ≡ row.home → o ≡ first_of (queue_refusals (seen old) q) → o ≡ first_of (post_refusals (seen old) t)
@@ -51,7 +51,7 @@ post_refused limits threads cpus i t n q row old o is index known read count few
     let within : t < length threads = subst (λ (k : KernelRows). t < length k.threads) (sym is) known in
     let at : slice_get threads t ≡ Some row = thread_read threads i t row index within read in
     let K = rows limits threads cpus in
-    let told : number (seen K) t ≡ n = ap (λ (o : Option ThreadRow). length (option_map_or (λ row. row.kinds) o [])) at ∙ sym count in
+    let told : number_read (seen K) t ≡ n = ap (λ (o : Option ThreadRow). length (option_map_or (λ row. row.kinds) o [])) at ∙ sym count in
     let lives : home (seen K) t ≡ q = ap (λ (o : Option ThreadRow). option_map_or (λ row. row.home) o 0) at ∙ sym homed in
     let spare : nat_le limits.numbers n ≡ false = grind (arith, nat_tests) in
     subst (λ (k : KernelRows). o ≡ first_of (queue_refusals (seen k) q) → o ≡ first_of (post_refusals (seen k) t)) is

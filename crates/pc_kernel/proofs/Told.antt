@@ -21,7 +21,7 @@ use Rattle.pc_calls.specs.declared.limits.Limits.{Limits}
 use Rattle.pc_kernel.specs.PlainKernel.{PlainKernel}
 use Rattle.pc_kernel.specs.PlainKernel as plain
 use Rattle.pc_kernel.specs.Rows.{ThreadRow, CpuRow, KernelRows}
-use Rattle.pc_kernel.specs.Reads.{thread_row, shown, seen, number, on}
+use Rattle.pc_kernel.specs.Reads.{thread_row, shown, seen, number_read, on}
 use Rattle.pc_kernel.specs.Inner.Entries.{row_of, rows, roused_entry, given_entry, place_in, IsKernel}
 use Rattle.pc_kernel.specs.Inner.ThreadEntry.{IsTold}
 use Rattle.pc_kernel.specs.Sound.{IsThreadRow}
@@ -218,7 +218,7 @@ on_told (Ok answer) limits threads others old new row t kind h kept c =
 on_told (Err error) limits threads others old new row t kind h kept c = rw kept refl
 
 -- the thread's numbers are not spent
-pub spare_of : (limits : Limits) (threads : List ThreadRow) (cpus : List CpuEntry) (i t : ℕ) (row : ThreadRow) → i ≡ t → t < length threads → row ≡ get_or threads i row → number (seen (rows limits threads cpus)) t < limits.numbers → length row.kinds < limits.numbers
+pub spare_of : (limits : Limits) (threads : List ThreadRow) (cpus : List CpuEntry) (i t : ℕ) (row : ThreadRow) → i ≡ t → t < length threads → row ≡ get_or threads i row → number_read (seen (rows limits threads cpus)) t < limits.numbers → length row.kinds < limits.numbers
 spare_of limits threads cpus i t row at within read spare =
     let there : slice_get threads t ≡ Some row = slice_get_read threads (length threads) t row refl within (rw (← at) read) in
     subst (λ (o : Option ThreadRow). length (option_map_or (λ row. row.kinds) o []) < limits.numbers) there spare

@@ -12,12 +12,12 @@ use Rattle.pc_kernel.specs.Steps.{refused}
 
 -- what is read of threads, and of the CPUs that are there, is what the posts and marks say
 pub record ArePlainReads (P : PlainKernel) : Type 0 where
-  pub kinds : (t : ℕ) → reads.kinds (shown P) t ≡ kinds P t
-  pub number : (t : ℕ) → reads.number (shown P) t ≡ number P t
+  pub kinds : (t : ℕ) → reads.kinds_read (shown P) t ≡ kinds P t
+  pub number : (t : ℕ) → reads.number_read (shown P) t ≡ number P t
   pub known : (t : ℕ) → reads.is_known (shown P) t ≡ is_known P t
   pub threads : (shown P).threads ≡ threads P
-  pub content : (c : ℕ) → is_cpu (shown P) c ≡ true → reads.content (shown P) c ≡ content P c
-  pub aseq : (c : ℕ) → is_cpu (shown P) c ≡ true → reads.aseq (shown P) c ≡ aseq P c
+  pub content : (c : ℕ) → is_cpu (shown P) c ≡ true → reads.content_read (shown P) c ≡ content P c
+  pub aseq : (c : ℕ) → is_cpu (shown P) c ≡ true → reads.aseq_read (shown P) c ≡ aseq P c
   pub on : (c : ℕ) → is_cpu (shown P) c ≡ true → reads.on (shown P) c ≡ P.on c
 
 -- the thread is known, alive and on no CPU, its home queue holds nothing of it, and n is the number of its last message

@@ -46,11 +46,11 @@ seen k = record { limits = k.limits; threads = length k.threads; thread = slice_
 abbrev pub is_known : Reads → ℕ → Bool
 is_known r t = is_some (r.thread t)
 
-abbrev pub kinds : Reads → ℕ → List Kind
-kinds r t = option_map_or (λ row. row.kinds) (r.thread t) []
+abbrev pub kinds_read : Reads → ℕ → List Kind
+kinds_read r t = option_map_or (λ row. row.kinds) (r.thread t) []
 
-abbrev pub number : Reads → ℕ → ℕ
-number r t = length (kinds r t)
+abbrev pub number_read : Reads → ℕ → ℕ
+number_read r t = length (kinds_read r t)
 
 abbrev pub home : Reads → ℕ → ℕ
 home r t = option_map_or (λ row. row.home) (r.thread t) 0
@@ -59,21 +59,21 @@ abbrev pub place : Reads → ℕ → Option ℕ
 place r t = option_and_then (λ row. row.on) (r.thread t)
 
 abbrev pub phase : Reads → ℕ → Option Phase
-phase r t = phase_of (kinds r t)
+phase r t = phase_of (kinds_read r t)
 
 -- the thread's mask has the CPU
 abbrev pub may_run_on : Reads → ℕ → ℕ → Bool
-may_run_on r t c = option_map_or (λ mask. allows mask c) (mask_of (kinds r t)) false
+may_run_on r t c = option_map_or (λ mask. allows mask c) (mask_of (kinds_read r t)) false
 
 -- what is read of a CPU; of one that is not there, nothing
 abbrev pub is_cpu : Reads → ℕ → Bool
 is_cpu r c = nat_lt c r.limits.cpus
 
-abbrev pub aseq : Reads → ℕ → ℕ
-aseq r c = option_map_or (λ row. row.posts) (r.cpu c) 0
+abbrev pub aseq_read : Reads → ℕ → ℕ
+aseq_read r c = option_map_or (λ row. row.posts) (r.cpu c) 0
 
-abbrev pub content : Reads → ℕ → List Item
-content r c = option_map_or (λ row. row.content) (r.cpu c) []
+abbrev pub content_read : Reads → ℕ → List Item
+content_read r c = option_map_or (λ row. row.content) (r.cpu c) []
 
 abbrev pub on : Reads → ℕ → Option ℕ
 on r c = option_and_then (λ row. row.on) (r.cpu c)
@@ -83,7 +83,7 @@ is_asleep r c = option_map_or (λ row. row.asleep) (r.cpu c) false
 
 -- the thread's home queue holds a message of it
 abbrev pub is_pending : Reads → ℕ → Bool
-is_pending r t = queue.is_pending t (content r (home r t))
+is_pending r t = queue.is_pending t (content_read r (home r t))
 
 -- what the reads of a thread answer; none of one that is not known
 abbrev pub status_of : Reads → ℕ → Option Status

@@ -7,7 +7,7 @@ use Rattle.pc_messages.specs.declared.kind.TheConstants.{MOST_TICKS}
 use Rattle.pc_calls.specs.Limits.{bad_field}
 use Rattle.pc_calls.specs.declared.limits.Profile.TheVariants.{Two}
 use Rattle.pc_kernel.specs.Rows.{ThreadRow, CpuRow, KernelRows}
-use Rattle.pc_kernel.specs.Reads.{seen, kinds}
+use Rattle.pc_kernel.specs.Reads.{seen, kinds_read}
 
 -- a thread's row: its home is there, its kinds begin with their only Created, and their ticks are at most what each can tell
 pub record IsThreadRow (k : KernelRows) (row : ThreadRow) : Type 0 where
@@ -24,7 +24,7 @@ pub record IsCpuRow (k : KernelRows) (row : CpuRow) : Type 0 where
   pub posts : row.posts ≤ k.limits.posts
   pub target : (c : ℕ) → row.target ≡ Some c → c < k.limits.cpus
   pub on : (t : ℕ) → row.on ≡ Some t → t < length k.threads
-  pub of_run : AreItemsOf (kinds (seen k)) row.content
+  pub of_run : AreItemsOf (kinds_read (seen k)) row.content
   pub tellable : AreTellable row.content
 
 -- the limits keep the ranges of profile Two, which are the widest

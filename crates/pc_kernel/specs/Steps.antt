@@ -21,7 +21,7 @@ use Rattle.pc_calls.specs.declared.refusal.Refusal.TheVariants as refusal
 use Rattle.pc_calls.specs.Conditions.{first_of}
 use Rattle.pc_kernel.specs.PlainKernel.{PlainKernel, Post}
 use Rattle.pc_kernel.specs.PlainKernel as plain
-use Rattle.pc_kernel.specs.Reads.{Reads, shown, is_known, number, home, place, phase, may_run_on, is_cpu, aseq, content, on, is_pending}
+use Rattle.pc_kernel.specs.Reads.{Reads, shown, is_known, number_read, home, place, phase, may_run_on, is_cpu, aseq_read, content_read, on, is_pending}
 
 -- tests on a phase
 abbrev pub is_dead : Option Phase → Bool
@@ -49,13 +49,13 @@ Condition = Bool × Refusal
 -- of a post to a queue
 abbrev pub queue_refusals : Reads → ℕ → List Condition
 queue_refusals r q =
-    (nat_le r.limits.room (length (content r q)), refusal.QueueFull)
-    ∷ (nat_le r.limits.posts (aseq r q), refusal.PostsSpent)
+    (nat_le r.limits.room (length (content_read r q)), refusal.QueueFull)
+    ∷ (nat_le r.limits.posts (aseq_read r q), refusal.PostsSpent)
     ∷ []
 
 -- of a post of a thread's message to its home queue
 abbrev pub post_refusals : Reads → ℕ → List Condition
-post_refusals r t = (nat_le r.limits.numbers (number r t), refusal.NumbersSpent) ∷ queue_refusals r (home r t)
+post_refusals r t = (nat_le r.limits.numbers (number_read r t), refusal.NumbersSpent) ∷ queue_refusals r (home r t)
 
 abbrev pub mask_refusals : Reads → ℕ → List Condition
 mask_refusals r mask = (mask == 0, refusal.EmptyMask) ∷ (nat_le (2 ^ r.limits.cpus) mask, refusal.MaskTooWide) ∷ []
@@ -98,26 +98,26 @@ env_refusals r (Tick cpu) = (not (is_cpu r cpu), refusal.BadCpu) ∷ queue_refus
 -- of each call, in order
 abbrev pub refusals : Reads → Call → List Condition
 refusals r (Env call) = env_refusals r call
-refusals r (Consume cpu count) = (not (is_cpu r cpu), refusal.BadCpu) ∷ (nat_lt (length (content r cpu)) count, refusal.TooMany) ∷ []
+refusals r (Consume cpu count) = (not (is_cpu r cpu), refusal.BadCpu) ∷ (nat_lt (length (content_read r cpu)) count, refusal.TooMany) ∷ []
 refusals r (Associate t queue n) =
     (not (is_known r t), refusal.UnknownThread)
     ∷ (not (is_cpu r queue), refusal.BadCpu)
     ∷ (is_dead (phase r t), refusal.Dead)
-    ∷ (not (n == number r t), refusal.Stale (number r t))
+    ∷ (not (n == number_read r t), refusal.Stale (number_read r t))
     ∷ (is_pending r t, refusal.Pending)
     ∷ (is_some (place r t), refusal.Running (unwrap_or (place r t) 0))
     ∷ []
 refusals r (Commit cpu t n) =
     (not (is_cpu r cpu), refusal.BadCpu)
     ∷ (not (is_known r t), refusal.UnknownThread)
-    ∷ (not (n == aseq r cpu), refusal.Stale (aseq r cpu))
+    ∷ (not (n == aseq_read r cpu), refusal.Stale (aseq_read r cpu))
     ∷ (not (is_ready (phase r t)), refusal.NotReady)
     ∷ (not (home r t == cpu), refusal.NotYours (home r t))
     ∷ (is_some (place r t), refusal.Running (unwrap_or (place r t) 0))
     ∷ (not (may_run_on r t cpu), refusal.Forbidden)
     ∷ (is_some (on r cpu), refusal.Busy)
     ∷ []
-refusals r (Sleep cpu n) = (not (is_cpu r cpu), refusal.BadCpu) ∷ (not (n == aseq r cpu), refusal.Stale (aseq r cpu)) ∷ []
+refusals r (Sleep cpu n) = (not (is_cpu r cpu), refusal.BadCpu) ∷ (not (n == aseq_read r cpu), refusal.Stale (aseq_read r cpu)) ∷ []
 refusals r (Rouse cpu) = (not (is_cpu r cpu), refusal.BadCpu) ∷ []
 refusals r (Config queue None) = (not (is_cpu r queue), refusal.BadCpu) ∷ []
 refusals r (Config queue (Some cpu)) = (not (is_cpu r queue) || not (is_cpu r cpu), refusal.BadCpu) ∷ []

@@ -39,7 +39,7 @@ impl Kernel {
     ghost use Rattle.pc_kernel.specs.Answers.{Shows, IsReached};
     ghost use Rattle.pc_kernel.specs.Sound.{IsSound};
     ghost use Rattle.pc_calls.specs.declared.limits.LimitField.{LimitField};
-    ghost use Rattle.pc_kernel.specs.Reads.{seen, kinds, status_of, reported_of, history_of, queue_of, aseq_of, aseq, content, is_known, is_cpu, on, is_asleep};
+    ghost use Rattle.pc_kernel.specs.Reads.{seen, kinds_read, status_of, reported_of, history_of, queue_of, aseq_of, aseq_read, content_read, is_known, is_cpu, on, is_asleep};
 
     /// The kernel at the start, with limits of profile One.
     pub fn new(alloc: Global, limits: Limits) -> Result<Self, LimitsFault>
@@ -167,9 +167,9 @@ impl Kernel {
 
     /// The count of posts to the CPU's queue, and all that the queue holds, the oldest first. The items stay.
     pub fn peek(&self, cpu: Cpu) -> Result<(u32, Vec<Item>), CallFault>
-        ensures posts { IfOk result (λ read. read.0 ≡ aseq (seen self.now) cpu) }
-        ensures content { IfOk result (λ read. read.1.items ≡ content (seen self.now) cpu) }
-        ensures of_run { IfOk result (λ read. AreItemsOf (kinds (seen self.now)) read.1.items) }
+        ensures posts { IfOk result (λ read. read.0 ≡ aseq_read (seen self.now) cpu) }
+        ensures content { IfOk result (λ read. read.1.items ≡ content_read (seen self.now) cpu) }
+        ensures of_run { IfOk result (λ read. AreItemsOf (kinds_read (seen self.now)) read.1.items) }
         ensures tellable { IfOk result (λ read. AreTellable read.1.items) }
         ensures few { IfOk result (λ read. length read.1.items ≤ MOST_ROOM) }
         ensures bad_cpu { (result ≡ Err (CallFault.Refused Refusal.BadCpu)) ↔ IsFalse (is_cpu (seen self.now) cpu) }

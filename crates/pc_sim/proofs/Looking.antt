@@ -10,7 +10,7 @@ use Rattle.pc_join.specs.ByName.{known_in}
 use Rattle.pc_join.specs.Sets.{as_members, IsSameSet}
 use Rattle.pc_kernel.specs.Answers.{Shows}
 use Rattle.pc_kernel.specs.PlainKernel.{kinds}
-use Rattle.pc_kernel.specs.Reads.{Reads, seen, shown, is_cpu, is_asleep, number}
+use Rattle.pc_kernel.specs.Reads.{Reads, seen, shown, is_cpu, is_asleep, number_read}
 use Rattle.pc_kernel.specs.Rows.{KernelRows}
 use Rattle.pc_thread_view.specs.Told.{Told, numbers_of}
 use Rattle.pc_view.specs.declared.view.View.{View}
@@ -106,12 +106,12 @@ module _ (prefix : (view : View) (thread n : ℕ) (told : Told) → thread_of vi
   has_all run reads view set thread of_run same = (
     λ h. record {
       known = h.known;
-      all = λ n low high. let reached : number reads thread ≤ upto_of view thread = h.reached in
+      all = λ n low high. let reached : number_read reads thread ≤ upto_of view thread = h.reached in
           sym (same (thread ∷ n ∷ [])) ∙ told_upto view thread n (thread_of view thread) refl low (let le : n ≤ upto_of view thread = omega arith in le);
     },
     λ h. record {
       known = h.known;
-      reached = elim (cases_lt (upto_of view thread) (number reads thread)) [
+      reached = elim (cases_lt (upto_of view thread) (number_read reads thread)) [
         | inl short ↦
             absurd (false≢true (sym (next_missing run view thread (thread_of view thread) of_run refl) ∙ same (thread ∷ (upto_of view thread + 1) ∷ [])
             ∙ h.all (upto_of view thread + 1) (omega arith) (omega arith)))

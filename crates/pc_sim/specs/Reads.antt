@@ -6,7 +6,7 @@ use Rattle.pc_calls.specs.declared.refusal.Refusal.TheVariants as refusal
 use Rattle.pc_join.specs.Sets.{has, as_members, IsSameSet}
 use Rattle.pc_kernel.specs.PlainKernel.{kinds}
 use Rattle.pc_kernel.specs.Reads as kernel
-use Rattle.pc_kernel.specs.Reads.{shown, is_cpu, is_asleep, is_known, number}
+use Rattle.pc_kernel.specs.Reads.{shown, is_cpu, is_asleep, is_known, number_read}
 use Rattle.pc_kernel.specs.Rows.{ThreadRow}
 use Rattle.pc_script.specs.declared.command.Read.{Read}
 use Rattle.pc_script.specs.declared.command.Read.TheVariants.{Status, Asleep, Show, Same, Complete}
@@ -54,7 +54,7 @@ IsComparing w c other told = MatchBool (are_cpus w c other) (IsSameness w c othe
 -- the thread is known, and the set has all its messages so far
 pub record HasAll (reads : kernel.Reads) (set : Set) (thread : ℕ) : Type 0 where
   pub known : IsTrue (is_known reads thread)
-  pub all : (n : ℕ) → 1 ≤ n → n ≤ number reads thread → has set thread n ≡ true
+  pub all : (n : ℕ) → 1 ≤ n → n ≤ number_read reads thread → has set thread n ≡ true
 
 -- whether an agent has taken in all messages of a thread
 pub record IsCompleteness (w : PlainWorld) (c thread : ℕ) (told : Response) : Type 0 where

@@ -12,7 +12,7 @@ use Rattle.pc_thread_view.specs.Histories.{Has, IsOfHistory, IsPrefixOf}
 use Rattle.pc_thread_view.proofs.Histories.{of_history}
 use Rattle.pc_kernel.specs.Rows.{KernelRows, ThreadRow}
 use Rattle.pc_kernel.specs.Sound.{IsSound}
-use Rattle.pc_kernel.specs.Reads.{seen, kinds, history_of, reported_of}
+use Rattle.pc_kernel.specs.Reads.{seen, kinds_read, history_of, reported_of}
 use Rattle.pc_view.specs.declared.view.View.{View}
 use Rattle.pc_join.proofs.Entries.{IsWalked}
 use Rattle.pc_view.specs.Views.{IsOfRun, source_of, thread_of}
@@ -64,14 +64,14 @@ pub all_audited : (run : Run) (view : View) → ((thread : ℕ) (told : Told) �
 all_audited run view all = record { kept = λ thread told there. (all thread told there).not_void; each = λ thread told there. (all thread told there).of_thread }
 
 -- what a kernel's history is
-pub kinds_here : (k : KernelRows) (thread : ℕ) (history : List Kind) → ◌≡◌ {A = Option (List Kind)} (Some history) (history_of (seen k) thread) → history ≡ kinds (seen k) thread
+pub kinds_here : (k : KernelRows) (thread : ℕ) (history : List Kind) → ◌≡◌ {A = Option (List Kind)} (Some history) (history_of (seen k) thread) → history ≡ kinds_read (seen k) thread
 kinds_here k thread history e = here ((seen k).thread thread) e
   where
     here : (o : Option ThreadRow) → ◌≡◌ {A = Option (List Kind)} (Some history) (option_map (λ row. row.kinds) o) → history ≡ option_map_or (λ row. row.kinds) o []
     here None e = cc
     here (Some row) e = cc
 
-pub kinds_none : (k : KernelRows) (thread : ℕ) → ◌≡◌ {A = Option (List Kind)} None (history_of (seen k) thread) → [] ≡ kinds (seen k) thread
+pub kinds_none : (k : KernelRows) (thread : ℕ) → ◌≡◌ {A = Option (List Kind)} None (history_of (seen k) thread) → [] ≡ kinds_read (seen k) thread
 kinds_none k thread e = none ((seen k).thread thread) e
   where
     none : (o : Option ThreadRow) → ◌≡◌ {A = Option (List Kind)} None (option_map (λ row. row.kinds) o) → [] ≡ option_map_or (λ row. row.kinds) o []
@@ -118,10 +118,10 @@ none_complete k view thread sound none h = by_row (slice_get k.threads thread) r
 -- what is held of a thread reports the kernel's state of it, where it is complete
 pub reports_state : (k : KernelRows) (view : View) (thread : ℕ) (held : Told) (history : List Kind) → ◌≡◌ {A = Option (List Kind)} (Some history) (history_of (seen k) thread)
     → ◌≡◌ {A = Option Told} (Some held) (thread_of view thread) → length history ≤ held.upto
-    → (told : Told) × (thread_of view thread ≡ Some told) × (IsPrefixOf (kinds (seen k) thread) told → told.state ≡ reported_of (seen k) thread)
+    → (told : Told) × (thread_of view thread ≡ Some told) × (IsPrefixOf (kinds_read (seen k) thread) told → told.state ≡ reported_of (seen k) thread)
 reports_state k view thread held history here value long =
-    let same : history ≡ kinds (seen k) thread = kinds_here k thread history here in (
+    let same : history ≡ kinds_read (seen k) thread = kinds_here k thread history here in (
       held,
       sym value,
-      λ prefix. prefix.state ∙ ap state_of (take_all held.upto (kinds (seen k) thread) (subst (λ l. length l ≤ held.upto) same long)) ∙ ap state_of (sym same) ∙ sym (reported_here k thread history here),
+      λ prefix. prefix.state ∙ ap state_of (take_all held.upto (kinds_read (seen k) thread) (subst (λ l. length l ≤ held.upto) same long)) ∙ ap state_of (sym same) ∙ sym (reported_here k thread history here),
     )

@@ -4,7 +4,7 @@ use Rattle.pc_messages.specs.declared.kind.Kind.{Kind}
 use Rattle.pc_messages.specs.State.{state_of}
 use Rattle.pc_thread_view.specs.Told.{Told}
 use Rattle.pc_thread_view.specs.Histories.{Has, IsPrefixOf}
-use Rattle.pc_kernel.specs.Reads.{Reads, is_known, number}
+use Rattle.pc_kernel.specs.Reads.{Reads, is_known, number_read}
 use Rattle.pc_view.specs.declared.view.View.{View}
 use Rattle.pc_view.specs.Prefixes.{upto_of}
 
@@ -34,4 +34,4 @@ Departs kinds told number =
 -- the kernel knows the thread, and the view all its messages so far
 pub record IsComplete (view : View) (reads : Reads) (thread : ℕ) : Type 0 where
   pub known : IsTrue (is_known reads thread)
-  pub reached : number reads thread ≤ upto_of view thread
+  pub reached : number_read reads thread ≤ upto_of view thread

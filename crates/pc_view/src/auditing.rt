@@ -5,7 +5,7 @@ ghost use Rattle.pc_messages.specs.declared.message.TheConstants.{GREATEST_NUMBE
 ghost use Rattle.pc_messages.specs.Run.{Run, IsBegun, kind_at};
 ghost use Rattle.pc_messages.specs.State.{state_of, ran_of};
 ghost use Rattle.pc_join.specs.Sets.{IsVoid, source_at};
-ghost use Rattle.pc_kernel.specs.Reads.{seen, kinds, reported_of};
+ghost use Rattle.pc_kernel.specs.Reads.{seen, kinds_read, reported_of};
 ghost use Rattle.pc_kernel.specs.Sound.{IsSound};
 ghost use Rattle.pc_thread_view.specs.Told.{Told, IsView};
 ghost use Rattle.pc_view.specs.Views.{IsOfRun, source_of, thread_of};
@@ -32,7 +32,7 @@ pub struct Stranger {
 pub fn complete(view: &View, kernel: &Kernel, thread: Tid) -> bool
     ensures exact { IsTrue result ↔ IsComplete view.now (seen kernel.now) thread }
     ensures reports { IsTrue result → (told : Told) × (thread_of view.now thread ≡ Some told)
-        × (IsPrefixOf (kinds (seen kernel.now) thread) told → told.state ≡ reported_of (seen kernel.now) thread) }
+        × (IsPrefixOf (kinds_read (seen kernel.now) thread) told → told.state ≡ reported_of (seen kernel.now) thread) }
 {
     kernel.is_sound();
     match kernel.history(thread) {
@@ -46,11 +46,11 @@ pub fn complete(view: &View, kernel: &Kernel, thread: Tid) -> bool
 
 /// Whether all that the view tells is of the kernel's run: if not, the least thread of which it is not.
 pub fn audit(view: &View, kernel: &Kernel) -> Result<(), Stranger>
-    ensures exact { IsOk result ↔ IsOfRun (kinds (seen kernel.now)) view.now }
+    ensures exact { IsOk result ↔ IsOfRun (kinds_read (seen kernel.now)) view.now }
     ensures departs { IfErr result (λ stranger. (told : Told) × (thread_of view.now stranger.thread ≡ Some told)
-        × Departs (kinds (seen kernel.now) stranger.thread) told stranger.number) }
+        × Departs (kinds_read (seen kernel.now) stranger.thread) told stranger.number) }
     ensures least { IfErr result (λ stranger. (thread : ℕ) (told : Told) → thread < stranger.thread
-        → thread_of view.now thread ≡ Some told → IsOfHistory (kinds (seen kernel.now) thread) told) }
+        → thread_of view.now thread ≡ Some told → IsOfHistory (kinds_read (seen kernel.now) thread) told) }
 {
     kernel.is_sound();
     for (thread, held) in view.iter() {
@@ -64,8 +64,8 @@ pub fn audit(view: &View, kernel: &Kernel) -> Result<(), Stranger>
 /// Where what is held of the thread departs from its history.
 fn departure_of(kernel: &Kernel, thread: Tid, held: &ThreadView) -> Option<u32>
     requires { IsSound kernel.now }
-    ensures some { IfSome result (λ number. Departs (kinds (seen kernel.now) thread) held.now number) }
-    ensures none { result ≡ None → IsOfHistory (kinds (seen kernel.now) thread) held.now }
+    ensures some { IfSome result (λ number. Departs (kinds_read (seen kernel.now) thread) held.now number) }
+    ensures none { result ≡ None → IsOfHistory (kinds_read (seen kernel.now) thread) held.now }
     ensures told { IsView held.now }
 {
     match kernel.history(thread) {

@@ -60,10 +60,10 @@ neither false b x y e f = cc
 module _ (laws : KernelLaws) (limits : Limits) (w : PlainWorld) (h : IsGood limits w) (c : ℕ) (there : is_cpu (shown w.kernel) c ≡ true) where
   consume_accepted : refused (shown w.kernel) (call.Consume c (w.agents c).shown) ≡ None
   consume_accepted =
-      let held : length (reads.content (shown w.kernel) c) ≡ length (content w.kernel c) = ap length ((laws.reads w.kernel).content c there) in
+      let held : length (reads.content_read (shown w.kernel) c) ≡ length (content w.kernel c) = ap length ((laws.reads w.kernel).content c there) in
       let short = shown_short laws limits w h c in
-      let enough : nat_lt (length (reads.content (shown w.kernel) c)) (w.agents c).shown ≡ false = not_below (length (reads.content (shown w.kernel) c)) (w.agents c).shown (omega arith) in
-      neither (is_cpu (shown w.kernel) c) (nat_lt (length (reads.content (shown w.kernel) c)) (w.agents c).shown) refusals.BadCpu refusals.TooMany there enough
+      let enough : nat_lt (length (reads.content_read (shown w.kernel) c)) (w.agents c).shown ≡ false = not_below (length (reads.content_read (shown w.kernel) c)) (w.agents c).shown (omega arith) in
+      neither (is_cpu (shown w.kernel) c) (nat_lt (length (reads.content_read (shown w.kernel) c)) (w.agents c).shown) refusals.BadCpu refusals.TooMany there enough
 
   pub consume_takes : (told : Reply) (new : PlainWorld) → Step w (event.Consume c) told new → told ≡ replies.Consumed (w.agents c).shown
   consume_takes told new s =
@@ -120,8 +120,8 @@ module _ (laws : KernelLaws) (limits : Limits) (w : PlainWorld) (h : IsGood limi
       let home : IsAtHome P t = subst (λ P. IsAtHome P t) (sym h.replayed) (laws.home limits h.calls t) in
       let cpu : is_known P t ≡ true → is_cpu (shown P) (P.home t) ≡ true =
       subst (λ (P : PlainKernel). is_known P t ≡ true → is_cpu (shown P) (P.home t) ≡ true) (sym h.replayed) (laws.homes limits h.calls t) in
-      let held : reads.content (shown P) (reads.home (shown P) t) ≡ content P (P.home t) =
-      ap (reads.content (shown P)) (home_read P t exact.known) ∙ (laws.reads P).content (P.home t) (cpu exact.known) in
+      let held : reads.content_read (shown P) (reads.home (shown P) t) ≡ content P (P.home t) =
+      ap (reads.content_read (shown P)) (home_read P t exact.known) ∙ (laws.reads P).content (P.home t) (cpu exact.known) in
       elim (cases_eq q (P.home t)) [
         | inl e ↦ ap (waiting P t) e ∙ none_pending t (content P (P.home t)) (ap (list_any (is_of t)) (sym held) ∙ exact.nothing_waits)
         | inr o ↦ home.elsewhere q o

@@ -175,7 +175,7 @@ module _ (laws : KernelLaws) (limits : Limits) (w : PlainWorld) (h : IsGood limi
   pick_step c n None e =
       let names = ready_list (shown w.kernel) c n (w.agents c).list in
       commit_step c n names
-      (third (not (n == reads.aseq (shown w.kernel) c)) (is_some (on (shown w.kernel) c)) (is_nothing names) (refusals.Stale (reads.aseq (shown w.kernel) c)) refusals.Busy refusals.NothingReady e)
+      (third (not (n == reads.aseq_read (shown w.kernel) c)) (is_some (on (shown w.kernel) c)) (is_nothing names) (refusals.Stale (reads.aseq_read (shown w.kernel) c)) refusals.Busy refusals.NothingReady e)
   pick_step c n (Some why) e = (replies.Refused why, with_agent w c (record (w.agents c) { list = left_by why (w.agents c).list }), (refl, refl))
 
   take_step : (c t : ℕ) (o : Option Refusal) → Can (IsTakenOver w c t o)

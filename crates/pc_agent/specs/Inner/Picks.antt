@@ -6,14 +6,14 @@ use Rattle.pc_calls.specs.declared.call.Call.TheVariants as call
 use Rattle.pc_calls.specs.declared.refusal.Refusal.{Refusal}
 use Rattle.pc_calls.specs.declared.refusal.Refusal.TheVariants.{Stale, Busy, NothingReady}
 use Rattle.pc_kernel.specs.Answers.{Accepts, Steps, done}
-use Rattle.pc_kernel.specs.Reads.{Reads, seen, aseq, on}
+use Rattle.pc_kernel.specs.Reads.{Reads, seen, aseq_read, on}
 use Rattle.pc_kernel.specs.Rows.{KernelRows}
 use Rattle.pc_agent.specs.PlainAgent.{pick_refused, ready_list}
 use Rattle.pc_agent.specs.Running.{left_by}
 
 -- why an agent does not even look at its run list, in order
 abbrev pub unready_for : Reads → ℕ → ℕ → Option Refusal
-unready_for r cpu n = first_of ((not (n == aseq r cpu), Stale (aseq r cpu)) ∷ (is_some (on r cpu), Busy) ∷ [])
+unready_for r cpu n = first_of ((not (n == aseq_read r cpu), Stale (aseq_read r cpu)) ∷ (is_some (on r cpu), Busy) ∷ [])
 
 -- the first name of the list that the kernel commits is committed, and what follows it is left; where there is none, the list is
 -- empty and the kernel as it was

@@ -11,7 +11,7 @@ use pc_messages::{Cpu, Tid};
 impl Kernel {
     ghost use Rattle.pc_kernel.specs.Answers.{Steps, done};
     ghost use Rattle.pc_messages.specs.Run.{Extends};
-    ghost use Rattle.pc_kernel.specs.Reads.{seen, kinds};
+    ghost use Rattle.pc_kernel.specs.Reads.{seen, kinds_read};
     ghost use Rattle.pc_kernel.specs.Steps.{refused};
 
     /// Removes the first items of the CPU's queue.
@@ -19,7 +19,7 @@ impl Kernel {
         ensures step { Steps done (Call.Consume cpu count) result self.old self.new }
         ensures fault { refusal_in result ≡ refused (seen self.old) (Call.Consume cpu count) }
         ensures limits { self.new.limits ≡ self.old.limits }
-        ensures extends { Extends (kinds (seen self.new)) (kinds (seen self.old)) }
+        ensures extends { Extends (kinds_read (seen self.new)) (kinds_read (seen self.old)) }
         ensures err { OnErr result (self.new ≡ self.old) }
     {
         match self.tables.consume_fault(cpu, count) {
@@ -37,7 +37,7 @@ impl Kernel {
         ensures step { Steps done (Call.Associate thread queue number) result self.old self.new }
         ensures fault { refusal_in result ≡ refused (seen self.old) (Call.Associate thread queue number) }
         ensures limits { self.new.limits ≡ self.old.limits }
-        ensures extends { Extends (kinds (seen self.new)) (kinds (seen self.old)) }
+        ensures extends { Extends (kinds_read (seen self.new)) (kinds_read (seen self.old)) }
         ensures err { OnErr result (self.new ≡ self.old) }
     {
         match self.tables.associate_fault(thread, queue, number) {
@@ -55,7 +55,7 @@ impl Kernel {
         ensures step { Steps done (Call.Commit cpu thread aseq) result self.old self.new }
         ensures fault { refusal_in result ≡ refused (seen self.old) (Call.Commit cpu thread aseq) }
         ensures limits { self.new.limits ≡ self.old.limits }
-        ensures extends { Extends (kinds (seen self.new)) (kinds (seen self.old)) }
+        ensures extends { Extends (kinds_read (seen self.new)) (kinds_read (seen self.old)) }
         ensures err { OnErr result (self.new ≡ self.old) }
     {
         match self.tables.commit_fault(cpu, thread, aseq) {
@@ -72,7 +72,7 @@ impl Kernel {
         ensures step { Steps done (Call.Sleep cpu aseq) result self.old self.new }
         ensures fault { refusal_in result ≡ refused (seen self.old) (Call.Sleep cpu aseq) }
         ensures limits { self.new.limits ≡ self.old.limits }
-        ensures extends { Extends (kinds (seen self.new)) (kinds (seen self.old)) }
+        ensures extends { Extends (kinds_read (seen self.new)) (kinds_read (seen self.old)) }
         ensures err { OnErr result (self.new ≡ self.old) }
     {
         match self.tables.sleep_fault(cpu, aseq) {
@@ -89,7 +89,7 @@ impl Kernel {
         ensures step { Steps done (Call.Rouse cpu) result self.old self.new }
         ensures fault { refusal_in result ≡ refused (seen self.old) (Call.Rouse cpu) }
         ensures limits { self.new.limits ≡ self.old.limits }
-        ensures extends { Extends (kinds (seen self.new)) (kinds (seen self.old)) }
+        ensures extends { Extends (kinds_read (seen self.new)) (kinds_read (seen self.old)) }
         ensures err { OnErr result (self.new ≡ self.old) }
     {
         match self.tables.rouse_fault(cpu) {
@@ -106,7 +106,7 @@ impl Kernel {
         ensures step { Steps done (Call.Config queue target) result self.old self.new }
         ensures fault { refusal_in result ≡ refused (seen self.old) (Call.Config queue target) }
         ensures limits { self.new.limits ≡ self.old.limits }
-        ensures extends { Extends (kinds (seen self.new)) (kinds (seen self.old)) }
+        ensures extends { Extends (kinds_read (seen self.new)) (kinds_read (seen self.old)) }
         ensures err { OnErr result (self.new ≡ self.old) }
     {
         match self.tables.config_fault(queue, &target) {

@@ -9,7 +9,7 @@ use pc_calls::{Answer, Call, CallFault, EnvCall, Posted, Refusal};
 impl Kernel {
     ghost use Rattle.pc_messages.specs.Run.{Extends};
     ghost use Rattle.pc_kernel.specs.Answers.{StepsInMemory, itself};
-    ghost use Rattle.pc_kernel.specs.Reads.{seen, kinds};
+    ghost use Rattle.pc_kernel.specs.Reads.{seen, kinds_read};
     ghost use Rattle.pc_kernel.specs.Steps.{refused};
 
     /// Makes the call.
@@ -19,7 +19,7 @@ impl Kernel {
             ↔ (refused (seen self.old) call ≡ Some refusal) }
         ensures environment { result ≡ Err CallFault.OutOfMemory → (env : EnvCall) × (call ≡ Call.Env env) }
         ensures limits { self.new.limits ≡ self.old.limits }
-        ensures extends { Extends (kinds (seen self.new)) (kinds (seen self.old)) }
+        ensures extends { Extends (kinds_read (seen self.new)) (kinds_read (seen self.old)) }
         ensures err { OnErr result (self.new ≡ self.old) }
     {
         match call {
@@ -43,7 +43,7 @@ impl Kernel {
         ensures fault { (refusal : Refusal) → (result ≡ Err (CallFault.Refused refusal))
             ↔ (refused (seen self.old) (Call.Env call) ≡ Some refusal) }
         ensures limits { self.new.limits ≡ self.old.limits }
-        ensures extends { Extends (kinds (seen self.new)) (kinds (seen self.old)) }
+        ensures extends { Extends (kinds_read (seen self.new)) (kinds_read (seen self.old)) }
         ensures err { OnErr result (self.new ≡ self.old) }
     {
         match call {

@@ -11,7 +11,7 @@ use std::alloc::AllocError;
 
 impl Kernel {
     ghost use Rattle.pc_kernel.specs.Answers.{StepsInMemory};
-    ghost use Rattle.pc_kernel.specs.Reads.{seen, kinds};
+    ghost use Rattle.pc_kernel.specs.Reads.{seen, kinds_read};
     ghost use Rattle.pc_kernel.specs.Steps.{refused};
 
     /// Creates a thread, whose name is the next one and whose home is the queue.
@@ -20,7 +20,7 @@ impl Kernel {
         ensures fault { (refusal : Refusal) → (result ≡ Err (CallFault.Refused refusal))
             ↔ (refused (seen self.old) (Call.Env (EnvCall.Create queue mask ready)) ≡ Some refusal) }
         ensures limits { self.new.limits ≡ self.old.limits }
-        ensures extends { Extends (kinds (seen self.new)) (kinds (seen self.old)) }
+        ensures extends { Extends (kinds_read (seen self.new)) (kinds_read (seen self.old)) }
         ensures err { OnErr result (self.new ≡ self.old) }
     {
         match self.tables.first_kind(queue, mask, ready) {
@@ -35,7 +35,7 @@ impl Kernel {
         ensures fault { (refusal : Refusal) → (result ≡ Err (CallFault.Refused refusal))
             ↔ (refused (seen self.old) (Call.Env (EnvCall.Wake thread)) ≡ Some refusal) }
         ensures limits { self.new.limits ≡ self.old.limits }
-        ensures extends { Extends (kinds (seen self.new)) (kinds (seen self.old)) }
+        ensures extends { Extends (kinds_read (seen self.new)) (kinds_read (seen self.old)) }
         ensures err { OnErr result (self.new ≡ self.old) }
     {
         match self.tables.wake_fault(thread) {
@@ -50,7 +50,7 @@ impl Kernel {
         ensures fault { (refusal : Refusal) → (result ≡ Err (CallFault.Refused refusal))
             ↔ (refused (seen self.old) (Call.Env (EnvCall.Block cpu ran)) ≡ Some refusal) }
         ensures limits { self.new.limits ≡ self.old.limits }
-        ensures extends { Extends (kinds (seen self.new)) (kinds (seen self.old)) }
+        ensures extends { Extends (kinds_read (seen self.new)) (kinds_read (seen self.old)) }
         ensures err { OnErr result (self.new ≡ self.old) }
     {
         self.tables.leave(cpu, Kind::Blocked { ran })
@@ -62,7 +62,7 @@ impl Kernel {
         ensures fault { (refusal : Refusal) → (result ≡ Err (CallFault.Refused refusal))
             ↔ (refused (seen self.old) (Call.Env (EnvCall.YieldNow cpu ran)) ≡ Some refusal) }
         ensures limits { self.new.limits ≡ self.old.limits }
-        ensures extends { Extends (kinds (seen self.new)) (kinds (seen self.old)) }
+        ensures extends { Extends (kinds_read (seen self.new)) (kinds_read (seen self.old)) }
         ensures err { OnErr result (self.new ≡ self.old) }
     {
         self.tables.leave(cpu, Kind::Yield { ran })
@@ -74,7 +74,7 @@ impl Kernel {
         ensures fault { (refusal : Refusal) → (result ≡ Err (CallFault.Refused refusal))
             ↔ (refused (seen self.old) (Call.Env (EnvCall.Preempt cpu ran)) ≡ Some refusal) }
         ensures limits { self.new.limits ≡ self.old.limits }
-        ensures extends { Extends (kinds (seen self.new)) (kinds (seen self.old)) }
+        ensures extends { Extends (kinds_read (seen self.new)) (kinds_read (seen self.old)) }
         ensures err { OnErr result (self.new ≡ self.old) }
     {
         self.tables.leave(cpu, Kind::Preempted { ran })
@@ -86,7 +86,7 @@ impl Kernel {
         ensures fault { (refusal : Refusal) → (result ≡ Err (CallFault.Refused refusal))
             ↔ (refused (seen self.old) (Call.Env (EnvCall.Die cpu ran)) ≡ Some refusal) }
         ensures limits { self.new.limits ≡ self.old.limits }
-        ensures extends { Extends (kinds (seen self.new)) (kinds (seen self.old)) }
+        ensures extends { Extends (kinds_read (seen self.new)) (kinds_read (seen self.old)) }
         ensures err { OnErr result (self.new ≡ self.old) }
     {
         self.tables.leave(cpu, Kind::Dead { ran })
@@ -98,7 +98,7 @@ impl Kernel {
         ensures fault { (refusal : Refusal) → (result ≡ Err (CallFault.Refused refusal))
             ↔ (refused (seen self.old) (Call.Env (EnvCall.SetAffinity thread mask)) ≡ Some refusal) }
         ensures limits { self.new.limits ≡ self.old.limits }
-        ensures extends { Extends (kinds (seen self.new)) (kinds (seen self.old)) }
+        ensures extends { Extends (kinds_read (seen self.new)) (kinds_read (seen self.old)) }
         ensures err { OnErr result (self.new ≡ self.old) }
     {
         match self.tables.affinity(thread, mask) {
@@ -113,7 +113,7 @@ impl Kernel {
         ensures fault { (refusal : Refusal) → (result ≡ Err (CallFault.Refused refusal))
             ↔ (refused (seen self.old) (Call.Env (EnvCall.SetPriority thread level)) ≡ Some refusal) }
         ensures limits { self.new.limits ≡ self.old.limits }
-        ensures extends { Extends (kinds (seen self.new)) (kinds (seen self.old)) }
+        ensures extends { Extends (kinds_read (seen self.new)) (kinds_read (seen self.old)) }
         ensures err { OnErr result (self.new ≡ self.old) }
     {
         match self.tables.priority(thread, level) {
@@ -128,7 +128,7 @@ impl Kernel {
         ensures fault { (refusal : Refusal) → (result ≡ Err (CallFault.Refused refusal))
             ↔ (refused (seen self.old) (Call.Env (EnvCall.Tick cpu)) ≡ Some refusal) }
         ensures limits { self.new.limits ≡ self.old.limits }
-        ensures extends { Extends (kinds (seen self.new)) (kinds (seen self.old)) }
+        ensures extends { Extends (kinds_read (seen self.new)) (kinds_read (seen self.old)) }
         ensures err { OnErr result (self.new ≡ self.old) }
     {
         match self.tables.tick_fault(cpu) {

@@ -7,7 +7,7 @@ use crate::tables::Tables;
 use pc_messages::{Cpu, Tid};
 
 impl Tables {
-    ghost use Rattle.pc_kernel.specs.Reads.{seen, kinds, on, place, content};
+    ghost use Rattle.pc_kernel.specs.Reads.{seen, kinds_read, on, place, content_read};
     ghost use Rattle.pc_kernel.specs.Inner.Sends.{Becomes};
     ghost use Rattle.pc_kernel.specs.Steps.{at};
 
@@ -17,7 +17,7 @@ impl Tables {
         requires there { cpu < self.old.limits.cpus }
         requires known { thread < length self.old.threads }
         ensures shown { Becomes (λ P. record P { on = at P.on cpu None }) self.old self.new }
-        ensures kinds { (t : ℕ) → kinds (seen self.new) t ≡ kinds (seen self.old) t }
+        ensures kinds { (t : ℕ) → kinds_read (seen self.new) t ≡ kinds_read (seen self.old) t }
         ensures limits { self.new.limits ≡ self.old.limits }
     {
         self.cpus[cpu.index() as usize].running = None;
@@ -31,7 +31,7 @@ impl Tables {
         requires nowhere { place (seen self.old) thread ≡ None }
         requires idle { on (seen self.old) cpu ≡ None }
         ensures shown { Becomes (λ P. record P { on = at P.on cpu (Some thread) }) self.old self.new }
-        ensures kinds { (t : ℕ) → kinds (seen self.new) t ≡ kinds (seen self.old) t }
+        ensures kinds { (t : ℕ) → kinds_read (seen self.new) t ≡ kinds_read (seen self.old) t }
         ensures limits { self.new.limits ≡ self.old.limits }
     {
         self.threads[thread.index() as usize].set_on(Some(cpu));
@@ -43,7 +43,7 @@ impl Tables {
         requires known { thread < length self.old.threads }
         requires there { queue < self.old.limits.cpus }
         ensures shown { Becomes (λ P. record P { home = at P.home thread queue }) self.old self.new }
-        ensures kinds { (t : ℕ) → kinds (seen self.new) t ≡ kinds (seen self.old) t }
+        ensures kinds { (t : ℕ) → kinds_read (seen self.new) t ≡ kinds_read (seen self.old) t }
         ensures limits { self.new.limits ≡ self.old.limits }
     {
         self.threads[thread.index() as usize].set_home(queue);
@@ -52,7 +52,7 @@ impl Tables {
     /// Removes the first items of the CPU's queue.
     pub(crate) fn cut(&mut self, cpu: Cpu, count: u32)
         requires there { cpu < self.old.limits.cpus }
-        requires few { count ≤ length (content (seen self.old) cpu) }
+        requires few { count ≤ length (content_read (seen self.old) cpu) }
         ensures shown { Becomes (λ P. record P { eaten = at P.eaten cpu (P.eaten cpu + count) }) self.old self.new }
         ensures threads { self.new.threads ≡ self.old.threads }
         ensures limits { self.new.limits ≡ self.old.limits }

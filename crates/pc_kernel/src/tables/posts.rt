@@ -15,7 +15,7 @@ use pc_messages::{Cpu, Item, Kind, Message, Tid};
 use std::alloc::AllocError;
 
 impl Tables {
-    ghost use Rattle.pc_kernel.specs.Reads.{seen, kinds, number, on};
+    ghost use Rattle.pc_kernel.specs.Reads.{seen, kinds_read, number_read, on};
     ghost use Rattle.pc_kernel.specs.Inner.Sends.{Sends, Leaves, adding, ticking};
     ghost use Rattle.pc_kernel.specs.Steps.{leave_refusals, telling};
 
@@ -28,7 +28,7 @@ impl Tables {
         ensures fault { (refusal : Refusal) → (result ≡ Err (CallFault.Refused refusal))
             ↔ (first_of (leave_refusals (seen self.old) cpu) ≡ Some refusal) }
         ensures limits { self.new.limits ≡ self.old.limits }
-        ensures extends { Extends (kinds (seen self.new)) (kinds (seen self.old)) }
+        ensures extends { Extends (kinds_read (seen self.new)) (kinds_read (seen self.old)) }
         ensures err { OnErr result (self.new ≡ self.old) }
     {
         let thread = self.leaver(cpu)?;
@@ -48,7 +48,7 @@ impl Tables {
         requires first { IsTrue (is_created kind) }
         ensures ok { IfOk result (λ posted. Sends (λ P. adding P queue kind) posted self.old self.new) }
         ensures limits { self.new.limits ≡ self.old.limits }
-        ensures extends { Extends (kinds (seen self.new)) (kinds (seen self.old)) }
+        ensures extends { Extends (kinds_read (seen self.new)) (kinds_read (seen self.old)) }
         ensures err { OnErr result (self.new ≡ self.old) }
     {
         let alloc = *self.threads.allocator();
@@ -77,14 +77,14 @@ impl Tables {
     /// Posts a thread's next message to its home queue, and adds it to the thread's history.
     pub(crate) fn tell(&mut self, thread: Tid, kind: Kind) -> Result<Posted, AllocError>
         requires known { thread < length self.old.threads }
-        requires numbers { number (seen self.old) thread < self.old.limits.numbers }
+        requires numbers { number_read (seen self.old) thread < self.old.limits.numbers }
         requires not_first { IsFalse (is_created kind) }
         requires ran { ran_given kind ≤ MOST_TICKS }
         ensures ok { IfOk result (λ posted. Sends (λ P. telling P thread kind) posted self.old self.new) }
         ensures stay { (c : ℕ) → on (seen self.new) c ≡ on (seen self.old) c }
         ensures threads { length self.new.threads ≡ length self.old.threads }
         ensures limits { self.new.limits ≡ self.old.limits }
-        ensures extends { Extends (kinds (seen self.new)) (kinds (seen self.old)) }
+        ensures extends { Extends (kinds_read (seen self.new)) (kinds_read (seen self.old)) }
         ensures err { OnErr result (self.new ≡ self.old) }
     {
         self.threads[thread.index() as usize].tell(thread, kind, &mut self.cpus)
@@ -95,7 +95,7 @@ impl Tables {
         requires there { cpu < self.old.limits.cpus }
         ensures ok { IfOk result (λ posted. Sends (λ P. ticking P cpu) posted self.old self.new) }
         ensures limits { self.new.limits ≡ self.old.limits }
-        ensures extends { Extends (kinds (seen self.new)) (kinds (seen self.old)) }
+        ensures extends { Extends (kinds_read (seen self.new)) (kinds_read (seen self.old)) }
         ensures err { OnErr result (self.new ≡ self.old) }
     {
         let landing = post(&mut self.cpus, cpu, Item::Tick(cpu))?;

@@ -12,7 +12,7 @@ use pc_queue::QueueFault;
 
 impl Tables {
     ghost use Rattle.pc_queue.specs.Queue.{is_pending};
-    ghost use Rattle.pc_kernel.specs.Reads.{seen, number, content, on};
+    ghost use Rattle.pc_kernel.specs.Reads.{seen, number_read, content_read, on};
     ghost use Rattle.pc_kernel.specs.Steps.{refused, queue_refusals, post_refusals, mask_refusals, thread_refusals, leave_refusals};
 
     /// Why the first items of a queue are not removed.
@@ -125,7 +125,7 @@ impl Tables {
 
     /// Whether the queue holds a message of the thread.
     fn holds(&self, queue: Cpu, thread: Tid) -> bool
-        ensures { result ≡ is_pending thread (content (seen self.now) queue) }
+        ensures { result ≡ is_pending thread (content_read (seen self.now) queue) }
     {
         match self.cpu(queue) {
             Some(entry) => entry.queue.pending(thread),
@@ -169,7 +169,7 @@ impl Tables {
     pub(super) fn leaver(&self, cpu: Cpu) -> Result<Tid, Refusal>
         ensures runs { IfOk result (λ thread. on (seen self.now) cpu ≡ Some thread) }
         ensures known { IfOk result (λ thread. thread < length self.now.threads) }
-        ensures numbers { IfOk result (λ thread. number (seen self.now) thread < self.now.limits.numbers) }
+        ensures numbers { IfOk result (λ thread. number_read (seen self.now) thread < self.now.limits.numbers) }
         ensures refused { result_err result ≡ first_of (leave_refusals (seen self.now) cpu) }
     {
         self.is_sound();

@@ -1,11 +1,11 @@
 use Rattle.std.proofs.Common.{ap, subst, ◌∙◌}
 use Rattle.pc_messages.specs.Run.{Extends}
-use Rattle.pc_kernel.specs.Reads.{seen, kinds}
+use Rattle.pc_kernel.specs.Reads.{seen, kinds_read}
 use Rattle.pc_agent.proofs.pick.commit_first.Goals as goal
 
 pub returns-in-Ok-clause-goes_on : goal.returns-in-Ok-clause-goes_on
 returns-in-Ok-clause-goes_on c = record {
   limits = c.commit.ensures.limits ∙ ap (λ k. k.limits) c.loop-name.invariant.0;
-  extends = subst (λ k. Extends (kinds (seen c.commit.new.self)) (kinds (seen k))) c.loop-name.invariant.0 c.commit.ensures.extends;
+  extends = subst (λ k. Extends (kinds_read (seen c.commit.new.self)) (kinds_read (seen k))) c.loop-name.invariant.0 c.commit.ensures.extends;
   err = tt;
 }

@@ -18,7 +18,7 @@ returns c P t q n accepted =
     let known : is_known P t ≡ true = known_of P t none.0 in
     record {
       known = known;
-      current = eqb-true n (reads.number (shown P) t) (not_false (n == reads.number (shown P) t) none.1.1.1.0) ∙ shown-number P t;
+      current = eqb-true n (reads.number_read (shown P) t) (not_false (n == reads.number_read (shown P) t) none.1.1.1.0) ∙ shown-number P t;
       alive = λ dead.
           let told : is_dead (Some Dead) ≡ is_dead (reads.phase (shown P) t) = ap is_dead (sym dead ∙ ap phase_of (sym (shown-kinds P t))) in
           let not_told = none.1.1.0 in cc;

@@ -20,7 +20,7 @@ returns c P cpu t n accepted =
     let known : is_known P t ≡ true = known_of P t none.1.0 in
     let more = none.1.1.1 in
     record {
-      current = eqb-true n (reads.aseq (shown P) cpu) (not_false (n == reads.aseq (shown P) cpu) none.1.1.0) ∙ shown-aseq P cpu there;
+      current = eqb-true n (reads.aseq_read (shown P) cpu) (not_false (n == reads.aseq_read (shown P) cpu) none.1.1.0) ∙ shown-aseq P cpu there;
       idle = not_some (P.on cpu) (ap is_some (sym (shown-on P cpu there)) ∙ more.1.1.1.1.0);
       ready = ready_is (phase_of (kinds P t)) (ap (λ ks. is_ready (phase_of ks)) (sym (shown-kinds P t)) ∙ not_false (is_ready (reads.phase (shown P) t)) more.0);
       home = sym (shown-home P t known) ∙ eqb-true (reads.home (shown P) t) cpu (not_false (reads.home (shown P) t == cpu) more.1.0);

@@ -1,7 +1,7 @@
 use Rattle.std.proofs.Common.{◌≡◌, true, ap, sym, subst, ◌∙◌}
 use Rattle.pc_messages.specs.Items.{AreItemsOf}
 use Rattle.pc_kernel.specs.PlainKernel as plain
-use Rattle.pc_kernel.specs.Reads.{content, is_cpu, kinds, seen, shown}
+use Rattle.pc_kernel.specs.Reads.{content_read, is_cpu, kinds_read, seen, shown}
 use Rattle.pc_agent.specs.Publishing.{IsPublished}
 use Rattle.pc_agent.proofs.Delivered.{published}
 use Rattle.pc_agent.proofs.Items.{items_stay, same_run}
@@ -13,9 +13,9 @@ returns-in-Ok-clause-publishes g c P run p shows extends h =
     let there : is_cpu (shown P) cpu ≡ true = ap (λ r. is_cpu r cpu) (sym shows.reads) ∙ c.requires.there in
     let items = c.as_slice.result.now in
     let holds : items ≡ plain.content P cpu =
-    c.as_slice.ensures.value ∙ c.in-Ok.ensures.content ∙ ap (λ r. content r cpu) shows.reads ∙ (c.reads_are_plain.ensures P).content cpu there in
-    let of_kernel : AreItemsOf (kinds (seen c.args.kernel.now)) items = subst (AreItemsOf _) (sym c.as_slice.ensures.value) c.in-Ok.ensures.of_run in
-    let of_plain : AreItemsOf (plain.kinds P) items = same_run (kinds (seen c.args.kernel.now)) (plain.kinds P) items (λ t. ap (λ r. kinds r t) shows.reads ∙ (c.reads_are_plain.ensures P).kinds t) of_kernel in
+    c.as_slice.ensures.value ∙ c.in-Ok.ensures.content ∙ ap (λ r. content_read r cpu) shows.reads ∙ (c.reads_are_plain.ensures P).content cpu there in
+    let of_kernel : AreItemsOf (kinds_read (seen c.args.kernel.now)) items = subst (AreItemsOf _) (sym c.as_slice.ensures.value) c.in-Ok.ensures.of_run in
+    let of_plain : AreItemsOf (plain.kinds P) items = same_run (kinds_read (seen c.args.kernel.now)) (plain.kinds P) items (λ t. ap (λ r. kinds_read r t) shows.reads ∙ (c.reads_are_plain.ensures P).kinds t) of_kernel in
     let of_run : AreItemsOf run items = items_stay c.parts_stay_as_the_run_goes_on.ensures run (plain.kinds P) extends items of_plain in
     subst (λ l. IsPublished g.W.Wire.Sends l run p c.publish_items.result cpu c.publish_items.new.self c.args.wire.now c.publish_items.new.wire) holds
     (published c.views_tell_what_their_sets_tell.ensures.reported c.parts_of_items_are_of_the_run.ensures.set c.parts_of_items_are_of_the_run.ensures.of_run run p items c.args.self.now c.publish_items.new.self of_run h

@@ -2,7 +2,7 @@ use Rattle.std.proofs.Common.{rules, ℕ, ◌≡◌, ◌<◌, ◌∷◌, [], ◌
 use Rattle.pc_messages.specs.declared.message.Item.TheVariants as item
 use Rattle.pc_calls.specs.declared.call.Posted.{Posted}
 use Rattle.pc_kernel.specs.Inner.Entries.{rows, IsPosted}
-use Rattle.pc_kernel.specs.Reads.{seen, kinds}
+use Rattle.pc_kernel.specs.Reads.{seen, kinds_read}
 use Rattle.pc_messages.specs.Run.{Extends}
 use Rattle.pc_kernel.specs.Rows.{ThreadRow, KernelRows}
 use Rattle.pc_kernel.specs.Inner.Sends.{Sends, adding}
@@ -40,5 +40,5 @@ pub returns-clause-extends : goal.returns-clause-extends
 returns-clause-extends c =
     let k = c.self.inside in
     let now : c.push.new.rows.items ≡ k.threads.items ++ first_row c.args.queue c.args.kind ∷ [] = let items = c.reserve.ensures.items in let entry = c.in_ok-entry.ensures in let pushed = c.push.ensures in cc in
-    subst (λ (old : KernelRows). Extends (kinds_in c.push.new.rows.items) (kinds (seen old))) c.self.view_is
+    subst (λ (old : KernelRows). Extends (kinds_in c.push.new.rows.items) (kinds_read (seen old))) c.self.view_is
     (subst (λ (threads : List ThreadRow). Extends (kinds_in threads) (kinds_in k.threads.items)) (sym now) (added_grows k.threads.items (first_row c.args.queue c.args.kind)))

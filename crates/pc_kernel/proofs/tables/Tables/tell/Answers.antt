@@ -1,7 +1,7 @@
 use Rattle.std.proofs.Common.{◌≡◌, ◌<◌, ℕ, sym, subst, length, IfOk, slice_set}
 use Rattle.pc_messages.specs.Run.{Extends}
 use Rattle.pc_kernel.specs.Inner.Entries.{rows}
-use Rattle.pc_kernel.specs.Reads.{seen, kinds, number, on}
+use Rattle.pc_kernel.specs.Reads.{seen, kinds_read, number_read, on}
 use Rattle.pc_kernel.specs.Rows.{KernelRows}
 use Rattle.pc_kernel.specs.Inner.Sends.{Sends}
 use Rattle.pc_kernel.specs.Steps.{telling}
@@ -17,7 +17,7 @@ invariant_of-self c =
     let k = c.self.inside in
     let t = c.args.thread in
     let known : t < length k.threads.items = subst (λ (k : KernelRows). t < length k.threads) (sym c.self.view_is) c.requires.known in
-    let spare : number (seen (rows k.limits k.threads.items k.cpus.items)) t < k.limits.numbers = subst (λ (k : KernelRows). number (seen k) t < k.limits.numbers) (sym c.self.view_is) c.requires.numbers in
+    let spare : number_read (seen (rows k.limits k.threads.items k.cpus.items)) t < k.limits.numbers = subst (λ (k : KernelRows). number_read (seen k) t < k.limits.numbers) (sym c.self.view_is) c.requires.numbers in
     kernel_tell c.tell.result k.limits k.threads.items k.cpus.items c.tell.new.cpus.items c.index.result t c.index_mut.result.now c.tell.new.self c.args.kind c.self.invariant
     c.index.ensures known c.index_mut.ensures.value c.tell.ensures.row c.tell.ensures.ok c.tell.ensures.err c.tell.ensures.err_cpus
     (spare_of k.limits k.threads.items k.cpus.items c.index.result t c.index_mut.result.now c.index.ensures known c.index_mut.ensures.value spare) c.requires.not_first c.requires.ran
@@ -43,5 +43,5 @@ pub returns-clause-extends : goal.returns-clause-extends
 returns-clause-extends c =
     let k = c.self.inside in
     let known : c.args.thread < length k.threads.items = subst (λ (k : KernelRows). c.args.thread < length k.threads) (sym c.self.view_is) c.requires.known in
-    subst (λ (old : KernelRows). Extends (kinds_in (slice_set k.threads.items c.index.result c.tell.new.self)) (kinds (seen old))) c.self.view_is
+    subst (λ (old : KernelRows). Extends (kinds_in (slice_set k.threads.items c.index.result c.tell.new.self)) (kinds_read (seen old))) c.self.view_is
     (extends_tell c.tell.result k.threads.items c.index.result c.args.thread c.index_mut.result.now c.tell.new.self c.args.kind c.index.ensures known c.index_mut.ensures.value c.tell.ensures.row c.tell.ensures.err)
