@@ -21,7 +21,7 @@ use Rattle.pc_agent.specs.declared.wire.SendFault.TheVariants as sending
 use Rattle.pc_agent.specs.Exchanging.{IsAnswered}
 use Rattle.pc_agent.specs.PlainAgent.{Set}
 use Rattle.pc_agent.specs.Wires.{Keeps, sent_by}
-use Rattle.pc_world.specs.declared.world.World.{World}
+use Rattle.pc_world.specs.declared.parts.Parts.{Parts}
 use Rattle.pc_world.specs.PlainWorld.{PlainWorld}
 use Rattle.pc_world.specs.PlainWorld as world
 use Rattle.pc_world.specs.Shows.{AreSent, ShowsWorld, deltas_of}
@@ -62,7 +62,7 @@ module _ (pairs_law : (parts : List Part) → IsSameSet (set_of parts) (as_membe
         )) delta answer.none_spare;
   }
 
-  module _ (old new : World) (c asker place other : ℕ) (mine : IsPlace old c place) (theirs : IsPlace old asker other) (agent others : Agent)
+  module _ (old new : Parts) (c asker place other : ℕ) (mine : IsPlace old c place) (theirs : IsPlace old asker other) (agent others : Agent)
       (there : slice_get old.agents.items c ≡ Some agent) (asking : slice_get old.agents.items asker ≡ Some others) (kernel : new.kernel ≡ old.kernel) (agents : new.agents.items ≡ old.agents.items)
       (wire : KeptWire) (sent : sent_by wire ≡ deltas_of old) where
     cpus : (w : PlainWorld) → ShowsWorld old w → are_cpus w c asker ≡ true

@@ -14,7 +14,7 @@ use Rattle.pc_kernel.specs.Reads.{shown}
 use Rattle.pc_kernel.specs.Rows.{KernelRows}
 use Rattle.pc_kernel.specs.Steps.{accepted, after, after_of, changed, refused, reply_of}
 use Rattle.pc_join.specs.declared.join.OutOfMemory.{OutOfMemory as Starving}
-use Rattle.pc_world.specs.declared.world.World.{World}
+use Rattle.pc_world.specs.declared.parts.Parts.{Parts}
 use Rattle.pc_world.specs.PlainWorld.{PlainWorld}
 use Rattle.pc_world.specs.Shows.{AreSent, ShowsWorld, deltas_of}
 use Rattle.pc_world.specs.Starved.{IsCallStarved, IsOwnStarved}
@@ -27,7 +27,7 @@ use Rattle.pc_world.proofs.Places.{kept_same, sent_goes_on, unchanged}
 outcome_of_call : (w : PlainWorld) (event : Event) (c : Call) (told : Reply) (new : PlainWorld) → call_of event ≡ Some c → IsCalled w c told new → Outcome w event (Ok told) new
 outcome_of_call w event c told new is called = subst (λ o. MatchOption o (IsOwnStep w event told new) (λ d. IsCalled w d told new)) (sym is) called
 
-goes_after : (goes : RunsGoOn) (old new : World) (w : PlainWorld) (c : Call) → new.agents.items ≡ old.agents.items → deltas_of new ≡ deltas_of old → ShowsWorld old w → Shows new.kernel (after w.kernel c)
+goes_after : (goes : RunsGoOn) (old new : Parts) (w : PlainWorld) (c : Call) → new.agents.items ≡ old.agents.items → deltas_of new ≡ deltas_of old → ShowsWorld old w → Shows new.kernel (after w.kernel c)
     → ShowsWorld new (record w { kernel = after w.kernel c })
 goes_after goes old new w c agents sent h kernel = record {
   kernel = kernel;
@@ -49,7 +49,7 @@ starved_call : (P Q : PlainKernel) (o : Option Refusal) (a : Answer) (old new : 
 starved_call P Q None a old new h = (refl, h)
 starved_call P Q (Some why) a old new h = absurd h
 
-module _ (goes : RunsGoOn) (old new : World) (event : Event) (c : Call) (is : call_of event ≡ Some c) (agents : new.agents.items ≡ old.agents.items) (sent : deltas_of new ≡ deltas_of old) where
+module _ (goes : RunsGoOn) (old new : Parts) (event : Event) (c : Call) (is : call_of event ≡ Some c) (agents : new.agents.items ≡ old.agents.items) (sent : deltas_of new ≡ deltas_of old) where
   pub call_done : (answer : Answer) (told : Reply) → told ≡ reply_to c answer → StepsInMemory itself c (Ok answer) old.kernel new.kernel → Handles event (Ok told) old new
   call_done answer told tells steps w h =
       let P = w.kernel in

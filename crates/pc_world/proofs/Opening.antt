@@ -10,7 +10,7 @@ use Rattle.pc_kernel.specs.Reads.{shown, is_cpu}
 use Rattle.pc_agent.specs.declared.agent.Agent.{Agent}
 use Rattle.pc_agent.specs.PlainAgent.{fresh}
 use Rattle.pc_agent.specs.Shows.{ShowsAgent, cpu_of}
-use Rattle.pc_world.specs.declared.world.World.{World}
+use Rattle.pc_world.specs.declared.parts.Parts.{Parts}
 use Rattle.pc_world.specs.PlainWorld.{PlainWorld, opened}
 use Rattle.pc_world.specs.Shows.{AreSent, ShowsWorld, deltas_of}
 use Rattle.pc_world.specs.Inner.Agents.{AreNew}
@@ -37,14 +37,14 @@ new_more n agents agent h cpu starts =
       ];
     }
 
-pub new_world : (world : World) (limits : Limits) (count : ℕ) → Shows world.kernel (start limits) → AreNew count world.agents.items → deltas_of world ≡ [] → ShowsWorld world (opened limits)
+pub new_world : (world : Parts) (limits : Limits) (count : ℕ) → Shows world.kernel (start limits) → AreNew count world.agents.items → deltas_of world ≡ [] → ShowsWorld world (opened limits)
 new_world world limits count kernel agents sent = record {
   kernel = kernel;
   agents = λ c agent e. agents.fresh c agent e (kinds (start limits));
   sent = subst (AreSent (kinds (start limits)) []) (sym sent) tt;
 }
 
-pub view_there : (world : World) (c : ℕ) (agent : Agent) → slice_get world.agents.items c ≡ Some agent → (w : PlainWorld) → ShowsWorld world w → (is_cpu (shown w.kernel) c ≡ true) × ShowsAgent (kinds w.kernel) (w.agents c) agent
+pub view_there : (world : Parts) (c : ℕ) (agent : Agent) → slice_get world.agents.items c ≡ Some agent → (w : PlainWorld) → ShowsWorld world w → (is_cpu (shown w.kernel) c ≡ true) × ShowsAgent (kinds w.kernel) (w.agents c) agent
 view_there world c agent there w h =
     let many : length world.agents.items ≡ world.kernel.limits.cpus = world.as_many in
     let low : c < length world.agents.items = slice_get_within world.agents.items c agent there in

@@ -28,7 +28,7 @@ use Rattle.pc_agent.specs.Publishing.{IsConsumed, IsPublished, WhateverShown, se
 use Rattle.pc_agent.specs.Running.{Finds, IsPicked, IsTakenOver, Steals, TriesLeast, left_by, takes_over, take_refused}
 use Rattle.pc_agent.specs.Shows.{ShowsAgent, ShowsView, cpu_of}
 use Rattle.pc_agent.specs.Wires.{Keeps, sent_by}
-use Rattle.pc_world.specs.declared.world.World.{World}
+use Rattle.pc_world.specs.declared.parts.Parts.{Parts}
 use Rattle.pc_world.specs.PlainWorld.{PlainWorld, looked, published, with_agent}
 use Rattle.pc_world.specs.Shows.{AreSent, KeepsSent, ShowsWorld, deltas_of}
 use Rattle.pc_world.specs.Starved.{IsPublishStarved, IsWidened}
@@ -54,7 +54,7 @@ in_part : (w : PlainWorld) (c : ℕ) (fails : Bool) (new : PlainWorld) → IsWid
 in_part w c false new part = inl part
 in_part w c true new part = part
 
-module _ (goes : RunsGoOn) (old new : World) (c place : ℕ) (agent more : Agent) (where_is : IsPlace old c place) (read : agent ≡ get_or old.agents.items place agent) (agents : new.agents.items ≡ set old.agents.items place more) where
+module _ (goes : RunsGoOn) (old new : Parts) (c place : ℕ) (agent more : Agent) (where_is : IsPlace old c place) (read : agent ≡ get_or old.agents.items place agent) (agents : new.agents.items ≡ set old.agents.items place more) where
   there : slice_get old.agents.items c ≡ Some agent
   there = agent_at old c place agent agent where_is read
 
@@ -300,7 +300,7 @@ module _ (goes : RunsGoOn) (old new : World) (c place : ℕ) (agent more : Agent
       )
 
 -- a delta that was not sent
-pub deliver_none : (old new : World) (c place : ℕ) → IsPlace old c place → (k : ℕ) → slice_get (deltas_of old) k ≡ None → new.kernel ≡ old.kernel → new.agents.items ≡ old.agents.items → deltas_of new ≡ deltas_of old
+pub deliver_none : (old new : Parts) (c place : ℕ) → IsPlace old c place → (k : ℕ) → slice_get (deltas_of old) k ≡ None → new.kernel ≡ old.kernel → new.agents.items ≡ old.agents.items → deltas_of new ≡ deltas_of old
     → Handles (event.Deliver c k) (Ok (replies.Refused refusals.NoDelta)) old new
 deliver_none old new c place where_is k none kernel agents sent w h = (
   w,

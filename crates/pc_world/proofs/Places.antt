@@ -13,7 +13,7 @@ use Rattle.pc_delta.specs.declared.part.Part.{Part}
 use Rattle.pc_agent.specs.declared.agent.Agent.{Agent}
 use Rattle.pc_agent.specs.PlainAgent.{PlainAgent, Set}
 use Rattle.pc_agent.specs.Shows.{ShowsAgent, cpu_of}
-use Rattle.pc_world.specs.declared.world.World.{World}
+use Rattle.pc_world.specs.declared.parts.Parts.{Parts}
 use Rattle.pc_world.specs.PlainWorld.{PlainWorld}
 use Rattle.pc_world.specs.Shows.{AreSent, KeepsSent, ShowsWorld, deltas_of}
 use Rattle.pc_world.specs.Inner.Laws.{RunsGoOn}
@@ -58,7 +58,7 @@ pub same_run : (run : Run) → Extends run run
 same_run run t = ([], append_none (run t))
 
 -- what was sent stays, and nothing follows
-pub kept_same : (old new : World) → deltas_of new ≡ deltas_of old → KeepsSent old new
+pub kept_same : (old new : Parts) → deltas_of new ≡ deltas_of old → KeepsSent old new
 kept_same old new e = ([], e ∙ append_none (deltas_of old))
 
 -- what the kernel shows of a CPU, the plain kernel has
@@ -66,14 +66,14 @@ pub plain_cpu : (k : KernelRows) (P : PlainKernel) (c : ℕ) (b : Bool) → Show
 plain_cpu k P c b shows e = ap (λ r. is_cpu r c) (sym shows.reads) ∙ e
 
 -- the agent at its place
-pub agent_at : (world : World) (c place : ℕ) (agent d : Agent) → IsPlace world c place → agent ≡ get_or world.agents.items place d → slice_get world.agents.items c ≡ Some agent
+pub agent_at : (world : Parts) (c place : ℕ) (agent d : Agent) → IsPlace world c place → agent ≡ get_or world.agents.items place d → slice_get world.agents.items c ≡ Some agent
 agent_at world c place agent d h e = ap (slice_get world.agents.items) (sym h.is) ∙ item_at world.agents.items place agent d h.low e
 
-pub agent_cpu : (world : World) (c : ℕ) (agent : Agent) → slice_get world.agents.items c ≡ Some agent → cpu_of agent ≡ c
+pub agent_cpu : (world : Parts) (c : ℕ) (agent : Agent) → slice_get world.agents.items c ≡ Some agent → cpu_of agent ≡ c
 agent_cpu world c agent there = world.own c agent there
 
 -- the same kernel, agents and deltas
-pub unchanged : (old new : World) (w : PlainWorld) → new.kernel ≡ old.kernel → new.agents.items ≡ old.agents.items → deltas_of new ≡ deltas_of old → ShowsWorld old w → ShowsWorld new w
+pub unchanged : (old new : Parts) (w : PlainWorld) → new.kernel ≡ old.kernel → new.agents.items ≡ old.agents.items → deltas_of new ≡ deltas_of old → ShowsWorld old w → ShowsWorld new w
 unchanged old new w kernel agents sent h = record {
   kernel = subst (λ k. Shows k w.kernel) (sym kernel) h.kernel;
   agents = λ d a e. h.agents d a (ap (λ l. slice_get l d) (sym agents) ∙ e);
@@ -81,7 +81,7 @@ unchanged old new w kernel agents sent h = record {
 }
 
 -- the world after an event of one agent: another kernel, whose run goes on from the one before, another agent on its CPU, and what was sent
-pub world_after : (goes : RunsGoOn) (old new : World) (w : PlainWorld) (c place : ℕ) (more : Agent) (Q : PlainKernel) (p : PlainAgent) (sent : List Set) → ShowsWorld old w → IsPlace old c place
+pub world_after : (goes : RunsGoOn) (old new : Parts) (w : PlainWorld) (c place : ℕ) (more : Agent) (Q : PlainKernel) (p : PlainAgent) (sent : List Set) → ShowsWorld old w → IsPlace old c place
     → new.agents.items ≡ set old.agents.items place more → Shows new.kernel Q → Extends (kinds Q) (kinds w.kernel) → ShowsAgent (kinds Q) p more → AreSent (kinds Q) sent (deltas_of new)
     → ShowsWorld new (record { kernel = Q; agents = at w.agents c p; sent = sent })
 world_after goes old new w c place more Q p sent h where_is agents kernel extends here told = record {

@@ -4,9 +4,9 @@ use Rattle.std.proofs.lemmas.List.{append-nil}
 use Rattle.pc_calls.specs.declared.event.Event.{Event}
 use Rattle.pc_calls.specs.declared.event.Reply.{Reply}
 use Rattle.pc_delta.proofs.Lists.{all_taken, left_item, taken_item}
-use Rattle.pc_world.specs.declared.world.World.{World}
+use Rattle.pc_world.specs.declared.parts.Parts.{Parts}
 use Rattle.pc_world.specs.PlainWorld.{PlainWorld}
-use Rattle.pc_world.specs.Shows.{Does, KeepsSent, RunsInPart, RunsThrough, ShowsWorld, Starves, deltas_of}
+use Rattle.pc_world.specs.Shows.{Does, KeepsSent, RunsInPart, RunsThrough, Starves, deltas_of}
 use Rattle.pc_world.specs.Starved.{IsCutShort, IsFirstStarved, Starved}
 use Rattle.pc_world.specs.Steps.{Runs, Step}
 use Rattle.pc_world.specs.Inner.Handling.{StepsInPart}
@@ -25,18 +25,18 @@ taken_then_left (e ∷ es) zero = refl
 taken_then_left (e ∷ es) (suc i) = ap (λ l. e ∷ l) (taken_then_left es i)
 
 -- no event yet
-pub runs_none : (world : World) (events : List Event) → RunsThrough (take 0 events) [] world world
+pub runs_none : (world : Parts) (events : List Event) → RunsThrough (take 0 events) [] world world
 runs_none world [] w h = (w, refl, h)
 runs_none world (e ∷ es) w h = (w, refl, h)
 
-module _ (events : List Event) (i : ℕ) (event : Event) (at : event ≡ get_or events i event) (low : i < length events) (replies : List Reply) (old before : World) (ran : RunsThrough (take i events) replies old before) where
-  pub runs_next : (told : Reply) (after : World) → Does (λ w. Step w event) before after told → RunsThrough (take (i + 1) events) (replies ++ told ∷ []) old after
+module _ (events : List Event) (i : ℕ) (event : Event) (at : event ≡ get_or events i event) (low : i < length events) (replies : List Reply) (old before : Parts) (ran : RunsThrough (take i events) replies old before) where
+  pub runs_next : (told : Reply) (after : Parts) → Does (λ w. Step w event) before after told → RunsThrough (take (i + 1) events) (replies ++ told ∷ []) old after
   runs_next told after does w h =
       let reached = ran w h in
       let next = does reached.0 reached.2 in
       (next.0, subst (λ l. Runs w l (replies ++ told ∷ []) next.0) (sym (taken_item events i event at low)) (runs_more (take i events) replies w reached.0 next.0 event told reached.1 next.1), next.2)
 
-  pub stops_in : (after : World) → StepsInPart event before after → RunsInPart events old after
+  pub stops_in : (after : Parts) → StepsInPart event before after → RunsInPart events old after
   stops_in after part w h =
       let reached = ran w h in
       let next = part reached.0 reached.2 in
@@ -62,7 +62,7 @@ module _ (events : List Event) (i : ℕ) (event : Event) (at : event ≡ get_or 
         next = inl refl;
       }
 
-pub runs_all : (events : List Event) (i : ℕ) (replies : List Reply) (old before : World) → length events ≤ i → RunsThrough (take i events) replies old before → RunsThrough events replies old before
+pub runs_all : (events : List Event) (i : ℕ) (replies : List Reply) (old before : Parts) → length events ≤ i → RunsThrough (take i events) replies old before → RunsThrough events replies old before
 runs_all events i replies old before le ran = subst (λ l. RunsThrough l replies old before) (all_taken events i le) ran
 
 -- what holds holds of an error too
@@ -71,21 +71,16 @@ on_err (Ok a) Q q = tt
 on_err (Err e) Q q = q
 
 -- an event of which the reply had no place was done all the same
-pub done_in : (event : Event) (told : Reply) (before after : World) → Does (λ w. Step w event) before after told → StepsInPart event before after
+pub done_in : (event : Event) (told : Reply) (before after : Parts) → Does (λ w. Step w event) before after told → StepsInPart event before after
 done_in event told before after does w h = let next = does w h in (next.0, inr (told, next.1), next.2)
 
-pub starved_in : (event : Event) (before after : World) → Starves event before after → StepsInPart event before after
+pub starved_in : (event : Event) (before after : Parts) → Starves event before after → StepsInPart event before after
 starved_in event before after starves w h = let next = starves w h in (next.0, inl next.1, next.2)
 
 -- what was sent stays sent, over several events
-pub keeps_none : (world : World) → KeepsSent world world
+pub keeps_none : (world : Parts) → KeepsSent world world
 keeps_none world = ([], sym (append-nil (deltas_of world)))
 
-pub keeps_then : (old mid new : World) → KeepsSent old mid → KeepsSent mid new → KeepsSent old new
+pub keeps_then : (old mid new : Parts) → KeepsSent old mid → KeepsSent mid new → KeepsSent old new
 keeps_then old mid new first then' =
     (first.0 ++ then'.0, then'.1 ∙ ap (λ l. l ++ then'.0) first.1 ∙ append_assoc (deltas_of old) first.0 then'.0)
-
--- of the world that some first events led to
-pub keeps_on : (events : List Event) (replies : List Reply) (old mid new : World) → RunsThrough events replies old mid → ((w : PlainWorld) → ShowsWorld old w → KeepsSent old mid)
-    → ((w : PlainWorld) → ShowsWorld mid w → KeepsSent mid new) → (w : PlainWorld) → ShowsWorld old w → KeepsSent old new
-keeps_on events replies old mid new ran kept next w h = let reached = ran w h in keeps_then old mid new (kept w h) (next reached.0 reached.2)

@@ -13,7 +13,7 @@ use pc_kernel::laws::{
 use pc_view::upto_is_the_greatest;
 
 /// The laws of the kernel.
-fn kernel_laws()
+pub(crate) fn kernel_laws()
     ensures { KernelLaws }
 {
     messages_stay_home();

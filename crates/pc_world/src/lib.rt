@@ -6,6 +6,7 @@
 
 mod agents;
 pub mod laws;
+mod parts;
 #[cfg(test)]
 mod tests;
 mod world;

@@ -3,7 +3,7 @@ use Rattle.std.specs.Prelude.{◌≡◌, ◌⊎◌, List, [], ◌∷◌, ◌++�
 use Rattle.pc_calls.specs.declared.event.Event.{Event}
 use Rattle.pc_calls.specs.declared.event.Reply.{Reply}
 use Rattle.pc_join.specs.declared.join.OutOfMemory.{OutOfMemory}
-use Rattle.pc_world.specs.declared.world.World.{World}
+use Rattle.pc_world.specs.declared.parts.Parts.{Parts}
 use Rattle.pc_world.specs.PlainWorld.{PlainWorld}
 use Rattle.pc_world.specs.Shows.{Does, KeepsSent, ShowsWorld}
 use Rattle.pc_world.specs.Starved.{Starved}
@@ -15,15 +15,15 @@ Outcome w event (Ok told) new = Step w event told new
 Outcome w event (Err fault) new = Starved w event new
 
 -- for every plain world that is shown before, such an outcome is shown after, and what was sent stays sent
-abbrev pub Handles : Event → Result Reply OutOfMemory → World → World → Type 0
+abbrev pub Handles : Event → Result Reply OutOfMemory → Parts → Parts → Type 0
 Handles event result old new =
     (w : PlainWorld) → ShowsWorld old w → (w' : PlainWorld) × Outcome w event result w' × ShowsWorld new w' × KeepsSent old new
 
 -- for every plain world that is shown before, the event was done, or left what it leaves without memory
-abbrev pub StepsInPart : Event → World → World → Type 0
+abbrev pub StepsInPart : Event → Parts → Parts → Type 0
 StepsInPart event old new =
     (w : PlainWorld) → ShowsWorld old w → (w' : PlainWorld) × (Starved w event w' ⊎ ((told : Reply) × Step w event told w')) × ShowsWorld new w'
 
 -- an event was done, and its reply stands at the end
-abbrev pub StepsInto : Event → List Reply → List Reply → World → World → Type 0
+abbrev pub StepsInto : Event → List Reply → List Reply → Parts → Parts → Type 0
 StepsInto event before after old new = (told : Reply) × (after ≡ before ++ told ∷ []) × Does (λ w. Step w event) old new told

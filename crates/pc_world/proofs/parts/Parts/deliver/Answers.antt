@@ -1,6 +1,6 @@
 use Rattle.std.proofs.Common.{slice_get, refl, sym, ap, ◌∙◌}
 use Rattle.pc_world.proofs.Own.{deliver_done, deliver_none, deliver_starved}
-use Rattle.pc_world.proofs.world.World.deliver.Goals as goal
+use Rattle.pc_world.proofs.parts.Parts.deliver.Goals as goal
 
 pub returns-in-None : goal.returns-in-None
 returns-in-None c =

@@ -1,6 +1,6 @@
 use Rattle.std.proofs.Common.{refl}
 use Rattle.pc_world.proofs.Own.{consume_done, consume_refused}
-use Rattle.pc_world.proofs.world.World.consume.Goals as goal
+use Rattle.pc_world.proofs.parts.Parts.consume.Goals as goal
 
 pub returns-in-Ok : goal.returns-in-Ok
 returns-in-Ok c =

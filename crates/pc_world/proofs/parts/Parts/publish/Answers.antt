@@ -4,7 +4,7 @@ use Rattle.pc_agent.specs.Publishing.{IsPublished, WhateverShown}
 use Rattle.pc_agent.specs.Shows.{cpu_of}
 use Rattle.pc_agent.specs.Wires.{Keeps}
 use Rattle.pc_world.proofs.Own.{publish_done, publish_refused, publish_starved}
-use Rattle.pc_world.proofs.world.World.publish.Goals as goal
+use Rattle.pc_world.proofs.parts.Parts.publish.Goals as goal
 
 pub returns-in-Ok : goal.returns-in-Ok
 returns-in-Ok c =

@@ -3,7 +3,7 @@ use Rattle.pc_agent.specs.Publishing.{WhateverShown}
 use Rattle.pc_agent.specs.Running.{Steals}
 use Rattle.pc_agent.specs.Shows.{cpu_of}
 use Rattle.pc_world.proofs.Own.{steal_done, steal_refused, steal_starved}
-use Rattle.pc_world.proofs.world.World.steal.Goals as goal
+use Rattle.pc_world.proofs.parts.Parts.steal.Goals as goal
 
 pub returns-in-Ok : goal.returns-in-Ok
 returns-in-Ok c =

@@ -4,7 +4,7 @@ use Rattle.pc_agent.specs.Wires.{Keeps}
 use Rattle.pc_view.specs.Views.{pairs_of}
 use Rattle.pc_world.proofs.Answering.{answer_done}
 use Rattle.pc_world.proofs.Places.{agent_at}
-use Rattle.pc_world.proofs.world.World.answer.Goals as goal
+use Rattle.pc_world.proofs.parts.Parts.answer.Goals as goal
 
 pub returns-in-Ok : goal.returns-in-Ok
 returns-in-Ok c =

@@ -1,6 +1,6 @@
 use Rattle.std.proofs.Common.{refl}
 use Rattle.pc_world.proofs.Own.{crash_done}
-use Rattle.pc_world.proofs.world.World.crash.Goals as goal
+use Rattle.pc_world.proofs.parts.Parts.crash.Goals as goal
 
 pub returns-in-Ok : goal.returns-in-Ok
 returns-in-Ok c =

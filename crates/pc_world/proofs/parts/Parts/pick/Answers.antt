@@ -1,6 +1,6 @@
 use Rattle.std.proofs.Common.{refl}
 use Rattle.pc_world.proofs.Own.{pick_done, pick_refused_by}
-use Rattle.pc_world.proofs.world.World.pick.Goals as goal
+use Rattle.pc_world.proofs.parts.Parts.pick.Goals as goal
 
 pub returns-in-Ok : goal.returns-in-Ok
 returns-in-Ok c =

@@ -4,7 +4,7 @@ use Rattle.pc_kernel.specs.Reads.{shown}
 use Rattle.pc_kernel.specs.Steps.{refused}
 use Rattle.pc_world.specs.Starved.{IsCallStarved}
 use Rattle.pc_world.proofs.Calls.{call_done, call_starved}
-use Rattle.pc_world.proofs.world.World.call.Goals as goal
+use Rattle.pc_world.proofs.parts.Parts.call.Goals as goal
 
 pub returns-in-Ok : goal.returns-in-Ok
 returns-in-Ok c =
