@@ -8,8 +8,7 @@ use Rattle.pc_script.specs.declared.command.Command.TheVariants.{Enclave}
 use Rattle.pc_script.specs.declared.response.Response.{Response}
 use Rattle.pc_script.specs.declared.response.Response.TheVariants as response
 use Rattle.pc_world.specs.PlainWorld.{opened}
-use Rattle.pc_world.specs.Shows.{ShowsWorld}
-use Rattle.pc_world.specs.declared.world.World.{World}
+use Rattle.pc_world.specs.Shows.{ShowsWorld, World}
 use Rattle.pc_sim.specs.Session.{IsLimited, IsStep, one_more, none}
 use Rattle.pc_sim.specs.Inner.Sessions.{Answers, Steps, StandsAfter}
 

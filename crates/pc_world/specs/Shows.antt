@@ -18,6 +18,10 @@ use Rattle.pc_world.specs.Reached.{Reached}
 use Rattle.pc_world.specs.Starved.{IsCutShort, Starved}
 use Rattle.pc_world.specs.Steps.{Runs}
 
+-- what a world is seen as
+abbrev pub World : Type 0
+World = Parts
+
 -- the deltas tell these sets, one after another
 abbrev pub AreSent : Run → List Set → List (List Part) → Type 0
 AreSent run [] [] = Unit {0}
@@ -26,16 +30,16 @@ AreSent run [] (delta ∷ deltas) = ⊥
 AreSent run (set ∷ sets) [] = ⊥
 
 -- the deltas that were sent, in order
-abbrev pub deltas_of : Parts → List (List Part)
+abbrev pub deltas_of : World → List (List Part)
 deltas_of world = sent_by world.wire
 
-pub record ShowsWorld (world : Parts) (w : PlainWorld) : Type 0 where
+pub record ShowsWorld (world : World) (w : PlainWorld) : Type 0 where
   pub kernel : Shows world.kernel w.kernel
   pub agents : (c : ℕ) (agent : Agent) → slice_get world.agents.items c ≡ Some agent → ShowsAgent (kinds w.kernel) (w.agents c) agent
   pub sent : AreSent (kinds w.kernel) w.sent (deltas_of world)
 
 -- a plain world that events lead to from the start of the kernel's limits, and that is shown
-pub record IsReached (world : Parts) : Type 0 where
+pub record IsReached (world : World) : Type 0 where
   pub plain : PlainWorld
   pub reached : Reached world.kernel.limits plain
   pub shows : ShowsWorld world plain
@@ -46,21 +50,21 @@ IsViewAt w c None = IsFalse (is_cpu (shown w.kernel) c)
 IsViewAt w c (Some view) = IsTrue (is_cpu (shown w.kernel) c) × ShowsView (kinds w.kernel) (w.agents c).seen view
 
 -- for every plain world that is shown before, the reply is that of a step, whose result is shown after
-abbrev pub Does : (PlainWorld → Reply → PlainWorld → Type 0) → Parts → Parts → Reply → Type 0
+abbrev pub Does : (PlainWorld → Reply → PlainWorld → Type 0) → World → World → Reply → Type 0
 Does step old new told = (w : PlainWorld) → ShowsWorld old w → (w' : PlainWorld) × step w told w' × ShowsWorld new w'
 
 -- for every plain world that is shown before, what the event leaves without memory is shown after
-abbrev pub Starves : Event → Parts → Parts → Type 0
+abbrev pub Starves : Event → World → World → Type 0
 Starves event old new = (w : PlainWorld) → ShowsWorld old w → (w' : PlainWorld) × Starved w event w' × ShowsWorld new w'
 
 -- what was sent stays sent, and more may follow
-abbrev pub KeepsSent : Parts → Parts → Type 0
+abbrev pub KeepsSent : World → World → Type 0
 KeepsSent old new = (more : List (List Part)) × (deltas_of new ≡ deltas_of old ++ more)
 
 -- for every plain world that is shown before, the events were done, one after another, with these replies
-abbrev pub RunsThrough : List Event → List Reply → Parts → Parts → Type 0
+abbrev pub RunsThrough : List Event → List Reply → World → World → Type 0
 RunsThrough events replies old new = (w : PlainWorld) → ShowsWorld old w → (w' : PlainWorld) × Runs w events replies w' × ShowsWorld new w'
 
 -- for every plain world that is shown before, some first events were done, and the next one as far as it goes without memory
-abbrev pub RunsInPart : List Event → Parts → Parts → Type 0
+abbrev pub RunsInPart : List Event → World → World → Type 0
 RunsInPart events old new = (w : PlainWorld) → ShowsWorld old w → (w' : PlainWorld) × IsCutShort w events w' × ShowsWorld new w'

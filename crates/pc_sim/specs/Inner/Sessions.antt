@@ -4,8 +4,7 @@ use Rattle.pc_calls.specs.declared.limits.Profile.{Profile}
 use Rattle.pc_script.specs.declared.command.Command.{Command}
 use Rattle.pc_script.specs.declared.response.Response.{Response}
 use Rattle.pc_world.specs.PlainWorld.{PlainWorld}
-use Rattle.pc_world.specs.Shows.{ShowsWorld}
-use Rattle.pc_world.specs.declared.world.World.{World}
+use Rattle.pc_world.specs.Shows.{ShowsWorld, World}
 use Rattle.pc_sim.specs.Session.{Session, IsStep, IsRun, IsSession, IsWorldStep}
 
 -- before an accepted `enclave` there is no world
