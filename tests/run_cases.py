@@ -1,7 +1,8 @@
 #!/usr/bin/env python3
 """Runs the built program on every case and on every example, as both compilers built it, and compares bytes.
 
-An example is a script of examples/ beside what it prints. A case is a folder of tests/cases:
+An example is a script of examples/ beside what it prints, and docs/WALK_THROUGH.md is what tools/walk_through.py makes of one of them.
+A case is a folder of tests/cases:
   args      the arguments, one a line (none: `replay`)
   stdin     the standard input, or make-stdin, a shell script that writes it (none: empty)
   stdout    what the program has to write (none: nothing), or stdout-is-not-fixed where only its being there is wanted
@@ -20,6 +21,7 @@ import tempfile
 
 ROOT = pathlib.Path(__file__).resolve().parent.parent
 PROGRAMS = [ROOT / "crates/pc_sim/out/pc_sim", ROOT / "crates/pc_sim/out/pc_sim.by-rattle"]
+PAGE = ROOT / "docs/WALK_THROUGH.md"
 SECONDS = 120
 
 
@@ -64,6 +66,22 @@ def faults_of_example(script, program):
     return [f"status {run.returncode}, standard output {run.stdout[:400]!r}, wanted {wanted[:400]!r}"]
 
 
+def faults_of_page(page, program):
+    """What differs from the page that walks through an example, as a list of texts."""
+    words = [sys.executable, str(ROOT / "tools/walk_through.py"), str(program), str(ROOT / "examples/crash-and-steal.script")]
+    run = subprocess.run(words, capture_output=True, timeout=SECONDS)
+    if (run.returncode, run.stdout) == (0, page.read_bytes()):
+        return []
+    return [f"status {run.returncode}, {run.stderr[:400]!r}: make the page again by {' '.join(words[1:])}"]
+
+
+def faults(path, program):
+    """What differs from the wanted of a case, of an example or of the page."""
+    if path.is_dir():
+        return faults_of(path, program)
+    return faults_of_page(path, program) if path == PAGE else faults_of_example(path, program)
+
+
 def counted(line):
     """The counts of a last line `N passed, M failed`. Any other line is one failure: what wrote it did not come to its end."""
     counts = re.fullmatch(r"(\d+) passed, (\d+) failed", line.strip())
@@ -87,14 +105,14 @@ def main():
         print("no case in tests/cases")
         failed += 1
     examples = sorted((ROOT / "examples").glob("*.script"))
-    for case in [*cases, *examples]:
+    for case in [*cases, *examples, PAGE]:
         for program in PROGRAMS:
             try:
-                faults = faults_of_example(case, program) if case in examples else faults_of(case, program)
+                found = faults(case, program)
             except (OSError, subprocess.SubprocessError) as error:
-                faults = [str(error)]
-            passed, failed = (passed, failed + 1) if faults else (passed + 1, failed)
-            for fault in faults:
+                found = [str(error)]
+            passed, failed = (passed, failed + 1) if found else (passed + 1, failed)
+            for fault in found:
                 print(f"case {case.name} ({program.name}): {fault}")
     print(f"{passed} passed, {failed} failed")
     return 1 if failed else 0

@@ -69,7 +69,7 @@ class Walk:
     def response(self, is_view):
         """The next response: one line, or a view's rows."""
         line = next(self.lines)
-        if not is_view or line.startswith("refused"):
+        if not is_view:
             return [line]
         rows = []
         while line != "end":
@@ -80,8 +80,8 @@ class Walk:
     def step(self, command):
         """The reply to the command, and the view of each agent after it."""
         is_view = command.startswith("show ")
-        reply = self.response(is_view)
-        reply = "its view, as at the right" if is_view and not reply[:1] == ["refused"] else reply[0]
+        lines = self.response(is_view)
+        reply = view_text(lines) if is_view else f"`{lines[0]}`"
         return reply, [view_text(self.response(True)) for _ in range(self.cpus)]
 
 
@@ -100,7 +100,7 @@ def page(program, path):
         for command in commands:
             reply, views = walk.step(command)
             cells = ["" if view == old else view for view, old in zip(views, before)]
-            yield f"| `{command}` | `{reply}` |" + "".join(f" {cell} |" for cell in cells)
+            yield f"| `{command}` | {reply} |" + "".join(f" {cell} |" for cell in cells)
             before = views
         yield ""
 
