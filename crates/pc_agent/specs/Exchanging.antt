@@ -24,7 +24,8 @@ Delivers delta result old new =
     (run : Run) (p : PlainAgent) (set : Set) → ShowsDelta run set delta → ShowsAgent run p old → IsDelivered run p set result new
 
 -- a delta that answers an asker, who knows a set of messages, was handed to the wire, which answered so
-pub record IsAnswerSent {W : Type 0} (Sends : Sending W) (view : View) (asked : Members) (answer : Result (Unit {0}) SendFault) (wire later : W) : Type 0 where
+pub record IsAnswerSent {W : Type 0} (Sends : Sending W) (view : View) (asked : Members)
+    (answer : Result (Unit {0}) SendFault) (wire later : W) : Type 0 where
   pub delta : List Part
   pub answers : IsAnswerTo view asked delta
   pub sent : Sends wire delta answer later

@@ -32,14 +32,16 @@ IsCopied run p items (Err fault) cpu new = ShowsPart run p (pairs_in items) new
 
 -- for every run that the items are of, and whatever the agent shows of it
 abbrev pub Copies : List Item → Result (List Part) Starved → Agent → Agent → Type 0
-Copies items result old new = (run : Run) (p : PlainAgent) → AreItemsOf run items → ShowsAgent run p old → IsCopied run p items result (cpu_of old) new
+Copies items result old new =
+    (run : Run) (p : PlainAgent) → AreItemsOf run items → ShowsAgent run p old → IsCopied run p items result (cpu_of old) new
 
 -- what a wire says of a send: the wire before, the delta, the answer, the wire after
 abbrev pub Sending : Type 0 → Type 1
 Sending W = W → List Part → Result (Unit {0}) SendFault → W → Type 0
 
 -- the delta of the items, one part for each message, was handed to the wire, which answered so; it is of the run
-pub record IsHandedOn {W : Type 0} (Sends : Sending W) (run : Run) (items : List Item) (answer : Result (Unit {0}) SendFault) (wire later : W) : Type 0 where
+pub record IsHandedOn {W : Type 0} (Sends : Sending W) (run : Run) (items : List Item)
+    (answer : Result (Unit {0}) SendFault) (wire later : W) : Type 0 where
   pub shows : ShowsDelta run (pairs_in items) (parts_in items)
   pub sent : Sends wire (parts_in items) answer later
 

@@ -57,8 +57,8 @@ abbrev pub take_refused : Reads → (ℕ → Call) → Option ℕ → Option Ref
 take_refused r takes None = Some NothingToSteal
 take_refused r takes (Some t) = refused r (takes t)
 
--- a steal for an idle CPU: of the threads that pass the test only the least is tried, by its call; where the call is accepted,
--- this holds of the thread
+-- a steal for an idle CPU: of the threads that pass the test only the least is tried, by its call; Taken is what holds of a thread
+-- that was taken over
 abbrev pub TriesLeast : Reads → (ℕ → Bool) → (ℕ → Call) → (ℕ → Type 0) → Result ℕ CallFault → Type 0
 TriesLeast r test takes Taken (Ok t) = Finds test (Some t) × (refused r (takes t) ≡ None) × Taken t
 TriesLeast r test takes Taken (Err (Refused refusal)) = (t : Option ℕ) × Finds test t × (take_refused r takes t ≡ Some refusal)

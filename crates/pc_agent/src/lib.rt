@@ -2,7 +2,8 @@
 //! threads over that it saw exactly, and starts again with nothing after a crash.
 //!
 //! What each call does is defined over a set of messages, a list of names and a count (`specs/PlainAgent.antt`), for
-//! every plain kernel that the kernel shows and every run that goes on from its run.
+//! every plain kernel that the kernel shows and every run that goes on from its run. The same is said over the agent's
+//! own view, run list and count (`specs/Own.antt`), which also holds of an agent whose view is of no run.
 #![tactic(auto)]
 
 mod agent;
