@@ -26,7 +26,8 @@ number_eq x y e = grind (arith, nat_tests)
 pub number_Decides : (x y : ℕ) → Decides (x == y) (x ≡ y)
 number_Decides x y = (eq_number x y, number_eq x y)
 
-pub pair_Decides : {A B : Type 0} {E : A → A → Bool} {F : B → B → Bool} → ((a b : A) → Decides (E a b) (a ≡ b)) → ((a b : B) → Decides (F a b) (a ≡ b))
+pub pair_Decides : {A B : Type 0} {E : A → A → Bool} {F : B → B → Bool}
+    → ((a b : A) → Decides (E a b) (a ≡ b)) → ((a b : B) → Decides (F a b) (a ≡ b))
     → (p q : A × B) → Decides (E p.0 q.0 && F p.1 q.1) (p ≡ q)
 pair_Decides {E = E} {F = F} first second p q = (
   λ e.
@@ -38,7 +39,8 @@ pair_Decides {E = E} {F = F} first second p q = (
 )
 
 -- two maps are equal where the same names have equal values
-pub by_name_Decides : {V : Type 0} {same : V → V → Bool} → ((a b : V) → Decides (same a b) (a ≡ b)) → (a b : map.FinMap nat_cmp V) → Decides (is_same_by_name same a b) (a ≡ b)
+pub by_name_Decides : {V : Type 0} {same : V → V → Bool} → ((a b : V) → Decides (same a b) (a ≡ b))
+    → (a b : map.FinMap nat_cmp V) → Decides (is_same_by_name same a b) (a ≡ b)
 by_name_Decides decides a b =
     let entries = pointwise_decides (pair_Decides number_Decides decides) (map.entries a) (map.entries b) in
     (λ e. map.same_entries_map a b (entries.0 e), λ e. entries.1 (ap map.entries e))

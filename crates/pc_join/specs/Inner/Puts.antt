@@ -11,7 +11,8 @@ pub record IsJoinedAt {V : Type 0} (known : V → Members) (is_of : V → Source
   pub not_void : IfSome old (λ v. ¬ IsVoid (known v)) → IfSome other (λ v. ¬ IsVoid (known v)) → IfSome new (λ v. ¬ IsVoid (known v))
 
 -- some of the value was joined to what is held under the name, and what is held under other names is as it was
-pub record IsPut {V : Type 0} (known : V → Members) (is_of : V → Source → Type 0) (old : ℕ → Option V) (name : ℕ) (value : V) (new : ℕ → Option V) : Type 0 where
+pub record IsPut {V : Type 0} (known : V → Members) (is_of : V → Source → Type 0)
+    (old : ℕ → Option V) (name : ℕ) (value : V) (new : ℕ → Option V) : Type 0 where
   pub others : (other : ℕ) → ¬ (other ≡ name) → new other ≡ old other
   pub here : IsJoinedAt known is_of (old name) (Some value) (new name)
 

@@ -24,7 +24,8 @@ pub has_first : (r : ℕ × ℕ) (rs : List (ℕ × ℕ)) (n : ℕ) → r.0 ≤ 
 has_first r rs n h e = ap (λ b. b || in_ranges rs n) (inside_range r n h e)
 
 pub lacks_gap : (k : ℕ) (r : ℕ × ℕ) (rs : List (ℕ × ℕ)) → AreApart k (r ∷ rs) → in_ranges (r ∷ rs) (r.1 + 1) ≡ false
-lacks_gap k r rs h = ap (λ b. b || in_ranges rs (r.1 + 1)) (above_range r (r.1 + 1) (omega arith)) ∙ lacks_below (r.1 + 1) rs (r.1 + 1) h.2 (omega arith)
+lacks_gap k r rs h =
+    ap (λ b. b || in_ranges rs (r.1 + 1)) (above_range r (r.1 + 1) (omega arith)) ∙ lacks_below (r.1 + 1) rs (r.1 + 1) h.2 (omega arith)
 
 clash : (a b : Bool) → a ≡ true → b ≡ false → a ≡ b → ⊥
 clash a b p q e = false≢true (sym q ∙ sym e ∙ p)
@@ -36,21 +37,26 @@ order_of : (a b : ℕ) → (a < b) ⊎ (b ≤ a)
 order_of a b = grind arith
 
 -- the first range of one starts no later than that of the other
-starts_no_later : (k : ℕ) (r s : ℕ × ℕ) (rs ss : List (ℕ × ℕ)) → AreApart k (r ∷ rs) → AreApart k (s ∷ ss) → ((n : ℕ) → in_ranges (r ∷ rs) n ≡ in_ranges (s ∷ ss) n) → s.0 ≤ r.0
+starts_no_later : (k : ℕ) (r s : ℕ × ℕ) (rs ss : List (ℕ × ℕ)) → AreApart k (r ∷ rs) → AreApart k (s ∷ ss)
+    → ((n : ℕ) → in_ranges (r ∷ rs) n ≡ in_ranges (s ∷ ss) n) → s.0 ≤ r.0
 starts_no_later k r s rs ss h g same =
     elim (order_of r.0 s.0) [
-      | inl lt ↦ absurd (clash _ _ (has_first r rs r.0 (omega arith) h.1) (lacks_below r.0 (s ∷ ss) r.0 (lt, g.1, g.2) (omega arith)) (same r.0))
+      | inl lt ↦
+          absurd (clash _ _ (has_first r rs r.0 (omega arith) h.1) (lacks_below r.0 (s ∷ ss) r.0 (lt, g.1, g.2) (omega arith)) (same r.0))
       | inr le ↦ le
     ]
 
-ends_no_later : (k : ℕ) (r s : ℕ × ℕ) (rs ss : List (ℕ × ℕ)) → AreApart k (r ∷ rs) → AreApart k (s ∷ ss) → r.0 ≡ s.0 → ((n : ℕ) → in_ranges (r ∷ rs) n ≡ in_ranges (s ∷ ss) n) → s.1 ≤ r.1
+ends_no_later : (k : ℕ) (r s : ℕ × ℕ) (rs ss : List (ℕ × ℕ)) → AreApart k (r ∷ rs) → AreApart k (s ∷ ss) → r.0 ≡ s.0
+    → ((n : ℕ) → in_ranges (r ∷ rs) n ≡ in_ranges (s ∷ ss) n) → s.1 ≤ r.1
 ends_no_later k r s rs ss h g e same =
     elim (order_of r.1 s.1) [
-      | inl lt ↦ absurd (clash _ _ (has_first s ss (r.1 + 1) (omega (arith, h.1)) (omega arith)) (lacks_gap k r rs h) (sym (same (r.1 + 1))))
+      | inl lt ↦
+          absurd (clash _ _ (has_first s ss (r.1 + 1) (omega (arith, h.1)) (omega arith)) (lacks_gap k r rs h) (sym (same (r.1 + 1))))
       | inr le ↦ le
     ]
 
-same_rest : (r : ℕ × ℕ) (rs ss : List (ℕ × ℕ)) (n : ℕ) → AreApart (r.1 + 1) rs → AreApart (r.1 + 1) ss → in_ranges (r ∷ rs) n ≡ in_ranges (r ∷ ss) n → in_ranges rs n ≡ in_ranges ss n
+same_rest : (r : ℕ × ℕ) (rs ss : List (ℕ × ℕ)) (n : ℕ) → AreApart (r.1 + 1) rs → AreApart (r.1 + 1) ss
+    → in_ranges (r ∷ rs) n ≡ in_ranges (r ∷ ss) n → in_ranges rs n ≡ in_ranges ss n
 same_rest r rs ss n h g e =
     elim (order_of r.1 n) [
       | inl lt ↦
