@@ -29,7 +29,8 @@ pub record IsUseful (view : View) (asked : Members) (part : Part) : Type 0 where
 
 -- the parts tell all of a thread that the view has and the asker has not
 abbrev pub IsToldAt : View → Members → ℕ → List Part → Type 0
-IsToldAt view asked thread parts = (m : List ℕ) → pairs_of view (thread ∷ m) ≡ true → asked (thread ∷ m) ≡ false → set_of parts (thread ∷ m) ≡ true
+IsToldAt view asked thread parts =
+    (m : List ℕ) → pairs_of view (thread ∷ m) ≡ true → asked (thread ∷ m) ≡ false → set_of parts (thread ∷ m) ≡ true
 
 -- a part without a fault, which tells what is told of a thread, and a number that is not known
 pub record IsUsefulOf (thread : ℕ) (told : Told) (known : Members) (part : Part) : Type 0 where

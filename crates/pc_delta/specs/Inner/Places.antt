@@ -30,4 +30,5 @@ IsNotAfter one other = (one.0 < other.0) ⊎ ((one.0 ≡ other.0) × (one.1 ≤ 
 -- the lesser of a place, where there is one, and another
 abbrev pub IsLesserOf : Option (ℕ × ℕ) → ℕ → ℕ → ℕ × ℕ → Type 0
 IsLesserOf None thread number lesser = lesser ≡ (thread, number)
-IsLesserOf (Some least) thread number lesser = ((lesser ≡ least) × IsNotAfter least (thread, number)) ⊎ ((lesser ≡ (thread, number)) × IsNotAfter (thread, number) least)
+IsLesserOf (Some least) thread number lesser =
+    ((lesser ≡ least) × IsNotAfter least (thread, number)) ⊎ ((lesser ≡ (thread, number)) × IsNotAfter (thread, number) least)
