@@ -26,7 +26,7 @@ use Rattle.pc_kernel.specs.Steps.{after, refused}
 use Rattle.pc_delta.specs.declared.part.Part.{Part}
 use Rattle.pc_delta.specs.declared.part.Part.TheVariants.{One}
 use Rattle.pc_delta.specs.Parts.{AreOfRun, IsPartOfRun, pairs_of_parts}
-use Rattle.pc_agent.specs.PlainAgent.{Set, fresh, is_nothing, pick_refused, ready_list, runs_here, taking_in}
+use Rattle.pc_agent.specs.PlainAgent.{Set, fresh, is_empty_list, pick_refused, ready_list, runs_here, taking_in}
 use Rattle.pc_agent.specs.Running.{Finds, IsLeast, left_by, takes_over}
 use Rattle.pc_run_queue.specs.Names.{has_name}
 use Rattle.pc_world.specs.Facts.{LiesIn}
@@ -166,7 +166,7 @@ module _ (laws : KernelLaws) (limits : Limits) (w : PlainWorld) (h : IsGood limi
         },
       )
 
-  commit_step : (c n : ℕ) (names : List ℕ) → is_nothing names ≡ false → Can (IsCommitted w c n names)
+  commit_step : (c n : ℕ) (names : List ℕ) → is_empty_list names ≡ false → Can (IsCommitted w c n names)
   commit_step c n [] some = cc
   commit_step c n (t ∷ rest) some =
       (replies.Committed t c, record (with_agent w c (record (w.agents c) { list = rest })) { kernel = after w.kernel (call.Commit c t n) }, (refl, refl))
@@ -175,7 +175,7 @@ module _ (laws : KernelLaws) (limits : Limits) (w : PlainWorld) (h : IsGood limi
   pick_step c n None e =
       let names = ready_list (shown w.kernel) c n (w.agents c).list in
       commit_step c n names
-      (third (not (n == reads.aseq_read (shown w.kernel) c)) (is_some (on (shown w.kernel) c)) (is_nothing names) (refusals.Stale (reads.aseq_read (shown w.kernel) c)) refusals.Busy refusals.NothingReady e)
+      (third (not (n == reads.aseq_read (shown w.kernel) c)) (is_some (on (shown w.kernel) c)) (is_empty_list names) (refusals.Stale (reads.aseq_read (shown w.kernel) c)) refusals.Busy refusals.NothingReady e)
   pick_step c n (Some why) e = (replies.Refused why, with_agent w c (record (w.agents c) { list = left_by why (w.agents c).list }), (refl, refl))
 
   take_step : (c t : ℕ) (o : Option Refusal) → Can (IsTakenOver w c t o)
