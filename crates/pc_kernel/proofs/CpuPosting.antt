@@ -1,6 +1,6 @@
 -- What a post to one of the kernel's CPUs is to a plain kernel that the kernel shows.
 use Rattle.std.proofs.Common.{◌≡◌, ◌∙◌, ℕ, ◌+◌, ◌<◌, ◌≤◌, ◌==◌, Bool, true, false, not, ◌&&◌, nat_lt, List, [], ◌∷◌, ◌++◌, map, Option, Some, None, is_some, slice_get, refl, sym, ap, inl, inr, if◌then◌else◌}
-use Rattle.std.specs.Option.{option_map, option_map_or, option_and_then}
+use Rattle.std.specs.Option.{option_map, option_map_or}
 use Rattle.std.proofs.lemmas.Bool.{lt-ltb}
 use Rattle.std.proofs.lemmas.Bool.Decides.{eqb_tells}
 use Rattle.std.proofs.lemmas.List.{append-nil}
@@ -8,12 +8,12 @@ use Rattle.std.proofs.lemmas.Option.{slice_get-map, same_Some}
 use Rattle.pc_messages.specs.declared.message.Item.{Item}
 use Rattle.pc_kernel.specs.declared.cpus.CpuEntry.{CpuEntry}
 use Rattle.pc_kernel.specs.declared.cpus.Landing.{Landing}
-use Rattle.pc_kernel.specs.Inner.Entries.{row_of, roused_entry, given_entry, woken_of, IsPosted}
+use Rattle.pc_kernel.specs.Inner.Entries.{row_of, roused_entry, given_entry, sleeps_in, IsPosted}
 use Rattle.pc_kernel.specs.PlainKernel.{PlainKernel, is_named}
 use Rattle.pc_kernel.specs.PlainKernel as plain
 use Rattle.pc_kernel.specs.Reads.{cpu_row, shown}
 use Rattle.pc_kernel.specs.Rows.{CpuRow}
-use Rattle.pc_kernel.specs.Steps.{roused, woken, posted}
+use Rattle.pc_kernel.specs.Steps.{roused, woken_of, woken, posted}
 use Rattle.pc_kernel.proofs.Posting.{if_to, content-posted, if_to_same, if_to_other, aseq-posted_same, aseq-posted_other}
 
 -- the rows of CPUs are the plain kernel's
@@ -95,7 +95,8 @@ cpus_posted old new P q it landing h shows eaten c =
     ]
 
 -- the agent that the code wakes is the one that the post wakes
-pub cpus_woken : (cpus : List CpuEntry) (P : PlainKernel) → ShowsCpus cpus P → (agent : Option ℕ) → ((c : ℕ) → agent ≡ Some c → c < P.limits.cpus) → woken_of cpus agent ≡ option_and_then (λ c. if is_some (P.slept c) then Some c else None) agent
+pub cpus_woken : (cpus : List CpuEntry) (P : PlainKernel) → ShowsCpus cpus P → (agent : Option ℕ) → ((c : ℕ) → agent ≡ Some c → c < P.limits.cpus) 
+    → woken_of (sleeps_in cpus) agent ≡ woken_of (λ c. is_some (P.slept c)) agent
 cpus_woken cpus P shows None there = refl
 cpus_woken cpus P shows (Some c) there =
     ap (λ b. if b then Some c else None) (
@@ -112,5 +113,5 @@ pub landed : (old new : List CpuEntry) (P : PlainKernel) (q : ℕ) (it : Item) (
 landed old new P q it landing h shows there =
     let row = (cpu_shown old P shows q h.entry h.there).1 in (
       h.aseq ∙ ap (λ (row : CpuRow). row.posts + 1) row,
-      h.woken ∙ cpus_woken old P shows h.entry.target there ∙ ap (λ (row : CpuRow). option_and_then (λ c. if is_some (P.slept c) then Some c else None) row.target) row,
+      h.woken ∙ cpus_woken old P shows h.entry.target there ∙ ap (λ (row : CpuRow). woken_of (λ c. is_some (P.slept c)) row.target) row,
     )

@@ -7,7 +7,8 @@ use Rattle.pc_messages.specs.declared.message.Item.{Item}
 use Rattle.pc_queue.specs.Queue.{Queue}
 use Rattle.pc_kernel.specs.declared.cpus.CpuEntry.{CpuEntry}
 use Rattle.pc_kernel.specs.declared.cpus.Landing.{Landing}
-use Rattle.pc_kernel.specs.Inner.Entries.{roused_entry, given_entry, woken_of, IsPosted}
+use Rattle.pc_kernel.specs.Inner.Entries.{roused_entry, given_entry, sleeps_in, IsPosted}
+use Rattle.pc_kernel.specs.Steps.{woken_of}
 use Rattle.pc_kernel.proofs.Slots.{slice_get_set}
 
 -- the queue with one more item, after one more post
@@ -39,7 +40,7 @@ asleep_given : (q : ℕ) (item : Item) (c : ℕ) (o : Option CpuEntry) → optio
 asleep_given q item c None = refl
 asleep_given q item c (Some e) = elim (c == q) as (λ b. (if b then with_queue e (given_queue e.queue item) else e).asleep ≡ e.asleep) [ true ↦ refl | false ↦ refl ]
 
-pub woken_given : (old new : List CpuEntry) (q : ℕ) (item : Item) → ((c : ℕ) → slice_get new c ≡ option_map (given_entry q item c) (slice_get old c)) → (agent : Option ℕ) → woken_of new agent ≡ woken_of old agent
+pub woken_given : (old new : List CpuEntry) (q : ℕ) (item : Item) → ((c : ℕ) → slice_get new c ≡ option_map (given_entry q item c) (slice_get old c)) → (agent : Option ℕ) → woken_of (sleeps_in new) agent ≡ woken_of (sleeps_in old) agent
 woken_given old new q item each None = refl
 woken_given old new q item each (Some c) = ap (λ b. if b then Some c else None) (ap (λ (o : Option CpuEntry). option_map_or (λ e. e.asleep) o false) (each c) ∙ asleep_given q item c (slice_get old c))
 
@@ -52,7 +53,7 @@ is_posted_at : (old given new : List CpuEntry) (q : ℕ) (item : Item) (e : CpuE
     → given ≡ set old q (with_queue e (given_queue e.queue item))
     → length new ≡ length given
     → ((c : ℕ) → slice_get new c ≡ option_map (roused_entry e.target c) (slice_get given c))
-    → landing.aseq ≡ e.queue.posts + 1 → landing.woken ≡ woken_of given e.target → IsPosted old new q item landing
+    → landing.aseq ≡ e.queue.posts + 1 → landing.woken ≡ woken_of (sleeps_in given) e.target → IsPosted old new q item landing
 is_posted_at old given new q item e landing there room posts is count roused aseq woken =
     let each : (c : ℕ) → slice_get given c ≡ option_map (given_entry q item c) (slice_get old c) = λ c. rw is (given_each old q item e there c) in
     record {
@@ -71,7 +72,7 @@ pub is_posted : (old new : List CpuEntry) (q i : ℕ) (item : Item) (e : CpuEntr
     → length e.queue.items < e.queue.room → e.queue.posts < e.queue.most → after ≡ given_queue e.queue item
     → length new ≡ length (set old i (with_queue e after))
     → ((c : ℕ) → slice_get new c ≡ option_map (roused_entry e.target c) (slice_get (set old i (with_queue e after)) c))
-    → landing.aseq ≡ after.posts → landing.woken ≡ woken_of (set old i (with_queue e after)) e.target → IsPosted old new q item landing
+    → landing.aseq ≡ after.posts → landing.woken ≡ woken_of (sleeps_in (set old i (with_queue e after))) e.target → IsPosted old new q item landing
 is_posted old new q i item e after landing at within read room posts is count roused aseq woken =
     is_posted_at old (set old i (with_queue e after)) new q item e landing
     (rw (← at) (slice_get_read old (length old) i e refl (rw at within) read)) room posts (rw (at, is) refl) count roused (aseq ∙ ap (λ (queue : Queue). queue.posts) is) woken

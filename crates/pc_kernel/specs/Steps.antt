@@ -130,9 +130,13 @@ refused r call = first_of (refusals r call)
 abbrev pub at : {X : Type 0} → (ℕ → X) → ℕ → X → ℕ → X
 at f place value n = if n == place then value else f n
 
+-- the agent named, where there is one and it sleeps
+abbrev pub woken_of : (ℕ → Bool) → Option ℕ → Option ℕ
+woken_of sleeps agent = option_and_then (λ c. if sleeps c then Some c else None) agent
+
 -- the agent that a post to a queue wakes: its target, where that sleeps
 abbrev pub woken : PlainKernel → ℕ → Option ℕ
-woken P q = option_and_then (λ c. if is_some (P.slept c) then Some c else None) (P.target q)
+woken P q = woken_of (λ c. is_some (P.slept c)) (P.target q)
 
 -- this agent, where there is one, is awake
 abbrev pub roused : (ℕ → Option ℕ) → Option ℕ → ℕ → Option ℕ

@@ -2,7 +2,8 @@
 
 ghost use Rattle.std.specs.Prelude.{◌≡◌, ◌<◌, ◌≤◌, ℕ, Some, length, slice_get, IfOk, OnErr};
 ghost use Rattle.std.specs.Option.{option_map, ForSome};
-ghost use Rattle.pc_kernel.specs.Inner.Entries.{fresh_cpu, AreTargets, roused_entry, woken_of, IsPosted};
+ghost use Rattle.pc_kernel.specs.Inner.Entries.{fresh_cpu, AreTargets, roused_entry, sleeps_in, IsPosted};
+ghost use Rattle.pc_kernel.specs.Steps.{woken_of};
 
 use pc_calls::Limits;
 use pc_messages::{Cpu, Item, Tid};
@@ -50,7 +51,7 @@ pub(crate) fn rouse(cpus: &mut Vec<CpuEntry>, agent: Option<Cpu>) -> Option<Cpu>
     requires { ForSome agent (λ c. c < length cpus.old.items) }
     ensures each { (c : ℕ) → slice_get cpus.new.items c ≡ option_map (roused_entry agent c) (slice_get cpus.old.items c) }
     ensures count { length cpus.new.items ≡ length cpus.old.items }
-    ensures woken { result ≡ woken_of cpus.old.items agent }
+    ensures woken { result ≡ woken_of (sleeps_in cpus.old.items) agent }
 {
     match agent {
         Some(cpu) => {

@@ -1,5 +1,5 @@
 -- What the code keeps of each CPU, as rows, and what a post does to it.
-use Rattle.std.specs.Prelude.{ℕ, ◌+◌, ◌<◌, ◌≡◌, ◌==◌, ◌&&◌, not, false, Option, Some, None, if◌then◌else◌}
+use Rattle.std.specs.Prelude.{ℕ, ◌+◌, ◌<◌, ◌≡◌, ◌==◌, ◌&&◌, not, Bool, false, Option, Some, None, if◌then◌else◌}
 use Rattle.std.specs.Prelude.{List, [], ◌∷◌, ◌++◌, length, map, slice_get}
 use Rattle.std.specs.Option.{option_map, option_map_or, option_and_then}
 use Rattle.pc_messages.specs.declared.message.Item.{Item}
@@ -10,6 +10,7 @@ use Rattle.pc_calls.specs.declared.limits.Limits.{Limits}
 use Rattle.pc_kernel.specs.Rows.{ThreadRow, CpuRow, KernelRows}
 use Rattle.pc_kernel.specs.PlainKernel.{is_named}
 use Rattle.pc_kernel.specs.Sound.{IsSound}
+use Rattle.pc_kernel.specs.Steps.{woken_of}
 
 abbrev pub row_of : CpuEntry → CpuRow
 row_of e = record { posts = e.queue.posts; content = e.queue.items; target = e.target; on = e.running; asleep = e.asleep }
@@ -53,9 +54,9 @@ AreTargets cpus = (q c : ℕ) (e : CpuEntry) → slice_get cpus q ≡ Some e →
 abbrev pub roused_entry : Option ℕ → ℕ → CpuEntry → CpuEntry
 roused_entry agent c e = record e { asleep = e.asleep && not (is_named agent c) }
 
--- the agent named, where there is one and it sleeps
-abbrev pub woken_of : List CpuEntry → Option ℕ → Option ℕ
-woken_of cpus agent = option_and_then (λ c. if option_map_or (λ e. e.asleep) (slice_get cpus c) false then Some c else None) agent
+-- whether the CPU's agent sleeps; none does of a CPU that is not there
+abbrev pub sleeps_in : List CpuEntry → ℕ → Bool
+sleeps_in cpus c = option_map_or (λ e. e.asleep) (slice_get cpus c) false
 
 -- the queue has one more item, at its end
 abbrev pub given : Queue → Item → Queue
@@ -74,4 +75,4 @@ pub record IsPosted (old new : List CpuEntry) (q : ℕ) (item : Item) (landing :
   pub count : length new ≡ length old
   pub each : (c : ℕ) → slice_get new c ≡ option_map (λ e. roused_entry entry.target c (given_entry q item c e)) (slice_get old c)
   pub aseq : landing.aseq ≡ entry.queue.posts + 1
-  pub woken : landing.woken ≡ woken_of old entry.target
+  pub woken : landing.woken ≡ woken_of (sleeps_in old) entry.target
