@@ -95,7 +95,7 @@ cpus_posted old new P q it landing h shows eaten c =
     ]
 
 -- the agent that the code wakes is the one that the post wakes
-pub cpus_woken : (cpus : List CpuEntry) (P : PlainKernel) → ShowsCpus cpus P → (agent : Option ℕ) → ((c : ℕ) → agent ≡ Some c → c < P.limits.cpus) 
+pub cpus_woken : (cpus : List CpuEntry) (P : PlainKernel) → ShowsCpus cpus P → (agent : Option ℕ) → ((c : ℕ) → agent ≡ Some c → c < P.limits.cpus)
     → woken_of (sleeps_in cpus) agent ≡ woken_of (λ c. is_some (P.slept c)) agent
 cpus_woken cpus P shows None there = refl
 cpus_woken cpus P shows (Some c) there =

@@ -25,7 +25,7 @@ module _ {V : Type 0} (known : V → Members) (is_of : V → Source → Type 0) 
           absurd (of_a.kept t v e (λ m. sym (ap (λ o. known_in known o m) e) ∙ same (t ∷ m) ∙ ap (λ o. known_in known o m) f))
       at t (Some v) (Some w) e f =
           let one : v ≡ w = unique (source_at s t) v w (of_a.each t v e) (of_b.each t w f)
-                (λ m. sym (ap (λ o. known_in known o m) e) ∙ same (t ∷ m) ∙ ap (λ o. known_in known o m) f) in
+          (λ m. sym (ap (λ o. known_in known o m) e) ∙ same (t ∷ m) ∙ ap (λ o. known_in known o m) f) in
           e ∙ ap (λ v. Some v) one ∙ sym f
 
   pub stays_by_name : ((s t : Source) (a : V) → AgreesOn (known a) s t → is_of a s → is_of a t)
@@ -34,5 +34,5 @@ module _ {V : Type 0} (known : V → Members) (is_of : V → Source → Type 0) 
   stays_by_name stays s t a agrees of_s = record {
     kept = of_s.kept;
     each = λ name v e. stays (source_at s name) (source_at t name) v
-      (λ m k n. agrees (name ∷ m) (ap (λ o. known_in known o m) e ∙ k) n) (of_s.each name v e);
+        (λ m k n. agrees (name ∷ m) (ap (λ o. known_in known o m) e ∙ k) n) (of_s.each name v e);
   }

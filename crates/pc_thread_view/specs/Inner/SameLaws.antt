@@ -22,7 +22,7 @@ read (tag ∷ n ∷ []) = by_tag tag n
     by_tag : ℕ → ℕ → Kind
     by_tag tag n =
         cond (tag == 1) (Blocked n) (cond (tag == 2) (Preempted n) (cond (tag == 3) (Yield n)
-          (cond (tag == 4) (Dead n) (cond (tag == 6) (Affinity n) (Priority n)))))
+        (cond (tag == 4) (Dead n) (cond (tag == 6) (Affinity n) (Priority n)))))
 read (tag ∷ mask ∷ ready ∷ rest) = Created mask (ready == 1)
 
 read_written : (kind : Kind) → read (written kind) ≡ kind
@@ -81,10 +81,10 @@ early_Decides = pointwise_decides (pair_Decides number_Decides kind_Decides)
 pub told_Decides : (a b : Told) → Decides (is_same_told a b) (a ≡ b)
 told_Decides a b =
     let test = pair_Decides number_Decides (pair_Decides state_Decides early_Decides)
-          (a.upto, (a.state, a.early)) (b.upto, (b.state, b.early)) in (
+    (a.upto, (a.state, a.early)) (b.upto, (b.state, b.early)) in (
       λ e.
           let same : ◌≡◌ {A = ℕ × (Option Reported × List (ℕ × Kind))} (a.upto, (a.state, a.early)) (b.upto, (b.state, b.early)) =
-                test.0 e in
+          test.0 e in
           λ i. record { upto = (same i).0; state = (same i).1.0; early = (same i).1.1 },
       λ e. test.1 (λ i. ((e i).upto, ((e i).state, (e i).early))),
     )

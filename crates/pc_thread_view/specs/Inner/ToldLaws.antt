@@ -33,7 +33,7 @@ prefix_no upto n h = grind (arith, nat_tests)
 pub lacks_next : (v : Told) → RiseAbove (v.upto + 1) v.early → tells v (v.upto + 1) ≡ false
 lacks_next v h =
     ap (λ b. b || is_early v.early (v.upto + 1)) (prefix_no v.upto (v.upto + 1) (omega arith))
-      ∙ lacks_below (v.upto + 1) v.early (v.upto + 1) h (omega arith)
+    ∙ lacks_below (v.upto + 1) v.early (v.upto + 1) h (omega arith)
 
 order_of : (a b : ℕ) → (a < b) ⊎ (b ≤ a)
 order_of a b = grind arith
@@ -43,7 +43,7 @@ upto_least v w h same =
     elim (order_of v.upto w.upto) [
       | inl lt ↦
           absurd (false≢true (sym (lacks_next v h) ∙ same (v.upto + 1)
-            ∙ ap (λ b. b || is_early w.early (v.upto + 1)) (prefix_yes w.upto (v.upto + 1) (omega arith) (omega arith))))
+          ∙ ap (λ b. b || is_early w.early (v.upto + 1)) (prefix_yes w.upto (v.upto + 1) (omega arith) (omega arith))))
       | inr le ↦ le
     ]
 
@@ -97,7 +97,7 @@ same_early s n (d ∷ ds) (e ∷ es) h g a b same =
     let first : d ≡ e = λ i. (number i, kind i) in
     let rise : RiseAbove d.0 es = subst (λ m. RiseAbove m es) (sym number) g.1 in
     let on : (m : ℕ) → is_early (d ∷ ds) m ≡ is_early ((d.0, e.1) ∷ es) m =
-          λ m. same m ∙ ap (λ k. (k == m) || is_early es m) (sym number) in
+    λ m. same m ∙ ap (λ k. (k == m) || is_early es m) (sym number) in
     let rest : ds ≡ es = same_early s d.0 ds es h.1 rise a.1 b.1 (λ m. same_rest d ds es e.1 m h.1 rise (on m)) in
     λ i. first i ∷ rest i
 
@@ -114,14 +114,14 @@ unique_told s a b of_a of_b same =
     let at : (n : ℕ) → tells a n ≡ tells b n = λ n. same (n ∷ []) in
     let upto : a.upto ≡ b.upto = le_both a.upto b.upto (upto_least b a of_b.gap (λ n. sym (at n))) (upto_least a b of_a.gap at) in
     let kinds : of_a.prefix.kinds ≡ of_b.prefix.kinds =
-          same_kinds s 0 of_a.prefix.kinds of_b.prefix.kinds (of_a.prefix.count ∙ upto ∙ sym of_b.prefix.count)
-            of_a.prefix.of_source of_b.prefix.of_source in
+    same_kinds s 0 of_a.prefix.kinds of_b.prefix.kinds (of_a.prefix.count ∙ upto ∙ sym of_b.prefix.count)
+    of_a.prefix.of_source of_b.prefix.of_source in
     let state : a.state ≡ b.state = of_a.prefix.folded ∙ ap state_of kinds ∙ sym of_b.prefix.folded in
     let gap : RiseAbove (a.upto + 1) b.early = subst (λ m. RiseAbove (m + 1) b.early) (sym upto) of_b.gap in
     let early : a.early ≡ b.early =
-          same_early s (a.upto + 1) a.early b.early of_a.gap gap of_a.early of_b.early
-            (λ m. early_of a.upto a.early b.early m of_a.gap gap
-              (at m ∙ ap (λ u. one_to u m || is_early b.early m) (sym upto))) in
+    same_early s (a.upto + 1) a.early b.early of_a.gap gap of_a.early of_b.early
+    (λ m. early_of a.upto a.early b.early m of_a.gap gap
+    (at m ∙ ap (λ u. one_to u m || is_early b.early m) (sym upto))) in
     λ i. record { upto = upto i; state = state i; early = early i }
 
 -- of a source that gives the same at the members
