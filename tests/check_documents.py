@@ -31,7 +31,7 @@ FOREIGN = {"Err", "Ok", "IsStrictlyIncreasing"}
 # What the papers are cited by: numbers of their theorems, definitions, requests and rows, and their names.
 CITATIONS = re.compile(
     r"\bT[1-5]\.\d+|\bD(?:1[0-5]|[1-9])\b|\bR(?:1[0-6]|[1-9])\b|\bW\d+\b|\brows? \d+\b"
-    r"|\b(?:paper|document)s? 0?[1-4]\b|\b0[1-4]-(?:scope|theorems|requests|formats)|\bissue #?\d+|/work/"
+    r"|\b(?:paper|document)s? 0?[1-4]\b|\b0[1-4]-(?:scope|theorems|requests|formats)|\bissue #?\d+|\bheadline\b|/work/"
 )
 
 

@@ -12,7 +12,7 @@ use Rattle.pc_view.specs.Views.{IsOfRun, pairs_of}
 use Rattle.pc_delta.specs.declared.part.Part.{Part}
 use Rattle.pc_delta.specs.Exchange.{IsPartlyTakenIn, IsTakenIn}
 use Rattle.pc_delta.specs.Parts.{AreOfRun, parts_in, set_of}
-use Rattle.pc_run_queue.specs.Runs.{level_told, may_run, refreshed_by}
+use Rattle.pc_run_queue.specs.Runs.{refreshed_as}
 use Rattle.pc_agent.specs.declared.agent.Agent.{Agent}
 use Rattle.pc_agent.specs.declared.wire.SendFault.{SendFault}
 use Rattle.pc_agent.specs.declared.wire.SendFault.TheVariants as fault
@@ -64,7 +64,7 @@ module _ (reported : ReportsAreTold) (told : ItemsAreTold) (told_of_run : ItemsA
   all_copied count has =
       let view = view_takes run p.seen (pairs_in items) old.view new.view (parts_in items) h.view has.view items_tell in
       let state : (t : ℕ) → reported_in new.view t ≡ reports run (copied run old.cpu items p).seen t = λ t. reported run (copied run old.cpu items p).seen new.view t view.of_run view.seen in
-      record { view = view; list = has.list ∙ λ i. refreshed_by (λ t. may_run (state t i) old.cpu) (λ t. level_told (state t i)) (h.list i) (threads_in items); shown = has.shown }
+      record { view = view; list = has.list ∙ λ i. refreshed_as (λ t. state t i) old.cpu (h.list i) (threads_in items); shown = has.shown }
 
   -- what else is as it was
   counted : (count n : ℕ) → count ≡ n → ShowsAgent run (record (copied run old.cpu items p) { shown = count }) new → ShowsAgent run (record (copied run old.cpu items p) { shown = n }) new

@@ -27,7 +27,7 @@ pub record HasCopied (items : List Item) (old new : Agent) (count : ℕ) : Type 
   pub list : new.list ≡ refreshed new.view (cpu_of old) old.list (threads_in items)
   pub shown : new.shown ≡ count
 
--- a part of the messages may be taken in, and the agent is as it was else
+-- a part of the messages may be taken in, and the agent is otherwise as it was
 pub record HasPartlyCopied (items : List Item) (old new : Agent) : Type 0 where
   pub view : IsPartlyTakenIn (parts_in items) old.view new.view
   pub list : new.list ≡ old.list

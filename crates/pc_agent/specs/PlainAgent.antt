@@ -12,7 +12,7 @@ use Rattle.pc_kernel.specs.Reads.{Reads, is_known, place, aseq_read, on}
 use Rattle.pc_kernel.specs.Steps.{refused}
 use Rattle.pc_view.specs.Prefixes.{reports}
 use Rattle.pc_run_queue.specs.Names.{has_name}
-use Rattle.pc_run_queue.specs.Runs.{may_run, level_told, refreshed_by}
+use Rattle.pc_run_queue.specs.Runs.{may_run, refreshed_as}
 
 -- a finite set of pairs of a thread's name and a number
 abbrev pub Set : Type 0
@@ -31,15 +31,11 @@ fresh = record { seen = []; list = []; shown = 0 }
 abbrev pub runs_here : Run → Set → ℕ → ℕ → Bool
 runs_here run set cpu t = may_run (reports run set t) cpu
 
--- the level that it reports of the thread
-abbrev pub level_here : Run → Set → ℕ → ℕ
-level_here run set t = level_told (reports run set t)
-
 -- the threads of items, in order
 abbrev pub threads_in : List Item → List ℕ
 threads_in items = filter_map thread_in items
 
--- the agent of a CPU takes a set in
+-- the agent takes a set in
 abbrev pub taking_in : Set → PlainAgent → PlainAgent
 taking_in set p = record p { seen = p.seen ++ set }
 
@@ -47,7 +43,7 @@ taking_in set p = record p { seen = p.seen ++ set }
 abbrev pub copied : Run → ℕ → List Item → PlainAgent → PlainAgent
 copied run cpu items p =
     let set = p.seen ++ pairs_in items in
-    record p { seen = set; list = refreshed_by (runs_here run set cpu) (level_here run set) p.list (threads_in items) }
+    record p { seen = set; list = refreshed_as (reports run set) cpu p.list (threads_in items) }
 
 -- the names from the first one on that passes the test
 abbrev pub from_first : (ℕ → Bool) → List ℕ → List ℕ
@@ -76,7 +72,7 @@ pick_refused r cpu n names =
 abbrev pub is_idle : Reads → ℕ → Bool
 is_idle r t = is_known r t && is_none (place r t)
 
--- a thread that an agent may take over: it runs here, is not in the run list, and is idle
+-- a thread that an agent may take over: it may run here, is not in the run list, and runs nowhere
 abbrev pub may_take : Reads → (ℕ → Bool) → List ℕ → ℕ → Bool
 may_take r runs list t = (runs t && not (has_name list t)) && is_idle r t
 

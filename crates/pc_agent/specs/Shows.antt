@@ -25,7 +25,7 @@ pub record ShowsAgent (run : Run) (p : PlainAgent) (agent : Agent) : Type 0 wher
   pub list : agent.list ≡ p.list
   pub shown : agent.shown ≡ p.shown
 
--- the agent has taken in a part of the set, and is as it was else
+-- the agent has taken in a part of the set, and is otherwise as it was
 abbrev pub ShowsPart : Run → PlainAgent → Set → Agent → Type 0
 ShowsPart run p set agent = (some : Set) × IsBetween (as_members p.seen) (as_members set) (as_members some)
     × ShowsAgent run (record p { seen = some }) agent

@@ -27,6 +27,7 @@ pub struct Agent {
 }
 
 impl Agent {
+    ghost use Rattle.pc_run_queue.specs.Names.{AreDistinct};
     ghost use Rattle.pc_agent.specs.Counts.{none_counted};
     ghost use Rattle.pc_agent.specs.PlainAgent.{fresh};
     ghost use Rattle.pc_agent.specs.Shows.{ShowsView};
@@ -77,6 +78,7 @@ impl Agent {
     /// The names of the threads that it would run, the first one first.
     pub fn run_list(&self) -> &[Tid]
         ensures same { result.now ≡ self.now.list }
+        ensures distinct { AreDistinct result.now }
         ensures shows { (run : Run) (p : PlainAgent) → ShowsAgent run p self.now → result.now ≡ p.list }
     {
         self.list.names()

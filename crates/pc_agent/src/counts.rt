@@ -7,7 +7,7 @@ use pc_calls::{CallFault, Refusal};
 use pc_messages::Tid;
 
 /// The greatest value of a count, at which it stays.
-pub(crate) const MOST_COUNTED: u64 = u64::MAX;
+pub const MOST_COUNTED: u64 = u64::MAX;
 
 /// How often an agent did what, since it was made (own). A restart keeps the counts.
 #[derive(Clone, Copy, Debug, PartialEq, Eq)]

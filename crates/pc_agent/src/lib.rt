@@ -18,6 +18,6 @@ mod tests;
 mod wire;
 
 pub use agent::{Agent, agents_stay_as_the_run_goes_on};
-pub use counts::Counts;
+pub use counts::{Counts, MOST_COUNTED};
 pub use kept_wire::KeptWire;
 pub use wire::{SendFault, Wire};

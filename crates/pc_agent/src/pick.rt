@@ -36,7 +36,7 @@ fn commit_first(
     while let Some(name) = list.take_first() {
         match kernel.commit(cpu, name, aseq) {
             Ok(()) => return Ok(name),
-            // The name is dropped: it comes back by a refresh, once the view reports it ready again.
+            // The name is dropped: it comes back when a further message of it is copied, or by a steal.
             Err(_) => {}
         }
     }

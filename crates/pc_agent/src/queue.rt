@@ -132,7 +132,7 @@ impl Agent {
     }
 
     /// Removes from its queue the items that it has sent, and answers how many. It takes no memory. `TooMany` comes where
-    /// something else removed items from the queue since they were sent.
+    /// more items count as sent than the queue holds.
     pub fn consume(&mut self, kernel: &mut Kernel) -> Result<u32, Refusal>
         ensures consumes { WhateverShown kernel.old self.old (λ P run p. IsConsumed P run p result (cpu_of self.old) self.new kernel.new) }
         ensures count { IfOk result (λ count. count ≡ self.old.shown) }

@@ -80,7 +80,7 @@ fn take_least(
     let Some(thread) = prey(view, list, cpu, kernel) else {
         return Err(CallFault::Refused(Refusal::NothingToSteal));
     };
-    // The name is put first: once the kernel has accepted, nothing may fail.
+    // The name is pushed before the kernel is asked: once it has accepted, nothing may fail.
     if list.push(thread).is_err() {
         return Err(CallFault::OutOfMemory);
     }

@@ -438,6 +438,34 @@ fn a_steal_is_stale_before_it_is_pending(rt: HostRuntime) -> Result<(), Fail> {
 }
 
 #[test]
+fn a_steal_passes_over_lesser_names(rt: HostRuntime) -> Result<(), Fail> {
+    let mut kernel = two_cpus(rt.alloc()).ok_or("no kernel")?;
+    let mut agent = Agent::new(rt.alloc(), Cpu(0));
+    let mut thief = Agent::new(rt.alloc(), Cpu(1));
+    let mut wire = KeptWire::new(rt.alloc());
+    // t0 may not run on the thief's CPU, and t1 is blocked.
+    assert!(rt; kernel.create(Cpu(0), 1, true).is_ok());
+    assert!(rt; kernel.create(Cpu(0), 3, false).is_ok());
+    assert!(rt; kernel.create(Cpu(0), 3, true).is_ok());
+    assert!(rt; publishes_and_consumes(&mut kernel, &mut agent, &mut wire, 3));
+    assert!(rt; delivers(&mut thief, &wire, 0));
+    assert!(rt; stolen(&mut thief, &mut kernel) == Some(Tid(2)));
+    Ok(())
+}
+
+#[test]
+fn an_agent_of_a_cpu_that_is_not_there(rt: HostRuntime) -> Result<(), Fail> {
+    let mut kernel = ready(rt.alloc(), 1).ok_or("no kernel")?;
+    let mut agent = Agent::new(rt.alloc(), Cpu(2));
+    agent.sent(1);
+    assert!(rt; agent.consume(&mut kernel) == Err(Refusal::BadCpu));
+    assert!(rt; pick_refusal(&mut agent, &mut kernel, 1) == Some(Refusal::Stale(0)));
+    assert!(rt; pick_refusal(&mut agent, &mut kernel, 0) == Some(Refusal::NothingReady));
+    assert!(rt; steal_refusal(&mut agent, &mut kernel) == Some(Refusal::NothingToSteal));
+    Ok(())
+}
+
+#[test]
 fn the_dead_are_not_stolen(rt: HostRuntime) -> Result<(), Fail> {
     let mut kernel = ready(rt.alloc(), 1).ok_or("no kernel")?;
     let mut agent = Agent::new(rt.alloc(), Cpu(0));

@@ -31,11 +31,15 @@ runs_in view cpu t = may_run (reported_in view t) cpu
 abbrev pub level_in : View → ℕ → ℕ
 level_in view t = level_told (reported_in view t)
 
--- the old names that pass the test, in order, then the touched ones that do and are absent, each at its first place: of
--- these the highest level first
+-- the old names that pass the test, in order, then the touched ones that do and are absent, each at its first place: of all
+-- these the highest level first, those of one level in this order
 abbrev pub refreshed_by : (ℕ → Bool) → (ℕ → ℕ) → List ℕ → List ℕ → List ℕ
 refreshed_by test level old touched = by_level level (with_new test (filter test old) touched)
 
--- that, by what the view reports: ready and allowed on the CPU
+-- that, by the state that is reported of each thread: ready, with a mask that allows the CPU
+abbrev pub refreshed_as : (ℕ → Option Reported) → ℕ → List ℕ → List ℕ → List ℕ
+refreshed_as reported cpu old touched = refreshed_by (λ t. may_run (reported t) cpu) (λ t. level_told (reported t)) old touched
+
+-- that, by what the view reports
 abbrev pub refreshed : View → ℕ → List ℕ → List ℕ → List ℕ
-refreshed view cpu old touched = refreshed_by (runs_in view cpu) (level_in view) old touched
+refreshed view cpu old touched = refreshed_as (reported_in view) cpu old touched

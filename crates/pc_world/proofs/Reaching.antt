@@ -1,16 +1,20 @@
 -- What holds of every world that events lead to.
-use Rattle.std.proofs.Common.{◌≡◌, ℕ, ◌+◌, ◌-◌, ◌≤◌, ◌⊎◌, true, List, [], ◌∷◌, length, take, Some, Contains, IsTrue, slice_get, sym, ◌∙◌, ap, subst, inl, inr, arith}
+use Rattle.std.proofs.Common.{◌≡◌, ℕ, zero, suc, ◌+◌, ◌-◌, ◌≤◌, ◌==◌, ◌⊎◌, nat_lt, true, false, None, if◌then◌else◌, List, [], ◌∷◌, length, take, Some, Contains, IsTrue, slice_get, sym, ◌∙◌, ap, subst, inl, inr, arith}
 use Rattle.std.specs.Prelude.{◌↔◌}
-use Rattle.std.proofs.lemmas.Bool.{cases_lt}
+use Rattle.std.specs.List.{filter_map, cons_option}
+use Rattle.std.proofs.lemmas.Bool.{cases_eq, cases_lt}
+use Rattle.std.proofs.lemmas.Bool.Decides.{nat_tests}
 use Rattle.std.proofs.lemmas.List.{length-drop}
-use Rattle.pc_messages.specs.Items.{pairs_in}
+use Rattle.pc_messages.specs.Items.{message_in, pairs_in}
 use Rattle.pc_messages.specs.declared.message.Message.{Message}
-use Rattle.pc_messages.specs.declared.message.Item.TheVariants.{Thread}
+use Rattle.pc_messages.specs.declared.message.Item.{Item}
+use Rattle.pc_messages.specs.declared.message.Item.TheVariants.{Thread, Tick}
 use Rattle.pc_calls.specs.declared.event.Event.{Event}
 use Rattle.pc_calls.specs.declared.limits.Limits.{Limits}
 use Rattle.pc_join.specs.Sets.{has}
-use Rattle.pc_kernel.specs.Facts.{messages}
-use Rattle.pc_kernel.specs.PlainKernel.{PlainKernel, kinds, number, content, items_to, aseq}
+use Rattle.pc_kernel.specs.Facts.{IsAtHome, messages}
+use Rattle.pc_kernel.specs.PlainKernel.{PlainKernel, kinds, number, is_known, content, items_to, aseq}
+use Rattle.pc_kernel.specs.Reads.{shown, is_cpu}
 use Rattle.pc_kernel.specs.Posted.{WasPosted}
 use Rattle.pc_view.specs.Prefixes.{upto}
 use Rattle.pc_agent.specs.PlainAgent.{Set}
@@ -34,24 +38,59 @@ reached_good laws limits w reached = leads_good laws limits (opened limits) reac
 at_pair : (F : ℕ → ℕ → Type 0) (m : Message) (t n : ℕ) → m.thread ≡ t → m.number ≡ n → F m.thread m.number → F t n
 at_pair F m t n thread number here = subst (F t) number (subst (λ s. F s m.number) thread here)
 
+below : (n m : ℕ) → 1 ≤ m → m ≤ n → nat_lt 0 n ≡ true
+below n m low high = grind (arith, nat_tests)
+
+itself : (n : ℕ) → (n == n) ≡ true
+itself n = grind (arith, nat_tests)
+
+-- where a message stands, something waits of its thread
+waits_there : (items : List Item) (i : ℕ) (m : Message) → slice_get items i ≡ Some (Thread m) → filter_map (message_in m.thread) items ≡ [] → ⊥
+waits_there [] i m at none = cc
+waits_there (it ∷ items) zero m at none =
+    let here : it ≡ Thread m = cc in
+    let same : cons_option (message_in m.thread it) (filter_map (message_in m.thread) items) ≡ m ∷ filter_map (message_in m.thread) items =
+        ap (λ x. cons_option (message_in m.thread x) (filter_map (message_in m.thread) items)) here
+        ∙ ap (λ b. cons_option (if b then Some m else None) (filter_map (message_in m.thread) items)) (itself m.thread) in
+    cc
+waits_there (Tick cpu ∷ items) (suc i) m at none = waits_there items i m at none
+waits_there (Thread n ∷ items) (suc i) m at none = elim (n.thread == m.thread) as (λ b. cons_option (if b then Some n else None) (filter_map (message_in m.thread) items) ≡ [] → ⊥) [
+  | true ↦ λ e. cc
+  | false ↦ λ e. waits_there items i m at e
+] none
+
 module _ (laws : KernelLaws) (limits : Limits) (w : PlainWorld) (h : IsGood limits w) where
   was_posted : (t : ℕ) (m : Message) → Contains (messages w.kernel t) m → WasPosted w.kernel m
   was_posted t m = subst (λ (P : PlainKernel). Contains (messages P t) m → WasPosted P m) (sym h.replayed) (laws.posted limits h.calls t m)
 
+  -- a queue that holds a message is that of a CPU: the home of the message's thread
+  there : (q i : ℕ) (m : Message) → slice_get (content w.kernel q) i ≡ Some (Thread m) → is_cpu (shown w.kernel) q ≡ true
+  there q i m at =
+      let t = m.thread in
+      let told = content_in_run laws limits w h q t m.number (told_at (content w.kernel q) i m at) in
+      let cpu : is_known w.kernel t ≡ true → is_cpu (shown w.kernel) (w.kernel.home t) ≡ true =
+      subst (λ (P : PlainKernel). is_known P t ≡ true → is_cpu (shown P) (P.home t) ≡ true) (sym h.replayed) (laws.homes limits h.calls t) in
+      let home : IsAtHome w.kernel t = subst (λ (P : PlainKernel). IsAtHome P t) (sym h.replayed) (laws.home limits h.calls t) in
+      elim (cases_eq q (w.kernel.home t)) [
+        | inl e ↦ ap (is_cpu (shown w.kernel)) e ∙ cpu (below (number w.kernel t) m.number told.0 told.1)
+        | inr o ↦ absurd (waits_there (content w.kernel q) i m at (home.elsewhere q o))
+      ]
+
   -- a message that was posted stands in its queue, or was sent
   found : (q i : ℕ) (m : Message) → slice_get (items_to w.kernel q) i ≡ Some (Thread m) → Waits w m.thread m.number ⊎ WasSent w m.thread m.number
-  found q i m there = elim (cases_lt i (w.kernel.eaten q)) [
-    | inl before ↦ inr (h.front q i m (omega arith) there)
+  found q i m posted = elim (cases_lt i (w.kernel.eaten q)) [
+    | inl before ↦ inr (h.front q i m (omega arith) posted)
     | inr later ↦
         let e : w.kernel.eaten q + (i - w.kernel.eaten q) ≡ i = omega arith in
-        inl (q, told_at (content w.kernel q) (i - w.kernel.eaten q) m (get_dropped (w.kernel.eaten q) (items_to w.kernel q) (i - w.kernel.eaten q) ∙ ap (slice_get (items_to w.kernel q)) e ∙ there))
+        let stands = get_dropped (w.kernel.eaten q) (items_to w.kernel q) (i - w.kernel.eaten q) ∙ ap (slice_get (items_to w.kernel q)) e ∙ posted in
+        inl (q, there q (i - w.kernel.eaten q) m stands, told_at (content w.kernel q) (i - w.kernel.eaten q) m stands)
   ]
 
   pub none_lost : (t n : ℕ) → (Waits w t n ⊎ WasSent w t n) ↔ IsInRun (kinds w.kernel) t n
   none_lost t n = (known, kept)
     where
       known : Waits w t n ⊎ WasSent w t n → IsInRun (kinds w.kernel) t n
-      known (inl waits) = content_in_run laws limits w h waits.0 t n waits.1
+      known (inl waits) = content_in_run laws limits w h waits.0 t n waits.2
       known (inr sent) = h.sent sent.0 sent.1 t n sent.2
 
       kept : IsInRun (kinds w.kernel) t n → Waits w t n ⊎ WasSent w t n

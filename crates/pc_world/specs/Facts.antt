@@ -57,10 +57,11 @@ SeenLiesInTheRun = (limits : Limits) (w : PlainWorld) (c : ℕ) → Reached limi
 abbrev pub SentLiesInTheRun : Type 0
 SentLiesInTheRun = (limits : Limits) (w : PlainWorld) (set : Set) → Reached limits w → Contains w.sent set → LiesIn (kinds w.kernel) set
 
--- the message stands in some queue; it is in some set that was sent
+-- the message stands in the queue of some CPU
 abbrev pub Waits : PlainWorld → ℕ → ℕ → Type 0
-Waits w t n = (q : ℕ) × (has (pairs_in (content w.kernel q)) t n ≡ true)
+Waits w t n = (q : ℕ) × (is_cpu (shown w.kernel) q ≡ true) × (has (pairs_in (content w.kernel q)) t n ≡ true)
 
+-- it is in some set that was sent
 abbrev pub WasSent : PlainWorld → ℕ → ℕ → Type 0
 WasSent w t n = (set : Set) × Contains w.sent set × (has set t n ≡ true)
 
@@ -69,7 +70,7 @@ abbrev pub NothingIsLost : Type 0
 NothingIsLost =
     (limits : Limits) (w : PlainWorld) (t n : ℕ) → Reached limits w → (Waits w t n ⊎ WasSent w t n) ↔ IsInRun (kinds w.kernel) t n
 
--- an agent's queue holds as many items as the agent has sent of it, and their messages were sent
+-- an agent has sent no more items than its queue holds, and the messages of those were sent
 abbrev pub ShownWasSent : Type 0
 ShownWasSent =
     (limits : Limits) (w : PlainWorld) (c t n : ℕ) → Reached limits w →
@@ -78,7 +79,7 @@ ShownWasSent =
 abbrev pub ShownIsThere : Type 0
 ShownIsThere = (limits : Limits) (w : PlainWorld) (c : ℕ) → Reached limits w → (w.agents c).shown ≤ length (content w.kernel c)
 
--- a set that has all that stands in queues and all that was sent has of each thread all messages
+-- the set has all that stands in queues and all that was sent; it then has all messages of each thread
 abbrev pub HasAll : PlainWorld → Set → Type 0
 HasAll w set = (t n : ℕ) → Waits w t n ⊎ WasSent w t n → has set t n ≡ true
 

@@ -1,4 +1,4 @@
--- What an event leaves for which there was no memory.
+-- What is left of an event that finds no memory.
 use Rattle.std.specs.Prelude.{ℕ, ◌≡◌, ◌⊎◌, List, [], ◌∷◌, ◌++◌, true, false, Some, None, Bool, MatchOption, slice_get, is_some}
 use Rattle.pc_messages.specs.Items.{pairs_in}
 use Rattle.pc_calls.specs.declared.call.Call.{Call}
@@ -33,7 +33,7 @@ abbrev pub IsPublishStarved : PlainWorld → ℕ → Bool → PlainWorld → Typ
 IsPublishStarved w c false new = IsWidened w c (pairs_in (content w.kernel c)) new ⊎ (new ≡ looked w c)
 IsPublishStarved w c true new = IsWidened w c (pairs_in (content w.kernel c)) new
 
--- an event that is no call, takes memory, and is not refused; and what it leaves
+-- an event that is no call and takes memory, where none of the refusals before want of memory holds; and what it leaves
 abbrev pub IsOwnStarved : PlainWorld → Event → PlainWorld → Type 0
 IsOwnStarved w (Publish cpu fails) new = (is_cpu (shown w.kernel) cpu ≡ true) × IsPublishStarved w cpu fails new
 IsOwnStarved w (Deliver cpu delta) new =
@@ -44,7 +44,8 @@ IsOwnStarved w (Steal cpu) new =
     × (t : ℕ) × Finds (stealable w cpu) (Some t) × (new ≡ w)
 IsOwnStarved w event new = ⊥
 
--- an event for which there was no memory: none that is refused, and none that takes none; a call leaves all as it was
+-- an event that takes memory and finds none: none of the refusals that come before want of memory holds (a refused send, and what
+-- the kernel refuses of a steal, come after it); a call leaves all as it was
 abbrev pub Starved : PlainWorld → Event → PlainWorld → Type 0
 Starved w event new = MatchOption (call_of event) (IsOwnStarved w event new) (λ c. IsCallStarved w c × (new ≡ w))
 

@@ -468,3 +468,58 @@ fn a_list_of_events_is_replied_in_order(rt: HostRuntime) -> Result<(), Fail> {
     assert!(rt; knows(&world, 1, 1));
     Ok(())
 }
+
+// The thief knows the thread as ready, which has died since; an agent may answer itself.
+#[test]
+fn the_dead_are_not_stolen(rt: HostRuntime) -> Result<(), Fail> {
+    let dies = Event::Env(EnvCall::Die {
+        cpu: Cpu(0),
+        ran: 5,
+    });
+    let rows = [
+        (create(0, true), posted(0, 1, 0, 1)),
+        (publish(0), published(0, 1)),
+        (consume(0), consumed(1)),
+        (deliver(1, 0), Reply::Done),
+        (pick(0, 1), committed(0, 0)),
+        (dies, posted(0, 2, 0, 2)),
+        (steal(1), refused(Refusal::Dead)),
+        (answer(0, 0), Reply::Answered { delta: 1 }),
+    ];
+    gives(&rt, rt.alloc(), &rows)
+}
+
+// A message that the thief lacks makes it stale, one that waits makes the steal pending, and then it succeeds.
+#[test]
+fn a_steal_is_stale_before_it_is_pending(rt: HostRuntime) -> Result<(), Fail> {
+    let level = Event::Env(EnvCall::SetPriority {
+        thread: Tid(0),
+        level: 3,
+    });
+    let rows = [
+        (create(0, true), posted(0, 1, 0, 1)),
+        (publish(0), published(0, 1)),
+        (consume(0), consumed(1)),
+        (deliver(1, 0), Reply::Done),
+        (level, posted(0, 2, 0, 2)),
+        (steal(1), refused(Refusal::Stale(2))),
+        (publish(0), published(1, 1)),
+        (deliver(1, 1), Reply::Done),
+        (steal(1), refused(Refusal::Pending)),
+        (consume(0), consumed(1)),
+        (steal(1), associated(0, 1)),
+    ];
+    gives(&rt, rt.alloc(), &rows)
+}
+
+#[test]
+fn every_world_is_reached(rt: HostRuntime) -> Result<(), Fail> {
+    let mut world = World::new_in(rt.alloc(), Profile::One, small())?;
+    world.is_reached();
+    assert_eq!(rt;
+        first_wrong(&mut world, &[(crash(0), Reply::Done)]),
+        None
+    );
+    world.is_reached();
+    Ok(())
+}

@@ -121,8 +121,9 @@ impl World {
         self.parts.wire.sent()
     }
 
-    /// Takes an event. Where memory runs out, an event that would not be refused may have been done in part: the agent of a
-    /// publish or a deliver may have taken in some of it, and of a publish that found no memory for its send all of it.
+    /// Takes an event. Want of memory comes only where no refusal before it holds: a refused send, and what the kernel refuses
+    /// of a steal, come after it. Nothing changed then, but that the agent of a publish or a deliver may have taken in a
+    /// part, and that of a publish whose send found no memory all, with its run list refreshed.
     pub fn step(&mut self, event: Event) -> Result<Reply, OutOfMemory>
         ensures step { IfOk result (Does (λ w. Step w event) self.old self.new) }
         ensures starved { OnErr result (Starves event self.old self.new) }
