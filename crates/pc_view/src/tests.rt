@@ -51,32 +51,70 @@ fn even(alloc: Global, mask: Mask) -> Result<View, OutOfMemory> {
     Ok(view)
 }
 
+/// What both know, by a merge into the first, or into the other.
+fn merged(alloc: Global, mask: Mask, turned: bool) -> Result<View, OutOfMemory> {
+    let mut first = odd(alloc, mask)?;
+    let mut other = even(alloc, mask)?;
+    if turned {
+        other.merge(&first)?;
+        Ok(other)
+    } else {
+        first.merge(&other)?;
+        Ok(first)
+    }
+}
+
+/// The same by a join into a copy.
+fn joined(alloc: Global, mask: Mask) -> Result<View, OutOfMemory> {
+    let first = odd(alloc, mask)?;
+    let other = even(alloc, mask)?;
+    join_both(&first, &other)
+}
+
 #[test]
 fn merges_do_not_depend_on_the_order(rt: HostRuntime) -> Result<(), Fail> {
     let mask = Mask::new(3, 2).expect(&rt, "a mask");
+    let one = merged(rt.alloc(), mask, false)?;
+    let turned = merged(rt.alloc(), mask, true)?;
+    assert!(rt; one == turned);
+    assert!(rt; one.knows(Tid(1), 1));
+    Ok(())
+}
+
+#[test]
+fn a_join_into_a_copy_is_a_merge(rt: HostRuntime) -> Result<(), Fail> {
+    let mask = Mask::new(3, 2).expect(&rt, "a mask");
+    let view = merged(rt.alloc(), mask, true)?;
+    let other = joined(rt.alloc(), mask)?;
+    assert!(rt; view == other);
+    Ok(())
+}
+
+#[test]
+fn a_copy_is_equal(rt: HostRuntime) -> Result<(), Fail> {
+    let mask = Mask::new(3, 2).expect(&rt, "a mask");
+    let view = even(rt.alloc(), mask)?;
+    let copy = view.try_copy()?;
+    assert!(rt; view == copy);
+    Ok(())
+}
+
+#[test]
+fn a_merge_covers_what_was_merged(rt: HostRuntime) -> Result<(), Fail> {
+    let mask = Mask::new(3, 2).expect(&rt, "a mask");
+    let view = merged(rt.alloc(), mask, false)?;
     let first = odd(rt.alloc(), mask)?;
-    let other = even(rt.alloc(), mask)?;
-    let mut merged = first.try_copy()?;
-    merged.merge(&other)?;
-    let mut turned = other.try_copy()?;
-    turned.merge(&first)?;
-    assert!(rt; merged == turned);
-    assert!(rt; merged == join_both(&first, &other)?);
-    assert!(rt; merged == join_both(&other, &first)?);
-    assert!(rt; merged == merged.try_copy()?);
-    assert!(rt; merged != first);
-    assert!(rt; merged.knows(Tid(1), 1));
+    assert!(rt; view != first);
+    assert!(rt; view.covers(&first));
+    assert!(rt; !first.covers(&view));
     assert!(rt; !first.knows(Tid(1), 1));
-    assert!(rt; merged.covers(&first));
-    assert!(rt; !first.covers(&merged));
     Ok(())
 }
 
 #[test]
 fn what_a_view_tells(rt: HostRuntime) -> Result<(), Fail> {
     let mask = Mask::new(3, 2).expect(&rt, "a mask");
-    let mut view = odd(rt.alloc(), mask)?;
-    view.merge(&even(rt.alloc(), mask)?)?;
+    let view = merged(rt.alloc(), mask, false)?;
     let thread = view.thread(Tid(0)).expect(&rt, "t0");
     assert_eq!(rt; thread.upto(), 4);
     let reported = thread.reported().expect(&rt, "a state");
@@ -94,8 +132,7 @@ fn what_a_view_tells(rt: HostRuntime) -> Result<(), Fail> {
 #[test]
 fn a_folded_prefix_is_its_messages(rt: HostRuntime) -> Result<(), Fail> {
     let mask = Mask::new(3, 2).expect(&rt, "a mask");
-    let mut all = odd(rt.alloc(), mask)?;
-    all.merge(&even(rt.alloc(), mask)?)?;
+    let all = merged(rt.alloc(), mask, false)?;
     let reported = all.thread(Tid(0)).expect(&rt, "t0").reported();
     let reported = reported.expect(&rt, "a state");
     assert!(rt; reported.ran == 2);
