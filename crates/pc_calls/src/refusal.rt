@@ -65,7 +65,7 @@ pub enum CallFault {
     /// The call is refused, and would be with ample memory too.
     #[error("{0}")]
     Refused(Refusal),
-    /// A growth was refused; the call itself would be accepted.
+    /// A growth was refused; none of the refusals that come before want of memory holds.
     #[error("out of memory")]
     OutOfMemory,
 }

@@ -30,7 +30,8 @@ pub fn calls_extend_the_run()
     ensures { CallsExtend }
 {}
 
-/// What is read of a plain kernel's threads, and of the CPUs that are there, is what that kernel derives from its posts.
+/// What is read of a plain kernel's threads, and of the CPUs that are there, is what that kernel derives from its posts
+/// and marks.
 pub fn reads_are_plain()
     ensures { ReadsArePlain }
 {}

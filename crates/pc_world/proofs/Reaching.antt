@@ -50,8 +50,8 @@ waits_there [] i m at none = cc
 waits_there (it ∷ items) zero m at none =
     let here : it ≡ Thread m = cc in
     let same : cons_option (message_in m.thread it) (filter_map (message_in m.thread) items) ≡ m ∷ filter_map (message_in m.thread) items =
-        ap (λ x. cons_option (message_in m.thread x) (filter_map (message_in m.thread) items)) here
-        ∙ ap (λ b. cons_option (if b then Some m else None) (filter_map (message_in m.thread) items)) (itself m.thread) in
+    ap (λ x. cons_option (message_in m.thread x) (filter_map (message_in m.thread) items)) here
+    ∙ ap (λ b. cons_option (if b then Some m else None) (filter_map (message_in m.thread) items)) (itself m.thread) in
     cc
 waits_there (Tick cpu ∷ items) (suc i) m at none = waits_there items i m at none
 waits_there (Thread n ∷ items) (suc i) m at none = elim (n.thread == m.thread) as (λ b. cons_option (if b then Some n else None) (filter_map (message_in m.thread) items) ≡ [] → ⊥) [

@@ -37,8 +37,8 @@ pub fn kernels_are_replays()
     kernel_laws();
 }
 
-/// The facts of every kernel hold in every world that events lead to: messages stay home, threads are placed, sleepers had
-/// no post, runs are begun, and names are dense.
+/// The facts of every kernel hold in every world that events lead to: messages that were not consumed stay home, threads
+/// are placed, sleepers that their own queue wakes had no post since they slept, runs are begun, and names are dense.
 pub fn kernel_facts_hold()
     ensures home { MessagesStayHome }
     ensures placed { ThreadsArePlaced }

@@ -516,10 +516,7 @@ fn a_steal_is_stale_before_it_is_pending(rt: HostRuntime) -> Result<(), Fail> {
 fn every_world_is_reached(rt: HostRuntime) -> Result<(), Fail> {
     let mut world = World::new_in(rt.alloc(), Profile::One, small())?;
     world.is_reached();
-    assert_eq!(rt;
-        first_wrong(&mut world, &[(crash(0), Reply::Done)]),
-        None
-    );
+    assert_eq!(rt; first_wrong(&mut world, &[(crash(0), Reply::Done)]), None);
     world.is_reached();
     Ok(())
 }
