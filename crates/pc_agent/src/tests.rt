@@ -293,81 +293,6 @@ fn a_pick_commits_the_first(rt: HostRuntime) -> Result<(), Fail> {
 }
 
 #[test]
-fn a_pick_is_refused_in_order(rt: HostRuntime) -> Result<(), Fail> {
-    let mut kernel = ready(rt.alloc(), 1).ok_or("no kernel")?;
-    let mut agent = Agent::new(rt.alloc(), Cpu(0));
-    let mut wire = KeptWire::new(rt.alloc());
-    assert!(rt; pick_refusal(&mut agent, &mut kernel, 1) == Some(Refusal::NothingReady));
-    assert_eq!(rt; published(&kernel, &mut agent, &mut wire), Some(Ok(1)));
-    assert!(rt; pick_refusal(&mut agent, &mut kernel, 0) == Some(Refusal::Stale(1)));
-    assert!(rt; lists(&agent, &[0]));
-    assert_eq!(rt; picked(&mut agent, &mut kernel, 1), Some(Tid(0)));
-    // Stale before busy, and busy before an empty run list.
-    assert!(rt; pick_refusal(&mut agent, &mut kernel, 7) == Some(Refusal::Stale(1)));
-    assert!(rt; pick_refusal(&mut agent, &mut kernel, 1) == Some(Refusal::Busy));
-    assert_eq!(rt; agent.counts().stale, 2);
-    assert_eq!(rt; agent.counts().other, 2);
-    assert_eq!(rt; agent.counts().pending, 0);
-    Ok(())
-}
-
-#[test]
-fn a_pick_drops_what_the_kernel_refuses(rt: HostRuntime) -> Result<(), Fail> {
-    let mut kernel = ready(rt.alloc(), 3).ok_or("no kernel")?;
-    let mut agent = Agent::new(rt.alloc(), Cpu(0));
-    let mut wire = KeptWire::new(rt.alloc());
-    assert!(rt; publishes_and_consumes(&mut kernel, &mut agent, &mut wire, 3));
-    assert!(rt; kernel.associate(Tid(0), Cpu(1), 1).is_ok());
-    assert!(rt; lists(&agent, &[0, 1, 2]));
-    assert_eq!(rt; picked(&mut agent, &mut kernel, 3), Some(Tid(1)));
-    assert!(rt; lists(&agent, &[2]));
-    assert!(rt; kernel.yield_now(Cpu(0), 1).is_ok());
-    assert!(rt; kernel.associate(Tid(2), Cpu(1), 1).is_ok());
-    assert!(rt; pick_refusal(&mut agent, &mut kernel, 4) == Some(Refusal::NothingReady));
-    assert!(rt; lists(&agent, &[]));
-    Ok(())
-}
-
-#[test]
-fn a_pick_drops_what_may_not_run(rt: HostRuntime) -> Result<(), Fail> {
-    let mut kernel = ready(rt.alloc(), 3).ok_or("no kernel")?;
-    let mut agent = Agent::new(rt.alloc(), Cpu(0));
-    let mut wire = KeptWire::new(rt.alloc());
-    assert_eq!(rt; published(&kernel, &mut agent, &mut wire), Some(Ok(3)));
-    // t0 is blocked, and t1 is not allowed on the agent's CPU.
-    assert!(rt; kernel.commit(Cpu(0), Tid(0), 3).is_ok());
-    assert!(rt; kernel.block(Cpu(0), 1).is_ok());
-    assert!(rt; kernel.set_affinity(Tid(1), 2).is_ok());
-    assert!(rt; lists(&agent, &[0, 1, 2]));
-    assert_eq!(rt; picked(&mut agent, &mut kernel, 5), Some(Tid(2)));
-    assert!(rt; lists(&agent, &[]));
-    Ok(())
-}
-
-#[test]
-fn a_busy_pick_keeps_the_run_list(rt: HostRuntime) -> Result<(), Fail> {
-    let mut kernel = ready(rt.alloc(), 2).ok_or("no kernel")?;
-    let mut agent = Agent::new(rt.alloc(), Cpu(0));
-    let mut wire = KeptWire::new(rt.alloc());
-    assert_eq!(rt; published(&kernel, &mut agent, &mut wire), Some(Ok(2)));
-    assert_eq!(rt; picked(&mut agent, &mut kernel, 2), Some(Tid(0)));
-    assert!(rt; pick_refusal(&mut agent, &mut kernel, 2) == Some(Refusal::Busy));
-    assert!(rt; lists(&agent, &[1]));
-    Ok(())
-}
-
-#[test]
-fn a_higher_level_is_listed_first(rt: HostRuntime) -> Result<(), Fail> {
-    let mut kernel = ready(rt.alloc(), 3).ok_or("no kernel")?;
-    assert!(rt; kernel.set_priority(Tid(1), 5).is_ok());
-    assert!(rt; kernel.set_priority(Tid(2), 7).is_ok());
-    let mut agent = Agent::new(rt.alloc(), Cpu(0));
-    assert!(rt; copied(&kernel, &mut agent).is_some());
-    assert!(rt; lists(&agent, &[2, 1, 0]));
-    Ok(())
-}
-
-#[test]
 fn a_thread_is_stolen_once_nothing_of_it_waits(rt: HostRuntime) -> Result<(), Fail> {
     let mut kernel = ready(rt.alloc(), 2).ok_or("no kernel")?;
     let mut agent = Agent::new(rt.alloc(), Cpu(0));
@@ -389,71 +314,6 @@ fn a_thread_is_stolen_once_nothing_of_it_waits(rt: HostRuntime) -> Result<(), Fa
 }
 
 #[test]
-fn a_stolen_thread_runs_on_the_other_cpu(rt: HostRuntime) -> Result<(), Fail> {
-    let mut kernel = ready(rt.alloc(), 2).ok_or("no kernel")?;
-    let mut agent = Agent::new(rt.alloc(), Cpu(0));
-    let mut thief = Agent::new(rt.alloc(), Cpu(1));
-    let mut wire = KeptWire::new(rt.alloc());
-    assert!(rt; publishes_and_consumes(&mut kernel, &mut agent, &mut wire, 2));
-    assert!(rt; delivers(&mut thief, &wire, 0));
-    assert_eq!(rt; stolen(&mut thief, &mut kernel), Some(Tid(0)));
-    // Agent 0 drops t0, which is no longer its own.
-    assert_eq!(rt; picked(&mut agent, &mut kernel, 2), Some(Tid(1)));
-    assert_eq!(rt; picked(&mut thief, &mut kernel, 0), Some(Tid(0)));
-    assert!(rt; steal_refusal(&mut thief, &mut kernel) == Some(Refusal::Busy));
-    assert_eq!(rt; thief.counts().commits, 1);
-    assert_eq!(rt; thief.counts().other, 1);
-    Ok(())
-}
-
-#[test]
-fn only_the_least_thread_is_tried(rt: HostRuntime) -> Result<(), Fail> {
-    let mut kernel = ready(rt.alloc(), 2).ok_or("no kernel")?;
-    let mut agent = Agent::new(rt.alloc(), Cpu(0));
-    let mut thief = Agent::new(rt.alloc(), Cpu(1));
-    let mut wire = KeptWire::new(rt.alloc());
-    assert!(rt; publishes_and_consumes(&mut kernel, &mut agent, &mut wire, 2));
-    assert!(rt; delivers(&mut thief, &wire, 0));
-    assert!(rt; kernel.set_affinity(Tid(0), 3).is_ok());
-    assert!(rt; kernel.consume(Cpu(0), 1).is_ok());
-    // t1 could be had, but t0 comes first, and it has a message that the thief did not see.
-    assert!(rt; steal_refusal(&mut thief, &mut kernel) == Some(Refusal::Stale(2)));
-    assert!(rt; lists(&thief, &[]));
-    assert_eq!(rt; thief.counts().stale, 1);
-    Ok(())
-}
-
-#[test]
-fn a_steal_is_stale_before_it_is_pending(rt: HostRuntime) -> Result<(), Fail> {
-    let mut kernel = ready(rt.alloc(), 1).ok_or("no kernel")?;
-    let mut agent = Agent::new(rt.alloc(), Cpu(0));
-    let mut thief = Agent::new(rt.alloc(), Cpu(1));
-    let mut wire = KeptWire::new(rt.alloc());
-    assert_eq!(rt; published(&kernel, &mut agent, &mut wire), Some(Ok(1)));
-    assert!(rt; delivers(&mut thief, &wire, 0));
-    // Both messages of t0 wait in its queue; the thief saw the first.
-    assert!(rt; kernel.set_affinity(Tid(0), 3).is_ok());
-    assert!(rt; steal_refusal(&mut thief, &mut kernel) == Some(Refusal::Stale(2)));
-    Ok(())
-}
-
-#[test]
-fn a_steal_passes_over_lesser_names(rt: HostRuntime) -> Result<(), Fail> {
-    let mut kernel = two_cpus(rt.alloc()).ok_or("no kernel")?;
-    let mut agent = Agent::new(rt.alloc(), Cpu(0));
-    let mut thief = Agent::new(rt.alloc(), Cpu(1));
-    let mut wire = KeptWire::new(rt.alloc());
-    // t0 may not run on the thief's CPU, and t1 is blocked.
-    assert!(rt; kernel.create(Cpu(0), 1, true).is_ok());
-    assert!(rt; kernel.create(Cpu(0), 3, false).is_ok());
-    assert!(rt; kernel.create(Cpu(0), 3, true).is_ok());
-    assert!(rt; publishes_and_consumes(&mut kernel, &mut agent, &mut wire, 3));
-    assert!(rt; delivers(&mut thief, &wire, 0));
-    assert!(rt; stolen(&mut thief, &mut kernel) == Some(Tid(2)));
-    Ok(())
-}
-
-#[test]
 fn an_agent_of_a_cpu_that_is_not_there(rt: HostRuntime) -> Result<(), Fail> {
     let mut kernel = ready(rt.alloc(), 1).ok_or("no kernel")?;
     let mut agent = Agent::new(rt.alloc(), Cpu(2));
@@ -462,23 +322,6 @@ fn an_agent_of_a_cpu_that_is_not_there(rt: HostRuntime) -> Result<(), Fail> {
     assert!(rt; pick_refusal(&mut agent, &mut kernel, 1) == Some(Refusal::Stale(0)));
     assert!(rt; pick_refusal(&mut agent, &mut kernel, 0) == Some(Refusal::NothingReady));
     assert!(rt; steal_refusal(&mut agent, &mut kernel) == Some(Refusal::NothingToSteal));
-    Ok(())
-}
-
-#[test]
-fn the_dead_are_not_stolen(rt: HostRuntime) -> Result<(), Fail> {
-    let mut kernel = ready(rt.alloc(), 1).ok_or("no kernel")?;
-    let mut agent = Agent::new(rt.alloc(), Cpu(0));
-    let mut thief = Agent::new(rt.alloc(), Cpu(1));
-    let mut wire = KeptWire::new(rt.alloc());
-    assert!(rt; publishes_and_consumes(&mut kernel, &mut agent, &mut wire, 1));
-    assert!(rt; delivers(&mut thief, &wire, 0));
-    assert!(rt; kernel.commit(Cpu(0), Tid(0), 1).is_ok());
-    // One that runs is no candidate; a dead one is dead before it is stale.
-    assert!(rt; steal_refusal(&mut thief, &mut kernel) == Some(Refusal::NothingToSteal));
-    assert!(rt; kernel.die(Cpu(0), 5).is_ok());
-    assert!(rt; steal_refusal(&mut thief, &mut kernel) == Some(Refusal::Dead));
-    assert_eq!(rt; thief.counts().other, 2);
     Ok(())
 }
 
@@ -497,21 +340,6 @@ fn a_restarted_agent_knows_nothing(rt: HostRuntime) -> Result<(), Fail> {
     assert!(rt; agent.cpu() == Cpu(0));
     // The counts outlive a restart.
     assert_eq!(rt; agent.counts().taken, 1);
-    Ok(())
-}
-
-#[test]
-fn a_restarted_agent_takes_its_threads_back(rt: HostRuntime) -> Result<(), Fail> {
-    let mut kernel = ready(rt.alloc(), 1).ok_or("no kernel")?;
-    let mut agent = Agent::new(rt.alloc(), Cpu(0));
-    let mut wire = KeptWire::new(rt.alloc());
-    assert!(rt; publishes_and_consumes(&mut kernel, &mut agent, &mut wire, 1));
-    agent.restart();
-    assert!(rt; delivers(&mut agent, &wire, 0));
-    assert!(rt; pick_refusal(&mut agent, &mut kernel, 1) == Some(Refusal::NothingReady));
-    assert_eq!(rt; stolen(&mut agent, &mut kernel), Some(Tid(0)));
-    assert!(rt; steal_refusal(&mut agent, &mut kernel) == Some(Refusal::NothingToSteal));
-    assert_eq!(rt; picked(&mut agent, &mut kernel, 1), Some(Tid(0)));
     Ok(())
 }
 
