@@ -1,5 +1,9 @@
+pub mod Answerable
 pub mod Bools
+pub mod GoingOn
 pub mod Looking
+pub mod Outputs
+pub mod Rows
 pub mod Showing
 pub mod Shown
 pub mod Standing

@@ -25,6 +25,18 @@ some_report None m ran level e f = cc
 some_report (Some p) None ran level e f = cc
 some_report (Some p) (Some m) ran level e f = refl
 
+pub phase_some : (ks : List Kind) → IsBegun ks → 1 ≤ length ks → is_some (phase_of ks) ≡ true
+phase_some [] h low = absurd (omega arith)
+phase_some (Created mask true ∷ ks) h low = last_some _ (filter_map phase_given ks)
+phase_some (Created mask false ∷ ks) h low = last_some _ (filter_map phase_given ks)
+phase_some (Blocked ran ∷ ks) h low = let bad : false ≡ true = h.0 in cc
+phase_some (Preempted ran ∷ ks) h low = let bad : false ≡ true = h.0 in cc
+phase_some (Yield ran ∷ ks) h low = let bad : false ≡ true = h.0 in cc
+phase_some (Dead ran ∷ ks) h low = let bad : false ≡ true = h.0 in cc
+phase_some (Wakeup ∷ ks) h low = let bad : false ≡ true = h.0 in cc
+phase_some (Affinity mask ∷ ks) h low = let bad : false ≡ true = h.0 in cc
+phase_some (Priority level ∷ ks) h low = let bad : false ≡ true = h.0 in cc
+
 state_some : (ks : List Kind) → IsBegun ks → 1 ≤ length ks → is_some (state_of ks) ≡ true
 state_some [] h low = absurd (omega arith)
 state_some (Created mask true ∷ ks) h low =

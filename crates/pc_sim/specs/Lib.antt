@@ -1,4 +1,5 @@
 pub mod Endings
+pub mod GoingOn
 pub mod Inner
 pub mod Reads
 pub mod Session

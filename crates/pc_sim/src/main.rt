@@ -9,6 +9,7 @@ ghost use Rattle.pc_sim.specs.Session.{IsSession, RanOut};
 
 mod command_line;
 mod ending;
+mod laws;
 mod reads;
 mod session;
 mod show;
