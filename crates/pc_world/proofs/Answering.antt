@@ -6,7 +6,7 @@ use Rattle.std.proofs.lemmas.List.Elements.{All-weaker}
 use Rattle.pc_messages.specs.Run.{Run}
 use Rattle.pc_calls.specs.declared.event.Event.TheVariants as event
 use Rattle.pc_calls.specs.declared.event.Reply.TheVariants as replies
-use Rattle.pc_join.specs.declared.join.OutOfMemory.{OutOfMemory as Starving}
+use Rattle.pc_join.specs.declared.join.OutOfMemory.{OutOfMemory as NoMemory}
 use Rattle.pc_join.specs.Sets.{IsSameSet, as_members, has}
 use Rattle.pc_kernel.specs.PlainKernel.{kinds}
 use Rattle.pc_kernel.specs.Reads.{shown, is_cpu}
@@ -93,8 +93,8 @@ module _ (pairs_law : (parts : List Part) → IsSameSet (set_of parts) (as_membe
           (delta ∷ [], grown),
         )
 
-    pub answer_starved : (fault : Starving) → IsAnswered Keeps agent.view (pairs_of others.view) (Err sending.OutOfMemory) wire new.wire → Handles (event.Answer c asker) (Err fault) old new
-    answer_starved fault said w h =
+    pub answer_ran_out : (fault : NoMemory) → IsAnswered Keeps agent.view (pairs_of others.view) (Err sending.OutOfMemory) wire new.wire → Handles (event.Answer c asker) (Err fault) old new
+    answer_ran_out fault said w h =
         let same : deltas_of new ≡ deltas_of old = elim said [
           | inl e ↦ ap sent_by e ∙ sent
           | inr handed ↦ handed.sent.1 ∙ sent

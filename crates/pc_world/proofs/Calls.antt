@@ -13,11 +13,11 @@ use Rattle.pc_kernel.specs.PlainKernel.{PlainKernel, kinds}
 use Rattle.pc_kernel.specs.Reads.{shown}
 use Rattle.pc_kernel.specs.Rows.{KernelRows}
 use Rattle.pc_kernel.specs.Steps.{accepted, after, after_of, changed, refused, reply_of}
-use Rattle.pc_join.specs.declared.join.OutOfMemory.{OutOfMemory as Starving}
+use Rattle.pc_join.specs.declared.join.OutOfMemory.{OutOfMemory as NoMemory}
 use Rattle.pc_world.specs.declared.parts.Parts.{Parts}
 use Rattle.pc_world.specs.PlainWorld.{PlainWorld}
 use Rattle.pc_world.specs.Shows.{AreSent, ShowsWorld, deltas_of}
-use Rattle.pc_world.specs.Starved.{IsCallStarved, IsOwnStarved}
+use Rattle.pc_world.specs.RanOut.{RanOutInCall, RanOutInOwn}
 use Rattle.pc_world.specs.Steps.{IsCalled, IsOwnStep}
 use Rattle.pc_world.specs.Inner.Handling.{Handles, Outcome}
 use Rattle.pc_world.specs.Inner.Laws.{RunsGoOn}
@@ -45,9 +45,9 @@ refused_call : (P Q : PlainKernel) (c : Call) (o : Option Refusal) (a : Answer) 
 refused_call P Q c None a refusal old new h shows = absurd h
 refused_call P Q c (Some why) a refusal old new h shows = (ap replies.Refused h.0, subst (λ k. Shows k P) (sym h.1) shows)
 
-starved_call : (P Q : PlainKernel) (o : Option Refusal) (a : Answer) (old new : KernelRows) → RepliesInMemory itself (Err OutOfMemory) old new (reply_of o a) Q → (o ≡ None) × (new ≡ old)
-starved_call P Q None a old new h = (refl, h)
-starved_call P Q (Some why) a old new h = absurd h
+ran_out_call : (P Q : PlainKernel) (o : Option Refusal) (a : Answer) (old new : KernelRows) → RepliesInMemory itself (Err OutOfMemory) old new (reply_of o a) Q → (o ≡ None) × (new ≡ old)
+ran_out_call P Q None a old new h = (refl, h)
+ran_out_call P Q (Some why) a old new h = absurd h
 
 module _ (goes : RunsGoOn) (old new : Parts) (event : Event) (c : Call) (is : call_of event ≡ Some c) (agents : new.agents.items ≡ old.agents.items) (sent : deltas_of new ≡ deltas_of old) where
   pub call_done : (answer : Answer) (told : Reply) → told ≡ reply_to c answer → StepsInMemory itself c (Ok answer) old.kernel new.kernel → Handles event (Ok told) old new
@@ -70,12 +70,12 @@ module _ (goes : RunsGoOn) (old new : Parts) (event : Event) (c : Call) (is : ca
         kept_same old new sent,
       )
 
-  pub call_starved : (fault : Starving) → ((w : PlainWorld) → refused (shown w.kernel) c ≡ None → IsCallStarved w c) → StepsInMemory itself c (Err OutOfMemory) old.kernel new.kernel → Handles event (Err fault) old new
-  call_starved fault takes steps w h =
+  pub call_ran_out : (fault : NoMemory) → ((w : PlainWorld) → refused (shown w.kernel) c ≡ None → RanOutInCall w c) → StepsInMemory itself c (Err OutOfMemory) old.kernel new.kernel → Handles event (Err fault) old new
+  call_ran_out fault takes steps w h =
       let P = w.kernel in
-      let did = starved_call P (after P c) (refused (shown P) c) (accepted P c) old.kernel new.kernel (steps P h.kernel) in (
+      let did = ran_out_call P (after P c) (refused (shown P) c) (accepted P c) old.kernel new.kernel (steps P h.kernel) in (
         w,
-        subst (λ o. MatchOption o (IsOwnStarved w event w) (λ d. IsCallStarved w d × (w ≡ w))) (sym is) (takes w did.0, refl),
+        subst (λ o. MatchOption o (RanOutInOwn w event w) (λ d. RanOutInCall w d × (w ≡ w))) (sym is) (takes w did.0, refl),
         unchanged old new w did.1 agents sent h,
         kept_same old new sent,
       )

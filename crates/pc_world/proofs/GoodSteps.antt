@@ -27,9 +27,9 @@ use Rattle.pc_agent.specs.PlainAgent.{PlainAgent, Set, copied, fresh, pick_refus
 use Rattle.pc_agent.specs.Publishing.{sent_after}
 use Rattle.pc_agent.specs.Running.{left_by, takes_over}
 use Rattle.pc_world.specs.Facts.{IsInRun, LiesIn}
-use Rattle.pc_world.specs.PlainWorld.{PlainWorld, looked, published, sending, with_agent}
+use Rattle.pc_world.specs.PlainWorld.{PlainWorld, copied_all, published, sending, with_agent}
 use Rattle.pc_world.specs.Reached.{IsAnsweredLate, LeadsTo}
-use Rattle.pc_world.specs.Starved.{IsPublishStarved, IsWidened, Starved}
+use Rattle.pc_world.specs.RanOut.{RanOutInPublish, IsWidened, RanOut}
 use Rattle.pc_world.specs.Steps.{IsAnswered, IsBadCpu, IsCommitted, IsConsumed, IsDelivered, IsPicked, IsPublished, IsRefused, IsStolen, IsTakenOver, IsTried, Step, are_cpus}
 use Rattle.pc_world.specs.Inner.Laws.{KernelLaws}
 use Rattle.pc_world.proofs.Good.{Goes, IsGood, Moves, WereSent, calm, passed, sent_still, taken_le}
@@ -126,8 +126,8 @@ module _ (laws : KernelLaws) (limits : Limits) (w : PlainWorld) (h : IsGood limi
   own_call made c p none seen low = own_same c p (after w.kernel made) (inr (made, refl)) (not_eaten made none) seen low
 
   -- a publish
-  looked_goes : (c : ℕ) → Goes w (looked w c)
-  looked_goes c = own_agent c (copied run c (content w.kernel c) (w.agents c)) (more_seen c (pairs_in (content w.kernel c)) (content_in_run c)) (omega arith)
+  copied_all_goes : (c : ℕ) → Goes w (copied_all w c)
+  copied_all_goes c = own_agent c (copied run c (content w.kernel c) (w.agents c)) (more_seen c (pairs_in (content w.kernel c)) (content_in_run c)) (omega arith)
 
   published_goes : (c : ℕ) → Goes w (published w c)
   published_goes c =
@@ -167,7 +167,7 @@ module _ (laws : KernelLaws) (limits : Limits) (w : PlainWorld) (h : IsGood limi
 
   publish_goes : (c : ℕ) (fails : Bool) (told : Reply) (new : PlainWorld) → IsPublished w c fails told new → Goes w new
   publish_goes c false told new said = subst (Goes w) (sym said.1) (published_goes c)
-  publish_goes c true told new said = subst (Goes w) (sym said.1) (looked_goes c)
+  publish_goes c true told new said = subst (Goes w) (sym said.1) (copied_all_goes c)
 
   -- a consume
   consume_goes : (c : ℕ) (r : Result Answer Refusal) (told : Reply) (new : PlainWorld) → IsConsumed w c r told new → Goes w new
@@ -260,25 +260,25 @@ module _ (laws : KernelLaws) (limits : Limits) (w : PlainWorld) (h : IsGood limi
         | inr added ↦ lies t n added
       ]) (omega arith))
 
-  publish_starved_goes : (c : ℕ) (fails : Bool) (new : PlainWorld) → IsPublishStarved w c fails new → Goes w new
-  publish_starved_goes c true new part = widened_goes c (pairs_in (content w.kernel c)) new (content_in_run c) part
-  publish_starved_goes c false new (inl part) = widened_goes c (pairs_in (content w.kernel c)) new (content_in_run c) part
-  publish_starved_goes c false new (inr all) = subst (Goes w) (sym all) (looked_goes c)
+  publish_ran_out_goes : (c : ℕ) (fails : Bool) (new : PlainWorld) → RanOutInPublish w c fails new → Goes w new
+  publish_ran_out_goes c true new part = widened_goes c (pairs_in (content w.kernel c)) new (content_in_run c) part
+  publish_ran_out_goes c false new (inl part) = widened_goes c (pairs_in (content w.kernel c)) new (content_in_run c) part
+  publish_ran_out_goes c false new (inr all) = subst (Goes w) (sym all) (copied_all_goes c)
 
-  starved_goes : (e : Event) (new : PlainWorld) → Starved w e new → Goes w new
-  starved_goes (event.Env c) new s = still new s.1
-  starved_goes (event.Associate t queue n) new s = still new s.1
-  starved_goes (event.Commit cpu t n) new s = still new s.1
-  starved_goes (event.Sleep cpu n) new s = still new s.1
-  starved_goes (event.Rouse cpu) new s = still new s.1
-  starved_goes (event.Config queue target) new s = still new s.1
-  starved_goes (event.Publish cpu fails) new s = publish_starved_goes cpu fails new s.1
-  starved_goes (event.Consume cpu) new s = absurd s
-  starved_goes (event.Deliver cpu k) new s = widened_goes cpu s.1 new (at_index k s.1 s.2) s.3
-  starved_goes (event.Answer cpu asker) new s = still new s.1
-  starved_goes (event.Pick cpu n) new s = absurd s
-  starved_goes (event.Steal cpu) new s = still new s.4
-  starved_goes (event.Crash cpu) new s = absurd s
+  ran_out_goes : (e : Event) (new : PlainWorld) → RanOut w e new → Goes w new
+  ran_out_goes (event.Env c) new s = still new s.1
+  ran_out_goes (event.Associate t queue n) new s = still new s.1
+  ran_out_goes (event.Commit cpu t n) new s = still new s.1
+  ran_out_goes (event.Sleep cpu n) new s = still new s.1
+  ran_out_goes (event.Rouse cpu) new s = still new s.1
+  ran_out_goes (event.Config queue target) new s = still new s.1
+  ran_out_goes (event.Publish cpu fails) new s = publish_ran_out_goes cpu fails new s.1
+  ran_out_goes (event.Consume cpu) new s = absurd s
+  ran_out_goes (event.Deliver cpu k) new s = widened_goes cpu s.1 new (at_index k s.1 s.2) s.3
+  ran_out_goes (event.Answer cpu asker) new s = still new s.1
+  ran_out_goes (event.Pick cpu n) new s = absurd s
+  ran_out_goes (event.Steal cpu) new s = still new s.4
+  ran_out_goes (event.Crash cpu) new s = absurd s
 
   late_goes : (e : Event) (new : PlainWorld) → IsAnsweredLate w e new → Goes w new
   late_goes (event.Env c) new s = absurd s
@@ -298,4 +298,4 @@ module _ (laws : KernelLaws) (limits : Limits) (w : PlainWorld) (h : IsGood limi
   pub leads_goes : (e : Event) (new : PlainWorld) → LeadsTo w e new → Goes w new
   leads_goes e new (inl stepped) = step_goes e stepped.0 new stepped.1
   leads_goes e new (inr (inl late)) = late_goes e new late
-  leads_goes e new (inr (inr starved)) = starved_goes e new starved
+  leads_goes e new (inr (inr ran_out)) = ran_out_goes e new ran_out

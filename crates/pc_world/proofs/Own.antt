@@ -11,7 +11,7 @@ use Rattle.pc_calls.specs.declared.event.Reply.TheVariants as replies
 use Rattle.pc_calls.specs.declared.refusal.Refusal.{Refusal}
 use Rattle.pc_calls.specs.declared.refusal.Refusal.TheVariants as refusals
 use Rattle.pc_calls.specs.declared.refusal.CallFault.TheVariants as faults
-use Rattle.pc_join.specs.declared.join.OutOfMemory.{OutOfMemory as Starving}
+use Rattle.pc_join.specs.declared.join.OutOfMemory.{OutOfMemory as NoMemory}
 use Rattle.pc_kernel.specs.Answers.{Replies, Shows, Steps, done}
 use Rattle.pc_kernel.specs.PlainKernel.{PlainKernel, kinds, content}
 use Rattle.pc_kernel.specs.Reads.{shown, is_cpu, on}
@@ -29,9 +29,9 @@ use Rattle.pc_agent.specs.Running.{Finds, IsPicked, IsTakenOver, Steals, TriesLe
 use Rattle.pc_agent.specs.Shows.{ShowsAgent, ShowsView, cpu_of}
 use Rattle.pc_agent.specs.Wires.{Keeps, sent_by}
 use Rattle.pc_world.specs.declared.parts.Parts.{Parts}
-use Rattle.pc_world.specs.PlainWorld.{PlainWorld, looked, published, with_agent}
+use Rattle.pc_world.specs.PlainWorld.{PlainWorld, copied_all, published, with_agent}
 use Rattle.pc_world.specs.Shows.{AreSent, KeepsSent, ShowsWorld, deltas_of}
-use Rattle.pc_world.specs.Starved.{IsPublishStarved, IsWidened}
+use Rattle.pc_world.specs.RanOut.{RanOutInPublish, IsWidened}
 use Rattle.pc_world.specs.Steps as steps
 use Rattle.pc_world.specs.Steps.{stealable}
 use Rattle.pc_world.specs.Inner.Handling.{Handles}
@@ -50,7 +50,7 @@ was_done P None old new Q R h = (refl, h.1)
 was_done P (Some why) old new Q R h = absurd h
 
 -- a part of what the queue holds was taken in, whether the wire refuses or not
-in_part : (w : PlainWorld) (c : ℕ) (fails : Bool) (new : PlainWorld) → IsWidened w c (pairs_in (content w.kernel c)) new → IsPublishStarved w c fails new
+in_part : (w : PlainWorld) (c : ℕ) (fails : Bool) (new : PlainWorld) → IsWidened w c (pairs_in (content w.kernel c)) new → RanOutInPublish w c fails new
 in_part w c false new part = inl part
 in_part w c true new part = part
 
@@ -141,15 +141,15 @@ module _ (goes : RunsGoOn) (old new : Parts) (c place : ℕ) (agent more : Agent
         let said = said_here (Err sending.WireFault) says w h in
         let stays_in : fails ≡ true = sym refuses ∙ said.0.sent.0 in
         let same : deltas_of new ≡ deltas_of old = said.0.sent.1 ∙ sent in (
-          looked w c,
-          on_cpu w (replies.Refused refusals.WireFault) (looked w c) _ h (subst (λ b. steps.IsPublished w c b (replies.Refused refusals.WireFault) (looked w c)) (sym stays_in) (refl, refl)),
+          copied_all w c,
+          on_cpu w (replies.Refused refusals.WireFault) (copied_all w c) _ h (subst (λ b. steps.IsPublished w c b (replies.Refused refusals.WireFault) (copied_all w c)) (sym stays_in) (refl, refl)),
           after_own w (copied (kinds w.kernel) c (content w.kernel c) (w.agents c)) h kernel said.1 same,
           kept_same old new same,
         )
 
-    pub publish_starved : (fault : Starving) → WhateverShown old.kernel agent (λ P run p. IsPublished Keeps (content P (cpu_of agent)) run p (Err sending.OutOfMemory) (cpu_of agent) more wire new.wire)
+    pub publish_ran_out : (fault : NoMemory) → WhateverShown old.kernel agent (λ P run p. IsPublished Keeps (content P (cpu_of agent)) run p (Err sending.OutOfMemory) (cpu_of agent) more wire new.wire)
         → Handles (event.Publish c fails) (Err fault) old new
-    publish_starved fault says w h = elim (said_here (Err sending.OutOfMemory) says w h) [
+    publish_ran_out fault says w h = elim (said_here (Err sending.OutOfMemory) says w h) [
       | inl part ↦
           let same : deltas_of new ≡ deltas_of old = ap sent_by part.1 ∙ sent in
           let some = part.0 in (
@@ -161,8 +161,8 @@ module _ (goes : RunsGoOn) (old new : Parts) (c place : ℕ) (agent more : Agent
       | inr whole ↦
           let goes_out : fails ≡ false = sym refuses ∙ whole.0.sent.0 in
           let same : deltas_of new ≡ deltas_of old = whole.0.sent.1 ∙ sent in (
-            looked w c,
-            (plain_cpu old.kernel w.kernel c true h.kernel where_is.there, subst (λ b. IsPublishStarved w c b (looked w c)) (sym goes_out) (inr refl)),
+            copied_all w c,
+            (plain_cpu old.kernel w.kernel c true h.kernel where_is.there, subst (λ b. RanOutInPublish w c b (copied_all w c)) (sym goes_out) (inr refl)),
             after_own w (copied (kinds w.kernel) c (content w.kernel c) (w.agents c)) h kernel whole.1 same,
             kept_same old new same,
           )
@@ -180,8 +180,8 @@ module _ (goes : RunsGoOn) (old new : Parts) (c place : ℕ) (agent more : Agent
           kept_same old new sent,
         )
 
-    pub deliver_starved : (fault : Starving) → Delivers delta (Err fault) agent more → Handles (event.Deliver c k) (Err fault) old new
-    deliver_starved fault says w h =
+    pub deliver_ran_out : (fault : NoMemory) → Delivers delta (Err fault) agent more → Handles (event.Deliver c k) (Err fault) old new
+    deliver_ran_out fault says w h =
         let told = sent_at (kinds w.kernel) w.sent (deltas_of old) k delta h.sent asked in
         let some = says (kinds w.kernel) (w.agents c) told.0 told.2 (h.agents c agent there) in (
           with_agent w c (record (w.agents c) { seen = some.0 }),
@@ -274,9 +274,9 @@ module _ (goes : RunsGoOn) (old new : Parts) (c place : ℕ) (agent more : Agent
         rest.1,
       )
 
-  pub steal_starved : (fault : Starving) → WhateverShown old.kernel agent (λ P run p. Steals P run p (Err faults.OutOfMemory) (cpu_of agent) more new.kernel) → new.kernel ≡ old.kernel → deltas_of new ≡ deltas_of old
+  pub steal_ran_out : (fault : NoMemory) → WhateverShown old.kernel agent (λ P run p. Steals P run p (Err faults.OutOfMemory) (cpu_of agent) more new.kernel) → new.kernel ≡ old.kernel → deltas_of new ≡ deltas_of old
       → more.view ≡ agent.view → more.list ≡ agent.list → more.shown ≡ agent.shown → Handles (event.Steal c) (Err fault) old new
-  steal_starved fault says kernel sent view list count w h = by_test (is_some (on (shown w.kernel) c)) refl (said_stolen (Err faults.OutOfMemory) says w h)
+  steal_ran_out fault says kernel sent view list count w h = by_test (is_some (on (shown w.kernel) c)) refl (said_stolen (Err faults.OutOfMemory) says w h)
     where
       same_shown : ShowsAgent (kinds w.kernel) (w.agents c) more
       same_shown = let was = h.agents c agent there in record { view = subst (λ v. ShowsView (kinds w.kernel) (w.agents c).seen v) (sym view) was.view; list = list ∙ was.list; shown = count ∙ was.shown }

@@ -6,8 +6,8 @@ use Rattle.pc_calls.specs.declared.event.Reply.{Reply}
 use Rattle.pc_delta.proofs.Lists.{all_taken, left_item, taken_item}
 use Rattle.pc_world.specs.declared.parts.Parts.{Parts}
 use Rattle.pc_world.specs.PlainWorld.{PlainWorld}
-use Rattle.pc_world.specs.Shows.{Does, KeepsSent, RunsInPart, RunsThrough, Starves, deltas_of}
-use Rattle.pc_world.specs.Starved.{IsCutShort, IsFirstStarved, Starved}
+use Rattle.pc_world.specs.Shows.{Does, KeepsSent, RunsInPart, RunsThrough, LeavesWhenRanOut, deltas_of}
+use Rattle.pc_world.specs.RanOut.{IsCutShort, RanOutAtFirst, RanOut}
 use Rattle.pc_world.specs.Steps.{Runs, Step}
 use Rattle.pc_world.specs.Inner.Handling.{StepsInPart}
 
@@ -42,15 +42,15 @@ module _ (events : List Event) (i : ℕ) (event : Event) (at : event ≡ get_or 
       let next = part reached.0 reached.2 in
       (next.0, cut reached.0 next.0 reached.1 next.1, next.2)
     where
-      cut : (mid w' : PlainWorld) → Runs w (take i events) replies mid → (Starved mid event w' ⊎ ((told : Reply) × Step mid event told w')) → IsCutShort w events w'
-      cut mid w' through (inl starved) = record {
+      cut : (mid w' : PlainWorld) → Runs w (take i events) replies mid → (RanOut mid event w' ⊎ ((told : Reply) × Step mid event told w')) → IsCutShort w events w'
+      cut mid w' through (inl ran_out) = record {
         done = take i events;
         rest = drop i events;
         replies = replies;
         reached = mid;
         order = taken_then_left events i;
         ran = through;
-        next = inr (subst (λ l. IsFirstStarved mid l w') (sym (left_item events i event at low)) starved);
+        next = inr (subst (λ l. RanOutAtFirst mid l w') (sym (left_item events i event at low)) ran_out);
       }
       cut mid w' through (inr stepped) = record {
         done = take (i + 1) events;
@@ -74,8 +74,8 @@ on_err (Err e) Q q = q
 pub done_in : (event : Event) (told : Reply) (before after : Parts) → Does (λ w. Step w event) before after told → StepsInPart event before after
 done_in event told before after does w h = let next = does w h in (next.0, inr (told, next.1), next.2)
 
-pub starved_in : (event : Event) (before after : Parts) → Starves event before after → StepsInPart event before after
-starved_in event before after starves w h = let next = starves w h in (next.0, inl next.1, next.2)
+pub ran_out_in : (event : Event) (before after : Parts) → LeavesWhenRanOut event before after → StepsInPart event before after
+ran_out_in event before after ran w h = let next = ran w h in (next.0, inl next.1, next.2)
 
 -- what was sent stays sent, over several events
 pub keeps_none : (world : Parts) → KeepsSent world world

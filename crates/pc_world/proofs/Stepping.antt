@@ -30,7 +30,7 @@ use Rattle.pc_agent.specs.PlainAgent.{Set, fresh, is_empty_list, pick_refused, r
 use Rattle.pc_agent.specs.Running.{Finds, IsLeast, left_by, takes_over}
 use Rattle.pc_run_queue.specs.Names.{has_name}
 use Rattle.pc_world.specs.Facts.{LiesIn}
-use Rattle.pc_world.specs.PlainWorld.{PlainWorld, looked, published, sending, with_agent}
+use Rattle.pc_world.specs.PlainWorld.{PlainWorld, copied_all, published, sending, with_agent}
 use Rattle.pc_world.specs.Steps.{IsAnswered, IsBadCpu, IsCommitted, IsConsumed, IsDelivered, IsNewTo, IsPicked, IsPublished, IsStolen, IsTakenOver, IsTried, Step, are_cpus, stealable}
 use Rattle.pc_world.specs.Inner.Laws.{KernelLaws}
 use Rattle.pc_world.proofs.Good.{IsGood}
@@ -140,7 +140,7 @@ module _ (laws : KernelLaws) (limits : Limits) (w : PlainWorld) (h : IsGood limi
 
   publish_step : (c : ℕ) (fails : Bool) → Can (IsPublished w c fails)
   publish_step c false = (replies.Published (length w.sent) (length (content w.kernel c)), published w c, (refl, refl))
-  publish_step c true = (replies.Refused refusals.WireFault, looked w c, (refl, refl))
+  publish_step c true = (replies.Refused refusals.WireFault, copied_all w c, (refl, refl))
 
   consume_step : (c : ℕ) (r : Result Answer Refusal) → Can (IsConsumed w c r)
   consume_step c (Ok answer) =

@@ -3,5 +3,5 @@ pub mod Inner
 pub mod PlainWorld
 pub mod Reached
 pub mod Shows
-pub mod Starved
+pub mod RanOut
 pub mod Steps

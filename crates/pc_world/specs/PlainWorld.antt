@@ -21,8 +21,8 @@ abbrev pub with_agent : PlainWorld → ℕ → PlainAgent → PlainWorld
 with_agent w c p = record w { agents = at w.agents c p }
 
 -- an agent has copied all that its queue holds
-abbrev pub looked : PlainWorld → ℕ → PlainWorld
-looked w c = with_agent w c (copied (kinds w.kernel) c (content w.kernel c) (w.agents c))
+abbrev pub copied_all : PlainWorld → ℕ → PlainWorld
+copied_all w c = with_agent w c (copied (kinds w.kernel) c (content w.kernel c) (w.agents c))
 
 -- and has sent it
 abbrev pub published : PlainWorld → ℕ → PlainWorld

@@ -7,7 +7,7 @@ use Rattle.pc_calls.specs.declared.limits.Limits.{Limits}
 use Rattle.pc_join.specs.Sets.{has}
 use Rattle.pc_agent.specs.PlainAgent.{Set}
 use Rattle.pc_world.specs.PlainWorld.{PlainWorld, opened, sending}
-use Rattle.pc_world.specs.Starved.{Starved}
+use Rattle.pc_world.specs.RanOut.{RanOut}
 use Rattle.pc_world.specs.Steps.{Step, are_cpus}
 
 -- an agent sends a part of what it has taken in, whatever it is: an answer to an older digest is one
@@ -23,7 +23,7 @@ IsAnsweredLate w event new = ⊥
 
 -- the event is done, with whatever reply, or answers an older digest, or finds no memory
 abbrev pub LeadsTo : PlainWorld → Event → PlainWorld → Type 0
-LeadsTo w event new = ((told : Reply) × Step w event told new) ⊎ (IsAnsweredLate w event new ⊎ Starved w event new)
+LeadsTo w event new = ((told : Reply) × Step w event told new) ⊎ (IsAnsweredLate w event new ⊎ RanOut w event new)
 
 -- a list of events, one after another
 abbrev pub Leads : PlainWorld → List Event → PlainWorld → Type 0

@@ -15,7 +15,7 @@ use Rattle.pc_agent.specs.Wires.{sent_by}
 use Rattle.pc_world.specs.declared.parts.Parts.{Parts}
 use Rattle.pc_world.specs.PlainWorld.{PlainWorld}
 use Rattle.pc_world.specs.Reached.{Reached}
-use Rattle.pc_world.specs.Starved.{IsCutShort, Starved}
+use Rattle.pc_world.specs.RanOut.{IsCutShort, RanOut}
 use Rattle.pc_world.specs.Steps.{Runs}
 
 -- what a world is seen as
@@ -54,8 +54,8 @@ abbrev pub Does : (PlainWorld → Reply → PlainWorld → Type 0) → World →
 Does step old new told = (w : PlainWorld) → ShowsWorld old w → (w' : PlainWorld) × step w told w' × ShowsWorld new w'
 
 -- for every plain world that is shown before, what the event leaves without memory is shown after
-abbrev pub Starves : Event → World → World → Type 0
-Starves event old new = (w : PlainWorld) → ShowsWorld old w → (w' : PlainWorld) × Starved w event w' × ShowsWorld new w'
+abbrev pub LeavesWhenRanOut : Event → World → World → Type 0
+LeavesWhenRanOut event old new = (w : PlainWorld) → ShowsWorld old w → (w' : PlainWorld) × RanOut w event w' × ShowsWorld new w'
 
 -- what was sent stays sent, and more may follow
 abbrev pub KeepsSent : World → World → Type 0

@@ -19,7 +19,7 @@ use Rattle.pc_delta.specs.declared.part.Part.{Part}
 use Rattle.pc_delta.specs.Parts.{AreOfRun, pairs_of_part, pairs_of_parts}
 use Rattle.pc_agent.specs.PlainAgent.{Set, fresh, may_steal, pick_refused, ready_list, taking_in}
 use Rattle.pc_agent.specs.Running.{Finds, left_by, takes_over}
-use Rattle.pc_world.specs.PlainWorld.{PlainWorld, looked, published, sending, with_agent}
+use Rattle.pc_world.specs.PlainWorld.{PlainWorld, copied_all, published, sending, with_agent}
 
 -- an event that is a call of the kernel
 pub record IsCalled (w : PlainWorld) (c : Call) (told : Reply) (new : PlainWorld) : Type 0 where
@@ -53,7 +53,7 @@ IsConsuming c w told new = OnCpu w c told new (IsConsumed w c (kernel.reply w.ke
 -- the agent sends what its queue holds; where the send is refused, it has copied it all the same
 abbrev pub IsPublished : PlainWorld → ℕ → Bool → Reply → PlainWorld → Type 0
 IsPublished w c false told new = (told ≡ reply.Published (length w.sent) (length (content w.kernel c))) × (new ≡ published w c)
-IsPublished w c true told new = (told ≡ reply.Refused refusal.WireFault) × (new ≡ looked w c)
+IsPublished w c true told new = (told ≡ reply.Refused refusal.WireFault) × (new ≡ copied_all w c)
 
 abbrev pub IsPublishing : ℕ → Bool → PlainWorld → Reply → PlainWorld → Type 0
 IsPublishing c fails w told new = OnCpu w c told new (IsPublished w c fails told new)

@@ -53,7 +53,7 @@ fn add<T: Drop>(items: &mut Vec<T>, item: T) -> Result<(), OutOfMemory>
 }
 
 impl World {
-    ghost use Rattle.pc_world.specs.Shows.{AreSent, Does, IsReached, IsViewAt, KeepsSent, RunsInPart, RunsThrough, ShowsWorld, Starves, deltas_of};
+    ghost use Rattle.pc_world.specs.Shows.{AreSent, Does, IsReached, IsViewAt, KeepsSent, RunsInPart, RunsThrough, ShowsWorld, LeavesWhenRanOut, deltas_of};
     ghost use Rattle.pc_world.specs.Inner.Handling.{StepsInPart, StepsInto};
 
     /// The world at the start, with limits of profile One.
@@ -126,7 +126,7 @@ impl World {
     /// part, and that of a publish whose send found no memory all, with its run list refreshed.
     pub fn step(&mut self, event: Event) -> Result<Reply, OutOfMemory>
         ensures step { IfOk result (Does (λ w. Step w event) self.old self.new) }
-        ensures starved { OnErr result (Starves event self.old self.new) }
+        ensures no_memory { OnErr result (LeavesWhenRanOut event self.old self.new) }
         ensures kept { KeepsSent self.old self.new }
     {
         kernel_laws();
@@ -137,7 +137,7 @@ impl World {
     /// their order, and the next one as far as [`World::step`] says.
     pub fn run(&mut self, events: &[Event]) -> Result<Vec<Reply>, OutOfMemory>
         ensures run { IfOk result (λ replies. RunsThrough events.now replies.items self.old self.new) }
-        ensures starved { OnErr result (RunsInPart events.now self.old self.new) }
+        ensures no_memory { OnErr result (RunsInPart events.now self.old self.new) }
         ensures kept { KeepsSent self.old self.new }
     {
         let mut replies = Vec::new(self.parts.alloc);
@@ -150,7 +150,7 @@ impl World {
     /// Takes an event, and puts its reply at the end.
     fn step_into(&mut self, event: Event, replies: &mut Vec<Reply>) -> Result<(), OutOfMemory>
         ensures ok { OnOk result (StepsInto event replies.old.items replies.new.items self.old self.new) }
-        ensures starved { OnErr result (StepsInPart event self.old self.new) }
+        ensures no_memory { OnErr result (StepsInPart event self.old self.new) }
         ensures kept { KeepsSent self.old self.new }
     {
         // The checker finds the types that a reply nests only where the function names them.

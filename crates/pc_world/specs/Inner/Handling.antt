@@ -6,13 +6,13 @@ use Rattle.pc_join.specs.declared.join.OutOfMemory.{OutOfMemory}
 use Rattle.pc_world.specs.declared.parts.Parts.{Parts}
 use Rattle.pc_world.specs.PlainWorld.{PlainWorld}
 use Rattle.pc_world.specs.Shows.{Does, KeepsSent, ShowsWorld}
-use Rattle.pc_world.specs.Starved.{Starved}
+use Rattle.pc_world.specs.RanOut.{RanOut}
 use Rattle.pc_world.specs.Steps.{Step}
 
 -- a step with its reply, or what the event leaves without memory
 abbrev pub Outcome : PlainWorld → Event → Result Reply OutOfMemory → PlainWorld → Type 0
 Outcome w event (Ok told) new = Step w event told new
-Outcome w event (Err fault) new = Starved w event new
+Outcome w event (Err fault) new = RanOut w event new
 
 -- for every plain world that is shown before, such an outcome is shown after, and what was sent stays sent
 abbrev pub Handles : Event → Result Reply OutOfMemory → Parts → Parts → Type 0
@@ -22,7 +22,7 @@ Handles event result old new =
 -- for every plain world that is shown before, the event was done, or left what it leaves without memory
 abbrev pub StepsInPart : Event → Parts → Parts → Type 0
 StepsInPart event old new =
-    (w : PlainWorld) → ShowsWorld old w → (w' : PlainWorld) × (Starved w event w' ⊎ ((told : Reply) × Step w event told w')) × ShowsWorld new w'
+    (w : PlainWorld) → ShowsWorld old w → (w' : PlainWorld) × (RanOut w event w' ⊎ ((told : Reply) × Step w event told w')) × ShowsWorld new w'
 
 -- an event was done, and its reply stands at the end
 abbrev pub StepsInto : Event → List Reply → List Reply → Parts → Parts → Type 0

@@ -1,5 +1,5 @@
 use Rattle.std.proofs.Common.{slice_get, refl, sym, ap, ◌∙◌}
-use Rattle.pc_world.proofs.Own.{deliver_done, deliver_none, deliver_starved}
+use Rattle.pc_world.proofs.Own.{deliver_done, deliver_none, deliver_ran_out}
 use Rattle.pc_world.proofs.parts.Parts.deliver.Goals as goal
 
 pub returns-in-None : goal.returns-in-None
@@ -12,4 +12,4 @@ returns-in-Ok c =
 
 pub returns-in-Err : goal.returns-in-Err
 returns-in-Err c =
-    deliver_starved c.runs_go_on.ensures c.args.self.now _ c.args.cpu c.in-Some.place c.index_mut.result.now c.deliver.new.self c.in-Some.ensures c.index_mut.ensures.value refl c.args.index _ (ap (λ l. slice_get l c.args.index) (sym c.sent.ensures) ∙ sym c.in-Some-delta_at.ensures) refl refl _ c.in-Err.ensures.delivers
+    deliver_ran_out c.runs_go_on.ensures c.args.self.now _ c.args.cpu c.in-Some.place c.index_mut.result.now c.deliver.new.self c.in-Some.ensures c.index_mut.ensures.value refl c.args.index _ (ap (λ l. slice_get l c.args.index) (sym c.sent.ensures) ∙ sym c.in-Some-delta_at.ensures) refl refl _ c.in-Err.ensures.delivers

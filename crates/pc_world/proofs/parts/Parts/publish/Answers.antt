@@ -3,7 +3,7 @@ use Rattle.pc_kernel.specs.PlainKernel.{content}
 use Rattle.pc_agent.specs.Publishing.{IsPublished, WhateverShown}
 use Rattle.pc_agent.specs.Shows.{cpu_of}
 use Rattle.pc_agent.specs.Wires.{Keeps}
-use Rattle.pc_world.proofs.Own.{publish_done, publish_refused, publish_starved}
+use Rattle.pc_world.proofs.Own.{publish_done, publish_refused, publish_ran_out}
 use Rattle.pc_world.proofs.parts.Parts.publish.Goals as goal
 
 pub returns-in-Ok : goal.returns-in-Ok
@@ -19,7 +19,7 @@ returns-in-Err-WireFault c =
 
 pub returns-in-Err-OutOfMemory : goal.returns-in-Err-OutOfMemory
 returns-in-Err-OutOfMemory c =
-    publish_starved c.runs_go_on.ensures c.args.self.now _ c.args.cpu c.in-Some.place c.index_mut.result.now c.publish.new.self c.in-Some.ensures c.index_mut.ensures.value refl c.args.fails c.set_refuses.new.self c.set_refuses.ensures.sent c.set_refuses.ensures.refuses refl
+    publish_ran_out c.runs_go_on.ensures c.args.self.now _ c.args.cpu c.in-Some.place c.index_mut.result.now c.publish.new.self c.in-Some.ensures c.index_mut.ensures.value refl c.args.fails c.set_refuses.new.self c.set_refuses.ensures.sent c.set_refuses.ensures.refuses refl
     _
     (subst (λ r. WhateverShown c.args.self.now.kernel c.index_mut.result.now (λ P run p. IsPublished Keeps (content P (cpu_of c.index_mut.result.now)) run p r (cpu_of c.index_mut.result.now) c.publish.new.self c.set_refuses.new.self c.publish.new.wire))
     (c.in-Err-OutOfMemory.is ∙ ap Err c.in-Err-OutOfMemory.field-0-is) c.publish.ensures.publishes)

@@ -2,7 +2,7 @@ use Rattle.std.proofs.Common.{◌≡◌, Err, OnErr, refl, subst, ap, ◌∙◌}
 use Rattle.pc_agent.specs.Publishing.{WhateverShown}
 use Rattle.pc_agent.specs.Running.{Steals}
 use Rattle.pc_agent.specs.Shows.{cpu_of}
-use Rattle.pc_world.proofs.Own.{steal_done, steal_refused, steal_starved}
+use Rattle.pc_world.proofs.Own.{steal_done, steal_refused, steal_ran_out}
 use Rattle.pc_world.proofs.parts.Parts.steal.Goals as goal
 
 pub returns-in-Ok : goal.returns-in-Ok
@@ -18,7 +18,7 @@ returns-in-Refused c =
 
 pub returns-in-OutOfMemory : goal.returns-in-OutOfMemory
 returns-in-OutOfMemory c =
-    steal_starved c.runs_go_on.ensures c.args.self.now _ c.args.cpu c.in-Some.place c.index_mut.result.now c.steal.new.self c.in-Some.ensures c.index_mut.ensures.value refl _
+    steal_ran_out c.runs_go_on.ensures c.args.self.now _ c.args.cpu c.in-Some.place c.index_mut.result.now c.steal.new.self c.in-Some.ensures c.index_mut.ensures.value refl _
     (subst (λ r. WhateverShown c.args.self.now.kernel c.index_mut.result.now (λ P run p. Steals P run p r (cpu_of c.index_mut.result.now) c.steal.new.self c.steal.new.kernel)) (c.in-Err.is ∙ ap Err c.in-OutOfMemory.is) c.steal.ensures.steals)
     (subst (λ r. OnErr r (c.steal.new.kernel ≡ c.args.self.now.kernel)) c.in-Err.is c.steal.ensures.err) refl c.steal.ensures.view
     (subst (λ r. OnErr r (c.steal.new.self.list ≡ c.index_mut.result.now.list)) c.in-Err.is c.steal.ensures.list_err) c.steal.ensures.shown

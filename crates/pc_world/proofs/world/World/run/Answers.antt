@@ -3,10 +3,10 @@ use Rattle.pc_world.specs.Shows.{RunsThrough}
 use Rattle.pc_world.proofs.Running.{keeps_none, keeps_then, on_err, runs_next, stops_in}
 use Rattle.pc_world.proofs.world.World.run.Goals as goal
 
-pub returns-in_err-step_into-clause-starved : goal.returns-in_err-step_into-clause-starved
-returns-in_err-step_into-clause-starved c =
+pub returns-in_err-step_into-clause-no_memory : goal.returns-in_err-step_into-clause-no_memory
+returns-in_err-step_into-clause-no_memory c =
     on_err c.from_residual.result _
-    (stops_in c.args.events.now c.loop-event.event-index c.event-item.result c.event-item.is c.loop-event-test.true c.loop-event.replies.items c.args.self.now c.loop-event.self c.loop-event.invariant.ran c.step_into.new.self c.in_err-step_into.ensures.starved)
+    (stops_in c.args.events.now c.loop-event.event-index c.event-item.result c.event-item.is c.loop-event-test.true c.loop-event.replies.items c.args.self.now c.loop-event.self c.loop-event.invariant.ran c.step_into.new.self c.in_err-step_into.ensures.no_memory)
 
 pub returns-in_err-step_into-clause-kept : goal.returns-in_err-step_into-clause-kept
 returns-in_err-step_into-clause-kept c =

@@ -13,7 +13,7 @@ use Rattle.pc_kernel.specs.Reads.{shown, is_cpu, on}
 use Rattle.pc_kernel.specs.Steps as kernel
 use Rattle.pc_agent.specs.PlainAgent.{Set}
 use Rattle.pc_agent.specs.Running.{Finds}
-use Rattle.pc_world.specs.PlainWorld.{PlainWorld, looked, with_agent}
+use Rattle.pc_world.specs.PlainWorld.{PlainWorld, copied_all, with_agent}
 use Rattle.pc_world.specs.Steps.{Runs, are_cpus, stealable}
 
 -- the agent has taken in a part of the set, and nothing else changed
@@ -23,36 +23,36 @@ pub record IsWidened (w : PlainWorld) (c : ℕ) (more : Set) (new : PlainWorld) 
   pub after : new ≡ with_agent w c (record (w.agents c) { seen = set })
 
 -- a call that takes memory, and is not refused
-abbrev pub IsCallStarved : PlainWorld → Call → Type 0
-IsCallStarved w (call.Env c) = kernel.refused (shown w.kernel) (call.Env c) ≡ None
-IsCallStarved w c = ⊥
+abbrev pub RanOutInCall : PlainWorld → Call → Type 0
+RanOutInCall w (call.Env c) = kernel.refused (shown w.kernel) (call.Env c) ≡ None
+RanOutInCall w c = ⊥
 
 -- a publish: the agent has taken in a part of what its queue holds, or all of it, where its send found no memory; a send that
 -- its wire refuses asks for none
-abbrev pub IsPublishStarved : PlainWorld → ℕ → Bool → PlainWorld → Type 0
-IsPublishStarved w c false new = IsWidened w c (pairs_in (content w.kernel c)) new ⊎ (new ≡ looked w c)
-IsPublishStarved w c true new = IsWidened w c (pairs_in (content w.kernel c)) new
+abbrev pub RanOutInPublish : PlainWorld → ℕ → Bool → PlainWorld → Type 0
+RanOutInPublish w c false new = IsWidened w c (pairs_in (content w.kernel c)) new ⊎ (new ≡ copied_all w c)
+RanOutInPublish w c true new = IsWidened w c (pairs_in (content w.kernel c)) new
 
 -- an event that is no call and takes memory, where none of the refusals before want of memory holds; and what it leaves
-abbrev pub IsOwnStarved : PlainWorld → Event → PlainWorld → Type 0
-IsOwnStarved w (Publish cpu fails) new = (is_cpu (shown w.kernel) cpu ≡ true) × IsPublishStarved w cpu fails new
-IsOwnStarved w (Deliver cpu delta) new =
+abbrev pub RanOutInOwn : PlainWorld → Event → PlainWorld → Type 0
+RanOutInOwn w (Publish cpu fails) new = (is_cpu (shown w.kernel) cpu ≡ true) × RanOutInPublish w cpu fails new
+RanOutInOwn w (Deliver cpu delta) new =
     (is_cpu (shown w.kernel) cpu ≡ true) × (set : Set) × (slice_get w.sent delta ≡ Some set) × IsWidened w cpu set new
-IsOwnStarved w (Answer cpu asker) new = (are_cpus w cpu asker ≡ true) × (new ≡ w)
-IsOwnStarved w (Steal cpu) new =
+RanOutInOwn w (Answer cpu asker) new = (are_cpus w cpu asker ≡ true) × (new ≡ w)
+RanOutInOwn w (Steal cpu) new =
     (is_cpu (shown w.kernel) cpu ≡ true) × (is_some (on (shown w.kernel) cpu) ≡ false)
     × (t : ℕ) × Finds (stealable w cpu) (Some t) × (new ≡ w)
-IsOwnStarved w event new = ⊥
+RanOutInOwn w event new = ⊥
 
 -- an event that takes memory and finds none: none of the refusals that come before want of memory holds (a refused send, and what
 -- the kernel refuses of a steal, come after it); a call leaves all as it was
-abbrev pub Starved : PlainWorld → Event → PlainWorld → Type 0
-Starved w event new = MatchOption (call_of event) (IsOwnStarved w event new) (λ c. IsCallStarved w c × (new ≡ w))
+abbrev pub RanOut : PlainWorld → Event → PlainWorld → Type 0
+RanOut w event new = MatchOption (call_of event) (RanOutInOwn w event new) (λ c. RanOutInCall w c × (new ≡ w))
 
 -- the first of these events found no memory
-abbrev pub IsFirstStarved : PlainWorld → List Event → PlainWorld → Type 0
-IsFirstStarved w [] new = ⊥
-IsFirstStarved w (event ∷ rest) new = Starved w event new
+abbrev pub RanOutAtFirst : PlainWorld → List Event → PlainWorld → Type 0
+RanOutAtFirst w [] new = ⊥
+RanOutAtFirst w (event ∷ rest) new = RanOut w event new
 
 -- some first events were done, in order, and the next one as far as it goes without memory
 pub record IsCutShort (w : PlainWorld) (events : List Event) (new : PlainWorld) : Type 0 where
@@ -62,4 +62,4 @@ pub record IsCutShort (w : PlainWorld) (events : List Event) (new : PlainWorld) 
   pub reached : PlainWorld
   pub order : events ≡ done ++ rest
   pub ran : Runs w done replies reached
-  pub next : (new ≡ reached) ⊎ IsFirstStarved reached rest new
+  pub next : (new ≡ reached) ⊎ RanOutAtFirst reached rest new
