@@ -13,6 +13,7 @@
     generate.py big-delta LINES     a queue of 65,536 messages, published again and again
     generate.py rounds LINES        64 agents that pick, have the thread yield, publish and consume, over 4,096 threads
     generate.py steals LINES        one agent steals all threads of another (half as many as lines, 4,096 at most), then finds none, again and again
+    generate.py day LINES           64 agents in groups of four that exchange all they see: threads picked, blocked, woken, stolen, and now and then a crash
     generate.py restarts LINES      agents that crash, learn all of 4,096 threads from an answer, and take threads back
 """
 import random
@@ -263,6 +264,113 @@ def restarts(lines):
         sent += 2
 
 
+class Group:
+    """What the agents of four CPUs know, list and have sent, with all messages delivered in order: so that most calls are accepted."""
+
+    def __init__(self, threads, cpus):
+        self.threads, self.cpus = threads, cpus
+        self.known = {cpu: {} for cpu in cpus}  # of each agent and thread, how many messages and whether it is ready
+        self.lists = {cpu: {} for cpu in cpus}  # run lists: dictionaries keep their order
+        self.items = {cpu: [] for cpu in cpus}  # what each queue holds: threads, with number and whether ready
+        self.blocked = []
+
+    def post(self, thread, ready):
+        self.threads.blocked[thread] = not ready
+        self.threads.post(thread)
+        self.items[self.threads.home[thread]].append((thread, self.threads.number[thread], ready))
+
+    def copy(self, cpu, items, lists):
+        for thread, number, ready in items:
+            if number > self.known[cpu].get(thread, (0,))[0]:
+                self.known[cpu][thread] = (number, ready)
+        if lists:
+            names = [*self.lists[cpu], *(thread for thread, _, _ in items)]
+            self.lists[cpu] = {thread: None for thread in names if self.known[cpu][thread][1]}
+
+    def publish(self, cpu, sent):
+        """The agent sends what its queue holds and removes it, and the others of the group are told."""
+        items, self.items[cpu] = self.items[cpu], []
+        self.copy(cpu, items, True)
+        yield f"publish {cpu}"
+        yield self.threads.consume(cpu)
+        for other in self.cpus:
+            if other != cpu:
+                self.copy(other, items, False)
+                yield f"deliver {other} {sent}"
+
+    def pick(self, cpu):
+        if self.threads.running[cpu] is None:
+            while self.lists[cpu]:
+                thread = next(iter(self.lists[cpu]))
+                del self.lists[cpu][thread]
+                if self.threads.home[thread] == cpu and self.threads.on[thread] is None and not self.threads.blocked[thread]:
+                    self.threads.on[thread], self.threads.running[cpu] = cpu, thread
+                    break
+        return f"pick {cpu} {self.threads.posts[cpu]}"
+
+    def steal(self, cpu):
+        threads = self.threads
+        wanted = (t for t, (_, ready) in self.known[cpu].items() if ready and t not in self.lists[cpu] and threads.on[t] is None)
+        least = min(wanted, default=None)
+        if threads.running[cpu] is None and least is not None:
+            if threads.number[least] == self.known[cpu][least][0] and threads.pending[least] == 0:
+                threads.home[least] = cpu
+                self.lists[cpu][least] = None
+        return f"steal {cpu}"
+
+    def crash(self, cpu, sent):
+        """The agent forgets all, is told all by another, and takes threads back."""
+        self.known[cpu], self.lists[cpu] = {}, {}
+        other = next(it for it in self.cpus if it != cpu)
+        yield from (f"crash {cpu}", f"answer {other} {cpu}", f"deliver {cpu} {sent}")
+        self.known[cpu] = dict(self.known[other])
+        for _ in range(8):
+            yield self.steal(cpu)
+
+
+def turn_of(chance, group, cpu):
+    """What the threads of a CPU do before its agent looks."""
+    threads = group.threads
+    running = threads.running[cpu]
+    if running is not None:
+        how = chance.choice(["yield", "yield", "block", "preempt"])
+        threads.on[running], threads.running[cpu] = None, None
+        group.post(running, how != "block")
+        if how == "block":
+            group.blocked.append(running)
+        yield f"{how} {cpu} {chance.randrange(1000)}"
+    while group.blocked and (len(group.blocked) > 24 or chance.random() < 0.4):
+        thread = group.blocked.pop(chance.randrange(len(group.blocked)))
+        group.post(thread, True)
+        yield f"wake t{thread}"
+
+
+def day(lines):
+    """Agents of 64 CPUs in groups of four, over 4,096 threads that they run, wake, steal and tell each other of."""
+    chance = random.Random(20261123)
+    threads, written, sent = Threads(True), 1 + THREADS, 0
+    groups = [Group(threads, range(first, first + 4)) for first in range(0, CPUS, 4)]
+    yield f"enclave {CPUS} {THREADS} 1000000 65536 4294967295"
+    for thread in range(THREADS):
+        threads.create(thread % CPUS)
+        groups[thread % CPUS // 4].items[thread % CPUS].append((thread, 1, True))
+        yield f"create {thread % CPUS} {2**CPUS - 1} ready"
+    while written < lines:
+        cpu = chance.randrange(CPUS)
+        group = groups[cpu // 4]
+        turn = [*turn_of(chance, group, cpu)]
+        if chance.random() < 0.0005:
+            turn += group.crash(cpu, sent)
+            sent += 1
+        turn += group.publish(cpu, sent)
+        sent += 1
+        if not group.lists[cpu] or chance.random() < 0.02:
+            turn += [group.steal(cpu) for _ in range(4)]
+        turn.append(group.pick(cpu))
+        yield from turn[:lines - written]
+        written += len(turn)
+
+
 SCRIPTS = {
     "first-run": first_run,
     "kernel-calls": kernel_calls,
@@ -276,6 +384,7 @@ SCRIPTS = {
     "big-delta": big_delta,
     "rounds": rounds,
     "steals": steals,
+    "day": day,
     "restarts": restarts,
 }
 

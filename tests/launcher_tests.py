@@ -228,6 +228,18 @@ class Launcher(unittest.TestCase):
         self.assertEqual(self.run_it(), (0, "arguments 0:\n<>\n", ""))
         self.assertEqual(self.calls()[0], [])
 
+    def test_the_crate_of_the_tests_is_not_built(self):
+        (self.tree / "crates.txt").write_text(CRATES + "pc_tests: low left right\n")
+        (self.tree / "crates/pc_tests/src").mkdir(parents=True)
+        self.set_dates(-100)
+        status, out, errors = self.run_it("x")
+        self.assertEqual((status, out), (0, "arguments 1:\n<x>\n"))
+        self.assert_built_once(errors)
+        self.forget_calls()
+        (self.tree / "crates/pc_tests/src/lib.rt").write_text("// tests\n")
+        self.assertEqual(self.run_it("x"), (0, "arguments 1:\n<x>\n", ""))
+        self.assertEqual(self.calls()[0], [])
+
     def test_a_deleted_source_rebuilds(self):
         self.run_it()
         self.forget_calls()

@@ -13,8 +13,6 @@ mod kept_wire;
 mod pick;
 mod queue;
 mod steal;
-#[cfg(test)]
-mod tests;
 mod wire;
 
 pub use agent::{Agent, agents_stay_as_the_run_goes_on};

@@ -10,8 +10,6 @@ mod call;
 mod event;
 mod limits;
 mod refusal;
-#[cfg(test)]
-mod tests;
 
 pub use call::{Answer, Call, EnvCall, Posted, Status};
 pub use event::{Event, Reply};

@@ -10,5 +10,4 @@ pub mod Faultless
 pub mod Refusals
 pub mod Gathering
 pub mod Telling
-pub mod Wakeups
 pub mod Mixes

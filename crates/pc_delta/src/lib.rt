@@ -13,8 +13,6 @@ pub mod laws;
 mod part;
 mod places;
 mod taking;
-#[cfg(test)]
-mod tests;
 
 pub use answer::{delta_beyond, delta_since};
 pub use delta::Delta;

@@ -8,8 +8,6 @@ mod by_name;
 mod join;
 pub mod laws;
 mod numbers;
-#[cfg(test)]
-mod tests;
 mod turn;
 mod upto;
 mod walk;

@@ -8,8 +8,6 @@ mod cpus;
 mod kernel;
 pub mod laws;
 mod tables;
-#[cfg(test)]
-mod tests;
 mod threads;
 pub mod worked;
 

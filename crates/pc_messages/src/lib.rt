@@ -13,8 +13,6 @@ mod message;
 mod names;
 mod reported;
 mod same;
-#[cfg(test)]
-mod tests;
 
 pub use kind::{Kind, MOST_TICKS};
 pub use level::{Level, LevelFault};

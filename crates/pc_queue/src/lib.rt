@@ -8,8 +8,6 @@
 mod counts;
 mod fault;
 mod queue;
-#[cfg(test)]
-mod tests;
 
 pub use fault::{QueueFault, TooMany};
 pub use queue::CpuQueue;

@@ -7,8 +7,6 @@
 
 mod levels;
 mod run_queue;
-#[cfg(test)]
-mod tests;
 
 pub use levels::runs_on;
 pub use run_queue::RunQueue;

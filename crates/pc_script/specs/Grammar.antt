@@ -10,6 +10,8 @@ use Rattle.pc_script.specs.declared.command.Command.{Command}
 use Rattle.pc_script.specs.declared.command.Command.TheVariants as command
 use Rattle.pc_script.specs.declared.command.Read.{Read}
 use Rattle.pc_script.specs.declared.command.Read.TheVariants as read
+use Rattle.pc_script.specs.declared.line.Wish.{Wish}
+use Rattle.pc_script.specs.declared.line.Wish.TheVariants as wish
 
 -- ---- fields
 
@@ -152,3 +154,9 @@ HasNoReply line = (words line ≡ []) ⊎ (slice_get line 0 ≡ Some 35)
 -- the line should have a reply, but its words are no command's
 abbrev pub IsFault : List ℕ → Type 0
 IsFault line = (HasNoReply line → ⊥) × ((command : Command) → Spells (words line) command → ⊥)
+
+-- what a line asks for
+abbrev pub IsAsked : List ℕ → Wish → Type 0
+IsAsked line wish.Nothing = HasNoReply line
+IsAsked line (wish.Answer command) = Spells (words line) command
+IsAsked line wish.Stop = IsFault line

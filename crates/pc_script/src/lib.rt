@@ -25,12 +25,11 @@ mod outcome;
 mod response;
 mod run;
 mod short;
-#[cfg(test)]
-mod tests;
 mod text;
 
 pub use command::{Command, Read};
 pub use input::MOST_BYTES;
+pub use line::{Wish, asked};
 pub use lists::{EarlyNumbers, ShownThread, ShownThreads};
 pub use machine::Machine;
 pub use outcome::{Outcome, ScriptFault};

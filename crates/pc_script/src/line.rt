@@ -4,9 +4,9 @@ ghost use Rattle.std.specs.Prelude.{◌≡◌, ◌≢◌, ℕ, List, [], ◌∷�
 ghost use Rattle.std.specs.Bool.{MatchBool};
 ghost use Rattle.std.specs.Io.KnownBytes.{Appends};
 ghost use Rattle.pc_calls.specs.declared.limits.Profile.{Profile};
-ghost use Rattle.pc_script.specs.Grammar.{HasNoReply, IsFault};
+ghost use Rattle.pc_script.specs.Grammar.{HasNoReply, IsAsked, IsFault};
 ghost use Rattle.pc_script.specs.Responses.{response_text, text_line};
-ghost use Rattle.pc_script.specs.Inner.Steps.{FoundNoMemory, IsAsked, TakesLine};
+ghost use Rattle.pc_script.specs.Inner.Steps.{FoundNoMemory, TakesLine};
 ghost use Rattle.pc_script.specs.declared.command.Command.{Command};
 ghost use Rattle.pc_script.specs.declared.response.Response.{Response};
 
@@ -18,7 +18,8 @@ use crate::outcome::ScriptFault;
 use std::io::Write;
 
 /// What a line asks for.
-enum Wish {
+#[derive(Clone, Copy, Debug, PartialEq, Eq)]
+pub enum Wish {
     /// It has no reply.
     Nothing,
     /// What this command is answered.
@@ -34,8 +35,9 @@ pub(crate) fn has_no_reply(line: &[u8]) -> bool
     line.first().copied() == Some(b'#') || first_word(line).is_none()
 }
 
-/// What this line asks for.
-fn asked(line: &[u8]) -> Wish
+/// What this line of a script asks for. It takes no memory; a `version 2` asks for nothing here, it is a fault after the first
+/// line that has a reply.
+pub fn asked(line: &[u8]) -> Wish
     ensures { IsAsked line.now result }
 {
     if line.first().copied() == Some(b'#') {

@@ -6,8 +6,6 @@
 
 mod early;
 mod held;
-#[cfg(test)]
-mod tests;
 mod view;
 
 pub use view::{ThreadView, equality_is_exact, of_a_history_in_plain_words};

@@ -6,8 +6,6 @@
 
 mod auditing;
 mod laws;
-#[cfg(test)]
-mod tests;
 mod view;
 
 pub use auditing::{Stranger, audit, complete};

@@ -7,8 +7,6 @@
 mod agents;
 pub mod laws;
 mod parts;
-#[cfg(test)]
-mod tests;
 mod world;
 
 pub use pc_calls::{Event, Reply};

@@ -2,23 +2,15 @@
 use Rattle.std.specs.Prelude.{ℕ, List, [], ◌∷◌, ◌++◌, Option}
 use Rattle.std.specs.Io.KnownBytes.{Appends}
 use Rattle.pc_calls.specs.declared.limits.Profile.{Profile}
-use Rattle.pc_script.specs.Grammar.{Spells, HasNoReply, IsFault}
+use Rattle.pc_script.specs.Grammar.{Spells, HasNoReply}
 use Rattle.pc_script.specs.Scripts.{Script, responses_text}
 use Rattle.pc_script.specs.Text.{words}
 use Rattle.pc_script.specs.declared.command.Command.{Command}
-use Rattle.pc_script.specs.declared.line.Wish.{Wish}
-use Rattle.pc_script.specs.declared.line.Wish.TheVariants as wish
 use Rattle.pc_script.specs.declared.opening.Opener.{Opener}
 use Rattle.pc_script.specs.declared.opening.Opener.TheVariants as opener
 use Rattle.pc_script.specs.declared.outcome.Outcome.TheVariants.{Finished}
 use Rattle.pc_script.specs.declared.response.Response.{Response}
 use Rattle.pc_script.specs.Versions.{IsVersionTwo}
-
--- what a line asks for
-abbrev pub IsAsked : List ℕ → Wish → Type 0
-IsAsked line wish.Nothing = HasNoReply line
-IsAsked line (wish.Answer command) = Spells (words line) command
-IsAsked line wish.Stop = IsFault line
 
 -- what a line says of the version, where no line before it has a reply
 abbrev pub IsOpener : List ℕ → Opener → Type 0

@@ -1,0 +1,193 @@
+//! Scripts over memory, with a machine whose responses are fixed by the command.
+
+mod commands;
+mod ends;
+mod faults;
+mod reading;
+mod responses;
+mod versions;
+
+use pc_calls::{EnvCall, Event, LimitField, Posted, Profile, Refusal, Reply, Status};
+use pc_messages::{Cpu, Level, Mask, Phase, Reported, Tid};
+use pc_script::{
+    Command, EarlyNumbers, Machine, Outcome, Read, Response, ShownThread, ShownThreads, run_script,
+};
+use std::alloc::{AllocError, Global};
+use std::process::Abort;
+
+/// Gives as many responses as it took commands: `ok` to `enclave`, and to the others what their arguments make.
+#[derive(Drop)]
+struct Echo {
+    alloc: Global,
+    profile: Profile,
+}
+
+/// What is answered to an enclave with so many threads.
+fn enclave(profile: Profile, threads: u32) -> Response {
+    if profile == Profile::One && threads == 65_535 {
+        return Response::BadLimits(LimitField::Threads);
+    }
+    Response::Opened
+}
+
+/// What is replied to a tick, where there are two CPUs.
+fn tick(cpu: Cpu) -> Reply {
+    if cpu.index() > 1 {
+        return Reply::Refused(Refusal::BadCpu);
+    }
+    Reply::Posted(Posted {
+        thread: None,
+        number: None,
+        queue: cpu,
+        aseq: 1,
+        woken: None,
+    })
+}
+
+/// What is replied where a thread was created.
+fn created(queue: Cpu) -> Reply {
+    Reply::Posted(Posted {
+        thread: Some(Tid(0)),
+        number: Some(1),
+        queue,
+        aseq: 1,
+        woken: None,
+    })
+}
+
+/// What is replied where a thread's second message was posted.
+fn message(thread: Tid, aseq: u32) -> Reply {
+    Reply::Posted(Posted {
+        thread: Some(thread),
+        number: Some(2),
+        queue: Cpu(0),
+        aseq,
+        woken: Some(Cpu(1)),
+    })
+}
+
+/// What is replied to a delivery, where one delta was sent.
+fn delivered(delta: u64) -> Reply {
+    if delta == 0 {
+        return Reply::Done;
+    }
+    Reply::Refused(Refusal::NoDelta)
+}
+
+/// What is replied to a call of the environment.
+fn called(call: EnvCall) -> Reply {
+    match call {
+        EnvCall::Create { queue, .. } => created(queue),
+        EnvCall::Wake { thread } => Reply::Refused(Refusal::Stale(thread.index())),
+        EnvCall::SetAffinity { thread, .. } => message(thread, 3),
+        EnvCall::SetPriority { thread, level } => message(thread, u32::from(level)),
+        EnvCall::Tick { cpu } => tick(cpu),
+        EnvCall::Block { ran, .. } => message(Tid(1), ran),
+        EnvCall::YieldNow { ran, .. } => message(Tid(2), ran),
+        EnvCall::Preempt { ran, .. } => message(Tid(3), ran),
+        EnvCall::Die { ran, .. } => message(Tid(4), ran),
+    }
+}
+
+/// What is replied to an event.
+fn happened(event: Event) -> Reply {
+    match event {
+        Event::Env(call) => called(call),
+        Event::Associate { thread, queue, .. } => Reply::Associated { thread, queue },
+        Event::Commit { cpu, thread, .. } => Reply::Committed { thread, cpu },
+        Event::Publish { cpu, .. } => Reply::Published {
+            delta: 0,
+            items: u32::from(cpu.index()),
+        },
+        Event::Consume { cpu } => Reply::Consumed {
+            items: u32::from(cpu.index()),
+        },
+        Event::Deliver { delta, .. } => delivered(delta),
+        Event::Answer { asker, .. } => Reply::Answered {
+            delta: u64::from(asker.index()),
+        },
+        _ => Reply::Done,
+    }
+}
+
+/// What is answered to a question.
+fn told(alloc: Global, question: Read) -> Result<Response, AllocError> {
+    match question {
+        Read::Status { thread } => Ok(Response::Status {
+            thread,
+            status: Status {
+                number: 1,
+                running_on: None,
+            },
+            phase: Phase::Ready,
+        }),
+        Read::Asleep { cpu } => Ok(Response::Truth(cpu.index() == 0)),
+        Read::Show { .. } => Ok(Response::View(shown(alloc)?)),
+        Read::Same { cpu, other } => Ok(Response::Sameness(cpu == other)),
+        Read::Complete { thread, .. } => Ok(Response::Truth(thread.index() == 0)),
+    }
+}
+
+impl Machine for Echo {
+    ghost use Rattle.std.specs.Prelude.{◌≡◌, length, refl};
+
+    ghost IsRun = { λ _ commands responses. length commands ≡ length responses };
+
+    ghost StandsAfter = { λ _ _ commands responses. length commands ≡ length responses };
+
+    ghost RanOut = { λ _ commands responses _. length commands ≡ length responses };
+
+    fn start(alloc: Global, profile: Profile) -> Self {
+        Echo { alloc, profile }
+    }
+
+    fn answer(&mut self, command: Command) -> Result<Response, AllocError> {
+        match command {
+            Command::Enclave(limits) => Ok(enclave(self.profile, limits.threads)),
+            Command::Event(event) => Ok(Response::Event(happened(event))),
+            Command::Read(question) => told(self.alloc, question),
+        }
+    }
+
+    ghost is_run_after = { λ _ _ _ _ h. h };
+}
+
+/// Two threads, the second without its first message.
+fn shown(alloc: Global) -> Result<ShownThreads, AllocError> {
+    let mut threads = ShownThreads::new(alloc);
+    threads.push(ShownThread {
+        thread: Tid(0),
+        upto: 2,
+        reported: Mask::new(3, 2).ok().map(|mask| Reported {
+            phase: Phase::Blocked,
+            mask,
+            ran: 5,
+            level: Level::LOWEST,
+        }),
+        early: EarlyNumbers::new(alloc),
+    })?;
+    let mut early = EarlyNumbers::new(alloc);
+    early.push(2)?;
+    early.push(1_000_000)?;
+    threads.push(ShownThread {
+        thread: Tid(12),
+        upto: 0,
+        reported: None,
+        early,
+    })?;
+    Ok(threads)
+}
+
+/// Runs a script, and asserts what it writes and how it ends.
+fn gives(rt: &impl Abort, alloc: Global, script: &[u8], output: &[u8], outcome: Outcome) {
+    let mut reader = script;
+    let mut writer: Vec<u8> = Vec::new(alloc);
+    let ended = run_script::<Echo, _, _>(alloc, &mut reader, &mut writer);
+    assert_eq!(rt; ended, Ok(outcome));
+    assert_eq!(rt; writer.as_slice(), output);
+}
+
+/// Asserts that a line is a fault.
+fn is_fault(rt: &impl Abort, alloc: Global, line: &[u8]) {
+    gives(rt, alloc, line, b"fault line 1\n", Outcome::FaultLine(1));
+}
