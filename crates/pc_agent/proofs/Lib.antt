@@ -3,6 +3,6 @@ pub mod Taking
 pub mod Ready
 pub mod Stolen
 pub mod Walk
-pub mod Preys
+pub mod Candidates
 pub mod Delivered
 pub mod Items

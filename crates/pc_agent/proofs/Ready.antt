@@ -1,5 +1,5 @@
 -- The names of a run list that the kernel would commit, and a pick of the first.
-use Rattle.std.proofs.Common.{ℕ, ◌≡◌, ◌==◌, not, Bool, true, false, List, [], ◌∷◌, Option, Some, None, Result, Ok, Err, IfOk, IfErr, is_some, refl, sym, ap, ◌∙◌, subst}
+use Rattle.std.proofs.Common.{ℕ, ◌≡◌, ◌==◌, not, Bool, true, false, List, [], ◌∷◌, Option, Some, None, Result, Ok, Err, IfOk, IfErr, OnErr, is_some, refl, sym, ap, ◌∙◌, subst}
 use Rattle.pc_messages.specs.Run.{Run}
 use Rattle.pc_calls.specs.Conditions.{first_of, refusal_in}
 use Rattle.pc_calls.specs.declared.call.Answer.{Answer}
@@ -14,6 +14,8 @@ use Rattle.pc_kernel.specs.Reads.{Reads, seen, shown, aseq_read, on}
 use Rattle.pc_kernel.specs.Rows.{KernelRows}
 use Rattle.pc_kernel.specs.Steps.{accepted, after, refused, reply, reply_of}
 use Rattle.pc_agent.specs.declared.agent.Agent.{Agent}
+use Rattle.pc_agent.specs.Counts.{pick_counted}
+use Rattle.pc_agent.specs.Own.{PicksAsSeen}
 use Rattle.pc_agent.specs.PlainAgent.{PlainAgent, is_empty_list, pick_refused, ready_list}
 use Rattle.pc_agent.specs.Running.{IsPicked, left_by}
 use Rattle.pc_agent.specs.Shows.{ShowsAgent, ShowsView}
@@ -83,6 +85,14 @@ module _ (cpu n : ℕ) (names left : List ℕ) (old new : KernelRows) where
   pub pick_accepted : (result : Result ℕ Refusal) → Picks cpu n result names left old new → IfOk result (λ t. Accepts (call.Commit cpu t n) Done old new)
   pick_accepted (Ok t) picks = picks.2
   pick_accepted (Err refusal) picks = tt
+
+-- a pick, by the agent's run list and what is read of the kernel
+pub picked_as_seen : (n : ℕ) (result : Result ℕ Refusal) (old new : Agent) (k k2 : KernelRows) → Picks old.cpu n result old.list new.list k k2 → OnErr result (k2 ≡ k)
+    → new.view ≡ old.view → new.shown ≡ old.shown → new.cpu ≡ old.cpu → new.counts ≡ pick_counted result old.counts → PicksAsSeen n old k result new k2
+picked_as_seen n (Ok t) old new k k2 picks err view count cpu counts =
+    (picks.0, record { kernel = picks.2; list = picks.1; shown = count; same = record { view = view; cpu = cpu; counts = counts } })
+picked_as_seen n (Err refusal) old new k k2 picks err view count cpu counts =
+    (picks.0, record { kernel = err; list = picks.1; shown = count; same = record { view = view; cpu = cpu; counts = counts } })
 
 -- a pick, in the words of the plain agent
 pub picked : (P : PlainKernel) (run : Run) (p : PlainAgent) (n : ℕ) (result : Result ℕ Refusal) (old new : Agent) (k k2 : KernelRows) → Shows k P → ShowsAgent run p old

@@ -91,6 +91,19 @@ had r cpu test takes Taken t = by_test (is_some (on r cpu))
     by_test true e = absurd (let none : ⊥ = cc in none)
     by_test false h = h.2
 
+-- what a steal says of a thread that was taken over, fact by fact
+module _ (view : View) (cpu : ℕ) (list left : List ℕ) (before after : KernelRows) where
+  taken_over : (t : ℕ) → StealsAsSeen view cpu (Ok t) list left before after → HasTakenOver (takes_up_to (upto_of view) cpu t) t list left before after
+  taken_over t steals = had (seen before) cpu (may_take (seen before) (runs_in view cpu) list) (takes_up_to (upto_of view) cpu) (λ u. HasTakenOver (takes_up_to (upto_of view) cpu u) u list left before after) t steals
+
+  pub steal_accepted : (result : Result ℕ CallFault) → StealsAsSeen view cpu result list left before after → IfOk result (λ t. Accepts (takes_up_to (upto_of view) cpu t) Done before after)
+  steal_accepted (Ok t) steals = (taken_over t steals).kernel
+  steal_accepted (Err fault) steals = tt
+
+  pub steal_listed : (result : Result ℕ CallFault) → StealsAsSeen view cpu result list left before after → IfOk result (λ t. left ≡ list ++ t ∷ [])
+  steal_listed (Ok t) steals = (taken_over t steals).list
+  steal_listed (Err fault) steals = tt
+
 module _ (reported : ReportsAreTold) (known : UptosAreTold) (old : Agent) (k : KernelRows) where
   module _ (P : PlainKernel) (run : Run) (p : PlainAgent) (shows : Shows k P) (h : ShowsAgent run p old) where
     test_same : may_take (seen k) (runs_in old.view old.cpu) old.list ≡ may_steal (shown P) run old.cpu p
@@ -117,8 +130,7 @@ module _ (reported : ReportsAreTold) (known : UptosAreTold) (old : Agent) (k : K
       → IfOk result (λ t. WhateverShown k old (λ P run p. IsSeenExactly P run p t))
   exactly law (Err fault) left k2 steals = tt
   exactly law (Ok t) left k2 steals = λ P run p shows extends h.
-      let took : HasTakenOver (takes_up_to (upto_of old.view) old.cpu t) t old.list left k k2 =
-      had (seen k) old.cpu (may_take (seen k) (runs_in old.view old.cpu) old.list) (takes_up_to (upto_of old.view) old.cpu) (λ u. HasTakenOver (takes_up_to (upto_of old.view) old.cpu u) u old.list left k k2) t steals in
+      let took = taken_over old.view old.cpu old.list left k k2 t steals in
       let exact = law P t old.cpu (upto_of old.view t) (not_refused P (takes_up_to (upto_of old.view) old.cpu t) (took.kernel P shows).0) in
       let whole : upto p.seen t ≡ length (kinds P t) = sym (known run p.seen old.view t h.view.of_run h.view.seen) ∙ exact.current in
       record {

@@ -10,6 +10,7 @@ ghost use Rattle.pc_kernel.specs.Answers.{Accepts};
 ghost use Rattle.pc_kernel.specs.Reads.{seen, kinds_read, is_cpu, aseq_read, on};
 ghost use Rattle.pc_kernel.specs.Steps.{refused};
 ghost use Rattle.pc_agent.specs.Counts.{pick_counted};
+ghost use Rattle.pc_agent.specs.Own.{PicksAsSeen};
 ghost use Rattle.pc_agent.specs.PlainAgent.{pick_refused, ready_list};
 ghost use Rattle.pc_agent.specs.Publishing.{WhateverShown};
 ghost use Rattle.pc_agent.specs.Running.{IsPicked, left_by};
@@ -76,6 +77,7 @@ impl Agent {
     /// and the run list then is empty.
     pub fn pick(&mut self, kernel: &mut Kernel, aseq: u32) -> Result<Tid, Refusal>
         ensures picks { WhateverShown kernel.old self.old (λ P run p. IsPicked aseq P run p result (cpu_of self.old) self.new kernel.new) }
+        ensures own { PicksAsSeen aseq self.old kernel.old result self.new kernel.new }
         ensures refused { refusal_in result ≡ pick_refused (seen kernel.old) (cpu_of self.old) aseq self.old.list }
         ensures first { IfOk result (λ thread. ready_list (seen kernel.old) (cpu_of self.old) aseq self.old.list ≡ thread ∷ self.new.list) }
         ensures list_err { IfErr result (λ refusal. self.new.list ≡ left_by refusal self.old.list) }

@@ -15,7 +15,7 @@ ghost use Rattle.pc_delta.specs.Parts.{parts_in};
 ghost use Rattle.pc_run_queue.specs.Runs.{refreshed};
 ghost use Rattle.pc_agent.specs.declared.counts.TheConstants.{MOST_COUNTED};
 ghost use Rattle.pc_agent.specs.Counts.{consume_counted};
-ghost use Rattle.pc_agent.specs.Own.{Publishes};
+ghost use Rattle.pc_agent.specs.Own.{ConsumesAsSeen, Publishes};
 ghost use Rattle.pc_agent.specs.PlainAgent.{PlainAgent, threads_in};
 ghost use Rattle.pc_agent.specs.Publishing.{Copies, IsConsumed, IsPublished, WhateverShown};
 ghost use Rattle.pc_agent.specs.Shows.{ShowsAgent, cpu_of};
@@ -135,6 +135,7 @@ impl Agent {
     /// more items count as sent than the queue holds.
     pub fn consume(&mut self, kernel: &mut Kernel) -> Result<u32, Refusal>
         ensures consumes { WhateverShown kernel.old self.old (λ P run p. IsConsumed P run p result (cpu_of self.old) self.new kernel.new) }
+        ensures own { ConsumesAsSeen self.old kernel.old result self.new kernel.new }
         ensures count { IfOk result (λ count. count ≡ self.old.shown) }
         ensures nothing_sent { OnOk result (self.new.shown ≡ 0) }
         ensures kernel { OnOk result (Accepts (call.Consume (cpu_of self.old) self.old.shown) Done kernel.old kernel.new) }

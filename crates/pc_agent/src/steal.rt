@@ -1,14 +1,17 @@
 //! How an agent takes a thread over.
 
-ghost use Rattle.std.specs.Prelude.{◌≡◌, ◌≢◌, ◌∷◌, [], List, None, Some, Ok, IfOk, OnErr, IsTrue, is_some};
+ghost use Rattle.std.specs.Prelude.{◌≡◌, ◌≢◌, ◌∷◌, ◌++◌, [], List, None, Some, Ok, IfOk, OnErr, IsTrue, is_some};
 ghost use Rattle.pc_messages.specs.Run.{Extends};
+ghost use Rattle.pc_calls.specs.declared.call.Answer.TheVariants.{Done};
+ghost use Rattle.pc_kernel.specs.Answers.{Accepts};
 ghost use Rattle.pc_kernel.specs.Reads.{Reads, seen, kinds_read, is_cpu, on};
+ghost use Rattle.pc_view.specs.Prefixes.{upto_of};
 ghost use Rattle.pc_run_queue.specs.Runs.{may_run, runs_in};
 ghost use Rattle.pc_agent.specs.Counts.{steal_counted};
 ghost use Rattle.pc_agent.specs.Own.{StealsAsSeen};
 ghost use Rattle.pc_agent.specs.PlainAgent.{is_idle, may_take};
 ghost use Rattle.pc_agent.specs.Publishing.{WhateverShown};
-ghost use Rattle.pc_agent.specs.Running.{Finds, IsSeenExactly, Steals};
+ghost use Rattle.pc_agent.specs.Running.{Finds, IsSeenExactly, Steals, takes_up_to};
 ghost use Rattle.pc_agent.specs.Shows.{cpu_of};
 ghost use Rattle.pc_agent.specs.Inner.Goes.{GoesOn};
 
@@ -52,7 +55,7 @@ fn may_be_taken(thread: Tid, held: &ThreadView, list: &RunQueue, cpu: Cpu, kerne
 }
 
 /// The least thread that may be taken over: one of those that the view tells of, each of which is looked at once.
-fn prey(view: &View, list: &RunQueue, cpu: Cpu, kernel: &Kernel) -> Option<Tid>
+fn candidate(view: &View, list: &RunQueue, cpu: Cpu, kernel: &Kernel) -> Option<Tid>
     ensures { Finds (may_take (seen kernel.now) (runs_in view.now cpu) list.now) result }
 {
     for (thread, held) in view.iter() {
@@ -77,7 +80,7 @@ fn take_least(
     if kernel.running(cpu).is_some() {
         return Err(CallFault::Refused(Refusal::Busy));
     }
-    let Some(thread) = prey(view, list, cpu, kernel) else {
+    let Some(thread) = candidate(view, list, cpu, kernel) else {
         return Err(CallFault::Refused(Refusal::NothingToSteal));
     };
     // The name is pushed before the kernel is asked: once it has accepted, nothing may fail.
@@ -104,12 +107,14 @@ impl Agent {
         ensures steals { WhateverShown kernel.old self.old (λ P run p. Steals P run p result (cpu_of self.old) self.new kernel.new) }
         ensures own { StealsAsSeen self.old.view (cpu_of self.old) result self.old.list self.new.list kernel.old kernel.new }
         ensures exact { IfOk result (λ thread. WhateverShown kernel.old self.old (λ P run p. IsSeenExactly P run p thread)) }
+        ensures kernel { IfOk result (λ thread. Accepts (takes_up_to (upto_of self.old.view) (cpu_of self.old) thread) Done kernel.old kernel.new) }
+        ensures taken { IfOk result (λ thread. self.new.list ≡ self.old.list ++ thread ∷ []) }
         ensures limits { kernel.new.limits ≡ kernel.old.limits }
         ensures extends { Extends (kinds_read (seen kernel.new)) (kinds_read (seen kernel.old)) }
         ensures err { OnErr result (kernel.new ≡ kernel.old) }
         ensures list_err { OnErr result (self.new.list ≡ self.old.list) }
         ensures view { self.new.view ≡ self.old.view }
-        ensures shown { self.new.shown ≡ self.old.shown }
+        ensures sent { self.new.shown ≡ self.old.shown }
         ensures cpu { cpu_of self.new ≡ cpu_of self.old }
         ensures counts { self.new.counts ≡ steal_counted result self.old.counts }
     {

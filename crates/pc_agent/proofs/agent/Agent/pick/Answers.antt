@@ -1,5 +1,5 @@
 use Rattle.std.proofs.Common.{refl}
-use Rattle.pc_agent.proofs.Ready.{pick_accepted, pick_first, pick_left, pick_refusal, picked}
+use Rattle.pc_agent.proofs.Ready.{pick_accepted, pick_first, pick_left, pick_refusal, picked, picked_as_seen}
 use Rattle.pc_agent.proofs.agent.Agent.pick.Goals as goal
 
 pub returns-clause-picks : goal.returns-clause-picks
@@ -17,3 +17,7 @@ returns-clause-list_err c = pick_left _ _ _ _ _ _ c.pick_from-answered.result c.
 
 pub returns-clause-kernel : goal.returns-clause-kernel
 returns-clause-kernel c = pick_accepted _ _ _ _ _ _ c.pick_from-answered.result c.pick_from-answered.ensures.picks
+
+pub returns-clause-own : goal.returns-clause-own
+returns-clause-own c =
+    picked_as_seen c.args.aseq c.pick_from-answered.result c.args.self.now _ c.args.kernel.now c.pick_from-answered.new.kernel c.pick_from-answered.ensures.picks c.pick_from-answered.ensures.goes_on.err refl refl refl c.count_pick.ensures

@@ -1,5 +1,5 @@
 -- Which threads may be taken over, by what a view tells of each.
-use Rattle.std.proofs.Common.{ℕ, ◌≡◌, ◌&&◌, not, Bool, false, List, Some, None, refl, ap}
+use Rattle.std.proofs.Common.{ℕ, ◌≡◌, ◌&&◌, not, false, List, Some, None, ap}
 use Rattle.pc_kernel.specs.Reads.{Reads}
 use Rattle.pc_thread_view.specs.Told.{Told}
 use Rattle.pc_view.specs.declared.view.View.{View}

@@ -1,8 +1,8 @@
 use Rattle.std.proofs.Common.{sym, ◌∙◌}
 use Rattle.pc_kernel.specs.Reads.{seen}
-use Rattle.pc_agent.proofs.Preys.{told_so, untold}
+use Rattle.pc_agent.proofs.Candidates.{told_so, untold}
 use Rattle.pc_agent.proofs.Walk.{at_end, at_start, found, further, none_less}
-use Rattle.pc_agent.proofs.steal.prey.Goals as goal
+use Rattle.pc_agent.proofs.steal.candidate.Goals as goal
 
 pub loop-thread-init : goal.loop-thread-init
 loop-thread-init c = at_start _ c.args.view.now.threads c.into_iter-thread-iterator.result (c.into_iter-thread-iterator.ensures.into_iter_gives ∙ c.iter-thread-items.ensures.entries)
