@@ -2,7 +2,6 @@ pub mod Lists
 pub mod Taking
 pub mod Ready
 pub mod Stolen
-pub mod Walk
-pub mod Candidates
+pub mod Wanted
 pub mod Delivered
 pub mod Items

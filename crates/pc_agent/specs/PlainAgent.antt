@@ -72,9 +72,13 @@ pick_refused r cpu n names =
 abbrev pub is_idle : Reads → ℕ → Bool
 is_idle r t = is_known r t && is_none (place r t)
 
--- a thread that an agent may take over: it may run here, is not in the run list, and runs nowhere
+-- a thread that an agent would have, whatever the kernel says: it may run here, and is not in the run list
+abbrev pub is_wanted : (ℕ → Bool) → List ℕ → ℕ → Bool
+is_wanted runs list t = runs t && not (has_name list t)
+
+-- a thread that an agent may take over: it is wanted, and runs nowhere
 abbrev pub may_take : Reads → (ℕ → Bool) → List ℕ → ℕ → Bool
-may_take r runs list t = (runs t && not (has_name list t)) && is_idle r t
+may_take r runs list t = is_wanted runs list t && is_idle r t
 
 -- by what the view of the agent's set in the run reports
 abbrev pub may_steal : Reads → Run → ℕ → PlainAgent → ℕ → Bool

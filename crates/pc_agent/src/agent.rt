@@ -1,15 +1,14 @@
 //! One agent.
 
 ghost use Rattle.std.specs.Prelude.{ℕ, ◌≡◌};
-ghost use Rattle.pc_messages.specs.Run.{Run, Extends};
-ghost use Rattle.pc_agent.specs.declared.agent.Agent.{Agent};
-ghost use Rattle.pc_agent.specs.PlainAgent.{PlainAgent};
-ghost use Rattle.pc_agent.specs.Shows.{ShowsAgent, cpu_of};
+ghost use Rattle.pc_messages.specs.Run.{Run};
+ghost use Rattle.pc_run_queue.specs.Runs.{runs_in};
+ghost use Rattle.pc_agent.specs.Inner.Wanted.{IsNoneWantedBelow};
 
 use crate::counts::Counts;
 use pc_messages::{Cpu, Tid};
 use pc_run_queue::RunQueue;
-use pc_view::{View, views_stay_as_the_run_goes_on};
+use pc_view::View;
 use std::alloc::Global;
 
 /// The agent of one CPU: what it knows, which threads it would run, and how much of its queue it has sent to others.
@@ -24,13 +23,17 @@ pub struct Agent {
     pub(crate) list: RunQueue,
     pub(crate) shown: u32,
     pub(crate) counts: Counts,
+    /// Below this name no thread is wanted: each that the view reports ready and allowed here is in the run list. A steal
+    /// begins to look here. What the kernel says plays no part in it.
+    pub(crate) passed: u32,
+    ghost passed_over: { IsNoneWantedBelow passed (runs_in view cpu) list },
 }
 
 impl Agent {
     ghost use Rattle.pc_run_queue.specs.Names.{AreDistinct};
     ghost use Rattle.pc_agent.specs.Counts.{none_counted};
-    ghost use Rattle.pc_agent.specs.PlainAgent.{fresh};
-    ghost use Rattle.pc_agent.specs.Shows.{ShowsView};
+    ghost use Rattle.pc_agent.specs.PlainAgent.{PlainAgent, fresh};
+    ghost use Rattle.pc_agent.specs.Shows.{ShowsAgent, ShowsView, cpu_of};
 
     /// The CPU's agent, who knows nothing. It takes no memory.
     pub fn new(alloc: Global, cpu: Cpu) -> Agent
@@ -45,6 +48,7 @@ impl Agent {
             list: RunQueue::new(alloc),
             shown: 0,
             counts: Counts::new(),
+            passed: 0,
         }
     }
 
@@ -55,6 +59,7 @@ impl Agent {
         ensures cpu { cpu_of self.new ≡ cpu_of self.old }
         ensures counts { self.new.counts ≡ self.old.counts }
     {
+        self.passed = 0;
         self.view = View::new(self.alloc);
         self.list = RunQueue::new(self.alloc);
         self.shown = 0;
@@ -98,12 +103,4 @@ impl Agent {
     {
         self.counts
     }
-}
-
-/// What an agent shows of a run it shows of each run that goes on from it.
-pub fn agents_stay_as_the_run_goes_on()
-    ensures { (longer shorter : Run) (p : PlainAgent) (agent : Agent) → Extends longer shorter → ShowsAgent shorter p agent
-        → ShowsAgent longer p agent }
-{
-    views_stay_as_the_run_goes_on();
 }

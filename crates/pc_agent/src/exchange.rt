@@ -26,6 +26,7 @@ impl Agent {
         ensures cpu { cpu_of self.new ≡ cpu_of self.old }
         ensures counts { self.new.counts ≡ self.old.counts }
     {
+        self.passed = 0;
         take_in(&mut self.view, delta)
     }
 

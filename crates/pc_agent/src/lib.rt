@@ -10,12 +10,14 @@ mod agent;
 mod counts;
 mod exchange;
 mod kept_wire;
+mod laws;
 mod pick;
 mod queue;
 mod steal;
 mod wire;
 
-pub use agent::{Agent, agents_stay_as_the_run_goes_on};
+pub use agent::Agent;
 pub use counts::{Counts, MOST_COUNTED};
 pub use kept_wire::KeptWire;
+pub use laws::agents_stay_as_the_run_goes_on;
 pub use wire::{SendFault, Wire};

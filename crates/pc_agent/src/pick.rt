@@ -1,6 +1,6 @@
 //! How an agent has a thread of its run list run.
 
-ghost use Rattle.std.specs.Prelude.{◌≡◌, ◌≢◌, ◌∷◌, [], List, None, Some, Ok, IfOk, IfErr, OnErr, IsTrue, IsFalse, is_some};
+ghost use Rattle.std.specs.Prelude.{◌≡◌, ◌≢◌, ◌∷◌, [], List, None, Some, Ok, IfOk, IfErr, OnErr, IsTrue, IsFalse, MatchOption, is_some};
 ghost use Rattle.pc_messages.specs.Run.{Extends};
 ghost use Rattle.pc_calls.specs.Conditions.{refusal_in};
 ghost use Rattle.pc_calls.specs.declared.call.Answer.TheVariants.{Done};
@@ -17,6 +17,7 @@ ghost use Rattle.pc_agent.specs.Running.{IsPicked, left_by};
 ghost use Rattle.pc_agent.specs.Shows.{cpu_of};
 ghost use Rattle.pc_agent.specs.Inner.Goes.{GoesOn};
 ghost use Rattle.pc_agent.specs.Inner.Picks.{CommitsFirst, Picks, unready_for};
+ghost use Rattle.pc_agent.specs.Inner.Wanted.{StaysPassed};
 
 use crate::agent::Agent;
 use pc_calls::Refusal;
@@ -24,17 +25,33 @@ use pc_kernel::Kernel;
 use pc_messages::{Cpu, Tid};
 use pc_run_queue::RunQueue;
 
+/// Takes the first name out, which may be wanted again.
+fn take_out(list: &mut RunQueue, passed: &mut u32) -> Option<Tid>
+    ensures first { MatchOption result ((list.old ≡ []) × (list.new ≡ [])) (λ name. list.old ≡ name ∷ list.new) }
+    ensures passed { StaysPassed passed.old list.old passed.new list.new }
+{
+    match list.take_first() {
+        None => None,
+        Some(name) => {
+            *passed = name.index().min(*passed);
+            Some(name)
+        }
+    }
+}
+
 /// Commits the first name that the kernel commits; what stood before it is dropped, and it leaves the list too.
 fn commit_first(
     list: &mut RunQueue,
     kernel: &mut Kernel,
     cpu: Cpu,
     aseq: u32,
+    passed: &mut u32,
 ) -> Result<Tid, Refusal>
     ensures first { CommitsFirst cpu aseq result list.old list.new kernel.old kernel.new }
     ensures goes_on { GoesOn result kernel.old kernel.new }
+    ensures passed { StaysPassed passed.old list.old passed.new list.new }
 {
-    while let Some(name) = list.take_first() {
+    while let Some(name) = take_out(list, passed) {
         match kernel.commit(cpu, name, aseq) {
             Ok(()) => return Ok(name),
             // The name is dropped: it comes back when a further message of it is copied, or by a steal.
@@ -59,14 +76,21 @@ fn unready(kernel: &Kernel, cpu: Cpu, aseq: u32) -> Option<Refusal>
 }
 
 /// A pick from a run list, for a CPU.
-fn pick_from(list: &mut RunQueue, kernel: &mut Kernel, cpu: Cpu, aseq: u32) -> Result<Tid, Refusal>
+fn pick_from(
+    list: &mut RunQueue,
+    kernel: &mut Kernel,
+    cpu: Cpu,
+    aseq: u32,
+    passed: &mut u32,
+) -> Result<Tid, Refusal>
     ensures picks { Picks cpu aseq result list.old list.new kernel.old kernel.new }
     ensures goes_on { GoesOn result kernel.old kernel.new }
+    ensures passed { StaysPassed passed.old list.old passed.new list.new }
 {
     if let Some(refusal) = unready(kernel, cpu, aseq) {
         return Err(refusal);
     }
-    commit_first(list, kernel, cpu, aseq)
+    commit_first(list, kernel, cpu, aseq, passed)
 }
 
 impl Agent {
@@ -90,7 +114,7 @@ impl Agent {
         ensures cpu { cpu_of self.new ≡ cpu_of self.old }
         ensures counts { self.new.counts ≡ pick_counted result self.old.counts }
     {
-        let answered = pick_from(&mut self.list, kernel, self.cpu, aseq);
+        let answered = pick_from(&mut self.list, kernel, self.cpu, aseq, &mut self.passed);
         self.counts.count_pick(&answered);
         answered
     }

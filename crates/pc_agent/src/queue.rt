@@ -65,6 +65,7 @@ impl Agent {
         parts_of_items_are_of_the_run();
         let delta = Delta::of_items(self.alloc, items)?;
         let touched = threads_of(self.alloc, items)?;
+        self.passed = 0;
         take_in(&mut self.view, &delta)?;
         self.list.refresh(&self.view, touched.as_slice(), self.cpu)?;
         Ok(delta)

@@ -1,27 +1,27 @@
 //! How an agent takes a thread over.
 
-ghost use Rattle.std.specs.Prelude.{◌≡◌, ◌≢◌, ◌∷◌, ◌++◌, [], List, None, Some, Ok, IfOk, OnErr, IsTrue, is_some};
+ghost use Rattle.std.specs.Prelude.{◌≡◌, ◌≢◌, ◌∷◌, ◌++◌, ◌+◌, [], List, None, Some, Ok, IfOk, OnErr, IsTrue, is_some};
 ghost use Rattle.pc_messages.specs.Run.{Extends};
 ghost use Rattle.pc_calls.specs.declared.call.Answer.TheVariants.{Done};
 ghost use Rattle.pc_kernel.specs.Answers.{Accepts};
 ghost use Rattle.pc_kernel.specs.Reads.{Reads, seen, kinds_read, is_cpu, on};
 ghost use Rattle.pc_view.specs.Prefixes.{upto_of};
-ghost use Rattle.pc_run_queue.specs.Runs.{may_run, runs_in};
+ghost use Rattle.pc_run_queue.specs.Runs.{runs_in};
 ghost use Rattle.pc_agent.specs.Counts.{steal_counted};
 ghost use Rattle.pc_agent.specs.Own.{StealsAsSeen};
-ghost use Rattle.pc_agent.specs.PlainAgent.{is_idle, may_take};
+ghost use Rattle.pc_agent.specs.PlainAgent.{is_idle, is_wanted, may_take};
 ghost use Rattle.pc_agent.specs.Publishing.{WhateverShown};
 ghost use Rattle.pc_agent.specs.Running.{Finds, IsSeenExactly, Steals, takes_up_to};
 ghost use Rattle.pc_agent.specs.Shows.{cpu_of};
 ghost use Rattle.pc_agent.specs.Inner.Goes.{GoesOn};
+ghost use Rattle.pc_agent.specs.Inner.Wanted.{AreShort, FindsFrom, IsNoneWantedBelow};
 
 use crate::agent::Agent;
 use pc_calls::{CallFault, Refusal};
 use pc_kernel::Kernel;
 use pc_kernel::laws::accepted_associates_are_exact;
-use pc_messages::{Cpu, Phase, Tid};
-use pc_run_queue::RunQueue;
-use pc_thread_view::ThreadView;
+use pc_messages::{Cpu, Tid};
+use pc_run_queue::{RunQueue, runs_on};
 use pc_view::{View, views_tell_what_their_sets_tell};
 
 /// Whether the kernel knows the thread and has it on no CPU.
@@ -34,34 +34,76 @@ fn idles(kernel: &Kernel, thread: Tid) -> bool
     }
 }
 
-/// Whether a thread of which this is known is ready and allowed on the CPU.
-fn runs(held: &ThreadView, cpu: Cpu) -> bool
-    ensures { result ≡ may_run held.now.state cpu }
+/// Whether the view reports the thread ready and allowed on the CPU, and it is not in the run list.
+fn wants(view: &View, list: &RunQueue, cpu: Cpu, thread: Tid) -> bool
+    ensures { result ≡ is_wanted (runs_in view.now cpu) list.now thread }
 {
-    match held.reported() {
-        Some(state) => match state.phase {
-            Phase::Ready => state.mask.allows(cpu),
-            Phase::Blocked | Phase::Dead => false,
-        },
-        None => false,
+    runs_on(view, cpu, thread) && !list.has(thread)
+}
+
+/// The least thread from one on that is wanted.
+fn next_wanted(view: &View, list: &RunQueue, cpu: Cpu, from: u32) -> Option<Tid>
+    ensures finds { FindsFrom (is_wanted (runs_in view.now cpu) list.now) from result }
+    ensures short { AreShort (is_wanted (runs_in view.now cpu) list.now) }
+{
+    let mut start = from;
+    while let Some(name) = view.next(Tid(start)) {
+        if wants(view, list, cpu, name) {
+            return Some(name);
+        }
+        match name.index().checked_add(1) {
+            Some(following) => start = following,
+            None => return None,
+        }
+    }
+    None
+}
+
+/// The least thread after this one that is wanted.
+fn wanted_after(view: &View, list: &RunQueue, cpu: Cpu, thread: Tid) -> Option<Tid>
+    requires { AreShort (is_wanted (runs_in view.now cpu) list.now) }
+    ensures { FindsFrom (is_wanted (runs_in view.now cpu) list.now) (thread + 1) result }
+{
+    match thread.index().checked_add(1) {
+        Some(from) => next_wanted(view, list, cpu, from),
+        None => None,
     }
 }
 
-/// Whether a thread of which this is known may be taken over. The run list, whose answer costs most, is asked last.
-fn may_be_taken(thread: Tid, held: &ThreadView, list: &RunQueue, cpu: Cpu, kernel: &Kernel) -> bool
-    ensures { result ≡ may_take (seen kernel.now) (λ _. may_run held.now.state cpu) list.now thread }
+/// The least thread that is wanted, to which all before are passed.
+fn pass_over(view: &View, list: &RunQueue, cpu: Cpu, passed: &mut u32) -> Option<Tid>
+    requires { IsNoneWantedBelow passed.old (runs_in view.now cpu) list.now }
+    ensures finds { Finds (is_wanted (runs_in view.now cpu) list.now) result }
+    ensures short { AreShort (is_wanted (runs_in view.now cpu) list.now) }
+    ensures passed { IsNoneWantedBelow passed.new (runs_in view.now cpu) list.now }
 {
-    runs(held, cpu) && idles(kernel, thread) && !list.has(thread)
+    let found = next_wanted(view, list, cpu, *passed);
+    *passed = match found {
+        Some(name) => name.index(),
+        None => u32::MAX,
+    };
+    found
 }
 
-/// The least thread that may be taken over: one of those that the view tells of, each of which is looked at once.
-fn candidate(view: &View, list: &RunQueue, cpu: Cpu, kernel: &Kernel) -> Option<Tid>
+/// The least thread that may be taken over: of those that are wanted, from the least on, the first that the kernel knows
+/// and has on no CPU. Each is looked at once.
+fn candidate(
+    view: &View,
+    list: &RunQueue,
+    cpu: Cpu,
+    kernel: &Kernel,
+    least: Option<Tid>,
+) -> Option<Tid>
+    requires least { Finds (is_wanted (runs_in view.now cpu) list.now) least }
+    requires short { AreShort (is_wanted (runs_in view.now cpu) list.now) }
     ensures { Finds (may_take (seen kernel.now) (runs_in view.now cpu) list.now) result }
 {
-    for (thread, held) in view.iter() {
-        if may_be_taken(thread, held, list, cpu, kernel) {
+    let mut wanted = least;
+    while let Some(thread) = wanted {
+        if idles(kernel, thread) {
             return Some(thread);
         }
+        wanted = wanted_after(view, list, cpu, thread);
     }
     None
 }
@@ -72,15 +114,19 @@ fn take_least(
     list: &mut RunQueue,
     kernel: &mut Kernel,
     cpu: Cpu,
+    passed: &mut u32,
 ) -> Result<Tid, CallFault>
+    requires { IsNoneWantedBelow passed.old (runs_in view.now cpu) list.old }
     ensures takes { StealsAsSeen view.now cpu result list.old list.new kernel.old kernel.new }
     ensures goes_on { GoesOn result kernel.old kernel.new }
     ensures left { OnErr result (list.new ≡ list.old) }
+    ensures passed { IsNoneWantedBelow passed.new (runs_in view.now cpu) list.new }
 {
     if kernel.running(cpu).is_some() {
         return Err(CallFault::Refused(Refusal::Busy));
     }
-    let Some(thread) = candidate(view, list, cpu, kernel) else {
+    let least = pass_over(view, list, cpu, passed);
+    let Some(thread) = candidate(view, list, cpu, kernel, least) else {
         return Err(CallFault::Refused(Refusal::NothingToSteal));
     };
     // The name is pushed before the kernel is asked: once it has accepted, nothing may fail.
@@ -120,7 +166,13 @@ impl Agent {
     {
         accepted_associates_are_exact();
         views_tell_what_their_sets_tell();
-        let answered = take_least(&self.view, &mut self.list, kernel, self.cpu);
+        let answered = take_least(
+            &self.view,
+            &mut self.list,
+            kernel,
+            self.cpu,
+            &mut self.passed,
+        );
         self.counts.count_steal(&answered);
         answered
     }

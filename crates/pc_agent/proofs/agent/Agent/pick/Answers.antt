@@ -21,3 +21,6 @@ returns-clause-kernel c = pick_accepted _ _ _ _ _ _ c.pick_from-answered.result 
 pub returns-clause-own : goal.returns-clause-own
 returns-clause-own c =
     picked_as_seen c.args.aseq c.pick_from-answered.result c.args.self.now _ c.args.kernel.now c.pick_from-answered.new.kernel c.pick_from-answered.ensures.picks c.pick_from-answered.ensures.goes_on.err refl refl refl c.count_pick.ensures
+
+pub invariant_of-self : goal.invariant_of-self
+invariant_of-self c = record { passed_over = c.pick_from-answered.ensures.passed _ c.args.self.now.passed_over }

@@ -1,4 +1,4 @@
-use Rattle.pc_agent.proofs.agent.agents_stay_as_the_run_goes_on.Goals as goal
+use Rattle.pc_agent.proofs.laws.agents_stay_as_the_run_goes_on.Goals as goal
 
 pub returns : goal.returns
 returns c longer shorter p agent extends h = record {

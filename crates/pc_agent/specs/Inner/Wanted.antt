@@ -1,0 +1,26 @@
+-- How far no thread is wanted, and the first that is.
+use Rattle.std.specs.Prelude.{ℕ, ◌^◌, ◌<◌, ◌≤◌, ◌≡◌, Bool, true, false, List, Option, Some, None}
+use Rattle.pc_agent.specs.PlainAgent.{is_wanted}
+
+-- no thread below the number is wanted
+abbrev pub IsNoneWantedBelow : ℕ → (ℕ → Bool) → List ℕ → Type 0
+IsNoneWantedBelow number runs list = (t : ℕ) → t < number → is_wanted runs list t ≡ false
+
+-- the same after a change of the run list, whatever may run
+abbrev pub StaysPassed : ℕ → List ℕ → ℕ → List ℕ → Type 0
+StaysPassed passed list lower less = (runs : ℕ → Bool) → IsNoneWantedBelow passed runs list → IsNoneWantedBelow lower runs less
+
+-- each number that passes the test fits 32 bits
+abbrev pub AreShort : (ℕ → Bool) → Type 0
+AreShort test = (t : ℕ) → test t ≡ true → t < 2 ^ 32
+
+-- the number passes the test, and no lesser one does, of those from one on
+pub record IsFirstFrom (test : ℕ → Bool) (from t : ℕ) : Type 0 where
+  pub reached : from ≤ t
+  pub passes : test t ≡ true
+  pub least : (other : ℕ) → from ≤ other → other < t → test other ≡ false
+
+-- this is the least number from one on that passes the test; none is, where no such number passes
+abbrev pub FindsFrom : (ℕ → Bool) → ℕ → Option ℕ → Type 0
+FindsFrom test from None = (t : ℕ) → from ≤ t → test t ≡ false
+FindsFrom test from (Some t) = IsFirstFrom test from t
