@@ -153,7 +153,8 @@ impl Agent {
         ensures steals { WhateverShown kernel.old self.old (λ P run p. Steals P run p result (cpu_of self.old) self.new kernel.new) }
         ensures own { StealsAsSeen self.old.view (cpu_of self.old) result self.old.list self.new.list kernel.old kernel.new }
         ensures exact { IfOk result (λ thread. WhateverShown kernel.old self.old (λ P run p. IsSeenExactly P run p thread)) }
-        ensures kernel { IfOk result (λ thread. Accepts (takes_up_to (upto_of self.old.view) (cpu_of self.old) thread) Done kernel.old kernel.new) }
+        ensures kernel { IfOk result (λ thread.
+            Accepts (takes_up_to (upto_of self.old.view) (cpu_of self.old) thread) Done kernel.old kernel.new) }
         ensures taken { IfOk result (λ thread. self.new.list ≡ self.old.list ++ thread ∷ []) }
         ensures limits { kernel.new.limits ≡ kernel.old.limits }
         ensures extends { Extends (kinds_read (seen kernel.new)) (kinds_read (seen kernel.old)) }

@@ -2,9 +2,9 @@
 
 use pc_agent::{Agent, Counts, KeptWire, MOST_COUNTED, SendFault};
 use pc_calls::{CallFault, Limits, Refusal};
-use pc_delta::{Delta, Digest};
+use pc_delta::{Delta, Digest, Part};
 use pc_kernel::Kernel;
-use pc_messages::{Cpu, Tid};
+use pc_messages::{Cpu, Kind, Mask, Message, Tid};
 use pc_view::View;
 use std::alloc::Global;
 use std::test::Fail;
@@ -134,6 +134,31 @@ fn answered_beyond(
         return None;
     }
     Some(agent.answer_beyond(other.view(), wire))
+}
+
+/// A delta that tells that t5 was created, ready, with a mask of both CPUs; the kernels here have no such thread.
+fn tells_of_t5(alloc: Global) -> Option<Delta> {
+    let message = Message {
+        thread: Tid(5),
+        number: 1,
+        kind: Kind::Created {
+            mask: Mask::new(3, 2).ok()?,
+            ready: true,
+        },
+    };
+    let mut parts = Vec::new(alloc);
+    parts.push(Part::One(message)).ok()?;
+    Delta::from_parts(parts).ok()
+}
+
+/// An agent of CPU 0 that was told so.
+fn told_of_t5(alloc: Global) -> Option<Agent> {
+    let delta = tells_of_t5(alloc)?;
+    let mut agent = Agent::new(alloc, Cpu(0));
+    match agent.deliver(&delta) {
+        Ok(()) => Some(agent),
+        Err(_) => None,
+    }
 }
 
 fn lists(agent: &Agent, wanted: &[u32]) -> bool {
@@ -368,17 +393,29 @@ fn an_answer_tells_what_a_digest_lacks(rt: HostRuntime) -> Result<(), Fail> {
 }
 
 #[test]
-fn an_answer_is_refused_as_a_send_is(rt: HostRuntime) {
-    let agent = Agent::new(rt.alloc(), Cpu(0));
+fn a_thread_that_the_kernel_does_not_know_is_not_stolen(rt: HostRuntime) -> Result<(), Fail> {
+    let mut agent = told_of_t5(rt.alloc()).ok_or("no agent")?;
+    assert!(rt; agent.view().knows(Tid(5), 1));
+    let mut kernel = two_cpus(rt.alloc()).ok_or("no kernel")?;
+    assert!(rt; steal_refusal(&mut agent, &mut kernel) == Some(Refusal::NothingToSteal));
+    assert!(rt; lists(&agent, &[]));
+    Ok(())
+}
+
+#[test]
+fn an_answer_is_refused_as_a_send_is(rt: HostRuntime) -> Result<(), Fail> {
+    let agent = told_of_t5(rt.alloc()).ok_or("no agent")?;
     let other = Agent::new(rt.alloc(), Cpu(1));
     let mut wire = KeptWire::new(rt.alloc());
     wire.set_refuses(true);
     let beyond = answered_beyond(&agent, &other, &mut wire);
     assert_eq!(rt; beyond, Some(Err(SendFault::WireFault)));
+    assert_eq!(rt; wire.faults(), 1);
     let digest = answered(rt.alloc(), &agent, &other, &mut wire);
     assert_eq!(rt; digest, Some(Err(SendFault::WireFault)));
     assert_eq!(rt; wire.faults(), 2);
     assert_eq!(rt; wire.sent().len(), 0);
+    Ok(())
 }
 
 #[test]
