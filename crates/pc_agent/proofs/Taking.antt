@@ -12,6 +12,7 @@ use Rattle.pc_delta.specs.Exchange.{IsTakenIn, IsPartlyTakenIn}
 use Rattle.pc_agent.specs.PlainAgent.{Set}
 use Rattle.pc_agent.specs.Shows.{ShowsDelta, ShowsView}
 use Rattle.pc_agent.proofs.Lists.{as_members-append}
+use Rattle.pc_messages.proofs.Bools.{or_left, or_right}
 
 pub view_takes : (run : Run) (set gained : Set) (old new : View) (delta : List Part) → ShowsView run set old → IsTakenIn delta old new → ShowsDelta run gained delta → ShowsView run (set ++ gained) new
 view_takes run set gained old new delta was taken tells = record {
@@ -22,14 +23,6 @@ view_takes run set gained old new delta was taken tells = record {
 -- the pairs of a list that a set has
 abbrev kept : Members → Set → Set
 kept members pairs = filter (λ pair. members (pair.0 ∷ pair.1 ∷ [])) pairs
-
-or_left : (a b : Bool) → a ≡ true → (a || b) ≡ true
-or_left true b e = refl
-or_left false b e = absurd (false≢true e)
-
-or_right : (a b : Bool) → b ≡ true → (a || b) ≡ true
-or_right true b e = refl
-or_right false b e = e
 
 and_false : (b : Bool) → (b && false) ≡ false
 and_false true = refl

@@ -6,7 +6,7 @@ use Rattle.pc_join.specs.Sets.{IsUnion, IsSameSet}
 use Rattle.pc_join.specs.Ranges.{in_range, in_ranges, numbers_in, AreApart, numbers_from_to, one_to}
 use Rattle.pc_thread_view.specs.Told.{Told, IsSound, RiseAbove, numbers_of, tells, is_early}
 use Rattle.pc_join.proofs.Joins.{or_assoc}
-use Rattle.pc_delta.proofs.Bools.{or_none}
+use Rattle.pc_messages.proofs.Bools.{or_none}
 use Rattle.pc_delta.proofs.Lists.{left_item, none_left}
 
 pub prefix_gathered : (old new : List (ℕ × ℕ)) (upto : ℕ) → old ≡ [] → IsUnion (numbers_in old) (numbers_from_to 1 upto) (numbers_in new) → (n : ℕ) → in_ranges new n ≡ one_to upto n

@@ -12,7 +12,8 @@ use Rattle.pc_delta.specs.Parts.{set_of_part, set_of, AreOfRun, IsPartOfRun, all
 use Rattle.pc_delta.specs.Faults.{first_fault, fault_of}
 use Rattle.pc_delta.specs.Exchange.{IsTakenIn, IsPartlyTakenIn}
 use Rattle.pc_join.proofs.Joins.{or_assoc}
-use Rattle.pc_delta.proofs.Bools.{or_left, or_none, or_again}
+use Rattle.pc_delta.proofs.Bools.{or_again}
+use Rattle.pc_messages.proofs.Bools.{or_left, or_none}
 use Rattle.pc_delta.proofs.Lists.{all_left, all_right, all_first, left_item, none_left}
 
 pub set_of-append : (xs ys : List Part) (m : List ℕ) → set_of (xs ++ ys) m ≡ (set_of xs m || set_of ys m)

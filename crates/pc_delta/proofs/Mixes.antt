@@ -9,7 +9,7 @@ use Rattle.pc_delta.specs.declared.part.Part.{Part}
 use Rattle.pc_delta.specs.Parts.{AreOfRun, set_of}
 use Rattle.pc_delta.specs.Exchange.{IsTakenIn, Takes, TakesEach, all_of}
 use Rattle.pc_join.proofs.Joins.{or_assoc}
-use Rattle.pc_delta.proofs.Bools.{or_none}
+use Rattle.pc_messages.proofs.Bools.{or_none}
 
 pub delta_taken : (run : Run) (parts : List Part) (old new : View) → AreOfRun run parts → IsTakenIn parts old new → Takes run (set_of parts) old new
 delta_taken run parts old new of_parts taken = record { union = taken.union; of_run = λ of_old. taken.of_run run of_old of_parts }

@@ -8,7 +8,8 @@ use Rattle.pc_join.proofs.Joins.{as_members-append, as_members-none}
 use Rattle.pc_delta.specs.declared.part.Part.{Part}
 use Rattle.pc_delta.specs.declared.part.Part.TheVariants.{One, Folded}
 use Rattle.pc_delta.specs.Parts.{set_of_part, set_of, pairs_of_part, pairs_of_parts}
-use Rattle.pc_delta.proofs.Bools.{or_none, and_none}
+use Rattle.pc_delta.proofs.Bools.{and_none}
+use Rattle.pc_messages.proofs.Bools.{or_none}
 
 eq_turn : (a b : ℕ) → (a == b) ≡ (b == a)
 eq_turn a b = grind (arith, nat_tests)

@@ -1,5 +1,5 @@
 -- Parts that tell items.
-use Rattle.std.proofs.Common.{ℕ, zero, suc, ◌+◌, ◌<◌, ◌≤◌, ◌≡◌, List, [], ◌∷◌, ◌++◌, length, take, get_or, None, refl, sym, ap, ◌∙◌, subst, arith}
+use Rattle.std.proofs.Common.{ℕ, zero, suc, ◌+◌, ◌<◌, ◌≤◌, ◌≡◌, List, [], ◌∷◌, ◌++◌, length, take, get_or, None, refl, sym, ap, ◌∙◌, subst, arith, append-nil}
 use Rattle.std.specs.List.{Contains}
 use Rattle.std.specs.Option.{option_or}
 use Rattle.std.proofs.lemmas.List.Elements.{filter_map-append}
@@ -21,10 +21,6 @@ use Rattle.pc_delta.proofs.Pairs.{parts_pairs}
 pub parts_more : (items : List Item) (i : ℕ) (item : Item) → item ≡ get_or items i item → i < length items → parts_in (take (i + 1) items) ≡ parts_in (take i items) ++ parts_in (item ∷ [])
 parts_more items i item e lt = ap parts_in (taken_item items i item e lt) ∙ filter_map-append part_in (take i items) (item ∷ [])
 
-append_none : {X : Type 0} (xs : List X) → xs ++ [] ≡ xs
-append_none [] = refl
-append_none (x ∷ xs) = ap (λ ys. x ∷ ys) (append_none xs)
-
 -- a message among the items is a part more, and a tick is none
 pub told_message : (items : List Item) (i : ℕ) (item : Item) (message : Message) (old new : List Part) → item ≡ get_or items i item → i < length items → item ≡ Thread message → old ≡ parts_in (take i items) → new ≡ old ++ One message ∷ []
     → new ≡ parts_in (take (i + 1) items)
@@ -33,7 +29,7 @@ told_message items i item message old new e lt is so push =
 
 pub told_tick : (items : List Item) (i : ℕ) (item : Item) (cpu : ℕ) (old : List Part) → item ≡ get_or items i item → i < length items → item ≡ Tick cpu → old ≡ parts_in (take i items) → old ≡ parts_in (take (i + 1) items)
 told_tick items i item cpu old e lt is so =
-    so ∙ sym (append_none (parts_in (take i items))) ∙ ap (λ it. parts_in (take i items) ++ parts_in (it ∷ [])) (sym is) ∙ sym (parts_more items i item e lt)
+    so ∙ sym (append-nil (parts_in (take i items))) ∙ ap (λ it. parts_in (take i items) ++ parts_in (it ∷ [])) (sym is) ∙ sym (parts_more items i item e lt)
 
 pub told_every : (items : List Item) (i : ℕ) (parts : List Part) → length items ≤ i → parts ≡ parts_in (take i items) → parts ≡ parts_in items
 told_every items i parts le so = so ∙ ap parts_in (all_taken items i le)

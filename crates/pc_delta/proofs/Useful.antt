@@ -1,5 +1,5 @@
 -- Parts that an asker lacks.
-use Rattle.std.proofs.Common.{ℕ, ◌+◌, ◌<◌, ◌≤◌, ◌≡◌, ◌==◌, ◌||◌, nat_lt, true, false, List, [], ◌∷◌, ◌++◌, length, drop, get_or, Option, Some, None, refl, sym, ap, ◌∙◌, subst, arith, inl, inr}
+use Rattle.std.proofs.Common.{ℕ, ◌+◌, ◌<◌, ◌≤◌, ◌≡◌, ◌==◌, ◌||◌, nat_lt, true, false, List, [], ◌∷◌, ◌++◌, length, drop, get_or, Option, Some, None, refl, sym, ap, ◌∙◌, subst, arith, inl, inr, append-nil}
 use Rattle.std.specs.List.{All}
 use Rattle.std.specs.Option.{is_some, option_or, MatchOption}
 use Rattle.std.specs.FinMap as map
@@ -30,7 +30,7 @@ use Rattle.pc_delta.specs.Parts.{set_of_part, set_of, IsPartOfRun}
 use Rattle.pc_delta.specs.Exchange.{IsAnswerTo, IsNews}
 use Rattle.pc_delta.specs.Inner.Answering.{IsLacking, IsUseful, IsUsefulOf, IsToldAt, IsOneOf, KnowsPrefix, TellsAll, TellsPrefix, asked_by, listed}
 use Rattle.std.proofs.lemmas.Bool.{and_parts}
-use Rattle.pc_delta.proofs.Bools.{or_left, or_right, or_cases, both}
+use Rattle.pc_messages.proofs.Bools.{both, or_cases, or_left, or_right}
 use Rattle.pc_delta.proofs.Lists.{all_none, all_first, all_rest, all_cons, left_item, none_left}
 use Rattle.pc_delta.proofs.Intake.{set_of-append}
 
@@ -61,12 +61,8 @@ at_name : (name : ℕ) (s : Members) (t : ℕ) (m : List ℕ) → members_at nam
 at_name name s t m h = let parts = and_parts (t == name) (s m) h in (equal t name parts.0, parts.1)
 
 -- the parts of a list with one more item, where there is one
-append_none : {X : Type 0} (xs : List X) → xs ++ [] ≡ xs
-append_none [] = refl
-append_none (x ∷ xs) = ap (λ ys. x ∷ ys) (append_none xs)
-
 all_listed : (P : Part → Type 0) (old new : List Part) (o : Option Part) → new ≡ old ++ listed o → All P old → ((part : Part) → o ≡ Some part → P part) → All P new
-all_listed P old new None e all here = subst (λ xs. All P xs) (sym (e ∙ append_none old)) all
+all_listed P old new None e all here = subst (λ xs. All P xs) (sym (e ∙ append-nil old)) all
 all_listed P old new (Some part) e all here = subst (λ xs. All P xs) (sym e) (All-push P old part all (here part refl))
 
 kept_listed : (old new : List Part) (o : Option Part) → new ≡ old ++ listed o → IsWithin (set_of old) (set_of new)

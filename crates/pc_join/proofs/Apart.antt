@@ -8,6 +8,7 @@ use Rattle.pc_join.specs.Inner.Turns.{IsNotAfter, IsTurn}
 use Rattle.std.proofs.lemmas.Bool.{false≢true}
 use Rattle.std.specs.List.{refill}
 use Rattle.std.proofs.Math.Seq.{set-append_seam, take-append_seam}
+use Rattle.pc_messages.proofs.Bools.{or_left, or_none}
 
 -- ranges after which there is one more
 pub apart_wider : (n : ℕ) (front : List (ℕ × ℕ)) (f t u : ℕ) → AreApart n (front ++ (f, t) ∷ []) → t ≤ u → AreApart n (front ++ (f, u) ∷ [])
@@ -124,10 +125,6 @@ taken_right false true true r x = refl
 taken_right false true false r x = refl
 taken_right false false l r x = refl
 
-or_left : (a b : Bool) → a ≡ true → (a || b) ≡ true
-or_left true b e = refl
-or_left false b e = absurd (false≢true e)
-
 -- how far they have been joined, after a turn
 module _ (old first other now : List (ℕ × ℕ)) (new : List (ℕ × ℕ)) (e : ℕ × ℕ) (s : IsStretched now e new) where
   took_left : (es right : List (ℕ × ℕ)) → IsNotAfter e right → IsMerging old first other now (e ∷ es) right → IsMerging old first other new es right
@@ -163,10 +160,6 @@ module _ (old first other now : List (ℕ × ℕ)) (new : List (ℕ × ℕ)) (e 
   took left right ls rs h (inr t) =
       let before : IsMerging old first other now left (e ∷ rs) = subst (λ x. IsMerging old first other now left x) t.0 h in
       subst (λ x. IsMerging old first other new x rs) (sym t.1) (took_right left rs t.2 before)
-
-or_none : (a : Bool) → (a || (false || false)) ≡ a
-or_none true = refl
-or_none false = refl
 
 pub merged : (old first other now left right : List (ℕ × ℕ)) → IsMerging old first other now left right → left ≡ [] → right ≡ [] → IsEither (in_ranges old) (λ n. in_ranges first n || in_ranges other n) (in_ranges now)
 merged old first other now left right h l r =

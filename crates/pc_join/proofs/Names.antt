@@ -13,6 +13,7 @@ use Rattle.pc_join.specs.Sets.{Members, Source, IsWithin, IsVoid, IsUnion, IsBet
 use Rattle.pc_join.specs.ByName.{known_in, members_by_name, HoldsNoEmpty, HasShortNames, IsOfByName}
 use Rattle.pc_join.specs.Inner.Puts.{IsJoinedAt, IsPut, IsWholeAt, HasNoVoid, IsCovered}
 use Rattle.pc_join.proofs.Puts.{joined_nothing, shown, joined_shown, whole_shown}
+use Rattle.pc_messages.proofs.Bools.{or_left, or_right}
 
 -- what the entries that are left have under a name
 abbrev pub left_at : {V : Type 0} → List (ℕ × V) → ℕ → Option V
@@ -48,14 +49,6 @@ found_rest values k v left h i d lt = h (suc i) d (omega arith)
 
 by_name : (P : ℕ → Type 0) (name : ℕ) → P name → ((q : ℕ) → ¬ (q ≡ name) → P q) → (q : ℕ) → P q
 by_name P name here others q = elim (same_name q name) [ inl e ↦ subst P (sym e) here | inr ne ↦ others q ne ]
-
-or_left : (a b : Bool) → a ≡ true → (a || b) ≡ true
-or_left true b e = refl
-or_left false b e = absurd (false≢true e)
-
-or_right : (a b : Bool) → b ≡ true → (a || b) ≡ true
-or_right true b e = refl
-or_right false b e = e
 
 or_cases : {P : Type 0} (a b : Bool) → (a || b) ≡ true → (a ≡ true → P) → (b ≡ true → P) → P
 or_cases true b e f g = f refl

@@ -10,10 +10,7 @@ use Rattle.std.proofs.lemmas.Bool.Decides.{nat_tests}
 use Rattle.pc_join.specs.Sets.{Members, Source, IsWithin, IsVoid, IsUnion, IsBetween, members_at, source_at}
 use Rattle.pc_join.specs.ByName.{known_in, members_by_name, HoldsNoEmpty, HasShortNames, IsOfByName, IsLeastFrom, IsNextName}
 use Rattle.pc_join.specs.Inner.Puts.{IsJoinedAt, IsPut, IsWholeAt}
-
-pub or_none : (b : Bool) → b ≡ (b || false)
-or_none true = refl
-or_none false = refl
+use Rattle.pc_messages.proofs.Bools.{or_none}
 
 -- the map that is shown has what the tree has
 pub shown : {V : Type 0} (m : BTreeMap ℕ V) (q : ℕ) → map.get (map.from_entries {R = nat_cmp} m.entries) q ≡ tree.get nat_cmp m q
@@ -120,7 +117,7 @@ module _ {V : Type 0} (known : V → Members) (is_of : V → Source → Type 0) 
     union_by_name whole [] = refl
     union_by_name whole (t ∷ m) = by_name (λ q. known_in known (map.get new q) m ≡ (known_in known (map.get old q) m || ((q == name) && known value m)))
         (whole m ∙ ap (λ b. known_in known (map.get old name) m || b) (sym (at_same (known value) m)))
-        (λ q ne. ap (λ x. known_in known x m) (put.others q ne) ∙ or_none (known_in known (map.get old q) m) ∙ ap (λ b. known_in known (map.get old q) m || b) (sym (at_other (known value) m q ne))) t
+        (λ q ne. ap (λ x. known_in known x m) (put.others q ne) ∙ sym (or_none (known_in known (map.get old q) m)) ∙ ap (λ b. known_in known (map.get old q) m || b) (sym (at_other (known value) m q ne))) t
 
     at_least_by_name : IsWithin (members_by_name known old) (members_by_name known new)
     at_least_by_name [] e = e
@@ -132,7 +129,7 @@ module _ {V : Type 0} (known : V → Members) (is_of : V → Source → Type 0) 
     at_most_by_name [] e = e
     at_most_by_name (t ∷ m) e = by_name (λ q. known_in known (map.get new q) m ≡ true → (known_in known (map.get old q) m || ((q == name) && known value m)) ≡ true)
         (λ f. ap (λ b. known_in known (map.get old name) m || b) (at_same (known value) m) ∙ put.here.between.at_most m f)
-        (λ q ne f. ap (λ b. known_in known (map.get old q) m || b) (at_other (known value) m q ne) ∙ sym (or_none (known_in known (map.get old q) m)) ∙ ap (λ x. known_in known x m) (sym (put.others q ne)) ∙ f) t e
+        (λ q ne f. ap (λ b. known_in known (map.get old q) m || b) (at_other (known value) m q ne) ∙ or_none (known_in known (map.get old q) m) ∙ ap (λ x. known_in known x m) (sym (put.others q ne)) ∙ f) t e
 
     pub between_by_name : IsBetween (members_by_name known old) (members_at name (known value)) (members_by_name known new)
     between_by_name = record { at_least = at_least_by_name; at_most = at_most_by_name }
@@ -213,7 +210,7 @@ module _ {V : Type 0} (known : V → Members) (a : map.FinMap nat_cmp V) (name :
 
   pub void_union : IsUnion (members_by_name known a) (members_at name (known value)) (members_by_name known a)
   void_union [] = refl
-  void_union (t ∷ m) = or_none (known_in known (map.get a t) m) ∙ ap (λ b. known_in known (map.get a t) m || b) (sym (nothing t m))
+  void_union (t ∷ m) = sym (or_none (known_in known (map.get a t) m)) ∙ ap (λ b. known_in known (map.get a t) m || b) (sym (nothing t m))
 
   pub void_between : IsBetween (members_by_name known a) (members_at name (known value)) (members_by_name known a)
   void_between = record { at_least = λ m e. e; at_most = λ m e. sym (void_union m) ∙ e }

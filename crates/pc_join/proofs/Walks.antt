@@ -6,15 +6,12 @@ use Rattle.pc_join.specs.Sets.{IsVoid, IsWithin}
 use Rattle.pc_join.specs.Ranges.{in_range, in_ranges, numbers_in, AreApart}
 use Rattle.pc_join.specs.Inner.Ranges.{AreInside}
 use Rattle.pc_join.specs.Inner.RangeLaws.{above_range, lacks_below, has_first, lacks_gap}
+use Rattle.pc_messages.proofs.Bools.{or_none, or_right}
 
 -- the first range cannot have a number of later ranges
 drop_or : (a b : Bool) → a ≡ false → (a || b) ≡ true → b ≡ true
 drop_or true b e h = absurd (false≢true (sym e))
 drop_or false b e h = h
-
-or_right : (a b : Bool) → b ≡ true → (a || b) ≡ true
-or_right true b h = refl
-or_right false b h = h
 
 above_start : (k n : ℕ) (rs : List (ℕ × ℕ)) → AreApart k rs → in_ranges rs n ≡ true → k < n
 above_start k n rs h e = elim (cases n k) [ inl le ↦ absurd (false≢true (sym (lacks_below k rs n h le) ∙ e)) | inr lt ↦ lt ]
@@ -172,12 +169,8 @@ pub no_items : {X : Type 0} (xs : List X) → length xs ≡ 0 → xs ≡ []
 no_items [] e = refl
 no_items (x ∷ xs) e = absurd (omega arith)
 
-or_none : (b : Bool) → b ≡ (b || false)
-or_none true = refl
-or_none false = refl
-
 one_left : (range : ℕ × ℕ) (rest : List (ℕ × ℕ)) (n : ℕ) → length (range ∷ rest) ≤ 1 → in_range range n ≡ in_ranges (range ∷ rest) n
-one_left range [] n h = or_none (in_range range n)
+one_left range [] n h = sym (or_none (in_range range n))
 one_left range (r ∷ rs) n h = absurd (omega arith)
 
 -- where one range is left, it decides

@@ -1,14 +1,10 @@
 -- Names that are taken one after another.
-use Rattle.std.proofs.Common.{ℕ, ◌≡◌, ◌==◌, ◌||◌, ◌&&◌, not, cond, Bool, true, false, List, [], ◌∷◌, ◌++◌, filter, refl, sym, ap, ◌∙◌}
+use Rattle.std.proofs.Common.{ℕ, ◌≡◌, ◌==◌, ◌||◌, ◌&&◌, not, cond, Bool, true, false, List, [], ◌∷◌, ◌++◌, filter, refl, sym, ap, ◌∙◌, append-nil}
 use Rattle.std.proofs.lemmas.Bool.{false≢true}
 use Rattle.std.proofs.lemmas.List.{append_assoc}
 use Rattle.std.proofs.lemmas.List.Folds.{list_any-append}
 use Rattle.pc_run_queue.specs.Names.{has_name, AreDistinct, without, firsts, with_new}
 use Rattle.pc_run_queue.proofs.Counts.{eq_true, eq_sym, without_absent}
-
-pub append_none : (xs : List ℕ) → xs ++ [] ≡ xs
-append_none [] = refl
-append_none (x ∷ xs) = ap (λ l. x ∷ l) (append_none xs)
 
 -- filters that pass the same
 pub filter_same : (p q : ℕ → Bool) (xs : List ℕ) → ((t : ℕ) → p t ≡ q t) → filter p xs ≡ filter q xs

@@ -20,8 +20,8 @@ use Rattle.pc_agent.specs.PlainAgent.{Set}
 use Rattle.pc_world.specs.PlainWorld.{PlainWorld}
 use Rattle.pc_world.specs.Steps.{are_cpus}
 use Rattle.pc_sim.specs.Reads.{HasAll, IsAsleep, IsComparing, IsCompleting, IsCompleteness, IsNowhere, IsRead, IsSameness, IsShow, IsShowing, IsStatus}
-use Rattle.pc_sim.proofs.Bools.{both, or_left, or_right}
-use Rattle.pc_sim.proofs.Rows.{rows_of, cases_or, first_true, second_true, same_number}
+use Rattle.pc_messages.proofs.Bools.{both, first_true, or_cases, or_left, or_right, second_true}
+use Rattle.pc_sim.proofs.Rows.{rows_of, same_number}
 use Rattle.pc_sim.proofs.Statuses.{phase_some}
 
 -- an answer where the CPU is there; else the refusal
@@ -58,7 +58,7 @@ within a b = list_all (λ p. has b p.0 p.1) a
 
 within_has : (a b : Set) → within a b ≡ true → (t n : ℕ) → has a t n ≡ true → has b t n ≡ true
 within_has [] b h t n e = absurd (false≢true e)
-within_has (p ∷ a) b h t n e = elim (cases_or ((p.0 == t) && (p.1 == n)) (has a t n) e) [
+within_has (p ∷ a) b h t n e = elim (or_cases ((p.0 == t) && (p.1 == n)) (has a t n) e) [
   | inl here ↦
       subst (λ k. has b t k ≡ true) (same_number p.1 n (second_true (p.0 == t) (p.1 == n) here))
       (subst (λ k. has b k p.1 ≡ true) (same_number p.0 t (first_true (p.0 == t) (p.1 == n) here))

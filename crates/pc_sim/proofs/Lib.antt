@@ -1,5 +1,4 @@
 pub mod Answerable
-pub mod Bools
 pub mod GoingOn
 pub mod Looking
 pub mod Outputs

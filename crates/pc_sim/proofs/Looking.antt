@@ -25,7 +25,7 @@ use Rattle.pc_world.specs.Shows.{IsViewAt}
 use Rattle.pc_world.specs.Steps.{are_cpus}
 use Rattle.pc_sim.specs.Inner.Showing.{rows_told, ShowsAll}
 use Rattle.pc_sim.specs.Reads.{HasAll, IsAsleep, IsComparing, IsCompleting, IsShowing}
-use Rattle.pc_sim.proofs.Bools.{both}
+use Rattle.pc_messages.proofs.Bools.{both}
 use Rattle.pc_sim.proofs.Showing.{shows_all}
 use Rattle.pc_sim.proofs.Shown.{rows_shown}
 

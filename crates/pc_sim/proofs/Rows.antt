@@ -15,7 +15,7 @@ use Rattle.pc_view.specs.Prefixes.{top, upto}
 use Rattle.pc_script.specs.declared.lists.ShownThread.{ShownThread}
 use Rattle.pc_agent.specs.PlainAgent.{Set}
 use Rattle.pc_sim.specs.ShownViews.{IsPrefix, IsShown, IsShownThread}
-use Rattle.pc_sim.proofs.Bools.{both, or_left, or_right, or_else}
+use Rattle.pc_messages.proofs.Bools.{both, first_true, or_cases, or_else, or_left, or_right, second_true}
 
 -- ---- ranges of numbers
 range_next : (a n k : ℕ) → suc k < length (range_with_len a n) → slice_index (range_with_len a n) k < slice_index (range_with_len a n) (suc k)
@@ -69,21 +69,9 @@ pair_of (p ∷ set) t e = elim (eqb_tells p.0 t) [
       (more.0, or_right ((p.0 == t) && (p.1 == more.0)) (has set t more.0) more.1)
 ]
 
-pub first_true : (a b : Bool) → (a && b) ≡ true → a ≡ true
-first_true true b e = refl
-first_true false b e = e
-
-pub second_true : (a b : Bool) → (a && b) ≡ true → b ≡ true
-second_true true b e = e
-second_true false b e = absurd (false≢true e)
-
-pub cases_or : (a b : Bool) → (a || b) ≡ true → (a ≡ true) ⊎ (b ≡ true)
-cases_or true b e = inl refl
-cases_or false b e = inr e
-
 told_of_pair : (set : Set) (t n : ℕ) → has set t n ≡ true → is_told set t ≡ true
 told_of_pair [] t n e = absurd (false≢true e)
-told_of_pair (p ∷ set) t n e = elim (cases_or ((p.0 == t) && (p.1 == n)) (has set t n) e) [
+told_of_pair (p ∷ set) t n e = elim (or_cases ((p.0 == t) && (p.1 == n)) (has set t n) e) [
   | inl here ↦ or_left (p.0 == t) (is_told set t) (first_true (p.0 == t) (p.1 == n) here)
   | inr later ↦ or_right (p.0 == t) (is_told set t) (told_of_pair set t n later)
 ]
@@ -93,7 +81,7 @@ name_below [] t e = absurd (false≢true e)
 name_below (p ∷ set) t e =
     let left : p.0 ≤ max p.0 (greatest set) = le-max_left p.0 (greatest set) in
     let right : greatest set ≤ max p.0 (greatest set) = le-max_right p.0 (greatest set) in
-    elim (cases_or (p.0 == t) (is_told set t) e) [
+    elim (or_cases (p.0 == t) (is_told set t) e) [
       | inl here ↦ let same = same_number p.0 t here in omega (arith, left, same)
       | inr later ↦ let low = name_below set t later in omega (arith, right, low)
     ]
@@ -103,7 +91,7 @@ number_below [] t n e = absurd (false≢true e)
 number_below (p ∷ set) t n e =
     let left : p.1 ≤ max p.1 (top set) = le-max_left p.1 (top set) in
     let right : top set ≤ max p.1 (top set) = le-max_right p.1 (top set) in
-    elim (cases_or ((p.0 == t) && (p.1 == n)) (has set t n) e) [
+    elim (or_cases ((p.0 == t) && (p.1 == n)) (has set t n) e) [
       | inl here ↦ let same = same_number p.1 n (second_true (p.0 == t) (p.1 == n) here) in omega (arith, left, same)
       | inr later ↦ let low = number_below set t n later in omega (arith, right, low)
     ]

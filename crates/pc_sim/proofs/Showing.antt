@@ -10,7 +10,7 @@ use Rattle.pc_join.proofs.Entries.{at_first, at_later, entries_ascend, same_or_o
 use Rattle.pc_thread_view.specs.Told.{Told}
 use Rattle.pc_script.specs.declared.lists.ShownThread.{ShownThread}
 use Rattle.pc_sim.specs.Inner.Showing.{row_told, rows_told, IsRow, ShowsAll}
-use Rattle.pc_sim.proofs.Bools.{or_left, or_right}
+use Rattle.pc_messages.proofs.Bools.{or_left, or_right}
 use Rattle.pc_sim.proofs.Telling.{names_rise}
 
 -- each entry stands under its name

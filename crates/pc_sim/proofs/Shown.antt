@@ -19,7 +19,7 @@ use Rattle.pc_agent.specs.PlainAgent.{Set}
 use Rattle.pc_sim.specs.ShownViews.{IsPrefix, IsShown, IsShownThread}
 use Rattle.pc_sim.specs.Inner.Showing.{IsRow, ShowsAll}
 use Rattle.pc_sim.proofs.Telling.{told_prefix, told_ends, told_early, numbers_above, numbers_rise, numbers_early}
-use Rattle.pc_sim.proofs.Bools.{or_left, or_right}
+use Rattle.pc_messages.proofs.Bools.{or_left, or_right}
 
 -- what is told of a thread that is known is not nothing
 void_of : (told : Told) → ((n : ℕ) → tells told n ≡ false) → IsVoid (numbers_of told)

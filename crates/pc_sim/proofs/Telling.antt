@@ -9,7 +9,7 @@ use Rattle.pc_messages.specs.declared.kind.Kind.{Kind}
 use Rattle.pc_join.specs.ByName.{AscendFrom}
 use Rattle.pc_join.specs.Ranges.{one_to}
 use Rattle.pc_thread_view.specs.Told.{Told, tells, is_early, RiseAbove}
-use Rattle.pc_sim.proofs.Bools.{or_left, or_else}
+use Rattle.pc_messages.proofs.Bools.{or_else, or_left}
 
 -- names that ascend are each below the next
 next_above : {V : Type 0} (n : ℕ) (es : List (ℕ × V)) → AscendFrom n es → (k : ℕ) → suc k < length (map (λ e. e.0) es)

@@ -9,6 +9,7 @@ use Rattle.pc_join.specs.Ranges.{one_to}
 use Rattle.pc_join.specs.Sets.{Source, IsWithin, IsVoid}
 use Rattle.pc_thread_view.specs.Inner.ToldLaws.{lacks_below}
 use Rattle.pc_thread_view.proofs.Gaining.{rise_from}
+use Rattle.pc_messages.proofs.Bools.{or_left, or_right}
 
 other_number : (a b : ℕ) → a < b → (a == b) ≡ false
 other_number a b h = grind (arith, nat_tests)
@@ -34,14 +35,6 @@ here d ds = ap (λ b. b || is_early ds d.0) (itself d.0)
   where
     itself : (n : ℕ) → (n == n) ≡ true
     itself n = grind (arith, nat_tests)
-
-or_left : (a b : Bool) → a ≡ true → (a || b) ≡ true
-or_left true b h = refl
-or_left false b h = absurd (false≢true h)
-
-pub or_right : (a b : Bool) → b ≡ true → (a || b) ≡ true
-or_right true b h = refl
-or_right false b h = h
 
 -- the next one asked for is there
 next_there : (upto : ℕ) (next : ℕ × Kind) (more held : List (ℕ × Kind)) → (one_to upto next.0 || is_early held next.0) ≡ true → AreAmong (next ∷ more) upto held ↔ AreAmong more upto held

@@ -14,10 +14,7 @@ use Rattle.pc_join.specs.Sets.{Source}
 use Rattle.pc_thread_view.specs.Told.{Told, IsSound, RiseAbove, AreLater, HasKinds, HasEach, IsStateOfSome, tells, is_early}
 use Rattle.pc_thread_view.specs.Inner.Taking.{Gains, NoneAbove}
 use Rattle.pc_join.specs.Ranges.{one_to}
-
-or_none : (b : Bool) → b ≡ (b || false)
-or_none true = refl
-or_none false = refl
+use Rattle.pc_messages.proofs.Bools.{or_none}
 
 or_same : (a b : Bool) → (b ≡ true → a ≡ true) → a ≡ (a || b)
 or_same true b h = refl
@@ -119,7 +116,7 @@ each_push s [] e h k = (k, tt)
 each_push s (d ∷ ds) e h k = (h.0, each_push s ds e h.1 k)
 
 pub is_early-push : (early : List (ℕ × Kind)) (e : ℕ × Kind) (n : ℕ) → is_early (early ++ e ∷ []) n ≡ (is_early early n || (n == e.0))
-is_early-push early e n = list_any-append (λ d. d.0 == n) early (e ∷ []) ∙ ap (λ b. is_early early n || b) (sym (or_none (e.0 == n)) ∙ eq_sym e.0 n)
+is_early-push early e n = list_any-append (λ d. d.0 == n) early (e ∷ []) ∙ ap (λ b. is_early early n || b) (or_none (e.0 == n) ∙ eq_sym e.0 n)
 
 pub not_created : (number : ℕ) (kind : Kind) → IsTrue (is_created kind) ↔ (number ≡ 1) → 2 ≤ number → IsFalse (is_created kind)
 not_created number kind h e = by_test (is_created kind) h.0
@@ -151,7 +148,7 @@ none_push n (d ∷ ds) e h k = (h.0, none_push n ds e h.1 k)
 
 -- the last early message has the number, or none has
 pub last_is : (n : ℕ) (front : List (ℕ × Kind)) (last : ℕ × Kind) (number : ℕ) → RiseAbove n (front ++ last ∷ []) → NoneAbove number (front ++ last ∷ []) → (last.0 == number) ≡ is_early (front ++ last ∷ []) number
-last_is n [] last number h none = or_none (last.0 == number)
+last_is n [] last number h none = sym (or_none (last.0 == number))
 last_is n (d ∷ ds) last number h none =
     last_is d.0 ds last number h.1 none.1 ∙ sym (ap (λ b. b || is_early (ds ++ last ∷ []) number) (less d.0 number (lower d.0 ds last number h.1 none.1)))
   where

@@ -12,6 +12,7 @@ use Rattle.pc_thread_view.specs.Told.{Told, IsSound, IsOfThread, RiseAbove, HasE
 use Rattle.pc_thread_view.specs.Inner.Taking.{Gains, NoneAbove, NoneAfter, AreTold, IsTaking}
 use Rattle.pc_join.specs.Ranges.{one_to}
 use Rattle.pc_thread_view.proofs.Gaining.{rise_from, eq_sym}
+use Rattle.pc_messages.proofs.Bools.{or_left, or_none}
 
 pub taking_start : (old : Told) (first other : List (ℕ × Kind)) → IsSound old → AreTold first → AreTold other → NoneAfter old.early first → NoneAfter old.early other → IsTaking old first other old first other
 taking_start old first other sound f o fa oa = record {
@@ -68,10 +69,6 @@ taken_right false true true r = refl
 taken_right false true false r = refl
 taken_right false false l r = refl
 
-or_left : (a b : Bool) → a ≡ true → (a || b) ≡ true
-or_left true b e = refl
-or_left false b e = absurd (false≢true e)
-
 module _ (old : Told) (first other : List (ℕ × Kind)) (now new : Told) (e : ℕ × Kind) (g : Gains now e.0 e.1 new) (last : NoneAbove e.0 new.early) where
   gained : (n : ℕ) → tells new n ≡ (tells now n || (e.0 == n))
   gained n = g.union n ∙ ap (λ b. tells now n || b) (eq_sym n e.0)
@@ -111,10 +108,6 @@ module _ (old : Told) (first other : List (ℕ × Kind)) (now new : Told) (e : �
   took left right ls rs h (inr t) =
       let before : IsTaking old first other now left (e ∷ rs) = subst (λ x. IsTaking old first other now left x) t.0 h in
       subst (λ x. IsTaking old first other new x rs) (sym t.1) (took_right left rs t.2 before)
-
-or_none : (a : Bool) → (a || (false || false)) ≡ a
-or_none true = refl
-or_none false = refl
 
 pub taken : (old : Told) (first other : List (ℕ × Kind)) (now : Told) (left right : List (ℕ × Kind)) → IsTaking old first other now left right → left ≡ [] → right ≡ [] → IsEither (tells old) (λ n. is_early first n || is_early other n) (tells now)
 taken old first other now left right h l r n =

@@ -14,7 +14,7 @@ use Rattle.pc_messages.specs.declared.kind.Kind.{Kind}
 use Rattle.pc_messages.specs.declared.reported.Reported.{Reported}
 use Rattle.pc_messages.specs.Run.{Run, Extends, kind_at}
 use Rattle.pc_join.specs.Sets.{Source, IsVoid, source_at, members_at}
-use Rattle.pc_join.proofs.Puts.{or_none}
+use Rattle.pc_messages.proofs.Bools.{or_none}
 use Rattle.pc_join.specs.ByName.{members_by_name, known_in, IsOfByName}
 use Rattle.pc_thread_view.specs.Told.{Told, IsOfThread, TellsSome, numbers_of, is_early, tells}
 use Rattle.pc_join.specs.Ranges.{one_to}

@@ -31,10 +31,7 @@ use Rattle.pc_world.specs.Inner.Handling.{Handles}
 use Rattle.pc_world.specs.Inner.Places.{IsPlace}
 use Rattle.pc_world.proofs.Places.{kept_same, match_true, plain_cpu, unchanged}
 use Rattle.pc_world.proofs.Sent.{sent_length, sent_more}
-
-both : (a b : Bool) → a ≡ true → b ≡ true → (a && b) ≡ true
-both true b e f = f
-both false b e f = absurd (false≢true e)
+use Rattle.pc_messages.proofs.Bools.{both}
 
 or_false : (b : Bool) → (b || false) ≡ b
 or_false true = refl

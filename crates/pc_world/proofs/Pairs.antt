@@ -11,18 +11,7 @@ use Rattle.pc_messages.specs.Items.{pairs_in}
 use Rattle.pc_join.specs.Sets.{has}
 use Rattle.pc_kernel.specs.Facts.{numbered}
 use Rattle.pc_agent.specs.PlainAgent.{Set}
-
-or_right : (a b : Bool) → b ≡ true → (a || b) ≡ true
-or_right true b e = refl
-or_right false b e = e
-
-or_left : (a b : Bool) → a ≡ true → (a || b) ≡ true
-or_left true b e = refl
-or_left false b e = cc
-
-or_cases : (a b : Bool) → (a || b) ≡ true → (a ≡ true) ⊎ (b ≡ true)
-or_cases true b e = inl refl
-or_cases false b e = inr e
+use Rattle.pc_messages.proofs.Bools.{or_cases, or_left, or_right}
 
 -- pairs of a list of pairs
 is_pair : (a b t n : ℕ) → ((a == t) && (b == n)) ≡ true → (a ≡ t) × (b ≡ n)

@@ -1,5 +1,5 @@
 -- Lists of agents, and a world in which one of them is another.
-use Rattle.std.proofs.Common.{◌≡◌, ℕ, zero, suc, ◌<◌, Bool, true, false, List, [], ◌∷◌, ◌++◌, length, Some, MatchBool, slice_get, get_or, set, refl, sym, ◌∙◌, ap, subst, inl, inr, arith}
+use Rattle.std.proofs.Common.{◌≡◌, ℕ, zero, suc, ◌<◌, Bool, true, false, List, [], ◌∷◌, ◌++◌, length, Some, MatchBool, slice_get, get_or, set, refl, sym, ◌∙◌, ap, subst, inl, inr, arith, append-nil}
 use Rattle.std.proofs.lemmas.Bool.{cases_eq}
 use Rattle.std.proofs.lemmas.Bool.Decides.{eqb_tells}
 use Rattle.std.proofs.lemmas.Option.{same_Some}
@@ -49,17 +49,13 @@ match_true b P Q e p = subst (λ c. MatchBool c P Q) (sym e) p
 pub match_false : (b : Bool) (P Q : Type 0) → b ≡ false → Q → MatchBool b P Q
 match_false b P Q e q = subst (λ c. MatchBool c P Q) (sym e) q
 
-append_none : {X : Type 0} (xs : List X) → xs ≡ xs ++ []
-append_none [] = refl
-append_none (x ∷ xs) = ap (λ ys. x ∷ ys) (append_none xs)
-
 -- a run goes on from itself
 pub same_run : (run : Run) → Extends run run
-same_run run t = ([], append_none (run t))
+same_run run t = ([], sym (append-nil (run t)))
 
 -- what was sent stays, and nothing follows
 pub kept_same : (old new : Parts) → deltas_of new ≡ deltas_of old → KeepsSent old new
-kept_same old new e = ([], e ∙ append_none (deltas_of old))
+kept_same old new e = ([], e ∙ sym (append-nil (deltas_of old)))
 
 -- what the kernel shows of a CPU, the plain kernel has
 pub plain_cpu : (k : KernelRows) (P : PlainKernel) (c : ℕ) (b : Bool) → Shows k P → is_cpu (seen k) c ≡ b → is_cpu (shown P) c ≡ b

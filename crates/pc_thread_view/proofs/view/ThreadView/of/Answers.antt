@@ -4,7 +4,8 @@ use Rattle.pc_messages.specs.declared.kind.Kind.{Kind}
 use Rattle.pc_thread_view.specs.Told.{Told, IsOfThread, tells}
 use Rattle.pc_thread_view.specs.Inner.Taking.{Gains}
 use Rattle.pc_thread_view.specs.Inner.Held.{told}
-use Rattle.pc_thread_view.proofs.Among.{of_nothing, or_right}
+use Rattle.pc_thread_view.proofs.Among.{of_nothing}
+use Rattle.pc_messages.proofs.Bools.{or_right}
 use Rattle.pc_thread_view.proofs.view.ThreadView.of.Goals as goal
 
 pub returns-clause-of_source : goal.returns-clause-of_source
