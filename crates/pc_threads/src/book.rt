@@ -1,0 +1,188 @@
+//! A kernel that is called by many, and the list of what it was called.
+
+ghost use Rattle.std.specs.Prelude.{ℕ, ◌≡◌, ◌≢◌, ◌≤◌, ◌<◌, ◌↔◌, ◌⊎◌, ◌∷◌, ◌++◌, [], Some, None, Err, IfOk, IfErr, OnOk, OnErr, IsFalse, length, vec_len, vec_capacity};
+ghost use Rattle.pc_calls.specs.Limits.{bad_field};
+ghost use Rattle.pc_calls.specs.declared.limits.TheConstants.{MOST_ROOM};
+ghost use Rattle.pc_messages.specs.Items.{AreItemsOf, AreTellable};
+
+mod agents;
+
+use pc_calls::{
+    Answer, Call, CallFault, EnvCall, LimitField, Limits, LimitsFault, Posted, Refusal,
+};
+use pc_kernel::Kernel;
+use pc_kernel::laws::{messages_stay_home, sleepers_had_no_post, threads_are_placed};
+use pc_messages::{Cpu, Item};
+use std::alloc::Global;
+use std::marker::Model;
+
+/// A kernel, with every call that it accepted and what it answered, in their order (own). So whoever holds a book knows how
+/// its kernel came about.
+///
+/// A refused call is not listed. Each call takes memory for the list before all else; where there is none, nothing changes.
+#[derive(Drop)]
+pub struct Book {
+    kernel: Kernel,
+    calls: Vec<(Call, Answer)>,
+}
+
+impl Model for Book {
+    ghost use Rattle.pc_threads.specs.Pages.{Pages, IsReplay};
+
+    ghost Value = { Pages };
+
+    ghost view = { λ b. record { kernel = b.kernel; calls = b.calls.items } };
+
+    ghost invariant = { λ b. IsReplay record { kernel = b.kernel; calls = b.calls.items } };
+}
+
+impl Book {
+    ghost use Rattle.pc_kernel.specs.Answers.{Shows};
+    ghost use Rattle.pc_kernel.specs.Facts.{HadNoPost, IsAtHome, IsPlaced};
+    ghost use Rattle.pc_kernel.specs.PlainKernel.{start};
+    ghost use Rattle.pc_kernel.specs.Reads.{seen, aseq_read, content_read, is_cpu};
+    ghost use Rattle.pc_kernel.specs.Steps.{refused};
+    ghost use Rattle.pc_threads.specs.Pages.{IsReplay, Lists, replayed, run_of};
+
+    /// The book of a kernel at the start, with limits of profile One.
+    pub fn new(alloc: Global, limits: Limits) -> Result<Book, LimitsFault>
+        ensures ok { IfOk result (λ book. Shows book.kernel (start limits)) }
+        ensures nothing { IfOk result (λ book. book.calls ≡ []) }
+        ensures within { IfOk result (λ _. bad_field Profile.One limits ≡ None) }
+        ensures refused { (field : LimitField) →
+            (result ≡ Err (LimitsFault.BadLimits field)) ↔ (bad_field Profile.One limits ≡ Some field) }
+        ensures memory_last { result ≡ Err LimitsFault.OutOfMemory → bad_field Profile.One limits ≡ None }
+    {
+        let kernel = Kernel::new(alloc, limits)?;
+        Ok(Book {
+            kernel,
+            calls: Vec::new(alloc),
+        })
+    }
+
+    /// The kernel is where the listed calls lead from the start of its limits, each accepted as listed. It does nothing.
+    pub fn is_replay(&self)
+        ensures { IsReplay self.now }
+    {
+        let _ = &self.kernel;
+    }
+
+    /// What holds after every list of calls holds of the replay of the listed ones, which the kernel shows: messages that
+    /// were not consumed stay home, threads are placed, and sleepers that their own queue wakes had no post since they slept.
+    /// It does nothing.
+    pub fn facts_hold(&self)
+        ensures shown { Shows self.now.kernel (replayed self.now) }
+        ensures home { (t : ℕ) → IsAtHome (replayed self.now) t }
+        ensures placed { (c t : ℕ) → IsPlaced (replayed self.now) c t }
+        ensures rested { (c : ℕ) → HadNoPost (replayed self.now) c }
+    {
+        messages_stay_home();
+        threads_are_placed();
+        sleepers_had_no_post();
+        let _ = &self.kernel;
+    }
+
+    /// The kernel.
+    pub fn kernel(&self) -> &Kernel
+        ensures { result.now ≡ self.now.kernel }
+    {
+        &self.kernel
+    }
+
+    /// The calls that were accepted, each with its answer, the first one first.
+    pub fn calls(&self) -> &[(Call, Answer)]
+        ensures { result.now ≡ self.now.calls }
+    {
+        self.calls.as_slice()
+    }
+
+    /// The count of posts to the CPU's queue, and all that the queue holds, the oldest first. The items stay, and nothing is
+    /// listed.
+    pub fn peek(&self, cpu: Cpu) -> Result<(u32, Vec<Item>), CallFault>
+        ensures posts { IfOk result (λ read. read.0 ≡ aseq_read (seen self.now.kernel) cpu) }
+        ensures content { IfOk result (λ read. read.1.items ≡ content_read (seen self.now.kernel) cpu) }
+        ensures of_run { IfOk result (λ read. AreItemsOf (run_of self.now) read.1.items) }
+        ensures tellable { IfOk result (λ read. AreTellable read.1.items) }
+        ensures few { IfOk result (λ read. length read.1.items ≤ MOST_ROOM) }
+        ensures bad_cpu { (result ≡ Err (CallFault.Refused Refusal.BadCpu)) ↔ IsFalse (is_cpu (seen self.now.kernel) cpu) }
+        ensures memory { IfErr result (λ fault. (fault ≡ CallFault.Refused Refusal.BadCpu) ⊎ (fault ≡ CallFault.OutOfMemory)) }
+    {
+        self.kernel.peek(cpu)
+    }
+
+    /// Makes the call of the environment.
+    pub fn post(&mut self, call: EnvCall) -> Result<Posted, CallFault>
+        ensures listed { IfOk result (λ posted. Lists (Call.Env call) (Answer.Posted posted) self.old self.new) }
+        ensures fault { (refusal : Refusal) → result ≢ Err CallFault.OutOfMemory →
+            (result ≡ Err (CallFault.Refused refusal)) ↔ (refused (seen self.old.kernel) (Call.Env call) ≡ Some refusal) }
+        ensures limits { self.new.kernel.limits ≡ self.old.kernel.limits }
+        ensures err { OnErr result (self.new ≡ self.old) }
+    {
+        self.is_replay();
+        match self.make(&Call::Env(call)) {
+            Ok(Answer::Posted(posted)) => Ok(posted),
+            Ok(Answer::Done) => unreachable!(),
+            Err(fault) => Err(fault),
+        }
+    }
+
+    /// Puts the CPU's agent to sleep, where it has read all posts to its queue.
+    pub fn sleep(&mut self, cpu: Cpu, aseq: u32) -> Result<(), CallFault>
+        ensures listed { OnOk result (Lists (Call.Sleep cpu aseq) Answer.Done self.old self.new) }
+        ensures fault { (refusal : Refusal) → result ≢ Err CallFault.OutOfMemory →
+            (result ≡ Err (CallFault.Refused refusal)) ↔ (refused (seen self.old.kernel) (Call.Sleep cpu aseq) ≡ Some refusal) }
+        ensures limits { self.new.kernel.limits ≡ self.old.kernel.limits }
+        ensures err { OnErr result (self.new ≡ self.old) }
+    {
+        self.is_replay();
+        match self.make(&Call::Sleep { cpu, aseq }) {
+            Ok(Answer::Done) => Ok(()),
+            Ok(Answer::Posted(_)) => unreachable!(),
+            Err(fault) => Err(fault),
+        }
+    }
+
+    /// Wakes the CPU's agent.
+    pub fn rouse(&mut self, cpu: Cpu) -> Result<(), CallFault>
+        ensures listed { OnOk result (Lists (Call.Rouse cpu) Answer.Done self.old self.new) }
+        ensures fault { (refusal : Refusal) → result ≢ Err CallFault.OutOfMemory →
+            (result ≡ Err (CallFault.Refused refusal)) ↔ (refused (seen self.old.kernel) (Call.Rouse cpu) ≡ Some refusal) }
+        ensures limits { self.new.kernel.limits ≡ self.old.kernel.limits }
+        ensures err { OnErr result (self.new ≡ self.old) }
+    {
+        self.is_replay();
+        match self.make(&Call::Rouse { cpu }) {
+            Ok(Answer::Done) => Ok(()),
+            Ok(Answer::Posted(_)) => unreachable!(),
+            Err(fault) => Err(fault),
+        }
+    }
+
+    /// Makes the call, and lists it with its answer.
+    fn make(&mut self, call: &Call) -> Result<Answer, CallFault>
+        ensures listed { IfOk result (λ answer. Lists call.now answer self.old self.new) }
+        ensures fault { (refusal : Refusal) → result ≢ Err CallFault.OutOfMemory →
+            (result ≡ Err (CallFault.Refused refusal)) ↔ (refused (seen self.old.kernel) call.now ≡ Some refusal) }
+        ensures limits { self.new.kernel.limits ≡ self.old.kernel.limits }
+        ensures err { OnErr result (self.new ≡ self.old) }
+    {
+        if self.calls.reserve(1).is_err() {
+            return Err(CallFault::OutOfMemory);
+        }
+        match self.kernel.apply(*call) {
+            Ok(answer) => {
+                list(&mut self.calls, call, &answer);
+                Ok(answer)
+            }
+            Err(fault) => Err(fault),
+        }
+    }
+}
+
+/// Puts an accepted call with its answer at the end of the list, which has room for it.
+fn list(calls: &mut Vec<(Call, Answer)>, call: &Call, answer: &Answer)
+    requires { vec_len calls.old < vec_capacity calls.old }
+    ensures { calls.new.items ≡ calls.old.items ++ (call.now, answer.now) ∷ [] }
+{
+    calls.push_reserved((*call, *answer));
+}

@@ -1,0 +1,120 @@
+//! What an agent does with the kernel of a book: each of its calls that is accepted is listed.
+
+ghost use Rattle.std.specs.Prelude.{ℕ, ◌≡◌, ◌≢◌, ◌↔◌, ◌∷◌, Result, Some, Err, IfOk, OnOk, OnErr};
+ghost use Rattle.pc_calls.specs.declared.call.Answer.TheVariants.{Done};
+ghost use Rattle.pc_calls.specs.declared.call.Call.TheVariants as call;
+ghost use Rattle.pc_kernel.specs.Reads.{seen};
+ghost use Rattle.pc_kernel.specs.Steps.{refused};
+ghost use Rattle.pc_view.specs.Prefixes.{upto_of};
+ghost use Rattle.pc_agent.specs.Counts.{consume_counted, pick_counted, steal_counted};
+ghost use Rattle.pc_agent.specs.Own.{StealsAsSeen};
+ghost use Rattle.pc_agent.specs.PlainAgent.{pick_refused, ready_list};
+ghost use Rattle.pc_agent.specs.Publishing.{IsConsumed, WhateverShown};
+ghost use Rattle.pc_agent.specs.Running.{IsPicked, Steals, left_by, takes_up_to};
+ghost use Rattle.pc_agent.specs.Shows.{cpu_of};
+
+use crate::book::{Book, list};
+use pc_agent::Agent;
+use pc_calls::{Answer, Call, CallFault, Refusal};
+use pc_messages::Tid;
+
+impl Book {
+    ghost use Rattle.pc_threads.specs.Pages.{Lists, in_memory};
+
+    /// The agent removes from its queue the items that it has sent, and answers how many.
+    pub fn consume(&mut self, agent: &mut Agent) -> Result<u32, CallFault>
+        ensures listed { IfOk result (λ count. Lists (call.Consume (cpu_of agent.old) count) Done self.old self.new) }
+        ensures consumes { (answer : Result ℕ Refusal) → result ≡ in_memory answer → WhateverShown self.old.kernel agent.old (λ P run p.
+            IsConsumed P run p answer (cpu_of agent.old) agent.new self.new.kernel) }
+        ensures count { IfOk result (λ count. count ≡ agent.old.shown) }
+        ensures nothing_sent { OnOk result (agent.new.shown ≡ 0) }
+        ensures fault { (refusal : Refusal) → result ≢ Err CallFault.OutOfMemory → (result ≡ Err (CallFault.Refused refusal))
+            ↔ (refused (seen self.old.kernel) (call.Consume (cpu_of agent.old) agent.old.shown) ≡ Some refusal) }
+        ensures counts { (answer : Result ℕ Refusal) → result ≡ in_memory answer → agent.new.counts ≡ consume_counted answer agent.old.counts }
+        ensures view { agent.new.view ≡ agent.old.view }
+        ensures list { agent.new.list ≡ agent.old.list }
+        ensures cpu { cpu_of agent.new ≡ cpu_of agent.old }
+        ensures limits { self.new.kernel.limits ≡ self.old.kernel.limits }
+        ensures err { OnErr result (self.new ≡ self.old) }
+        ensures agent_err { OnErr result (agent.new ≡ agent.old) }
+    {
+        if self.calls.reserve(1).is_err() {
+            return Err(CallFault::OutOfMemory);
+        }
+        let cpu = agent.cpu();
+        match agent.consume(&mut self.kernel) {
+            Ok(count) => {
+                list(&mut self.calls, &Call::Consume { cpu, count }, &Answer::Done);
+                Ok(count)
+            }
+            Err(refusal) => Err(CallFault::Refused(refusal)),
+        }
+    }
+
+    /// The agent commits the first thread of its run list that the kernel accepts, under the count of posts that it read.
+    ///
+    /// A refused pick raises a count of the agent, and empties its run list where it is `NothingReady`. Without memory for the
+    /// list the agent is not asked, and is as it was.
+    pub fn pick(&mut self, agent: &mut Agent, aseq: u32) -> Result<Tid, CallFault>
+        ensures listed { IfOk result (λ thread. Lists (call.Commit (cpu_of agent.old) thread aseq) Done self.old self.new) }
+        ensures picks { (answer : Result ℕ Refusal) → result ≡ in_memory answer → WhateverShown self.old.kernel agent.old (λ P run p.
+            IsPicked aseq P run p answer (cpu_of agent.old) agent.new self.new.kernel) }
+        ensures refused { (refusal : Refusal) → result ≢ Err CallFault.OutOfMemory → (result ≡ Err (CallFault.Refused refusal))
+            ↔ (pick_refused (seen self.old.kernel) (cpu_of agent.old) aseq agent.old.list ≡ Some refusal) }
+        ensures first { IfOk result (λ thread.
+            ready_list (seen self.old.kernel) (cpu_of agent.old) aseq agent.old.list ≡ thread ∷ agent.new.list) }
+        ensures left { (refusal : Refusal) → result ≡ Err (CallFault.Refused refusal) → agent.new.list ≡ left_by refusal agent.old.list }
+        ensures counts { (answer : Result ℕ Refusal) → result ≡ in_memory answer → agent.new.counts ≡ pick_counted answer agent.old.counts }
+        ensures starved { result ≡ Err CallFault.OutOfMemory → agent.new ≡ agent.old }
+        ensures view { agent.new.view ≡ agent.old.view }
+        ensures sent { agent.new.shown ≡ agent.old.shown }
+        ensures cpu { cpu_of agent.new ≡ cpu_of agent.old }
+        ensures limits { self.new.kernel.limits ≡ self.old.kernel.limits }
+        ensures err { OnErr result (self.new ≡ self.old) }
+    {
+        if self.calls.reserve(1).is_err() {
+            return Err(CallFault::OutOfMemory);
+        }
+        let cpu = agent.cpu();
+        match agent.pick(&mut self.kernel, aseq) {
+            Ok(thread) => {
+                list(&mut self.calls, &Call::Commit { cpu, thread, aseq }, &Answer::Done);
+                Ok(thread)
+            }
+            Err(refusal) => Err(CallFault::Refused(refusal)),
+        }
+    }
+
+    /// The agent takes over the least thread that it may.
+    ///
+    /// A refused steal raises a count of the agent. Want of memory changes nothing, whether it is for the list or for the
+    /// agent's run list.
+    pub fn steal(&mut self, agent: &mut Agent) -> Result<Tid, CallFault>
+        ensures listed { IfOk result (λ thread.
+            Lists (takes_up_to (upto_of agent.old.view) (cpu_of agent.old) thread) Done self.old self.new) }
+        ensures steals { result ≢ Err CallFault.OutOfMemory → WhateverShown self.old.kernel agent.old (λ P run p.
+            Steals P run p result (cpu_of agent.old) agent.new self.new.kernel) }
+        ensures own { result ≢ Err CallFault.OutOfMemory →
+            StealsAsSeen agent.old.view (cpu_of agent.old) result agent.old.list agent.new.list self.old.kernel self.new.kernel }
+        ensures left { OnErr result (agent.new.list ≡ agent.old.list) }
+        ensures counts { agent.new.counts ≡ steal_counted result agent.old.counts }
+        ensures view { agent.new.view ≡ agent.old.view }
+        ensures sent { agent.new.shown ≡ agent.old.shown }
+        ensures cpu { cpu_of agent.new ≡ cpu_of agent.old }
+        ensures limits { self.new.kernel.limits ≡ self.old.kernel.limits }
+        ensures err { OnErr result (self.new ≡ self.old) }
+    {
+        if self.calls.reserve(1).is_err() {
+            return Err(CallFault::OutOfMemory);
+        }
+        let queue = agent.cpu();
+        match agent.steal(&mut self.kernel) {
+            Ok(thread) => {
+                let number = agent.view().upto(thread);
+                list(&mut self.calls, &Call::Associate { thread, queue, number }, &Answer::Done);
+                Ok(thread)
+            }
+            Err(fault) => Err(fault),
+        }
+    }
+}
