@@ -1,10 +1,10 @@
 -- What a book is seen as: a kernel, and the list of every call that it accepted with what it answered.
-use Rattle.std.specs.Prelude.{◌≡◌, List, [], ◌∷◌, ◌++◌, map, Result, Ok, Err}
+use Rattle.std.specs.Prelude.{◌≡◌, List, [], ◌∷◌, ◌++◌, map, Option, Some, None, Result, Ok, Err}
 use Rattle.pc_calls.specs.declared.call.Call.{Call}
 use Rattle.pc_calls.specs.declared.call.Answer.{Answer}
 use Rattle.pc_calls.specs.declared.refusal.Refusal.{Refusal}
 use Rattle.pc_calls.specs.declared.refusal.CallFault.{CallFault}
-use Rattle.pc_calls.specs.declared.refusal.CallFault.TheVariants.{Refused}
+use Rattle.pc_calls.specs.declared.refusal.CallFault.TheVariants.{Refused, OutOfMemory}
 use Rattle.pc_messages.specs.Run.{Run}
 use Rattle.pc_kernel.specs.Answers.{Accepts, Shows}
 use Rattle.pc_kernel.specs.PlainKernel.{PlainKernel, start}
@@ -43,7 +43,8 @@ pub record Lists (call : Call) (answer : Answer) (old new : Pages) : Type 0 wher
 abbrev pub run_of : Pages → Run
 run_of book = kinds_read (seen book.kernel)
 
--- what a call answers that takes no memory, answered by one that does
-abbrev pub in_memory : {A : Type 0} → Result A Refusal → Result A CallFault
-in_memory (Ok answer) = Ok answer
-in_memory (Err refusal) = Err (Refused refusal)
+-- what was answered, where memory did not run out
+abbrev pub answered : {A : Type 0} → Result A CallFault → Option (Result A Refusal)
+answered (Ok answer) = Some (Ok answer)
+answered (Err (Refused refusal)) = Some (Err refusal)
+answered (Err OutOfMemory) = None

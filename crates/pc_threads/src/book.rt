@@ -1,7 +1,9 @@
 //! A kernel that is called by many, and the list of what it was called.
 
-ghost use Rattle.std.specs.Prelude.{ℕ, ◌≡◌, ◌≢◌, ◌≤◌, ◌<◌, ◌↔◌, ◌⊎◌, ◌∷◌, ◌++◌, [], Some, None, Err, IfOk, IfErr, OnOk, OnErr, IsFalse, length, vec_len, vec_capacity};
+ghost use Rattle.std.specs.Prelude.{ℕ, ◌≡◌, ◌≤◌, ◌<◌, ◌↔◌, ◌⊎◌, ◌∷◌, ◌++◌, [], Some, None, Err, IfOk, IfErr, IfSome, OnOk, OnErr, IsFalse, length, vec_len, vec_capacity};
+ghost use Rattle.pc_calls.specs.Conditions.{refusal_in};
 ghost use Rattle.pc_calls.specs.Limits.{bad_field};
+ghost use Rattle.pc_calls.specs.declared.limits.Profile.TheVariants as profile;
 ghost use Rattle.pc_calls.specs.declared.limits.TheConstants.{MOST_ROOM};
 ghost use Rattle.pc_messages.specs.Items.{AreItemsOf, AreTellable};
 
@@ -42,22 +44,24 @@ impl Book {
     ghost use Rattle.pc_kernel.specs.PlainKernel.{start};
     ghost use Rattle.pc_kernel.specs.Reads.{seen, aseq_read, content_read, is_cpu};
     ghost use Rattle.pc_kernel.specs.Steps.{refused};
-    ghost use Rattle.pc_threads.specs.Pages.{IsReplay, Lists, replayed, run_of};
+    ghost use Rattle.pc_threads.specs.Pages.{IsReplay, Lists, answered, replayed, run_of};
 
     /// The book of a kernel at the start, with limits of profile One.
     pub fn new(alloc: Global, limits: Limits) -> Result<Book, LimitsFault>
         ensures ok { IfOk result (λ book. Shows book.kernel (start limits)) }
         ensures nothing { IfOk result (λ book. book.calls ≡ []) }
-        ensures within { IfOk result (λ _. bad_field Profile.One limits ≡ None) }
+        ensures within { IfOk result (λ _. bad_field profile.One limits ≡ None) }
         ensures refused { (field : LimitField) →
-            (result ≡ Err (LimitsFault.BadLimits field)) ↔ (bad_field Profile.One limits ≡ Some field) }
-        ensures memory_last { result ≡ Err LimitsFault.OutOfMemory → bad_field Profile.One limits ≡ None }
+            (result ≡ Err (LimitsFault.BadLimits field)) ↔ (bad_field profile.One limits ≡ Some field) }
+        ensures memory_last { result ≡ Err LimitsFault.OutOfMemory → bad_field profile.One limits ≡ None }
     {
-        let kernel = Kernel::new(alloc, limits)?;
-        Ok(Book {
-            kernel,
-            calls: Vec::new(alloc),
-        })
+        match Kernel::new(alloc, limits) {
+            Ok(kernel) => Ok(Book {
+                kernel,
+                calls: Vec::new(alloc),
+            }),
+            Err(fault) => Err(fault),
+        }
     }
 
     /// The kernel is where the listed calls lead from the start of its limits, each accepted as listed. It does nothing.
@@ -113,8 +117,7 @@ impl Book {
     /// Makes the call of the environment.
     pub fn post(&mut self, call: EnvCall) -> Result<Posted, CallFault>
         ensures listed { IfOk result (λ posted. Lists (Call.Env call) (Answer.Posted posted) self.old self.new) }
-        ensures fault { (refusal : Refusal) → result ≢ Err CallFault.OutOfMemory →
-            (result ≡ Err (CallFault.Refused refusal)) ↔ (refused (seen self.old.kernel) (Call.Env call) ≡ Some refusal) }
+        ensures fault { IfSome (answered result) (λ answer. refusal_in answer ≡ refused (seen self.old.kernel) (Call.Env call)) }
         ensures limits { self.new.kernel.limits ≡ self.old.kernel.limits }
         ensures err { OnErr result (self.new ≡ self.old) }
     {
@@ -129,8 +132,7 @@ impl Book {
     /// Puts the CPU's agent to sleep, where it has read all posts to its queue.
     pub fn sleep(&mut self, cpu: Cpu, aseq: u32) -> Result<(), CallFault>
         ensures listed { OnOk result (Lists (Call.Sleep cpu aseq) Answer.Done self.old self.new) }
-        ensures fault { (refusal : Refusal) → result ≢ Err CallFault.OutOfMemory →
-            (result ≡ Err (CallFault.Refused refusal)) ↔ (refused (seen self.old.kernel) (Call.Sleep cpu aseq) ≡ Some refusal) }
+        ensures fault { IfSome (answered result) (λ answer. refusal_in answer ≡ refused (seen self.old.kernel) (Call.Sleep cpu aseq)) }
         ensures limits { self.new.kernel.limits ≡ self.old.kernel.limits }
         ensures err { OnErr result (self.new ≡ self.old) }
     {
@@ -145,8 +147,7 @@ impl Book {
     /// Wakes the CPU's agent.
     pub fn rouse(&mut self, cpu: Cpu) -> Result<(), CallFault>
         ensures listed { OnOk result (Lists (Call.Rouse cpu) Answer.Done self.old self.new) }
-        ensures fault { (refusal : Refusal) → result ≢ Err CallFault.OutOfMemory →
-            (result ≡ Err (CallFault.Refused refusal)) ↔ (refused (seen self.old.kernel) (Call.Rouse cpu) ≡ Some refusal) }
+        ensures fault { IfSome (answered result) (λ answer. refusal_in answer ≡ refused (seen self.old.kernel) (Call.Rouse cpu)) }
         ensures limits { self.new.kernel.limits ≡ self.old.kernel.limits }
         ensures err { OnErr result (self.new ≡ self.old) }
     {
@@ -161,8 +162,7 @@ impl Book {
     /// Makes the call, and lists it with its answer.
     fn make(&mut self, call: &Call) -> Result<Answer, CallFault>
         ensures listed { IfOk result (λ answer. Lists call.now answer self.old self.new) }
-        ensures fault { (refusal : Refusal) → result ≢ Err CallFault.OutOfMemory →
-            (result ≡ Err (CallFault.Refused refusal)) ↔ (refused (seen self.old.kernel) call.now ≡ Some refusal) }
+        ensures fault { IfSome (answered result) (λ answer. refusal_in answer ≡ refused (seen self.old.kernel) call.now) }
         ensures limits { self.new.kernel.limits ≡ self.old.kernel.limits }
         ensures err { OnErr result (self.new ≡ self.old) }
     {

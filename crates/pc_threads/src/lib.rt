@@ -5,8 +5,8 @@
 #![tactic(auto)]
 
 mod book;
-mod settle;
+mod settling;
 
 pub use book::Book;
 pub use pc_calls::{Answer, Call, CallFault, EnvCall, Limits, LimitsFault, Posted, Refusal};
-pub use settle::{RunFault, settle};
+pub use settling::{RunFault, settle};

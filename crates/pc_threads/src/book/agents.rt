@@ -1,6 +1,7 @@
 //! What an agent does with the kernel of a book: each of its calls that is accepted is listed.
 
-ghost use Rattle.std.specs.Prelude.{ℕ, ◌≡◌, ◌≢◌, ◌↔◌, ◌∷◌, Result, Some, Err, IfOk, OnOk, OnErr};
+ghost use Rattle.std.specs.Prelude.{◌≡◌, ◌≢◌, ◌∷◌, Err, IfOk, IfErr, IfSome, OnOk, OnErr};
+ghost use Rattle.pc_calls.specs.Conditions.{refusal_in};
 ghost use Rattle.pc_calls.specs.declared.call.Answer.TheVariants.{Done};
 ghost use Rattle.pc_calls.specs.declared.call.Call.TheVariants as call;
 ghost use Rattle.pc_kernel.specs.Reads.{seen};
@@ -19,18 +20,18 @@ use pc_calls::{Answer, Call, CallFault, Refusal};
 use pc_messages::Tid;
 
 impl Book {
-    ghost use Rattle.pc_threads.specs.Pages.{Lists, in_memory};
+    ghost use Rattle.pc_threads.specs.Pages.{Lists, answered};
 
     /// The agent removes from its queue the items that it has sent, and answers how many.
     pub fn consume(&mut self, agent: &mut Agent) -> Result<u32, CallFault>
         ensures listed { IfOk result (λ count. Lists (call.Consume (cpu_of agent.old) count) Done self.old self.new) }
-        ensures consumes { (answer : Result ℕ Refusal) → result ≡ in_memory answer → WhateverShown self.old.kernel agent.old (λ P run p.
-            IsConsumed P run p answer (cpu_of agent.old) agent.new self.new.kernel) }
+        ensures consumes { IfSome (answered result) (λ answer. WhateverShown self.old.kernel agent.old (λ P run p.
+            IsConsumed P run p answer (cpu_of agent.old) agent.new self.new.kernel)) }
         ensures count { IfOk result (λ count. count ≡ agent.old.shown) }
         ensures nothing_sent { OnOk result (agent.new.shown ≡ 0) }
-        ensures fault { (refusal : Refusal) → result ≢ Err CallFault.OutOfMemory → (result ≡ Err (CallFault.Refused refusal))
-            ↔ (refused (seen self.old.kernel) (call.Consume (cpu_of agent.old) agent.old.shown) ≡ Some refusal) }
-        ensures counts { (answer : Result ℕ Refusal) → result ≡ in_memory answer → agent.new.counts ≡ consume_counted answer agent.old.counts }
+        ensures fault { IfSome (answered result) (λ answer.
+            refusal_in answer ≡ refused (seen self.old.kernel) (call.Consume (cpu_of agent.old) agent.old.shown)) }
+        ensures counts { IfSome (answered result) (λ answer. agent.new.counts ≡ consume_counted answer agent.old.counts) }
         ensures view { agent.new.view ≡ agent.old.view }
         ensures list { agent.new.list ≡ agent.old.list }
         ensures cpu { cpu_of agent.new ≡ cpu_of agent.old }
@@ -57,14 +58,14 @@ impl Book {
     /// list the agent is not asked, and is as it was.
     pub fn pick(&mut self, agent: &mut Agent, aseq: u32) -> Result<Tid, CallFault>
         ensures listed { IfOk result (λ thread. Lists (call.Commit (cpu_of agent.old) thread aseq) Done self.old self.new) }
-        ensures picks { (answer : Result ℕ Refusal) → result ≡ in_memory answer → WhateverShown self.old.kernel agent.old (λ P run p.
-            IsPicked aseq P run p answer (cpu_of agent.old) agent.new self.new.kernel) }
-        ensures refused { (refusal : Refusal) → result ≢ Err CallFault.OutOfMemory → (result ≡ Err (CallFault.Refused refusal))
-            ↔ (pick_refused (seen self.old.kernel) (cpu_of agent.old) aseq agent.old.list ≡ Some refusal) }
+        ensures picks { IfSome (answered result) (λ answer. WhateverShown self.old.kernel agent.old (λ P run p.
+            IsPicked aseq P run p answer (cpu_of agent.old) agent.new self.new.kernel)) }
+        ensures refused { IfSome (answered result) (λ answer.
+            refusal_in answer ≡ pick_refused (seen self.old.kernel) (cpu_of agent.old) aseq agent.old.list) }
         ensures first { IfOk result (λ thread.
             ready_list (seen self.old.kernel) (cpu_of agent.old) aseq agent.old.list ≡ thread ∷ agent.new.list) }
-        ensures left { (refusal : Refusal) → result ≡ Err (CallFault.Refused refusal) → agent.new.list ≡ left_by refusal agent.old.list }
-        ensures counts { (answer : Result ℕ Refusal) → result ≡ in_memory answer → agent.new.counts ≡ pick_counted answer agent.old.counts }
+        ensures left { IfSome (answered result) (λ answer. IfErr answer (λ refusal. agent.new.list ≡ left_by refusal agent.old.list)) }
+        ensures counts { IfSome (answered result) (λ answer. agent.new.counts ≡ pick_counted answer agent.old.counts) }
         ensures starved { result ≡ Err CallFault.OutOfMemory → agent.new ≡ agent.old }
         ensures view { agent.new.view ≡ agent.old.view }
         ensures sent { agent.new.shown ≡ agent.old.shown }
