@@ -1,17 +1,13 @@
 //! What an agent does with the kernel of a book: each of its calls that is accepted is listed.
 
-ghost use Rattle.std.specs.Prelude.{◌≡◌, ◌≢◌, ◌∷◌, Err, IfOk, IfErr, IfSome, OnOk, OnErr};
-ghost use Rattle.pc_calls.specs.Conditions.{refusal_in};
+ghost use Rattle.std.specs.Prelude.{◌≡◌, ◌≢◌, Err, IfOk, IfSome, OnErr};
 ghost use Rattle.pc_calls.specs.declared.call.Answer.TheVariants.{Done};
 ghost use Rattle.pc_calls.specs.declared.call.Call.TheVariants as call;
-ghost use Rattle.pc_kernel.specs.Reads.{seen};
-ghost use Rattle.pc_kernel.specs.Steps.{refused};
 ghost use Rattle.pc_view.specs.Prefixes.{upto_of};
 ghost use Rattle.pc_agent.specs.Counts.{consume_counted, pick_counted, steal_counted};
-ghost use Rattle.pc_agent.specs.Own.{StealsAsSeen};
-ghost use Rattle.pc_agent.specs.PlainAgent.{pick_refused, ready_list};
+ghost use Rattle.pc_agent.specs.Own.{ConsumesAsSeen, PicksAsSeen, StealsAsSeen};
 ghost use Rattle.pc_agent.specs.Publishing.{IsConsumed, WhateverShown};
-ghost use Rattle.pc_agent.specs.Running.{IsPicked, Steals, left_by, takes_up_to};
+ghost use Rattle.pc_agent.specs.Running.{IsPicked, Steals, takes_up_to};
 ghost use Rattle.pc_agent.specs.Shows.{cpu_of};
 
 use crate::book::{Book, list};
@@ -27,13 +23,8 @@ impl Book {
         ensures listed { IfOk result (λ count. Lists (call.Consume (cpu_of agent.old) count) Done self.old self.new) }
         ensures consumes { IfSome (answered result) (λ answer. WhateverShown self.old.kernel agent.old (λ P run p.
             IsConsumed P run p answer (cpu_of agent.old) agent.new self.new.kernel)) }
-        ensures count { IfOk result (λ count. count ≡ agent.old.shown) }
-        ensures nothing_sent { OnOk result (agent.new.shown ≡ 0) }
-        ensures fault { IfSome (answered result) (λ answer.
-            refusal_in answer ≡ refused (seen self.old.kernel) (call.Consume (cpu_of agent.old) agent.old.shown)) }
+        ensures own { IfSome (answered result) (λ answer. ConsumesAsSeen agent.old self.old.kernel answer agent.new self.new.kernel) }
         ensures counts { IfSome (answered result) (λ answer. agent.new.counts ≡ consume_counted answer agent.old.counts) }
-        ensures view { agent.new.view ≡ agent.old.view }
-        ensures list { agent.new.list ≡ agent.old.list }
         ensures cpu { cpu_of agent.new ≡ cpu_of agent.old }
         ensures limits { self.new.kernel.limits ≡ self.old.kernel.limits }
         ensures err { OnErr result (self.new ≡ self.old) }
@@ -60,15 +51,9 @@ impl Book {
         ensures listed { IfOk result (λ thread. Lists (call.Commit (cpu_of agent.old) thread aseq) Done self.old self.new) }
         ensures picks { IfSome (answered result) (λ answer. WhateverShown self.old.kernel agent.old (λ P run p.
             IsPicked aseq P run p answer (cpu_of agent.old) agent.new self.new.kernel)) }
-        ensures refused { IfSome (answered result) (λ answer.
-            refusal_in answer ≡ pick_refused (seen self.old.kernel) (cpu_of agent.old) aseq agent.old.list) }
-        ensures first { IfOk result (λ thread.
-            ready_list (seen self.old.kernel) (cpu_of agent.old) aseq agent.old.list ≡ thread ∷ agent.new.list) }
-        ensures left { IfSome (answered result) (λ answer. IfErr answer (λ refusal. agent.new.list ≡ left_by refusal agent.old.list)) }
+        ensures own { IfSome (answered result) (λ answer. PicksAsSeen aseq agent.old self.old.kernel answer agent.new self.new.kernel) }
         ensures counts { IfSome (answered result) (λ answer. agent.new.counts ≡ pick_counted answer agent.old.counts) }
         ensures starved { result ≡ Err CallFault.OutOfMemory → agent.new ≡ agent.old }
-        ensures view { agent.new.view ≡ agent.old.view }
-        ensures sent { agent.new.shown ≡ agent.old.shown }
         ensures cpu { cpu_of agent.new ≡ cpu_of agent.old }
         ensures limits { self.new.kernel.limits ≡ self.old.kernel.limits }
         ensures err { OnErr result (self.new ≡ self.old) }
@@ -97,7 +82,7 @@ impl Book {
             Steals P run p result (cpu_of agent.old) agent.new self.new.kernel) }
         ensures own { result ≢ Err CallFault.OutOfMemory →
             StealsAsSeen agent.old.view (cpu_of agent.old) result agent.old.list agent.new.list self.old.kernel self.new.kernel }
-        ensures left { OnErr result (agent.new.list ≡ agent.old.list) }
+        ensures list_err { OnErr result (agent.new.list ≡ agent.old.list) }
         ensures counts { agent.new.counts ≡ steal_counted result agent.old.counts }
         ensures view { agent.new.view ≡ agent.old.view }
         ensures sent { agent.new.shown ≡ agent.old.shown }
