@@ -61,6 +61,14 @@ listed_again old new call answer limits h lists =
 pub entry_listed : (old grown new : List (Call × Answer)) (entry : Call × Answer) → grown ≡ old → new ≡ grown ++ entry ∷ [] → new ≡ old ++ entry ∷ []
 entry_listed old grown new entry same put = put ∙ ap (λ calls. calls ++ entry ∷ []) same
 
+-- the same from what an agent says: the call that was listed is the one that the kernel accepted
+pub put : (old new : KernelRows) (calls grown later : List (Call × Answer)) (call made : Call) (answer : Answer) → call ≡ made → grown ≡ calls
+    → later ≡ grown ++ (made, answer) ∷ [] → new.limits ≡ old.limits → Accepts call answer old new → IsReplay record { kernel = old; calls = calls }
+    → IsReplay record { kernel = new; calls = later }
+put old new calls grown later call made answer same kept at limits accepted h =
+    listed_again (record { kernel = old; calls = calls }) (record { kernel = new; calls = later }) made answer limits h
+    (record { accepted = subst (λ d. Accepts d answer old new) same accepted; listed = entry_listed calls grown later (made, answer) kept at })
+
 abbrev failed : CallFault → Result Answer CallFault
 failed fault = Err fault
 
