@@ -77,7 +77,7 @@ fn first_short(kernel: &Kernel, view: &View) -> Option<Tid>
 /// The view of all that the kernel posted, from the views of CPUs 0, 1, ..
 fn settle_with(alloc: Global, kernel: &Kernel, views: &[View]) -> Result<View, RunFault>
     requires few { length views.now ≤ MOST_CPUS }
-    ensures settles { Settles (kinds_read (seen kernel.now)) views.now result }
+    ensures { Settles (kinds_read (seen kernel.now)) views.now result }
 {
     sets_are_those_of_the_run();
     if let Some(cpu) = first_strange(kernel, views) {
@@ -103,6 +103,7 @@ pub fn settle(alloc: Global, book: &Book, views: &[View]) -> Result<View, RunFau
     ensures whole { AreWhole (run_of book.now) views.now → IsOk result ⊎ (result ≡ Err RunFault.OutOfMemory) }
     ensures reports { IfOk result (λ view. (t : ℕ) → reported_in view t ≡ reported_of (seen book.now.kernel) t) }
 {
+    sets_are_those_of_the_run();
     reads_are_those_of_the_run();
     settle_with(alloc, book.kernel(), views)
 }
