@@ -34,6 +34,7 @@ numbers_in n count e = (from_one, to_count)
   where
     from_one : 1 ≤ n
     from_one = grind (arith, nat_tests)
+
     to_count : n ≤ count
     to_count = grind (arith, nat_tests)
 
@@ -59,7 +60,7 @@ module _ (laws : SetLaws) (reads : Reads) (views : List View) (merged : View) (u
   pub settled_all : ReachesAll reads merged → Settles (kinds_read reads) views (Ok merged)
   settled_all reaches =
       let same : IsSameSet (pairs_of merged) (pairs_in (kinds_read reads)) =
-          λ m. both_ways (pairs_of merged m) (pairs_in (kinds_read reads) m) (laws.within (kinds_read reads) merged of_run m) (all_reached reaches m) in
+      λ m. both_ways (pairs_of merged m) (pairs_in (kinds_read reads) m) (laws.within (kinds_read reads) merged of_run m) (all_reached reaches m) in
       (record { of_run = all; all = λ m. union m ∙ same m }, record { of_run = of_run; all = same })
 
   -- else the first thread that it does not reach lacks a message
@@ -99,7 +100,7 @@ no_kinds (kind ∷ kinds) few = absurd (omega arith)
 
 module _ (next : (run : Run) (view : View) (t : ℕ) → IsOfRun run view → pairs_of view (t ∷ (upto_of view t + 1) ∷ []) ≡ false)
     (known : (run : Run) (view : View) (t : ℕ) (told : Told) → IsOfRun run view → thread_of view t ≡ Some told → length (run t) ≤ told.upto
-        → told.state ≡ state_of (run t))
+    → told.state ≡ state_of (run t))
     (run : Run) (view : View) (all : IsViewOfAll run view) (t : ℕ) where
   -- the view reaches each thread's last message, as it knows all of them and not the next
   all_known : length (run t) ≤ upto_of view t
@@ -107,8 +108,8 @@ module _ (next : (run : Run) (view : View) (t : ℕ) → IsOfRun run view → pa
       elim (leb_tells (length (run t)) (upto_of view t)) [
         | inl few ↦ few.1
         | inr many ↦
-          absurd (true≢false (sym (in_run (upto_of view t + 1) (length (run t)) (omega arith) (omega (arith, many.1)))
-          ∙ sym (all.all (t ∷ (upto_of view t + 1) ∷ [])) ∙ next run view t all.of_run))
+            absurd (true≢false (sym (in_run (upto_of view t + 1) (length (run t)) (omega arith) (omega (arith, many.1)))
+            ∙ sym (all.all (t ∷ (upto_of view t + 1) ∷ [])) ∙ next run view t all.of_run))
       ]
 
   reports_all : state_told (thread_of view t) ≡ state_of (run t)
@@ -120,7 +121,7 @@ module _ (next : (run : Run) (view : View) (t : ℕ) → IsOfRun run view → pa
 
 pub settled_reports : (next : (run : Run) (view : View) (t : ℕ) → IsOfRun run view → pairs_of view (t ∷ (upto_of view t + 1) ∷ []) ≡ false)
     → (known : (run : Run) (view : View) (t : ℕ) (told : Told) → IsOfRun run view → thread_of view t ≡ Some told → length (run t) ≤ told.upto
-        → told.state ≡ state_of (run t))
+    → told.state ≡ state_of (run t))
     → (reads : Reads) (views : List View) (result : Result View RunFault) → Settles (kinds_read reads) views result
     → IfOk result (λ view. (t : ℕ) → reported_in view t ≡ reported_of reads t)
 settled_reports next known reads views (Ok view) settles = λ t. reports_all next known (kinds_read reads) view settles.1 t ∙ state_read reads t

@@ -7,7 +7,6 @@ ghost use Rattle.pc_join.specs.Sets.{IsSameSet};
 ghost use Rattle.pc_kernel.specs.Reads.{seen, kinds_read, reported_of};
 ghost use Rattle.pc_view.specs.Prefixes.{reported_in, upto_of};
 ghost use Rattle.pc_view.specs.Views.{IsOfRun, pairs_of};
-
 ghost use Rattle.pc_threads.specs.Pages.{run_of};
 ghost use Rattle.pc_threads.specs.Settling.{AreOfRun, AreWhole, IsFirstStrange, Settles, pairs_of_all};
 ghost use Rattle.pc_threads.specs.Inner.Merging.{IsFirstShort, ReachesAll};
@@ -16,9 +15,7 @@ use crate::book::Book;
 use pc_join::OutOfMemory;
 use pc_kernel::Kernel;
 use pc_messages::{Cpu, Tid};
-use pc_view::{
-    View, audit, complete, reads_are_those_of_the_run, sets_are_those_of_the_run,
-};
+use pc_view::{View, audit, complete, reads_are_those_of_the_run, sets_are_those_of_the_run};
 use std::alloc::Global;
 use thiserror::Error;
 

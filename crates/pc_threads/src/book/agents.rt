@@ -36,7 +36,8 @@ impl Book {
         let cpu = agent.cpu();
         match agent.consume(&mut self.kernel) {
             Ok(count) => {
-                list(&mut self.calls, &Call::Consume { cpu, count }, &Answer::Done);
+                let consumed = Call::Consume { cpu, count };
+                list(&mut self.calls, &consumed, &Answer::Done);
                 Ok(count)
             }
             Err(refusal) => Err(CallFault::Refused(refusal)),
@@ -64,7 +65,8 @@ impl Book {
         let cpu = agent.cpu();
         match agent.pick(&mut self.kernel, aseq) {
             Ok(thread) => {
-                list(&mut self.calls, &Call::Commit { cpu, thread, aseq }, &Answer::Done);
+                let committed = Call::Commit { cpu, thread, aseq };
+                list(&mut self.calls, &committed, &Answer::Done);
                 Ok(thread)
             }
             Err(refusal) => Err(CallFault::Refused(refusal)),
@@ -97,7 +99,12 @@ impl Book {
         match agent.steal(&mut self.kernel) {
             Ok(thread) => {
                 let number = agent.view().upto(thread);
-                list(&mut self.calls, &Call::Associate { thread, queue, number }, &Answer::Done);
+                let associated = Call::Associate {
+                    thread,
+                    queue,
+                    number,
+                };
+                list(&mut self.calls, &associated, &Answer::Done);
                 Ok(thread)
             }
             Err(fault) => Err(fault),

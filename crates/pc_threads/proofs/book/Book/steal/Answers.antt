@@ -12,7 +12,7 @@ use Rattle.pc_threads.proofs.book.Book.steal.Goals as goal
 pub invariant_of-self-in-Ok : goal.invariant_of-self-in-Ok
 invariant_of-self-in-Ok c =
     let number : upto_of c.args.agent.now.view c.in-Ok.thread ≡ c.upto-number.result =
-        ap (λ view. upto_of view c.in-Ok.thread) (sym (c.view.ensures.same ∙ c.in-Ok.ensures.view)) ∙ sym c.upto-number.ensures in
+    ap (λ view. upto_of view c.in-Ok.thread) (sym (c.view.ensures.same ∙ c.in-Ok.ensures.view)) ∙ sym c.upto-number.ensures in
     let made : call.Associate c.in-Ok.thread (cpu_of c.args.agent.now) (upto_of c.args.agent.now.view c.in-Ok.thread) ≡ call.Associate c.in-Ok.thread c.cpu-queue.result c.upto-number.result = cc (number, c.cpu-queue.ensures) in
     put c.self.inside.kernel c.steal.new.kernel c.self.inside.calls.items c.reserve.new.self.items c.list.new.calls.items _ _ Done made c.reserve.ensures.items
     c.list.ensures c.in-Ok.ensures.limits c.in-Ok.ensures.kernel c.self.invariant

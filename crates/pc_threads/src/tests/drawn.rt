@@ -1,0 +1,186 @@
+//! Lists of calls drawn at random, with fixed seeds: each is replayed on a new kernel, which answers the same and reads the same.
+
+use crate::tests::{SMALL, Scene, copies, new_scene};
+use crate::{Book, EnvCall};
+use pc_agent::Agent;
+use pc_kernel::Kernel;
+use pc_messages::{Cpu, Tid};
+use std::alloc::Global;
+use std::test::Fail;
+
+/// How many lists are drawn.
+const LISTS: u64 = 1_000;
+
+/// How many calls are tried for each.
+const TURNS: u32 = 60;
+
+/// The next number of a sequence that looks random (a linear congruential generator, with the factors of Knuth's MMIX).
+fn drawn(seed: &mut u64) -> u32 {
+    *seed = seed
+        .wrapping_mul(6_364_136_223_846_793_005)
+        .wrapping_add(1_442_695_040_888_963_407);
+    u32::try_from(*seed >> 33).unwrap_or(0)
+}
+
+/// A CPU, now and then one that is not there.
+fn drawn_cpu(seed: &mut u64) -> Cpu {
+    match drawn(seed) % 16 {
+        0 => Cpu(2),
+        number if number % 2 == 0 => Cpu(0),
+        _ => Cpu(1),
+    }
+}
+
+fn drawn_thread(seed: &mut u64) -> Tid {
+    Tid(drawn(seed) % 4)
+}
+
+fn drawn_mask(seed: &mut u64) -> u64 {
+    u64::from(drawn(seed) % 5)
+}
+
+fn drawn_call(seed: &mut u64) -> EnvCall {
+    match drawn(seed) % 9 {
+        0 => EnvCall::Create {
+            queue: drawn_cpu(seed),
+            mask: drawn_mask(seed),
+            ready: drawn(seed) % 2 == 0,
+        },
+        1 => EnvCall::Wake {
+            thread: drawn_thread(seed),
+        },
+        2 => EnvCall::Block {
+            cpu: drawn_cpu(seed),
+            ran: drawn(seed),
+        },
+        3 => EnvCall::YieldNow {
+            cpu: drawn_cpu(seed),
+            ran: drawn(seed),
+        },
+        4 => EnvCall::Preempt {
+            cpu: drawn_cpu(seed),
+            ran: drawn(seed),
+        },
+        5 => EnvCall::Die {
+            cpu: drawn_cpu(seed),
+            ran: drawn(seed),
+        },
+        6 => EnvCall::SetAffinity {
+            thread: drawn_thread(seed),
+            mask: drawn_mask(seed),
+        },
+        7 => EnvCall::SetPriority {
+            thread: drawn_thread(seed),
+            level: u8::try_from(drawn(seed) % 9).unwrap_or(8),
+        },
+        _ => EnvCall::Tick {
+            cpu: drawn_cpu(seed),
+        },
+    }
+}
+
+/// The count of posts to the CPU's queue, or now and then an older one.
+fn drawn_aseq(book: &Book, cpu: Cpu, seed: &mut u64) -> u32 {
+    let now = book.kernel().aseq(cpu).unwrap_or(0);
+    now.saturating_sub(drawn(seed) % 8 / 7)
+}
+
+/// The agent makes one of its calls.
+fn acts(book: &mut Book, agent: &mut Agent, seed: &mut u64) -> bool {
+    let cpu = agent.cpu();
+    let aseq = drawn_aseq(book, cpu, seed);
+    match drawn(seed) % 5 {
+        0 => book.pick(agent, aseq).is_ok(),
+        1 => book.steal(agent).is_ok(),
+        2 => book.sleep(cpu, aseq).is_ok(),
+        3 => book.rouse(cpu).is_ok(),
+        _ => copies(book, agent).is_some() && book.consume(agent).is_ok(),
+    }
+}
+
+/// Some call is made, or what the first agent's queue holds is told to the other.
+fn turn(scene: &mut Scene, seed: &mut u64) -> bool {
+    match drawn(seed) % 6 {
+        0 => scene.tells(),
+        1 | 2 => acts(&mut scene.book, &mut scene.first, seed),
+        3 => acts(&mut scene.book, &mut scene.other, seed),
+        _ => scene.book.post(drawn_call(seed)).is_ok(),
+    }
+}
+
+fn plays(scene: &mut Scene, mut seed: u64) {
+    for _ in 0..TURNS {
+        turn(scene, &mut seed);
+    }
+}
+
+/// Whether the kernel answers each listed call as it is listed.
+fn answers_alike(book: &Book, kernel: &mut Kernel) -> bool {
+    for entry in book.calls() {
+        if kernel.apply(entry.0) != Ok(entry.1) {
+            return false;
+        }
+    }
+    true
+}
+
+/// Whether the same is read of a thread.
+fn is_thread_alike(one: &Kernel, other: &Kernel, thread: Tid) -> bool {
+    one.status(thread) == other.status(thread)
+        && one.reported(thread) == other.reported(thread)
+        && one.queue_of(thread) == other.queue_of(thread)
+}
+
+/// Whether the same is read of a CPU.
+fn is_cpu_alike(one: &Kernel, other: &Kernel, cpu: Cpu) -> bool {
+    one.aseq(cpu) == other.aseq(cpu)
+        && one.running(cpu) == other.running(cpu)
+        && one.is_asleep(cpu) == other.is_asleep(cpu)
+}
+
+/// Whether the same is held by a CPU's queue.
+fn is_content_alike(one: &Kernel, other: &Kernel, cpu: Cpu) -> bool {
+    match (one.peek(cpu), other.peek(cpu)) {
+        (Ok((_, mine)), Ok((_, theirs))) => mine.as_slice() == theirs.as_slice(),
+        _ => false,
+    }
+}
+
+fn is_alike(one: &Kernel, other: &Kernel) -> bool {
+    one.threads() == other.threads()
+        && (0..one.threads()).all(|thread| is_thread_alike(one, other, Tid(thread)))
+        && (0..one.cpus()).all(|cpu| is_cpu_alike(one, other, Cpu(cpu)))
+        && (0..one.cpus()).all(|cpu| is_content_alike(one, other, Cpu(cpu)))
+}
+
+/// Whether a new kernel, on which the listed calls are made, answers and reads the same.
+fn is_replayed(alloc: Global, book: &Book) -> bool {
+    match Kernel::new(alloc, SMALL) {
+        Ok(mut kernel) => {
+            answers_alike(book, &mut kernel) && is_alike(book.kernel(), &kernel)
+        }
+        Err(_) => false,
+    }
+}
+
+/// Plays a list by the seed, and replays it. Answers how many calls were listed, where all is alike.
+fn replayed(alloc: Global, seed: u64) -> Option<usize> {
+    let mut scene = new_scene(alloc)?;
+    plays(&mut scene, seed);
+    if is_replayed(alloc, &scene.book) {
+        Some(scene.listed())
+    } else {
+        None
+    }
+}
+
+#[test]
+fn lists_are_replayed(rt: HostRuntime) -> Result<(), Fail> {
+    let mut listed = 0_usize;
+    for seed in 0..LISTS {
+        let calls = replayed(rt.alloc(), seed).ok_or("not alike")?;
+        listed = listed.saturating_add(calls);
+    }
+    assert!(rt; listed > 10_000);
+    Ok(())
+}

@@ -1,0 +1,151 @@
+//! Refused calls are not listed; each stands beside a neighbour that is.
+
+use crate::tests::{CREATE, PREEMPT, SMALL, new_scene, posted};
+use crate::{Book, CallFault, EnvCall, Limits, LimitsFault, Refusal};
+use pc_calls::LimitField;
+use pc_messages::{Cpu, Tid};
+use std::test::Fail;
+
+/// Threads that only profile Two may have.
+const MANY: Limits = Limits {
+    cpus: 2,
+    threads: 4_097,
+    numbers: 100,
+    room: 16,
+    posts: 1_000,
+};
+
+const WAKE: EnvCall = EnvCall::Wake { thread: Tid(0) };
+
+/// The thread on CPU 0 is dead.
+const DIE: EnvCall = EnvCall::Die {
+    cpu: Cpu(0),
+    ran: 1,
+};
+
+const PRIORITY: EnvCall = EnvCall::SetPriority {
+    thread: Tid(0),
+    level: 1,
+};
+
+const fn refused(refusal: Refusal) -> CallFault {
+    CallFault::Refused(refusal)
+}
+
+#[test]
+fn a_book_is_of_profile_one(rt: HostRuntime) {
+    assert!(rt;
+        matches!(
+            Book::new(rt.alloc(), MANY),
+            Err(LimitsFault::BadLimits(LimitField::Threads))
+        )
+    );
+}
+
+#[test]
+fn a_new_book_lists_nothing(rt: HostRuntime) -> Result<(), Fail> {
+    let book = Book::new(rt.alloc(), SMALL)?;
+    book.is_replay();
+    book.facts_hold();
+    assert_eq!(rt; book.calls().len(), 0);
+    assert_eq!(rt; book.kernel().limits(), SMALL);
+    Ok(())
+}
+
+#[test]
+fn of_the_environment(rt: HostRuntime) -> Result<(), Fail> {
+    let mut book = Book::new(rt.alloc(), SMALL)?;
+    let unknown = Err(refused(Refusal::UnknownThread));
+    assert_eq!(rt; book.post(WAKE), unknown);
+    assert_eq!(rt; book.calls().len(), 0);
+    assert_eq!(rt; book.post(CREATE), Ok(posted(1, 1)));
+    assert_eq!(rt; book.post(WAKE), Err(refused(Refusal::NotBlocked)));
+    assert_eq!(rt; book.calls().len(), 1);
+    Ok(())
+}
+
+#[test]
+fn of_sleepers(rt: HostRuntime) -> Result<(), Fail> {
+    let mut book = Book::new(rt.alloc(), SMALL)?;
+    assert_eq!(rt; book.sleep(Cpu(2), 0), Err(refused(Refusal::BadCpu)));
+    assert_eq!(rt; book.sleep(Cpu(1), 1), Err(refused(Refusal::Stale(0))));
+    assert_eq!(rt; book.rouse(Cpu(2)), Err(refused(Refusal::BadCpu)));
+    assert_eq!(rt; book.calls().len(), 0);
+    assert_eq!(rt; book.sleep(Cpu(1), 0), Ok(()));
+    assert_eq!(rt; book.calls().len(), 1);
+    Ok(())
+}
+
+#[test]
+fn of_a_peek(rt: HostRuntime) -> Result<(), Fail> {
+    let mut book = Book::new(rt.alloc(), SMALL)?;
+    assert_eq!(rt; book.post(CREATE), Ok(posted(1, 1)));
+    assert!(rt; matches!(book.peek(Cpu(2)), Err(CallFault::Refused(Refusal::BadCpu))));
+    let read = book.peek(Cpu(0))?;
+    assert_eq!(rt; read.0, 1);
+    assert_eq!(rt; read.1.len(), 1);
+    assert_eq!(rt; book.calls().len(), 1);
+    Ok(())
+}
+
+#[test]
+fn of_a_consume(rt: HostRuntime) -> Result<(), Fail> {
+    let mut scene = new_scene(rt.alloc()).ok_or("no book")?;
+    assert_eq!(rt; scene.book.post(CREATE), Ok(posted(1, 1)));
+    scene.first.sent(2);
+    let many = Err(refused(Refusal::TooMany));
+    assert_eq!(rt; scene.book.consume(&mut scene.first), many);
+    assert_eq!(rt; scene.listed(), 1);
+    scene.first.sent(1);
+    assert_eq!(rt; scene.book.consume(&mut scene.first), Ok(1));
+    assert_eq!(rt; scene.listed(), 2);
+    assert_eq!(rt; scene.first.counts().taken, 1);
+    Ok(())
+}
+
+#[test]
+fn of_a_pick(rt: HostRuntime) -> Result<(), Fail> {
+    let mut scene = new_scene(rt.alloc()).ok_or("no book")?;
+    assert_eq!(rt; scene.book.post(CREATE), Ok(posted(1, 1)));
+    let stale = Err(refused(Refusal::Stale(1)));
+    assert_eq!(rt; scene.book.pick(&mut scene.first, 0), stale);
+    let none = Err(refused(Refusal::NothingReady));
+    assert_eq!(rt; scene.book.pick(&mut scene.first, 1), none);
+    assert!(rt; scene.tells());
+    assert_eq!(rt; scene.listed(), 1);
+    assert_eq!(rt; scene.book.pick(&mut scene.first, 1), Ok(Tid(0)));
+    let busy = Err(refused(Refusal::Busy));
+    assert_eq!(rt; scene.book.pick(&mut scene.first, 1), busy);
+    assert_eq!(rt; scene.listed(), 2);
+    Ok(())
+}
+
+#[test]
+fn of_a_steal(rt: HostRuntime) -> Result<(), Fail> {
+    let mut scene = new_scene(rt.alloc()).ok_or("no book")?;
+    assert_eq!(rt; scene.book.post(CREATE), Ok(posted(1, 1)));
+    assert!(rt; scene.tells());
+    let pending = Err(refused(Refusal::Pending));
+    assert_eq!(rt; scene.book.steal(&mut scene.other), pending);
+    assert_eq!(rt; scene.book.post(PRIORITY), Ok(posted(2, 2)));
+    let stale = Err(refused(Refusal::Stale(2)));
+    assert_eq!(rt; scene.book.steal(&mut scene.other), stale);
+    assert_eq!(rt; scene.listed(), 2);
+    assert!(rt; scene.tells_and_consumes(2));
+    assert_eq!(rt; scene.book.steal(&mut scene.other), Ok(Tid(0)));
+    assert_eq!(rt; scene.listed(), 4);
+    Ok(())
+}
+
+#[test]
+fn of_a_steal_of_what_ran(rt: HostRuntime) -> Result<(), Fail> {
+    let mut scene = new_scene(rt.alloc()).ok_or("no book")?;
+    assert!(rt; scene.runs_one());
+    assert_eq!(rt; scene.book.post(DIE), Ok(posted(2, 2)));
+    let dead = Err(refused(Refusal::Dead));
+    assert_eq!(rt; scene.book.steal(&mut scene.other), dead);
+    let idle = Err(refused(Refusal::IdleCpu));
+    assert_eq!(rt; scene.book.post(PREEMPT), idle);
+    assert_eq!(rt; scene.listed(), 4);
+    Ok(())
+}
