@@ -5,7 +5,7 @@ mod drawn;
 mod refusals;
 mod settled;
 
-use crate::{Book, EnvCall, Limits, Posted};
+use crate::{Answer, Book, Call, CallFault, EnvCall, Limits, Posted};
 use pc_agent::Agent;
 use pc_delta::Delta;
 use pc_messages::{Cpu, Tid};
@@ -78,7 +78,33 @@ fn copies(book: &Book, agent: &mut Agent) -> Option<Delta> {
     }
 }
 
+// Without contracts, so that a test's proof does not carry those of the book.
 impl Scene {
+    fn posts(&mut self, call: EnvCall) -> Result<Posted, CallFault> {
+        self.book.post(call)
+    }
+
+    fn consumes(&mut self) -> Result<u32, CallFault> {
+        self.book.consume(&mut self.first)
+    }
+
+    fn picks(&mut self, aseq: u32) -> Result<Tid, CallFault> {
+        self.book.pick(&mut self.first, aseq)
+    }
+
+    /// The other agent steals.
+    fn steals(&mut self) -> Result<Tid, CallFault> {
+        self.book.steal(&mut self.other)
+    }
+
+    fn sleeps(&mut self, cpu: u8, aseq: u32) -> Result<(), CallFault> {
+        self.book.sleep(Cpu(cpu), aseq)
+    }
+
+    fn rouses(&mut self, cpu: u8) -> Result<(), CallFault> {
+        self.book.rouse(Cpu(cpu))
+    }
+
     /// The first agent copies what its queue holds, and the other takes it in.
     fn tells(&mut self) -> bool {
         match copies(&self.book, &mut self.first) {
@@ -87,26 +113,28 @@ impl Scene {
         }
     }
 
-    /// The first agent copies what its queue holds, the other takes it in, and it is removed.
-    fn tells_and_consumes(&mut self, items: u32) -> bool {
-        self.tells() && self.book.consume(&mut self.first) == Ok(items)
-    }
-
     /// A thread is created, the first agent copies that, removes it, and has the thread run.
     fn runs_one(&mut self) -> bool {
-        self.book.post(CREATE) == Ok(posted(1, 1))
-            && self.tells_and_consumes(1)
-            && self.book.pick(&mut self.first, 1) == Ok(Tid(0))
+        self.posts(CREATE) == Ok(posted(1, 1))
+            && self.tells()
+            && self.consumes() == Ok(1)
+            && self.picks(1) == Ok(Tid(0))
     }
 
     /// The thread leaves the CPU, the first agent copies and removes that, and the other takes it in and the thread over.
     fn moves_one(&mut self) -> bool {
-        self.book.post(PREEMPT) == Ok(posted(2, 2))
-            && self.tells_and_consumes(1)
-            && self.book.steal(&mut self.other) == Ok(Tid(0))
+        self.posts(PREEMPT) == Ok(posted(2, 2))
+            && self.tells()
+            && self.consumes() == Ok(1)
+            && self.steals() == Ok(Tid(0))
     }
 
     fn listed(&self) -> usize {
         self.book.calls().len()
+    }
+
+    /// Whether these calls are the last ones listed, from this place on.
+    fn lists(&self, from: usize, listed: &[(Call, Answer)]) -> bool {
+        self.book.calls().get(from..).unwrap_or(&[]) == listed
     }
 }

@@ -1,6 +1,6 @@
 //! What agents do with a book, and what is listed.
 
-use crate::tests::{CREATE, PREEMPT, new_scene, posted};
+use crate::tests::{CREATE, PREEMPT, Scene, new_scene, posted};
 use crate::{Answer, Call, CallFault, Refusal};
 use pc_messages::{Cpu, Tid};
 use std::test::Fail;
@@ -33,9 +33,9 @@ const ASSOCIATE: Call = Call::Associate {
 fn five_calls_are_listed(rt: HostRuntime) -> Result<(), Fail> {
     let mut scene = new_scene(rt.alloc()).ok_or("no book")?;
     assert!(rt; scene.runs_one());
-    assert_eq!(rt; scene.book.sleep(Cpu(0), 1), Ok(()));
+    assert_eq!(rt; scene.sleeps(0, 1), Ok(()));
     assert!(rt; scene.book.kernel().is_asleep(Cpu(0)));
-    assert_eq!(rt; scene.book.rouse(Cpu(0)), Ok(()));
+    assert_eq!(rt; scene.rouses(0), Ok(()));
     assert!(rt; !scene.book.kernel().is_asleep(Cpu(0)));
     let listed = [
         (Call::Env(CREATE), Answer::Posted(posted(1, 1))),
@@ -44,7 +44,7 @@ fn five_calls_are_listed(rt: HostRuntime) -> Result<(), Fail> {
         (SLEEP, Answer::Done),
         (ROUSE, Answer::Done),
     ];
-    assert!(rt; scene.book.calls() == listed.as_slice());
+    assert!(rt; scene.lists(0, &listed));
     Ok(())
 }
 
@@ -52,21 +52,24 @@ fn five_calls_are_listed(rt: HostRuntime) -> Result<(), Fail> {
 fn eight_calls_are_listed(rt: HostRuntime) -> Result<(), Fail> {
     let mut scene = new_scene(rt.alloc()).ok_or("no book")?;
     assert!(rt; scene.runs_one());
-    assert_eq!(rt; scene.book.sleep(Cpu(0), 1), Ok(()));
-    assert_eq!(rt; scene.book.rouse(Cpu(0)), Ok(()));
-    let busy = Err(CallFault::Refused(Refusal::Busy));
-    assert_eq!(rt; scene.book.steal(&mut scene.first), busy);
+    assert_eq!(rt; scene.sleeps(0, 1), Ok(()));
+    assert_eq!(rt; scene.rouses(0), Ok(()));
+    assert!(rt; first_is_busy(&mut scene));
     let none = Err(CallFault::Refused(Refusal::NothingToSteal));
-    assert_eq!(rt; scene.book.steal(&mut scene.other), none);
+    assert_eq!(rt; scene.steals(), none);
     assert_eq!(rt; scene.listed(), 5);
-    assert_eq!(rt; scene.first.counts().other, 1);
     assert!(rt; scene.moves_one());
     let listed = [
         (Call::Env(PREEMPT), Answer::Posted(posted(2, 2))),
         (CONSUME, Answer::Done),
         (ASSOCIATE, Answer::Done),
     ];
-    assert!(rt; &scene.book.calls()[5..] == listed.as_slice());
-    assert_eq!(rt; scene.other.counts().steals, 1);
+    assert!(rt; scene.lists(5, &listed));
     Ok(())
+}
+
+/// Whether the first agent steals nothing while a thread runs on its CPU, and counts that.
+fn first_is_busy(scene: &mut Scene) -> bool {
+    scene.book.steal(&mut scene.first) == Err(CallFault::Refused(Refusal::Busy))
+        && scene.first.counts().other == 1
 }

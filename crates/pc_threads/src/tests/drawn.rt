@@ -156,9 +156,7 @@ fn is_alike(one: &Kernel, other: &Kernel) -> bool {
 /// Whether a new kernel, on which the listed calls are made, answers and reads the same.
 fn is_replayed(alloc: Global, book: &Book) -> bool {
     match Kernel::new(alloc, SMALL) {
-        Ok(mut kernel) => {
-            answers_alike(book, &mut kernel) && is_alike(book.kernel(), &kernel)
-        }
+        Ok(mut kernel) => { answers_alike(book, &mut kernel) && is_alike(book.kernel(), &kernel) }
         Err(_) => false,
     }
 }

@@ -54,68 +54,69 @@ fn a_new_book_lists_nothing(rt: HostRuntime) -> Result<(), Fail> {
 
 #[test]
 fn of_the_environment(rt: HostRuntime) -> Result<(), Fail> {
-    let mut book = Book::new(rt.alloc(), SMALL)?;
-    let unknown = Err(refused(Refusal::UnknownThread));
-    assert_eq!(rt; book.post(WAKE), unknown);
-    assert_eq!(rt; book.calls().len(), 0);
-    assert_eq!(rt; book.post(CREATE), Ok(posted(1, 1)));
-    assert_eq!(rt; book.post(WAKE), Err(refused(Refusal::NotBlocked)));
-    assert_eq!(rt; book.calls().len(), 1);
+    let mut scene = new_scene(rt.alloc()).ok_or("no book")?;
+    assert_eq!(rt; scene.posts(WAKE), Err(refused(Refusal::UnknownThread)));
+    assert_eq!(rt; scene.listed(), 0);
+    assert_eq!(rt; scene.posts(CREATE), Ok(posted(1, 1)));
+    assert_eq!(rt; scene.posts(WAKE), Err(refused(Refusal::NotBlocked)));
+    assert_eq!(rt; scene.listed(), 1);
     Ok(())
 }
 
 #[test]
 fn of_sleepers(rt: HostRuntime) -> Result<(), Fail> {
-    let mut book = Book::new(rt.alloc(), SMALL)?;
-    assert_eq!(rt; book.sleep(Cpu(2), 0), Err(refused(Refusal::BadCpu)));
-    assert_eq!(rt; book.sleep(Cpu(1), 1), Err(refused(Refusal::Stale(0))));
-    assert_eq!(rt; book.rouse(Cpu(2)), Err(refused(Refusal::BadCpu)));
-    assert_eq!(rt; book.calls().len(), 0);
-    assert_eq!(rt; book.sleep(Cpu(1), 0), Ok(()));
-    assert_eq!(rt; book.calls().len(), 1);
+    let mut scene = new_scene(rt.alloc()).ok_or("no book")?;
+    assert_eq!(rt; scene.sleeps(2, 0), Err(refused(Refusal::BadCpu)));
+    assert_eq!(rt; scene.sleeps(1, 1), Err(refused(Refusal::Stale(0))));
+    assert_eq!(rt; scene.rouses(2), Err(refused(Refusal::BadCpu)));
+    assert_eq!(rt; scene.listed(), 0);
+    assert_eq!(rt; scene.sleeps(1, 0), Ok(()));
+    assert_eq!(rt; scene.listed(), 1);
     Ok(())
+}
+
+/// How many posts and items a peek at the CPU's queue tells of.
+fn peeked(book: &Book, cpu: Cpu) -> Result<(u32, usize), CallFault> {
+    match book.peek(cpu) {
+        Ok((posts, items)) => Ok((posts, items.len())),
+        Err(fault) => Err(fault),
+    }
 }
 
 #[test]
 fn of_a_peek(rt: HostRuntime) -> Result<(), Fail> {
-    let mut book = Book::new(rt.alloc(), SMALL)?;
-    assert_eq!(rt; book.post(CREATE), Ok(posted(1, 1)));
-    assert!(rt; matches!(book.peek(Cpu(2)), Err(CallFault::Refused(Refusal::BadCpu))));
-    let read = book.peek(Cpu(0))?;
-    assert_eq!(rt; read.0, 1);
-    assert_eq!(rt; read.1.len(), 1);
-    assert_eq!(rt; book.calls().len(), 1);
+    let mut scene = new_scene(rt.alloc()).ok_or("no book")?;
+    assert_eq!(rt; scene.posts(CREATE), Ok(posted(1, 1)));
+    let bad = peeked(&scene.book, Cpu(2));
+    assert_eq!(rt; bad, Err(refused(Refusal::BadCpu)));
+    assert_eq!(rt; peeked(&scene.book, Cpu(0)), Ok((1, 1)));
+    assert_eq!(rt; scene.listed(), 1);
     Ok(())
 }
 
 #[test]
 fn of_a_consume(rt: HostRuntime) -> Result<(), Fail> {
     let mut scene = new_scene(rt.alloc()).ok_or("no book")?;
-    assert_eq!(rt; scene.book.post(CREATE), Ok(posted(1, 1)));
+    assert_eq!(rt; scene.posts(CREATE), Ok(posted(1, 1)));
     scene.first.sent(2);
-    let many = Err(refused(Refusal::TooMany));
-    assert_eq!(rt; scene.book.consume(&mut scene.first), many);
+    assert_eq!(rt; scene.consumes(), Err(refused(Refusal::TooMany)));
     assert_eq!(rt; scene.listed(), 1);
     scene.first.sent(1);
-    assert_eq!(rt; scene.book.consume(&mut scene.first), Ok(1));
+    assert_eq!(rt; scene.consumes(), Ok(1));
     assert_eq!(rt; scene.listed(), 2);
-    assert_eq!(rt; scene.first.counts().taken, 1);
     Ok(())
 }
 
 #[test]
 fn of_a_pick(rt: HostRuntime) -> Result<(), Fail> {
     let mut scene = new_scene(rt.alloc()).ok_or("no book")?;
-    assert_eq!(rt; scene.book.post(CREATE), Ok(posted(1, 1)));
-    let stale = Err(refused(Refusal::Stale(1)));
-    assert_eq!(rt; scene.book.pick(&mut scene.first, 0), stale);
-    let none = Err(refused(Refusal::NothingReady));
-    assert_eq!(rt; scene.book.pick(&mut scene.first, 1), none);
+    assert_eq!(rt; scene.posts(CREATE), Ok(posted(1, 1)));
+    assert_eq!(rt; scene.picks(0), Err(refused(Refusal::Stale(1))));
+    assert_eq!(rt; scene.picks(1), Err(refused(Refusal::NothingReady)));
     assert!(rt; scene.tells());
     assert_eq!(rt; scene.listed(), 1);
-    assert_eq!(rt; scene.book.pick(&mut scene.first, 1), Ok(Tid(0)));
-    let busy = Err(refused(Refusal::Busy));
-    assert_eq!(rt; scene.book.pick(&mut scene.first, 1), busy);
+    assert_eq!(rt; scene.picks(1), Ok(Tid(0)));
+    assert_eq!(rt; scene.picks(1), Err(refused(Refusal::Busy)));
     assert_eq!(rt; scene.listed(), 2);
     Ok(())
 }
@@ -123,16 +124,15 @@ fn of_a_pick(rt: HostRuntime) -> Result<(), Fail> {
 #[test]
 fn of_a_steal(rt: HostRuntime) -> Result<(), Fail> {
     let mut scene = new_scene(rt.alloc()).ok_or("no book")?;
-    assert_eq!(rt; scene.book.post(CREATE), Ok(posted(1, 1)));
+    assert_eq!(rt; scene.posts(CREATE), Ok(posted(1, 1)));
     assert!(rt; scene.tells());
-    let pending = Err(refused(Refusal::Pending));
-    assert_eq!(rt; scene.book.steal(&mut scene.other), pending);
-    assert_eq!(rt; scene.book.post(PRIORITY), Ok(posted(2, 2)));
-    let stale = Err(refused(Refusal::Stale(2)));
-    assert_eq!(rt; scene.book.steal(&mut scene.other), stale);
+    assert_eq!(rt; scene.steals(), Err(refused(Refusal::Pending)));
+    assert_eq!(rt; scene.posts(PRIORITY), Ok(posted(2, 2)));
+    assert_eq!(rt; scene.steals(), Err(refused(Refusal::Stale(2))));
     assert_eq!(rt; scene.listed(), 2);
-    assert!(rt; scene.tells_and_consumes(2));
-    assert_eq!(rt; scene.book.steal(&mut scene.other), Ok(Tid(0)));
+    assert!(rt; scene.tells());
+    assert_eq!(rt; scene.consumes(), Ok(2));
+    assert_eq!(rt; scene.steals(), Ok(Tid(0)));
     assert_eq!(rt; scene.listed(), 4);
     Ok(())
 }
@@ -141,11 +141,9 @@ fn of_a_steal(rt: HostRuntime) -> Result<(), Fail> {
 fn of_a_steal_of_what_ran(rt: HostRuntime) -> Result<(), Fail> {
     let mut scene = new_scene(rt.alloc()).ok_or("no book")?;
     assert!(rt; scene.runs_one());
-    assert_eq!(rt; scene.book.post(DIE), Ok(posted(2, 2)));
-    let dead = Err(refused(Refusal::Dead));
-    assert_eq!(rt; scene.book.steal(&mut scene.other), dead);
-    let idle = Err(refused(Refusal::IdleCpu));
-    assert_eq!(rt; scene.book.post(PREEMPT), idle);
+    assert_eq!(rt; scene.posts(DIE), Ok(posted(2, 2)));
+    assert_eq!(rt; scene.steals(), Err(refused(Refusal::Dead)));
+    assert_eq!(rt; scene.posts(PREEMPT), Err(refused(Refusal::IdleCpu)));
     assert_eq!(rt; scene.listed(), 4);
     Ok(())
 }
