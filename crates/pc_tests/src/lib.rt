@@ -22,6 +22,8 @@ mod script;
 #[cfg(test)]
 mod thread_view;
 #[cfg(test)]
+mod threads;
+#[cfg(test)]
 mod view;
 #[cfg(test)]
 mod world;

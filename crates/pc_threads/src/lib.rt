@@ -6,8 +6,6 @@
 
 mod book;
 mod settling;
-#[cfg(test)]
-mod tests;
 
 pub use book::Book;
 pub use pc_calls::{Answer, Call, CallFault, EnvCall, Limits, LimitsFault, Posted, Refusal};

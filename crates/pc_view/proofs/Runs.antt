@@ -50,7 +50,7 @@ folded_of run thread upto reported p = record { prefix = prefix_from (run thread
 pub folded_members : (thread upto : ℕ) (reported : Reported) (m : List ℕ) → members_at thread (numbers_of (record { upto = upto; state = Some reported; early = [] })) m ≡ prefix_pairs thread upto m
 folded_members thread upto reported [] = refl
 folded_members thread upto reported (t ∷ []) = refl
-folded_members thread upto reported (t ∷ n ∷ []) = ap (λ b. (t == thread) && b) (sym (or_none (one_to upto n)))
+folded_members thread upto reported (t ∷ n ∷ []) = ap (λ b. (t == thread) && b) (or_none (one_to upto n))
 folded_members thread upto reported (t ∷ n ∷ k ∷ m) = refl
 
 -- no names

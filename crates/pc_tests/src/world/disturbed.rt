@@ -108,7 +108,11 @@ fn disturb(alloc: Global, limits: Limits, events: &[Event]) -> Result<Vec<bool>,
 }
 
 /// So many runs of each script, and each of them stays whole.
-fn each_stays_whole(rt: &impl Abort, alloc: Global, scripts: &[(&[u8], usize)]) -> Result<(), Fail> {
+fn each_stays_whole(
+    rt: &impl Abort,
+    alloc: Global,
+    scripts: &[(&[u8], usize)],
+) -> Result<(), Fail> {
     for (script, runs) in scripts {
         let (limits, events) = events_of(alloc, script)?;
         let whole = disturb(alloc, limits, events.as_slice())?;
@@ -140,10 +144,7 @@ fn what_was_sent_is_looked_at_and_delivered(rt: HostRuntime) -> Result<(), Fail>
               publish 0",
             12,
         ),
-        (
-            b"enclave 2 8 100 16 1000; deliver 0 0; consume 0",
-            4,
-        ),
+        (b"enclave 2 8 100 16 1000; deliver 0 0; consume 0", 4),
     ];
     each_stays_whole(&rt, rt.alloc(), &scripts)
 }
@@ -173,7 +174,8 @@ fn what_a_crash_left_is_taken_up_again(rt: HostRuntime) -> Result<(), Fail> {
     let scripts = [
         (
             b"enclave 2 8 100 16 1000; create 0 3 ready; publish 0; show 0; crash 0; show 0; consume 0; \
-              publish 0; consume 0".as_slice(),
+              publish 0; consume 0"
+                .as_slice(),
             14,
         ),
         (
@@ -190,7 +192,8 @@ fn a_thread_that_runs_and_one_that_is_stolen(rt: HostRuntime) -> Result<(), Fail
     let scripts = [
         (
             b"enclave 2 8 100 16 1000; create 0 3 ready; publish 0; consume 0; pick 0 1; yield 0 2; \
-              publish 0; pick 0 1; pick 0 2; block 0 3; status t0; publish 0; pick 0 3; show 0".as_slice(),
+              publish 0; pick 0 1; pick 0 2; block 0 3; status t0; publish 0; pick 0 3; show 0"
+                .as_slice(),
             25,
         ),
         (
@@ -234,4 +237,3 @@ fn limits_that_are_reached_and_agents_that_sleep(rt: HostRuntime) -> Result<(), 
     ];
     each_stays_whole(&rt, rt.alloc(), &scripts)
 }
-

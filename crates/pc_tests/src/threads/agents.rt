@@ -1,8 +1,8 @@
 //! What agents do with a book, and what is listed.
 
-use crate::tests::{CREATE, PREEMPT, Scene, new_scene, posted};
-use crate::{Answer, Call, CallFault, Refusal};
+use super::{CREATE, PREEMPT, Scene, new_scene, posted};
 use pc_messages::{Cpu, Tid};
+use pc_threads::{Answer, Call, CallFault, Refusal};
 use std::test::Fail;
 
 const CONSUME: Call = Call::Consume {

@@ -1,9 +1,9 @@
 //! What views settle.
 
-use crate::tests::new_scene;
-use crate::{Book, RunFault, settle};
+use super::new_scene;
 use pc_join::Join;
 use pc_messages::{Cpu, Kind, Mask, Message, Tid};
+use pc_threads::{Book, RunFault, settle};
 use pc_view::View;
 use std::alloc::Global;
 use std::test::Fail;

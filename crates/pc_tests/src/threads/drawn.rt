@@ -1,10 +1,10 @@
 //! Lists of calls drawn at random, with fixed seeds: each is replayed on a new kernel, which answers the same and reads the same.
 
-use crate::tests::{SMALL, Scene, copies, new_scene};
-use crate::{Book, EnvCall};
+use super::{SMALL, Scene, copies, new_scene};
 use pc_agent::Agent;
 use pc_kernel::Kernel;
 use pc_messages::{Cpu, Tid};
+use pc_threads::{Book, EnvCall};
 use std::alloc::Global;
 use std::test::Fail;
 

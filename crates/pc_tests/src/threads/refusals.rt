@@ -1,9 +1,9 @@
 //! Refused calls are not listed; each stands beside a neighbour that is.
 
-use crate::tests::{CREATE, PREEMPT, SMALL, new_scene, posted};
-use crate::{Book, CallFault, EnvCall, Limits, LimitsFault, Refusal};
+use super::{CREATE, PREEMPT, SMALL, new_scene, posted};
 use pc_calls::LimitField;
 use pc_messages::{Cpu, Tid};
+use pc_threads::{Book, CallFault, EnvCall, Limits, LimitsFault, Refusal};
 use std::test::Fail;
 
 /// Threads that only profile Two may have.

@@ -5,10 +5,10 @@ mod drawn;
 mod refusals;
 mod settled;
 
-use crate::{Answer, Book, Call, CallFault, EnvCall, Limits, Posted};
 use pc_agent::Agent;
 use pc_delta::Delta;
 use pc_messages::{Cpu, Tid};
+use pc_threads::{Answer, Book, Call, CallFault, EnvCall, Limits, Posted};
 use std::alloc::Global;
 
 /// Two CPUs, eight threads.
