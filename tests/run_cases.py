@@ -36,6 +36,14 @@ def standard_input(case, folder):
     return content(case / "stdin")
 
 
+def difference(what, found, wanted):
+    """The first line in which what was written is not the wanted."""
+    ours, theirs = found.split(b"\n"), wanted.split(b"\n")
+    place = next((i for i, pair in enumerate(zip(ours, theirs)) if pair[0] != pair[1]), min(len(ours), len(theirs)))
+    one, other = (repr(lines[place][:200]) if place < len(lines) else "its end" for lines in (ours, theirs))
+    return f"{what}, line {place + 1}: {one}, wanted {other}"
+
+
 def faults_of(case, program):
     """What differs from the wanted, as a list of texts."""
     args = (case / "args").read_text().splitlines() if (case / "args").is_file() else ["replay"]
@@ -51,9 +59,9 @@ def faults_of(case, program):
         if not run.stdout:
             faults.append("nothing on standard output")
     elif run.stdout != content(case / "stdout"):
-        faults.append(f"standard output {run.stdout[:400]!r}, wanted {content(case / 'stdout')[:400]!r}")
+        faults.append(difference("standard output", run.stdout, content(case / "stdout")))
     if run.stderr != content(case / "stderr"):
-        faults.append(f"standard error {run.stderr[:400]!r}, wanted {content(case / 'stderr')[:400]!r}")
+        faults.append(difference("standard error", run.stderr, content(case / "stderr")))
     return faults
 
 
@@ -63,7 +71,7 @@ def faults_of_example(script, program):
     wanted = script.with_suffix(".output").read_bytes()
     if (run.returncode, run.stdout, run.stderr) == (0, wanted, b""):
         return []
-    return [f"status {run.returncode}, standard output {run.stdout[:400]!r}, wanted {wanted[:400]!r}"]
+    return [f"status {run.returncode}, standard error {run.stderr[:400]!r}, " + difference("standard output", run.stdout, wanted)]
 
 
 def faults_of_page(page, program):
@@ -93,7 +101,9 @@ def main():
     parser.add_argument("--gate-status", type=int, default=0, help="the exit status of the gate, to be counted too")
     parser.add_argument("--gate-line", default="0 passed, 0 failed", help="the gate's last line")
     parser.add_argument("--also", action="append", default=[], help="the last line of further tests, to be counted too")
+    parser.add_argument("--program", type=pathlib.Path, help="run this program alone, as `rt run` leaves it")
     options = parser.parse_args()
+    programs = [options.program.resolve()] if options.program else PROGRAMS
     passed, failed = counted(options.gate_line)
     if options.gate_status != 0 and failed == 0:
         failed = 1
@@ -106,7 +116,7 @@ def main():
         failed += 1
     examples = sorted((ROOT / "examples").glob("*.script"))
     for case in [*cases, *examples, PAGE]:
-        for program in PROGRAMS:
+        for program in programs:
             try:
                 found = faults(case, program)
             except (OSError, subprocess.SubprocessError) as error:
