@@ -15,7 +15,7 @@ use Rattle.pc_kernel.specs.PlainKernel.{PlainKernel, start, kinds, is_known, thr
 use Rattle.pc_kernel.specs.Reads.{shown}
 use Rattle.pc_kernel.specs.Reads as reads
 use Rattle.pc_kernel.specs.Steps.{refusals, changed, after, replay, is_ready}
-use Rattle.pc_kernel.proofs.Refusals.{NoneHold, after_has}
+use Rattle.pc_kernel.proofs.Refusals.{NoneHold, after_has, associate_passes, commit_passes}
 use Rattle.pc_kernel.proofs.ShownReads.{shown-kinds, shown-home, shown-place, shown-content, shown-aseq}
 use Rattle.pc_kernel.proofs.Always.{IsKept, tick_kept}
 use Rattle.pc_kernel.proofs.AlwaysCalls.{left_kept, wake_kept, priority_kept, affinity_kept, created_kept, not_false, not_some, ready_is, known_of}
@@ -37,13 +37,13 @@ env_kept P (Tick cpu) h n = tick_kept P cpu h
 
 commit_call : (P : PlainKernel) (cpu t a : ℕ) → IsKept P → NoneHold (refusals (shown P) (Commit cpu t a)) → IsKept (changed P (Commit cpu t a))
 commit_call P cpu t a h n =
-    let known : is_known P t ≡ true = known_of P t n.1.0 in
-    let rest = n.1.1.1 in
-    commit_kept P cpu t h (low_of P cpu n.0)
-    (sym (shown-home P t known) ∙ eqb-true (reads.home (shown P) t) cpu (not_false (reads.home (shown P) t == cpu) rest.1.0))
-    (ready_is (phase_of (kinds P t)) (ap (λ ks. is_ready (phase_of ks)) (sym (shown-kinds P t)) ∙ not_false (is_ready (reads.phase (shown P) t)) rest.0))
-    (ap (λ ks. option_map_or (λ mask. allows mask cpu) (mask_of ks) false) (sym (shown-kinds P t)) ∙ not_false (reads.may_run_on (shown P) t cpu) rest.1.1.1.0)
-    (not_some (place_of P t) (ap is_some (sym (shown-place P t known)) ∙ rest.1.1.0))
+    let passes = commit_passes (shown P) cpu t a n in
+    let known : is_known P t ≡ true = known_of P t passes.known in
+    commit_kept P cpu t h (low_of P cpu passes.there)
+    (sym (shown-home P t known) ∙ eqb-true (reads.home (shown P) t) cpu (not_false (reads.home (shown P) t == cpu) passes.at_home))
+    (ready_is (phase_of (kinds P t)) (ap (λ ks. is_ready (phase_of ks)) (sym (shown-kinds P t)) ∙ not_false (is_ready (reads.phase (shown P) t)) passes.ready))
+    (ap (λ ks. option_map_or (λ mask. allows mask cpu) (mask_of ks) false) (sym (shown-kinds P t)) ∙ not_false (reads.may_run_on (shown P) t cpu) passes.allowed)
+    (not_some (place_of P t) (ap is_some (sym (shown-place P t known)) ∙ passes.nowhere))
 
 call_kept : (P : PlainKernel) (call : Call) → IsKept P → NoneHold (refusals (shown P) call) → IsKept (changed P call)
 call_kept P (Env call) h n = env_kept P call h n
@@ -51,7 +51,9 @@ call_kept P (Consume cpu count) h n =
     let size : length (reads.content_read (shown P) cpu) ≡ length (content P cpu) = ap length (shown-content P cpu (not_false (reads.is_cpu (shown P) cpu) n.0)) in
     let low : count ≤ length (reads.content_read (shown P) cpu) = ltb-false (length (reads.content_read (shown P) cpu)) count n.1.0 in
     consume_kept P cpu count h (subst (λ m. count ≤ m) size low)
-call_kept P (Associate t queue number) h n = associate_kept P t queue h n.0 n.1.0 n.1.1.1.1.0 n.1.1.1.1.1.0
+call_kept P (Associate t queue number) h n =
+    let passes = associate_passes (shown P) t queue number n in
+    associate_kept P t queue h passes.known passes.there passes.nothing_waits passes.idle
 call_kept P (Commit cpu t a) h n = commit_call P cpu t a h n
 call_kept P (Sleep cpu a) h n =
     sleep_kept P cpu a h (eqb-true a (reads.aseq_read (shown P) cpu) (not_false (a == reads.aseq_read (shown P) cpu) n.1.0) ∙ shown-aseq P cpu (not_false (reads.is_cpu (shown P) cpu) n.0))
