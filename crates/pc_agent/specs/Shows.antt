@@ -7,6 +7,7 @@ use Rattle.pc_view.specs.Views.{pairs_of, IsOfRun}
 use Rattle.pc_delta.specs.declared.part.Part.{Part}
 use Rattle.pc_delta.specs.Parts.{AreOfRun, set_of}
 use Rattle.pc_agent.specs.declared.agent.Agent.{Agent}
+use Rattle.pc_agent.specs.declared.counts.Counts.{Counts}
 use Rattle.pc_agent.specs.PlainAgent.{PlainAgent, Set}
 
 -- the view is that of the set in the run
@@ -33,3 +34,16 @@ ShowsPart run p set agent = (some : Set) × IsBetween (as_members p.seen) (as_me
 -- whose agent it is
 abbrev pub cpu_of : Agent → ℕ
 cpu_of agent = agent.cpu
+
+-- what it knows, its run list, how many items at the front of its queue it has sent, and what it has counted
+abbrev pub view_of : Agent → View
+view_of agent = agent.view
+
+abbrev pub list_of : Agent → List ℕ
+list_of agent = agent.list
+
+abbrev pub sent_of : Agent → ℕ
+sent_of agent = agent.shown
+
+abbrev pub counts_of : Agent → Counts
+counts_of agent = agent.counts

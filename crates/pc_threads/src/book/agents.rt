@@ -8,7 +8,7 @@ ghost use Rattle.pc_agent.specs.Counts.{consume_counted, pick_counted, steal_cou
 ghost use Rattle.pc_agent.specs.Own.{ConsumesAsSeen, PicksAsSeen, StealsAsSeen};
 ghost use Rattle.pc_agent.specs.Publishing.{IsConsumed, WhateverShown};
 ghost use Rattle.pc_agent.specs.Running.{IsPicked, Steals, takes_up_to};
-ghost use Rattle.pc_agent.specs.Shows.{cpu_of};
+ghost use Rattle.pc_agent.specs.Shows.{counts_of, cpu_of, list_of, sent_of, view_of};
 
 use crate::book::{Book, list};
 use pc_agent::Agent;
@@ -24,7 +24,7 @@ impl Book {
         ensures consumes { IfSome (answered result) (λ answer. WhateverShown self.old.kernel agent.old (λ P run p.
             IsConsumed P run p answer (cpu_of agent.old) agent.new self.new.kernel)) }
         ensures own { IfSome (answered result) (λ answer. ConsumesAsSeen agent.old self.old.kernel answer agent.new self.new.kernel) }
-        ensures counts { IfSome (answered result) (λ answer. agent.new.counts ≡ consume_counted answer agent.old.counts) }
+        ensures counts { IfSome (answered result) (λ answer. counts_of agent.new ≡ consume_counted answer (counts_of agent.old)) }
         ensures cpu { cpu_of agent.new ≡ cpu_of agent.old }
         ensures limits { self.new.kernel.limits ≡ self.old.kernel.limits }
         ensures err { OnErr result (self.new ≡ self.old) }
@@ -53,7 +53,7 @@ impl Book {
         ensures picks { IfSome (answered result) (λ answer. WhateverShown self.old.kernel agent.old (λ P run p.
             IsPicked aseq P run p answer (cpu_of agent.old) agent.new self.new.kernel)) }
         ensures own { IfSome (answered result) (λ answer. PicksAsSeen aseq agent.old self.old.kernel answer agent.new self.new.kernel) }
-        ensures counts { IfSome (answered result) (λ answer. agent.new.counts ≡ pick_counted answer agent.old.counts) }
+        ensures counts { IfSome (answered result) (λ answer. counts_of agent.new ≡ pick_counted answer (counts_of agent.old)) }
         ensures starved { result ≡ Err CallFault.OutOfMemory → agent.new ≡ agent.old }
         ensures cpu { cpu_of agent.new ≡ cpu_of agent.old }
         ensures limits { self.new.kernel.limits ≡ self.old.kernel.limits }
@@ -79,15 +79,15 @@ impl Book {
     /// agent's run list.
     pub fn steal(&mut self, agent: &mut Agent) -> Result<Tid, CallFault>
         ensures listed { IfOk result (λ thread.
-            Lists (takes_up_to (upto_of agent.old.view) (cpu_of agent.old) thread) Done self.old self.new) }
+            Lists (takes_up_to (upto_of (view_of agent.old)) (cpu_of agent.old) thread) Done self.old self.new) }
         ensures steals { result ≢ Err CallFault.OutOfMemory → WhateverShown self.old.kernel agent.old (λ P run p.
             Steals P run p result (cpu_of agent.old) agent.new self.new.kernel) }
         ensures own { result ≢ Err CallFault.OutOfMemory →
-            StealsAsSeen agent.old.view (cpu_of agent.old) result agent.old.list agent.new.list self.old.kernel self.new.kernel }
-        ensures list_err { OnErr result (agent.new.list ≡ agent.old.list) }
-        ensures counts { agent.new.counts ≡ steal_counted result agent.old.counts }
-        ensures view { agent.new.view ≡ agent.old.view }
-        ensures sent { agent.new.shown ≡ agent.old.shown }
+            StealsAsSeen (view_of agent.old) (cpu_of agent.old) result (list_of agent.old) (list_of agent.new) self.old.kernel self.new.kernel }
+        ensures list_err { OnErr result (list_of agent.new ≡ list_of agent.old) }
+        ensures counts { counts_of agent.new ≡ steal_counted result (counts_of agent.old) }
+        ensures view { view_of agent.new ≡ view_of agent.old }
+        ensures sent { sent_of agent.new ≡ sent_of agent.old }
         ensures cpu { cpu_of agent.new ≡ cpu_of agent.old }
         ensures limits { self.new.kernel.limits ≡ self.old.kernel.limits }
         ensures err { OnErr result (self.new ≡ self.old) }

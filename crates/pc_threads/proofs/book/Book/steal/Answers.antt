@@ -3,22 +3,21 @@ use Rattle.pc_calls.specs.declared.call.Answer.TheVariants.{Done}
 use Rattle.pc_calls.specs.declared.call.Call.TheVariants as call
 use Rattle.pc_view.specs.Prefixes.{upto_of}
 use Rattle.pc_agent.specs.Own.{StealsAsSeen}
-use Rattle.pc_agent.specs.Running.{takes_up_to}
-use Rattle.pc_agent.specs.Shows.{cpu_of}
+use Rattle.pc_agent.specs.Shows.{cpu_of, list_of, view_of}
 use Rattle.pc_threads.specs.Pages.{Pages}
 use Rattle.pc_threads.proofs.Listing.{put}
 use Rattle.pc_threads.proofs.book.Book.steal.Goals as goal
 
 pub invariant_of-self-in-Ok : goal.invariant_of-self-in-Ok
 invariant_of-self-in-Ok c =
-    let number : upto_of c.args.agent.now.view c.in-Ok.thread ≡ c.upto-number.result =
+    let number : upto_of (view_of c.args.agent.now) c.in-Ok.thread ≡ c.upto-number.result =
     ap (λ view. upto_of view c.in-Ok.thread) (sym (c.view.ensures.same ∙ c.in-Ok.ensures.view)) ∙ sym c.upto-number.ensures in
-    let made : call.Associate c.in-Ok.thread (cpu_of c.args.agent.now) (upto_of c.args.agent.now.view c.in-Ok.thread) ≡ call.Associate c.in-Ok.thread c.cpu-queue.result c.upto-number.result = cc (number, c.cpu-queue.ensures) in
+    let made : call.Associate c.in-Ok.thread (cpu_of c.args.agent.now) (upto_of (view_of c.args.agent.now) c.in-Ok.thread) ≡ call.Associate c.in-Ok.thread c.cpu-queue.result c.upto-number.result = cc (number, c.cpu-queue.ensures) in
     put c.self.inside.kernel c.steal.new.kernel c.self.inside.calls.items c.reserve.new.self.items c.list.new.calls.items _ _ Done made c.reserve.ensures.items
     c.list.ensures c.in-Ok.ensures.limits c.in-Ok.ensures.kernel c.self.invariant
 
 pub returns-in-Err-clause-own : goal.returns-in-Err-clause-own
 returns-in-Err-clause-own c _ =
     let same : c.self.inside.kernel ≡ c.args.self.now.kernel = ap (λ (book : Pages). book.kernel) c.self.view_is in
-    subst (λ before. StealsAsSeen c.args.agent.now.view (cpu_of c.args.agent.now) (Err c.in-Err.fault) c.args.agent.now.list c.steal.new.self.list before c.steal.new.kernel) same
+    subst (λ before. StealsAsSeen (view_of c.args.agent.now) (cpu_of c.args.agent.now) (Err c.in-Err.fault) (list_of c.args.agent.now) (list_of c.steal.new.self) before c.steal.new.kernel) same
     c.in-Err.ensures.own
