@@ -1,5 +1,5 @@
 -- One more accepted call at the end of a book's list.
-use Rattle.std.proofs.Common.{◌≡◌, ◌↔◌, IfSome, List, [], ◌∷◌, ◌++◌, Option, Some, None, Result, Ok, Err, refl, sym, ◌∙◌, ap, subst}
+use Rattle.std.proofs.Common.{◌≡◌, ◌↔◌, IfSome, List, [], ◌∷◌, ◌++◌, Option, Some, Result, Ok, Err, refl, sym, ◌∙◌, ap, subst}
 use Rattle.pc_calls.specs.declared.call.Call.{Call}
 use Rattle.pc_calls.specs.declared.call.Answer.{Answer}
 use Rattle.pc_calls.specs.Conditions.{refusal_in}
@@ -11,7 +11,7 @@ use Rattle.pc_kernel.specs.Answers.{Accepts, RepliesInMemory, Shows, StepsInMemo
 use Rattle.pc_kernel.specs.PlainKernel.{PlainKernel, start}
 use Rattle.pc_kernel.specs.Rows.{KernelRows}
 use Rattle.pc_kernel.specs.Steps.{after, replay, reply}
-use Rattle.pc_threads.specs.Pages.{AreAccepted, IsReplay, Lists, Pages, answered, calls_of, replayed}
+use Rattle.pc_threads.specs.Pages.{AreAccepted, IsReplay, Lists, Pages, answered, calls_of}
 
 -- a call that a kernel answered is accepted with the answer
 accepted_reply : (answer : Answer) (old new : KernelRows) (r : Result Answer Refusal) (Q : PlainKernel) → RepliesInMemory itself (Ok answer) old new r Q

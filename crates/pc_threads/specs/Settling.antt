@@ -1,5 +1,5 @@
 -- What views tell of a run together, and what is missing where they do not tell all of it.
-use Rattle.std.specs.Prelude.{ℕ, ◌≡◌, ◌<◌, Bool, true, false, List, [], ◌∷◌, take, Some, Result, Ok, Err, slice_get, All}
+use Rattle.std.specs.Prelude.{ℕ, ◌≡◌, ◌<◌, true, false, List, [], ◌∷◌, take, Some, Result, Ok, Err, slice_get, All}
 use Rattle.std.specs.List.{list_any}
 use Rattle.pc_messages.specs.Run.{Run}
 use Rattle.pc_join.specs.Sets.{Members, IsSameSet}

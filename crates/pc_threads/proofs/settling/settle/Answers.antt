@@ -1,4 +1,4 @@
-use Rattle.std.proofs.Common.{ap, subst}
+use Rattle.std.proofs.Common.{subst}
 use Rattle.pc_kernel.specs.Reads.{seen, kinds_read}
 use Rattle.pc_kernel.specs.Rows.{KernelRows}
 use Rattle.pc_threads.specs.Settling.{Settles}

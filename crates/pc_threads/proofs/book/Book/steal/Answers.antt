@@ -1,9 +1,9 @@
-use Rattle.std.proofs.Common.{ℕ, ◌≡◌, ◌∙◌, ap, sym, subst, Err}
+use Rattle.std.proofs.Common.{◌≡◌, ◌∙◌, ap, sym, subst, Err}
 use Rattle.pc_calls.specs.declared.call.Answer.TheVariants.{Done}
 use Rattle.pc_calls.specs.declared.call.Call.TheVariants as call
 use Rattle.pc_view.specs.Prefixes.{upto_of}
 use Rattle.pc_agent.specs.Own.{StealsAsSeen}
-use Rattle.pc_agent.specs.Shows.{cpu_of, list_of, view_of}
+use Rattle.pc_agent.specs.Shows.{cpu_of}
 use Rattle.pc_threads.specs.Pages.{Pages}
 use Rattle.pc_threads.proofs.Listing.{put}
 use Rattle.pc_threads.proofs.book.Book.steal.Goals as goal
