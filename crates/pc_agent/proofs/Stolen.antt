@@ -3,7 +3,7 @@ use Rattle.std.proofs.Common.{ℕ, ◌≡◌, Bool, true, false, List, [], ◌�
 use Rattle.std.specs.Result.{is_err}
 use Rattle.std.proofs.Math.Seq.{take-append_seam}
 use Rattle.std.proofs.lemmas.Bool.{false≢true}
-use Rattle.pc_join.specs.declared.join.OutOfMemory.{OutOfMemory as Starved}
+use Rattle.pc_join.specs.declared.join.OutOfMemory.{OutOfMemory as NoMemory}
 use Rattle.pc_messages.specs.Run.{Run}
 use Rattle.pc_messages.specs.State.{state_of}
 use Rattle.pc_calls.specs.declared.call.Call.{Call}
@@ -32,7 +32,7 @@ use Rattle.pc_agent.proofs.Delivered.{ReportsAreTold, UptosAreTold}
 use Rattle.pc_agent.proofs.Ready.{accepts, not_refused}
 
 -- what is not an error did what it says
-pub was_pushed : (result : Result (Unit {0}) Starved) (Q : Type 0) → is_err result ≡ false → OnOk result Q → Q
+pub was_pushed : (result : Result (Unit {0}) NoMemory) (Q : Type 0) → is_err result ≡ false → OnOk result Q → Q
 was_pushed (Ok done) Q e h = h
 was_pushed (Err fault) Q e h = absurd (false≢true (sym e))
 

@@ -1,6 +1,6 @@
 -- What agents tell each other.
 use Rattle.std.specs.Prelude.{◌≡◌, ◌⊎◌, List, Result, Ok, Err}
-use Rattle.pc_join.specs.declared.join.OutOfMemory.{OutOfMemory as Starved}
+use Rattle.pc_join.specs.declared.join.OutOfMemory.{OutOfMemory as NoMemory}
 use Rattle.pc_messages.specs.Run.{Run}
 use Rattle.pc_join.specs.Sets.{Members}
 use Rattle.pc_view.specs.declared.view.View.{View}
@@ -14,12 +14,12 @@ use Rattle.pc_agent.specs.Publishing.{Sending}
 use Rattle.pc_agent.specs.Shows.{ShowsAgent, ShowsDelta, ShowsPart}
 
 -- the agent takes in what a delta tells; where memory ran out, a part of it
-abbrev pub IsDelivered : Run → PlainAgent → Set → Result (Unit {0}) Starved → Agent → Type 0
+abbrev pub IsDelivered : Run → PlainAgent → Set → Result (Unit {0}) NoMemory → Agent → Type 0
 IsDelivered run p set (Ok done) new = ShowsAgent run (taking_in set p) new
 IsDelivered run p set (Err fault) new = ShowsPart run p set new
 
 -- for every run that the delta is of, whatever set it tells and whatever the agent shows
-abbrev pub Delivers : List Part → Result (Unit {0}) Starved → Agent → Agent → Type 0
+abbrev pub Delivers : List Part → Result (Unit {0}) NoMemory → Agent → Agent → Type 0
 Delivers delta result old new =
     (run : Run) (p : PlainAgent) (set : Set) → ShowsDelta run set delta → ShowsAgent run p old → IsDelivered run p set result new
 

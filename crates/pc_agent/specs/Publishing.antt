@@ -1,6 +1,6 @@
 -- What an agent does with its own queue: it copies what it holds, sends that, and removes what it has sent.
 use Rattle.std.specs.Prelude.{ℕ, ◌≡◌, ◌⊎◌, List, length, Result, Ok, Err}
-use Rattle.pc_join.specs.declared.join.OutOfMemory.{OutOfMemory as Starved}
+use Rattle.pc_join.specs.declared.join.OutOfMemory.{OutOfMemory as NoMemory}
 use Rattle.pc_messages.specs.Items.{AreItemsOf, pairs_in}
 use Rattle.pc_messages.specs.Run.{Run, Extends}
 use Rattle.pc_messages.specs.declared.message.Item.{Item}
@@ -26,12 +26,12 @@ WhateverShown kernel agent Says =
 
 -- the items are copied: the delta tells them, the view has them, the run list is refreshed; where memory ran out the view has
 -- a part of them, and nothing else changed
-abbrev pub IsCopied : Run → PlainAgent → List Item → Result (List Part) Starved → ℕ → Agent → Type 0
+abbrev pub IsCopied : Run → PlainAgent → List Item → Result (List Part) NoMemory → ℕ → Agent → Type 0
 IsCopied run p items (Ok delta) cpu new = ShowsDelta run (pairs_in items) delta × ShowsAgent run (copied run cpu items p) new
 IsCopied run p items (Err fault) cpu new = ShowsPart run p (pairs_in items) new
 
 -- for every run that the items are of, and whatever the agent shows of it
-abbrev pub Copies : List Item → Result (List Part) Starved → Agent → Agent → Type 0
+abbrev pub Copies : List Item → Result (List Part) NoMemory → Agent → Agent → Type 0
 Copies items result old new =
     (run : Run) (p : PlainAgent) → AreItemsOf run items → ShowsAgent run p old → IsCopied run p items result (cpu_of old) new
 

@@ -54,7 +54,7 @@ impl Book {
             IsPicked aseq P run p answer (cpu_of agent.old) agent.new self.new.kernel)) }
         ensures own { IfSome (answered result) (λ answer. PicksAsSeen aseq agent.old self.old.kernel answer agent.new self.new.kernel) }
         ensures counts { IfSome (answered result) (λ answer. counts_of agent.new ≡ pick_counted answer (counts_of agent.old)) }
-        ensures starved { result ≡ Err CallFault.OutOfMemory → agent.new ≡ agent.old }
+        ensures no_memory { result ≡ Err CallFault.OutOfMemory → agent.new ≡ agent.old }
         ensures cpu { cpu_of agent.new ≡ cpu_of agent.old }
         ensures limits { self.new.kernel.limits ≡ self.old.kernel.limits }
         ensures err { OnErr result (self.new ≡ self.old) }

@@ -3,7 +3,7 @@ use Rattle.pc_calls.specs.declared.call.Answer.TheVariants.{Done}
 use Rattle.pc_calls.specs.declared.call.Call.TheVariants as call
 use Rattle.pc_view.specs.Prefixes.{upto_of}
 use Rattle.pc_agent.specs.Own.{StealsAsSeen}
-use Rattle.pc_agent.specs.Shows.{cpu_of}
+use Rattle.pc_agent.specs.Shows.{cpu_of, list_of, view_of}
 use Rattle.pc_threads.specs.Pages.{Pages}
 use Rattle.pc_threads.proofs.Listing.{put}
 use Rattle.pc_threads.proofs.book.Book.steal.Goals as goal
