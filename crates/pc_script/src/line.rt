@@ -22,7 +22,7 @@ use std::io::Write;
 pub enum Wish {
     /// It has no reply.
     Nothing,
-    /// What this command is answered.
+    /// The answer to this command.
     Answer(Command),
     /// It isn't a command, and the script ends here.
     Stop,
@@ -35,8 +35,8 @@ pub(crate) fn has_no_reply(line: &[u8]) -> bool
     line.first().copied() == Some(b'#') || first_word(line).is_none()
 }
 
-/// What this line of a script asks for. It takes no memory; a `version 2` asks for nothing here, it is a fault after the first
-/// line that has a reply.
+/// What this line of a script asks for. It takes no memory. `version 2` is no command, so it is `Stop` here: who runs a whole
+/// script looks for it first.
 pub fn asked(line: &[u8]) -> Wish
     ensures { IsAsked line.now result }
 {

@@ -6,6 +6,7 @@ ghost use Rattle.pc_calls.specs.Limits.{bad_field};
 ghost use Rattle.pc_calls.specs.declared.limits.Profile.TheVariants as profile;
 ghost use Rattle.pc_calls.specs.declared.limits.TheConstants.{MOST_ROOM};
 ghost use Rattle.pc_messages.specs.Items.{AreItemsOf, AreTellable};
+ghost use Rattle.pc_messages.specs.Run.{Extends};
 
 mod agents;
 
@@ -118,6 +119,7 @@ impl Book {
     pub fn post(&mut self, call: EnvCall) -> Result<Posted, CallFault>
         ensures listed { IfOk result (λ posted. Lists (Call.Env call) (Answer.Posted posted) self.old self.new) }
         ensures fault { IfSome (answered result) (λ answer. refusal_in answer ≡ refused (seen self.old.kernel) (Call.Env call)) }
+        ensures extends { IfOk result (λ _. Extends (run_of self.new) (run_of self.old)) }
         ensures limits { self.new.kernel.limits ≡ self.old.kernel.limits }
         ensures err { OnErr result (self.new ≡ self.old) }
     {
@@ -133,6 +135,7 @@ impl Book {
     pub fn sleep(&mut self, cpu: Cpu, aseq: u32) -> Result<(), CallFault>
         ensures listed { OnOk result (Lists (Call.Sleep cpu aseq) Answer.Done self.old self.new) }
         ensures fault { IfSome (answered result) (λ answer. refusal_in answer ≡ refused (seen self.old.kernel) (Call.Sleep cpu aseq)) }
+        ensures extends { OnOk result (Extends (run_of self.new) (run_of self.old)) }
         ensures limits { self.new.kernel.limits ≡ self.old.kernel.limits }
         ensures err { OnErr result (self.new ≡ self.old) }
     {
@@ -148,6 +151,7 @@ impl Book {
     pub fn rouse(&mut self, cpu: Cpu) -> Result<(), CallFault>
         ensures listed { OnOk result (Lists (Call.Rouse cpu) Answer.Done self.old self.new) }
         ensures fault { IfSome (answered result) (λ answer. refusal_in answer ≡ refused (seen self.old.kernel) (Call.Rouse cpu)) }
+        ensures extends { OnOk result (Extends (run_of self.new) (run_of self.old)) }
         ensures limits { self.new.kernel.limits ≡ self.old.kernel.limits }
         ensures err { OnErr result (self.new ≡ self.old) }
     {
@@ -163,6 +167,7 @@ impl Book {
     fn make(&mut self, call: &Call) -> Result<Answer, CallFault>
         ensures listed { IfOk result (λ answer. Lists call.now answer self.old self.new) }
         ensures fault { IfSome (answered result) (λ answer. refusal_in answer ≡ refused (seen self.old.kernel) call.now) }
+        ensures extends { IfOk result (λ _. Extends (run_of self.new) (run_of self.old)) }
         ensures limits { self.new.kernel.limits ≡ self.old.kernel.limits }
         ensures err { OnErr result (self.new ≡ self.old) }
     {

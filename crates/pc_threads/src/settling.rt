@@ -22,14 +22,14 @@ use thiserror::Error;
 /// Why a run has no view of all that happened.
 #[derive(Clone, Copy, Debug, PartialEq, Eq, Error)]
 pub enum RunFault {
-    /// What this CPU's agent knows is not all of the run; the least such CPU.
-    #[error("what the agent of CPU {0:?} knows is not of the run")]
+    /// This CPU's view tells something that is not of the run; the least such CPU.
+    #[error("the view of {0:?} tells what is not of the run")]
     Audit(Cpu),
     /// A growth was refused.
     #[error("out of memory")]
     OutOfMemory,
-    /// Some message of this thread is known to no agent; the least such thread.
-    #[error("no agent knows all messages of thread {0:?}")]
+    /// A message of this thread is in no view; the least such thread.
+    #[error("a message of {0:?} is in no view")]
     Incomplete(Tid),
 }
 
@@ -93,7 +93,7 @@ fn settle_with(alloc: Global, kernel: &Kernel, views: &[View]) -> Result<View, R
 /// The view of all that the book's kernel posted, from the views of CPUs 0, 1, ..
 ///
 /// `Audit` with the first CPU whose view is not of the kernel's run; then want of memory; then `Incomplete` with the least
-/// thread of which no view has some message.
+/// thread with a message that no view knows.
 pub fn settle(alloc: Global, book: &Book, views: &[View]) -> Result<View, RunFault>
     requires few { length views.now ≤ MOST_CPUS }
     ensures settles { Settles (run_of book.now) views.now result }

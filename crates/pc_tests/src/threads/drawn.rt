@@ -4,7 +4,7 @@ use super::{SMALL, Scene, copies, new_scene};
 use pc_agent::Agent;
 use pc_kernel::Kernel;
 use pc_messages::{Cpu, Tid};
-use pc_threads::{Book, EnvCall};
+use pc_threads::{Book, CallFault, EnvCall};
 use std::alloc::Global;
 use std::test::Fail;
 
@@ -85,16 +85,21 @@ fn drawn_aseq(book: &Book, cpu: Cpu, seed: &mut u64) -> u32 {
     now.saturating_sub(drawn(seed) % 8 / 7)
 }
 
-/// The agent makes one of its calls.
+/// With ample memory no call runs out of it.
+fn had_memory<T>(answer: &Result<T, CallFault>) -> bool {
+    !matches!(answer, Err(CallFault::OutOfMemory))
+}
+
+/// The agent makes one of its calls. Whether there was memory for it.
 fn acts(book: &mut Book, agent: &mut Agent, seed: &mut u64) -> bool {
     let cpu = agent.cpu();
     let aseq = drawn_aseq(book, cpu, seed);
     match drawn(seed) % 5 {
-        0 => book.pick(agent, aseq).is_ok(),
-        1 => book.steal(agent).is_ok(),
-        2 => book.sleep(cpu, aseq).is_ok(),
-        3 => book.rouse(cpu).is_ok(),
-        _ => copies(book, agent).is_some() && book.consume(agent).is_ok(),
+        0 => had_memory(&book.pick(agent, aseq)),
+        1 => had_memory(&book.steal(agent)),
+        2 => had_memory(&book.sleep(cpu, aseq)),
+        3 => had_memory(&book.rouse(cpu)),
+        _ => copies(book, agent).is_some() && had_memory(&book.consume(agent)),
     }
 }
 
@@ -104,14 +109,18 @@ fn turn(scene: &mut Scene, seed: &mut u64) -> bool {
         0 => scene.tells(),
         1 | 2 => acts(&mut scene.book, &mut scene.first, seed),
         3 => acts(&mut scene.book, &mut scene.other, seed),
-        _ => scene.book.post(drawn_call(seed)).is_ok(),
+        _ => had_memory(&scene.book.post(drawn_call(seed))),
     }
 }
 
-fn plays(scene: &mut Scene, mut seed: u64) {
+/// Whether there was memory for all turns.
+fn plays(scene: &mut Scene, mut seed: u64) -> bool {
     for _ in 0..TURNS {
-        turn(scene, &mut seed);
+        if !turn(scene, &mut seed) {
+            return false;
+        }
     }
+    true
 }
 
 /// Whether the kernel answers each listed call as it is listed.
@@ -129,6 +138,7 @@ fn is_thread_alike(one: &Kernel, other: &Kernel, thread: Tid) -> bool {
     one.status(thread) == other.status(thread)
         && one.reported(thread) == other.reported(thread)
         && one.queue_of(thread) == other.queue_of(thread)
+        && one.history(thread) == other.history(thread)
 }
 
 /// Whether the same is read of a CPU.
@@ -164,8 +174,7 @@ fn is_replayed(alloc: Global, book: &Book) -> bool {
 /// Plays a list by the seed, and replays it. Answers how many calls were listed, where all is alike.
 fn replayed(alloc: Global, seed: u64) -> Option<usize> {
     let mut scene = new_scene(alloc)?;
-    plays(&mut scene, seed);
-    if is_replayed(alloc, &scene.book) {
+    if plays(&mut scene, seed) && is_replayed(alloc, &scene.book) {
         Some(scene.listed())
     } else {
         None

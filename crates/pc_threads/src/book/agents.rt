@@ -3,6 +3,7 @@
 ghost use Rattle.std.specs.Prelude.{◌≡◌, ◌≢◌, Err, IfOk, IfSome, OnErr};
 ghost use Rattle.pc_calls.specs.declared.call.Answer.TheVariants.{Done};
 ghost use Rattle.pc_calls.specs.declared.call.Call.TheVariants as call;
+ghost use Rattle.pc_messages.specs.Run.{Extends};
 ghost use Rattle.pc_view.specs.Prefixes.{upto_of};
 ghost use Rattle.pc_agent.specs.Counts.{consume_counted, pick_counted, steal_counted};
 ghost use Rattle.pc_agent.specs.Own.{ConsumesAsSeen, PicksAsSeen, StealsAsSeen};
@@ -16,7 +17,7 @@ use pc_calls::{Answer, Call, CallFault, Refusal};
 use pc_messages::Tid;
 
 impl Book {
-    ghost use Rattle.pc_threads.specs.Pages.{Lists, answered};
+    ghost use Rattle.pc_threads.specs.Pages.{Lists, answered, run_of};
 
     /// The agent removes from its queue the items that it has sent, and answers how many.
     pub fn consume(&mut self, agent: &mut Agent) -> Result<u32, CallFault>
@@ -26,6 +27,7 @@ impl Book {
         ensures own { IfSome (answered result) (λ answer. ConsumesAsSeen agent.old self.old.kernel answer agent.new self.new.kernel) }
         ensures counts { IfSome (answered result) (λ answer. counts_of agent.new ≡ consume_counted answer (counts_of agent.old)) }
         ensures cpu { cpu_of agent.new ≡ cpu_of agent.old }
+        ensures extends { IfOk result (λ _. Extends (run_of self.new) (run_of self.old)) }
         ensures limits { self.new.kernel.limits ≡ self.old.kernel.limits }
         ensures err { OnErr result (self.new ≡ self.old) }
         ensures agent_err { OnErr result (agent.new ≡ agent.old) }
@@ -56,6 +58,7 @@ impl Book {
         ensures counts { IfSome (answered result) (λ answer. counts_of agent.new ≡ pick_counted answer (counts_of agent.old)) }
         ensures no_memory { result ≡ Err CallFault.OutOfMemory → agent.new ≡ agent.old }
         ensures cpu { cpu_of agent.new ≡ cpu_of agent.old }
+        ensures extends { IfOk result (λ _. Extends (run_of self.new) (run_of self.old)) }
         ensures limits { self.new.kernel.limits ≡ self.old.kernel.limits }
         ensures err { OnErr result (self.new ≡ self.old) }
     {
@@ -89,6 +92,7 @@ impl Book {
         ensures view { view_of agent.new ≡ view_of agent.old }
         ensures sent { sent_of agent.new ≡ sent_of agent.old }
         ensures cpu { cpu_of agent.new ≡ cpu_of agent.old }
+        ensures extends { IfOk result (λ _. Extends (run_of self.new) (run_of self.old)) }
         ensures limits { self.new.kernel.limits ≡ self.old.kernel.limits }
         ensures err { OnErr result (self.new ≡ self.old) }
     {

@@ -13,3 +13,6 @@ invariant_of-self-in-Ok c =
 
 pub returns-in-Err-clause-consumes : goal.returns-in-Err-clause-consumes
 returns-in-Err-clause-consumes c = rw (← c.self.view_is) c.in-Err.ensures.consumes
+
+pub returns-in-Ok-clause-extends : goal.returns-in-Ok-clause-extends
+returns-in-Ok-clause-extends c = rw (← c.self.view_is) c.in-Ok.ensures.extends

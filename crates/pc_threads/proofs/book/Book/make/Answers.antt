@@ -18,3 +18,6 @@ returns-in-Ok-clause-listed c = rw (← c.self.view_is) (did c)
 
 pub returns-in-Err-clause-fault : goal.returns-in-Err-clause-fault
 returns-in-Err-clause-fault c = rw (← c.self.view_is) (fault_again _ _ c.in-Err.fault c.in-Err.ensures.fault)
+
+pub returns-in-Ok-clause-extends : goal.returns-in-Ok-clause-extends
+returns-in-Ok-clause-extends c = rw (← c.self.view_is) c.in-Ok.ensures.extends

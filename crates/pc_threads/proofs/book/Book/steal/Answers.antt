@@ -21,3 +21,6 @@ returns-in-Err-clause-own c _ =
     let same : c.self.inside.kernel ≡ c.args.self.now.kernel = ap (λ (book : Pages). book.kernel) c.self.view_is in
     subst (λ before. StealsAsSeen (view_of c.args.agent.now) (cpu_of c.args.agent.now) (Err c.in-Err.fault) (list_of c.args.agent.now) (list_of c.steal.new.self) before c.steal.new.kernel) same
     c.in-Err.ensures.own
+
+pub returns-in-Ok-clause-extends : goal.returns-in-Ok-clause-extends
+returns-in-Ok-clause-extends c = rw (← c.self.view_is) c.in-Ok.ensures.extends
