@@ -86,7 +86,8 @@ impl Book {
         ensures steals { result ≢ Err CallFault.OutOfMemory → WhateverShown self.old.kernel agent.old (λ P run p.
             Steals P run p result (cpu_of agent.old) agent.new self.new.kernel) }
         ensures own { result ≢ Err CallFault.OutOfMemory →
-            StealsAsSeen (view_of agent.old) (cpu_of agent.old) result (list_of agent.old) (list_of agent.new) self.old.kernel self.new.kernel }
+            StealsAsSeen (view_of agent.old) (cpu_of agent.old) result (list_of agent.old) (list_of agent.new)
+            self.old.kernel self.new.kernel }
         ensures list_err { OnErr result (list_of agent.new ≡ list_of agent.old) }
         ensures counts { counts_of agent.new ≡ steal_counted result (counts_of agent.old) }
         ensures view { view_of agent.new ≡ view_of agent.old }
