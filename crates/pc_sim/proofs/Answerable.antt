@@ -119,18 +119,20 @@ complete_has : (w : PlainWorld) (c t : ℕ) → (told : Response) × IsCompletin
 complete_has w c t =
     let reads = shown w.kernel in
     let set = (w.agents c).seen in
-    here_or_nowhere (is_cpu reads c) (IsCompleteness w c t)
-    (response.Truth (knows_all reads set t), record {
-      truth = knows_all reads set t;
-      complete = (
-        λ e. record {
-          known = first_true (kernel.is_known reads t) (has_upto set t (number_read reads t)) e;
-          all = upto_has set t (number_read reads t) (second_true (kernel.is_known reads t) (has_upto set t (number_read reads t)) e);
-        },
-        λ h. both (kernel.is_known reads t) (has_upto set t (number_read reads t)) h.known (has_all_upto set t (number_read reads t) h.all),
-      );
-      tells = refl;
-    })
+    here_or_nowhere (is_cpu reads c) (IsCompleteness w c t) (
+      response.Truth (knows_all reads set t),
+      record {
+        truth = knows_all reads set t;
+        complete = (
+          λ e. record {
+            known = first_true (kernel.is_known reads t) (has_upto set t (number_read reads t)) e;
+            all = upto_has set t (number_read reads t) (second_true (kernel.is_known reads t) (has_upto set t (number_read reads t)) e);
+          },
+          λ h. both (kernel.is_known reads t) (has_upto set t (number_read reads t)) h.known (has_all_upto set t (number_read reads t) h.all),
+        );
+        tells = refl;
+      },
+    )
 
 -- ---- one read
 module _ (the_greatest : (set : Set) (t n : ℕ) → (n ≤ upto set t) ↔ ((m : ℕ) → 1 ≤ m → m ≤ n → IsTrue (has set t m))) where

@@ -87,10 +87,11 @@ module _ (events : EveryEventHasAStep) (begun : RunsAreBegun)
       ([], subst (λ cs. IsSession profile cs (told ++ [])) (sym (append-nil commands)) (subst (λ ts. IsSession profile commands ts) (sym (append-nil told)) (s, run)))
   goes_on profile (command ∷ more) commands told s run =
       let next = session_next profile s command (runs_well tt run) in
-      let rest = goes_on profile more (commands ++ command ∷ []) (told ++ next.0 ∷ []) next.1 (one_more commands told command next.0 run next.2) in
-      (next.0 ∷ rest.0,
-      subst (λ cs. IsSession profile cs (told ++ (next.0 ∷ rest.0))) (append_assoc commands (command ∷ []) more)
-      (subst (λ ts. IsSession profile (commands ++ command ∷ [] ++ more) ts) (append_assoc told (next.0 ∷ []) rest.0) rest.1))
+      let rest = goes_on profile more (commands ++ command ∷ []) (told ++ next.0 ∷ []) next.1 (one_more commands told command next.0 run next.2) in (
+        next.0 ∷ rest.0,
+        subst (λ cs. IsSession profile cs (told ++ (next.0 ∷ rest.0))) (append_assoc commands (command ∷ []) more)
+            (subst (λ ts. IsSession profile (commands ++ command ∷ [] ++ more) ts) (append_assoc told (next.0 ∷ []) rest.0) rest.1),
+      )
 
   pub sessions_go_on : SessionsGoOn
   sessions_go_on profile commands more told (s, run) = goes_on profile more commands told s run

@@ -28,21 +28,23 @@ pub outputs_go_on : SessionsGoOn → OutputsGoOn
 outputs_go_on sessions text output until further outcome asks =
     let told = until.tells.tells in
     let next = sessions until.profile told.commands further told.responses told.run in
-    let more : List ℕ = responses_text next.0 ++ outcome_text outcome in
-    (more, record {
-      profile = until.profile;
-      passed = until.passed;
-      rest = until.rest;
-      told = until.told ++ more;
-      opens = until.opens;
-      tells = record {
-        commands = told.commands ++ further;
-        responses = told.responses ++ next.0;
-        asks = subst (λ lines. Script (suc until.passed) lines (told.commands ++ further) outcome) (sym until.tells.cut) (both_scripts told.asks refl asks);
-        run = next.1;
-        text = ap (λ first. first ++ more) (told.text ∙ append-nil (responses_text told.responses))
-            ∙ sym (append_assoc (responses_text told.responses) (responses_text next.0) (outcome_text outcome))
-            ∙ ap (λ first. first ++ outcome_text outcome) (sym (flat_map-append (λ response. text_line (response_text response)) told.responses next.0));
-      };
-      text = ap (λ first. first ++ more) until.text ∙ append_assoc (opening_text until.profile) until.told more;
-    })
+    let more : List ℕ = responses_text next.0 ++ outcome_text outcome in (
+      more,
+      record {
+        profile = until.profile;
+        passed = until.passed;
+        rest = until.rest;
+        told = until.told ++ more;
+        opens = until.opens;
+        tells = record {
+          commands = told.commands ++ further;
+          responses = told.responses ++ next.0;
+          asks = subst (λ lines. Script (suc until.passed) lines (told.commands ++ further) outcome) (sym until.tells.cut) (both_scripts told.asks refl asks);
+          run = next.1;
+          text = ap (λ first. first ++ more) (told.text ∙ append-nil (responses_text told.responses))
+              ∙ sym (append_assoc (responses_text told.responses) (responses_text next.0) (outcome_text outcome))
+              ∙ ap (λ first. first ++ outcome_text outcome) (sym (flat_map-append (λ response. text_line (response_text response)) told.responses next.0));
+        };
+        text = ap (λ first. first ++ more) until.text ∙ append_assoc (opening_text until.profile) until.told more;
+      },
+    )

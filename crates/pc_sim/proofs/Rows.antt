@@ -163,17 +163,19 @@ module _ (the_greatest : (set : Set) (t n : ℕ) → (n ≤ upto set t) ↔ ((m 
       }
 
   pub rows_of : (run : Run) (set : Set) → (rows : List ShownThread) × IsShown run set rows
-  rows_of run set =
-      (map (row_of run set) (names set), record {
-        ascending = subst IsStrictlyIncreasing (sym (names_of_rows run set (names set)))
-            (IsStrictlyIncreasing-filter (is_told set) (range_with_len 0 (suc (greatest set))) (range_rises 0 (suc (greatest set))));
-        each = All-map (IsShownThread run set) (row_of run set) (names set)
-            (All-weaker (λ t. is_told set t ≡ true) (λ t. IsShownThread run set (row_of run set t)) (row_shown run set) (names set)
-            (all_kept (is_told set) (range_with_len 0 (suc (greatest set)))));
-        every = λ t n e.
-            let told = told_of_pair set t n e in
-            let below = name_below set t told in
-            row_for run set t (names set) ∙ kept (is_told set) t (range_with_len 0 (suc (greatest set)))
-            ∙ ap (λ b. b && list_any (λ x. x == t) (range_with_len 0 (suc (greatest set)))) told
-            ∙ in_range 0 (suc (greatest set)) t (omega arith) (omega (arith, below));
-      })
+  rows_of run set = (
+    map (row_of run set) (names set),
+    record {
+      ascending = subst IsStrictlyIncreasing (sym (names_of_rows run set (names set)))
+          (IsStrictlyIncreasing-filter (is_told set) (range_with_len 0 (suc (greatest set))) (range_rises 0 (suc (greatest set))));
+      each = All-map (IsShownThread run set) (row_of run set) (names set)
+          (All-weaker (λ t. is_told set t ≡ true) (λ t. IsShownThread run set (row_of run set t)) (row_shown run set) (names set)
+          (all_kept (is_told set) (range_with_len 0 (suc (greatest set)))));
+      every = λ t n e.
+          let told = told_of_pair set t n e in
+          let below = name_below set t told in
+          row_for run set t (names set) ∙ kept (is_told set) t (range_with_len 0 (suc (greatest set)))
+          ∙ ap (λ b. b && list_any (λ x. x == t) (range_with_len 0 (suc (greatest set)))) told
+          ∙ in_range 0 (suc (greatest set)) t (omega arith) (omega (arith, below));
+    },
+  )
