@@ -1,6 +1,7 @@
 //! Refused calls are not listed; each stands beside a neighbour that is.
 
 use super::{CREATE, PREEMPT, SMALL, new_scene, posted};
+use pc_agent::Agent;
 use pc_calls::LimitField;
 use pc_messages::{Cpu, Tid};
 use pc_threads::{Book, CallFault, EnvCall, Limits, LimitsFault, Refusal};
@@ -145,5 +146,17 @@ fn of_a_steal_of_what_ran(rt: HostRuntime) -> Result<(), Fail> {
     assert_eq!(rt; scene.steals(), Err(refused(Refusal::Dead)));
     assert_eq!(rt; scene.posts(PREEMPT), Err(refused(Refusal::IdleCpu)));
     assert_eq!(rt; scene.listed(), 4);
+    Ok(())
+}
+
+#[test]
+fn of_an_agent_whose_cpu_is_not_there(rt: HostRuntime) -> Result<(), Fail> {
+    let mut scene = new_scene(rt.alloc()).ok_or("no book")?;
+    let mut agent = Agent::new(rt.alloc(), Cpu(2));
+    assert_eq!(rt;
+        scene.book.consume(&mut agent),
+        Err(refused(Refusal::BadCpu))
+    );
+    assert_eq!(rt; scene.listed(), 0);
     Ok(())
 }

@@ -1,6 +1,6 @@
 //! What views settle.
 
-use super::new_scene;
+use super::{CREATE, new_scene};
 use pc_join::Join;
 use pc_messages::{Cpu, Kind, Mask, Message, Tid};
 use pc_threads::{Book, RunFault, settle};
@@ -81,11 +81,40 @@ fn not_by_empty_views(rt: HostRuntime) -> Result<(), Fail> {
 
 #[test]
 fn not_by_a_stranger(rt: HostRuntime) -> Result<(), Fail> {
-    let scene = new_scene(rt.alloc()).ok_or("no book")?;
+    let mut scene = new_scene(rt.alloc()).ok_or("no book")?;
+    assert!(rt; scene.runs_one());
+    assert!(rt; scene.moves_one());
     let stranger = made_up(rt.alloc(), 9).ok_or("no view")?;
     let first = settled(rt.alloc(), &scene.book, &stranger, scene.other.view());
     assert_eq!(rt; fault(first), Some(RunFault::Audit(Cpu(0))));
     let second = settled(rt.alloc(), &scene.book, scene.first.view(), &stranger);
     assert_eq!(rt; fault(second), Some(RunFault::Audit(Cpu(1))));
+    Ok(())
+}
+
+#[test]
+fn not_where_a_later_thread_lacks_a_message(rt: HostRuntime) -> Result<(), Fail> {
+    let mut scene = new_scene(rt.alloc()).ok_or("no book")?;
+    assert!(rt; scene.runs_one());
+    assert!(rt; scene.posts(CREATE).is_ok());
+    let known = settled(
+        rt.alloc(),
+        &scene.book,
+        scene.first.view(),
+        scene.other.view(),
+    );
+    assert_eq!(rt; fault(known), Some(RunFault::Incomplete(Tid(1))));
+    Ok(())
+}
+
+#[test]
+fn by_no_views(rt: HostRuntime) -> Result<(), Fail> {
+    let mut scene = new_scene(rt.alloc()).ok_or("no book")?;
+    assert!(rt; settle(rt.alloc(), &scene.book, &[])? == View::new(rt.alloc()));
+    assert!(rt; scene.posts(CREATE).is_ok());
+    assert_eq!(rt;
+        settle(rt.alloc(), &scene.book, &[]).err(),
+        Some(RunFault::Incomplete(Tid(0)))
+    );
     Ok(())
 }
