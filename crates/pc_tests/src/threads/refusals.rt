@@ -1,6 +1,6 @@
 //! Refused calls are not listed; each stands beside a neighbour that is.
 
-use super::{CREATE, PREEMPT, SMALL, new_scene, posted};
+use super::{CREATE, PREEMPT, SMALL, copies, new_scene, posted};
 use pc_agent::Agent;
 use pc_calls::LimitField;
 use pc_messages::{Cpu, Tid};
@@ -158,5 +158,86 @@ fn of_an_agent_whose_cpu_is_not_there(rt: HostRuntime) -> Result<(), Fail> {
         Err(refused(Refusal::BadCpu))
     );
     assert_eq!(rt; scene.listed(), 0);
+    Ok(())
+}
+
+/// One CPU, one thread of two messages, a queue of two items and two posts.
+const TINY: Limits = Limits {
+    cpus: 1,
+    threads: 1,
+    numbers: 2,
+    room: 2,
+    posts: 2,
+};
+
+const TICK: EnvCall = EnvCall::Tick { cpu: Cpu(0) };
+
+const fn create(mask: u64) -> EnvCall {
+    EnvCall::Create {
+        queue: Cpu(0),
+        mask,
+        ready: false,
+    }
+}
+
+const fn affinity(mask: u64) -> EnvCall {
+    EnvCall::SetAffinity {
+        thread: Tid(0),
+        mask,
+    }
+}
+
+// Without contracts, as the scene's calls are.
+fn refusal(book: &mut Book, call: EnvCall) -> Option<Refusal> {
+    match book.post(call) {
+        Err(CallFault::Refused(refusal)) => Some(refusal),
+        Ok(_) | Err(CallFault::OutOfMemory) => None,
+    }
+}
+
+fn posts(book: &mut Book, call: EnvCall) -> bool {
+    book.post(call).is_ok()
+}
+
+#[test]
+fn of_posts_that_reach_the_limits(rt: HostRuntime) -> Result<(), Fail> {
+    let mut book = Book::new(rt.alloc(), TINY)?;
+    let mut agent = Agent::new(rt.alloc(), Cpu(0));
+    assert_eq!(rt; refusal(&mut book, create(0)), Some(Refusal::EmptyMask));
+    assert_eq!(rt; refusal(&mut book, create(2)), Some(Refusal::MaskTooWide));
+    assert!(rt; posts(&mut book, create(1)));
+    assert_eq!(rt; refusal(&mut book, create(1)), Some(Refusal::NamesSpent));
+    assert!(rt; posts(&mut book, WAKE));
+    assert_eq!(rt;
+        refusal(&mut book, affinity(1)),
+        Some(Refusal::NumbersSpent)
+    );
+    assert_eq!(rt; refusal(&mut book, TICK), Some(Refusal::QueueFull));
+    assert!(rt; copies(&book, &mut agent).is_some());
+    assert_eq!(rt; book.consume(&mut agent), Ok(2));
+    assert_eq!(rt; refusal(&mut book, TICK), Some(Refusal::PostsSpent));
+    assert_eq!(rt; book.calls().len(), 3);
+    Ok(())
+}
+
+#[test]
+fn of_a_thread_that_runs(rt: HostRuntime) -> Result<(), Fail> {
+    let mut scene = new_scene(rt.alloc()).ok_or("no book")?;
+    assert!(rt; scene.runs_one());
+    let block = EnvCall::Block {
+        cpu: Cpu(1),
+        ran: 1,
+    };
+    assert_eq!(rt; scene.posts(block), Err(refused(Refusal::IdleCpu)));
+    assert_eq!(rt;
+        scene.posts(EnvCall::Tick { cpu: Cpu(2) }),
+        Err(refused(Refusal::BadCpu))
+    );
+    assert_eq!(rt; scene.posts(WAKE), Err(refused(Refusal::NotBlocked)));
+    assert_eq!(rt;
+        scene.posts(affinity(2)),
+        Err(refused(Refusal::OnForbiddenCpu))
+    );
+    assert_eq!(rt; scene.listed(), 3);
     Ok(())
 }
