@@ -353,7 +353,8 @@ class Checker:
     def check_crates(self):
         below = {}
         for line in (ROOT / "crates.txt").read_text().splitlines():
-            name, _, libraries = line.partition(": ")
+            head, _, libraries = line.partition(": ")
+            name = head.split(" ")[0]  # counts of what may wait may stand behind it
             if name in self.crates:
                 below[name] = set(libraries.split())
         rows = {}
@@ -382,10 +383,13 @@ class Checker:
                 self.expect(refusal in told, f"docs/{name}.md", f"it has no row for `{refusal}`")
 
     def check_examples(self):
-        for script in sorted((ROOT / "examples").glob("*.script")):
-            self.expect(script.with_suffix(".output").is_file(), f"examples/{script.name}", "it has no output beside it")
-        for output in sorted((ROOT / "examples").glob("*.output")):
-            self.expect(output.with_suffix(".script").is_file(), f"examples/{output.name}", "it has no script beside it")
+        inputs = {".script", ".toml"}
+        for example in sorted((ROOT / "examples").iterdir()):
+            if example.suffix in inputs:
+                self.expect(example.with_suffix(".output").is_file(), f"examples/{example.name}", "it has no output beside it")
+            elif example.suffix == ".output":
+                beside = any(example.with_suffix(suffix).is_file() for suffix in inputs)
+                self.expect(beside, f"examples/{example.name}", "it has no script or settings beside it")
 
     def check_citations(self):
         kept = {".rt", ".antt", ".edit", ".md", ".txt", ".py", ".script", ".output", ""}

@@ -228,15 +228,17 @@ class Launcher(unittest.TestCase):
         self.assertEqual(self.run_it(), (0, "arguments 0:\n<>\n", ""))
         self.assertEqual(self.calls()[0], [])
 
-    def test_the_crate_of_the_tests_is_not_built(self):
-        (self.tree / "crates.txt").write_text(CRATES + "pc_tests: low left right\n")
-        (self.tree / "crates/pc_tests/src").mkdir(parents=True)
+    def test_the_crates_of_the_tests_are_not_built(self):
+        (self.tree / "crates.txt").write_text(CRATES + "pc_tests: low left\npc_tests_agents: low left right\n")
+        for name in ["pc_tests", "pc_tests_agents"]:
+            (self.tree / f"crates/{name}/src").mkdir(parents=True)
         self.set_dates(-100)
         status, out, errors = self.run_it("x")
         self.assertEqual((status, out), (0, "arguments 1:\n<x>\n"))
         self.assert_built_once(errors)
         self.forget_calls()
-        (self.tree / "crates/pc_tests/src/lib.rt").write_text("// tests\n")
+        for name in ["pc_tests", "pc_tests_agents"]:
+            (self.tree / f"crates/{name}/src/lib.rt").write_text("// tests\n")
         self.assertEqual(self.run_it("x"), (0, "arguments 1:\n<x>\n", ""))
         self.assertEqual(self.calls()[0], [])
 
@@ -511,7 +513,8 @@ class Launcher(unittest.TestCase):
         self.wait_for_text(start, "waiting")
         status, out, errors = self.ended(gate)
         self.assertEqual((status, errors), (0, ""))
-        self.assertEqual(out.splitlines()[-1], "cases: --gate-status 0 --gate-line 3 passed, 0 failed --also 2 passed, 0 failed --also 5 passed, 0 failed")
+        self.assertEqual(out.splitlines()[-1], "cases: --gate-status 0 --gate-line 3 passed, 0 failed --also 2 passed, 0 failed --also 5 passed, 0 failed"
+                         " --also 4 passed, 0 failed --also --short passed, 0 failed")
         self.assertEqual(self.ended(start)[0], 0)
         words, began, ended = self.calls()
         self.assertEqual(words[0][1], "ci")
@@ -536,6 +539,9 @@ class Launcher(unittest.TestCase):
         (self.tree / "tests").mkdir()
         (self.tree / "tests/launcher_tests.py").write_text("print('2 passed, 0 failed')\n")
         (self.tree / "tests/check_documents.py").write_text("print('5 passed, 0 failed')\n")
+        (self.tree / "tests/hostile_tests.py").write_text("print('4 passed, 0 failed')\n")
+        (self.tree / "tests/hostile").mkdir()
+        (self.tree / "tests/hostile/hostile.py").write_text("import sys\nprint(*sys.argv[1:], 'passed, 0 failed')\n")
         (self.tree / "tests/run_cases.py").write_text("import sys\nprint('cases:', *sys.argv[1:])\n")
 
     def wait_for_calls(self, count):

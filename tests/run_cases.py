@@ -1,7 +1,7 @@
 #!/usr/bin/env python3
 """Runs the built program on every case and on every example, as both compilers built it, and compares bytes.
 
-An example is a script of examples/ beside what it prints, and docs/WALK_THROUGH.md is what tools/walk_through.py makes of one of them.
+An example is a script or settings of examples/ beside what it prints, and docs/WALK_THROUGH.md is what tools/walk_through.py makes of one of them.
 A case is a folder of tests/cases:
   args      the arguments, one a line (none: `replay`)
   stdin     the standard input, or make-stdin, a shell script that writes it (none: empty)
@@ -65,10 +65,11 @@ def faults_of(case, program):
     return faults
 
 
-def faults_of_example(script, program):
-    """What differs from the output that stands beside the example's script, as a list of texts."""
-    run = subprocess.run([str(program), "replay", str(script)], capture_output=True, timeout=SECONDS)
-    wanted = script.with_suffix(".output").read_bytes()
+def faults_of_example(example, program):
+    """What differs from the output that stands beside an example, a script or settings, as a list of texts."""
+    command = "run" if example.suffix == ".toml" else "replay"
+    run = subprocess.run([str(program), command, str(example)], capture_output=True, timeout=SECONDS)
+    wanted = example.with_suffix(".output").read_bytes()
     if (run.returncode, run.stdout, run.stderr) == (0, wanted, b""):
         return []
     return [f"status {run.returncode}, standard error {run.stderr[:400]!r}, " + difference("standard output", run.stdout, wanted)]
@@ -114,7 +115,7 @@ def main():
     if not cases:
         print("no case in tests/cases")
         failed += 1
-    examples = sorted((ROOT / "examples").glob("*.script"))
+    examples = sorted(path for path in (ROOT / "examples").iterdir() if path.suffix in (".script", ".toml"))
     for case in [*cases, *examples, PAGE]:
         for program in programs:
             try:

@@ -97,6 +97,14 @@ impl Agent {
         self.shown
     }
 
+    /// Gives what it knows, and ends. It takes no memory.
+    pub fn into_view(self) -> View
+        ensures { result ≡ self.view }
+    {
+        let Agent { view, .. } = self;
+        view
+    }
+
     /// What it has counted since it was made.
     pub fn counts(&self) -> Counts
         ensures { result ≡ self.now.counts }

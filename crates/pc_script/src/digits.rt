@@ -36,7 +36,7 @@ pub(crate) fn byte(word: &[u8]) -> Option<u8>
 }
 
 /// The number that this word is, where it is below 2 ^ 32.
-pub(crate) fn count(word: &[u8]) -> Option<u32>
+pub fn count(word: &[u8]) -> Option<u32>
     ensures { MatchOption result ((n : ℕ) → n < 2 ^ 32 → word.now ≡ decimal n → ⊥) (λ n. (n < 2 ^ 32) × (word.now ≡ decimal n)) }
 {
     let wide = number(word)?;

@@ -28,6 +28,7 @@ mod short;
 mod text;
 
 pub use command::{Command, Read};
+pub use digits::count;
 pub use input::MOST_BYTES;
 pub use line::{Wish, asked};
 pub use lists::{EarlyNumbers, ShownThread, ShownThreads};

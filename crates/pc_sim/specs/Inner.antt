@@ -1,2 +1,4 @@
+pub mod Drafts
+pub mod Readings
 pub mod Sessions
 pub mod Showing

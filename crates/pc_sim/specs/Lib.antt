@@ -1,6 +1,11 @@
+pub mod CommandLine
 pub mod Endings
 pub mod GoingOn
 pub mod Inner
 pub mod Reads
+pub mod ReportText
+pub mod Runs
 pub mod Session
+pub mod SettingsText
 pub mod ShownViews
+pub mod StepTexts

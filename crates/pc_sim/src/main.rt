@@ -1,4 +1,4 @@
-//! `pc-sim`: replays scripts of events on the kernel model and its agents.
+//! `pc-sim`: replays scripts of events on the kernel model and its agents, or runs agents in threads.
 #![tactic(auto)]
 
 ghost use Rattle.std.specs.Prelude.{◌≡◌, ◌+◌, ◌⊎◌, ◌<◌, ◌≤◌, List, ℕ, length, IfOk, IfSome, OnOk, Err};
@@ -11,18 +11,25 @@ mod command_line;
 mod ending;
 mod laws;
 mod reads;
+mod report;
+mod run_text;
 mod session;
+mod settings;
 mod show;
 
 use command_line::{Command, CommandFault, read_command};
 use ending::Ending;
 use pc_script::{Outcome, ScriptFault};
+use pc_threads::OpenGate;
+use run_text::run_config;
 use session::Session;
 use std::alloc::Global;
 use std::env;
 use std::fs::File;
 use std::io::{self, BufWriter, ErrorKind, Read, Write};
 use std::process::ExitCode;
+use std::sync::Wait;
+use std::thread::Threads;
 
 /// Reads a script, answers its commands one after another on a world of its own, and writes the replies.
 pub fn run_script<R: Read, W: Write>(
@@ -68,24 +75,38 @@ fn words_of<R: env::Env + Alloc>(rt: &R) -> io::Result<Vec<String<R::A>, R::A>> 
     Ok(words)
 }
 
-/// Reads the command line and does what it asks for.
-fn run(rt: &HostRuntime) -> Ending {
+/// What the command line asks for.
+fn command_of(rt: &HostRuntime) -> Result<Command, Ending> {
     let words = match words_of(rt) {
         Ok(words) => words,
-        Err(error) if error.kind() == ErrorKind::OutOfMemory => return Ending::OutOfMemory,
-        Err(_) => return Ending::BadCommandLine,
+        Err(error) if error.kind() == ErrorKind::OutOfMemory => return Err(Ending::OutOfMemory),
+        Err(_) => return Err(Ending::BadCommandLine),
     };
-    let file = match read_command(rt.alloc(), words.as_slice()) {
-        Ok(Command::Replay { file }) => file,
-        Err(CommandFault::OutOfMemory) => return Ending::OutOfMemory,
-        Err(CommandFault::Clap(error)) if error.use_stderr() => return Ending::BadCommandLine,
-        Err(CommandFault::Clap(help)) => {
-            return match help.print(rt) {
-                Ok(()) => Ending::Finished,
-                Err(_) => Ending::CannotRead,
-            };
-        }
-    };
+    match read_command(rt.alloc(), words.as_slice()) {
+        Ok(command) => Ok(command),
+        Err(CommandFault::OutOfMemory) => Err(Ending::OutOfMemory),
+        Err(CommandFault::Clap(error)) if error.use_stderr() => Err(Ending::BadCommandLine),
+        Err(CommandFault::Clap(help)) => match help.print(rt) {
+            Ok(()) => Err(Ending::Finished),
+            Err(_) => Err(Ending::CannotRead),
+        },
+    }
+}
+
+/// Reads the command line and does what it asks for, but for a run, whose settings are read.
+fn begin(rt: &HostRuntime) -> Rest {
+    match command_of(rt) {
+        Err(ending) => Rest::Ended(ending),
+        Ok(Command::Replay { file }) => Rest::Ended(replay_file(rt, file)),
+        Ok(Command::Run { file, per_cpu }) => match settings_of(rt, file) {
+            Ok(text) => Rest::Run { text, per_cpu },
+            Err(ending) => Rest::Ended(ending),
+        },
+    }
+}
+
+/// Replays the script of the file, or else of the standard input.
+fn replay_file(rt: &HostRuntime, file: Option<String>) -> Ending {
     match file {
         None => replay(rt.alloc(), &mut rt.stdin(), rt.stdout()),
         Some(name) => match File::open(rt, name.as_str()) {
@@ -96,8 +117,82 @@ fn run(rt: &HostRuntime) -> Ending {
     }
 }
 
+/// The greatest length of a settings text, in bytes.
+const MOST_SETTINGS: usize = 1_048_576;
+
+/// The whole text that a reader gives, where it is not too long and is UTF-8.
+fn read_settings<R: Read>(alloc: Global, reader: &mut R) -> Result<String, Ending> {
+    let mut bytes = Vec::new(alloc);
+    let mut buffer = [0u8; 8_192];
+    for _ in 0..=MOST_SETTINGS {
+        let count = match reader.read(&mut buffer) {
+            Ok(count) => count,
+            Err(_) => return Err(Ending::CannotRead),
+        };
+        if bytes.extend_from_slice(&buffer[..count]).is_err() {
+            return Err(Ending::OutOfMemory);
+        }
+        if count == 0 || bytes.len() > MOST_SETTINGS {
+            break;
+        }
+    }
+    if bytes.len() > MOST_SETTINGS {
+        return Err(Ending::CannotRead);
+    }
+    match String::from_utf8(bytes) {
+        Ok(text) => Ok(text),
+        Err(_) => Err(Ending::CannotRead),
+    }
+}
+
+/// The settings text of the file, or else of the standard input.
+fn settings_of(rt: &HostRuntime, file: Option<String>) -> Result<String, Ending> {
+    match file {
+        None => read_settings(rt.alloc(), &mut rt.stdin()),
+        Some(name) => match File::open(rt, name.as_str()) {
+            Ok(mut file) => read_settings(rt.alloc(), &mut file),
+            Err(error) if error.kind() == ErrorKind::OutOfMemory => Err(Ending::OutOfMemory),
+            Err(_) => Err(Ending::CannotRead),
+        },
+    }
+}
+
+/// What is left to do when the command line was read.
+enum Rest {
+    /// Nothing.
+    Ended(Ending),
+    /// A run of agents by this settings text.
+    Run { text: String, per_cpu: bool },
+}
+
+/// Runs agents by a settings text, writes the report, and flushes it, whatever the ending.
+fn run_settings<R: Threads + Wait + Sync, W: Write + Drop>(
+    rt: &R,
+    alloc: Global,
+    text: &str,
+    per_cpu: bool,
+    writer: W,
+) -> Ending {
+    let Ok(mut writer) = BufWriter::new(alloc, writer) else {
+        return Ending::OutOfMemory;
+    };
+    let ended = run_config(rt, alloc, text, per_cpu, &OpenGate, &mut writer);
+    if writer.flush().is_err() {
+        return Ending::CannotRead;
+    }
+    match ended {
+        Ok(_) => Ending::Finished,
+        Err(fault) => Ending::from(fault),
+    }
+}
+
 fn main(rt: HostRuntime) -> ExitCode {
-    let ending = run(&rt);
+    let ending = match begin(&rt) {
+        Rest::Ended(ending) => ending,
+        Rest::Run { text, per_cpu } => {
+            run_settings(&rt, rt.alloc(), text.as_str(), per_cpu, rt.stdout())
+        }
+    };
     if let Some(message) = ending.message() {
         // Nothing can be said of an error on standard error itself.
         let _ = eprintln!(rt; "{message}");

@@ -1,5 +1,7 @@
 //! What no script of tests/cases can say: a script over memory, the words of a command line, and how the program ends.
 
+mod settings;
+
 use crate::command_line::{Command, CommandFault, read_command};
 use crate::ending::Ending;
 use crate::run_script;
@@ -21,21 +23,107 @@ static REPLAY: [&str; 2] = ["pc-sim", "replay"];
 
 static REPLAY_FILE: [&str; 3] = ["pc-sim", "replay", "a.script"];
 
-fn file_given(
+static RUN: [&str; 2] = ["pc-sim", "run"];
+
+static RUN_FILE: [&str; 4] = ["pc-sim", "run", "s.toml", "--per-cpu"];
+
+static RUN_FLAG_FIRST: [&str; 4] = ["pc-sim", "run", "--per-cpu", "s.toml"];
+
+static NOTHING: [&str; 1] = ["pc-sim"];
+
+static HELP_AS_COMMAND: [&str; 2] = ["pc-sim", "help"];
+
+static ANOTHER_COMMAND: [&str; 2] = ["pc-sim", "walk"];
+
+static TWO_FILES: [&str; 4] = ["pc-sim", "run", "a", "b"];
+
+static FLAG_OF_ANOTHER: [&str; 3] = ["pc-sim", "replay", "--per-cpu"];
+
+static FLAG_WITH_VALUE: [&str; 3] = ["pc-sim", "run", "--per-cpu=true"];
+
+static FLAG_TWICE: [&str; 4] = ["pc-sim", "run", "--per-cpu", "--per-cpu"];
+
+static HELP: [&str; 2] = ["pc-sim", "--help"];
+
+static HELP_OF_RUN: [&str; 3] = ["pc-sim", "run", "--help"];
+
+static VERSION: [&str; 2] = ["pc-sim", "--version"];
+
+/// The file of a replay, where the words ask for one.
+fn replayed(
     alloc: Global,
     words: &'static [&'static str],
-) -> Result<Option<String>, CommandFault> {
-    let Command::Replay { file } = read_command(alloc, words)?;
-    Ok(file)
+) -> Result<Option<Option<String>>, CommandFault> {
+    match read_command(alloc, words)? {
+        Command::Replay { file } => Ok(Some(file)),
+        Command::Run { .. } => Ok(None),
+    }
+}
+
+/// The file of a run, and whether each CPU has a line, where the words ask for one.
+fn run(
+    alloc: Global,
+    words: &'static [&'static str],
+) -> Result<Option<(Option<String>, bool)>, CommandFault> {
+    match read_command(alloc, words)? {
+        Command::Replay { .. } => Ok(None),
+        Command::Run { file, per_cpu } => Ok(Some((file, per_cpu))),
+    }
 }
 
 #[test]
-fn a_file_is_read_off_the_command_line(rt: HostRuntime) -> Result<(), Fail> {
+fn a_replay_is_read_off_the_command_line(rt: HostRuntime) -> Result<(), Fail> {
     let alloc = rt.alloc();
-    assert!(rt; file_given(alloc, REPLAY.as_slice())?.is_none());
-    let file = file_given(alloc, REPLAY_FILE.as_slice())?.ok_or("no file")?;
-    assert_eq!(rt; file.as_str(), "a.script");
+    let file = replayed(alloc, REPLAY.as_slice())?.ok_or("no replay")?;
+    assert!(rt; file.is_none());
+    let file = replayed(alloc, REPLAY_FILE.as_slice())?.ok_or("no replay")?;
+    assert_eq!(rt; file.ok_or("no file")?.as_str(), "a.script");
     Ok(())
+}
+
+#[test]
+fn a_run_is_read_off_the_command_line(rt: HostRuntime) -> Result<(), Fail> {
+    let alloc = rt.alloc();
+    let (file, per_cpu) = run(alloc, RUN.as_slice())?.ok_or("no run")?;
+    assert!(rt; file.is_none());
+    assert!(rt; !per_cpu);
+    let (file, per_cpu) = run(alloc, RUN_FILE.as_slice())?.ok_or("no run")?;
+    assert_eq!(rt; file.ok_or("no file")?.as_str(), "s.toml");
+    assert!(rt; per_cpu);
+    let (file, per_cpu) = run(alloc, RUN_FLAG_FIRST.as_slice())?.ok_or("no run")?;
+    assert_eq!(rt; file.ok_or("no file")?.as_str(), "s.toml");
+    assert!(rt; per_cpu);
+    Ok(())
+}
+
+/// Whether the words are told to be wrong (and not an answer to a question for help).
+fn is_wrong(alloc: Global, words: &'static [&'static str]) -> Option<bool> {
+    match read_command(alloc, words) {
+        Err(CommandFault::Clap(error)) => Some(error.use_stderr()),
+        _ => None,
+    }
+}
+
+#[test]
+fn other_words_are_no_command(rt: HostRuntime) {
+    for words in [
+        NOTHING.as_slice(),
+        HELP_AS_COMMAND.as_slice(),
+        ANOTHER_COMMAND.as_slice(),
+        TWO_FILES.as_slice(),
+        FLAG_OF_ANOTHER.as_slice(),
+        FLAG_WITH_VALUE.as_slice(),
+        FLAG_TWICE.as_slice(),
+    ] {
+        assert_eq!(rt; is_wrong(rt.alloc(), words), Some(true));
+    }
+}
+
+#[test]
+fn help_and_the_version_are_told(rt: HostRuntime) {
+    for words in [HELP.as_slice(), HELP_OF_RUN.as_slice(), VERSION.as_slice()] {
+        assert_eq!(rt; is_wrong(rt.alloc(), words), Some(false));
+    }
 }
 
 #[test]

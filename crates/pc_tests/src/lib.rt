@@ -1,8 +1,7 @@
-//! Tests of the libraries, by their public names alone: a crate that has tests of its own is proved twice.
+//! Tests of the libraries that agents stand on and of scripts, by their public names alone: a crate that has tests of its own is proved
+//! twice. `pc_tests_agents` has the others.
 #![tactic(auto)]
 
-#[cfg(test)]
-mod agent;
 #[cfg(test)]
 mod calls;
 #[cfg(test)]
@@ -22,8 +21,4 @@ mod script;
 #[cfg(test)]
 mod thread_view;
 #[cfg(test)]
-mod threads;
-#[cfg(test)]
 mod view;
-#[cfg(test)]
-mod world;

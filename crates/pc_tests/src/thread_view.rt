@@ -1,7 +1,9 @@
 //! A thread's messages in other orders, with ample memory.
 
+ghost use Rattle.std.specs.Prelude.{◌≡◌};
+
 use pc_join::{Join, OutOfMemory};
-use pc_messages::{Kind, Mask, Phase};
+use pc_messages::{Kind, Level, Mask, Message, Phase, Reported, Tid};
 use pc_thread_view::ThreadView;
 use std::alloc::Global;
 use std::test::Fail;
@@ -40,56 +42,98 @@ fn both(alloc: Global, turned: bool) -> Result<ThreadView, Fail> {
     Ok(joined?)
 }
 
-#[test]
-fn a_message_past_a_gap_is_early(rt: HostRuntime) -> Result<(), Fail> {
-    let first = odd(rt.alloc(), Mask::new(3, 2)?)?;
-    assert_eq!(rt; first.upto(), 1);
-    assert_eq!(rt; first.early().len(), 1);
-    assert!(rt; first.has(1));
-    assert!(rt; !first.has(2));
-    assert!(rt; first.has(3));
+// Without contracts, as the functions below, so that a test's proof does not carry those of thread views.
+fn tells(view: &ThreadView, upto: u32, early: &[u32]) -> bool {
+    view.upto() == upto
+        && view.early().len() == early.len()
+        && view
+            .early()
+            .iter()
+            .zip(early)
+            .all(|(message, number)| message.0 == *number)
+}
+
+fn has(view: &ThreadView, number: u32) -> bool {
+    view.has(number)
+}
+
+fn reported(view: &ThreadView) -> Option<Reported> {
+    view.reported()
+}
+
+fn first_early(view: &ThreadView) -> Option<(u32, Kind)> {
+    view.early().first().copied()
+}
+
+fn is_same(view: &ThreadView, other: &ThreadView) -> bool {
+    view == other
+}
+
+fn covers(view: &ThreadView, other: &ThreadView) -> bool {
+    view.covers(other)
+}
+
+fn is_nothing(view: &ThreadView) -> bool {
+    view.is_empty()
+}
+
+fn copied(view: &ThreadView) -> Result<ThreadView, OutOfMemory> {
+    view.try_copy()
+}
+
+fn puts(view: &mut ThreadView, number: u32, kind: Kind) -> Result<(), Fail> {
+    let message = Message {
+        thread: Tid(0),
+        number,
+        kind,
+    };
+    if !message.is_well_formed() {
+        return Err("not well formed".into());
+    }
+    view.insert(message.number, message.kind)?;
     Ok(())
 }
 
+/// The state of the four messages.
+const fn state(mask: Mask) -> Reported
+    ensures { result.ran ≡ 2 }
+{
+    Reported {
+        phase: Phase::Ready,
+        mask,
+        ran: 2,
+        level: Level::LOWEST,
+    }
+}
+
+/// The four messages as a prefix with its state.
+fn folded(alloc: Global, mask: Mask) -> ThreadView {
+    ThreadView::folded(alloc, 4, state(mask))
+}
+
 #[test]
-fn without_the_first_all_are_early(rt: HostRuntime) -> Result<(), Fail> {
+fn messages_past_a_gap_are_early(rt: HostRuntime) -> Result<(), Fail> {
+    let first = odd(rt.alloc(), Mask::new(3, 2)?)?;
+    assert!(rt; tells(&first, 1, &[3]));
     let other = even(rt.alloc())?;
-    assert_eq!(rt; other.upto(), 0);
-    assert!(rt; other.reported().is_none());
-    assert_eq!(rt; other.early().len(), 2);
-    assert!(rt; other.has(2));
-    assert!(rt; !other.has(3));
-    assert!(rt; other.has(4));
+    assert!(rt; tells(&other, 0, &[2, 4]));
+    assert!(rt; reported(&other).is_none());
+    for (number, of_first, of_other) in [(1, true, false), (2, false, true), (3, true, false)] {
+        assert!(rt; has(&first, number) == of_first);
+        assert!(rt; has(&other, number) == of_other);
+    }
+    assert!(rt; has(&other, 4));
     Ok(())
 }
 
 #[test]
 fn a_join_closes_the_gaps(rt: HostRuntime) -> Result<(), Fail> {
+    let mask = Mask::new(3, 2)?;
     let joined = both(rt.alloc(), false)?;
-    assert_eq!(rt; joined.upto(), 4);
-    assert_eq!(rt; joined.early().len(), 0);
-    let reported = joined.reported().ok_or("no state")?;
-    assert!(rt; reported.phase == Phase::Ready);
-    assert_eq!(rt; reported.mask.bits(), 3);
-    assert_eq!(rt; reported.ran, 2);
-    assert_eq!(rt; reported.level.get(), 0);
-    Ok(())
-}
-
-#[test]
-fn joins_from_either_side_are_equal(rt: HostRuntime) -> Result<(), Fail> {
-    let joined = both(rt.alloc(), false)?;
-    let turned = both(rt.alloc(), true)?;
-    assert!(rt; joined == turned);
-    Ok(())
-}
-
-#[test]
-fn a_folded_prefix_is_its_messages(rt: HostRuntime) -> Result<(), Fail> {
-    let joined = both(rt.alloc(), false)?;
-    let reported = joined.reported().ok_or("no state")?;
-    assert_eq!(rt; reported.ran, 2);
-    assert!(rt; joined == ThreadView::folded(rt.alloc(), 4, reported));
+    assert!(rt; tells(&joined, 4, &[]));
+    assert_eq!(rt; reported(&joined), Some(state(mask)));
+    assert!(rt; is_same(&joined, &both(rt.alloc(), true)?));
+    assert!(rt; is_same(&joined, &folded(rt.alloc(), mask)));
     Ok(())
 }
 
@@ -97,39 +141,23 @@ fn a_folded_prefix_is_its_messages(rt: HostRuntime) -> Result<(), Fail> {
 fn a_join_covers_its_parts(rt: HostRuntime) -> Result<(), Fail> {
     let joined = both(rt.alloc(), false)?;
     let part = even(rt.alloc())?;
-    assert!(rt; joined != part);
-    assert!(rt; joined.covers(&part));
-    assert!(rt; !part.covers(&joined));
-    assert!(rt; !part.is_empty());
+    assert!(rt; !is_same(&joined, &part));
+    assert!(rt; covers(&joined, &part));
+    assert!(rt; !covers(&part, &joined));
+    assert!(rt; !is_nothing(&part));
+    assert!(rt; is_same(&part, &copied(&part)?));
     Ok(())
 }
 
 #[test]
-fn a_known_number_changes_nothing(rt: HostRuntime) -> Result<(), Fail> {
+fn a_known_number_changes_nothing_and_a_far_one_is_early(rt: HostRuntime) -> Result<(), Fail> {
     let mut joined = both(rt.alloc(), false)?;
-    joined.insert(3, Kind::Blocked { ran: 2 })?;
-    let before = both(rt.alloc(), false)?;
-    assert!(rt; joined == before);
-    Ok(())
-}
-
-#[test]
-fn a_far_number_is_early(rt: HostRuntime) -> Result<(), Fail> {
-    let mut joined = both(rt.alloc(), false)?;
-    joined.insert(1_000_000, Kind::Wakeup)?;
-    assert_eq!(rt; joined.upto(), 4);
-    let (number, kind) = joined.early().first().ok_or("none is early")?;
-    assert_eq!(rt; *number, 1_000_000);
-    assert_eq!(rt; *kind, Kind::Wakeup);
-    assert_eq!(rt; joined.early().len(), 1);
-    Ok(())
-}
-
-#[test]
-fn a_copy_is_equal(rt: HostRuntime) -> Result<(), Fail> {
-    let first = odd(rt.alloc(), Mask::new(3, 2)?)?;
-    let copy = first.try_copy()?;
-    assert!(rt; first == copy);
+    puts(&mut joined, 3, Kind::Blocked { ran: 2 })?;
+    assert!(rt; is_same(&joined, &both(rt.alloc(), false)?));
+    puts(&mut joined, 1_000_000, Kind::Wakeup)?;
+    assert!(rt; tells(&joined, 4, &[1_000_000]));
+    assert_eq!(rt; first_early(&joined), Some((1_000_000, Kind::Wakeup)));
+    assert!(rt; is_same(&joined, &copied(&joined)?));
     Ok(())
 }
 
@@ -174,6 +202,9 @@ fn is_whole(view: &ThreadView) -> bool {
     view.upto() == 13 && view.early().is_empty() && ran == Some(12)
 }
 
+/// All thirteen but the first.
+const PAST_THE_FIRST: [u32; 12] = [2, 3, 4, 5, 6, 7, 8, 9, 10, 11, 12, 13];
+
 #[test]
 fn messages_in_any_order_are_folded(rt: HostRuntime) -> Result<(), Fail> {
     for order in [ASCENDING, DESCENDING, OUTWARDS, SCATTERED, BATCHES, GAPS] {
@@ -187,11 +218,7 @@ fn messages_in_any_order_are_folded(rt: HostRuntime) -> Result<(), Fail> {
 fn early_messages_ascend_whatever_their_order(rt: HostRuntime) -> Result<(), Fail> {
     for order in [DESCENDING, OUTWARDS, SCATTERED, BATCHES] {
         let view = arrived(rt.alloc(), &order[..11])?;
-        assert_eq!(rt; view.upto(), 0);
-        assert_eq!(rt; view.early().len(), 12);
-        for (place, message) in view.early().iter().enumerate() {
-            assert_eq!(rt; message.0 as usize, place + 2);
-        }
+        assert!(rt; tells(&view, 0, &PAST_THE_FIRST));
     }
     Ok(())
 }
@@ -199,32 +226,36 @@ fn early_messages_ascend_whatever_their_order(rt: HostRuntime) -> Result<(), Fai
 #[test]
 fn a_gap_that_closes_takes_the_next_messages_along(rt: HostRuntime) -> Result<(), Fail> {
     let mut view = arrived(rt.alloc(), &GAPS[..7])?;
-    assert_eq!(rt; view.upto(), 2);
-    assert_eq!(rt; view.early().len(), 6);
+    assert!(rt; tells(&view, 2, &[4, 6, 8, 10, 12, 13]));
     take_in(&mut view, 3)?;
-    assert_eq!(rt; view.upto(), 4);
+    assert!(rt; tells(&view, 4, &[6, 8, 10, 12, 13]));
     take_in(&mut view, 7)?;
-    assert_eq!(rt; view.upto(), 4);
-    assert_eq!(rt; view.early().len(), 6);
+    assert!(rt; tells(&view, 4, &[6, 7, 8, 10, 12, 13]));
     take_in(&mut view, 5)?;
-    assert_eq!(rt; view.upto(), 8);
-    assert_eq!(rt; view.early().len(), 3);
+    assert!(rt; tells(&view, 8, &[10, 12, 13]));
     Ok(())
 }
 
-#[test]
-fn a_greater_prefix_leaves_the_messages_past_it(rt: HostRuntime) -> Result<(), Fail> {
-    let mut view = arrived(rt.alloc(), &DESCENDING[..11])?;
+/// A view of the first nine messages as a prefix, which they report.
+fn nine(alloc: Global) -> Result<ThreadView, Fail> {
     let ready = true;
     let mask = Mask::new(3, 2)?;
-    let mut nine = ThreadView::of(rt.alloc(), 1, Kind::Created { mask, ready });
+    let mut nine = ThreadView::of(alloc, 1, Kind::Created { mask, ready });
     for number in &ASCENDING[1..9] {
         take_in(&mut nine, *number)?;
     }
     let reported = nine.reported().ok_or("no state")?;
-    assert_eq!(rt; reported.ran, 8);
-    view.join_from(&ThreadView::folded(rt.alloc(), 9, reported))?;
-    assert!(rt; is_whole(&view));
+    if reported.ran != 8 {
+        return Err("other ticks".into());
+    }
+    Ok(ThreadView::folded(alloc, 9, reported))
+}
+
+#[test]
+fn a_greater_prefix_leaves_the_messages_past_it(rt: HostRuntime) -> Result<(), Fail> {
+    let view = arrived(rt.alloc(), &DESCENDING[..11])?;
+    let joined = join_both(&view, &nine(rt.alloc())?)?;
+    assert!(rt; is_whole(&joined));
     Ok(())
 }
 
@@ -239,25 +270,30 @@ fn arrived_apart(alloc: Global, these: &[u32], those: &[u32]) -> Result<ThreadVi
 fn many_early_messages_are_joined(rt: HostRuntime) -> Result<(), Fail> {
     let mut joined = arrived_apart(rt.alloc(), &GAPS[..6], &GAPS[7..])?;
     let turned = arrived_apart(rt.alloc(), &GAPS[7..], &GAPS[..6])?;
-    assert!(rt; joined == turned);
-    assert_eq!(rt; joined.early().len(), 12);
+    assert!(rt; is_same(&joined, &turned));
+    assert!(rt; tells(&joined, 0, &PAST_THE_FIRST));
     take_in(&mut joined, 1)?;
     assert!(rt; is_whole(&joined));
     Ok(())
 }
 
+/// A view of the first message, and of one that is far.
+fn with_a_far_message(alloc: Global) -> Result<ThreadView, Fail> {
+    let mask = Mask::new(3, 2)?;
+    let mut view = ThreadView::of(alloc, 9_000, Kind::Preempted { ran: 1 });
+    view.insert(1, Kind::Created { mask, ready: true })?;
+    Ok(view)
+}
+
 #[test]
 fn a_far_message_waits_while_gaps_close(rt: HostRuntime) -> Result<(), Fail> {
-    let mask = Mask::new(3, 2)?;
-    let mut view = ThreadView::of(rt.alloc(), 9_000, Kind::Preempted { ran: 1 });
-    view.insert(1, Kind::Created { mask, ready: true })?;
+    let mut view = with_a_far_message(rt.alloc())?;
     for pair in 1..500u32 {
-        view.insert(2 * pair + 1, Kind::Preempted { ran: 1 })?;
-        assert_eq!(rt; view.early().len(), 2);
-        view.insert(2 * pair, Kind::Preempted { ran: 1 })?;
-        assert_eq!(rt; view.upto(), 2 * pair + 1);
-        assert_eq!(rt; view.early().len(), 1);
+        puts(&mut view, 2 * pair + 1, Kind::Preempted { ran: 1 })?;
+        assert!(rt; tells(&view, 2 * pair - 1, &[2 * pair + 1, 9_000]));
+        puts(&mut view, 2 * pair, Kind::Preempted { ran: 1 })?;
+        assert!(rt; tells(&view, 2 * pair + 1, &[9_000]));
     }
-    assert!(rt; view.has(9_000));
+    assert!(rt; has(&view, 9_000));
     Ok(())
 }

@@ -2,7 +2,7 @@
 
 use pc_join::{Join, OutOfMemory};
 use pc_kernel::{CallFault, Kernel, Limits};
-use pc_messages::{Cpu, Kind, Mask, Message, Phase, Tid};
+use pc_messages::{Cpu, Kind, Level, Mask, Message, Phase, Reported, Tid};
 use pc_view::{Stranger, View, audit, complete};
 use std::alloc::Global;
 use std::test::Fail;
@@ -64,86 +64,127 @@ fn merged(alloc: Global, mask: Mask, turned: bool) -> Result<View, OutOfMemory> 
 }
 
 /// The same by a join into a copy.
-fn joined(alloc: Global, mask: Mask) -> Result<View, OutOfMemory> {
+fn joined(alloc: Global, mask: Mask, turned: bool) -> Result<View, OutOfMemory> {
     let first = odd(alloc, mask)?;
     let other = even(alloc, mask)?;
-    join_both(&first, &other)
+    if turned {
+        join_both(&other, &first)
+    } else {
+        join_both(&first, &other)
+    }
+}
+
+// Without contracts, as the functions below, so that a test's proof does not carry those of views.
+fn is_same(first: &View, other: &View) -> bool {
+    first == other
+}
+
+fn knows(view: &View, thread: u32, number: u32) -> bool {
+    view.knows(Tid(thread), number)
+}
+
+fn covers(view: &View, other: &View) -> bool {
+    view.covers(other)
+}
+
+fn copied(view: &View) -> Result<View, OutOfMemory> {
+    view.try_copy()
+}
+
+fn is_nothing(view: &View) -> bool {
+    view.is_empty()
+}
+
+/// How far the thread is known without a gap, and its state, as what is held of the thread tells them; none where nothing is.
+fn held(view: &View, thread: u32) -> Option<(u32, Option<Reported>)> {
+    let held = view.thread(Tid(thread))?;
+    Some((held.upto(), held.reported()))
+}
+
+/// The same as the view tells them.
+fn known(view: &View, thread: u32) -> (u32, Option<Reported>) {
+    (view.upto(Tid(thread)), view.reported(Tid(thread)))
+}
+
+fn next(view: &View, from: u32) -> Option<Tid> {
+    view.next(Tid(from))
+}
+
+/// A state of the mask 3 and the lowest level.
+const fn state(phase: Phase, mask: Mask, ran: u64) -> Option<Reported> {
+    Some(Reported {
+        phase,
+        mask,
+        ran,
+        level: Level::LOWEST,
+    })
 }
 
 #[test]
-fn merges_do_not_depend_on_the_order(rt: HostRuntime) -> Result<(), Fail> {
-    let mask = Mask::new(3, 2).expect(&rt, "a mask");
+fn merges_and_joins_do_not_depend_on_the_order(rt: HostRuntime) -> Result<(), Fail> {
+    let mask = Mask::new(3, 2)?;
     let one = merged(rt.alloc(), mask, false)?;
     let turned = merged(rt.alloc(), mask, true)?;
-    assert!(rt; one == turned);
-    assert!(rt; one.knows(Tid(1), 1));
-    Ok(())
-}
-
-#[test]
-fn a_join_into_a_copy_is_a_merge(rt: HostRuntime) -> Result<(), Fail> {
-    let mask = Mask::new(3, 2).expect(&rt, "a mask");
-    let view = merged(rt.alloc(), mask, true)?;
-    let other = joined(rt.alloc(), mask)?;
-    assert!(rt; view == other);
-    Ok(())
-}
-
-#[test]
-fn a_copy_is_equal(rt: HostRuntime) -> Result<(), Fail> {
-    let mask = Mask::new(3, 2).expect(&rt, "a mask");
-    let view = even(rt.alloc(), mask)?;
-    let copy = view.try_copy()?;
-    assert!(rt; view == copy);
+    assert!(rt; is_same(&one, &turned));
+    assert!(rt; is_same(&one, &joined(rt.alloc(), mask, false)?));
+    assert!(rt; is_same(&one, &joined(rt.alloc(), mask, true)?));
+    assert!(rt; is_same(&one, &copied(&one)?));
+    assert!(rt; knows(&one, 1, 1));
     Ok(())
 }
 
 #[test]
 fn a_merge_covers_what_was_merged(rt: HostRuntime) -> Result<(), Fail> {
-    let mask = Mask::new(3, 2).expect(&rt, "a mask");
+    let mask = Mask::new(3, 2)?;
     let view = merged(rt.alloc(), mask, false)?;
     let first = odd(rt.alloc(), mask)?;
-    assert!(rt; view != first);
-    assert!(rt; view.covers(&first));
-    assert!(rt; !first.covers(&view));
-    assert!(rt; !first.knows(Tid(1), 1));
+    assert!(rt; !is_same(&view, &first));
+    assert!(rt; covers(&view, &first));
+    assert!(rt; !covers(&first, &view));
+    assert!(rt; !knows(&first, 1, 1));
     Ok(())
 }
 
 #[test]
 fn what_a_view_tells(rt: HostRuntime) -> Result<(), Fail> {
-    let mask = Mask::new(3, 2).expect(&rt, "a mask");
+    let mask = Mask::new(3, 2)?;
     let view = merged(rt.alloc(), mask, false)?;
-    let thread = view.thread(Tid(0)).expect(&rt, "t0");
-    assert_eq!(rt; thread.upto(), 4);
-    let reported = thread.reported().expect(&rt, "a state");
-    assert!(rt; reported.phase == Phase::Ready);
-    assert_eq!(rt; reported.ran, 2);
-    assert!(rt; view.thread(Tid(2)).is_none());
-    assert_eq!(rt; view.next(Tid(0)), Some(Tid(0)));
-    assert_eq!(rt; view.next(Tid(1)), Some(Tid(1)));
-    assert_eq!(rt; view.next(Tid(2)), None);
-    assert!(rt; View::new(rt.alloc()).is_empty());
-    assert!(rt; !view.is_empty());
+    assert_eq!(rt; held(&view, 0), Some((4, state(Phase::Ready, mask, 2))));
+    assert!(rt; held(&view, 2).is_none());
+    for (from, wanted) in [(0, Some(Tid(0))), (1, Some(Tid(1))), (2, None)] {
+        assert_eq!(rt; next(&view, from), wanted);
+    }
+    assert!(rt; is_nothing(&View::new(rt.alloc())));
+    assert!(rt; !is_nothing(&view));
     Ok(())
+}
+
+/// A view that has t0's first four messages as a prefix with its state, and t1's first message where that is asked for.
+fn folded(alloc: Global, mask: Mask, with_other: bool) -> Result<View, OutOfMemory> {
+    let reported = Reported {
+        phase: Phase::Ready,
+        mask,
+        ran: 2,
+        level: Level::LOWEST,
+    };
+    let mut view = View::new(alloc);
+    view.fold(Tid(0), 4, reported)?;
+    if with_other {
+        view.insert(Message {
+            thread: Tid(1),
+            number: 1,
+            kind: Kind::Created { mask, ready: true },
+        })?;
+    }
+    Ok(view)
 }
 
 #[test]
 fn a_folded_prefix_is_its_messages(rt: HostRuntime) -> Result<(), Fail> {
-    let mask = Mask::new(3, 2).expect(&rt, "a mask");
+    let mask = Mask::new(3, 2)?;
     let all = merged(rt.alloc(), mask, false)?;
-    let reported = all.thread(Tid(0)).expect(&rt, "t0").reported();
-    let reported = reported.expect(&rt, "a state");
-    assert!(rt; reported.ran == 2);
-    let mut folded = View::new(rt.alloc());
-    folded.fold(Tid(0), 4, reported)?;
-    assert!(rt; folded != all);
-    folded.insert(Message {
-        thread: Tid(1),
-        number: 1,
-        kind: Kind::Created { mask, ready: true },
-    })?;
-    assert!(rt; folded == all);
+    assert!(rt; !is_same(&folded(rt.alloc(), mask, false)?, &all));
+    assert!(rt; is_same(&folded(rt.alloc(), mask, true)?, &all));
     Ok(())
 }
 
@@ -208,128 +249,98 @@ fn stranger(thread: u32, number: u32) -> Result<(), Stranger> {
     })
 }
 
+/// A message by its thread's name, its number and its kind.
+type Told = (u32, u32, Kind);
+
+/// A view that merged a view of each of the messages.
+fn view_of_all(alloc: Global, messages: &[Told]) -> Result<View, Fail> {
+    let mut view = View::new(alloc);
+    for (thread, number, kind) in messages {
+        view.merge(&view_of(alloc, *thread, *number, *kind)?)?;
+    }
+    Ok(view)
+}
+
+fn audited(alloc: Global, kernel: &Kernel, messages: &[Told]) -> Result<Audit, Fail> {
+    Ok(audit(&view_of_all(alloc, messages)?, kernel))
+}
+
+type Audit = Result<(), Stranger>;
+
+/// Whether a view of the messages has all of the thread's.
+fn is_complete(
+    alloc: Global,
+    kernel: &Kernel,
+    messages: &[Told],
+    thread: u32,
+) -> Result<bool, Fail> {
+    Ok(complete(&view_of_all(alloc, messages)?, kernel, Tid(thread)))
+}
+
+// The kernel has one message of t0. What is past it is looked at before what the prefix reports, and that before the
+// early messages; of a thread that the kernel does not know the first number that is told is strange.
 #[test]
-fn a_view_of_the_run_has_no_stranger(rt: HostRuntime) -> Result<(), Fail> {
+fn strangers_to_a_kernel_with_one_message(rt: HostRuntime) -> Result<(), Fail> {
     let kernel = kernel_of_one(rt.alloc())?;
-    let view = view_of(rt.alloc(), 0, 1, created(3)?)?;
-    assert_eq!(rt; audit(&view, &kernel), Ok(()));
-    assert_eq!(rt; audit(&View::new(rt.alloc()), &kernel), Ok(()));
+    let (same, other) = (created(3)?, created(1)?);
+    for (messages, wanted) in [
+        ([(0, 1, same)].as_slice(), Ok(())),
+        (&[], Ok(())),
+        (&[(0, 1, other)], stranger(0, 1)),
+        (&[(0, 1, same), (0, 2, Kind::Wakeup)], stranger(0, 2)),
+        (&[(0, 7, Kind::Wakeup)], stranger(0, 7)),
+        (&[(9, 1, same)], stranger(9, 1)),
+        (&[(9, 5, Kind::Wakeup)], stranger(9, 5)),
+        (
+            &[(9, 1, same), (4, 3, Kind::Wakeup), (0, 1, same)],
+            stranger(4, 3),
+        ),
+        (&[(0, 1, other), (0, 7, Kind::Wakeup)], stranger(0, 1)),
+        (&[(0, 1, other), (0, 2, Kind::Wakeup)], stranger(0, 2)),
+        (&[(9, 1, same), (9, 5, Kind::Wakeup)], stranger(9, 1)),
+    ] {
+        assert_eq!(rt; audited(rt.alloc(), &kernel, messages)?, wanted);
+    }
     Ok(())
 }
 
-#[test]
-fn another_mask_is_strange(rt: HostRuntime) -> Result<(), Fail> {
-    let kernel = kernel_of_one(rt.alloc())?;
-    let view = view_of(rt.alloc(), 0, 1, created(1)?)?;
-    assert_eq!(rt; audit(&view, &kernel), stranger(0, 1));
-    Ok(())
-}
-
-// The kernel has one message of t0: a second one that follows is past it, and so is one after a gap.
-#[test]
-fn a_message_past_the_history_is_strange(rt: HostRuntime) -> Result<(), Fail> {
-    let kernel = kernel_of_one(rt.alloc())?;
-    let mut view = view_of(rt.alloc(), 0, 1, created(3)?)?;
-    view.merge(&view_of(rt.alloc(), 0, 2, Kind::Wakeup)?)?;
-    assert_eq!(rt; audit(&view, &kernel), stranger(0, 2));
-    let early = view_of(rt.alloc(), 0, 7, Kind::Wakeup)?;
-    assert_eq!(rt; audit(&early, &kernel), stranger(0, 7));
-    Ok(())
-}
-
-// Of a thread that the kernel does not know, the first number that is told.
-#[test]
-fn an_unknown_thread_is_strange(rt: HostRuntime) -> Result<(), Fail> {
-    let kernel = kernel_of_one(rt.alloc())?;
-    let first = view_of(rt.alloc(), 9, 1, created(3)?)?;
-    assert_eq!(rt; audit(&first, &kernel), stranger(9, 1));
-    let early = view_of(rt.alloc(), 9, 5, Kind::Wakeup)?;
-    assert_eq!(rt; audit(&early, &kernel), stranger(9, 5));
-    Ok(())
-}
-
-#[test]
-fn the_least_stranger_is_named(rt: HostRuntime) -> Result<(), Fail> {
-    let kernel = kernel_of_one(rt.alloc())?;
-    let mut view = view_of(rt.alloc(), 9, 1, created(3)?)?;
-    view.merge(&view_of(rt.alloc(), 4, 3, Kind::Wakeup)?)?;
-    view.merge(&view_of(rt.alloc(), 0, 1, created(3)?)?)?;
-    assert_eq!(rt; audit(&view, &kernel), stranger(4, 3));
-    Ok(())
+/// A kernel with t0, ready, and t1, which was created blocked and woken.
+fn kernel_of_three(alloc: Global) -> Result<Kernel, Fail> {
+    let mut kernel = kernel_of_one(alloc)?;
+    if created_thread(&mut kernel, false) != Some(Tid(1)) {
+        return Err("not the second thread".into());
+    }
+    match woken(&mut kernel, Tid(1)) {
+        Some((Some(2), Cpu(0))) => Ok(kernel),
+        _ => Err("not the second message".into()),
+    }
 }
 
 // An early message that the history has otherwise: message 2 is a Wakeup there.
 #[test]
 fn another_early_message_is_strange(rt: HostRuntime) -> Result<(), Fail> {
-    let mut kernel = kernel_of_one(rt.alloc())?;
-    assert_eq!(rt; created_thread(&mut kernel, false), Some(Tid(1)));
-    assert_eq!(rt; woken(&mut kernel, Tid(1)), Some((Some(2), Cpu(0))));
-    let same = view_of(rt.alloc(), 1, 2, Kind::Wakeup)?;
-    assert_eq!(rt; audit(&same, &kernel), Ok(()));
-    let other = view_of(rt.alloc(), 1, 2, Kind::Yield { ran: 1 })?;
-    assert_eq!(rt; audit(&other, &kernel), stranger(1, 2));
-    Ok(())
-}
-
-#[test]
-fn a_view_is_complete_where_it_has_the_last_message(rt: HostRuntime) -> Result<(), Fail> {
-    let kernel = kernel_of_one(rt.alloc())?;
-    let view = view_of(rt.alloc(), 0, 1, created(3)?)?;
-    assert!(rt; complete(&view, &kernel, Tid(0)));
-    assert!(rt; !complete(&view, &kernel, Tid(1)));
-    assert!(rt; !complete(&View::new(rt.alloc()), &kernel, Tid(0)));
-    Ok(())
-}
-
-#[test]
-fn a_view_that_lacks_the_last_message_is_not_complete(rt: HostRuntime) -> Result<(), Fail> {
-    let mut kernel = kernel_of_one(rt.alloc())?;
-    assert_eq!(rt; created_thread(&mut kernel, false), Some(Tid(1)));
-    assert_eq!(rt; woken(&mut kernel, Tid(1)), Some((Some(2), Cpu(0))));
-    let first = view_of(rt.alloc(), 1, 2, Kind::Wakeup)?;
-    assert!(rt; !complete(&first, &kernel, Tid(1)));
-    Ok(())
-}
-
-// What the prefix reports is looked at before the early messages.
-#[test]
-fn another_state_comes_before_a_strange_early_message(rt: HostRuntime) -> Result<(), Fail> {
-    let kernel = kernel_of_one(rt.alloc())?;
-    let mut view = view_of(rt.alloc(), 0, 1, created(1)?)?;
-    view.merge(&view_of(rt.alloc(), 0, 7, Kind::Wakeup)?)?;
-    assert_eq!(rt; audit(&view, &kernel), stranger(0, 1));
-    Ok(())
-}
-
-// How far the prefix goes is looked at before what it reports.
-#[test]
-fn a_prefix_past_the_history_comes_before_another_state(rt: HostRuntime) -> Result<(), Fail> {
-    let kernel = kernel_of_one(rt.alloc())?;
-    let mut view = view_of(rt.alloc(), 0, 1, created(1)?)?;
-    view.merge(&view_of(rt.alloc(), 0, 2, Kind::Wakeup)?)?;
-    assert_eq!(rt; audit(&view, &kernel), stranger(0, 2));
-    Ok(())
-}
-
-// The first number past a history without a message is 1.
-#[test]
-fn the_prefix_of_an_unknown_thread_comes_before_its_early_messages(
-    rt: HostRuntime,
-) -> Result<(), Fail> {
-    let kernel = kernel_of_one(rt.alloc())?;
-    let mut view = view_of(rt.alloc(), 9, 1, created(3)?)?;
-    view.merge(&view_of(rt.alloc(), 9, 5, Kind::Wakeup)?)?;
-    assert_eq!(rt; audit(&view, &kernel), stranger(9, 1));
+    let kernel = kernel_of_three(rt.alloc())?;
+    let same = [(1, 2, Kind::Wakeup)];
+    assert_eq!(rt; audited(rt.alloc(), &kernel, &same)?, Ok(()));
+    let other = [(1, 2, Kind::Yield { ran: 1 })];
+    assert_eq!(rt; audited(rt.alloc(), &kernel, &other)?, stranger(1, 2));
+    assert!(rt; !is_complete(rt.alloc(), &kernel, &same, 1)?);
     Ok(())
 }
 
 // A view that is not of the kernel's run may know more than the kernel has.
 #[test]
-fn a_view_past_the_history_is_complete(rt: HostRuntime) -> Result<(), Fail> {
+fn a_view_is_complete_where_it_has_the_last_message(rt: HostRuntime) -> Result<(), Fail> {
     let kernel = kernel_of_one(rt.alloc())?;
-    let mut view = view_of(rt.alloc(), 0, 1, created(3)?)?;
-    view.merge(&view_of(rt.alloc(), 0, 2, Kind::Wakeup)?)?;
-    assert!(rt; complete(&view, &kernel, Tid(0)));
+    let first = (0, 1, created(3)?);
+    for (messages, thread, wanted) in [
+        ([first].as_slice(), 0, true),
+        (&[first], 1, false),
+        (&[], 0, false),
+        (&[first, (0, 2, Kind::Wakeup)], 0, true),
+    ] {
+        assert!(rt; is_complete(rt.alloc(), &kernel, messages, thread)? == wanted);
+    }
     Ok(())
 }
 
@@ -346,25 +357,31 @@ fn two_threads(alloc: Global, mask: Mask) -> Result<View, OutOfMemory> {
     Ok(view)
 }
 
-#[test]
-fn threads_are_walked_in_order(rt: HostRuntime) -> Result<(), Fail> {
-    let view = two_threads(rt.alloc(), Mask::new(3, 2)?)?;
-    let mut walked = Vec::new(rt.alloc());
+fn walked(alloc: Global, view: &View) -> Result<Vec<(Tid, u32)>, OutOfMemory> {
+    let mut walked = Vec::new(alloc);
     for (name, held) in view.iter() {
         walked.push((name, held.upto()))?;
     }
-    assert_eq!(rt; walked.as_slice(), [(Tid(0), 1), (Tid(2), 1)].as_slice());
-    Ok(())
+    Ok(walked)
+}
+
+/// How far the threads are known that are looked up, one after the other.
+fn looked_up(alloc: Global, view: &View, names: &[u32]) -> Result<Vec<Option<u32>>, OutOfMemory> {
+    let mut found = view.lookups();
+    let mut all = Vec::new(alloc);
+    for name in names {
+        all.push(found.at(Tid(*name)).map(|held| held.upto()))?;
+    }
+    Ok(all)
 }
 
 #[test]
-fn threads_are_looked_up_in_order(rt: HostRuntime) -> Result<(), Fail> {
+fn threads_are_walked_and_looked_up_in_order(rt: HostRuntime) -> Result<(), Fail> {
     let view = two_threads(rt.alloc(), Mask::new(3, 2)?)?;
-    let mut found = view.lookups();
-    assert_eq!(rt; found.at(Tid(0)).map(|held| held.upto()), Some(1));
-    assert!(rt; found.at(Tid(1)).is_none());
-    assert_eq!(rt; found.at(Tid(2)).map(|held| held.upto()), Some(1));
-    assert!(rt; found.at(Tid(3)).is_none());
+    let all = walked(rt.alloc(), &view)?;
+    assert_eq!(rt; all.as_slice(), [(Tid(0), 1), (Tid(2), 1)].as_slice());
+    let found = looked_up(rt.alloc(), &view, &[0, 1, 2, 3])?;
+    assert_eq!(rt; found.as_slice(), [Some(1), None, Some(1), None].as_slice());
     Ok(())
 }
 
@@ -374,13 +391,8 @@ fn what_is_known_without_a_gap(rt: HostRuntime) -> Result<(), Fail> {
     let mask = Mask::new(3, 2)?;
     let mut view = odd(rt.alloc(), mask)?;
     view.merge(&view_of(rt.alloc(), 2, 3, Kind::Wakeup)?)?;
-    assert_eq!(rt; view.upto(Tid(0)), 1);
-    assert_eq!(rt; view.upto(Tid(1)), 0);
-    assert_eq!(rt; view.upto(Tid(2)), 0);
-    let reported = view.reported(Tid(0)).expect(&rt, "a state");
-    assert!(rt; reported.phase == Phase::Blocked);
-    assert_eq!(rt; reported.ran, 0);
-    assert!(rt; view.reported(Tid(1)).is_none());
-    assert!(rt; view.reported(Tid(2)).is_none());
+    assert_eq!(rt; known(&view, 0), (1, state(Phase::Blocked, mask, 0)));
+    assert_eq!(rt; known(&view, 1), (0, None));
+    assert_eq!(rt; known(&view, 2), (0, None));
     Ok(())
 }

@@ -1,3 +1,10 @@
+pub mod Bounded
+pub mod Counted
+pub mod Faults
 pub mod Listing
+pub mod Lives
 pub mod Merged
+pub mod Reported
 pub mod Settled
+pub mod Sound
+pub mod Steps

@@ -1,1 +1,4 @@
+pub mod Driving
+pub mod Ends
 pub mod Merging
+pub mod Shares

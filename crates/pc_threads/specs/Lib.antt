@@ -1,3 +1,6 @@
 pub mod Pages
+pub mod Reports
+pub mod Settings
 pub mod Settling
+pub mod Totals
 pub mod Inner

@@ -6,7 +6,7 @@ use Rattle.pc_join.specs.Sets.{Members, IsSameSet}
 use Rattle.pc_view.specs.declared.view.View.{View}
 use Rattle.pc_view.specs.Views.{IsOfRun, pairs_in, pairs_of}
 use Rattle.pc_threads.specs.declared.settling.RunFault.{RunFault}
-use Rattle.pc_threads.specs.declared.settling.RunFault.TheVariants.{Audit, Incomplete, OutOfMemory}
+use Rattle.pc_threads.specs.declared.settling.RunFault.TheVariants.{Audit, Driver, GaveUp, Incomplete, OutOfMemory, StartFailed}
 
 -- the messages that some view knows
 abbrev pub pairs_of_all : List View → Members
@@ -45,3 +45,6 @@ Settles run views (Ok view) = AreWhole run views × IsViewOfAll run view
 Settles run views (Err (Audit cpu)) = IsFirstStrange run views cpu
 Settles run views (Err OutOfMemory) = AreOfRun run views
 Settles run views (Err (Incomplete thread)) = AreOfRun run views × IsLeastLacking run views thread
+Settles run views (Err StartFailed) = ⊥
+Settles run views (Err (GaveUp cpu)) = ⊥
+Settles run views (Err (Driver refusal)) = ⊥

@@ -12,6 +12,7 @@ ghost use Rattle.pc_threads.specs.Settling.{AreOfRun, AreWhole, IsFirstStrange, 
 ghost use Rattle.pc_threads.specs.Inner.Merging.{IsFirstShort, ReachesAll};
 
 use crate::book::Book;
+use pc_calls::Refusal;
 use pc_join::OutOfMemory;
 use pc_kernel::Kernel;
 use pc_messages::{Cpu, Tid};
@@ -25,6 +26,15 @@ pub enum RunFault {
     /// This CPU's view tells something that is not of the run; the least such CPU.
     #[error("the view of {0:?} tells what is not of the run")]
     Audit(Cpu),
+    /// A thread could not be started.
+    #[error("a thread cannot be started")]
+    StartFailed,
+    /// The CPU's agent gave the run up.
+    #[error("the agent of {0:?} gave the run up")]
+    GaveUp(Cpu),
+    /// The kernel refused a call of the driver.
+    #[error("the driver was refused: {0:?}")]
+    Driver(Refusal),
     /// A growth was refused.
     #[error("out of memory")]
     OutOfMemory,

@@ -1,0 +1,9 @@
+//! Tests of agents, the world and the book, by their public names alone: beside `pc_tests`, so that two jobs share the proofs of tests.
+#![tactic(auto)]
+
+#[cfg(test)]
+mod agent;
+#[cfg(test)]
+mod threads;
+#[cfg(test)]
+mod world;

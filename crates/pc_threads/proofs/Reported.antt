@@ -1,0 +1,78 @@
+-- What a run's shares come to when all have come back.
+use Rattle.std.proofs.Common.{ℕ, pos, nat_abs, ◌≡◌, ◌↔◌, ◌≤◌, false, Option, None, Some, Result, Err, List, [], length, refl, sym, ap, ◌∙◌, arith}
+use Rattle.std.proofs.lemmas.Bool.Decides.{nat_tests}
+use Rattle.pc_calls.specs.Limits.{bad_field, is_outside}
+use Rattle.pc_calls.specs.declared.limits.LimitField.{LimitField}
+use Rattle.pc_calls.specs.declared.limits.LimitsFault.{LimitsFault}
+use Rattle.pc_calls.specs.declared.limits.LimitsFault.TheVariants.{BadLimits}
+use Rattle.pc_calls.specs.declared.limits.Profile.TheVariants.{One}
+use Rattle.pc_calls.specs.declared.limits.TheConstants.{MOST_CPUS}
+use Rattle.pc_kernel.specs.PlainKernel.{start, threads}
+use Rattle.pc_kernel.specs.Reads.{Reads, seen}
+use Rattle.pc_threads.specs.Inner.Driving.{sum_in, told_in}
+use Rattle.pc_threads.specs.Inner.Shares.{HasPosted, Spent}
+use Rattle.pc_threads.specs.declared.report.LoadReport.{LoadReport}
+use Rattle.pc_threads.specs.Pages.{IsReplay, Pages}
+use Rattle.pc_threads.specs.Reports.{DoesAll}
+use Rattle.pc_threads.specs.Settings.{Plan, Settings, messages_in, ran_in, ticks}
+use Rattle.pc_threads.specs.Totals.{created_by, in_all, limits_on, ran_by, told_by}
+use Rattle.pc_threads.proofs.Counted.{threads_counted}
+use Rattle.pc_threads.proofs.Steps.{ran_in_all, told_in_all}
+
+-- a book's known threads are those that its calls created
+pub known_created : (book : Pages) → IsReplay book → (seen book.kernel).threads ≡ in_all created_by book.calls
+known_created book h =
+    let shown = ap (λ (r : Reads). r.threads) h.shown.reads in
+    let all = threads_counted book.kernel.limits [] book.calls h.accepted in
+    let none : threads (start book.kernel.limits) ≡ 0 = refl in
+    omega (arith, shown, all, none)
+
+-- a thread for each plan was created, and all their messages posted, with all their ticks
+pub record IsAllPosted (cpus : ℕ) (plans : List Plan) (spent : Spent) : Type 0 where
+  pub cpus_are : spent.cpus ≡ cpus
+  pub created_all : spent.created ≡ length plans
+  pub told_all : spent.told ≡ messages_in plans
+  pub ran_all : spent.ran ≡ ran_in plans
+
+pub all_posted : (cpus count : ℕ) (plans : List Plan) (first then' last : Spent) → count ≡ length plans → first ≡ record { cpus = cpus; created = 0; told = 0; ran = 0 }
+    → HasPosted count count 0 first then' → HasPosted 0 (sum_in told_in plans) (sum_in ticks plans) then' last → IsAllPosted cpus plans last
+all_posted cpus count plans first then' last many none created done =
+    let c = ap (λ (s : Spent). s.cpus) none in
+    let n = ap (λ (s : Spent). s.created) none in
+    let t = ap (λ (s : Spent). s.told) none in
+    let r = ap (λ (s : Spent). s.ran) none in
+    let told = told_in_all plans in
+    let ran = ran_in_all plans in
+    record {
+      cpus_are = omega (arith, c, created.cpus_stay, done.cpus_stay);
+      created_all = omega (arith, many, n, created.created_more, done.created_more);
+      told_all = omega (arith, many, t, created.told_more, done.told_more, told);
+      ran_all = omega (arith, r, created.ran_more, done.ran_more, ran);
+    }
+
+-- the limits of a run on 1 to 64 CPUs have no field out of its range
+pub no_bad_limit : (cpus : ℕ) → 1 ≤ cpus → cpus ≤ MOST_CPUS → bad_field One (limits_on cpus) ≡ None
+no_bad_limit cpus some few =
+    let fits : is_outside cpus MOST_CPUS ≡ false = grind (arith, nat_tests) in
+    rw fits refl
+
+-- a limit is not told to be bad where none is
+pub no_bad : {A : Type 0} (r : Result A LimitsFault) (fault : LimitsFault) (field : LimitField) (bad : Option LimitField)
+    → ((f : LimitField) → (r ≡ Err (BadLimits f)) ↔ (bad ≡ Some f)) → r ≡ Err fault → fault ≡ BadLimits field → bad ≡ None → ⊥
+no_bad r fault field bad is e f none =
+    let some : bad ≡ Some field = (is field).0 (e ∙ ap Err f) in
+    let no : None ≡ Some field = sym none ∙ some in cc
+
+-- a report of a book whose shares have all come back
+pub does_all : (settings : Settings) (report : LoadReport) (book : Pages) (cpus : ℕ) (spent : Spent) → pos cpus ≡ settings.cpus → IsAllPosted cpus settings.threads spent
+    → book.kernel.limits ≡ limits_on spent.cpus → in_all created_by book.calls ≡ spent.created → in_all told_by book.calls ≡ spent.told → in_all ran_by book.calls ≡ spent.ran
+    → (seen book.kernel).threads ≡ in_all created_by book.calls → report.book ≡ book → report.threads ≡ (seen book.kernel).threads → report.messages ≡ in_all told_by book.calls
+    → report.ran ≡ in_all ran_by book.calls → DoesAll settings report
+does_all settings report book cpus spent named all limits created told ran known same threads messages ticks =
+    let count : nat_abs settings.cpus ≡ cpus = ap nat_abs (sym named) in
+    record {
+      limits = ap (λ (b : Pages). b.kernel.limits) same ∙ limits ∙ ap limits_on (all.cpus_are ∙ sym count);
+      threads = omega (arith, threads, known, created, all.created_all);
+      messages = omega (arith, messages, told, all.told_all);
+      ran = omega (arith, ticks, ran, all.ran_all);
+    }

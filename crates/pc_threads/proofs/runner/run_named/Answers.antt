@@ -1,0 +1,32 @@
+use Rattle.std.proofs.Common.{◌≡◌, ◌∙◌, List, length, ap, sym, subst, All, arith}
+use Rattle.std.proofs.lemmas.List.{length-map}
+use Rattle.pc_threads.specs.Settings.{IsPlan, Plan, plan_of}
+use Rattle.pc_threads.specs.Inner.Shares.{Spent}
+use Rattle.pc_threads.proofs.Reported.{all_posted, does_all}
+use Rattle.pc_threads.proofs.Steps.{messages_few}
+use Rattle.pc_threads.proofs.runner.run_named.Goals as goal
+
+pub create_all-requires : goal.create_all-requires
+create_all-requires g c =
+    let sound = c.is_sound.ensures in
+    (sound.cpus, omega (arith, sound.cpus_few), subst (λ plans. All (IsPlan sound.cpus) plans) (sym c.threads.ensures) sound.threads)
+
+pub new-requires-3 : goal.new-requires-3
+new-requires-3 g c =
+    let threads = c.args.config.now.threads in
+    let count : length c.threads.result.now ≡ length threads = sym (length-map c.threads.result.now plan_of) ∙ ap (λ (plans : List Plan). length plans) c.threads.ensures in
+    let all = all_posted c.cpus-cpus.result (length c.threads.result.now) threads c.open-tallied.result.purse c.create_all.new.purse c.in_ok-purse.field-0.purse count c.open-tallied.ensures.none
+    c.in_ok-create_all.ensures c.in_ok-purse.ensures.ends.posted in
+    omega (arith, c.close-book.ensures.told, ap (λ (s : Spent). s.told) c.in_ok-purse.purse-is, all.told_all, messages_few c.args.config.now c.is_sound.ensures)
+
+pub returns-clause-all : goal.returns-clause-all
+returns-clause-all g c =
+    let threads = c.args.config.now.threads in
+    let spent = c.in_ok-purse.field-0.purse in
+    let count : length c.threads.result.now ≡ length threads = sym (length-map c.threads.result.now plan_of) ∙ ap (λ (plans : List Plan). length plans) c.threads.ensures in
+    let all = all_posted c.cpus-cpus.result (length c.threads.result.now) threads c.open-tallied.result.purse c.create_all.new.purse spent count c.open-tallied.ensures.none
+    c.in_ok-create_all.ensures c.in_ok-purse.ensures.ends.posted in
+    does_all c.args.config.now c.new-3.result c.close-book.result c.cpus-cpus.result spent c.cpus-cpus.ensures all c.close-book.ensures.limits
+    (omega (arith, c.close-book.ensures.created, ap (λ (s : Spent). s.created) c.in_ok-purse.purse-is)) (omega (arith, c.close-book.ensures.told, ap (λ (s : Spent). s.told) c.in_ok-purse.purse-is))
+    (omega (arith, c.close-book.ensures.ran, ap (λ (s : Spent). s.ran) c.in_ok-purse.purse-is)) c.known_are_created.ensures c.new-3.ensures.book c.new-3.ensures.threads c.new-3.ensures.messages
+    c.new-3.ensures.ran

@@ -1,0 +1,76 @@
+"""Single calls of the libraries, each growth refused in turn: calls/main.rt, which `rt try` builds and runs, looks at what they left.
+
+It is built over a heap of the tests' own (calls/heap.c), for which the kit is laid out anew, by links, in a folder of its own.
+"""
+import os
+import pathlib
+import re
+import shutil
+import subprocess
+
+from machine import HERE, ROOT, NoCompiler, build
+
+NAME = "hostile_calls"
+SAID = re.compile(r"(\w+ \d+ (.*)): (\d+) refused of (\d+), (.*)")
+
+
+def kit():
+    """The folder of the kit, by its command."""
+    rt = shutil.which("rt")
+    if rt is None:
+        raise NoCompiler("rt is not on the path, so the single calls cannot be built")
+    return pathlib.Path(rt).resolve().parent.parent
+
+
+def kit_with_own_heap(folder):
+    """The command of a kit that is this one, but for its heap."""
+    of_kit, own = kit(), folder / "kit"
+    for part in ("", "bin", "c"):
+        (own / part).mkdir(parents=True)
+        for path in (of_kit / part).iterdir():
+            if path.name not in ("bin", "c", "liblibc_c.a"):
+                (own / part / path.name).symlink_to(path)
+    for name in ("rt", "rtlib.py"):  # They find the kit by the folder that they really stand in.
+        (own / "bin" / name).unlink()
+        shutil.copy(of_kit / "bin" / name, own / "bin")
+    build(HERE / "calls/heap.c", folder / "heap.o", "-c", "-fPIC")
+    archived = subprocess.run(["ar", "rc", str(own / "c/liblibc_c.a"), str(folder / "heap.o")], capture_output=True, text=True)
+    if archived.returncode != 0:
+        raise NoCompiler(f"ar: {archived.stderr[:400]}")
+    return own / "bin/rt"
+
+
+def crate_of_calls(folder):
+    """The folder of the crate that makes the calls, in a tree of its own with all crates."""
+    shutil.copytree(ROOT / "crates", folder / "crates", ignore=shutil.ignore_patterns("out", "must-fail"))
+    shutil.copytree(HERE / "calls", folder / "crates" / NAME / "src", ignore=shutil.ignore_patterns("*.c"))
+    lines = (ROOT / "crates.txt").read_text().splitlines()
+    names = [re.match(r"\w+", line)[0] for line in lines if re.match(r"pc_\w+.*:", line)]
+    libraries = [name for name in names if name not in ("pc_sim", "pc_tests")]
+    (folder / "crates.txt").write_text("\n".join([*lines, f"{NAME}: {' '.join(libraries)} thiserror", ""]))
+    return folder / "crates" / NAME
+
+
+def refuse_in_calls(tally, folder):
+    """Makes each call with each of its growths refused. Each name has to be met by want of memory somewhere."""
+    folder = pathlib.Path(folder) / "calls"
+    folder.mkdir()
+    rt, crate = kit_with_own_heap(folder), crate_of_calls(folder / "tree")
+    # The program calls a C function of heap.c, which rt lets through for the crate that is named.
+    environment = {**os.environ, "RT_ALLOW_C": NAME}
+    run = subprocess.run([str(rt), "try"], cwd=crate, env=environment, stdin=subprocess.DEVNULL, capture_output=True, text=True)
+    rows = [SAID.fullmatch(line) for line in run.stdout.splitlines()]
+    if run.returncode != 0 or not rows or not all(rows):
+        raise NoCompiler(f"`rt try` does not run the single calls to their end: {(run.stdout + run.stderr)[-3000:]}")
+    met = {}
+    for row in rows:
+        name, refused = row[2], int(row[3])
+        met[name] = met.get(name, 0) + refused
+        tally.add(f"call {row[1]}", None if row[5] == "right" else f"{row[5]} (growth {row[4]})")
+    for name, refused in met.items():
+        tally.add(f"calls of {name}", None if refused or name in TAKE_NO_MEMORY else "no growth was refused in any")
+    tally.note("calls that were made again after a refused growth: " + ", ".join(f"{name} {count}" for name, count in met.items()))
+
+
+# A message that closes a gap takes no memory.
+TAKE_NO_MEMORY = ("View::insert a message that closes a gap",)

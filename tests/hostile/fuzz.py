@@ -1,0 +1,62 @@
+"""Scripts drawn at random, with a fixed seed: no run ends by a signal, or takes more memory or time than is named, and each answer is one."""
+import pathlib
+import random
+
+from growths import fault_of_refused
+from machine import Subject, told
+from replies import fault_of_output
+from scripts import random_bytes, script
+
+SEED = "nimhessian"
+# What a drawn script may take, all of the program's address space counted.
+MEMORY = 64 * 2**20
+SECONDS = 10
+
+
+def drawn_script(place):
+    """The script of this number."""
+    chance = random.Random(f"{SEED} script {place}")
+    return random_bytes(chance) if place % 50 == 49 else script(chance)
+
+
+def fault_of_script(machine, place, peer=None):
+    """What is wrong with the run of a drawn script."""
+    text = drawn_script(place)
+    file = pathlib.Path(machine.folder) / f"script {place}"
+    file.write_bytes(text)
+    subject = Subject("", ["replay", str(file)]) if place % 2 else Subject("", ["replay"], file)
+    try:
+        run = machine.run(subject, seconds=SECONDS, memory=MEMORY)
+        if run.status not in (0, 1) or run.err:
+            return told(run)
+        fault = fault_of_output(text, run.out, run.status)
+        if fault is None and peer is not None:
+            other = peer.run(subject, seconds=SECONDS)
+            fault = None if (run.status, run.out) == (other.status, other.out) else f"the other program differs: {told(other)}"
+        return fault
+    finally:
+        file.unlink()
+
+
+def draw_scripts(machine, tally, count, peer=None):
+    """Runs so many drawn scripts."""
+    tally.try_all((f"script {place}", lambda place=place: fault_of_script(machine, place, peer)) for place in range(count))
+
+
+def fault_of_drawn_growth(machine, place):
+    """What is wrong with the run of a drawn script of which one of the growths, drawn too, is refused, or that one and all later ones."""
+    file = pathlib.Path(machine.folder) / f"growth {place}"
+    file.write_bytes(drawn_script(place))
+    subject, chance = Subject("", ["replay"], file), random.Random(f"{SEED} growth {place}")
+    try:
+        ample = machine.run(subject, seconds=SECONDS)
+        refused = chance.randrange(1, ample.growths + 1)
+        run = machine.run(subject, seconds=SECONDS, growth=f"{refused}{chance.choice(['', '..'])}")
+        return fault_of_refused(ample, run) if run.growths_met else "no growth was refused"
+    finally:
+        file.unlink()
+
+
+def draw_growths(machine, tally, count):
+    """Runs so many drawn scripts with a growth refused."""
+    tally.try_all((f"drawn growth of script {place}", lambda place=place: fault_of_drawn_growth(machine, place)) for place in range(count))

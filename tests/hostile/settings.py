@@ -1,0 +1,255 @@
+"""Settings of `pc-sim run`: rows with what they print, malformed ones, deep ones, and some drawn at random; growths refused in turn."""
+import pathlib
+import random
+import re
+import tomllib
+
+from fuzz import SEED
+from growths import LAST, OUT_OF_MEMORY, fault_of_ample
+from machine import Subject, told
+
+# A run of settings is ended after so many seconds: where a growth was refused it may wait forever.
+SECONDS = 5
+# The address space of a run of drawn settings, whose threads share a heap and have a stack of 8 MiB each.
+MEMORY = 2**30
+ONE_HEAP = {"MALLOC_ARENA_MAX": "1"}
+CANNOT_START = b"pc-sim: cannot start\n"
+# With fewer growths of each row only those rows are gone through that run.
+MOST_OF_RUNS = 10
+NAMES = ["NotToml", "BadField", "BadStep", "BadCpus", "TooManyThreads", "BadThread", "BadRestart"]
+FAULT = re.compile(rf"pc-sim: (cannot read|settings ({'|'.join(NAMES)}))\n".encode())
+TOTALS = r"threads (\d+)\nmessages (\d+)\ncommits (\d+)\nran (\d+)\n"
+PER_CPU = r"cpu {} taken \d+ commits \d+ steals \d+ stale \d+ pending \d+ other \d+\n"
+
+
+def thread(queue, mask, *steps):
+    words = ", ".join(f'"{step}"' for step in steps)
+    return f"[[thread]]\nqueue = {queue}\nmask = {mask}\nsteps = [{words}]\n"
+
+
+def restart(cpu, turn):
+    return f"[[restart]]\ncpu = {cpu}\nturn = {turn}\n"
+
+
+def totals(threads, messages, commits, ran):
+    return f"threads {threads}\nmessages {messages}\ncommits {commits}\nran {ran}\n"
+
+
+ONE = thread(0, 3, "yield 2", "block 3", "die 1")
+ONE_TOTALS = totals(1, 5, 3, 6)
+# What runs print, whatever the schedule.
+ROWS = {
+    "one thread": ("cpus = 2\n" + ONE, ONE_TOTALS),
+    "no thread": ("cpus = 2\n", totals(0, 0, 0, 0)),
+    "one CPU": ("cpus = 1\n" + thread(0, 1, "yield 1", "die 2"), totals(1, 3, 2, 3)),
+    "three threads": (
+        "cpus = 2\n" + thread(0, 1, "yield 1", "die 1") + thread(1, 2, "block 2", "die 2") + thread(0, 3, "preempt 4", "die 5"),
+        totals(3, 10, 6, 15)),
+    "a restart": ("cpus = 2\n" + ONE + restart(0, 2), ONE_TOTALS),
+    "another restart": ("cpus = 2\n" + ONE + restart(1, 1), ONE_TOTALS),
+    "a thread taken back": ("cpus = 2\n" + thread(0, 1, "yield 2", "die 1") * 2 + restart(0, 2), totals(2, 6, 4, 6)),
+    "16 CPUs": ("cpus = 16\n" + thread(15, 2**16 - 1, "block 1", "preempt 1", "die 1") * 2, totals(2, 10, 6, 6)),
+    "64 CPUs": ("cpus = 64\n", totals(0, 0, 0, 0)),
+}
+# Each fault, alone.
+FAULTS = {
+    "no TOML": ("cpus =\n", "NotToml"),
+    "bytes that are no text": (b"cpus = 1\n# \xff\xfe\n", None),
+    "a text for a number": ('cpus = "2"\n', "BadField"),
+    "no CPUs": ("", "BadField"),
+    "steps that are no texts": ("cpus = 2\n[[thread]]\nqueue = 0\nmask = 3\nsteps = [1]\n", "BadField"),
+    "a table for threads": ("cpus = 2\n[thread]\nqueue = 0\n", "BadField"),
+    "a restart without a turn": ("cpus = 2\n[[restart]]\ncpu = 0\n", "BadField"),
+    "none of a CPU": ("cpus = 0\n", "BadCpus"),
+    "65 CPUs": ("cpus = 65\n", "BadCpus"),
+    "fewer CPUs than none": ("cpus = -1\n", "BadCpus"),
+    "a step without a number": ("cpus = 2\n" + thread(0, 3, "yield"), "BadStep"),
+    "a step with a number past its type": ("cpus = 2\n" + thread(0, 3, "die 4294967296"), "BadStep"),
+    "a step with a leading zero": ("cpus = 2\n" + thread(0, 3, "die 01"), "BadStep"),
+    "steps that do not die": ("cpus = 2\n" + thread(0, 3, "yield 1"), "BadThread"),
+    "steps that die early": ("cpus = 2\n" + thread(0, 3, "die 1", "die 1"), "BadThread"),
+    "no steps": ("cpus = 2\n" + thread(0, 3), "BadThread"),
+    "1,001 steps": ("cpus = 2\n" + thread(0, 3, *["yield 1"] * 1000, "die 1"), "BadThread"),
+    "a mask that is too wide": ("cpus = 2\n" + thread(0, 4, "die 1"), "BadThread"),
+    "an empty mask": ("cpus = 2\n" + thread(0, 0, "die 1"), "BadThread"),
+    "a queue that is not there": ("cpus = 2\n" + thread(2, 3, "die 1"), "BadThread"),
+    "4,097 threads": ("cpus = 2\n" + thread(0, 3, "die 1") * 4097, "TooManyThreads"),
+    "a restart of a CPU that is not there": ("cpus = 2\n" + ONE + restart(2, 2), "BadRestart"),
+    "a restart of a lone agent": ("cpus = 1\n" + thread(0, 1, "die 1") + restart(0, 1), "BadRestart"),
+    "a restart before no turn": ("cpus = 2\n" + restart(0, 0), "BadRestart"),
+    "65 restarts": ("cpus = 2\n" + restart(0, 1) * 65, "BadRestart"),
+    "a text that is too long": ("#" * (2**20 + 1), None),
+}
+# What nests: each reader of TOML ends somewhere. None may end by a signal, whatever it answers.
+KEYS = ".".join("a" * 80)
+DEEP = {
+    "arrays in arrays": "thread = " + "[" * 500_000 + "]" * 500_000,
+    "arrays that are not closed": "thread = " + "[" * 1_000_000,
+    "inline tables in inline tables": "a = " + "{a = " * 170_000 + "1" + "}" * 170_000,
+    "a dotted key": ".".join(["a"] * 500_000) + " = 1",
+    "a dotted header": "[" + ".".join(["a"] * 500_000) + "]",
+    "dotted keys of 80 in inline tables 79 deep": f"{KEYS} = " + f"{{{KEYS} = " * 79 + "1" + "}" * 79,
+    "as that, below a header of 80": f"[{'.'.join('h' * 80)}]\n{KEYS} = " + f"{{{KEYS} = " * 79 + "1" + "}" * 79,
+    "many tables": "cpus = 1\n" + "".join(f"[a{n}]\n" for n in range(100_000)),
+    "many headers of arrays": "cpus = 1\n" + "[[restart.a]]\n" * 70_000,
+    "many keys": "cpus = 1\n" + "".join(f"k{n} = 1\n" for n in range(80_000)),
+    "a long text": 'cpus = "' + "x" * 1_000_000 + '"',
+    "a long number": "cpus = " + "1" * 1_000_000,
+}
+
+
+def has_run(machine):
+    """Whether the program knows the command."""
+    run = machine.run(Subject("", ["run", "--help"], out=None))
+    return run.status == 0 and run.out != b""
+
+
+def written(folder, name, text):
+    file = pathlib.Path(folder) / (re.sub(r"\W", "-", name) + ".toml")
+    file.write_bytes(text if isinstance(text, bytes) else text.encode())
+    return file
+
+
+def rows(folder):
+    """The settings that are run, and those that have a fault."""
+    for name, (text, out) in ROWS.items():
+        yield Subject(f"settings of {name}", ["run", str(written(folder, name, text))], out=out.encode(), environment=ONE_HEAP)
+    for name, (text, fault) in FAULTS.items():
+        err = f"pc-sim: settings {fault}\n" if fault else "pc-sim: cannot read\n"
+        yield Subject(f"settings of {name}", ["run", str(written(folder, name, text))], err=err.encode(), status=1, environment=ONE_HEAP)
+
+
+def fault_of_totals(run, wanted=None):
+    """What is wrong with a run of any settings: it prints its totals, or names a fault."""
+    if run.status == 0 and not run.err:
+        found = re.fullmatch(TOTALS.encode() + b"(cpu .*\n)*", run.out)
+        return None if found and (wanted is None or run.out.startswith(wanted)) else f"its answer is none: {run.out[:200]!r}"
+    if run.status == 1 and not run.out and FAULT.fullmatch(run.err):
+        return None
+    return told(run)
+
+
+def fault_of_per_cpu(machine, subject):
+    """With --per-cpu the same four lines, and one for each CPU."""
+    run = machine.run(Subject("", [*subject.words, "--per-cpu"], environment=ONE_HEAP), seconds=SECONDS)
+    lines = "".join(PER_CPU.format(cpu) for cpu in range(run.out.count(b"\ncpu ")))
+    if run.status == 0 and re.fullmatch(re.escape(subject.out.decode()) + lines, run.out.decode()) and lines:
+        return None
+    return told(run)
+
+
+class Waits:
+    """How many runs were ended because they still waited."""
+
+    def __init__(self):
+        self.count = self.runs = 0
+
+    def fault_of(self, ample, run):
+        """What is wrong where a growth was refused. The run may wait; else it is as the ample one, or tells that memory ran out."""
+        self.runs += 1
+        if run.status is None:
+            self.count += 1
+            return None if ample.out.startswith(run.out) else "it waits, and wrote something else"
+        if (run.status, run.out, run.err) == (ample.status, ample.out, ample.err):
+            return None
+        if run.status == 4 and run.err in (OUT_OF_MEMORY, CANNOT_START) and ample.out.startswith(run.out) and run.out[-1:] in (b"", b"\n"):
+            return None
+        return told(run)
+
+
+def trials_of_growths(machine, waits, subject, most):
+    """(name, function) of the runs of one row with growths refused. Which growth has which number depends on the schedule."""
+    ample = machine.run(subject, seconds=SECONDS)
+    step = max(1, ample.growths // most)
+    for place in sorted({*range(1, ample.growths + 1, step), *range(max(1, ample.growths - LAST), ample.growths + 1)}):
+        for setting in (f"{place}", f"{place}.."):
+            yield (f"growth {setting} of {subject.name}",
+                   lambda setting=setting: waits.fault_of(ample, machine.run(subject, seconds=SECONDS, growth=setting)))
+
+
+def use_rows(machine, tally, most):
+    """The rows, the deep texts, and the rows with some so many growths refused."""
+    if not has_run(machine):
+        tally.note(f"skipped: {machine.program.name} has no command `run`, so no settings were tried")
+        return
+    every = list(rows(machine.folder))
+    tally.try_all((subject.name, lambda it=subject: fault_of_ample(it, machine.run(it, seconds=SECONDS))) for subject in every)
+    tally.try_all((f"{it.name} --per-cpu", lambda it=it: fault_of_per_cpu(machine, it)) for it in every if it.status == 0)
+    for name, text in DEEP.items():
+        subject = Subject("", ["run", str(written(machine.folder, name, text))], environment=ONE_HEAP)
+        tally.try_all([(f"settings of {name}", lambda it=subject: fault_of_totals(machine.run(it, seconds=SECONDS)))])
+    waits = Waits()
+    swept = [subject for subject in every if subject.status == 0 or most >= MOST_OF_RUNS]
+    tally.try_all(trial for subject in swept for trial in trials_of_growths(machine, waits, subject, most))
+    tally.note(f"of {waits.runs} runs of settings with a growth refused {waits.count} still waited after {SECONDS} s, and were ended")
+
+
+ODD_VALUES = [0, -1, 1, 64, 65, 1001, 2**32 - 1, 2**32, 2**63 - 1, 2**63, 2**64, 10**40, "nan", "1.5", "true", "1979-05-27"]
+
+
+def drawn_settings(place):
+    """The settings of this number, and what they print, or None where they were spoilt."""
+    chance = random.Random(f"{SEED} settings {place}")
+    cpus = chance.choice([1, 1, 2, 2, 3, 4, 8])
+    text, counted = f"cpus = {cpus}\n", [0, 0, 0, 0]
+    for _ in range(chance.choice([0, 1, 2, 3, 8])):
+        steps = [(chance.choice(["yield", "block", "preempt"]), chance.choice([0, 1, 7, 1000])) for _ in range(chance.choice([0, 1, 2, 5]))]
+        steps.append(("die", chance.choice([0, 1, 2**32 - 1])))
+        text += thread(chance.randrange(cpus), chance.randrange(1, 2**cpus), *(f"{how} {ran}" for how, ran in steps))
+        blocks = sum(how == "block" for how, _ in steps)
+        counted = [it + more for it, more in zip(counted, (1, 1 + len(steps) + blocks, len(steps), sum(ran for _, ran in steps)))]
+    for _ in range(chance.choice([0, 0, 1, 2]) if cpus > 1 else 0):
+        # Agent 0 stays: where every agent forgets what it knew, a thread may be known to none, and the run waits.
+        text += restart(chance.randrange(1, cpus), chance.choice([1, 2, 3, 1000000]))
+    if chance.random() < 0.5:
+        return text.encode(), totals(*counted).encode()
+    return spoilt(chance, text), None
+
+
+def spoilt(chance, text):
+    """The settings with words dropped, doubled or exchanged, numbers at and past bounds, or bytes drawn at random."""
+    words = re.findall(r"\w+|\s+|[^\w\s]", text)
+    for _ in range(chance.choice([1, 1, 2, 4])):
+        place, how = chance.randrange(len(words)), chance.randrange(5)
+        if how == 0:
+            words[place] = ""
+        elif how == 1:
+            words[place] *= 2
+        elif how == 2:
+            words[place] = words[chance.randrange(len(words))]
+        elif how == 3:
+            words[place] = str(chance.choice(ODD_VALUES))
+        else:
+            words[place] = bytes(chance.randrange(256) for _ in range(3)).decode("latin-1")
+    return "".join(words).encode("latin-1" if chance.random() < 0.5 else "utf-8")
+
+
+def may_wait(text):
+    """Whether every agent restarts: what all of them forget may be known to none, and then the run waits."""
+    try:
+        settings = tomllib.loads(text.decode())
+        return {row["cpu"] for row in settings["restart"]} >= set(range(settings["cpus"]))
+    except (ValueError, KeyError, TypeError):
+        return False
+
+
+def fault_of_drawn(machine, place):
+    """What is wrong with the run of drawn settings."""
+    text, wanted = drawn_settings(place)
+    file = written(machine.folder, f"drawn settings {place}", text)
+    words = ["run", str(file), *(["--per-cpu"] if place % 3 == 0 else [])]
+    try:
+        run = machine.run(Subject("", words, environment=ONE_HEAP), seconds=SECONDS, memory=MEMORY)
+        if run.status is None and may_wait(text):
+            return None
+        if wanted is not None and run.status != 0:
+            return told(run)
+        return fault_of_totals(run, wanted)
+    finally:
+        file.unlink()
+
+
+def draw_settings(machine, tally, count):
+    """Runs so many drawn settings."""
+    if has_run(machine):
+        tally.try_all((f"settings {place}", lambda place=place: fault_of_drawn(machine, place)) for place in range(count))

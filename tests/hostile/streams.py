@@ -1,0 +1,162 @@
+"""Reads and writes that fail, move one byte at a time, or are interrupted, and outputs that are closed, full or broken."""
+import errno
+import os
+import pathlib
+import subprocess
+
+from machine import SECONDS, Run, Subject, ended, told
+from subjects import OPENING, examples
+
+CANNOT_READ = b"pc-sim: cannot read\n"
+READ_ERRORS = [errno.EIO, errno.EISDIR, errno.EAGAIN]
+WRITE_ERRORS = [errno.ENOSPC, errno.EIO, errno.EPIPE, errno.EBADF, errno.EAGAIN]
+LONG = 3000
+
+
+def subjects(folder):
+    """Each example by its name and on the standard input, a script whose answers fill buffers, one with a fault, and an empty one."""
+    for example in examples():
+        yield example
+        yield Subject(f"{example.name} as standard input", ["replay"], pathlib.Path(example.words[1]), out=example.out)
+    texts = {
+        "long": (OPENING + b"asleep 0\n" * LONG, b"ok\n" + b"no\n" * LONG, 0),
+        "fault": (OPENING + b"asleep 0\nasleep\n", b"ok\nno\nfault line 3\n", 1),
+        "empty": (b"", b"", 0),
+    }
+    for name, (text, out, status) in texts.items():
+        file = pathlib.Path(folder) / f"{name}.stream"
+        file.write_bytes(text)
+        yield Subject(f"{name} script", ["replay"], file, out=out, status=status)
+
+
+def fault_of_same(subject, run):
+    """What is wrong where all is to be as without a hindrance."""
+    return None if (run.status, run.out, run.err) == (subject.status, subject.out, subject.err) else told(run)
+
+
+def fault_of_read(run):
+    """What is wrong after a read that failed: nothing is answered."""
+    return None if (run.status, run.out, run.err) == (1, b"", CANNOT_READ) else told(run)
+
+
+def fault_of_write(subject, run):
+    """What is wrong after a write that failed: a first part of the answers was written."""
+    if (run.status, run.err) != (1, CANNOT_READ):
+        return told(run)
+    return None if subject.out.startswith(run.out) else "what was written is no first part of the answers"
+
+
+def numbers(count, most):
+    """The first, some between, and the last of so many calls."""
+    step = max(1, count // most)
+    return sorted({*range(1, count + 1, step), *([count] if count else [])})
+
+
+class Streams:
+    """The runs of one subject."""
+
+    def __init__(self, machine, subject, most, broken):
+        self.machine, self.subject, self.most, self.broken = machine, subject, most, broken
+        self.plain = machine.run(subject)
+        self.by_bytes = machine.run(subject, read_most=1, write_most=1)
+
+    def failed_read(self, **hostile):
+        run = self.machine.run(self.subject, **hostile)
+        return fault_of_read(run) if run.reads_met else "no read was met"
+
+    def failed_write(self, **hostile):
+        run = self.machine.run(self.subject, **hostile)
+        return fault_of_write(self.subject, run) if run.writes_met else "no write was met"
+
+    def interrupted_reads(self, **hostile):
+        """A read that is interrupted may be tried again, or count as one that failed."""
+        run = self.machine.run(self.subject, **hostile)
+        return fault_of_same(self.subject, run) and fault_of_read(run)
+
+    def interrupted_writes(self, **hostile):
+        return fault_of_same(self.subject, self.machine.run(self.subject, **hostile))
+
+    def reads(self):
+        name = self.subject.name
+        for error in READ_ERRORS:
+            for place in range(1, self.plain.reads + 1):
+                yield f"read {place} {errno.errorcode[error]} of {name}", lambda how=f"{place} {error}": self.failed_read(read=how)
+        for place in numbers(self.by_bytes.reads, self.most):
+            yield f"byte read {place} EIO of {name}", lambda how=f"{place} {errno.EIO}": self.failed_read(read=how, read_most=1)
+        yield f"reads EINTR of {name}", lambda: self.interrupted_reads(read=f"1/2 {errno.EINTR}")
+        yield f"byte reads EINTR of {name}", lambda: self.interrupted_reads(read=f"1/2 {errno.EINTR}", read_most=1)
+
+    def writes(self):
+        name = self.subject.name
+        for error in [*WRITE_ERRORS, 0]:
+            word = errno.errorcode.get(error, "of nothing")
+            for place in range(1, self.plain.writes + 1):
+                for later in ("", ".."):
+                    yield (f"write {place}{later} {word} of {name}",
+                           lambda how=f"{place}{later} {error}": self.failed_write(write=how))
+        for place in numbers(self.by_bytes.writes, self.most):
+            yield f"byte write {place} EIO of {name}", lambda how=f"{place} {errno.EIO}": self.failed_write(write=how, write_most=1)
+        yield f"writes EINTR of {name}", lambda: self.interrupted_writes(write=f"1/2 {errno.EINTR}")
+        yield f"byte writes EINTR of {name}", lambda: self.interrupted_writes(write=f"1/2 {errno.EINTR}", write_most=1)
+
+    def trials(self):
+        """(name, function) of each run."""
+        name = self.subject.name
+        yield f"streams of {name}", lambda: fault_of_same(self.subject, self.plain)
+        yield f"bytes of {name}", lambda: fault_of_same(self.subject, self.by_bytes)
+        yield from self.reads()
+        yield from self.writes()
+        for how in OUTPUTS:
+            yield f"{how} output of {name}", lambda how=how: self.bad_output(how)
+
+    def bad_output(self, how):
+        """An output that takes nothing at all."""
+        run = run_with_output(self.machine.program, self.subject, how, self.broken)
+        if not self.subject.out:
+            return fault_of_same(self.subject, run)
+        return fault_of_write(self.subject, run)
+
+
+OUTPUTS = ("closed", "full", "broken")
+
+
+def run_with_output(program, subject, how, broken):
+    """Runs the program, without the library, on a standard output that is closed, a full disk, or a pipe that nobody reads."""
+    words = [str(program), *subject.words]
+    if how == "closed":
+        words = ["bash", "-c", 'exec "$@" >&-', "bash", *words]
+    with open(subject.input or os.devnull, "rb") as given, open("/dev/full", "wb") as full:
+        out = {"closed": subprocess.DEVNULL, "full": full, "broken": broken}[how]
+        child = subprocess.Popen(words, cwd=subject.folder, stdin=given, stdout=out, stderr=subprocess.PIPE)
+        status = ended(child, SECONDS)
+        return Run(status, b"", child.stderr.read(), 0, 0, 0, 0, 0, 0, 0)
+
+
+def disturb_streams(machine, tally, folder, most):
+    """Disturbs the reads and writes of each subject; of those that move one byte some so many."""
+    # Made before any run: a child that is begun meanwhile would hold the reader for a moment.
+    reader, broken = os.pipe()
+    os.close(reader)
+    try:
+        every = list(tally.pool.map(lambda subject: Streams(machine, subject, most, broken), subjects(folder)))
+        tally.try_all(trial for streams in every for trial in streams.trials())
+    finally:
+        os.close(broken)
+    tally.try_all(of_texts(machine))
+
+
+def of_texts(machine):
+    """Help that cannot be written, and a text on standard error that cannot be."""
+    help_text = Subject("help", ["--help"], out=None)
+    no_command = Subject("no command", ["frobnicate"], status=2)
+
+    def fault_of_help():
+        run = machine.run(help_text, write=f"1.. {errno.ENOSPC}")
+        return None if (run.status, run.out, run.err) == (1, b"", CANNOT_READ) else told(run)
+
+    def fault_of_silence():
+        run = machine.run(no_command, write=f"1.. {errno.EIO}", descriptor=2)
+        return None if (run.status, run.out, run.err) == (2, b"", b"") else told(run)
+
+    yield "write 1.. ENOSPC of help", fault_of_help
+    yield "write 1.. EIO to standard error", fault_of_silence

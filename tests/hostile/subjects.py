@@ -1,0 +1,120 @@
+"""What the program is run on: the examples, the cases, help, and malformed texts, each with what has to be written with ample memory."""
+import pathlib
+import subprocess
+import sys
+
+from machine import HERE, ROOT, Subject
+
+GENERATED = ["first-run", "kernel-calls", "late", "late-batches", "scattered", "answer-half", "rounds", "steals", "day", "restarts"]
+NO_COMMAND = b"pc-sim: bad command line\n"
+# Of a script.
+MOST_BYTES = 16 * 2**20
+OPENING = b"enclave 2 8 100 16 1000\n"
+# Malformed texts of each kind, and the whole answer: a word of another type, one too many, none, a number past its type, no text at all.
+MALFORMED = {
+    "a-word-that-is-none": (b"frobnicate\n", b"fault line 1\n"),
+    "a-number-past-a-byte": (b"enclave 256 1 1 1 1\n", b"fault line 1\n"),
+    "a-leading-zero": (b"enclave 02 8 100 16 1000\n", b"fault line 1\n"),
+    "a-capital-letter": (OPENING + b"create 0 3 Ready\n", b"ok\nfault line 2\n"),
+    "a-word-too-many": (OPENING + b"tick 0 0\n", b"ok\nfault line 2\n"),
+    "a-word-too-few": (OPENING + b"tick\n", b"ok\nfault line 2\n"),
+    "a-thread-with-a-leading-zero": (OPENING + b"wake t01\n", b"ok\nfault line 2\n"),
+    "a-comment-after-a-space": (OPENING + b" # x\n", b"ok\nfault line 2\n"),
+    "a-cpu-past-a-byte": (OPENING + b"tick 255\ntick 256\n", b"ok\nrefused BadCpu\nfault line 3\n"),
+    "a-delta-past-64-bits": (
+        OPENING + b"deliver 0 18446744073709551615\ndeliver 0 18446744073709551616\n", b"ok\nrefused NoDelta\nfault line 3\n"),
+    "a-version-that-is-not-first": (OPENING + b"version 2\n", b"ok\nfault line 2\n"),
+    "bytes-that-are-no-text": (OPENING + b"\xff\xfe\x00\x80\n", b"ok\nfault line 2\n"),
+    "a-line-of-100000-bytes": (OPENING + b"x" * 100000, b"ok\nfault line 2\n"),
+    "a-line-of-50000-words": (OPENING + b"1 " * 50000, b"ok\nfault line 2\n"),
+    "a-number-of-100000-digits": (OPENING + b"tick " + b"1" * 100000 + b"\n", b"ok\nfault line 2\n"),
+    "silence": (b"\n# x\n  \r\n", b""),
+}
+
+
+def examples():
+    """The scripts of examples/, read from the file that is named."""
+    for script in sorted((ROOT / "examples").glob("*.script")):
+        yield Subject(f"example {script.stem}", ["replay", str(script)], out=script.with_suffix(".output").read_bytes())
+
+
+def given(case, folder):
+    """The standard input of a case, as a file."""
+    script = case / "make-stdin"
+    if not script.is_file():
+        return case / "stdin" if (case / "stdin").is_file() else None
+    made = pathlib.Path(folder) / f"{case.name}.stdin"
+    if not made.is_file():
+        with open(made, "wb") as out:
+            subprocess.run(["bash", str(script)], cwd=case, stdout=out, check=True)
+    return made
+
+
+def content(path):
+    return path.read_bytes() if path.is_file() else b""
+
+
+def cases(folder):
+    """The cases of tests/cases, as tests/run_cases.py reads them, without those that are shell scripts.
+
+    Runs of agents have another schedule each time, and may also end as threads cannot be started: they are a part of their own (settings.py).
+    """
+    for case in sorted(path for path in (ROOT / "tests/cases").iterdir() if path.is_dir()):
+        if (case / "run").is_file():
+            continue
+        words = (case / "args").read_text().splitlines() if (case / "args").is_file() else ["replay"]
+        status = int((case / "status").read_text()) if (case / "status").is_file() else 0
+        if words[:1] == ["run"] and status == 0:
+            continue
+        out = None if (case / "stdout-is-not-fixed").exists() else content(case / "stdout")
+        yield Subject(f"case {case.name}", words, given(case, folder), case, out, content(case / "stderr"), status)
+
+
+def malformed(folder):
+    """Texts that are no scripts."""
+    for name, (text, out) in MALFORMED.items():
+        file = pathlib.Path(folder) / f"{name}.malformed"
+        file.write_bytes(text)
+        yield Subject(f"malformed {name}", ["replay"], file, out=out, status=1 if b"fault" in out else 0)
+
+
+def generated(folder, lines):
+    """Scripts of bench/generate.py, with so many lines each: nothing is written down of what they are answered."""
+    for name in GENERATED:
+        file = pathlib.Path(folder) / f"{name}.generated"
+        with open(file, "wb") as out:
+            subprocess.run([sys.executable, str(ROOT / "bench/generate.py"), name, str(lines)], stdout=out, check=True)
+        yield Subject(f"generated {name} {lines}", ["replay", str(file)], out=None)
+
+
+def greatest(folder):
+    """Accepted scripts of the greatest length, of the most threads, messages, and rows of one answer."""
+    texts = {
+        "posts": ["posts", "1100000"], "threads": ["threads", "2"], "answers": ["answers", "3"], "early": ["early", "2", "500000"],
+    }
+    for name, words in texts.items():
+        file = pathlib.Path(folder) / f"{name}.greatest"
+        with open(file, "wb") as out:
+            subprocess.run([sys.executable, str(HERE / "worst.py"), *words], stdout=out, check=True)
+        with open(file, "ab") as out:
+            out.write(b"show 63\nsame 0 63\n" * 2)
+        yield Subject(f"the most {name}", ["replay", str(file)], out=None)
+    file = pathlib.Path(folder) / "words.greatest"
+    file.write_bytes(OPENING + b"1 " * (MOST_BYTES // 2 - len(OPENING)))
+    yield Subject("the most words", ["replay", str(file)], out=b"ok\nfault line 2\n", status=1)
+
+
+def command_lines():
+    """Help, and words that are no command line."""
+    yield Subject("help", ["--help"], out=None)
+    yield Subject("help of replay", ["replay", "--help"], out=None)
+    for name, words in [("no words", []), ("an unknown word", ["frobnicate"]), ("two files", ["replay", "a", "b"])]:
+        yield Subject(f"command line of {name}", words, err=NO_COMMAND, status=2)
+
+
+def replayed(folder):
+    """All of it."""
+    yield from examples()
+    yield from cases(folder)
+    yield from malformed(folder)
+    yield from command_lines()
