@@ -1,6 +1,6 @@
-"""Single calls of the libraries, each growth refused in turn: calls/main.rt, which `rt try` builds and runs, looks at what they left.
+"""Single calls of the libraries, each growth refused in turn: calls/main.rt.in, which `rt try` builds and runs, looks at what they left.
 
-It is built over a heap of the tests' own (calls/heap.c), for which the kit is laid out anew, by links, in a folder of its own.
+Its sources end in .rt.in, since the gate lets .rt files stand in crates alone. It is built over a heap of the tests' own (calls/heap.c), for which the kit is laid out anew, by links, in a folder of its own.
 """
 import os
 import pathlib
@@ -43,10 +43,13 @@ def kit_with_own_heap(folder):
 def crate_of_calls(folder):
     """The folder of the crate that makes the calls, in a tree of its own with all crates."""
     shutil.copytree(ROOT / "crates", folder / "crates", ignore=shutil.ignore_patterns("out", "must-fail"))
-    shutil.copytree(HERE / "calls", folder / "crates" / NAME / "src", ignore=shutil.ignore_patterns("*.c"))
+    source = folder / "crates" / NAME / "src"
+    source.mkdir(parents=True)
+    for path in (HERE / "calls").glob("*.rt.in"):
+        shutil.copy(path, source / path.name.removesuffix(".in"))
     lines = (ROOT / "crates.txt").read_text().splitlines()
     names = [re.match(r"\w+", line)[0] for line in lines if re.match(r"pc_\w+.*:", line)]
-    libraries = [name for name in names if name not in ("pc_sim", "pc_tests")]
+    libraries = [name for name in names if name not in ("pc_sim", "pc_tests", "pc_tests_agents")]
     (folder / "crates.txt").write_text("\n".join([*lines, f"{NAME}: {' '.join(libraries)} thiserror", ""]))
     return folder / "crates" / NAME
 
