@@ -17,7 +17,9 @@ sys.path.insert(0, str(ROOT / "tests/hostile"))
 import fuzz  # noqa: E402
 import growths  # noqa: E402
 import replies  # noqa: E402
+import settings  # noqa: E402
 import streams  # noqa: E402
+import subjects  # noqa: E402
 from machine import Machine, NoCompiler, Subject, Tally, build  # noqa: E402
 
 # Reads a text, makes a growth for each of its lines, and answers each `ok`. What it does in a wrong way is chosen when it is compiled.
@@ -165,6 +167,14 @@ class Hostile(unittest.TestCase):
         self.assertIn("status 4", fuzz.fault_of_script(self.machine("TAKES_MUCH"), 0))
         self.assertEqual(fuzz.drawn_script(7), fuzz.drawn_script(7))
         self.assertNotEqual(fuzz.drawn_script(7), fuzz.drawn_script(8))
+
+    def test_each_malformed_text_is_a_subject_of_growths(self):
+        every = {subject.name: subject for subject in subjects.replayed(self.folder)}
+        told = {every[f"settings of {name}"].err.decode() for name in settings.FAULTS}
+        self.assertEqual(told, {"pc-sim: cannot read\n", *(f"pc-sim: settings {fault}\n" for fault in settings.NAMES)})
+        for name in ("help", "version", *(f"command line of {name}" for name in {**subjects.WORDS, **subjects.FILES})):
+            self.assertIn(name, every)
+        self.assertEqual(len(every), len(list(subjects.replayed(self.folder))))
 
     def test_what_is_not_there(self):
         with unittest.mock.patch("machine.shutil.which", return_value=None):

@@ -14,8 +14,6 @@ SECONDS = 5
 MEMORY = 2**30
 ONE_HEAP = {"MALLOC_ARENA_MAX": "1"}
 CANNOT_START = b"pc-sim: cannot start\n"
-# With fewer growths of each row only those rows are gone through that run.
-MOST_OF_RUNS = 10
 NAMES = ["NotToml", "BadField", "BadStep", "BadCpus", "TooManyThreads", "BadThread", "BadRestart"]
 FAULT = re.compile(rf"pc-sim: (cannot read|settings ({'|'.join(NAMES)}))\n".encode())
 TOTALS = r"threads (\d+)\nmessages (\d+)\ncommits (\d+)\nran (\d+)\n"
@@ -51,34 +49,62 @@ ROWS = {
     "16 CPUs": ("cpus = 16\n" + thread(15, 2**16 - 1, "block 1", "preempt 1", "die 1") * 2, totals(2, 10, 6, 6)),
     "64 CPUs": ("cpus = 64\n", totals(0, 0, 0, 0)),
 }
-# Each fault, alone.
+# Each fault, alone: what is told of it, or None where the text cannot be read at all.
 FAULTS = {
     "no TOML": ("cpus =\n", "NotToml"),
+    "a key that is there twice": ("cpus = 1\ncpus = 1\n", "NotToml"),
+    "a text without its end": ('cpus = 1\na = "b\n', "NotToml"),
+    "a byte that stands in no text": ("cpus = 1\n\0", "NotToml"),
     "bytes that are no text": (b"cpus = 1\n# \xff\xfe\n", None),
+    "a text that is too long": ("#" * (2**20 + 1), None),
+    "no key": ("", "BadField"),
     "a text for a number": ('cpus = "2"\n', "BadField"),
-    "no CPUs": ("", "BadField"),
-    "steps that are no texts": ("cpus = 2\n[[thread]]\nqueue = 0\nmask = 3\nsteps = [1]\n", "BadField"),
+    "a fraction for a number": ("cpus = 2.0\n", "BadField"),
     "a table for threads": ("cpus = 2\n[thread]\nqueue = 0\n", "BadField"),
+    "numbers for threads": ("cpus = 2\nthread = [1]\n", "BadField"),
+    "a thread without a queue": ('cpus = 2\n[[thread]]\nmask = 3\nsteps = ["die 1"]\n', "BadField"),
+    "a text for a queue": ('cpus = 2\n[[thread]]\nqueue = "0"\nmask = 3\nsteps = ["die 1"]\n', "BadField"),
+    "a thread without a mask": ('cpus = 2\n[[thread]]\nqueue = 0\nsteps = ["die 1"]\n', "BadField"),
+    "a list for a mask": ('cpus = 2\n[[thread]]\nqueue = 0\nmask = [3]\nsteps = ["die 1"]\n', "BadField"),
+    "a thread without steps": ("cpus = 2\n[[thread]]\nqueue = 0\nmask = 3\n", "BadField"),
+    "a text for steps": ('cpus = 2\n[[thread]]\nqueue = 0\nmask = 3\nsteps = "die 1"\n', "BadField"),
+    "steps that are no texts": ("cpus = 2\n[[thread]]\nqueue = 0\nmask = 3\nsteps = [1]\n", "BadField"),
+    "a table for restarts": ("cpus = 2\n[restart]\ncpu = 0\nturn = 1\n", "BadField"),
+    "texts for restarts": ('cpus = 2\nrestart = ["a"]\n', "BadField"),
+    "a restart without a CPU": ("cpus = 2\n[[restart]]\nturn = 1\n", "BadField"),
+    "a truth for a CPU": ("cpus = 2\n" + restart("true", 1), "BadField"),
     "a restart without a turn": ("cpus = 2\n[[restart]]\ncpu = 0\n", "BadField"),
+    "a day for a turn": ("cpus = 2\n" + restart(0, "1979-05-27"), "BadField"),
+    "a step without a number": ("cpus = 2\n" + thread(0, 3, "yield"), "BadStep"),
+    "a step without a word": ("cpus = 2\n" + thread(0, 3, ""), "BadStep"),
+    "a step by another word": ("cpus = 2\n" + thread(0, 3, "sleep 1"), "BadStep"),
+    "a step in capitals": ("cpus = 2\n" + thread(0, 3, "DIE 1"), "BadStep"),
+    "a step with two spaces": ("cpus = 2\n" + thread(0, 3, "die  1"), "BadStep"),
+    "a step with a space behind": ("cpus = 2\n" + thread(0, 3, "die 1 "), "BadStep"),
+    "a step with a number past its type": ("cpus = 2\n" + thread(0, 3, "die 4294967296"), "BadStep"),
+    "a step with a leading zero": ("cpus = 2\n" + thread(0, 3, "die 01"), "BadStep"),
+    "a step with a sign": ("cpus = 2\n" + thread(0, 3, "die +1"), "BadStep"),
     "none of a CPU": ("cpus = 0\n", "BadCpus"),
     "65 CPUs": ("cpus = 65\n", "BadCpus"),
     "fewer CPUs than none": ("cpus = -1\n", "BadCpus"),
-    "a step without a number": ("cpus = 2\n" + thread(0, 3, "yield"), "BadStep"),
-    "a step with a number past its type": ("cpus = 2\n" + thread(0, 3, "die 4294967296"), "BadStep"),
-    "a step with a leading zero": ("cpus = 2\n" + thread(0, 3, "die 01"), "BadStep"),
+    "as many CPUs as can be written": (f"cpus = {2**63 - 1}\n", "BadCpus"),
+    "4,097 threads": ("cpus = 2\n" + thread(0, 3, "die 1") * 4097, "TooManyThreads"),
     "steps that do not die": ("cpus = 2\n" + thread(0, 3, "yield 1"), "BadThread"),
     "steps that die early": ("cpus = 2\n" + thread(0, 3, "die 1", "die 1"), "BadThread"),
     "no steps": ("cpus = 2\n" + thread(0, 3), "BadThread"),
     "1,001 steps": ("cpus = 2\n" + thread(0, 3, *["yield 1"] * 1000, "die 1"), "BadThread"),
     "a mask that is too wide": ("cpus = 2\n" + thread(0, 4, "die 1"), "BadThread"),
     "an empty mask": ("cpus = 2\n" + thread(0, 0, "die 1"), "BadThread"),
+    "a mask below none": ("cpus = 2\n" + thread(0, -1, "die 1"), "BadThread"),
     "a queue that is not there": ("cpus = 2\n" + thread(2, 3, "die 1"), "BadThread"),
-    "4,097 threads": ("cpus = 2\n" + thread(0, 3, "die 1") * 4097, "TooManyThreads"),
+    "a queue below the first": ("cpus = 2\n" + thread(-1, 3, "die 1"), "BadThread"),
+    "a queue past a byte": ("cpus = 2\n" + thread(256, 3, "die 1"), "BadThread"),
     "a restart of a CPU that is not there": ("cpus = 2\n" + ONE + restart(2, 2), "BadRestart"),
+    "a restart of a CPU past a byte": ("cpus = 2\n" + restart(256, 2), "BadRestart"),
     "a restart of a lone agent": ("cpus = 1\n" + thread(0, 1, "die 1") + restart(0, 1), "BadRestart"),
     "a restart before no turn": ("cpus = 2\n" + restart(0, 0), "BadRestart"),
+    "a restart before a turn past the last": ("cpus = 2\n" + restart(0, 1_000_001), "BadRestart"),
     "65 restarts": ("cpus = 2\n" + restart(0, 1) * 65, "BadRestart"),
-    "a text that is too long": ("#" * (2**20 + 1), None),
 }
 # What nests: each reader of TOML ends somewhere. None may end by a signal, whatever it answers.
 KEYS = ".".join("a" * 80)
@@ -110,13 +136,17 @@ def written(folder, name, text):
     return file
 
 
-def rows(folder):
-    """The settings that are run, and those that have a fault."""
+def accepted(folder):
+    """The settings that are run."""
     for name, (text, out) in ROWS.items():
         yield Subject(f"settings of {name}", ["run", str(written(folder, name, text))], out=out.encode(), environment=ONE_HEAP)
+
+
+def faulty(folder):
+    """The settings that have a fault: none of them begins a thread, so the growths of each are the same in every run."""
     for name, (text, fault) in FAULTS.items():
         err = f"pc-sim: settings {fault}\n" if fault else "pc-sim: cannot read\n"
-        yield Subject(f"settings of {name}", ["run", str(written(folder, name, text))], err=err.encode(), status=1, environment=ONE_HEAP)
+        yield Subject(f"settings of {name}", ["run", str(written(folder, name, text))], err=err.encode(), status=1)
 
 
 def fault_of_totals(run, wanted=None):
@@ -172,15 +202,16 @@ def use_rows(machine, tally, most):
     if not has_run(machine):
         tally.note(f"skipped: {machine.program.name} has no command `run`, so no settings were tried")
         return
-    every = list(rows(machine.folder))
-    tally.try_all((subject.name, lambda it=subject: fault_of_ample(it, machine.run(it, seconds=SECONDS))) for subject in every)
-    tally.try_all((f"{it.name} --per-cpu", lambda it=it: fault_of_per_cpu(machine, it)) for it in every if it.status == 0)
+    every = list(accepted(machine.folder))
+    tally.try_all(
+        (subject.name, lambda it=subject: fault_of_ample(it, machine.run(it, seconds=SECONDS)))
+        for subject in [*every, *faulty(machine.folder)])
+    tally.try_all((f"{it.name} --per-cpu", lambda it=it: fault_of_per_cpu(machine, it)) for it in every)
     for name, text in DEEP.items():
         subject = Subject("", ["run", str(written(machine.folder, name, text))], environment=ONE_HEAP)
         tally.try_all([(f"settings of {name}", lambda it=subject: fault_of_totals(machine.run(it, seconds=SECONDS)))])
     waits = Waits()
-    swept = [subject for subject in every if subject.status == 0 or most >= MOST_OF_RUNS]
-    tally.try_all(trial for subject in swept for trial in trials_of_growths(machine, waits, subject, most))
+    tally.try_all(trial for subject in every for trial in trials_of_growths(machine, waits, subject, most))
     tally.note(f"of {waits.runs} runs of settings with a growth refused {waits.count} still waited after {SECONDS} s, and were ended")
 
 

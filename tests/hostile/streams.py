@@ -5,6 +5,7 @@ import pathlib
 import subprocess
 
 from machine import SECONDS, Run, Subject, ended, told
+from settings import ONE_TOTALS, ROWS, written
 from subjects import OPENING, examples
 
 CANNOT_READ = b"pc-sim: cannot read\n"
@@ -14,7 +15,7 @@ LONG = 3000
 
 
 def subjects(folder):
-    """Each example by its name and on the standard input, a script whose answers fill buffers, one with a fault, and an empty one."""
+    """Each example by its name and on the standard input, a script whose answers fill buffers, one with a fault, and an empty one; and settings."""
     for example in examples():
         yield example
         yield Subject(f"{example.name} as standard input", ["replay"], pathlib.Path(example.words[1]), out=example.out)
@@ -27,6 +28,21 @@ def subjects(folder):
         file = pathlib.Path(folder) / f"{name}.stream"
         file.write_bytes(text)
         yield Subject(f"{name} script", ["replay"], file, out=out, status=status)
+    yield from settings(folder)
+
+
+def settings(folder):
+    """Settings by their name and on the standard input, some that take several reads, and some with a fault."""
+    accepted = ROWS["one thread"][0]
+    texts = {
+        "short": (accepted, ONE_TOTALS.encode(), b"", 0),
+        "long": ("#" * 20_000 + "\n" + accepted, ONE_TOTALS.encode(), b"", 0),
+        "faulty": ("cpus = 0\n", b"", b"pc-sim: settings BadCpus\n", 1),
+    }
+    for name, (text, out, err, status) in texts.items():
+        file = written(folder, f"{name} stream", text)
+        yield Subject(f"{name} settings", ["run", str(file)], out=out, err=err, status=status)
+        yield Subject(f"{name} settings as standard input", ["run"], file, out=out, err=err, status=status)
 
 
 def fault_of_same(subject, run):

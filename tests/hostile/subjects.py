@@ -1,12 +1,14 @@
-"""What the program is run on: the examples, the cases, help, and malformed texts, each with what has to be written with ample memory."""
+"""What the program is run on: the examples, the cases, command lines, and malformed texts, each with what is written with ample memory."""
 import pathlib
 import subprocess
 import sys
 
 from machine import HERE, ROOT, Subject
+from settings import faulty
 
 GENERATED = ["first-run", "kernel-calls", "late", "late-batches", "scattered", "answer-half", "rounds", "steals", "day", "restarts"]
 NO_COMMAND = b"pc-sim: bad command line\n"
+NO_FILE = b"pc-sim: cannot read\n"
 # Of a script.
 MOST_BYTES = 16 * 2**20
 OPENING = b"enclave 2 8 100 16 1000\n"
@@ -104,12 +106,55 @@ def greatest(folder):
     yield Subject("the most words", ["replay", str(file)], out=b"ok\nfault line 2\n", status=1)
 
 
+# What is told on standard output, in words that are not fixed.
+TOLD = {
+    "help": ["--help"],
+    "help in short": ["-h"],
+    "help of replay": ["replay", "--help"],
+    "help of run": ["run", "--help"],
+    "help of run in short": ["run", "-h"],
+    "version": ["--version"],
+    "version in short": ["-V"],
+}
+# Words that are no command, and commands whose file is not there.
+WORDS = {
+    "no words": [],
+    "an unknown word": ["frobnicate"],
+    "an empty word": [""],
+    "a word of 100,000 bytes": ["x" * 100_000],
+    "a word that is no text": [b"\xff\xfe"],
+    "the command help": ["help"],
+    "an unknown flag": ["--fast"],
+    "an unknown letter": ["-x"],
+    "an unknown flag of replay": ["replay", "--fast"],
+    "an unknown flag of run": ["run", "--per-thread"],
+    "the version of a command": ["replay", "--version"],
+    "two files": ["replay", "a", "b"],
+    "two files of run": ["run", "a", "b"],
+    "a flag of the other command": ["replay", "--per-cpu"],
+    "a flag before its command": ["--per-cpu", "run"],
+    "a flag twice": ["run", "--per-cpu", "--per-cpu"],
+    "a flag with a value": ["run", "--per-cpu=yes"],
+    "a file that is no text": ["replay", b"\xff\xfe"],
+}
+FILES = {
+    "a file without a name": ["replay", ""],
+    "settings without a name": ["run", ""],
+    "a name of 100,000 bytes": ["replay", "x" * 100_000],
+    "settings by a name of 100,000 bytes": ["run", "x" * 100_000],
+    "a file whose name looks like a flag": ["replay", "--", "--fast"],
+    "settings whose name looks like a flag": ["run", "--", "--per-cpu"],
+}
+
+
 def command_lines():
-    """Help, and words that are no command line."""
-    yield Subject("help", ["--help"], out=None)
-    yield Subject("help of replay", ["replay", "--help"], out=None)
-    for name, words in [("no words", []), ("an unknown word", ["frobnicate"]), ("two files", ["replay", "a", "b"])]:
+    """Help, words that are no command line, and those that name no file."""
+    for name, words in TOLD.items():
+        yield Subject(name, words, out=None)
+    for name, words in WORDS.items():
         yield Subject(f"command line of {name}", words, err=NO_COMMAND, status=2)
+    for name, words in FILES.items():
+        yield Subject(f"command line of {name}", words, err=NO_FILE, status=1)
 
 
 def replayed(folder):
@@ -117,4 +162,5 @@ def replayed(folder):
     yield from examples()
     yield from cases(folder)
     yield from malformed(folder)
+    yield from faulty(folder)
     yield from command_lines()
