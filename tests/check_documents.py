@@ -3,6 +3,7 @@
 
   promises     each function, clause, type, definition and file that the tables of docs/PROMISES.md name is there
   public       each function with a contract that a crate exports is named by docs/PROMISES.md
+  memory       its table on want of memory has a row for each public call that may want memory, and names clauses and tests that are there
   definitions  each definition that docs/DEFINITIONS.md names is there, and its lines are counted right
   names        each `Type::name`, `Module.word` and path of a file in any other document is there
   crates       docs/ARCHITECTURE.md has each crate, and what it stands on, as crates.txt has it
@@ -10,7 +11,7 @@
   examples     each example's script has its output beside it
   citations    no file cites the papers that the project was made from
 
-A line for each finding, how much was looked at, and then `N passed, M failed`, of these eight checks. The exit status is 0
+A line for each finding, how much was looked at, and then `N passed, M failed`, of these nine checks. The exit status is 0
 only where none failed.
 """
 import pathlib
@@ -28,6 +29,9 @@ INNER_NAME = re.compile(r"\bghost (\w+)[ :=]|\bconst ([A-Z_]+):|^    (?:pub )?(\
 # Names that are std's, and words of the language.
 FOREIGN = {"Err", "Ok", "IsStrictlyIncreasing"}
 
+# Errors that may be want of memory.
+WANTING = re.compile(
+    r"->.*Result<.*\b(?:OutOfMemory|AllocError|(?:Limits|Queue|Call|Send|Delta|Run|Script|Settings|Command|RunText)Fault)\b", re.S)
 # What the papers are cited by: numbers of their theorems, definitions, requests and rows, and their names.
 CITATIONS = re.compile(
     r"\bT[1-5]\.\d+|\bD(?:1[0-5]|[1-9])\b|\bR(?:1[0-6]|[1-9])\b|\bW\d+\b|\brows? \d+\b"
@@ -45,6 +49,10 @@ class Function:
     of_trait: str = ""  # the trait that an impl meets, or that declares it
     clauses: set = field(default_factory=set)
     has_contract: bool = False
+    head: str = ""  # its parameters and what it answers
+
+    def may_want_memory(self):
+        return bool(WANTING.search(self.head)) and "succeeds" not in self.clauses
 
     def __str__(self):
         return f"{self.crate} {self.owner + '::' if self.owner else ''}{self.name}"
@@ -77,7 +85,7 @@ class Crate:
             self.definitions[module] = set(found) | set(constructors)
 
     def read_source(self, text, module, into):
-        owner, of_trait, last, in_enum = "", "", None, False
+        owner, of_trait, last, in_enum, in_head = "", "", None, False, False
         for line in text.splitlines():
             if line.startswith("}"):
                 owner, of_trait, last, in_enum = "", "", None, False
@@ -104,6 +112,10 @@ class Crate:
                 is_pub = function[1] == "pub " or owner in self.traits or bool(of_trait)
                 last = Function(self.name, owner, module, function[2], is_pub, of_trait)
                 into.append(last)
+            in_head = bool(function) or in_head and not re.match(r"\s*(?:ensures|requires|where|\{)", line)
+            if in_head:
+                last.head += line
+                in_head = "{" not in line and not line.endswith(";")
             clause = re.match(r"\s*ensures (?:(\w+) )?\{", line)
             if clause and last:
                 last.has_contract = True
@@ -292,6 +304,48 @@ class Checker:
                 if function.has_contract and crate.exported(function):
                     self.expect(key in self.named, "docs/PROMISES.md", f"it does not name `{function}`, which has a public contract")
 
+    # What want of memory leaves
+
+    def check_memory(self):
+        """The table of docs/PROMISES.md: a row with a crate's name alone, and below it rows of a call, what is left, clauses and tests."""
+        crate, told, in_table = None, set(), False
+        for number, line in enumerate((ROOT / "docs/PROMISES.md").read_text().splitlines(), 1):
+            where = f"docs/PROMISES.md:{number}"
+            in_table = line == "## Want of memory" if line.startswith("#") else in_table
+            cells = [cell.strip() for cell in line.strip("|").split("|")]
+            if not in_table or not line.startswith("| `"):
+                continue
+            if not any(cells[1:]):
+                crate = self.crates.get(cells[0].strip("`"))
+                self.expect(crate, where, f"there is no crate {cells[0]}")
+                continue
+            self.expect(len(cells) == 4, where, "a line of the table without four cells")
+            call = cells[0].strip("`").split("::")
+            found = [f for f in self.functions_at([crate], call) if f.is_pub]
+            self.expect(found and all(f.may_want_memory() for f in found), where, f"{cells[0]} is no public call that may want memory")
+            told |= {(f.crate, f.owner, f.name) for f in found}
+            self.check_carriers(where, crate, cells[2])
+            self.check_tests_of(where, cells[3])
+        for function in (f for it in self.crates.values() for f in it.functions if self.wants_row(it, f)):
+            key = (function.crate, function.owner, function.name)
+            self.expect(key in told, "docs/PROMISES.md", f"`{function}` may want memory, and the table does not tell what that leaves")
+
+    def wants_row(self, crate, function):
+        """Whether a call is public and may want memory. The methods of `Join` are told of each type that has them."""
+        if function.of_trait == "Join":
+            return function.owner != "Join" and function.owner in crate.exports and function.may_want_memory()
+        return crate.exported(function) and function.may_want_memory()
+
+    def check_tests_of(self, where, cell):
+        """The cell of the table that names the tests: single calls and cases in backquotes, parts of the harness in italics."""
+        calls = "".join(path.read_text() for path in (ROOT / "tests/hostile/calls").glob("*.rt.in"))
+        parts = (ROOT / "tests/hostile/hostile.py").read_text()
+        self.expect(cell, where, "no test is named")
+        for name in SPAN.findall(cell):
+            self.expect(f'"{name}"' in calls or (ROOT / "tests/cases" / name).is_dir(), where, f"there is no single call and no case `{name}`")
+        for name in re.findall(r"\*([^*]+)\*", cell):
+            self.expect(f'"{name}": lambda' in parts, where, f"the harness has no part {name}")
+
     # DEFINITIONS, and the other documents
 
     def check_definitions(self):
@@ -407,9 +461,10 @@ class Checker:
 
 def main():
     checker = Checker()
-    # `public` looks at what `promises` found named, so it comes after it
+    # `public` looks at what `promises` and `memory` found named, so it comes after them
     checks = [
         checker.check_promises,
+        checker.check_memory,
         checker.check_public,
         checker.check_definitions,
         checker.check_names,

@@ -1,8 +1,9 @@
 #!/usr/bin/env python3
-"""Accepted scripts that want the most memory, of at most 16 MiB.
+"""Accepted scripts that want the most memory, of at most 16 MiB, and settings of at most 1 MiB.
 
-    worst.py NAME NUMBER ..      writes the script
-    worst.py measure PROGRAM     runs PROGRAM on each of MEASURED with GNU time, and prints length, greatest memory and seconds
+    worst.py NAME NUMBER ..            writes the script, or the settings
+    worst.py measure PROGRAM           runs PROGRAM on each of MEASURED, and prints length, greatest memory, seconds, and how it ended
+    worst.py measure-settings PROGRAM  the same of MEASURED_SETTINGS, with 6 GiB of address space and a minute for each
 
     publishes N                  a queue of 65,536 items, published N times: each delta is kept
     answers N                    65,535 threads that one agent knows and another does not, answered N times
@@ -11,11 +12,29 @@
     early AGENTS POSTS           so many messages, all of them early, that so many agents know
     early-threads AGENTS EACH    65,535 threads of which so many agents know so many early messages each
     posts N                      so many messages that nobody knows
+
+Settings, each as long as it may be:
+    dotted                       keys of 80 parts: each part is a table of its own
+    nested                       keys of 80 parts in each of 80 inline tables
+    keys, headers, rows          keys and headers that differ, headers of one list of tables
+    arrays, lone-arrays          a list of empty lists, and of lists with a number in each
+    tables                       a list of tables with a key in each
+    numbers, texts               a list of numbers, and of empty texts
+    text, key, escapes           one text, one key, one text that is all escapes
+    lines, comments              lines without a key
+    steps                        one thread whose list of steps is longer than it may be
+    lives CPUS THREADS ANYWHERE  so many threads, which share the steps that the text has room for, may run anywhere (1) or at home alone (0), and block
+    restarts CPUS THREADS TURN   as that, and 64 restarts from that turn on, in turn of all agents but the first
 """
+import itertools
+import os
 import pathlib
+import resource
+import signal
 import subprocess
 import sys
 import tempfile
+import time
 
 ROOM = 65536
 WIDE = "version 2\nenclave 64 65535 16000000 65536 4294967295\n"
@@ -83,39 +102,142 @@ def early_threads(agents, each):
             yield f"deliver {agent} {delta + 1}\n"
 
 
+MOST_SETTINGS = 2**20
+
+
+def filled(head, entries, tail=""):
+    """As many entries as there is room for between a head and a tail."""
+    room = MOST_SETTINGS - len(head) - len(tail)
+    yield head
+    for entry in entries:
+        room -= len(entry)
+        if room < 0:
+            break
+        yield entry
+    yield tail
+
+
+def numbered(form):
+    """Entries that differ by a number."""
+    return (form.replace("#", f"{n:x}") for n in itertools.count())
+
+
+def alike(entry):
+    return itertools.repeat(entry)
+
+
+def nested():
+    inner = ".".join("a" * 80)
+    yield from filled("cpus=1\n", numbered("#" + inner[1:] + "=" + f"{{{inner}=" * 79 + "1" + "}" * 79 + "\n"))
+
+
+def mask_of(home, cpus, anywhere):
+    return min(2**cpus, 2**63) - 1 if anywhere else 2**home
+
+
+def living(cpus, threads, anywhere, tail=""):
+    """Threads that share the steps that there is room for: blocks, and a die."""
+    homes = min(cpus, 63)
+    heads = [f"{{queue={n % homes},mask={mask_of(n % homes, cpus, anywhere)},steps=[" for n in range(threads)]
+    step, ending = '"block 0",', '"die 0"]},\n'
+    room = MOST_SETTINGS - len(f"cpus={cpus}\nthread=[\n]\n{tail}") - sum(map(len, heads)) - threads * len(ending)
+    each = min(999, room // (threads * len(step)))
+    yield f"cpus={cpus}\nthread=[\n"
+    for head in heads:
+        yield head + step * each + ending
+    yield "]\n" + tail
+
+
+def restarts(cpus, threads, turn):
+    rows = "".join(f"[[restart]]\ncpu={1 + n % (cpus - 1)}\nturn={turn + n // (cpus - 1)}\n" for n in range(64))
+    yield from living(cpus, threads, 0, rows)
+
+
 SCRIPTS = {
     "publishes": publishes, "answers": answers, "early-answers": early_answers, "threads": threads, "early": early,
     "early-threads": early_threads, "posts": posts,
+}
+SETTINGS = {
+    "dotted": lambda: filled("cpus=1\n", numbered("#" + ".a" * 79 + "=1\n")),
+    "nested": nested,
+    "keys": lambda: filled("cpus=1\n", numbered("#=1\n")),
+    "headers": lambda: filled("cpus=1\n", numbered("[a#]\n")),
+    "rows": lambda: filled("cpus=1\n", alike("[[a]]\n")),
+    "lines": lambda: filled("cpus=1\n", alike("\n")),
+    "comments": lambda: filled("cpus=1\n", alike("#\n")),
+    "arrays": lambda: filled("cpus=1\na=[", alike("[],"), "]\n"),
+    "lone-arrays": lambda: filled("cpus=1\na=[", alike("[1],"), "]\n"),
+    "tables": lambda: filled("cpus=1\na=[", alike("{a=1},"), "]\n"),
+    "numbers": lambda: filled("cpus=1\na=[", alike("1,"), "]\n"),
+    "texts": lambda: filled("cpus=1\na=[", alike("'',"), "]\n"),
+    "text": lambda: filled("cpus=1\na='", alike("x"), "'\n"),
+    "key": lambda: filled("cpus=1\n", alike("x"), "=1\n"),
+    "escapes": lambda: filled('cpus=1\na="', alike("\\u00ff"), '"\n'),
+    "steps": lambda: filled("cpus=1\nthread=[{queue=0,mask=1,steps=[", alike('"die 0",'), "]}]\n"),
+    "lives": living,
+    "restarts": restarts,
 }
 MEASURED = [
     "posts 1150000", "publishes 1", "publishes 100", "answers 1", "answers 100", "early-answers 1100000 1", "early-answers 1100000 5",
     "threads 1", "threads 11", "early 1 1100000", "early 6 1100000", "early-threads 1 9", "early-threads 6 9",
 ]
+MEASURED_SETTINGS = [
+    "dotted", "nested", "keys", "headers", "rows", "lines", "comments", "arrays", "lone-arrays", "tables", "numbers", "texts", "text", "key", "escapes", "steps",
+    "lives 1 1 0", "lives 1 105 0", "lives 1 4096 0", "lives 64 1 1", "lives 64 64 1", "lives 8 105 0", "lives 8 105 1", "lives 64 105 0",
+    "lives 64 105 1", "lives 8 4096 0", "lives 8 4096 1", "lives 64 4096 0", "lives 64 4096 1", "restarts 2 4096 2", "restarts 8 4096 2",
+    "restarts 64 4096 2",
+]
+# What settings may take, since some runs end only after hours.
+MOST_MEMORY = 6 * 2**30
+MOST_SECONDS = 60
 
 
 def write(words, out):
-    out.writelines(SCRIPTS[words[0]](*map(int, words[1:])))
+    out.writelines({**SCRIPTS, **SETTINGS}[words[0]](*map(int, words[1:])))
 
 
-def measure(program):
-    """A line of the table for each script."""
-    print("| script | bytes | greatest memory | seconds |\n|---|---|---|---|")
+def bound():
+    resource.setrlimit(resource.RLIMIT_AS, (MOST_MEMORY, MOST_MEMORY))
+
+
+def taken(words, seconds, limit):
+    """The greatest memory of a run in KiB, how long it took, and how it ended."""
+    began = time.perf_counter()
+    with tempfile.TemporaryFile() as said:
+        child = subprocess.Popen(words, stdout=subprocess.DEVNULL, stderr=said, preexec_fn=limit)
+        timer = subprocess.Popen(["bash", "-c", f"sleep {seconds}; kill -9 {child.pid}"], start_new_session=True) if seconds else None
+        _, status, used = os.wait4(child.pid, 0)
+        took = time.perf_counter() - began
+        child.returncode = os.waitstatus_to_exitcode(status)
+        if timer:
+            os.killpg(timer.pid, signal.SIGKILL)
+            timer.wait()
+        said.seek(0)
+        ended = said.read().decode().removeprefix("pc-sim: ").strip()
+    if child.returncode < 0:
+        ended = "not done" if -child.returncode == signal.SIGKILL and seconds and took >= seconds else f"signal {-child.returncode}"
+    return used.ru_maxrss, took, ended or "done"
+
+
+def measure(program, command, every, seconds=None, limit=None):
+    """A line of the table for each script or settings."""
+    print("| text | bytes | greatest memory | seconds | ended |\n|---|---|---|---|---|")
     with tempfile.TemporaryDirectory() as name:
-        script, told = pathlib.Path(name) / "script", pathlib.Path(name) / "told"
-        for words in MEASURED:
-            with open(script, "w", encoding="ascii") as out:
+        file = pathlib.Path(name) / "text"
+        for words in every:
+            with open(file, "w", encoding="ascii") as out:
                 write(words.split(), out)
-            command = ["/usr/bin/time", "-f", "%M %e", "-o", str(told), program, "replay", str(script)]
-            subprocess.run(command, stdout=subprocess.DEVNULL, check=True)
-            memory, seconds = told.read_text().split()
-            print(f"| `{words}` | {script.stat().st_size:,} | {int(memory) / 1024:,.0f} MiB | {seconds} |", flush=True)
+            memory, took, ended = taken([program, command, str(file)], seconds, limit)
+            print(f"| `{words}` | {file.stat().st_size:,} | {memory / 1024:,.0f} MiB | {took:.2f} | {ended} |", flush=True)
 
 
 def main():
     words = sys.argv[1:]
     if len(words) == 2 and words[0] == "measure":
-        measure(words[1])
-    elif words and words[0] in SCRIPTS:
+        measure(words[1], "replay", MEASURED)
+    elif len(words) >= 2 and words[0] == "measure-settings":
+        measure(words[1], "run", words[2:] or MEASURED_SETTINGS, MOST_SECONDS, bound)
+    elif words and words[0] in {**SCRIPTS, **SETTINGS}:
         write(words, sys.stdout)
     else:
         sys.exit(__doc__)
