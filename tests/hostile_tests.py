@@ -20,6 +20,7 @@ import replies  # noqa: E402
 import settings  # noqa: E402
 import streams  # noqa: E402
 import subjects  # noqa: E402
+import worst  # noqa: E402
 from machine import Machine, NoCompiler, Subject, Tally, build  # noqa: E402
 
 # Reads a text, makes a growth for each of its lines, and answers each `ok`. What it does in a wrong way is chosen when it is compiled.
@@ -175,6 +176,17 @@ class Hostile(unittest.TestCase):
         for name in ("help", "version", *(f"command line of {name}" for name in {**subjects.WORDS, **subjects.FILES})):
             self.assertIn(name, every)
         self.assertEqual(len(every), len(list(subjects.replayed(self.folder))))
+
+    def test_the_worst_settings_are_no_longer_than_they_may_be(self):
+        for words in worst.MEASURED_SETTINGS:
+            out = io.StringIO()
+            worst.write(words.split(), out)
+            # Lives have at most 1,000 steps each.
+            self.assertTrue(words.startswith("lives") or len(out.getvalue()) > 0.98 * worst.MOST_SETTINGS, words)
+            self.assertLessEqual(len(out.getvalue()), worst.MOST_SETTINGS, words)
+        memory, _, ended = worst.taken(["bash", "-c", "echo pc-sim: run Driver >&2; exit 3"], 5, worst.bound)
+        self.assertEqual((memory > 0, ended), (True, "run Driver"))
+        self.assertEqual(worst.taken(["sleep", "60"], 0.1, None)[2], "not done")
 
     def test_what_is_not_there(self):
         with unittest.mock.patch("machine.shutil.which", return_value=None):

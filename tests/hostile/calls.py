@@ -11,6 +11,8 @@ import subprocess
 from machine import HERE, ROOT, NoCompiler, build
 
 NAME = "hostile_calls"
+# So long the calls may take, once they are built: some seconds on a machine that does nothing else.
+SECONDS = 900
 SAID = re.compile(r"(\w+ \d+ (.*)): (\d+) refused of (\d+), (.*)")
 
 
@@ -61,7 +63,7 @@ def refuse_in_calls(tally, folder):
     rt, crate = kit_with_own_heap(folder), crate_of_calls(folder / "tree")
     # The program calls a C function of heap.c, which rt lets through for the crate that is named.
     environment = {**os.environ, "RT_ALLOW_C": NAME}
-    run = subprocess.run([str(rt), "try"], cwd=crate, env=environment, stdin=subprocess.DEVNULL, capture_output=True, text=True)
+    run = subprocess.run([str(rt), "try", "--seconds", str(SECONDS)], cwd=crate, env=environment, stdin=subprocess.DEVNULL, capture_output=True, text=True)
     rows = [SAID.fullmatch(line) for line in run.stdout.splitlines()]
     if run.returncode != 0 or not rows or not all(rows):
         raise NoCompiler(f"`rt try` does not run the single calls to their end: {(run.stdout + run.stderr)[-3000:]}")
