@@ -6,9 +6,10 @@ import tomllib
 
 from fuzz import SEED
 from growths import LAST, OUT_OF_MEMORY, fault_of_ample
+from machine import SECONDS as MOST_SECONDS
 from machine import Subject, told
 
-# A run of settings is ended after so many seconds: where a growth was refused it may wait forever.
+# A run that may wait forever, as where a growth was refused, is ended after so many seconds. Others have as long as any run.
 SECONDS = 5
 # The address space of a run of drawn settings, whose threads share a heap and have a stack of 8 MiB each.
 MEMORY = 2**30
@@ -161,7 +162,7 @@ def fault_of_totals(run, wanted=None):
 
 def fault_of_per_cpu(machine, subject):
     """With --per-cpu the same four lines, and one for each CPU."""
-    run = machine.run(Subject("", [*subject.words, "--per-cpu"], environment=ONE_HEAP), seconds=SECONDS)
+    run = machine.run(Subject("", [*subject.words, "--per-cpu"], environment=ONE_HEAP))
     lines = "".join(PER_CPU.format(cpu) for cpu in range(run.out.count(b"\ncpu ")))
     if run.status == 0 and re.fullmatch(re.escape(subject.out.decode()) + lines, run.out.decode()) and lines:
         return None
@@ -189,7 +190,7 @@ class Waits:
 
 def trials_of_growths(machine, waits, subject, most):
     """(name, function) of the runs of one row with growths refused. Which growth has which number depends on the schedule."""
-    ample = machine.run(subject, seconds=SECONDS)
+    ample = machine.run(subject)
     step = max(1, ample.growths // most)
     for place in sorted({*range(1, ample.growths + 1, step), *range(max(1, ample.growths - LAST), ample.growths + 1)}):
         for setting in (f"{place}", f"{place}.."):
@@ -204,12 +205,12 @@ def use_rows(machine, tally, most):
         return
     every = list(accepted(machine.folder))
     tally.try_all(
-        (subject.name, lambda it=subject: fault_of_ample(it, machine.run(it, seconds=SECONDS)))
+        (subject.name, lambda it=subject: fault_of_ample(it, machine.run(it)))
         for subject in [*every, *faulty(machine.folder)])
     tally.try_all((f"{it.name} --per-cpu", lambda it=it: fault_of_per_cpu(machine, it)) for it in every)
     for name, text in DEEP.items():
         subject = Subject("", ["run", str(written(machine.folder, name, text))], environment=ONE_HEAP)
-        tally.try_all([(f"settings of {name}", lambda it=subject: fault_of_totals(machine.run(it, seconds=SECONDS)))])
+        tally.try_all([(f"settings of {name}", lambda it=subject: fault_of_totals(machine.run(it)))])
     waits = Waits()
     tally.try_all(trial for subject in every for trial in trials_of_growths(machine, waits, subject, most))
     tally.note(f"of {waits.runs} runs of settings with a growth refused {waits.count} still waited after {SECONDS} s, and were ended")
@@ -270,8 +271,9 @@ def fault_of_drawn(machine, place):
     file = written(machine.folder, f"drawn settings {place}", text)
     words = ["run", str(file), *(["--per-cpu"] if place % 3 == 0 else [])]
     try:
-        run = machine.run(Subject("", words, environment=ONE_HEAP), seconds=SECONDS, memory=MEMORY)
-        if run.status is None and may_wait(text):
+        waits = may_wait(text)
+        run = machine.run(Subject("", words, environment=ONE_HEAP), seconds=SECONDS if waits else MOST_SECONDS, memory=MEMORY)
+        if run.status is None and waits:
             return None
         if wanted is not None and run.status != 0:
             return told(run)

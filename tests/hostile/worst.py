@@ -30,7 +30,7 @@ import itertools
 import os
 import pathlib
 import resource
-import signal
+import select
 import subprocess
 import sys
 import tempfile
@@ -183,9 +183,8 @@ MEASURED = [
 ]
 MEASURED_SETTINGS = [
     "dotted", "nested", "keys", "headers", "rows", "lines", "comments", "arrays", "lone-arrays", "tables", "numbers", "texts", "text", "key", "escapes", "steps",
-    "lives 1 1 0", "lives 1 105 0", "lives 1 4096 0", "lives 64 1 1", "lives 64 64 1", "lives 8 105 0", "lives 8 105 1", "lives 64 105 0",
-    "lives 64 105 1", "lives 8 4096 0", "lives 8 4096 1", "lives 64 4096 0", "lives 64 4096 1", "restarts 2 4096 2", "restarts 8 4096 2",
-    "restarts 64 4096 2",
+    "lives 1 105 0", "lives 8 105 0", "lives 64 105 0", "lives 1 4096 0", "lives 64 4096 0", "lives 2 1 1", "lives 4 1 1", "lives 8 1 1",
+    "lives 64 1 1", "lives 64 64 1", "restarts 2 4096 2", "restarts 64 4096 2",
 ]
 # What settings may take, since some runs end only after hours.
 MOST_MEMORY = 6 * 2**30
@@ -201,22 +200,25 @@ def bound():
 
 
 def taken(words, seconds, limit):
-    """The greatest memory of a run in KiB, how long it took, and how it ended."""
+    """The greatest memory of a run in KiB, how long it took, and how it ended. It is ended after so many seconds."""
     began = time.perf_counter()
     with tempfile.TemporaryFile() as said:
         child = subprocess.Popen(words, stdout=subprocess.DEVNULL, stderr=said, preexec_fn=limit)
-        timer = subprocess.Popen(["bash", "-c", f"sleep {seconds}; kill -9 {child.pid}"], start_new_session=True) if seconds else None
-        _, status, used = os.wait4(child.pid, 0)
+        descriptor = os.pidfd_open(child.pid)
+        poll = select.poll()
+        poll.register(descriptor, select.POLLIN)
+        is_done = poll.poll(None if seconds is None else seconds * 1000)
+        os.close(descriptor)
         took = time.perf_counter() - began
+        if not is_done:
+            child.kill()
+        _, status, used = os.wait4(child.pid, 0)
         child.returncode = os.waitstatus_to_exitcode(status)
-        if timer:
-            os.killpg(timer.pid, signal.SIGKILL)
-            timer.wait()
         said.seek(0)
-        ended = said.read().decode().removeprefix("pc-sim: ").strip()
+        ended = said.read().decode().removeprefix("pc-sim: ").strip() or "done"
     if child.returncode < 0:
-        ended = "not done" if -child.returncode == signal.SIGKILL and seconds and took >= seconds else f"signal {-child.returncode}"
-    return used.ru_maxrss, took, ended or "done"
+        ended = f"signal {-child.returncode}" if is_done else "not done"
+    return used.ru_maxrss, took, ended
 
 
 def measure(program, command, every, seconds=None, limit=None):
