@@ -46,10 +46,14 @@ def parts_of(machine, tally, options):
     form, folder = SHORT if options.short else LONG, machine.folder
     scripts = options.count if options.count is not None else form.scripts
     peer = Machine(options.peer, folder) if options.peer else None
+
+    def subjects():
+        return [it for it in replayed(folder) if options.command is None or it.words[:1] == [options.command]]
+
     parts = {
-        "growths": lambda: refuse_growths(machine, tally, replayed(folder), form.growths),
+        "growths": lambda: refuse_growths(machine, tally, subjects(), form.growths),
         "growths of long scripts": lambda: refuse_growths(machine, tally, generated(folder, form.lines), form.of_generated),
-        "stack": lambda: bound_stack(machine, tally, [*replayed(folder), *(greatest(folder) if form.lines else [])]),
+        "stack": lambda: bound_stack(machine, tally, [*subjects(), *(greatest(folder) if form.lines else [])]),
         "memory": lambda: refuse_memory(machine, tally, list(examples()), form.step),
         "streams": lambda: disturb_streams(machine, tally, folder, form.bytes_moved),
         "scripts": lambda: draw_scripts(machine, tally, scripts, peer),
@@ -102,6 +106,7 @@ def main():
     parser.add_argument("--short", action="store_true", help="the form that ./test runs")
     parser.add_argument("--calls", action="store_true", help="single calls of the libraries alone, which the long form makes too (needs rt)")
     parser.add_argument("--part", action="append", help="this part alone")
+    parser.add_argument("--command", help="of the growths and the stack this command's subjects alone: replay, run")
     parser.add_argument("--only", help="this run alone, by the name that a failure has")
     parser.add_argument("--count", type=int, help="so many drawn scripts")
     parser.add_argument("--peer", type=pathlib.Path, help="another program of the same formats: its answers to drawn scripts are compared")
