@@ -10,6 +10,7 @@ ghost use Rattle.pc_sim.specs.Session.{IsSession, RanOut};
 mod command_line;
 mod ending;
 mod laws;
+mod progress;
 mod reads;
 mod report;
 mod run_text;
@@ -20,13 +21,12 @@ mod show;
 use command_line::{Command, CommandFault, read_command};
 use ending::Ending;
 use pc_script::{Outcome, ScriptFault};
-use pc_threads::OpenGate;
 use run_text::run_config;
 use session::Session;
 use std::alloc::Global;
 use std::env;
 use std::fs::File;
-use std::io::{self, BufWriter, ErrorKind, Read, Write};
+use std::io::{self, BufWriter, ErrorKind, IsTerminal, Read, Stderr, Write};
 use std::process::ExitCode;
 use std::sync::Wait;
 use std::thread::Threads;
@@ -165,18 +165,29 @@ enum Rest {
     Run { text: String, per_cpu: bool },
 }
 
+/// Standard error, where a person reads it at a terminal.
+fn screen_of(rt: &HostRuntime) -> Option<Stderr> {
+    let stderr = rt.stderr();
+    if stderr.is_terminal() {
+        Some(stderr)
+    } else {
+        None
+    }
+}
+
 /// Runs agents by a settings text, writes the report, and flushes it, whatever the ending.
-fn run_settings<R: Threads + Wait + Sync, W: Write + Drop>(
+fn run_settings<R: Threads + Wait + Sync, S: Write + Copy + Sync, W: Write + Drop>(
     rt: &R,
     alloc: Global,
     text: &str,
     per_cpu: bool,
+    screen: Option<S>,
     writer: W,
 ) -> Ending {
     let Ok(mut writer) = BufWriter::new(alloc, writer) else {
         return Ending::OutOfMemory;
     };
-    let ended = run_config(rt, alloc, text, per_cpu, &OpenGate, &mut writer);
+    let ended = run_config(rt, alloc, text, per_cpu, screen, &mut writer);
     if writer.flush().is_err() {
         return Ending::CannotRead;
     }
@@ -190,7 +201,8 @@ fn main(rt: HostRuntime) -> ExitCode {
     let ending = match begin(&rt) {
         Rest::Ended(ending) => ending,
         Rest::Run { text, per_cpu } => {
-            run_settings(&rt, rt.alloc(), text.as_str(), per_cpu, rt.stdout())
+            let screen = screen_of(&rt);
+            run_settings(&rt, rt.alloc(), text.as_str(), per_cpu, screen, rt.stdout())
         }
     };
     if let Some(message) = ending.message() {

@@ -7,9 +7,10 @@ ghost use Rattle.pc_threads.specs.Reports.{AddsUp, TellsItsBook};
 ghost use Rattle.pc_sim.specs.ReportText.{report_text};
 ghost use Rattle.pc_sim.specs.Runs.{DoesWhatIsSpelled, IsTextsFault};
 
+use crate::progress::Progress;
 use crate::report::write_report;
 use crate::settings::{SettingsFault, read_config};
-use pc_threads::{Gate, LoadReport, RunFault, run_agents};
+use pc_threads::{LoadReport, RunFault, run_agents};
 use std::alloc::Global;
 use std::io::Write;
 use std::sync::Wait;
@@ -30,13 +31,14 @@ pub enum RunTextFault {
     Write,
 }
 
-/// Reads the settings, runs agents in threads as they ask, and writes the report.
-pub fn run_config<R: Threads + Wait + Sync, G: Gate + Sync, W: Write>(
+/// Reads the settings, runs agents in threads as they ask, and writes the report. Whoever looks at the screen, where there is one,
+/// is told meanwhile how far the run is.
+pub fn run_config<R: Threads + Wait + Sync, S: Write + Copy + Sync, W: Write>(
     rt: &R,
     alloc: Global,
     text: &str,
     per_cpu: bool,
-    gate: &G,
+    screen: Option<S>,
     writer: &mut W,
 ) -> Result<LoadReport, RunTextFault>
     ensures tells { IfOk result TellsItsBook }
@@ -50,7 +52,10 @@ pub fn run_config<R: Threads + Wait + Sync, G: Gate + Sync, W: Write>(
         Ok(config) => config,
         Err(fault) => return Err(RunTextFault::Settings(fault)),
     };
-    let report = match run_agents(rt, alloc, &config, gate) {
+    let progress = Progress::new(screen, config.threads().len());
+    let ended = run_agents(rt, alloc, &config, &progress);
+    progress.end();
+    let report = match ended {
         Ok(report) => report,
         Err(fault) => return Err(RunTextFault::Run(fault)),
     };
