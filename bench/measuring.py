@@ -1,0 +1,65 @@
+"""One run of a program, measured. It needs GNU time (/usr/bin/time)."""
+import os
+import resource
+import signal
+import subprocess
+import threading
+import time
+from dataclasses import dataclass
+
+
+@dataclass
+class Run:
+    """Seconds, and KiB at most; and how it ended, where it did not end well: its figures are none then."""
+
+    wall: float
+    processor: float
+    memory: int
+    fault: str = ""
+
+
+def measured(words, output, seconds=None, address_space=None):
+    """Runs a command whose output goes into a file, for so many seconds and in so many bytes of address space at most.
+
+    Standard error goes nowhere, so that no terminal is told how far a run is."""
+    def bounded():
+        if address_space:
+            resource.setrlimit(resource.RLIMIT_AS, (address_space, address_space))
+
+    # A child's greatest memory counts what it was before it became the program: GNU time is small, this interpreter is not.
+    memory = output.with_suffix(".memory")
+    with open(output, "wb") as out:
+        timed = ["/usr/bin/time", "-q", "-f", "%M", "-o", str(memory), *map(str, words)]
+        began = time.perf_counter()
+        none = subprocess.DEVNULL
+        child = subprocess.Popen(timed, stdin=none, stdout=out, stderr=none, start_new_session=True, preexec_fn=bounded)
+        late = threading.Event()
+
+        def end():
+            late.set()
+            os.killpg(child.pid, signal.SIGKILL)
+
+        watch = threading.Timer(seconds, end) if seconds else None
+        try:
+            if watch:
+                watch.start()
+            _, status, usage = os.wait4(child.pid, 0)
+        except BaseException:
+            os.killpg(child.pid, signal.SIGKILL)
+            raise
+        finally:
+            if watch:
+                watch.cancel()
+        wall = time.perf_counter() - began
+    child.returncode = os.waitstatus_to_exitcode(status)
+    if late.is_set():
+        return Run(wall, 0, 0, f"no end within {seconds:g} s")
+    if child.returncode != 0:
+        return Run(wall, 0, 0, f"status {child.returncode}")
+    return Run(wall, usage.ru_utime + usage.ru_stime, int(memory.read_text()))
+
+
+def best(runs):
+    """The least seconds and the most memory of runs, or the first that did not end well."""
+    bad = next((run for run in runs if run.fault), None)
+    return bad or Run(min(run.wall for run in runs), min(run.processor for run in runs), max(run.memory for run in runs))
