@@ -1,10 +1,11 @@
 -- What an agent shows that took messages in.
-use Rattle.std.proofs.Common.{ℕ, ◌≡◌, ◌||◌, List, length, Result, Ok, Err, OnOk, IsErr, sym, ap, ◌∙◌, subst, inl, inr}
+use Rattle.std.proofs.Common.{ℕ, ◌≡◌, ◌||◌, false, List, [], length, Option, Result, Ok, Err, OnOk, IsErr, sym, ap, ◌∙◌, subst, inl, inr}
+use Rattle.std.specs.BTreeSet.{BTreeSet}
 use Rattle.std.proofs.lemmas.Bool.{false≢true}
 use Rattle.pc_messages.specs.Items.{pairs_in, AreItemsOf}
 use Rattle.pc_messages.specs.Run.{Run}
 use Rattle.pc_messages.specs.declared.message.Item.{Item}
-use Rattle.pc_join.specs.Sets.{IsSameSet, as_members}
+use Rattle.pc_join.specs.Sets.{IsSameSet, IsVoid, as_members}
 use Rattle.pc_join.specs.declared.join.OutOfMemory.{OutOfMemory}
 use Rattle.pc_view.specs.declared.view.View.{View}
 use Rattle.pc_view.specs.Prefixes.{reported_in, reports, upto, upto_of}
@@ -12,16 +13,17 @@ use Rattle.pc_view.specs.Views.{IsOfRun, pairs_of}
 use Rattle.pc_delta.specs.declared.part.Part.{Part}
 use Rattle.pc_delta.specs.Exchange.{IsPartlyTakenIn, IsTakenIn}
 use Rattle.pc_delta.specs.Parts.{AreOfRun, parts_in, set_of}
-use Rattle.pc_run_queue.specs.Runs.{refreshed_as}
+use Rattle.pc_run_queue.specs.Runs.{may_run, refreshed_as, runs_in}
 use Rattle.pc_agent.specs.declared.agent.Agent.{Agent}
 use Rattle.pc_agent.specs.declared.wire.SendFault.{SendFault}
 use Rattle.pc_agent.specs.declared.wire.SendFault.TheVariants as fault
 use Rattle.pc_agent.specs.Exchanging.{IsDelivered}
+use Rattle.pc_agent.specs.Inner.Wanted.{HoldsAll}
 use Rattle.pc_agent.specs.Own.{HasCopied, HasPartlyCopied, Publishes}
 use Rattle.pc_agent.specs.PlainAgent.{PlainAgent, Set, copied, threads_in}
 use Rattle.pc_agent.specs.Publishing.{IsCopied, IsPublished, Sending}
 use Rattle.pc_agent.specs.Shows.{ShowsAgent, ShowsDelta, ShowsPart}
-use Rattle.pc_agent.proofs.Taking.{view_takes, view_takes_some}
+use Rattle.pc_agent.proofs.Taking.{view_of_nothing, view_takes, view_takes_some}
 
 -- a part of a delta
 takes_some : (run : Run) (p : PlainAgent) (set : Set) (old new : Agent) (delta : List Part) → ShowsDelta run set delta → ShowsAgent run p old → IsPartlyTakenIn delta old.view new.view
@@ -35,6 +37,11 @@ pub delivered : (run : Run) (p : PlainAgent) (set : Set) (result : Result (Unit 
 delivered run p set (Ok done) old new delta tells h taken partly list count =
     record { view = view_takes run p.seen set old.view new.view delta h.view taken tells; list = list ∙ h.list; shown = count ∙ h.shown }
 delivered run p set (Err fault) old new delta tells h taken partly list count = takes_some run p set old new delta tells h partly list count
+
+pub partly_delivered : (run : Run) (p : PlainAgent) (set : Set) (result : Result (Unit {0}) OutOfMemory) → IsErr result → (old new : Agent) (delta : List Part) → ShowsDelta run set delta → ShowsAgent run p old
+    → IsPartlyTakenIn delta old.view new.view → new.list ≡ old.list → new.shown ≡ old.shown → IsDelivered run p set result new
+partly_delivered run p set (Ok done) e old new delta tells h partly list count = absurd (false≢true e)
+partly_delivered run p set (Err fault) e old new delta tells h partly list count = takes_some run p set old new delta tells h partly list count
 
 -- nothing is a part of every delta
 pub takes_none : (parts : List Part) (view : View) → IsPartlyTakenIn parts view view
@@ -82,3 +89,12 @@ module _ (reported : ReportsAreTold) (told : ItemsAreTold) (told_of_run : ItemsA
   published Sends (Err fault.WireFault) wire later has = (record { shows = items_tell; sent = has.0 }, counted old.shown p.shown h.shown (all_copied old.shown has.1))
   published Sends (Err fault.OutOfMemory) wire later (inl some) = inl (some_copied some.0, some.1)
   published Sends (Err fault.OutOfMemory) wire later (inr all) = inr (record { shows = items_tell; sent = all.0 }, counted old.shown p.shown h.shown (all_copied old.shown all.1))
+
+-- by a view of nothing no thread may run
+pub none_runs : ReportsAreTold → (view : View) → IsVoid (pairs_of view) → ((run : Run) → IsOfRun run view) → (cpu t : ℕ) → runs_in view cpu t ≡ false
+none_runs reported view nothing of_run cpu t =
+    let none = view_of_nothing (λ thread. []) view nothing (of_run (λ thread. [])) in
+    ap (λ state. may_run state cpu) (reported (λ thread. []) [] view t none.of_run none.seen)
+
+pub none_to_hold : ReportsAreTold → (view : View) → IsVoid (pairs_of view) → ((run : Run) → IsOfRun run view) → (cpu : ℕ) (kept : Option (BTreeSet ℕ)) → HoldsAll (runs_in view cpu) kept
+none_to_hold reported view nothing of_run cpu kept names is t e runs = absurd (false≢true (sym (none_runs reported view nothing of_run cpu t) ∙ runs))

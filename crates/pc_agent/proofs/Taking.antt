@@ -12,7 +12,6 @@ use Rattle.pc_delta.specs.Exchange.{IsTakenIn, IsPartlyTakenIn}
 use Rattle.pc_agent.specs.PlainAgent.{Set}
 use Rattle.pc_agent.specs.Shows.{ShowsDelta, ShowsView}
 use Rattle.pc_agent.proofs.Lists.{as_members-append}
-use Rattle.pc_messages.proofs.Bools.{or_left, or_right}
 
 pub view_takes : (run : Run) (set gained : Set) (old new : View) (delta : List Part) → ShowsView run set old → IsTakenIn delta old new → ShowsDelta run gained delta → ShowsView run (set ++ gained) new
 view_takes run set gained old new delta was taken tells = record {

@@ -3,13 +3,14 @@
 ghost use Rattle.std.specs.Prelude.{ℕ, ◌≡◌};
 ghost use Rattle.pc_messages.specs.Run.{Run};
 ghost use Rattle.pc_run_queue.specs.Runs.{runs_in};
-ghost use Rattle.pc_agent.specs.Inner.Wanted.{IsNoneWantedBelow};
+ghost use Rattle.pc_agent.specs.Inner.Wanted.{HoldsAll, IsNoneWantedBelow};
 
 use crate::counts::Counts;
 use pc_messages::{Cpu, Tid};
 use pc_run_queue::RunQueue;
-use pc_view::View;
+use pc_view::{View, views_tell_what_their_sets_tell};
 use std::alloc::Global;
+use std::collections::BTreeSet;
 
 /// The agent of one CPU: what it knows, which threads it would run, and how much of its queue it has sent to others.
 ///
@@ -26,6 +27,10 @@ pub struct Agent {
     /// Below this name no thread is wanted: each that the view reports ready and allowed here is in the run list. A steal
     /// begins to look here. What the kernel says plays no part in it.
     pub(crate) passed: u32,
+    /// The names of at least all threads that the view reports ready and allowed on the CPU: a steal looks at these alone.
+    /// None where memory ran out while they were kept; a steal then looks at all threads that the view knows.
+    pub(crate) runnable: Option<BTreeSet<u32>>,
+    ghost runnable_has: { HoldsAll (runs_in view cpu) runnable },
     ghost passed_over: { IsNoneWantedBelow passed (runs_in view cpu) list },
 }
 
@@ -41,6 +46,7 @@ impl Agent {
         ensures cpu { cpu_of result ≡ cpu }
         ensures counts { result.counts ≡ none_counted }
     {
+        views_tell_what_their_sets_tell();
         Agent {
             alloc,
             cpu,
@@ -49,6 +55,7 @@ impl Agent {
             shown: 0,
             counts: Counts::new(),
             passed: 0,
+            runnable: Some(BTreeSet::new(alloc)),
         }
     }
 
@@ -59,10 +66,12 @@ impl Agent {
         ensures cpu { cpu_of self.new ≡ cpu_of self.old }
         ensures counts { self.new.counts ≡ self.old.counts }
     {
-        self.passed = 0;
+        views_tell_what_their_sets_tell();
         self.view = View::new(self.alloc);
         self.list = RunQueue::new(self.alloc);
         self.shown = 0;
+        self.passed = 0;
+        self.runnable = Some(BTreeSet::new(self.alloc));
     }
 
     /// The agent's CPU.

@@ -9,6 +9,7 @@ ghost use Rattle.pc_agent.specs.Exchanging.{Delivers, IsAnswered};
 ghost use Rattle.pc_agent.specs.Shows.{cpu_of};
 
 use crate::agent::Agent;
+use crate::runnable::runnable_after;
 use crate::wire::{SendFault, Wire};
 use pc_delta::{Delta, Digest, delta_beyond, delta_since, take_in};
 use pc_join::OutOfMemory;
@@ -27,7 +28,10 @@ impl Agent {
         ensures counts { self.new.counts ≡ self.old.counts }
     {
         self.passed = 0;
-        take_in(&mut self.view, delta)
+        let runnable = self.runnable.take();
+        take_in(&mut self.view, delta)?;
+        self.runnable = runnable_after(runnable, &self.view, self.cpu, delta.parts());
+        Ok(())
     }
 
     /// Sends what the digest lacks of all that the agent knows.

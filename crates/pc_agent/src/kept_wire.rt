@@ -1,12 +1,16 @@
 //! A wire in memory.
 
-ghost use Rattle.std.specs.Prelude.{◌≡◌, List, [], false};
+ghost use Rattle.std.specs.Prelude.{◌≡◌, ◌≤◌, List, length, sum_by};
 ghost use Rattle.pc_delta.specs.declared.part.Part.{Part};
-ghost use Rattle.pc_agent.specs.Wires.{Keeps, sent_by};
+ghost use Rattle.pc_agent.specs.declared.kept_wire.TheConstants.{MOST_KEPT};
 
 use crate::wire::{SendFault, Wire};
 use pc_delta::Delta;
 use std::alloc::Global;
+
+/// The most parts that the deltas of a wire in memory have together: a send that would pass this wants memory. So a wire
+/// keeps 640 MiB at the most, whatever is sent.
+pub const MOST_KEPT: u64 = 1 << 24;
 
 /// A wire that keeps what it took, in order, so that each delta can be delivered late, again or never (own). While it is
 /// told to, it refuses every send.
@@ -15,9 +19,16 @@ pub struct KeptWire {
     sent: Vec<Delta>,
     refuses: bool,
     faults: u64,
+    /// How many parts the deltas have together.
+    kept: u64,
+    ghost counted: { kept ≡ sum_by length sent.items },
+    ghost few: { kept ≤ MOST_KEPT },
 }
 
 impl KeptWire {
+    ghost use Rattle.std.specs.Prelude.{[], false};
+    ghost use Rattle.pc_agent.specs.Wires.{sent_by};
+
     /// A wire that took nothing yet, and refuses nothing. It takes no memory.
     pub fn new(alloc: Global) -> KeptWire
         ensures sent { sent_by result ≡ [] }
@@ -28,6 +39,7 @@ impl KeptWire {
             sent: Vec::new(alloc),
             refuses: false,
             faults: 0,
+            kept: 0,
         }
     }
 
@@ -43,7 +55,8 @@ impl KeptWire {
 
     /// What it took, in order.
     pub fn sent(&self) -> &[Delta]
-        ensures { result.now ≡ sent_by self.now }
+        ensures same { result.now ≡ sent_by self.now }
+        ensures few { sum_by length result.now ≤ MOST_KEPT }
     {
         self.sent.as_slice()
     }
@@ -57,6 +70,8 @@ impl KeptWire {
 }
 
 impl Wire for KeptWire {
+    ghost use Rattle.pc_agent.specs.Wires.{Keeps};
+
     ghost Sends = { Keeps };
 
     ghost faults = { λ wire. wire.faults };
@@ -66,8 +81,15 @@ impl Wire for KeptWire {
             self.faults += 1;
             return Err(SendFault::WireFault);
         }
+        let parts = delta.parts().len() as u64;
+        if MOST_KEPT - self.kept < parts {
+            return Err(SendFault::OutOfMemory);
+        }
         match self.sent.push(delta) {
-            Ok(()) => Ok(()),
+            Ok(()) => {
+                self.kept += parts;
+                Ok(())
+            }
             Err(_) => Err(SendFault::OutOfMemory),
         }
     }

@@ -13,11 +13,12 @@ mod kept_wire;
 mod laws;
 mod pick;
 mod queue;
+mod runnable;
 mod steal;
 mod wire;
 
 pub use agent::Agent;
 pub use counts::{Counts, MOST_COUNTED};
-pub use kept_wire::KeptWire;
+pub use kept_wire::{KeptWire, MOST_KEPT};
 pub use laws::agents_stay_as_the_run_goes_on;
 pub use wire::{SendFault, Wire};

@@ -21,6 +21,7 @@ ghost use Rattle.pc_agent.specs.Publishing.{Copies, IsConsumed, IsPublished, Wha
 ghost use Rattle.pc_agent.specs.Shows.{ShowsAgent, cpu_of};
 
 use crate::agent::Agent;
+use crate::runnable::runnable_after;
 use crate::wire::{SendFault, Wire};
 use pc_calls::{CallFault, Refusal};
 use pc_delta::laws::{parts_of_items_are_of_the_run, parts_stay_as_the_run_goes_on};
@@ -66,7 +67,9 @@ impl Agent {
         let delta = Delta::of_items(self.alloc, items)?;
         let touched = threads_of(self.alloc, items)?;
         self.passed = 0;
+        let runnable = self.runnable.take();
         take_in(&mut self.view, &delta)?;
+        self.runnable = runnable_after(runnable, &self.view, self.cpu, delta.parts());
         self.list.refresh(&self.view, touched.as_slice(), self.cpu)?;
         Ok(delta)
     }

@@ -14,15 +14,17 @@ ghost use Rattle.pc_agent.specs.Publishing.{WhateverShown};
 ghost use Rattle.pc_agent.specs.Running.{Finds, IsSeenExactly, Steals, takes_up_to};
 ghost use Rattle.pc_agent.specs.Shows.{cpu_of};
 ghost use Rattle.pc_agent.specs.Inner.Goes.{GoesOn};
-ghost use Rattle.pc_agent.specs.Inner.Wanted.{AreShort, FindsFrom, IsNoneWantedBelow};
+ghost use Rattle.pc_agent.specs.Inner.Wanted.{AreShort, FindsFrom, HoldsAll, IsNoneWantedBelow};
 
 use crate::agent::Agent;
+use crate::runnable::next_runnable;
 use pc_calls::{CallFault, Refusal};
 use pc_kernel::Kernel;
 use pc_kernel::laws::accepted_associates_are_exact;
 use pc_messages::{Cpu, Tid};
 use pc_run_queue::{RunQueue, runs_on};
 use pc_view::{View, views_tell_what_their_sets_tell};
+use std::collections::BTreeSet;
 
 /// Whether the kernel knows the thread and has it on no CPU.
 fn idles(kernel: &Kernel, thread: Tid) -> bool
@@ -42,12 +44,19 @@ fn wants(view: &View, list: &RunQueue, cpu: Cpu, thread: Tid) -> bool
 }
 
 /// The least thread from one on that is wanted.
-fn next_wanted(view: &View, list: &RunQueue, cpu: Cpu, from: u32) -> Option<Tid>
+fn next_wanted(
+    view: &View,
+    runnable: &Option<BTreeSet<u32>>,
+    list: &RunQueue,
+    cpu: Cpu,
+    from: u32,
+) -> Option<Tid>
+    requires { HoldsAll (runs_in view.now cpu) runnable.now }
     ensures finds { FindsFrom (is_wanted (runs_in view.now cpu) list.now) from result }
     ensures short { AreShort (is_wanted (runs_in view.now cpu) list.now) }
 {
     let mut start = from;
-    while let Some(name) = view.next(Tid(start)) {
+    while let Some(name) = next_runnable(view, runnable, start) {
         if wants(view, list, cpu, name) {
             return Some(name);
         }
@@ -60,24 +69,38 @@ fn next_wanted(view: &View, list: &RunQueue, cpu: Cpu, from: u32) -> Option<Tid>
 }
 
 /// The least thread after this one that is wanted.
-fn wanted_after(view: &View, list: &RunQueue, cpu: Cpu, thread: Tid) -> Option<Tid>
-    requires { AreShort (is_wanted (runs_in view.now cpu) list.now) }
+fn wanted_after(
+    view: &View,
+    runnable: &Option<BTreeSet<u32>>,
+    list: &RunQueue,
+    cpu: Cpu,
+    thread: Tid,
+) -> Option<Tid>
+    requires runnable { HoldsAll (runs_in view.now cpu) runnable.now }
+    requires short { AreShort (is_wanted (runs_in view.now cpu) list.now) }
     ensures { FindsFrom (is_wanted (runs_in view.now cpu) list.now) (thread + 1) result }
 {
     match thread.index().checked_add(1) {
-        Some(from) => next_wanted(view, list, cpu, from),
+        Some(from) => next_wanted(view, runnable, list, cpu, from),
         None => None,
     }
 }
 
 /// The least thread that is wanted, to which all before are passed.
-fn pass_over(view: &View, list: &RunQueue, cpu: Cpu, passed: &mut u32) -> Option<Tid>
-    requires { IsNoneWantedBelow passed.old (runs_in view.now cpu) list.now }
+fn pass_over(
+    view: &View,
+    runnable: &Option<BTreeSet<u32>>,
+    list: &RunQueue,
+    cpu: Cpu,
+    passed: &mut u32,
+) -> Option<Tid>
+    requires runnable { HoldsAll (runs_in view.now cpu) runnable.now }
+    requires passed { IsNoneWantedBelow passed.old (runs_in view.now cpu) list.now }
     ensures finds { Finds (is_wanted (runs_in view.now cpu) list.now) result }
     ensures short { AreShort (is_wanted (runs_in view.now cpu) list.now) }
     ensures passed { IsNoneWantedBelow passed.new (runs_in view.now cpu) list.now }
 {
-    let found = next_wanted(view, list, cpu, *passed);
+    let found = next_wanted(view, runnable, list, cpu, *passed);
     *passed = match found {
         Some(name) => name.index(),
         None => u32::MAX,
@@ -89,11 +112,13 @@ fn pass_over(view: &View, list: &RunQueue, cpu: Cpu, passed: &mut u32) -> Option
 /// and has on no CPU. Each is looked at once.
 fn candidate(
     view: &View,
+    runnable: &Option<BTreeSet<u32>>,
     list: &RunQueue,
     cpu: Cpu,
     kernel: &Kernel,
     least: Option<Tid>,
 ) -> Option<Tid>
+    requires runnable { HoldsAll (runs_in view.now cpu) runnable.now }
     requires least { Finds (is_wanted (runs_in view.now cpu) list.now) least }
     requires short { AreShort (is_wanted (runs_in view.now cpu) list.now) }
     ensures { Finds (may_take (seen kernel.now) (runs_in view.now cpu) list.now) result }
@@ -103,7 +128,7 @@ fn candidate(
         if idles(kernel, thread) {
             return Some(thread);
         }
-        wanted = wanted_after(view, list, cpu, thread);
+        wanted = wanted_after(view, runnable, list, cpu, thread);
     }
     None
 }
@@ -111,12 +136,14 @@ fn candidate(
 /// A steal for a CPU, by what a view tells, into a run list.
 fn take_least(
     view: &View,
+    runnable: &Option<BTreeSet<u32>>,
     list: &mut RunQueue,
     kernel: &mut Kernel,
     cpu: Cpu,
     passed: &mut u32,
 ) -> Result<Tid, CallFault>
-    requires { IsNoneWantedBelow passed.old (runs_in view.now cpu) list.old }
+    requires runnable { HoldsAll (runs_in view.now cpu) runnable.now }
+    requires passed { IsNoneWantedBelow passed.old (runs_in view.now cpu) list.old }
     ensures takes { StealsAsSeen view.now cpu result list.old list.new kernel.old kernel.new }
     ensures goes_on { GoesOn result kernel.old kernel.new }
     ensures left { OnErr result (list.new ≡ list.old) }
@@ -125,8 +152,8 @@ fn take_least(
     if kernel.running(cpu).is_some() {
         return Err(CallFault::Refused(Refusal::Busy));
     }
-    let least = pass_over(view, list, cpu, passed);
-    let Some(thread) = candidate(view, list, cpu, kernel, least) else {
+    let least = pass_over(view, runnable, list, cpu, passed);
+    let Some(thread) = candidate(view, runnable, list, cpu, kernel, least) else {
         return Err(CallFault::Refused(Refusal::NothingToSteal));
     };
     // The name is pushed before the kernel is asked: once it has accepted, nothing may fail.
@@ -169,6 +196,7 @@ impl Agent {
         views_tell_what_their_sets_tell();
         let answered = take_least(
             &self.view,
+            &self.runnable,
             &mut self.list,
             kernel,
             self.cpu,

@@ -2,6 +2,7 @@ pub mod Bools
 pub mod Lists
 pub mod OfRun
 pub mod Intake
+pub mod Others
 pub mod Conflicts
 pub mod Pairs
 pub mod Digesting

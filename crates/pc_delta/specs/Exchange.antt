@@ -4,9 +4,9 @@ use Rattle.std.specs.List.{list_any}
 use Rattle.pc_messages.specs.Run.{Run}
 use Rattle.pc_join.specs.Sets.{Members, IsWithin, IsUnion, IsBetween}
 use Rattle.pc_view.specs.declared.view.View.{View}
-use Rattle.pc_view.specs.Views.{pairs_of, IsOfRun}
+use Rattle.pc_view.specs.Views.{pairs_of, thread_of, IsOfRun}
 use Rattle.pc_delta.specs.declared.part.Part.{Part}
-use Rattle.pc_delta.specs.Parts.{set_of_part, set_of, AreOfRun}
+use Rattle.pc_delta.specs.Parts.{set_of_part, set_of, tells_of, AreOfRun}
 use Rattle.pc_delta.specs.Digests.{RangesByName, set_of_digest}
 
 -- where the view and the parts were of a run, the view still is
@@ -22,6 +22,10 @@ pub record IsTakenIn (parts : List Part) (old new : View) : Type 0 where
 pub record IsPartlyTakenIn (parts : List Part) (old new : View) : Type 0 where
   pub between : IsBetween (pairs_of old) (set_of parts) (pairs_of new)
   pub of_run : StaysOfRun parts old new
+
+-- of a thread that no part tells of, the same is known
+abbrev pub KeepsOthers : List Part → View → View → Type 0
+KeepsOthers parts old new = (t : ℕ) → tells_of parts t ≡ false → thread_of new t ≡ thread_of old t
 
 -- a message that the asker has not, and the set has
 pub record IsNews (asked set : Members) : Type 0 where

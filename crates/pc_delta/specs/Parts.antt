@@ -1,5 +1,5 @@
 -- Parts of a delta: the messages that they tell, and the runs that they are of.
-use Rattle.std.specs.Prelude.{ℕ, ◌≡◌, List, [], ◌∷◌, map, Option, Some, None, All, flat_map}
+use Rattle.std.specs.Prelude.{ℕ, ◌==◌, ◌≡◌, Bool, List, [], ◌∷◌, map, Option, Some, None, All, flat_map}
 use Rattle.std.specs.List.{list_any, range_with_len, filter_map}
 use Rattle.pc_messages.specs.Run.{Run, kind_at}
 use Rattle.pc_messages.specs.declared.message.Item.{Item}
@@ -17,6 +17,15 @@ set_of_part (Folded thread upto reported) = prefix_pairs thread upto
 -- the messages that the parts tell
 abbrev pub set_of : List Part → Members
 set_of parts m = list_any (λ part. set_of_part part m) parts
+
+-- the thread that a part tells of
+abbrev pub thread_of_part : Part → ℕ
+thread_of_part (One message) = message.thread
+thread_of_part (Folded thread upto reported) = thread
+
+-- one of the parts tells of the thread
+abbrev pub tells_of : List Part → ℕ → Bool
+tells_of parts t = list_any (λ part. thread_of_part part == t) parts
 
 -- the part is as in the run: the message's kind, or the state of the run's first messages of the thread
 abbrev pub IsPartOfRun : Run → Part → Type 0

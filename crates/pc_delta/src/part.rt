@@ -1,7 +1,7 @@
 //! Parts of a delta.
 
 ghost use Rattle.std.specs.Prelude.{◌≡◌, IfOk};
-ghost use Rattle.pc_delta.specs.Parts.{parts_in};
+ghost use Rattle.pc_delta.specs.Parts.{parts_in, thread_of_part};
 
 use pc_join::OutOfMemory;
 use pc_messages::{Item, Message, Reported, Tid};
@@ -18,6 +18,18 @@ pub enum Part {
         upto: u32,
         reported: Reported,
     },
+}
+
+impl Part {
+    /// The thread that the part tells of.
+    pub fn thread(self) -> Tid
+        ensures { result ≡ thread_of_part self }
+    {
+        match self {
+            Part::One(message) => message.thread,
+            Part::Folded { thread, .. } => thread,
+        }
+    }
 }
 
 /// The parts that tell each message of the items.

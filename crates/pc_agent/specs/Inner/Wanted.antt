@@ -1,5 +1,8 @@
--- How far no thread is wanted, and the first that is.
+-- How far no thread is wanted, the first that is, and the names among which it has to be looked for.
 use Rattle.std.specs.Prelude.{ℕ, ◌^◌, ◌<◌, ◌≤◌, ◌≡◌, Bool, true, false, List, Option, Some, None}
+use Rattle.std.specs.Option.{ForSome}
+use Rattle.std.specs.BTreeSet.{BTreeSet, contains}
+use Rattle.std.specs.Ordering.{nat_cmp}
 use Rattle.pc_agent.specs.PlainAgent.{is_wanted}
 
 -- no thread below the number is wanted
@@ -24,3 +27,20 @@ pub record IsFirstFrom (test : ℕ → Bool) (from t : ℕ) : Type 0 where
 abbrev pub FindsFrom : (ℕ → Bool) → ℕ → Option ℕ → Type 0
 FindsFrom test from None = (t : ℕ) → from ≤ t → test t ≡ false
 FindsFrom test from (Some t) = IsFirstFrom test from t
+
+-- no number from one on passes the test before this one; none does at all, where there is no such number
+abbrev pub IsNoneBefore : (ℕ → Bool) → ℕ → Option ℕ → Type 0
+IsNoneBefore test from None = (t : ℕ) → from ≤ t → test t ≡ false
+IsNoneBefore test from (Some name) = (from ≤ name) × (name < 2 ^ 32) × ((t : ℕ) → from ≤ t → t < name → test t ≡ false)
+
+-- each number that passes the test is among the names, but for some, and fits 32 bits
+abbrev pub HasAllBut : (ℕ → Bool) → (ℕ → Bool) → BTreeSet ℕ → Type 0
+HasAllBut but test names = (t : ℕ) → but t ≡ false → test t ≡ true → (contains nat_cmp names t ≡ true) × (t < 2 ^ 32)
+
+-- the same, where names are kept
+abbrev pub HoldsAllBut : (ℕ → Bool) → (ℕ → Bool) → Option (BTreeSet ℕ) → Type 0
+HoldsAllBut but test kept = ForSome kept (HasAllBut but test)
+
+-- where names are kept, each number that passes the test is among them, and fits 32 bits
+abbrev pub HoldsAll : (ℕ → Bool) → Option (BTreeSet ℕ) → Type 0
+HoldsAll test kept = ForSome kept (HasAllBut (λ t. false) test)

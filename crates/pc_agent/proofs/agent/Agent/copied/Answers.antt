@@ -1,7 +1,9 @@
-use Rattle.std.proofs.Common.{ap, refl, subst, ◌∙◌}
+use Rattle.std.proofs.Common.{ap, refl, subst, sym, ◌∙◌}
 use Rattle.pc_delta.specs.Exchange.{IsPartlyTakenIn, IsTakenIn}
+use Rattle.pc_delta.specs.Parts.{tells_of}
 use Rattle.pc_run_queue.specs.Runs.{refreshed}
 use Rattle.pc_agent.proofs.Delivered.{has_copied, has_partly_copied}
+use Rattle.pc_agent.proofs.Kept.{held_but}
 use Rattle.pc_agent.proofs.agent.Agent.copied.Goals as goal
 
 pub returns-in_err-take_in-clause-copies : goal.returns-in_err-take_in-clause-copies
@@ -23,3 +25,8 @@ returns-clause-copies c run p are h =
       list = c.in_ok-refresh.ensures.ok ∙ ap (λ threads. refreshed c.take_in.new.view c.args.self.now.cpu c.args.self.now.list threads) (c.as_slice.ensures.value ∙ c.in_ok-touched.ensures);
       shown = refl;
     }
+
+pub runnable_after-requires : goal.runnable_after-requires
+runnable_after-requires c names is t untold runs =
+    held_but c.in_ok-delta.delta c.args.self.now.view c.take_in.new.view c.args.self.now.cpu c.args.self.now.runnable c.take_in.ensures.others c.args.self.now.runnable_has
+    names (sym c.take-runnable.ensures.value ∙ is) t (sym (ap (λ parts. tells_of parts t) c.parts.ensures.same) ∙ untold) runs

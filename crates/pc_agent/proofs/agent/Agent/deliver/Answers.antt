@@ -1,7 +1,18 @@
-use Rattle.std.proofs.Common.{refl}
-use Rattle.pc_agent.proofs.Delivered.{delivered}
+use Rattle.std.proofs.Common.{Ok, refl, sym, ap, ◌∙◌}
+use Rattle.pc_delta.specs.Parts.{tells_of}
+use Rattle.pc_agent.proofs.Delivered.{delivered, partly_delivered}
+use Rattle.pc_agent.proofs.Kept.{held_but}
 use Rattle.pc_agent.proofs.agent.Agent.deliver.Goals as goal
 
 pub returns-clause-delivers : goal.returns-clause-delivers
 returns-clause-delivers c run p set tells h =
-    delivered run p set c.take_in.result c.args.self.now _ c.args.delta.now tells h c.take_in.ensures.done c.take_in.ensures.partly refl refl
+    delivered run p set (Ok tt) c.args.self.now _ c.args.delta.now tells h c.in_ok-take_in.ensures.done c.take_in.ensures.partly refl refl
+
+pub returns-in_err-take_in-clause-delivers : goal.returns-in_err-take_in-clause-delivers
+returns-in_err-take_in-clause-delivers c run p set tells h =
+    partly_delivered run p set c.from_residual.result c.from_residual.ensures.0 c.args.self.now _ c.args.delta.now tells h c.take_in.ensures.partly refl refl
+
+pub runnable_after-requires : goal.runnable_after-requires
+runnable_after-requires c names is t untold runs =
+    held_but c.args.delta.now c.args.self.now.view c.take_in.new.view c.args.self.now.cpu c.args.self.now.runnable c.take_in.ensures.others c.args.self.now.runnable_has
+    names (sym c.take-runnable.ensures.value ∙ is) t (sym (ap (λ parts. tells_of parts t) c.parts.ensures.same) ∙ untold) runs

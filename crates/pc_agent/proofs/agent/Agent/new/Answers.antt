@@ -1,4 +1,5 @@
-use Rattle.std.proofs.Common.{refl}
+use Rattle.std.proofs.Common.{refl, arith}
+use Rattle.pc_agent.proofs.Delivered.{none_to_hold}
 use Rattle.pc_agent.proofs.Taking.{view_of_nothing}
 use Rattle.pc_agent.proofs.agent.Agent.new.Goals as goal
 
@@ -7,4 +8,10 @@ returns-clause-fresh c run = record {
   view = view_of_nothing run c.new.result c.new.ensures.nothing (c.new.ensures.of_run run);
   list = c.new-2.ensures;
   shown = refl;
+}
+
+pub invariant_of-result : goal.invariant_of-result
+invariant_of-result c = record {
+  runnable_has = none_to_hold c.views_tell_what_their_sets_tell.ensures.reported c.new.result c.new.ensures.nothing c.new.ensures.of_run c.args.cpu _;
+  passed_over = λ t lt. absurd (omega (arith, lt));
 }
