@@ -4,5 +4,6 @@ pub mod Ready
 pub mod Stolen
 pub mod Wanted
 pub mod Kept
+pub mod Settles
 pub mod Delivered
 pub mod Items

@@ -1,3 +1,4 @@
 pub mod Picks
 pub mod Goes
 pub mod Wanted
+pub mod Settled

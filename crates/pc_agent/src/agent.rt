@@ -1,8 +1,8 @@
 //! One agent.
 
-ghost use Rattle.std.specs.Prelude.{ℕ, ◌≡◌};
+ghost use Rattle.std.specs.Prelude.{ℕ, ◌≡◌, IsTrue};
 ghost use Rattle.pc_messages.specs.Run.{Run};
-ghost use Rattle.pc_run_queue.specs.Runs.{runs_in};
+ghost use Rattle.pc_run_queue.specs.Runs.{IsSettled, runs_in};
 ghost use Rattle.pc_agent.specs.Inner.Wanted.{HoldsAll, IsNoneWantedBelow};
 
 use crate::counts::Counts;
@@ -30,6 +30,10 @@ pub struct Agent {
     /// The names of at least all threads that the view reports ready and allowed on the CPU: a steal looks at these alone.
     /// None where memory ran out while they were kept; a steal then looks at all threads that the view knows.
     pub(crate) runnable: Option<BTreeSet<u32>>,
+    /// Whether it is known that a refresh that touches no thread would leave the run list as it is: then a refresh looks at
+    /// the touched threads alone.
+    pub(crate) settled: bool,
+    ghost settled_is: { IsTrue settled → IsSettled view cpu list },
     ghost runnable_has: { HoldsAll (runs_in view cpu) runnable },
     ghost passed_over: { IsNoneWantedBelow passed (runs_in view cpu) list },
 }
@@ -56,6 +60,7 @@ impl Agent {
             counts: Counts::new(),
             passed: 0,
             runnable: Some(BTreeSet::new(alloc)),
+            settled: true,
         }
     }
 
@@ -72,6 +77,7 @@ impl Agent {
         self.shown = 0;
         self.passed = 0;
         self.runnable = Some(BTreeSet::new(self.alloc));
+        self.settled = true;
     }
 
     /// The agent's CPU.

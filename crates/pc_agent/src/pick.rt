@@ -17,6 +17,7 @@ ghost use Rattle.pc_agent.specs.Running.{IsPicked, left_by};
 ghost use Rattle.pc_agent.specs.Shows.{cpu_of};
 ghost use Rattle.pc_agent.specs.Inner.Goes.{GoesOn};
 ghost use Rattle.pc_agent.specs.Inner.Picks.{CommitsFirst, Picks, unready_for};
+ghost use Rattle.pc_agent.specs.Inner.Settled.{StaysSettled};
 ghost use Rattle.pc_agent.specs.Inner.Wanted.{StaysPassed};
 
 use crate::agent::Agent;
@@ -29,6 +30,7 @@ use pc_run_queue::RunQueue;
 fn take_out(list: &mut RunQueue, passed: &mut u32) -> Option<Tid>
     ensures first { MatchOption result ((list.old ≡ []) × (list.new ≡ [])) (λ name. list.old ≡ name ∷ list.new) }
     ensures passed { StaysPassed passed.old list.old passed.new list.new }
+    ensures settled { StaysSettled list.old list.new }
 {
     match list.take_first() {
         None => None,
@@ -50,6 +52,7 @@ fn commit_first(
     ensures first { CommitsFirst cpu aseq result list.old list.new kernel.old kernel.new }
     ensures goes_on { GoesOn result kernel.old kernel.new }
     ensures passed { StaysPassed passed.old list.old passed.new list.new }
+    ensures settled { StaysSettled list.old list.new }
 {
     while let Some(name) = take_out(list, passed) {
         match kernel.commit(cpu, name, aseq) {
@@ -86,6 +89,7 @@ fn pick_from(
     ensures picks { Picks cpu aseq result list.old list.new kernel.old kernel.new }
     ensures goes_on { GoesOn result kernel.old kernel.new }
     ensures passed { StaysPassed passed.old list.old passed.new list.new }
+    ensures settled { StaysSettled list.old list.new }
 {
     if let Some(refusal) = unready(kernel, cpu, aseq) {
         return Err(refusal);

@@ -12,7 +12,7 @@ ghost use Rattle.pc_kernel.specs.PlainKernel as plain;
 ghost use Rattle.pc_kernel.specs.Steps.{refused};
 ghost use Rattle.pc_delta.specs.Exchange.{IsTakenIn, IsPartlyTakenIn};
 ghost use Rattle.pc_delta.specs.Parts.{parts_in};
-ghost use Rattle.pc_run_queue.specs.Runs.{refreshed};
+ghost use Rattle.pc_run_queue.specs.Runs.{IsSettled, refreshed};
 ghost use Rattle.pc_agent.specs.declared.counts.TheConstants.{MOST_COUNTED};
 ghost use Rattle.pc_agent.specs.Counts.{consume_counted};
 ghost use Rattle.pc_agent.specs.Own.{ConsumesAsSeen, Publishes};
@@ -21,7 +21,7 @@ ghost use Rattle.pc_agent.specs.Publishing.{Copies, IsConsumed, IsPublished, Wha
 ghost use Rattle.pc_agent.specs.Shows.{ShowsAgent, cpu_of};
 
 use crate::agent::Agent;
-use crate::runnable::runnable_after;
+use crate::runnable::{lists_none, runnable_after};
 use crate::wire::{SendFault, Wire};
 use pc_calls::{CallFault, Refusal};
 use pc_delta::laws::{parts_of_items_are_of_the_run, parts_stay_as_the_run_goes_on};
@@ -29,8 +29,9 @@ use pc_delta::{Delta, take_in};
 use pc_join::OutOfMemory;
 use pc_kernel::Kernel;
 use pc_kernel::laws::reads_are_plain;
-use pc_messages::{Item, Tid};
-use pc_view::views_tell_what_their_sets_tell;
+use pc_messages::{Cpu, Item, Tid};
+use pc_run_queue::RunQueue;
+use pc_view::{View, views_tell_what_their_sets_tell};
 use std::alloc::Global;
 
 /// The threads of the items, in their order; a tick has none.
@@ -45,6 +46,26 @@ fn threads_of(alloc: Global, items: &[Item]) -> Result<Vec<Tid>, OutOfMemory>
         }
     }
     Ok(threads)
+}
+
+/// Refreshes a run list, of which it may be known that only the touched threads can change it.
+fn refresh_list(
+    list: &mut RunQueue,
+    settled: bool,
+    view: &View,
+    touched: &[Tid],
+    cpu: Cpu,
+) -> Result<(), OutOfMemory>
+    requires { IsTrue settled → IsSettled view.now cpu list.old }
+    ensures ok { OnOk result (list.new ≡ refreshed view.now cpu list.old touched.now) }
+    ensures err { OnErr result (list.new ≡ list.old) }
+    ensures settled { OnOk result (IsSettled view.now cpu list.new) }
+{
+    if settled {
+        list.refresh_settled(view, touched, cpu)
+    } else {
+        list.refresh(view, touched, cpu)
+    }
 }
 
 impl Agent {
@@ -68,9 +89,12 @@ impl Agent {
         let touched = threads_of(self.alloc, items)?;
         self.passed = 0;
         let runnable = self.runnable.take();
+        let settled = self.settled && lists_none(&self.list, delta.parts());
+        self.settled = false;
         take_in(&mut self.view, &delta)?;
         self.runnable = runnable_after(runnable, &self.view, self.cpu, delta.parts());
-        self.list.refresh(&self.view, touched.as_slice(), self.cpu)?;
+        refresh_list(&mut self.list, settled, &self.view, touched.as_slice(), self.cpu)?;
+        self.settled = true;
         Ok(delta)
     }
 

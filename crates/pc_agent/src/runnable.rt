@@ -1,15 +1,16 @@
 //! Which threads a steal has to look at.
 
-ghost use Rattle.std.specs.Prelude.{ℕ, Bool, ◌==◌, ◌<◌, ◌^◌, ◌&&◌, not, Some, IfSome};
+ghost use Rattle.std.specs.Prelude.{ℕ, Bool, ◌==◌, ◌<◌, ◌^◌, ◌&&◌, not, Some, IfSome, IsTrue};
 ghost use Rattle.std.specs.BTreeSet.{contains};
 ghost use Rattle.std.specs.Ordering.{nat_cmp};
 ghost use Rattle.pc_delta.specs.Parts.{tells_of};
 ghost use Rattle.pc_run_queue.specs.Runs.{runs_in};
+ghost use Rattle.pc_agent.specs.Inner.Settled.{TellsOfNone};
 ghost use Rattle.pc_agent.specs.Inner.Wanted.{AreShort, FindsFrom, HoldsAll, HoldsAllBut, IsNoneBefore};
 
 use pc_delta::Part;
 use pc_messages::{Cpu, Tid};
-use pc_run_queue::runs_on;
+use pc_run_queue::{RunQueue, runs_on};
 use pc_view::View;
 use std::collections::BTreeSet;
 
@@ -74,4 +75,16 @@ pub(crate) fn runnable_after(
         kept = with_thread(kept?, view, cpu, part.thread());
     }
     kept
+}
+
+/// Whether no part tells of a thread of the list. Of a settled list it then stays so, once a view has taken the parts in.
+pub(crate) fn lists_none(list: &RunQueue, parts: &[Part]) -> bool
+    ensures { IsTrue result → TellsOfNone parts.now list.now }
+{
+    for part in parts {
+        if list.has(part.thread()) {
+            return false;
+        }
+    }
+    true
 }

@@ -202,6 +202,8 @@ impl Agent {
             self.cpu,
             &mut self.passed,
         );
+        // The thread that was taken over may stand behind others of a lower level.
+        self.settled = self.settled && answered.is_err();
         self.counts.count_steal(&answered);
         answered
     }

@@ -1,6 +1,7 @@
 use Rattle.std.proofs.Common.{◌≡◌, length}
 use Rattle.pc_kernel.specs.Reads.{seen}
 use Rattle.pc_agent.specs.PlainAgent.{ready_list}
+use Rattle.pc_agent.specs.Inner.Settled.{StaysSettled}
 use Rattle.pc_agent.specs.Inner.Wanted.{StaysPassed}
 use Rattle.pc_agent.proofs.pick.commit_first.Given as goal
 
@@ -9,6 +10,7 @@ invariant-loop-name l =
     (l.kernel ≡ l.initial.kernel)
     × (ready_list (seen l.initial.kernel) l.cpu l.aseq l.list ≡ ready_list (seen l.initial.kernel) l.cpu l.aseq l.initial.list)
     × StaysPassed l.initial.passed l.initial.list l.passed l.list
+    × StaysSettled l.initial.list l.list
 
 abbrev pub decreases-loop-name : goal.decreases-loop-name
 decreases-loop-name l = length l.list

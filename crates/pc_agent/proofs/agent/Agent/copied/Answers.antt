@@ -12,17 +12,17 @@ returns-in_err-take_in-clause-copies c run p are h =
     c.from_residual-in_err-take_in.result c.from_residual-in_err-take_in.ensures.0
     record { view = subst (λ parts. IsPartlyTakenIn parts c.args.self.now.view c.take_in.new.view) c.in_ok-delta.ensures.told c.take_in.ensures.partly; list = refl; shown = refl }
 
-pub returns-in_err-refresh-clause-copies : goal.returns-in_err-refresh-clause-copies
-returns-in_err-refresh-clause-copies c run p are h =
+pub returns-in_err-refresh_list-clause-copies : goal.returns-in_err-refresh_list-clause-copies
+returns-in_err-refresh_list-clause-copies c run p are h =
     has_partly_copied c.views_tell_what_their_sets_tell.ensures.reported c.parts_of_items_are_of_the_run.ensures.set c.parts_of_items_are_of_the_run.ensures.of_run run p c.args.items.now c.args.self.now _ are h
-    c.from_residual-in_err-refresh.result c.from_residual-in_err-refresh.ensures.0
-    record { view = subst (λ parts. IsPartlyTakenIn parts c.args.self.now.view c.take_in.new.view) c.in_ok-delta.ensures.told c.take_in.ensures.partly; list = c.in_err-refresh.ensures.err; shown = refl }
+    c.from_residual-in_err-refresh_list.result c.from_residual-in_err-refresh_list.ensures.0
+    record { view = subst (λ parts. IsPartlyTakenIn parts c.args.self.now.view c.take_in.new.view) c.in_ok-delta.ensures.told c.take_in.ensures.partly; list = c.in_err-refresh_list.ensures.err; shown = refl }
 
 pub returns-clause-copies : goal.returns-clause-copies
 returns-clause-copies c run p are h =
     has_copied c.views_tell_what_their_sets_tell.ensures.reported c.parts_of_items_are_of_the_run.ensures.set c.parts_of_items_are_of_the_run.ensures.of_run run p c.args.items.now c.args.self.now _ are h c.in_ok-delta.delta c.in_ok-delta.ensures.told record {
       view = subst (λ parts. IsTakenIn parts c.args.self.now.view c.take_in.new.view) c.in_ok-delta.ensures.told c.in_ok-take_in.ensures.done;
-      list = c.in_ok-refresh.ensures.ok ∙ ap (λ threads. refreshed c.take_in.new.view c.args.self.now.cpu c.args.self.now.list threads) (c.as_slice.ensures.value ∙ c.in_ok-touched.ensures);
+      list = c.in_ok-refresh_list.ensures.ok ∙ ap (λ threads. refreshed c.take_in.new.view c.args.self.now.cpu c.args.self.now.list threads) (c.as_slice.ensures.value ∙ c.in_ok-touched.ensures);
       shown = refl;
     }
 

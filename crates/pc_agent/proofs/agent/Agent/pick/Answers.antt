@@ -23,4 +23,4 @@ returns-clause-own c =
     picked_as_seen c.args.aseq c.pick_from-answered.result c.args.self.now _ c.args.kernel.now c.pick_from-answered.new.kernel c.pick_from-answered.ensures.picks c.pick_from-answered.ensures.goes_on.err refl refl refl c.count_pick.ensures
 
 pub invariant_of-self : goal.invariant_of-self
-invariant_of-self c = record { runnable_has = c.args.self.now.runnable_has; passed_over = c.pick_from-answered.ensures.passed _ c.args.self.now.passed_over }
+invariant_of-self c = record { settled_is = λ e. c.pick_from-answered.ensures.settled c.args.self.now.view c.args.self.now.cpu (c.args.self.now.settled_is e); runnable_has = c.args.self.now.runnable_has; passed_over = c.pick_from-answered.ensures.passed _ c.args.self.now.passed_over }

@@ -12,6 +12,7 @@ returns-clause-fresh c run = record {
 
 pub invariant_of-self : goal.invariant_of-self
 invariant_of-self c = record {
+  settled_is = λ e. refl;
   runnable_has = none_to_hold c.views_tell_what_their_sets_tell.ensures.reported c.new.result c.new.ensures.nothing c.new.ensures.of_run c.args.self.now.cpu _;
   passed_over = λ t lt. absurd (omega (arith, lt));
 }
