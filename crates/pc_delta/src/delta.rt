@@ -85,11 +85,13 @@ impl Delta {
         self.parts.as_slice()
     }
 
-    /// The delta of parts that have no fault.
+    /// The delta of parts that have no fault, in no more memory than they need: answers may wait long to be taken.
     pub(crate) fn of_faultless(parts: Vec<Part>) -> Delta
         requires { first_fault parts.items ≡ None }
         ensures { result ≡ parts.items }
     {
+        let mut parts = parts;
+        parts.shrink_to_fit();
         Delta { parts }
     }
 
