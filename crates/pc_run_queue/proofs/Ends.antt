@@ -11,7 +11,7 @@ first_there (y ∷ ys) x e = let same : y ≡ x = cc in ap (λ n. n ∷ ys) same
 pub without_first : (names : List ℕ) (x : ℕ) → AreDistinct names → slice_get names 0 ≡ Some x → names ≡ x ∷ without x names
 without_first names x distinct e = first_there names x e ∙ ap (λ l. x ∷ l) (sym (without_at names 0 x distinct e))
 
-last_there : (names : List ℕ) (place x : ℕ) → place + 1 ≡ length names → slice_get names place ≡ Some x → names ≡ remove names place ++ x ∷ []
+pub last_there : (names : List ℕ) (place x : ℕ) → place + 1 ≡ length names → slice_get names place ≡ Some x → names ≡ remove names place ++ x ∷ []
 last_there [] place x n e = absurd (omega arith)
 last_there (y ∷ []) zero x n e = let same : y ≡ x = cc in ap (λ m. m ∷ []) same
 last_there (y ∷ z ∷ ys) zero x n e = absurd (omega arith)

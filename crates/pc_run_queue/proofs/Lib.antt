@@ -3,3 +3,4 @@ pub mod Firsts
 pub mod Order
 pub mod Ends
 pub mod Sorting
+pub mod Settled

@@ -1,5 +1,5 @@
 -- Which threads may run, as a view tells, and the run list after a refresh.
-use Rattle.std.specs.Prelude.{ℕ, ◌&&◌, Bool, true, false, List, filter, Option, Some, None}
+use Rattle.std.specs.Prelude.{ℕ, ◌≡◌, ◌&&◌, Bool, true, false, List, [], filter, Option, Some, None}
 use Rattle.pc_messages.specs.Mask.{allows}
 use Rattle.pc_messages.specs.declared.reported.Phase.{Phase}
 use Rattle.pc_messages.specs.declared.reported.Phase.TheVariants as phase
@@ -43,3 +43,7 @@ refreshed_as reported cpu old touched = refreshed_by (λ t. may_run (reported t)
 -- that, by what the view reports
 abbrev pub refreshed : View → ℕ → List ℕ → List ℕ → List ℕ
 refreshed view cpu old touched = refreshed_as (reported_in view) cpu old touched
+
+-- a refresh that touches no name leaves the list as it is: each of its names may run, and none stands behind one of a lower level
+abbrev pub IsSettled : View → ℕ → List ℕ → Type 0
+IsSettled view cpu list = refreshed view cpu list [] ≡ list
