@@ -1,8 +1,7 @@
 -- Settled run lists, whose threads no part tells of.
-use Rattle.std.proofs.Common.{ℕ, ◌+◌, ◌<◌, ◌==◌, ◌||◌, ◌&&◌, ◌≡◌, Bool, true, false, List, [], ◌∷◌, length, drop, get_or, refl, sym, ap, ◌∙◌, inl, inr}
+use Rattle.std.proofs.Common.{ℕ, ◌+◌, ◌<◌, ◌==◌, ◌||◌, ◌≡◌, true, false, List, length, drop, get_or, sym, ap, ◌∙◌, inl, inr}
 use Rattle.std.proofs.lemmas.Bool.{false≢true}
 use Rattle.std.proofs.lemmas.Bool.Decides.{eqb_tells}
-use Rattle.pc_messages.proofs.Bools.{first_true, second_true}
 use Rattle.pc_view.specs.declared.view.View.{View}
 use Rattle.pc_view.specs.Prefixes.{state_told}
 use Rattle.pc_delta.specs.declared.part.Part.{Part}
@@ -29,8 +28,3 @@ one_listed_less parts i part list e lt absent t listed =
 
 pub still_settled : (parts : List Part) (old new : View) (cpu : ℕ) (list : List ℕ) → KeepsOthers parts old new → TellsOfNone parts list → IsSettled old cpu list → IsSettled new cpu list
 still_settled parts old new cpu list keeps none settled = settled_where_same old new cpu list (λ t listed. ap state_told (keeps t (none t listed))) settled
-
--- the list was settled, and no part tells of it
-pub settled_after : (parts : List Part) (old new : View) (cpu : ℕ) (list : List ℕ) (was none : Bool) → KeepsOthers parts old new → (none ≡ true → TellsOfNone parts list) → (was ≡ true → IsSettled old cpu list)
-    → (was && none) ≡ true → IsSettled new cpu list
-settled_after parts old new cpu list was none keeps tells settled both = still_settled parts old new cpu list keeps (tells (second_true was none both)) (settled (first_true was none both))

@@ -9,7 +9,7 @@ ghost use Rattle.pc_agent.specs.Exchanging.{Delivers, IsAnswered};
 ghost use Rattle.pc_agent.specs.Shows.{cpu_of};
 
 use crate::agent::Agent;
-use crate::runnable::{lists_none, runnable_after};
+use crate::runnable::{runnable_after, stays_settled};
 use crate::wire::{SendFault, Wire};
 use pc_delta::{Delta, Digest, delta_beyond, delta_since, take_in};
 use pc_join::OutOfMemory;
@@ -28,11 +28,12 @@ impl Agent {
         ensures counts { self.new.counts ≡ self.old.counts }
     {
         self.passed = 0;
+        let parts = delta.parts();
         let runnable = self.runnable.take();
-        let settled = self.settled && lists_none(&self.list, delta.parts());
+        let settled = stays_settled(self.settled, &self.list, parts);
         self.settled = false;
         take_in(&mut self.view, delta)?;
-        self.runnable = runnable_after(runnable, &self.view, self.cpu, delta.parts());
+        self.runnable = runnable_after(runnable, &self.view, self.cpu, parts);
         self.settled = settled;
         Ok(())
     }

@@ -21,7 +21,7 @@ ghost use Rattle.pc_agent.specs.Publishing.{Copies, IsConsumed, IsPublished, Wha
 ghost use Rattle.pc_agent.specs.Shows.{ShowsAgent, cpu_of};
 
 use crate::agent::Agent;
-use crate::runnable::{lists_none, runnable_after};
+use crate::runnable::{runnable_after, stays_settled};
 use crate::wire::{SendFault, Wire};
 use pc_calls::{CallFault, Refusal};
 use pc_delta::laws::{parts_of_items_are_of_the_run, parts_stay_as_the_run_goes_on};
@@ -88,12 +88,19 @@ impl Agent {
         let delta = Delta::of_items(self.alloc, items)?;
         let touched = threads_of(self.alloc, items)?;
         self.passed = 0;
+        let parts = delta.parts();
         let runnable = self.runnable.take();
-        let settled = self.settled && lists_none(&self.list, delta.parts());
+        let settled = stays_settled(self.settled, &self.list, parts);
         self.settled = false;
         take_in(&mut self.view, &delta)?;
-        self.runnable = runnable_after(runnable, &self.view, self.cpu, delta.parts());
-        refresh_list(&mut self.list, settled, &self.view, touched.as_slice(), self.cpu)?;
+        self.runnable = runnable_after(runnable, &self.view, self.cpu, parts);
+        refresh_list(
+            &mut self.list,
+            settled,
+            &self.view,
+            touched.as_slice(),
+            self.cpu,
+        )?;
         self.settled = true;
         Ok(delta)
     }

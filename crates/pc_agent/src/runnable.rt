@@ -41,12 +41,7 @@ pub(crate) fn next_runnable(view: &View, runnable: &Option<BTreeSet<u32>>, from:
 }
 
 /// Keeps the thread's name, or drops it, as the view now reports the thread. None, where memory runs out.
-fn with_thread(
-    names: BTreeSet<u32>,
-    view: &View,
-    cpu: Cpu,
-    thread: Tid,
-) -> Option<BTreeSet<u32>>
+fn with_thread(names: BTreeSet<u32>, view: &View, cpu: Cpu, thread: Tid) -> Option<BTreeSet<u32>>
     ensures { (but : ℕ → Bool) → HoldsAllBut but (runs_in view.now cpu) (Some names)
         → HoldsAllBut (λ t. but t && not (thread == t)) (runs_in view.now cpu) result }
 {
@@ -77,8 +72,8 @@ pub(crate) fn runnable_after(
     kept
 }
 
-/// Whether no part tells of a thread of the list. Of a settled list it then stays so, once a view has taken the parts in.
-pub(crate) fn lists_none(list: &RunQueue, parts: &[Part]) -> bool
+/// Whether no part tells of a thread of the list.
+fn lists_none(list: &RunQueue, parts: &[Part]) -> bool
     ensures { IsTrue result → TellsOfNone parts.now list.now }
 {
     for part in parts {
@@ -87,4 +82,11 @@ pub(crate) fn lists_none(list: &RunQueue, parts: &[Part]) -> bool
         }
     }
     true
+}
+
+/// Whether a list that may be settled stays so, once a view has taken the parts in.
+pub(crate) fn stays_settled(settled: bool, list: &RunQueue, parts: &[Part]) -> bool
+    ensures { IsTrue result → IsTrue settled × TellsOfNone parts.now list.now }
+{
+    settled && lists_none(list, parts)
 }

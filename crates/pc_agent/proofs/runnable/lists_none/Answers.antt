@@ -1,4 +1,4 @@
-use Rattle.std.proofs.Common.{refl, sym, ap, ◌∙◌}
+use Rattle.std.proofs.Common.{sym, ap, ◌∙◌}
 use Rattle.pc_delta.specs.Parts.{tells_of}
 use Rattle.pc_delta.proofs.Lists.{none_left}
 use Rattle.pc_run_queue.specs.Names.{has_name}

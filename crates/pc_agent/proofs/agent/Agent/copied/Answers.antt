@@ -3,7 +3,9 @@ use Rattle.pc_delta.specs.Exchange.{IsPartlyTakenIn, IsTakenIn}
 use Rattle.pc_delta.specs.Parts.{tells_of}
 use Rattle.pc_run_queue.specs.Runs.{refreshed}
 use Rattle.pc_agent.proofs.Delivered.{has_copied, has_partly_copied}
+use Rattle.pc_agent.specs.Inner.Settled.{TellsOfNone}
 use Rattle.pc_agent.proofs.Kept.{held_but}
+use Rattle.pc_agent.proofs.Settles.{still_settled}
 use Rattle.pc_agent.proofs.agent.Agent.copied.Goals as goal
 
 pub returns-in_err-take_in-clause-copies : goal.returns-in_err-take_in-clause-copies
@@ -29,4 +31,10 @@ returns-clause-copies c run p are h =
 pub runnable_after-requires : goal.runnable_after-requires
 runnable_after-requires c names is t untold runs =
     held_but c.in_ok-delta.delta c.args.self.now.view c.take_in.new.view c.args.self.now.cpu c.args.self.now.runnable c.take_in.ensures.others c.args.self.now.runnable_has
-    names (sym c.take-runnable.ensures.value ∙ is) t (sym (ap (λ parts. tells_of parts t) c.parts.ensures.same) ∙ untold) runs
+    names (sym c.take-runnable.ensures.value ∙ is) t (sym (ap (λ parts. tells_of parts t) c.parts-parts.ensures.same) ∙ untold) runs
+
+pub refresh_list-requires : goal.refresh_list-requires
+refresh_list-requires c e =
+    let stays = c.stays_settled-settled.ensures e in
+    still_settled c.in_ok-delta.delta c.args.self.now.view c.take_in.new.view c.args.self.now.cpu c.args.self.now.list c.take_in.ensures.others
+    (subst (λ parts. TellsOfNone parts c.args.self.now.list) c.parts-parts.ensures.same stays.1) (c.args.self.now.settled_is stays.0)

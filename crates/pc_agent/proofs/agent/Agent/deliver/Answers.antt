@@ -1,7 +1,9 @@
-use Rattle.std.proofs.Common.{Ok, refl, sym, ap, ◌∙◌}
+use Rattle.std.proofs.Common.{Ok, refl, subst, sym, ap, ◌∙◌}
 use Rattle.pc_delta.specs.Parts.{tells_of}
 use Rattle.pc_agent.proofs.Delivered.{delivered, partly_delivered}
+use Rattle.pc_agent.specs.Inner.Settled.{TellsOfNone}
 use Rattle.pc_agent.proofs.Kept.{held_but}
+use Rattle.pc_agent.proofs.Settles.{still_settled}
 use Rattle.pc_agent.proofs.agent.Agent.deliver.Goals as goal
 
 pub returns-clause-delivers : goal.returns-clause-delivers
@@ -15,4 +17,10 @@ returns-in_err-take_in-clause-delivers c run p set tells h =
 pub runnable_after-requires : goal.runnable_after-requires
 runnable_after-requires c names is t untold runs =
     held_but c.args.delta.now c.args.self.now.view c.take_in.new.view c.args.self.now.cpu c.args.self.now.runnable c.take_in.ensures.others c.args.self.now.runnable_has
-    names (sym c.take-runnable.ensures.value ∙ is) t (sym (ap (λ parts. tells_of parts t) c.parts.ensures.same) ∙ untold) runs
+    names (sym c.take-runnable.ensures.value ∙ is) t (sym (ap (λ parts. tells_of parts t) c.parts-parts.ensures.same) ∙ untold) runs
+
+pub invariant_of-self-2-clause-settled_is : goal.invariant_of-self-2-clause-settled_is
+invariant_of-self-2-clause-settled_is c e =
+    let stays = c.stays_settled-settled.ensures e in
+    still_settled c.args.delta.now c.args.self.now.view c.take_in.new.view c.args.self.now.cpu c.args.self.now.list c.take_in.ensures.others
+    (subst (λ parts. TellsOfNone parts c.args.self.now.list) c.parts-parts.ensures.same stays.1) (c.args.self.now.settled_is stays.0)

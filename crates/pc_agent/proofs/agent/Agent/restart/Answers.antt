@@ -1,4 +1,5 @@
-use Rattle.std.proofs.Common.{refl, arith}
+use Rattle.std.proofs.Common.{arith, refl, subst, sym}
+use Rattle.pc_run_queue.specs.Runs.{IsSettled}
 use Rattle.pc_agent.proofs.Delivered.{none_to_hold}
 use Rattle.pc_agent.proofs.Taking.{view_of_nothing}
 use Rattle.pc_agent.proofs.agent.Agent.restart.Goals as goal
@@ -12,7 +13,7 @@ returns-clause-fresh c run = record {
 
 pub invariant_of-self : goal.invariant_of-self
 invariant_of-self c = record {
-  settled_is = λ e. refl;
+  settled_is = λ e. subst (IsSettled c.new.result c.args.self.now.cpu) (sym c.new-2.ensures) refl;
   runnable_has = none_to_hold c.views_tell_what_their_sets_tell.ensures.reported c.new.result c.new.ensures.nothing c.new.ensures.of_run c.args.self.now.cpu _;
   passed_over = λ t lt. absurd (omega (arith, lt));
 }
