@@ -9,7 +9,7 @@ use Rattle.pc_world.proofs.parts.Parts.publish.Goals as goal
 pub returns-in-Ok : goal.returns-in-Ok
 returns-in-Ok c =
     publish_done c.runs_go_on.ensures c.args.self.now _ c.args.cpu c.in-Some.place c.index_mut.result.now c.publish.new.self c.in-Some.ensures c.index_mut.ensures.value refl c.args.fails c.set_refuses.new.self c.set_refuses.ensures.sent c.set_refuses.ensures.refuses refl
-    _ c.in-Ok.items (ap length c.sent.ensures) c.in-Ok.ensures.publishes
+    _ c.in-Ok.items (ap length c.sent.ensures.same) c.in-Ok.ensures.publishes
 
 pub returns-in-Err-WireFault : goal.returns-in-Err-WireFault
 returns-in-Err-WireFault c =
