@@ -68,6 +68,35 @@ fn refreshed(alloc: Global, view: &View, touched: &[Tid], cpu: Cpu) -> Result<Ru
     Ok(queue)
 }
 
+// The list on the CPU after a refresh, and then one of the settled list.
+fn refreshed_twice(
+    alloc: Global,
+    view: &View,
+    first: &[Tid],
+    then: &[Tid],
+    cpu: Cpu,
+) -> Result<RunQueue, Fail> {
+    let mut queue = RunQueue::new(alloc);
+    queue.refresh(view, first, cpu)?;
+    queue.refresh_settled(view, then, cpu)?;
+    Ok(queue)
+}
+
+// The list on the CPU after a refresh, of which the first name leaves and is touched again.
+fn taken_and_touched(
+    alloc: Global,
+    view: &View,
+    first: &[Tid],
+    cpu: Cpu,
+) -> Result<RunQueue, Fail> {
+    let mut queue = RunQueue::new(alloc);
+    queue.refresh(view, first, cpu)?;
+    if let Some(name) = queue.take_first() {
+        queue.refresh_settled(view, &[name], cpu)?;
+    }
+    Ok(queue)
+}
+
 #[test]
 fn those_that_may_run_are_listed_once(rt: HostRuntime) -> Result<(), Fail> {
     let view = mixed(rt.alloc())?;
@@ -156,5 +185,46 @@ fn names_leave_from_both_ends(rt: HostRuntime) -> Result<(), Fail> {
     assert!(rt; queue.take_first().is_none());
     assert!(rt; queue.take_last().is_none());
     assert!(rt; !queue.has(Tid(0)));
+    Ok(())
+}
+
+#[test]
+fn touched_names_of_one_level_stand_at_the_end_of_a_settled_list(
+    rt: HostRuntime,
+) -> Result<(), Fail> {
+    let view = ready(rt.alloc())?;
+    let touched = [Tid(0), Tid(2), Tid(1), Tid(0)];
+    let queue = refreshed_twice(rt.alloc(), &view, &[Tid(2)], &touched, Cpu(0))?;
+    assert!(rt; lists(&queue, &[2, 0, 1]));
+    let turned = taken_and_touched(rt.alloc(), &view, &touched, Cpu(0))?;
+    assert!(rt; lists(&turned, &[2, 1, 0]));
+    Ok(())
+}
+
+#[test]
+fn a_touched_name_of_a_higher_level_stands_before_a_settled_list(
+    rt: HostRuntime,
+) -> Result<(), Fail> {
+    let mut view = ready(rt.alloc())?;
+    raise(&mut view, 1, Level::new(5)?)?;
+    let before = refreshed_twice(rt.alloc(), &view, &[Tid(0), Tid(2)], &[Tid(1)], Cpu(0))?;
+    assert!(rt; lists(&before, &[1, 0, 2]));
+    let behind = refreshed_twice(rt.alloc(), &view, &[Tid(1)], &[Tid(2), Tid(0)], Cpu(0))?;
+    assert!(rt; lists(&behind, &[1, 2, 0]));
+    let among = refreshed_twice(rt.alloc(), &view, &[], &[Tid(0), Tid(1), Tid(2)], Cpu(0))?;
+    assert!(rt; lists(&among, &[1, 0, 2]));
+    let turned = taken_and_touched(rt.alloc(), &view, &[Tid(0), Tid(1)], Cpu(0))?;
+    assert!(rt; lists(&turned, &[1, 0]));
+    Ok(())
+}
+
+#[test]
+fn a_settled_list_stays_where_a_touched_name_may_not_run(rt: HostRuntime) -> Result<(), Fail> {
+    let view = mixed(rt.alloc())?;
+    let touched = [Tid(1), Tid(2), Tid(7)];
+    let queue = refreshed_twice(rt.alloc(), &view, &[Tid(0)], &touched, Cpu(0))?;
+    assert!(rt; lists(&queue, &[0]));
+    let other = refreshed_twice(rt.alloc(), &view, &[Tid(0)], &touched, Cpu(1))?;
+    assert!(rt; lists(&other, &[0, 2]));
     Ok(())
 }
