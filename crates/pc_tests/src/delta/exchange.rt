@@ -46,13 +46,6 @@ fn deltas_are_taken_in(rt: HostRuntime) -> Result<(), Fail> {
 }
 
 #[test]
-fn a_part_tells_of_its_thread(rt: HostRuntime) -> Result<(), Fail> {
-    assert_eq!(rt; one(7, 2, Kind::Wakeup).thread().index(), 7);
-    assert_eq!(rt; folded(3, 0)?.thread().index(), 0);
-    Ok(())
-}
-
-#[test]
 fn messages_alone_are_taken_in(rt: HostRuntime) -> Result<(), Fail> {
     let mut view = View::new(rt.alloc());
     take_in(&mut view, &delta(rt.alloc(), &[one(0, 2, Kind::Wakeup)])?)?;
