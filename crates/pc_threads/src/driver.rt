@@ -10,7 +10,7 @@ ghost use Rattle.pc_threads.specs.Totals.{created_by, ran_by, told_by};
 use crate::config::{Step, ThreadPlan};
 use crate::gate::{Driven, Gate};
 use crate::ledgers::{Names, Purse};
-use crate::notes::{Note, Quit, Word};
+use crate::notes::{Quit, Word};
 use crate::settling::RunFault;
 use crate::tallied::Tallied;
 use crate::turns::Desk;
@@ -144,7 +144,7 @@ fn leave<N: Names>(
 /// Tells the agent that the post woke, where it woke one.
 fn tell_woken<N: Names, R: Wait>(rt: &R, desk: &Desk<N>, posted: &Posted) -> Result<(), RunFault> {
     match posted.woken {
-        Some(cpu) => match desk.lines.tell(rt, cpu, Note::Wake) {
+        Some(cpu) => match desk.lines.wake(rt, cpu) {
             Ok(()) => Ok(()),
             Err(Quit::OutOfMemory) => Err(RunFault::OutOfMemory),
             Err(Quit::GaveUp) => Err(RunFault::Driver(Refusal::IdleCpu)),

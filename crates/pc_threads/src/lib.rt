@@ -12,6 +12,7 @@ mod gate;
 mod ledgers;
 mod line;
 mod notes;
+mod place;
 mod report;
 mod row;
 mod runner;

@@ -1,32 +1,32 @@
-//! A channel to one agent, as what an agent answers by.
+//! One agent's inbox, as what another agent answers by.
 
 ghost use Rattle.std.specs.Prelude.{◌≡◌, ◌+◌, Result, Ok, Err};
 
-use crate::notes::{Lines, Note, Quit};
+use crate::notes::{Inbox, Quit};
 use pc_agent::{SendFault, Wire};
 use pc_delta::Delta;
 use pc_messages::Cpu;
 use std::alloc::Global;
 use std::sync::{Arc, Wait};
 
-/// The channel to the CPU's agent. A send is refused where the channel is disconnected.
+/// The inbox of the one that asks, and the CPU of the one that answers. A send is refused where the channel is disconnected.
 #[derive(Drop)]
 pub(crate) struct Line<'a, R: Wait> {
     rt: &'a R,
     alloc: Global,
-    lines: &'a Lines,
+    inbox: &'a Inbox,
     cpu: Cpu,
     faults: u64,
 }
 
 impl<'a, R: Wait> Line<'a, R> {
-    pub(crate) fn to(rt: &'a R, alloc: Global, lines: &'a Lines, cpu: Cpu) -> Line<'a, R>
+    pub(crate) fn new(rt: &'a R, alloc: Global, inbox: &'a Inbox, cpu: Cpu) -> Line<'a, R>
         ensures { result.faults ≡ 0 }
     {
         Line {
             rt,
             alloc,
-            lines,
+            inbox,
             cpu,
             faults: 0,
         }
@@ -42,7 +42,7 @@ impl<'a, R: Wait> Wire for Line<'a, R> {
         let Ok(delta) = Arc::new(self.alloc, delta) else {
             return Err(SendFault::OutOfMemory);
         };
-        match self.lines.tell(self.rt, self.cpu, Note::Delta(delta)) {
+        match self.inbox.answer(self.rt, self.cpu, delta) {
             Ok(()) => Ok(()),
             Err(Quit::OutOfMemory) => Err(SendFault::OutOfMemory),
             Err(Quit::GaveUp) => {

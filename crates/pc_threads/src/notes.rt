@@ -1,7 +1,7 @@
 //! What the threads of a run tell each other.
 
+use crate::place::Place;
 use crossbeam_channel::{Receiver, SendError, Sender};
-use pc_agent::{MOST_COUNTED, SendFault, Wire};
 use pc_delta::{Delta, Digest};
 use pc_messages::Cpu;
 use std::alloc::{AllocError, AllocFailed, Global};
@@ -9,13 +9,15 @@ use std::sync::{Arc, Wait};
 
 /// What an agent is told. What several are told is shared by them.
 #[derive(Drop)]
-pub(crate) enum Note {
+enum Note {
     /// Its queue was posted to while it slept.
     Wake,
     /// What another agent has learnt.
     Delta(Arc<Delta, Global>),
-    /// What the agent of the CPU with this index knows, which asks for the rest.
-    Digest(u8, Arc<Digest, Global>),
+    /// What the agent of the CPU with this index answers waits in its place.
+    Answered(u8),
+    /// What the agent of the CPU with this index knows, which asks for the rest, waits in its place.
+    Asked(u8),
     /// All threads are dead, or the run is given up.
     Stop,
 }
@@ -38,40 +40,149 @@ pub(crate) enum Quit {
     GaveUp,
 }
 
+/// What one agent has for another that has not taken it yet.
+#[derive(Drop)]
+struct Waiting {
+    /// What it last answered.
+    answer: Place<Arc<Delta, Global>>,
+    /// What it knew when it last asked.
+    digest: Place<Arc<Digest, Global>>,
+}
+
+/// What an agent is told, in the order in which it takes it. Of what another agent asks or answers only the last waits: that agent
+/// asks for no less than before, or has started again; and since it knows no less than before, it answers all of what it answered
+/// before but what was known to the asker by then. So what waits stays below a bound, however often agents ask.
+#[derive(Drop)]
+pub(crate) struct Inbox {
+    to: Sender<Note>,
+    at: Receiver<Note>,
+    /// By the CPUs of those that ask and answer.
+    waiting: Vec<Waiting>,
+}
+
+impl Inbox {
+    /// The inbox of one of so many agents.
+    fn new(alloc: Global, cpus: u8) -> Result<Inbox, AllocError> {
+        let (to, at) = crossbeam_channel::unbounded(alloc)?;
+        let mut waiting = Vec::with_capacity(alloc, cpus as usize)?;
+        for _ in 0..cpus {
+            waiting.push(Waiting {
+                answer: Place::new(),
+                digest: Place::new(),
+            })?;
+        }
+        Ok(Inbox { to, at, waiting })
+    }
+
+    /// What the agent of this CPU has for the owner.
+    fn from(&self, cpu: Cpu) -> Result<&Waiting, Quit> {
+        self.waiting.get(cpu.index() as usize).ok_or(Quit::GaveUp)
+    }
+
+    /// Tells the owner.
+    fn tell<R: Wait>(&self, rt: &R, note: Note) -> Result<(), Quit> {
+        match self.to.send(rt, note) {
+            Ok(()) => Ok(()),
+            Err(SendError::OutOfMemory(_)) => Err(Quit::OutOfMemory),
+            Err(SendError::Disconnected(_)) => Err(Quit::GaveUp),
+        }
+    }
+
+    /// Asks the owner for what the agent of this CPU lacks.
+    fn ask<R: Wait>(&self, rt: &R, cpu: Cpu, digest: Arc<Digest, Global>) -> Result<(), Quit> {
+        match self.from(cpu)?.digest.put(rt, digest) {
+            Some(_) => Ok(()),
+            None => self.tell(rt, Note::Asked(cpu.index())),
+        }
+    }
+
+    /// Answers the owner what the agent of this CPU knows.
+    pub(crate) fn answer<R: Wait>(
+        &self,
+        rt: &R,
+        cpu: Cpu,
+        delta: Arc<Delta, Global>,
+    ) -> Result<(), Quit> {
+        match self.from(cpu)?.answer.put(rt, delta) {
+            Some(_) => Ok(()),
+            None => self.tell(rt, Note::Answered(cpu.index())),
+        }
+    }
+
+    /// Has what the agent of this CPU answered last wait in the channel, where no later answer takes its place.
+    fn keep_answer<R: Wait>(&self, rt: &R, cpu: Cpu) -> Result<(), Quit> {
+        match self.from(cpu)?.answer.take(rt) {
+            Some(delta) => self.tell(rt, Note::Delta(delta)),
+            None => Ok(()),
+        }
+    }
+
+    /// Waits for the next thing that the owner is told.
+    pub(crate) fn take<R: Wait>(&self, rt: &R) -> Result<Told, Quit> {
+        let Ok(note) = self.at.recv(rt) else {
+            return Err(Quit::GaveUp);
+        };
+        Ok(match note {
+            Note::Wake => Told::Nothing,
+            Note::Delta(delta) => Told::Delta(delta),
+            Note::Answered(cpu) => match self.from(Cpu(cpu))?.answer.take(rt) {
+                Some(delta) => Told::Delta(delta),
+                None => Told::Nothing,
+            },
+            Note::Asked(cpu) => match self.from(Cpu(cpu))?.digest.take(rt) {
+                Some(digest) => Told::Digest(Cpu(cpu), digest),
+                None => Told::Nothing,
+            },
+            Note::Stop => Told::End,
+        })
+    }
+}
+
+/// What an agent takes from its inbox.
+#[derive(Drop)]
+pub(crate) enum Told {
+    /// Nothing but that something happened.
+    Nothing,
+    /// What another agent has learnt, or answers.
+    Delta(Arc<Delta, Global>),
+    /// What the CPU's agent knows, which asks for the rest.
+    Digest(Cpu, Arc<Digest, Global>),
+    /// That the run ends.
+    End,
+}
+
 /// The channels of a run. All their ends are kept until every thread has ended.
 #[derive(Drop)]
 pub(crate) struct Lines {
-    pub(crate) to_agents: Vec<Sender<Note>>,
-    pub(crate) at_agents: Vec<Receiver<Note>>,
-    pub(crate) to_driver: Sender<Word>,
+    /// By CPUs.
+    inboxes: Vec<Inbox>,
+    to_driver: Sender<Word>,
     pub(crate) at_driver: Receiver<Word>,
 }
 
 impl Lines {
     /// The channels of so many agents.
     pub(crate) fn new(alloc: Global, cpus: u8) -> Result<Lines, AllocError> {
-        let mut to_agents = Vec::with_capacity(alloc, cpus as usize)?;
-        let mut at_agents = Vec::with_capacity(alloc, cpus as usize)?;
+        let mut inboxes = Vec::with_capacity(alloc, cpus as usize)?;
         for _ in 0..cpus {
-            let (to, at) = crossbeam_channel::unbounded(alloc)?;
-            to_agents.push(to)?;
-            at_agents.push(at)?;
+            inboxes.push(Inbox::new(alloc, cpus)?)?;
         }
         let (to_driver, at_driver) = crossbeam_channel::unbounded(alloc)?;
         Ok(Lines {
-            to_agents,
-            at_agents,
+            inboxes,
             to_driver,
             at_driver,
         })
     }
 
-    /// Tells the CPU's agent.
-    pub(crate) fn tell<R: Wait>(&self, rt: &R, cpu: Cpu, note: Note) -> Result<(), Quit> {
-        match self.to_agents.get(cpu.index() as usize) {
-            Some(to) => send(rt, to, note),
-            None => Err(Quit::GaveUp),
-        }
+    /// The inbox of the CPU's agent.
+    pub(crate) fn of(&self, cpu: Cpu) -> Result<&Inbox, Quit> {
+        self.inboxes.get(cpu.index() as usize).ok_or(Quit::GaveUp)
+    }
+
+    /// Tells the CPU's agent that its queue was posted to.
+    pub(crate) fn wake<R: Wait>(&self, rt: &R, cpu: Cpu) -> Result<(), Quit> {
+        self.of(cpu)?.tell(rt, Note::Wake)
     }
 
     /// Tells every agent but the CPU's what that one has learnt.
@@ -81,13 +192,9 @@ impl Lines {
         cpu: Cpu,
         delta: &Arc<Delta, Global>,
     ) -> Result<(), Quit> {
-        for place in 0..self.to_agents.len() {
+        for place in 0..self.inboxes.len() {
             if place != cpu.index() as usize {
-                send(
-                    rt,
-                    &self.to_agents[place],
-                    Note::Delta(Arc::try_clone(delta)?),
-                )?;
+                self.inboxes[place].tell(rt, Note::Delta(Arc::try_clone(delta)?))?;
             }
         }
         Ok(())
@@ -100,14 +207,18 @@ impl Lines {
         cpu: Cpu,
         digest: &Arc<Digest, Global>,
     ) -> Result<(), Quit> {
-        for place in 0..self.to_agents.len() {
+        for place in 0..self.inboxes.len() {
             if place != cpu.index() as usize {
-                send(
-                    rt,
-                    &self.to_agents[place],
-                    Note::Digest(cpu.index(), Arc::try_clone(digest)?),
-                )?;
+                self.inboxes[place].ask(rt, cpu, Arc::try_clone(digest)?)?;
             }
+        }
+        Ok(())
+    }
+
+    /// Has all that the CPU's agent answered and that waits stay, before that agent forgets what it knows.
+    pub(crate) fn keep_answers<R: Wait>(&self, rt: &R, cpu: Cpu) -> Result<(), Quit> {
+        for place in 0..self.inboxes.len() {
+            self.inboxes[place].keep_answer(rt, cpu)?;
         }
         Ok(())
     }
@@ -123,8 +234,8 @@ impl Lines {
 
     /// Tells all agents to end. One for whose note there is no memory may wait on.
     pub(crate) fn stop_all<R: Wait>(&self, rt: &R) {
-        for to in self.to_agents.iter() {
-            let _ = send(rt, to, Note::Stop);
+        for inbox in self.inboxes.iter() {
+            let _ = inbox.tell(rt, Note::Stop);
         }
     }
 }
@@ -138,13 +249,5 @@ impl<T: Drop> From<AllocFailed<T>> for Quit {
 impl From<AllocError> for Quit {
     fn from(_: AllocError) -> Quit {
         Quit::OutOfMemory
-    }
-}
-
-fn send<R: Wait>(rt: &R, to: &Sender<Note>, note: Note) -> Result<(), Quit> {
-    match to.send(rt, note) {
-        Ok(()) => Ok(()),
-        Err(SendError::OutOfMemory(_)) => Err(Quit::OutOfMemory),
-        Err(SendError::Disconnected(_)) => Err(Quit::GaveUp),
     }
 }

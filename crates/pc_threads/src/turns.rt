@@ -8,7 +8,7 @@ use crate::config::Config;
 use crate::gate::{Gate, Point};
 use crate::ledgers::Names;
 use crate::line::Line;
-use crate::notes::{Lines, Note, Quit, Word};
+use crate::notes::{Lines, Quit, Told, Word};
 use crate::tallied::Tallied;
 use crate::worker::Worker;
 use pc_agent::SendFault;
@@ -71,7 +71,9 @@ fn ask_peers<N: Names, R: Wait>(
 
 /// Starts again, and asks the others.
 fn restart<N: Names, R: Wait>(rt: &R, desk: &Desk<N>, worker: &mut Worker<N>) -> Result<(), Quit> {
-    desk.tallied.lock(rt).rouse(worker.agent.cpu())?;
+    let cpu = worker.agent.cpu();
+    desk.tallied.lock(rt).rouse(cpu)?;
+    desk.lines.keep_answers(rt, cpu)?;
     worker.restart();
     ask_peers(rt, desk, worker)
 }
@@ -112,28 +114,19 @@ fn take_note<N: Names, R: Wait>(
     desk: &Desk<N>,
     worker: &mut Worker<N>,
 ) -> Result<bool, Quit> {
-    let Some(inbox) = desk
-        .lines
-        .at_agents
-        .get(worker.agent.cpu().index() as usize)
-    else {
-        return Err(Quit::GaveUp);
-    };
-    match inbox.recv(rt) {
-        Ok(Note::Wake) => Ok(false),
-        Ok(Note::Delta(delta)) => {
+    let cpu = worker.agent.cpu();
+    match desk.lines.of(cpu)?.take(rt)? {
+        Told::Nothing => Ok(false),
+        Told::Delta(delta) => {
             worker.deliver(&delta)?;
             Ok(false)
         }
-        Ok(Note::Digest(from, digest)) => {
-            worker.agent.answer(
-                &digest,
-                &mut Line::to(rt, desk.alloc, &desk.lines, Cpu(from)),
-            )?;
+        Told::Digest(asker, digest) => {
+            let mut line = Line::new(rt, desk.alloc, desk.lines.of(asker)?, cpu);
+            worker.agent.answer(&digest, &mut line)?;
             Ok(false)
         }
-        Ok(Note::Stop) => Ok(true),
-        Err(_) => Err(Quit::GaveUp),
+        Told::End => Ok(true),
     }
 }
 
