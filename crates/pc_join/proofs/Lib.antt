@@ -1,4 +1,5 @@
 pub mod Apart
+pub mod Blocks
 pub mod Counts
 pub mod Joins
 pub mod Names

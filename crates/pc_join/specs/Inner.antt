@@ -6,3 +6,4 @@ pub mod RangeLaws
 pub mod Upto
 pub mod Puts
 pub mod NameLaws
+pub mod Blocks

@@ -7,6 +7,7 @@
 mod by_name;
 mod join;
 pub mod laws;
+mod name_set;
 mod numbers;
 mod turn;
 mod upto;
@@ -14,6 +15,7 @@ mod walk;
 
 pub use by_name::ByName;
 pub use join::{Join, OutOfMemory};
+pub use name_set::NameSet;
 pub use numbers::Numbers;
 pub use turn::{Turn, next_turn};
 pub use upto::Upto;
