@@ -1,7 +1,7 @@
 -- Names that are kept: what they lack does not pass the test.
-use Rattle.std.proofs.Common.{ℕ, ◌+◌, ◌<◌, ◌≤◌, ◌==◌, ◌&&◌, ◌||◌, ◌≡◌, not, Bool, true, false, List, ◌∷◌, length, drop, get_or, Option, refl, sym, ap, ◌∙◌, add-one}
-use Rattle.std.specs.BTreeSet.{BTreeSet, contains}
-use Rattle.std.specs.Ordering.{nat_cmp}
+use Rattle.std.proofs.Common.{ℕ, ◌+◌, ◌^◌, ◌<◌, ◌≤◌, ◌==◌, ◌&&◌, ◌||◌, ◌≡◌, not, Bool, true, false, List, ◌∷◌, length, drop, get_or, Option, refl, sym, ap, ◌∙◌, add-one}
+use Rattle.pc_join.specs.NameSets.{is_in}
+use Rattle.pc_join.specs.declared.name_set.NameSet.{NameSet}
 use Rattle.std.proofs.Math.Seq.{drop-cons}
 use Rattle.std.proofs.lemmas.Bool.{false≢true}
 use Rattle.pc_view.specs.declared.view.View.{View}
@@ -9,31 +9,38 @@ use Rattle.pc_view.specs.Prefixes.{state_told}
 use Rattle.pc_delta.specs.declared.part.Part.{Part}
 use Rattle.pc_delta.specs.Parts.{tells_of, thread_of_part}
 use Rattle.pc_delta.specs.Exchange.{KeepsOthers}
+use Rattle.pc_run_queue.specs.Names.{has_name}
 use Rattle.pc_run_queue.specs.Runs.{may_run, runs_in}
-use Rattle.pc_agent.specs.Inner.Wanted.{AreShort, HasAllBut, HoldsAll, HoldsAllBut, IsFirstFrom}
+use Rattle.pc_agent.specs.PlainAgent.{is_wanted}
+use Rattle.pc_join.specs.NameSets.{IsFirstFrom}
+use Rattle.pc_agent.specs.Inner.Wanted.{AreShort, HasAllBut, HoldsAll, HoldsAllBut}
 
-module _ (test : ℕ → Bool) (names : BTreeSet ℕ) (all : HasAllBut (λ t. false) test names) where
-  not_passed : (t : ℕ) → contains nat_cmp names t ≡ false → test t ≡ false
-  not_passed t e = by_test (test t) refl
+module _ (runs : ℕ → Bool) (list : List ℕ) (names : NameSet) (all : HasAllBut (λ t. false) runs names) where
+  not_wanted : (t : ℕ) → (is_in names t && not (has_name list t)) ≡ false → is_wanted runs list t ≡ false
+  not_wanted t e = by_test (runs t) refl
     where
-      by_test : (b : Bool) → test t ≡ b → b ≡ false
-      by_test true f = absurd (false≢true (sym e ∙ (all t refl f).0))
+      by_test : (b : Bool) → runs t ≡ b → (b && not (has_name list t)) ≡ false
+      by_test true f = sym (ap (λ b. b && not (has_name list t)) (all t refl f).0) ∙ e
       by_test false f = refl
 
-  pub none_passed : (from : ℕ) → ((t : ℕ) → from ≤ t → contains nat_cmp names t ≡ false) → (t : ℕ) → from ≤ t → test t ≡ false
-  none_passed from none t le = not_passed t (none t le)
+  pub none_wanted : (from : ℕ) → ((t : ℕ) → from ≤ t → (is_in names t && not (has_name list t)) ≡ false) → (t : ℕ) → from ≤ t → is_wanted runs list t ≡ false
+  none_wanted from none t le = not_wanted t (none t le)
 
-  pub none_passed_before : (from name : ℕ) → IsFirstFrom (contains nat_cmp names) from name → (t : ℕ) → from ≤ t → t < name → test t ≡ false
-  none_passed_before from name first t le lt = not_passed t (first.least t le lt)
+  pub none_wanted_before : (from name : ℕ) → IsFirstFrom (λ t. is_in names t && not (has_name list t)) from name → (t : ℕ) → from ≤ t → t < name → is_wanted runs list t ≡ false
+  none_wanted_before from name first t le lt = not_wanted t (first.least t le lt)
 
-  pub are_short : AreShort test
-  are_short t e = (all t refl e).1
+  pub are_short : AreShort (is_wanted runs list)
+  are_short t e = by_test (runs t) refl e
+    where
+      by_test : (b : Bool) → runs t ≡ b → (b && not (has_name list t)) ≡ true → t < 2 ^ 32
+      by_test true f e = (all t refl f).1
+      by_test false f e = absurd (false≢true e)
 
 -- the other threads run as before
 pub runs_as_before : (parts : List Part) (old new : View) (cpu t : ℕ) → KeepsOthers parts old new → tells_of parts t ≡ false → runs_in new cpu t ≡ runs_in old cpu t
 runs_as_before parts old new cpu t keeps untold = ap (λ told. may_run (state_told told) cpu) (keeps t untold)
 
-pub held_but : (parts : List Part) (old new : View) (cpu : ℕ) (kept : Option (BTreeSet ℕ)) → KeepsOthers parts old new → HoldsAll (runs_in old cpu) kept → HoldsAllBut (tells_of parts) (runs_in new cpu) kept
+pub held_but : (parts : List Part) (old new : View) (cpu : ℕ) (kept : Option (NameSet)) → KeepsOthers parts old new → HoldsAll (runs_in old cpu) kept → HoldsAllBut (tells_of parts) (runs_in new cpu) kept
 held_but parts old new cpu kept keeps all names is t untold runs = all names is t refl (sym (runs_as_before parts old new cpu t keeps untold) ∙ runs)
 
 -- one part after another
@@ -41,7 +48,7 @@ still_but : (a b : Bool) → b ≡ false → ((a || b) && not a) ≡ false
 still_but true b e = refl
 still_but false b e = ap (λ x. x && true) e
 
-pub one_less : (parts : List Part) (i : ℕ) (part : Part) (test : ℕ → Bool) (kept : Option (BTreeSet ℕ)) → part ≡ get_or parts i part → i < length parts
+pub one_less : (parts : List Part) (i : ℕ) (part : Part) (test : ℕ → Bool) (kept : Option (NameSet)) → part ≡ get_or parts i part → i < length parts
     → HoldsAllBut (λ t. tells_of (drop i parts) t && not (thread_of_part part == t)) test kept → HoldsAllBut (tells_of (drop (i + 1) parts)) test kept
 one_less parts i part test kept e lt h names is t untold passes =
     h names is t (ap (λ left. tells_of left t && not (thread_of_part part == t)) from_there ∙ still_but (thread_of_part part == t) (tells_of (drop (i + 1) parts) t) untold) passes

@@ -2,7 +2,7 @@
 use Rattle.std.proofs.Common.{ℕ, ◌+◌, ◌-◌, ◌^◌, ◌<◌, ◌≤◌, ◌≡◌, ◌&&◌, ◌⊎◌, Bool, true, false, List, Option, Some, None, ap, ◌∙◌, arith, inl, inr}
 use Rattle.pc_kernel.specs.Reads.{Reads}
 use Rattle.pc_agent.specs.PlainAgent.{is_idle, is_wanted, may_take}
-use Rattle.pc_agent.specs.Inner.Wanted.{FindsFrom}
+use Rattle.pc_join.specs.NameSets.{FindsFrom}
 
 in_order : (a b : ℕ) → (a < b) ⊎ ((a ≡ b) ⊎ (b + 1 ≤ a))
 in_order a b = grind arith

@@ -6,11 +6,11 @@ ghost use Rattle.pc_run_queue.specs.Runs.{IsSettled, runs_in};
 ghost use Rattle.pc_agent.specs.Inner.Wanted.{HoldsAll, IsNoneWantedBelow};
 
 use crate::counts::Counts;
+use pc_join::NameSet;
 use pc_messages::{Cpu, Tid};
 use pc_run_queue::RunQueue;
 use pc_view::{View, views_tell_what_their_sets_tell};
 use std::alloc::Global;
-use std::collections::BTreeSet;
 
 /// The agent of one CPU: what it knows, which threads it would run, and how much of its queue it has sent to others.
 ///
@@ -29,7 +29,7 @@ pub struct Agent {
     pub(crate) passed: u32,
     /// The names of at least all threads that the view reports ready and allowed on the CPU: a steal looks at these alone.
     /// None where memory ran out while they were kept; a steal then looks at all threads that the view knows.
-    pub(crate) runnable: Option<BTreeSet<u32>>,
+    pub(crate) runnable: Option<NameSet>,
     /// Whether it is known that a refresh that touches no thread would leave the run list as it is: then a refresh looks at
     /// the touched threads alone.
     pub(crate) settled: bool,
@@ -59,7 +59,7 @@ impl Agent {
             shown: 0,
             counts: Counts::new(),
             passed: 0,
-            runnable: Some(BTreeSet::new(alloc)),
+            runnable: Some(NameSet::new(alloc)),
             settled: true,
         }
     }
@@ -76,7 +76,7 @@ impl Agent {
         self.list = RunQueue::new(self.alloc);
         self.shown = 0;
         self.passed = 0;
-        self.runnable = Some(BTreeSet::new(self.alloc));
+        self.runnable = Some(NameSet::new(self.alloc));
         self.settled = true;
     }
 

@@ -1,55 +1,45 @@
 //! Which threads a steal has to look at.
 
-ghost use Rattle.std.specs.Prelude.{ℕ, Bool, ◌==◌, ◌<◌, ◌^◌, ◌&&◌, not, Some, IfSome, IsTrue};
-ghost use Rattle.std.specs.BTreeSet.{contains};
-ghost use Rattle.std.specs.Ordering.{nat_cmp};
+ghost use Rattle.std.specs.Prelude.{ℕ, Bool, ◌==◌, ◌&&◌, not, Some, IsTrue};
 ghost use Rattle.pc_delta.specs.Parts.{tells_of};
 ghost use Rattle.pc_run_queue.specs.Runs.{runs_in};
+ghost use Rattle.pc_agent.specs.PlainAgent.{is_wanted};
 ghost use Rattle.pc_agent.specs.Inner.Settled.{TellsOfNone};
-ghost use Rattle.pc_agent.specs.Inner.Wanted.{AreShort, FindsFrom, HoldsAll, HoldsAllBut, IsNoneBefore};
+ghost use Rattle.pc_agent.specs.Inner.Wanted.{AreShort, HoldsAll, HoldsAllBut, IsNoneBefore};
 
 use pc_delta::Part;
+use pc_join::NameSet;
 use pc_messages::{Cpu, Tid};
 use pc_run_queue::{RunQueue, runs_on};
 use pc_view::View;
-use std::collections::BTreeSet;
 
-/// The least of the names, from one on.
-fn least_from(names: &BTreeSet<u32>, from: u32) -> Option<u32>
-    ensures first { FindsFrom (contains nat_cmp names.now) from result }
-    ensures short { IfSome result (λ name. name < 2 ^ 32) }
-{
-    match names.range(from..).next() {
-        None => None,
-        Some(name) => Some(*name),
-    }
-}
-
-/// The least thread from one on that a steal has to look at: of the names that are kept, or, where none are, of all threads
-/// that the view knows.
-pub(crate) fn next_runnable(view: &View, runnable: &Option<BTreeSet<u32>>, from: u32) -> Option<Tid>
-    ensures passed { (cpu : ℕ) → HoldsAll (runs_in view.now cpu) runnable.now → IsNoneBefore (runs_in view.now cpu) from result }
-    ensures short { (cpu : ℕ) → HoldsAll (runs_in view.now cpu) runnable.now → AreShort (runs_in view.now cpu) }
+/// The least thread from one on that a steal has to look at: of the names that are kept and not in the run list, or, where none
+/// are kept, of all threads that the view knows.
+pub(crate) fn next_runnable(
+    view: &View,
+    runnable: &Option<NameSet>,
+    list: &RunQueue,
+    from: u32,
+) -> Option<Tid>
+    ensures passed { (cpu : ℕ) → HoldsAll (runs_in view.now cpu) runnable.now → IsNoneBefore (is_wanted (runs_in view.now cpu) list.now) from result }
+    ensures short { (cpu : ℕ) → HoldsAll (runs_in view.now cpu) runnable.now → AreShort (is_wanted (runs_in view.now cpu) list.now) }
 {
     match runnable {
-        Some(names) => match least_from(names, from) {
-            Some(name) => Some(Tid(name)),
-            None => None,
-        },
+        Some(names) => list.next_outside(names, Tid(from)),
         None => view.next(Tid(from)),
     }
 }
 
 /// Keeps the thread's name, or drops it, as the view now reports the thread. None, where memory runs out.
-fn with_thread(names: BTreeSet<u32>, view: &View, cpu: Cpu, thread: Tid) -> Option<BTreeSet<u32>>
+fn with_thread(names: NameSet, view: &View, cpu: Cpu, thread: Tid) -> Option<NameSet>
     ensures { (but : ℕ → Bool) → HoldsAllBut but (runs_in view.now cpu) (Some names)
         → HoldsAllBut (λ t. but t && not (thread == t)) (runs_in view.now cpu) result }
 {
     let mut names = names;
     if runs_on(view, cpu, thread) {
-        names.insert(thread.index()).ok()?;
+        names.insert(thread).ok()?;
     } else {
-        names.remove(&thread.index());
+        names.remove(thread);
     }
     Some(names)
 }
@@ -57,11 +47,11 @@ fn with_thread(names: BTreeSet<u32>, view: &View, cpu: Cpu, thread: Tid) -> Opti
 /// The names that are kept, once the view has taken parts in: the threads that they tell of are looked at anew. None, where
 /// none were kept, or where memory runs out.
 pub(crate) fn runnable_after(
-    runnable: Option<BTreeSet<u32>>,
+    runnable: Option<NameSet>,
     view: &View,
     cpu: Cpu,
     parts: &[Part],
-) -> Option<BTreeSet<u32>>
+) -> Option<NameSet>
     requires { HoldsAllBut (tells_of parts.now) (runs_in view.now cpu) runnable }
     ensures { HoldsAll (runs_in view.now cpu) result }
 {

@@ -14,17 +14,18 @@ ghost use Rattle.pc_agent.specs.Publishing.{WhateverShown};
 ghost use Rattle.pc_agent.specs.Running.{Finds, IsSeenExactly, Steals, takes_up_to};
 ghost use Rattle.pc_agent.specs.Shows.{cpu_of};
 ghost use Rattle.pc_agent.specs.Inner.Goes.{GoesOn};
-ghost use Rattle.pc_agent.specs.Inner.Wanted.{AreShort, FindsFrom, HoldsAll, IsNoneWantedBelow};
+ghost use Rattle.pc_join.specs.NameSets.{FindsFrom};
+ghost use Rattle.pc_agent.specs.Inner.Wanted.{AreShort, HoldsAll, IsNoneWantedBelow};
 
 use crate::agent::Agent;
 use crate::runnable::next_runnable;
 use pc_calls::{CallFault, Refusal};
+use pc_join::NameSet;
 use pc_kernel::Kernel;
 use pc_kernel::laws::accepted_associates_are_exact;
 use pc_messages::{Cpu, Tid};
 use pc_run_queue::{RunQueue, runs_on};
 use pc_view::{View, views_tell_what_their_sets_tell};
-use std::collections::BTreeSet;
 
 /// Whether the kernel knows the thread and has it on no CPU.
 fn idles(kernel: &Kernel, thread: Tid) -> bool
@@ -46,7 +47,7 @@ fn wants(view: &View, list: &RunQueue, cpu: Cpu, thread: Tid) -> bool
 /// The least thread from one on that is wanted.
 fn next_wanted(
     view: &View,
-    runnable: &Option<BTreeSet<u32>>,
+    runnable: &Option<NameSet>,
     list: &RunQueue,
     cpu: Cpu,
     from: u32,
@@ -56,7 +57,7 @@ fn next_wanted(
     ensures short { AreShort (is_wanted (runs_in view.now cpu) list.now) }
 {
     let mut start = from;
-    while let Some(name) = next_runnable(view, runnable, start) {
+    while let Some(name) = next_runnable(view, runnable, list, start) {
         if wants(view, list, cpu, name) {
             return Some(name);
         }
@@ -71,7 +72,7 @@ fn next_wanted(
 /// The least thread after this one that is wanted.
 fn wanted_after(
     view: &View,
-    runnable: &Option<BTreeSet<u32>>,
+    runnable: &Option<NameSet>,
     list: &RunQueue,
     cpu: Cpu,
     thread: Tid,
@@ -89,7 +90,7 @@ fn wanted_after(
 /// The least thread that is wanted, to which all before are passed.
 fn pass_over(
     view: &View,
-    runnable: &Option<BTreeSet<u32>>,
+    runnable: &Option<NameSet>,
     list: &RunQueue,
     cpu: Cpu,
     passed: &mut u32,
@@ -112,7 +113,7 @@ fn pass_over(
 /// and has on no CPU. Each is looked at once.
 fn candidate(
     view: &View,
-    runnable: &Option<BTreeSet<u32>>,
+    runnable: &Option<NameSet>,
     list: &RunQueue,
     cpu: Cpu,
     kernel: &Kernel,
@@ -136,7 +137,7 @@ fn candidate(
 /// A steal for a CPU, by what a view tells, into a run list.
 fn take_least(
     view: &View,
-    runnable: &Option<BTreeSet<u32>>,
+    runnable: &Option<NameSet>,
     list: &mut RunQueue,
     kernel: &mut Kernel,
     cpu: Cpu,

@@ -1,8 +1,8 @@
 -- How far no thread is wanted, the first that is, and the names among which it has to be looked for.
 use Rattle.std.specs.Prelude.{ℕ, ◌^◌, ◌<◌, ◌≤◌, ◌≡◌, Bool, true, false, List, Option, Some, None}
 use Rattle.std.specs.Option.{ForSome}
-use Rattle.std.specs.BTreeSet.{BTreeSet, contains}
-use Rattle.std.specs.Ordering.{nat_cmp}
+use Rattle.pc_join.specs.NameSets.{is_in}
+use Rattle.pc_join.specs.declared.name_set.NameSet.{NameSet}
 use Rattle.pc_agent.specs.PlainAgent.{is_wanted}
 
 -- no thread below the number is wanted
@@ -17,30 +17,19 @@ StaysPassed passed list lower less = (runs : ℕ → Bool) → IsNoneWantedBelow
 abbrev pub AreShort : (ℕ → Bool) → Type 0
 AreShort test = (t : ℕ) → test t ≡ true → t < 2 ^ 32
 
--- the number passes the test, and no lesser one does, of those from one on
-pub record IsFirstFrom (test : ℕ → Bool) (from t : ℕ) : Type 0 where
-  pub reached : from ≤ t
-  pub passes : test t ≡ true
-  pub least : (other : ℕ) → from ≤ other → other < t → test other ≡ false
-
--- this is the least number from one on that passes the test; none is, where no such number passes
-abbrev pub FindsFrom : (ℕ → Bool) → ℕ → Option ℕ → Type 0
-FindsFrom test from None = (t : ℕ) → from ≤ t → test t ≡ false
-FindsFrom test from (Some t) = IsFirstFrom test from t
-
 -- no number from one on passes the test before this one; none does at all, where there is no such number
 abbrev pub IsNoneBefore : (ℕ → Bool) → ℕ → Option ℕ → Type 0
 IsNoneBefore test from None = (t : ℕ) → from ≤ t → test t ≡ false
 IsNoneBefore test from (Some name) = (from ≤ name) × (name < 2 ^ 32) × ((t : ℕ) → from ≤ t → t < name → test t ≡ false)
 
 -- each number that passes the test is among the names, but for some, and fits 32 bits
-abbrev pub HasAllBut : (ℕ → Bool) → (ℕ → Bool) → BTreeSet ℕ → Type 0
-HasAllBut but test names = (t : ℕ) → but t ≡ false → test t ≡ true → (contains nat_cmp names t ≡ true) × (t < 2 ^ 32)
+abbrev pub HasAllBut : (ℕ → Bool) → (ℕ → Bool) → NameSet → Type 0
+HasAllBut but test names = (t : ℕ) → but t ≡ false → test t ≡ true → (is_in names t ≡ true) × (t < 2 ^ 32)
 
 -- the same, where names are kept
-abbrev pub HoldsAllBut : (ℕ → Bool) → (ℕ → Bool) → Option (BTreeSet ℕ) → Type 0
+abbrev pub HoldsAllBut : (ℕ → Bool) → (ℕ → Bool) → Option (NameSet) → Type 0
 HoldsAllBut but test kept = ForSome kept (HasAllBut but test)
 
 -- where names are kept, each number that passes the test is among them, and fits 32 bits
-abbrev pub HoldsAll : (ℕ → Bool) → Option (BTreeSet ℕ) → Type 0
+abbrev pub HoldsAll : (ℕ → Bool) → Option (NameSet) → Type 0
 HoldsAll test kept = ForSome kept (HasAllBut (λ t. false) test)
