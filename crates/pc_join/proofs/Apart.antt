@@ -5,7 +5,6 @@ use Rattle.std.proofs.lemmas.List.Folds.{list_any-append}
 use Rattle.pc_join.specs.Ranges.{in_range, in_ranges, AreApart}
 use Rattle.pc_join.specs.Inner.Ranges.{IsEither, IsAmid, StartBy, StartBefore, IsStretched, IsMerging}
 use Rattle.pc_join.specs.Inner.Turns.{IsNotAfter, IsTurn}
-use Rattle.std.proofs.lemmas.Bool.{false≢true}
 use Rattle.std.specs.List.{refill}
 use Rattle.std.proofs.Math.Seq.{set-append_seam, take-append_seam}
 use Rattle.pc_messages.proofs.Bools.{or_left, or_none}
