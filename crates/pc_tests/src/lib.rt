@@ -13,6 +13,8 @@ mod kernel;
 #[cfg(test)]
 mod messages;
 #[cfg(test)]
+mod names;
+#[cfg(test)]
 mod queue;
 #[cfg(test)]
 mod run_queue;
