@@ -53,7 +53,7 @@ fn names_are_added_and_taken_out_alone(rt: HostRuntime) -> Result<(), Fail> {
 }
 
 /// A walk: the names of a set, those of another one, where it begins, and the name that it finds.
-type Walk<'a> = (&'a [u32], &'a [u32], u32, Option<u32>);
+type Walk<'a> = (&'a [u32], &'a [u32], u32, Option<Tid>);
 
 /// What a set and a run list find of the first names outside of the others, from one on.
 fn found(alloc: Global, walk: &Walk<'_>) -> Result<[Option<Tid>; 2], OutOfMemory> {
@@ -71,21 +71,20 @@ fn found(alloc: Global, walk: &Walk<'_>) -> Result<[Option<Tid>; 2], OutOfMemory
 fn a_walk_finds_the_least_name_that_the_others_lack(rt: HostRuntime) -> Result<(), Fail> {
     let walks: [Walk<'_>; 12] = [
         (&[], &[], 0, None),
-        (&[0], &[], 0, Some(0)),
+        (&[0], &[], 0, Some(Tid(0))),
         (&[0], &[0], 0, None),
         (&[0], &[], 1, None),
-        (&[3, 2, 1], &[9], 2, Some(2)),
-        (&[63, 64], &[], 1, Some(63)),
-        (&[63, 64], &[63], 1, Some(64)),
+        (&[3, 2, 1], &[9], 2, Some(Tid(2))),
+        (&[63, 64], &[], 1, Some(Tid(63))),
+        (&[63, 64], &[63], 1, Some(Tid(64))),
         (&[63, 64], &[63], 65, None),
-        (&[5, 70, 200], &[70], 6, Some(200)),
-        (&[5, 70, LAST], &[5, 70], 0, Some(LAST)),
-        (&[LAST], &[LAST - 1], LAST, Some(LAST)),
+        (&[5, 70, 200], &[70], 6, Some(Tid(200))),
+        (&[5, 70, LAST], &[5, 70], 0, Some(Tid(LAST))),
+        (&[LAST], &[LAST - 1], LAST, Some(Tid(LAST))),
         (&[LAST], &[LAST], LAST, None),
     ];
     for walk in walks.as_slice() {
-        let expected = walk.3.map(Tid);
-        assert_eq!(rt; found(rt.alloc(), walk)?, [expected, expected]);
+        assert_eq!(rt; found(rt.alloc(), walk)?, [walk.3, walk.3]);
     }
     Ok(())
 }
