@@ -18,201 +18,188 @@ const fn limits(cpus: u8, threads: u32, numbers: u32, room: u32, posts: u32) -> 
 
 #[test]
 fn the_greatest_limits(rt: HostRuntime) {
-    assert_eq!(rt; MOST_CPUS, 64);
-    assert_eq!(rt; MOST_THREADS, 4_096);
-    assert_eq!(rt; MOST_THREADS_TWO, 65_535);
-    assert_eq!(rt; MOST_NUMBERS, 1_000_000);
-    assert_eq!(rt; MOST_ROOM, 65_536);
-    assert_eq!(rt; MOST_POSTS, 4_294_967_295);
-}
-
-#[test]
-fn limits_that_are_nothing(rt: HostRuntime) {
-    let rows = [
-        (limits(0, 1, 1, 1, 1), LimitField::Cpus),
-        (limits(1, 0, 0, 0, 0), LimitField::Threads),
-        (limits(1, 1, 0, 0, 0), LimitField::Numbers),
-        (limits(1, 1, 1, 0, 0), LimitField::Room),
-        (limits(1, 1, 1, 1, 0), LimitField::Posts),
-    ];
-    for (asked, field) in &rows {
-        assert_eq!(rt; asked.bad_field(Profile::One), Some(*field));
-        assert_eq!(rt; asked.bad_field(Profile::Two), Some(*field));
+    for (most, wanted) in [
+        (u32::from(MOST_CPUS), 64),
+        (MOST_THREADS, 4_096),
+        (MOST_THREADS_TWO, 65_535),
+        (MOST_NUMBERS, 1_000_000),
+        (MOST_ROOM, 65_536),
+        (MOST_POSTS, 4_294_967_295),
+    ] {
+        assert_eq!(rt; most, wanted);
     }
 }
 
+// Without contracts, as the functions below, so that a test's proof does not carry those of calls.
+fn bad_field(asked: &Limits, profile: Profile) -> Option<LimitField> {
+    asked.bad_field(profile)
+}
+
+const CPUS: Option<LimitField> = Some(LimitField::Cpus);
+
+const THREADS: Option<LimitField> = Some(LimitField::Threads);
+
+const NUMBERS: Option<LimitField> = Some(LimitField::Numbers);
+
+const ROOM: Option<LimitField> = Some(LimitField::Room);
+
+const POSTS: Option<LimitField> = Some(LimitField::Posts);
+
+// Limits that are nothing, in both profiles, and limits that are too large beside the greatest.
 #[test]
-fn limits_that_are_too_large(rt: HostRuntime) {
+fn the_first_limit_that_is_out_of_its_range(rt: HostRuntime) {
+    let (one, two) = (Profile::One, Profile::Two);
     let rows = [
-        (Profile::One, limits(65, 0, 0, 0, 0), Some(LimitField::Cpus)),
-        (
-            Profile::One,
-            limits(1, 4_097, 1, 1, 1),
-            Some(LimitField::Threads),
-        ),
-        (
-            Profile::One,
-            limits(1, 1, 1_000_001, 1, 1),
-            Some(LimitField::Numbers),
-        ),
-        (
-            Profile::One,
-            limits(1, 1, 1, 65_537, 1),
-            Some(LimitField::Room),
-        ),
-        (
-            Profile::One,
-            limits(64, 4_096, 1_000_000, 65_536, u32::MAX),
-            None,
-        ),
-        (
-            Profile::Two,
-            limits(64, 65_535, 16_000_000, 65_536, u32::MAX),
-            None,
-        ),
-        (
-            Profile::Two,
-            limits(1, 65_536, 1, 1, 1),
-            Some(LimitField::Threads),
-        ),
-        (
-            Profile::Two,
-            limits(1, 1, 16_000_001, 1, 1),
-            Some(LimitField::Numbers),
-        ),
+        (one, limits(0, 1, 1, 1, 1), CPUS),
+        (two, limits(0, 1, 1, 1, 1), CPUS),
+        (one, limits(1, 0, 0, 0, 0), THREADS),
+        (two, limits(1, 0, 0, 0, 0), THREADS),
+        (one, limits(1, 1, 0, 0, 0), NUMBERS),
+        (two, limits(1, 1, 0, 0, 0), NUMBERS),
+        (one, limits(1, 1, 1, 0, 0), ROOM),
+        (two, limits(1, 1, 1, 0, 0), ROOM),
+        (one, limits(1, 1, 1, 1, 0), POSTS),
+        (two, limits(1, 1, 1, 1, 0), POSTS),
+        (one, limits(65, 0, 0, 0, 0), CPUS),
+        (one, limits(1, 4_097, 1, 1, 1), THREADS),
+        (one, limits(1, 1, 1_000_001, 1, 1), NUMBERS),
+        (one, limits(1, 1, 1, 65_537, 1), ROOM),
+        (one, limits(64, 4_096, 1_000_000, 65_536, u32::MAX), None),
+        (two, limits(64, 65_535, 16_000_000, 65_536, u32::MAX), None),
+        (two, limits(1, 65_536, 1, 1, 1), THREADS),
+        (two, limits(1, 1, 16_000_001, 1, 1), NUMBERS),
     ];
     for (profile, asked, wanted) in &rows {
-        assert_eq!(rt; asked.bad_field(*profile), *wanted);
+        assert_eq!(rt; bad_field(asked, *profile), *wanted);
     }
 }
 
-#[test]
-fn events_that_are_calls(rt: HostRuntime) {
-    let (cpu, queue, thread) = (Cpu(1), Cpu(2), Tid(3));
-    let rows = [
-        (
-            Event::Associate {
-                thread,
-                queue,
-                number: 5,
-            },
-            Call::Associate {
-                thread,
-                queue,
-                number: 5,
-            },
-        ),
-        (
-            Event::Commit {
-                cpu,
-                thread,
-                aseq: 6,
-            },
-            Call::Commit {
-                cpu,
-                thread,
-                aseq: 6,
-            },
-        ),
-        (Event::Sleep { cpu, aseq: 7 }, Call::Sleep { cpu, aseq: 7 }),
-        (Event::Rouse { cpu }, Call::Rouse { cpu }),
-        (
-            Event::Config {
-                queue,
-                target: Some(cpu),
-            },
-            Call::Config {
-                queue,
-                target: Some(cpu),
-            },
-        ),
-    ];
-    for (event, call) in &rows {
-        assert_eq!(rt; event.call(), Some(*call));
-    }
-    assert_eq!(rt;
-        Event::Env(EnvCall::Wake { thread }).call(),
-        Some(Call::Env(EnvCall::Wake { thread }))
-    );
+fn call_of(event: &Event) -> Option<Call> {
+    event.call()
 }
 
+const CPU: Cpu = Cpu(1);
+
+const QUEUE: Cpu = Cpu(2);
+
+const THREAD: Tid = Tid(3);
+
+const ASSOCIATE: Call = Call::Associate {
+    thread: THREAD,
+    queue: QUEUE,
+    number: 5,
+};
+
+const COMMIT: Call = Call::Commit {
+    cpu: CPU,
+    thread: THREAD,
+    aseq: 6,
+};
+
+const WAKE: EnvCall = EnvCall::Wake { thread: THREAD };
+
 #[test]
-fn events_that_are_no_calls(rt: HostRuntime) {
-    let (cpu, asker) = (Cpu(1), Cpu(2));
+fn which_call_an_event_is(rt: HostRuntime) {
+    let cpu = CPU;
+    let associate = Event::Associate {
+        thread: THREAD,
+        queue: QUEUE,
+        number: 5,
+    };
+    let commit = Event::Commit {
+        cpu,
+        thread: THREAD,
+        aseq: 6,
+    };
+    let configured = Event::Config {
+        queue: QUEUE,
+        target: Some(cpu),
+    };
+    let configures = Call::Config {
+        queue: QUEUE,
+        target: Some(cpu),
+    };
     let rows = [
-        Event::Publish { cpu, fails: false },
-        Event::Publish { cpu, fails: true },
-        Event::Consume { cpu },
-        Event::Deliver { cpu, delta: 0 },
-        Event::Answer { cpu, asker },
-        Event::Pick { cpu, aseq: 1 },
-        Event::Steal { cpu },
-        Event::Crash { cpu },
+        (associate, Some(ASSOCIATE)),
+        (commit, Some(COMMIT)),
+        (
+            Event::Sleep { cpu, aseq: 7 },
+            Some(Call::Sleep { cpu, aseq: 7 }),
+        ),
+        (Event::Rouse { cpu }, Some(Call::Rouse { cpu })),
+        (configured, Some(configures)),
+        (Event::Env(WAKE), Some(Call::Env(WAKE))),
+        (Event::Publish { cpu, fails: false }, None),
+        (Event::Publish { cpu, fails: true }, None),
+        (Event::Consume { cpu }, None),
+        (Event::Deliver { cpu, delta: 0 }, None),
+        (Event::Answer { cpu, asker: QUEUE }, None),
+        (Event::Pick { cpu, aseq: 1 }, None),
+        (Event::Steal { cpu }, None),
+        (Event::Crash { cpu }, None),
     ];
-    for event in &rows {
-        assert_eq!(rt; event.call(), None);
+    for (event, wanted) in &rows {
+        assert_eq!(rt; call_of(event), *wanted);
     }
 }
 
-#[test]
-fn what_calls_are_replied(rt: HostRuntime) {
-    let (cpu, queue, thread) = (Cpu(1), Cpu(2), Tid(3));
-    let rows = [
-        (
-            Call::Associate {
-                thread,
-                queue,
-                number: 5,
-            },
-            Reply::Associated { thread, queue },
-        ),
-        (
-            Call::Commit {
-                cpu,
-                thread,
-                aseq: 6,
-            },
-            Reply::Committed { thread, cpu },
-        ),
-        (Call::Sleep { cpu, aseq: 7 }, Reply::Done),
-        (Call::Rouse { cpu }, Reply::Done),
-        (
-            Call::Config {
-                queue,
-                target: None,
-            },
-            Reply::Done,
-        ),
-        (Call::Consume { cpu, count: 1 }, Reply::Done),
-    ];
-    for (call, reply) in &rows {
-        assert_eq!(rt; call.reply(Answer::Done), *reply);
-    }
+fn replied(call: &Call, answer: Answer) -> Reply {
+    call.reply(answer)
 }
 
 /// The receipt of the second message of t3, in queue 1.
-const fn receipt() -> Posted {
-    Posted {
-        thread: Some(Tid(3)),
-        number: Some(2),
-        queue: Cpu(1),
-        aseq: 7,
-        woken: None,
+const RECEIPT: Posted = Posted {
+    thread: Some(Tid(3)),
+    number: Some(2),
+    queue: Cpu(1),
+    aseq: 7,
+    woken: None,
+};
+
+#[test]
+fn what_calls_are_replied(rt: HostRuntime) {
+    let cpu = CPU;
+    let unset = Call::Config {
+        queue: QUEUE,
+        target: None,
+    };
+    let associated = Reply::Associated {
+        thread: THREAD,
+        queue: QUEUE,
+    };
+    let committed = Reply::Committed {
+        thread: THREAD,
+        cpu,
+    };
+    let rows = [
+        (ASSOCIATE, Answer::Done, associated),
+        (COMMIT, Answer::Done, committed),
+        (Call::Sleep { cpu, aseq: 7 }, Answer::Done, Reply::Done),
+        (Call::Rouse { cpu }, Answer::Done, Reply::Done),
+        (unset, Answer::Done, Reply::Done),
+        (Call::Consume { cpu, count: 1 }, Answer::Done, Reply::Done),
+        (
+            Call::Env(WAKE),
+            Answer::Posted(RECEIPT),
+            Reply::Posted(RECEIPT),
+        ),
+    ];
+    for (call, answer, wanted) in &rows {
+        assert_eq!(rt; replied(call, *answer), *wanted);
     }
 }
 
-#[test]
-fn what_a_post_is_replied(rt: HostRuntime) {
-    let call = Call::Env(EnvCall::Wake { thread: Tid(3) });
-    assert_eq!(rt;
-        call.reply(Answer::Posted(receipt())),
-        Reply::Posted(receipt())
-    );
+fn fault_of(refusal: Refusal) -> CallFault {
+    CallFault::from(refusal)
+}
+
+fn is_memory(fault: CallFault) -> bool {
+    fault == CallFault::OutOfMemory
 }
 
 #[test]
 fn a_refusal_is_a_fault(rt: HostRuntime) {
-    let fault = CallFault::from(Refusal::Stale(3));
+    let fault = fault_of(Refusal::Stale(3));
     assert_eq!(rt; fault, CallFault::Refused(Refusal::Stale(3)));
-    assert!(rt; fault != CallFault::OutOfMemory);
+    assert!(rt; !is_memory(fault));
 }

@@ -4,7 +4,7 @@ use pc_delta::{Delta, DeltaFault, Digest, Part, delta_beyond, delta_since, take_
 use pc_join::{Join, OutOfMemory};
 use pc_messages::{Kind, Level, Mask, MaskFault, Message, Phase, Reported, Tid};
 use pc_view::View;
-use std::alloc::Global;
+use std::alloc::{AllocError, Global};
 use std::test::Fail;
 
 mod deliveries;
@@ -24,14 +24,25 @@ fn created() -> Result<Kind, MaskFault> {
     Ok(Kind::Created { mask, ready: false })
 }
 
-// All of t0 up to a number: blocked, mask 3, with these ticks.
-fn folded(upto: u32, ran: u64) -> Result<Part, MaskFault> {
-    state(Phase::Blocked, upto, ran)
-}
-
-// The same, ready.
-fn ready(upto: u32, ran: u64) -> Result<Part, MaskFault> {
-    state(Phase::Ready, upto, ran)
+/// A part, with two CPUs and the lowest level.
+#[derive(Clone, Copy)]
+enum Shape {
+    /// A message that is no first one: its thread, its number and its kind.
+    One(u32, u32, Kind),
+    /// A wakeup of t0.
+    Wakeup(u32),
+    /// t0 leaves its CPU after one tick.
+    Yield(u32),
+    /// t0 dies after so many ticks.
+    Dead(u32, u32),
+    /// t0 blocks after so many ticks.
+    Blocked(u32, u32),
+    /// A thread is created, by the message of this number.
+    Created(u32, u32),
+    /// All of t0 up to a number: blocked, mask 3, with these ticks.
+    Folded(u32, u64),
+    /// The same, ready.
+    Ready(u32, u64),
 }
 
 fn state(phase: Phase, upto: u32, ran: u64) -> Result<Part, MaskFault> {
@@ -48,20 +59,45 @@ fn state(phase: Phase, upto: u32, ran: u64) -> Result<Part, MaskFault> {
     })
 }
 
-fn delta(alloc: Global, parts: &[Part]) -> Result<Delta, DeltaFault> {
-    Delta::from_parts(parts.to_vec(alloc)?)
+fn part(shape: &Shape) -> Result<Part, MaskFault> {
+    match *shape {
+        Shape::One(thread, number, kind) => Ok(one(thread, number, kind)),
+        Shape::Wakeup(number) => Ok(one(0, number, Kind::Wakeup)),
+        Shape::Yield(number) => Ok(one(0, number, Kind::Yield { ran: 1 })),
+        Shape::Dead(number, ran) => Ok(one(0, number, Kind::Dead { ran })),
+        Shape::Blocked(number, ran) => Ok(one(0, number, Kind::Blocked { ran })),
+        Shape::Created(thread, number) => Ok(one(thread, number, created()?)),
+        Shape::Folded(upto, ran) => state(Phase::Blocked, upto, ran),
+        Shape::Ready(upto, ran) => state(Phase::Ready, upto, ran),
+    }
 }
 
-fn refusal(alloc: Global, parts: &[Part]) -> Option<DeltaFault> {
-    delta(alloc, parts).err()
+fn add<T: Copy>(items: &mut Vec<T>, item: T) -> Result<(), AllocError> {
+    items.push(item)?;
+    Ok(())
 }
 
-// A wakeup of t0.
-fn wakeup(number: u32) -> Part {
-    one(0, number, Kind::Wakeup)
+fn parts(alloc: Global, shapes: &[Shape]) -> Result<Vec<Part>, Fail> {
+    let mut parts = Vec::new(alloc);
+    for shape in shapes {
+        // A message stands here by its type's name, without which the checker has a bug at this loop.
+        let told = match *shape {
+            Shape::One(thread, number, kind) => Part::One(Message {
+                thread: Tid(thread),
+                number,
+                kind,
+            }),
+            _ => part(shape)?,
+        };
+        add(&mut parts, told)?;
+    }
+    Ok(parts)
 }
 
-// t0 leaves its CPU.
-fn yielded(number: u32) -> Part {
-    one(0, number, Kind::Yield { ran: 1 })
+fn delta(alloc: Global, shapes: &[Shape]) -> Result<Delta, Fail> {
+    Ok(Delta::from_parts(parts(alloc, shapes)?)?)
+}
+
+fn refusal(alloc: Global, shapes: &[Shape]) -> Result<Option<DeltaFault>, Fail> {
+    Ok(Delta::from_parts(parts(alloc, shapes)?).err())
 }

@@ -3,16 +3,26 @@
 use pc_join::{ByName, Join, Numbers, OutOfMemory, Upto, next_turn};
 use pc_messages::Tid;
 use std::alloc::Global;
+use std::process::Abort;
 use std::test::Fail;
 
+// Without contracts, as the functions below, so that a test's proof does not carry those of joins.
 fn join_both<V: Join>(first: &V, other: &V) -> Result<V, OutOfMemory> {
     let mut joined = first.try_copy()?;
     joined.join_from(other)?;
     Ok(joined)
 }
 
+fn covers<V: Join>(first: &V, other: &V) -> bool {
+    first.covers(other)
+}
+
 fn is_same<V: Join>(first: &V, other: &V) -> bool {
     first.covers(other) && other.covers(first)
+}
+
+fn is_nothing<V: Join>(value: &V) -> bool {
+    value.is_empty()
 }
 
 fn numbers(alloc: Global, all: &[u32]) -> Result<Numbers, OutOfMemory> {
@@ -25,181 +35,316 @@ fn numbers(alloc: Global, all: &[u32]) -> Result<Numbers, OutOfMemory> {
     Ok(set)
 }
 
+fn upto(last: u32) -> Upto {
+    Upto::new(last)
+}
+
+/// The greatest number, and whether the value is equal to that of 5.
+fn last(value: &Upto) -> (u32, bool) {
+    (value.get(), *value == Upto::new(5))
+}
+
 #[test]
 fn upto_takes_the_greater(rt: HostRuntime) -> Result<(), Fail> {
-    let joined = join_both(&Upto::new(2), &Upto::new(5))?;
-    assert_eq!(rt; joined.get(), 5);
-    assert!(rt; joined == Upto::new(5));
-    assert!(rt; !Upto::new(2).covers(&joined));
-    assert!(rt; Upto::new(0).is_empty());
-    assert!(rt; !joined.is_empty());
+    let joined = join_both(&upto(2), &upto(5))?;
+    assert_eq!(rt; last(&joined), (5, true));
+    for (place, holds) in [
+        !covers(&upto(2), &joined),
+        is_nothing(&upto(0)),
+        !is_nothing(&joined),
+    ]
+    .iter()
+    .enumerate()
+    {
+        assert!(rt; *holds, "row {place}");
+    }
+    Ok(())
+}
+
+/// What is done to a set of numbers, or told of it.
+#[derive(Clone, Copy)]
+enum Step<'a> {
+    Inserts(u32),
+    Adds(u32, u32),
+    /// The set is joined with that of these numbers.
+    Joins(&'a [u32]),
+    Empty(bool),
+    Has(u32, bool),
+    FirstMissing(u32, Option<u32>),
+    Ranges(&'a [(u32, u32)]),
+    /// The set is as one of the numbers of this range.
+    Same(u32, u32),
+    /// Whether the set covers that of these numbers.
+    Covers(&'a [u32], bool),
+    /// Whether that of these numbers covers the set.
+    Within(&'a [u32], bool),
+}
+
+fn inserts(set: &mut Numbers, n: u32) -> bool {
+    n > 0 && set.insert(n).is_ok()
+}
+
+fn adds(set: &mut Numbers, from: u32, to: u32) -> bool {
+    from > 0 && from <= to && set.add_range(from, to).is_ok()
+}
+
+fn joins(alloc: Global, set: &mut Numbers, others: &[u32]) -> Result<bool, OutOfMemory> {
+    *set = join_both(set, &numbers(alloc, others)?)?;
+    Ok(true)
+}
+
+fn is_range(alloc: Global, set: &Numbers, from: u32, to: u32) -> bool {
+    let mut range = Numbers::new(alloc);
+    adds(&mut range, from, to) && is_same(&range, set) && range.ranges() == set.ranges()
+}
+
+fn does(alloc: Global, set: &mut Numbers, step: &Step<'_>) -> Result<bool, OutOfMemory> {
+    match *step {
+        Step::Inserts(n) => Ok(inserts(set, n)),
+        Step::Adds(from, to) => Ok(adds(set, from, to)),
+        Step::Joins(others) => joins(alloc, set, others),
+        Step::Empty(wanted) => Ok(set.is_empty() == wanted),
+        Step::Has(n, wanted) => Ok(set.has(n) == wanted),
+        Step::FirstMissing(upto, wanted) => Ok(set.first_missing(upto) == wanted),
+        Step::Ranges(wanted) => Ok(set.ranges() == wanted),
+        Step::Same(from, to) => Ok(is_range(alloc, set, from, to)),
+        Step::Covers(others, wanted) => Ok(covers(set, &numbers(alloc, others)?) == wanted),
+        Step::Within(others, wanted) => Ok(covers(&numbers(alloc, others)?, set) == wanted),
+    }
+}
+
+/// The place of the first step that does not hold of a new set and the steps before it.
+fn first_wrong(alloc: Global, steps: &[Step<'_>]) -> Result<Option<usize>, OutOfMemory> {
+    let mut set = Numbers::new(alloc);
+    for (place, step) in steps.iter().enumerate() {
+        if !does(alloc, &mut set, step)? {
+            return Ok(Some(place));
+        }
+    }
+    Ok(None)
+}
+
+#[test]
+fn numbers_join_and_ranges_that_touch_are_one(rt: HostRuntime) -> Result<(), Fail> {
+    let joined = [
+        Step::Empty(true),
+        Step::Inserts(1),
+        Step::Inserts(3),
+        Step::Joins(&[2, 3]),
+        Step::Ranges(&[(1, 3)]),
+        Step::Same(1, 3),
+        Step::Within(&[1, 3], false),
+        Step::Covers(&[1, 3], true),
+    ];
+    let touching = [
+        Step::Adds(1, 3),
+        Step::Adds(5, 9),
+        Step::Ranges(&[(1, 3), (5, 9)]),
+        Step::Has(4, false),
+        Step::Has(5, true),
+        Step::FirstMissing(9, Some(4)),
+        Step::FirstMissing(3, None),
+        Step::Inserts(4),
+        Step::Ranges(&[(1, 9)]),
+        Step::FirstMissing(9, None),
+    ];
+    let long = [
+        Step::Adds(1, 1_000_000),
+        Step::Joins(&[500]),
+        Step::Ranges(&[(1, 1_000_000)]),
+        Step::Has(1_000_000, true),
+        Step::Has(1_000_001, false),
+    ];
+    let longest = [Step::Adds(1, 16_000_000), Step::Ranges(&[(1, 16_000_000)])];
+    for steps in [
+        joined.as_slice(),
+        touching.as_slice(),
+        long.as_slice(),
+        longest.as_slice(),
+    ] {
+        assert_eq!(rt; first_wrong(rt.alloc(), steps)?, None);
+    }
+    Ok(())
+}
+
+/// One number under each of the names.
+fn by_name_of(alloc: Global, entries: &[(u32, u32)]) -> Result<ByName<Numbers>, OutOfMemory> {
+    let mut names = ByName::new(alloc);
+    for (name, n) in entries {
+        names.put(Tid(*name), numbers(alloc, &[*n])?)?;
+    }
+    Ok(names)
+}
+
+/// `{t0: {1, 2}, t1: {5}}`, joined from two values, either way round.
+fn two_names(alloc: Global, turned: bool) -> Result<ByName<Numbers>, OutOfMemory> {
+    let first = by_name_of(alloc, &[(0, 1)])?;
+    let other = by_name_of(alloc, &[(0, 2), (1, 5)])?;
+    if turned {
+        join_both(&other, &first)
+    } else {
+        join_both(&first, &other)
+    }
+}
+
+/// What is done to numbers under names, or told of them.
+#[derive(Clone, Copy)]
+enum Named<'a> {
+    /// One number is put under the name, or an empty value.
+    Puts(u32, Option<u32>),
+    Empty(bool),
+    Next(u32, Option<Tid>),
+    Holds(u32, Option<&'a [(u32, u32)]>),
+    /// They are the two names, joined this way round.
+    Same(bool),
+    /// They are as their copy.
+    Copied,
+    /// The first of the values that were joined does not cover them.
+    Exceeds,
+}
+
+fn puts(names: &mut ByName<Numbers>, name: u32, n: Option<u32>) -> Result<bool, OutOfMemory> {
+    let alloc = names.allocator();
+    let value = match n {
+        Some(n) => numbers(alloc, &[n])?,
+        None => Numbers::new(alloc),
+    };
+    names.put(Tid(name), value)?;
+    Ok(true)
+}
+
+fn held(names: &ByName<Numbers>, name: u32) -> Option<&[(u32, u32)]> {
+    Some(names.get(Tid(name))?.ranges())
+}
+
+fn holds(names: &mut ByName<Numbers>, step: &Named<'_>) -> Result<bool, OutOfMemory> {
+    let alloc = names.allocator();
+    match *step {
+        Named::Puts(name, n) => puts(names, name, n),
+        Named::Empty(wanted) => Ok(names.is_empty() == wanted),
+        Named::Next(from, wanted) => Ok(names.next(Tid(from)) == wanted),
+        Named::Holds(name, wanted) => Ok(held(names, name) == wanted),
+        Named::Same(turned) => Ok(is_same(names, &two_names(alloc, turned)?)),
+        Named::Copied => Ok(is_same(names, &names.try_copy()?)),
+        Named::Exceeds => Ok(!covers(&by_name_of(alloc, &[(0, 1)])?, names)),
+    }
+}
+
+fn each_holds(
+    rt: &impl Abort,
+    mut names: ByName<Numbers>,
+    steps: &[Named<'_>],
+) -> Result<(), Fail> {
+    for (place, step) in steps.iter().enumerate() {
+        assert!(rt; holds(&mut names, step)?, "step {place}");
+    }
     Ok(())
 }
 
 #[test]
-fn numbers_join(rt: HostRuntime) -> Result<(), Fail> {
-    let odd = numbers(rt.alloc(), &[1, 3])?;
-    let some = numbers(rt.alloc(), &[2, 3])?;
-    let joined = join_both(&odd, &some)?;
-    assert_eq!(rt; joined.ranges(), [(1, 3)].as_slice());
-    let mut range = Numbers::new(rt.alloc());
-    assert!(rt; range.is_empty());
-    range.add_range(1, 3)?;
-    assert!(rt; is_same(&range, &joined));
-    assert_eq!(rt; range.ranges(), joined.ranges());
-    assert!(rt; !odd.covers(&joined));
-    assert!(rt; joined.covers(&odd));
-    Ok(())
+fn names_join_and_an_empty_value_changes_nothing(rt: HostRuntime) -> Result<(), Fail> {
+    let joined = [
+        Named::Holds(0, Some(&[(1, 2)])),
+        Named::Holds(1, Some(&[(5, 5)])),
+        Named::Same(true),
+        Named::Copied,
+        Named::Exceeds,
+        // An empty value under a new name.
+        Named::Puts(7, None),
+        Named::Same(false),
+        Named::Holds(7, None),
+        Named::Next(0, Some(Tid(0))),
+        Named::Next(1, Some(Tid(1))),
+        Named::Next(2, None),
+        Named::Holds(0, Some(&[(1, 2)])),
+        Named::Holds(1, Some(&[(5, 5)])),
+        // Other names stay.
+        Named::Puts(0, Some(9)),
+        Named::Holds(1, Some(&[(5, 5)])),
+    ];
+    each_holds(&rt, two_names(rt.alloc(), false)?, &joined)?;
+    let empty = [
+        Named::Empty(true),
+        Named::Puts(7, None),
+        Named::Empty(true),
+        Named::Holds(7, None),
+        Named::Next(0, None),
+        Named::Puts(3, Some(1)),
+        Named::Next(0, Some(Tid(3))),
+        Named::Next(3, Some(Tid(3))),
+        Named::Next(4, None),
+    ];
+    each_holds(&rt, by_name_of(rt.alloc(), &[])?, &empty)
+}
+
+/// What `next_turn` tells: the entry, and what is left of both.
+type Told<'a> = ((u32, char), &'a [(u32, char)], &'a [(u32, char)]);
+
+fn turn<'a>(first: &'a [(u32, char)], other: &'a [(u32, char)]) -> Option<Told<'a>> {
+    let turn = next_turn(first, other)?;
+    Some((turn.entry, turn.first, turn.other))
 }
 
 #[test]
-fn ranges_that_touch_are_one(rt: HostRuntime) -> Result<(), Fail> {
-    let mut parts = Numbers::new(rt.alloc());
-    parts.add_range(1, 3)?;
-    parts.add_range(5, 9)?;
-    assert_eq!(rt; parts.ranges(), [(1, 3), (5, 9)].as_slice());
-    assert!(rt; !parts.has(4));
-    assert!(rt; parts.has(5));
-    assert_eq!(rt; parts.first_missing(9), Some(4));
-    assert_eq!(rt; parts.first_missing(3), None);
-    parts.insert(4)?;
-    assert_eq!(rt; parts.ranges(), [(1, 9)].as_slice());
-    assert_eq!(rt; parts.first_missing(9), None);
-    Ok(())
+fn turns_are_taken_in_order(rt: HostRuntime) {
+    let (first, other) = ([(2, 'b')], [(1, 'a'), (3, 'c')]);
+    let told = ((1, 'a'), first.as_slice(), [(3, 'c')].as_slice());
+    assert_eq!(rt; turn(&first, &other), Some(told));
+    assert_eq!(rt; turn(&[], &[]), None);
 }
 
-#[test]
-fn a_long_range_is_one_range(rt: HostRuntime) -> Result<(), Fail> {
-    let mut long = Numbers::new(rt.alloc());
-    long.add_range(1, 1_000_000)?;
-    let joined = join_both(&long, &numbers(rt.alloc(), &[500])?)?;
-    assert_eq!(rt; joined.ranges(), [(1, 1_000_000)].as_slice());
-    assert!(rt; joined.has(1_000_000));
-    assert!(rt; !joined.has(1_000_001));
-    Ok(())
+/// How far each of the names is known.
+fn known(alloc: Global, entries: &[(u32, u32)]) -> Result<ByName<Upto>, OutOfMemory> {
+    let mut names = ByName::new(alloc);
+    for (name, last) in entries {
+        names.put(Tid(*name), Upto::new(*last))?;
+    }
+    Ok(names)
 }
 
-#[test]
-fn names_join(rt: HostRuntime) -> Result<(), Fail> {
-    let mut first = ByName::new(rt.alloc());
-    first.put(Tid(0), numbers(rt.alloc(), &[1])?)?;
-    let mut other = ByName::new(rt.alloc());
-    other.put(Tid(0), numbers(rt.alloc(), &[2])?)?;
-    other.put(Tid(1), numbers(rt.alloc(), &[5])?)?;
-    let joined = join_both(&first, &other)?;
-    let both = joined.get(Tid(0)).ok_or("no t0")?;
-    assert_eq!(rt; both.ranges(), [(1, 2)].as_slice());
-    let five = joined.get(Tid(1)).ok_or("no t1")?;
-    assert_eq!(rt; five.ranges(), [(5, 5)].as_slice());
-    assert!(rt; is_same(&joined, &join_both(&other, &first)?));
-    assert!(rt; is_same(&joined, &joined.try_copy()?));
-    assert!(rt; !first.covers(&joined));
-    Ok(())
-}
-
-#[test]
-fn an_empty_value_changes_nothing(rt: HostRuntime) -> Result<(), Fail> {
-    let mut names = ByName::new(rt.alloc());
-    assert!(rt; names.is_empty());
-    names.put(Tid(7), Numbers::new(names.allocator()))?;
-    assert!(rt; names.is_empty());
-    assert!(rt; names.get(Tid(7)).is_none());
-    assert_eq!(rt; names.next(Tid(0)), None);
-    names.put(Tid(3), numbers(rt.alloc(), &[1])?)?;
-    assert_eq!(rt; names.next(Tid(0)), Some(Tid(3)));
-    assert_eq!(rt; names.next(Tid(3)), Some(Tid(3)));
-    assert_eq!(rt; names.next(Tid(4)), None);
-    Ok(())
-}
-
-/// `{t0: {1, 2}, t1: {5}}`, joined from two values.
-fn two_names(alloc: Global) -> Result<ByName<Numbers>, OutOfMemory> {
-    let mut first = ByName::new(alloc);
-    first.put(Tid(0), numbers(alloc, &[1])?)?;
-    let mut other = ByName::new(alloc);
-    other.put(Tid(0), numbers(alloc, &[2])?)?;
-    other.put(Tid(1), numbers(alloc, &[5])?)?;
-    join_both(&first, &other)
-}
-
-#[test]
-fn an_empty_value_under_a_new_name_leaves_the_same(rt: HostRuntime) -> Result<(), Fail> {
-    let before = two_names(rt.alloc())?;
-    let mut after = before.try_copy()?;
-    after.put(Tid(7), Numbers::new(rt.alloc()))?;
-    assert!(rt; is_same(&before, &after));
-    assert!(rt; after.get(Tid(7)).is_none());
-    Ok(())
-}
-
-#[test]
-fn an_empty_value_adds_no_name(rt: HostRuntime) -> Result<(), Fail> {
-    let mut names = two_names(rt.alloc())?;
-    names.put(Tid(7), Numbers::new(rt.alloc()))?;
-    assert_eq!(rt; names.next(Tid(0)), Some(Tid(0)));
-    assert_eq!(rt; names.next(Tid(1)), Some(Tid(1)));
-    assert_eq!(rt; names.next(Tid(2)), None);
-    Ok(())
-}
-
-#[test]
-fn an_empty_value_leaves_the_numbers(rt: HostRuntime) -> Result<(), Fail> {
-    let mut names = two_names(rt.alloc())?;
-    names.put(Tid(7), Numbers::new(rt.alloc()))?;
-    let both = names.get(Tid(0)).ok_or("no t0")?;
-    assert_eq!(rt; both.ranges(), [(1, 2)].as_slice());
-    let five = names.get(Tid(1)).ok_or("no t1")?;
-    assert_eq!(rt; five.ranges(), [(5, 5)].as_slice());
-    Ok(())
-}
-
-#[test]
-fn sixteen_million_numbers_are_one_range(rt: HostRuntime) -> Result<(), Fail> {
-    let mut all = Numbers::new(rt.alloc());
-    all.add_range(1, 16_000_000)?;
-    assert_eq!(rt; all.ranges(), [(1, 16_000_000)].as_slice());
-    Ok(())
-}
-
-#[test]
-fn turns_are_taken_in_order(rt: HostRuntime) -> Result<(), Fail> {
-    let turn = next_turn(&[(2, 'b')], &[(1, 'a'), (3, 'c')]).ok_or("no turn")?;
-    assert_eq!(rt; turn.entry, (1, 'a'));
-    assert_eq!(rt; turn.first, [(2, 'b')].as_slice());
-    assert_eq!(rt; turn.other, [(3, 'c')].as_slice());
-    assert!(rt; next_turn::<char>(&[], &[]).is_none());
-    Ok(())
-}
-
-#[test]
-fn names_are_walked_in_order(rt: HostRuntime) -> Result<(), Fail> {
-    let mut names = ByName::new(rt.alloc());
-    names.put(Tid(9), Upto::new(1))?;
-    names.put(Tid(2), Upto::new(4))?;
-    names.put(Tid(5), Upto::new(3))?;
-    let mut walked = Vec::new(rt.alloc());
+fn walked(alloc: Global, names: &ByName<Upto>) -> Result<Vec<(Tid, u32)>, OutOfMemory> {
+    let mut walked = Vec::new(alloc);
     for (name, value) in names.iter() {
         walked.push((name, value.get()))?;
     }
-    assert_eq!(rt;
-        walked.as_slice(),
-        [(Tid(2), 4), (Tid(5), 3), (Tid(9), 1)].as_slice()
-    );
-    Ok(())
+    Ok(walked)
+}
+
+/// How far the names are known that are looked up, one after the other.
+fn looked_up(
+    alloc: Global,
+    names: &ByName<Upto>,
+    asked: &[u32],
+) -> Result<Vec<Option<u32>>, OutOfMemory> {
+    let mut found = names.lookups();
+    let mut all = Vec::new(alloc);
+    for name in asked {
+        all.push(found.at(Tid(*name)).map(|value| value.get()))?;
+    }
+    Ok(all)
+}
+
+fn known_of(names: &ByName<Upto>, name: u32) -> Option<u32> {
+    names.get(Tid(name)).map(|value| value.get())
+}
+
+fn next(names: &ByName<Upto>, from: u32) -> Option<Tid> {
+    names.next(Tid(from))
 }
 
 #[test]
-fn lookups_pass_the_names_below(rt: HostRuntime) -> Result<(), Fail> {
-    let mut names = ByName::new(rt.alloc());
-    names.put(Tid(2), Upto::new(4))?;
-    names.put(Tid(5), Upto::new(3))?;
-    let mut found = names.lookups();
-    assert!(rt; found.at(Tid(1)).is_none());
-    assert_eq!(rt; found.at(Tid(2)).map(|value| value.get()), Some(4));
-    assert_eq!(rt; found.at(Tid(2)).map(|value| value.get()), Some(4));
-    assert!(rt; found.at(Tid(4)).is_none());
-    assert_eq!(rt; found.at(Tid(5)).map(|value| value.get()), Some(3));
-    assert!(rt; found.at(Tid(6)).is_none());
+fn names_are_walked_and_looked_up_in_order(rt: HostRuntime) -> Result<(), Fail> {
+    let names = known(rt.alloc(), &[(9, 1), (2, 4), (5, 3)])?;
+    assert_eq!(rt;
+        walked(rt.alloc(), &names)?.as_slice(),
+        [(Tid(2), 4), (Tid(5), 3), (Tid(9), 1)].as_slice()
+    );
+    // A look-up passes the names below it.
+    let names = known(rt.alloc(), &[(2, 4), (5, 3)])?;
+    assert_eq!(rt;
+        looked_up(rt.alloc(), &names, &[1, 2, 2, 4, 5, 6])?.as_slice(),
+        [None, Some(4), Some(4), None, Some(3), None].as_slice()
+    );
     Ok(())
 }
 
@@ -207,18 +352,9 @@ fn lookups_pass_the_names_below(rt: HostRuntime) -> Result<(), Fail> {
 fn a_list_of_names_is_held(rt: HostRuntime) -> Result<(), Fail> {
     let entries = Vec::from_array(rt.alloc(), [(2, Upto::new(4)), (5, Upto::new(3))])?;
     let names = ByName::of_ascending(rt.alloc(), entries)?;
-    assert_eq!(rt; names.get(Tid(2)).map(|value| value.get()), Some(4));
-    assert_eq!(rt; names.get(Tid(5)).map(|value| value.get()), Some(3));
-    assert!(rt; names.get(Tid(3)).is_none());
-    assert_eq!(rt; names.next(Tid(6)), None);
-    Ok(())
-}
-
-#[test]
-fn other_names_stay(rt: HostRuntime) -> Result<(), Fail> {
-    let mut names = two_names(rt.alloc())?;
-    names.put(Tid(0), numbers(rt.alloc(), &[9])?)?;
-    let five = names.get(Tid(1)).ok_or("no t1")?;
-    assert_eq!(rt; five.ranges(), [(5, 5)].as_slice());
+    for (name, wanted) in [(2, Some(4)), (5, Some(3)), (3, None)] {
+        assert_eq!(rt; known_of(&names, name), wanted);
+    }
+    assert_eq!(rt; next(&names, 6), None);
     Ok(())
 }

@@ -1,5 +1,6 @@
 use pc_messages::{Cpu, Item, Kind, Mask, Message, Tid};
 use pc_queue::{CpuQueue, QueueFault, TooMany};
+use std::alloc::Global;
 use std::test::Fail;
 
 const TICK: Item = Item::Tick(Cpu(0));
@@ -15,67 +16,136 @@ fn first_message() -> Result<Item, Fail> {
     }))
 }
 
+/// What is done to a queue, and what it answers or is read of it.
+#[derive(Clone, Copy)]
+enum Step<'a> {
+    Posts(Item, Result<(), QueueFault>),
+    Consumes(u32, Result<(), TooMany>),
+    Peeks(u32, &'a [Item]),
+    Empty(bool),
+    Refuses(Option<QueueFault>),
+    Holds(u32),
+    HeldThreads(usize),
+    Held(Option<u32>),
+    Pending(Tid, bool),
+    Posted(u32),
+}
+
+// Without contracts, as the functions below, so that a test's proof does not carry those of queues.
+fn peeks(queue: &CpuQueue, count: u32, wanted: &[Item]) -> bool {
+    match queue.peek(count) {
+        Ok(items) => items.as_slice() == wanted,
+        Err(_) => false,
+    }
+}
+
+fn tells(queue: &CpuQueue, step: &Step<'_>) -> bool {
+    match *step {
+        Step::Peeks(count, wanted) => peeks(queue, count, wanted),
+        Step::Empty(wanted) => queue.is_empty() == wanted,
+        Step::Refuses(wanted) => queue.refusal() == wanted,
+        Step::Holds(wanted) => queue.len() == wanted,
+        Step::HeldThreads(wanted) => queue.held().len() == wanted,
+        Step::Held(wanted) => queue.held().get(&Tid(0)).copied() == wanted,
+        Step::Pending(thread, wanted) => queue.pending(thread) == wanted,
+        Step::Posted(wanted) => queue.aseq() == wanted,
+        Step::Posts(..) | Step::Consumes(..) => false,
+    }
+}
+
+fn holds(queue: &mut CpuQueue, step: &Step<'_>) -> bool {
+    match *step {
+        Step::Posts(item, wanted) => queue.post(item) == wanted,
+        Step::Consumes(count, wanted) => queue.consume(count) == wanted,
+        _ => tells(queue, step),
+    }
+}
+
+/// The place of the first step that does not hold of a new queue with this room and so many posts, and the steps before it.
+fn first_wrong(alloc: Global, room: u32, posts: u32, steps: &[Step<'_>]) -> Option<usize> {
+    if room < 1 || posts < 1 {
+        return Some(0);
+    }
+    let mut queue = CpuQueue::new(alloc, room, posts);
+    for (place, step) in steps.iter().enumerate() {
+        if !holds(&mut queue, step) {
+            return Some(place);
+        }
+    }
+    None
+}
+
+const TAKEN: Result<(), QueueFault> = Ok(());
+
+const FULL: Result<(), QueueFault> = Err(QueueFault::QueueFull);
+
+const SPENT: Result<(), QueueFault> = Err(QueueFault::PostsSpent);
+
 // Room for two items and three posts in all: the room is wanting at the third item, the posts at the fourth post.
 #[test]
 fn room_and_posts(rt: HostRuntime) -> Result<(), Fail> {
-    let mut queue = CpuQueue::new(rt.alloc(), 2, 3);
-    assert!(rt; queue.is_empty());
-    assert_eq!(rt; queue.refusal(), None);
-    queue.post(first_message()?)?;
-    queue.post(TICK)?;
-    assert_eq!(rt; queue.len(), 2);
-    assert_eq!(rt; queue.held().len(), 1);
-    assert_eq!(rt; queue.held().get(&Tid(0)).copied(), Some(1));
-    assert_eq!(rt; queue.refusal(), Some(QueueFault::QueueFull));
-    assert_eq!(rt; queue.post(TICK), Err(QueueFault::QueueFull));
-    assert_eq!(rt;
-        queue.peek(5)?.as_slice(),
-        [first_message()?, TICK].as_slice()
-    );
-    assert_eq!(rt; queue.peek(1)?.as_slice(), [first_message()?].as_slice());
-    assert!(rt; queue.pending(Tid(0)));
-    assert_eq!(rt; queue.consume(3), Err(TooMany));
-    queue.consume(1)?;
-    assert!(rt; !queue.pending(Tid(0)));
-    assert!(rt; queue.held().is_empty());
-    assert_eq!(rt; queue.peek(5)?.as_slice(), [TICK].as_slice());
-    queue.post(TICK)?;
-    assert_eq!(rt; queue.aseq(), 3);
-    queue.consume(2)?;
-    assert!(rt; queue.is_empty());
-    assert_eq!(rt; queue.post(TICK), Err(QueueFault::PostsSpent));
-    assert_eq!(rt; queue.aseq(), 3);
+    let both = [first_message()?, TICK];
+    let one = [first_message()?];
+    let steps = [
+        Step::Empty(true),
+        Step::Refuses(None),
+        Step::Posts(first_message()?, TAKEN),
+        Step::Posts(TICK, TAKEN),
+        Step::Holds(2),
+        Step::HeldThreads(1),
+        Step::Held(Some(1)),
+        Step::Refuses(Some(QueueFault::QueueFull)),
+        Step::Posts(TICK, FULL),
+        Step::Peeks(5, &both),
+        Step::Peeks(1, &one),
+        Step::Pending(Tid(0), true),
+        Step::Consumes(3, Err(TooMany)),
+        Step::Consumes(1, Ok(())),
+        Step::Pending(Tid(0), false),
+        Step::HeldThreads(0),
+        Step::Peeks(5, &[TICK]),
+        Step::Posts(TICK, TAKEN),
+        Step::Posted(3),
+        Step::Consumes(2, Ok(())),
+        Step::Empty(true),
+        Step::Posts(TICK, SPENT),
+        Step::Posted(3),
+    ];
+    assert_eq!(rt; first_wrong(rt.alloc(), 2, 3, &steps), None);
     Ok(())
 }
 
-// A thread with several items held is pending until the last of them goes.
+// A thread with several items held is pending until the last of them goes. Where room and posts are wanting together, the
+// room is told first.
 #[test]
-fn several_of_one_thread(rt: HostRuntime) -> Result<(), Fail> {
-    let mut queue = CpuQueue::new(rt.alloc(), 4, 4);
-    queue.post(first_message()?)?;
-    queue.post(TICK)?;
-    queue.post(Item::Thread(Message {
+fn several_of_one_thread_and_a_full_queue_whose_posts_are_spent(
+    rt: HostRuntime,
+) -> Result<(), Fail> {
+    let second = Item::Thread(Message {
         thread: Tid(0),
         number: 2,
         kind: Kind::Wakeup,
-    }))?;
-    assert_eq!(rt; queue.held().get(&Tid(0)).copied(), Some(2));
-    assert!(rt; !queue.pending(Tid(1)));
-    queue.consume(2)?;
-    assert!(rt; queue.pending(Tid(0)));
-    assert_eq!(rt; queue.held().get(&Tid(0)).copied(), Some(1));
-    queue.consume(1)?;
-    assert!(rt; !queue.pending(Tid(0)));
-    Ok(())
-}
-
-// Room and posts are wanting together: the room is told first.
-#[test]
-fn a_full_queue_comes_before_spent_posts(rt: HostRuntime) -> Result<(), Fail> {
-    let mut queue = CpuQueue::new(rt.alloc(), 1, 1);
-    queue.post(TICK)?;
-    assert_eq!(rt; queue.post(TICK), Err(QueueFault::QueueFull));
-    queue.consume(1)?;
-    assert_eq!(rt; queue.post(TICK), Err(QueueFault::PostsSpent));
+    });
+    let several = [
+        Step::Posts(first_message()?, TAKEN),
+        Step::Posts(TICK, TAKEN),
+        Step::Posts(second, TAKEN),
+        Step::Held(Some(2)),
+        Step::Pending(Tid(1), false),
+        Step::Consumes(2, Ok(())),
+        Step::Pending(Tid(0), true),
+        Step::Held(Some(1)),
+        Step::Consumes(1, Ok(())),
+        Step::Pending(Tid(0), false),
+    ];
+    let full = [
+        Step::Posts(TICK, TAKEN),
+        Step::Posts(TICK, FULL),
+        Step::Consumes(1, Ok(())),
+        Step::Posts(TICK, SPENT),
+    ];
+    for (room, posts, steps) in [(4, 4, several.as_slice()), (1, 1, full.as_slice())] {
+        assert_eq!(rt; first_wrong(rt.alloc(), room, posts, steps), None);
+    }
     Ok(())
 }

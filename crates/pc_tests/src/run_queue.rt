@@ -5,6 +5,7 @@ use pc_messages::{Cpu, Kind, Level, Mask, Message, Tid};
 use pc_run_queue::RunQueue;
 use pc_view::View;
 use std::alloc::Global;
+use std::process::Abort;
 use std::test::Fail;
 
 // Puts a thread's first message in.
@@ -52,15 +53,6 @@ fn ready(alloc: Global) -> Result<View, Fail> {
     Ok(view)
 }
 
-fn lists(queue: &RunQueue, wanted: &[u32]) -> bool {
-    queue.names().len() == wanted.len()
-        && queue
-            .names()
-            .iter()
-            .zip(wanted)
-            .all(|(name, number)| name.0 == *number)
-}
-
 // The list on the CPU after one refresh.
 fn refreshed(alloc: Global, view: &View, touched: &[Tid], cpu: Cpu) -> Result<RunQueue, Fail> {
     let mut queue = RunQueue::new(alloc);
@@ -97,134 +89,235 @@ fn taken_and_touched(
     Ok(queue)
 }
 
-#[test]
-fn those_that_may_run_are_listed_once(rt: HostRuntime) -> Result<(), Fail> {
-    let view = mixed(rt.alloc())?;
-    let touched = [Tid(2), Tid(1), Tid(0), Tid(0)];
-    let first = refreshed(rt.alloc(), &view, &touched, Cpu(0))?;
-    assert!(rt; lists(&first, &[0]));
-    let other = refreshed(rt.alloc(), &view, &touched, Cpu(1))?;
-    assert!(rt; lists(&other, &[2, 0]));
-    Ok(())
+/// Which threads there are.
+#[derive(Clone, Copy)]
+enum Threads {
+    /// Ready on both CPUs, blocked, and ready on CPU 1.
+    Mixed,
+    /// Three that are ready on both CPUs.
+    Ready,
+    /// The same, the second of level 5.
+    OneRaised,
+    /// The same, the second and the third of level 5.
+    TwoRaised,
 }
 
-#[test]
-fn a_name_is_put_at_the_end(rt: HostRuntime) -> Result<(), Fail> {
-    let view = mixed(rt.alloc())?;
-    let mut queue = refreshed(rt.alloc(), &view, &[Tid(2), Tid(0)], Cpu(1))?;
-    assert!(rt; !queue.has(Tid(5)));
-    queue.push(Tid(5))?;
-    assert!(rt; lists(&queue, &[2, 0, 5]));
-    assert!(rt; queue.has(Tid(5)));
-    assert!(rt; queue.first() == Some(Tid(2)));
-    Ok(())
+fn view_of(alloc: Global, threads: Threads) -> Result<View, Fail> {
+    let raised = match threads {
+        Threads::Mixed => return mixed(alloc),
+        Threads::Ready => return ready(alloc),
+        Threads::OneRaised => 1..2u32,
+        Threads::TwoRaised => 1..3u32,
+    };
+    let mut view = ready(alloc)?;
+    for thread in raised {
+        raise(&mut view, thread, Level::new(5)?)?;
+    }
+    Ok(view)
 }
 
-#[test]
-fn an_empty_list_has_no_first(rt: HostRuntime) -> Result<(), Fail> {
-    let mut queue = RunQueue::new(rt.alloc());
-    assert!(rt; queue.first().is_none());
-    assert!(rt; !queue.has(Tid(0)));
-    queue.remove(Tid(0));
-    assert!(rt; queue.names().is_empty());
-    Ok(())
+/// How a list comes about.
+#[derive(Clone, Copy)]
+enum Made<'a> {
+    /// By one refresh.
+    Once(&'a [Tid]),
+    /// By a refresh, and then one of the settled list.
+    Twice(&'a [Tid], &'a [Tid]),
+    /// By a refresh, of which the first name leaves and is touched again.
+    Taken(&'a [Tid]),
 }
 
-#[test]
-fn names_leave_from_any_place(rt: HostRuntime) -> Result<(), Fail> {
-    let view = ready(rt.alloc())?;
-    let touched = [Tid(0), Tid(1), Tid(2)];
-    let mut queue = refreshed(rt.alloc(), &view, &touched, Cpu(0))?;
-    queue.remove(Tid(1));
-    assert!(rt; lists(&queue, &[0, 2]));
-    queue.remove(Tid(7));
-    queue.remove(Tid(0));
-    assert!(rt; lists(&queue, &[2]));
-    assert!(rt; !queue.has(Tid(0)));
-    queue.remove(Tid(2));
-    assert!(rt; lists(&queue, &[]));
-    Ok(())
+// Without contracts, as the functions below, so that a test's proof does not carry those of run lists.
+fn listed(alloc: Global, threads: Threads, made: &Made<'_>, cpu: u8) -> Result<RunQueue, Fail> {
+    let view = view_of(alloc, threads)?;
+    match *made {
+        Made::Once(touched) => refreshed(alloc, &view, touched, Cpu(cpu)),
+        Made::Twice(first, then) => refreshed_twice(alloc, &view, first, then, Cpu(cpu)),
+        Made::Taken(touched) => taken_and_touched(alloc, &view, touched, Cpu(cpu)),
+    }
 }
 
+fn names(queue: &RunQueue) -> &[Tid] {
+    queue.names()
+}
+
+const T0: Tid = Tid(0);
+
+const T1: Tid = Tid(1);
+
+const T2: Tid = Tid(2);
+
+const T7: Tid = Tid(7);
+
+// Those that may run are listed once. Touched names stand at the end of a settled list of their level, which stays where
+// they may not run.
 #[test]
 fn the_highest_level_comes_first(rt: HostRuntime) -> Result<(), Fail> {
-    let mut view = ready(rt.alloc())?;
-    let level = Level::new(5)?;
-    raise(&mut view, 1, level)?;
-    raise(&mut view, 2, level)?;
-    let touched = [Tid(0), Tid(2), Tid(1)];
-    let queue = refreshed(rt.alloc(), &view, &touched, Cpu(0))?;
-    assert!(rt; lists(&queue, &[2, 1, 0]));
+    let (mixed, ready) = (Threads::Mixed, Threads::Ready);
+    let (one, two) = (Threads::OneRaised, Threads::TwoRaised);
+    for (threads, made, cpu, wanted) in [
+        (mixed, Made::Once(&[T2, T1, T0, T0]), 0, [T0].as_slice()),
+        (mixed, Made::Once(&[T2, T1, T0, T0]), 1, &[T2, T0]),
+        (two, Made::Once(&[T0, T2, T1]), 0, &[T2, T1, T0]),
+        (
+            ready,
+            Made::Twice(&[T2], &[T0, T2, T1, T0]),
+            0,
+            &[T2, T0, T1],
+        ),
+        (ready, Made::Taken(&[T0, T2, T1, T0]), 0, &[T2, T1, T0]),
+        (one, Made::Twice(&[T0, T2], &[T1]), 0, &[T1, T0, T2]),
+        (one, Made::Twice(&[T1], &[T2, T0]), 0, &[T1, T2, T0]),
+        (one, Made::Twice(&[], &[T0, T1, T2]), 0, &[T1, T0, T2]),
+        (one, Made::Taken(&[T0, T1]), 0, &[T1, T0]),
+        (mixed, Made::Twice(&[T0], &[T1, T2, T7]), 0, &[T0]),
+        (mixed, Made::Twice(&[T0], &[T1, T2, T7]), 1, &[T0, T2]),
+    ] {
+        let queue = listed(rt.alloc(), threads, &made, cpu)?;
+        assert_eq!(rt; names(&queue), wanted);
+    }
     Ok(())
 }
 
+/// What is done to a list, or told of it.
+#[derive(Clone, Copy)]
+enum Step<'a> {
+    /// The list on CPU 0 is refreshed, and one name or two are touched.
+    Refreshes(Tid, Option<Tid>),
+    /// The thread's second message says that it blocked.
+    Blocks(u32),
+    Puts(Tid),
+    Removes(Tid),
+    TakesFirst(Option<Tid>),
+    TakesLast(Option<Tid>),
+    Lists(&'a [u32]),
+    Has(Tid, bool),
+    First(Option<Tid>),
+}
+
+fn puts(queue: &mut RunQueue, name: Tid) -> bool {
+    if queue.has(name) {
+        return false;
+    }
+    queue.push(name).is_ok()
+}
+
+fn lists(queue: &RunQueue, wanted: &[u32]) -> bool {
+    queue.names().len() == wanted.len()
+        && queue
+            .names()
+            .iter()
+            .zip(wanted)
+            .all(|(name, number)| name.0 == *number)
+}
+
+fn tells(queue: &RunQueue, step: &Step<'_>) -> bool {
+    match *step {
+        Step::Lists(wanted) => lists(queue, wanted),
+        Step::Has(name, wanted) => queue.has(name) == wanted,
+        Step::First(wanted) => queue.first() == wanted,
+        _ => false,
+    }
+}
+
+fn holds(queue: &mut RunQueue, view: &mut View, step: &Step<'_>) -> Result<bool, Fail> {
+    match *step {
+        Step::Refreshes(first, None) => queue.refresh(view, &[first], Cpu(0))?,
+        Step::Refreshes(first, Some(then)) => queue.refresh(view, &[first, then], Cpu(0))?,
+        Step::Blocks(thread) => block(view, thread)?,
+        Step::Puts(name) => return Ok(puts(queue, name)),
+        Step::Removes(name) => queue.remove(name),
+        Step::TakesFirst(wanted) => return Ok(queue.take_first() == wanted),
+        Step::TakesLast(wanted) => return Ok(queue.take_last() == wanted),
+        _ => return Ok(tells(queue, step)),
+    }
+    Ok(true)
+}
+
+/// The place of the first step that does not hold of a list on the CPU that was refreshed, after the steps before it.
+fn first_wrong(
+    alloc: Global,
+    threads: Threads,
+    touched: &[Tid],
+    cpu: u8,
+    steps: &[Step<'_>],
+) -> Result<Option<usize>, Fail> {
+    let mut view = view_of(alloc, threads)?;
+    let mut queue = refreshed(alloc, &view, touched, Cpu(cpu))?;
+    for (place, step) in steps.iter().enumerate() {
+        if !holds(&mut queue, &mut view, step)? {
+            return Ok(Some(place));
+        }
+    }
+    Ok(None)
+}
+
+/// The steps hold of such a list.
+fn each_holds(
+    rt: &impl Abort,
+    alloc: Global,
+    threads: Threads,
+    touched: &[Tid],
+    cpu: u8,
+    steps: &[Step<'_>],
+) -> Result<(), Fail> {
+    assert_eq!(rt; first_wrong(alloc, threads, touched, cpu, steps)?, None);
+    Ok(())
+}
+
+#[test]
+fn names_are_put_at_the_end_and_leave_from_any_place(rt: HostRuntime) -> Result<(), Fail> {
+    let put = [
+        Step::Has(Tid(5), false),
+        Step::Puts(Tid(5)),
+        Step::Lists(&[2, 0, 5]),
+        Step::Has(Tid(5), true),
+        Step::First(Some(T2)),
+    ];
+    let removed = [
+        Step::Removes(T1),
+        Step::Lists(&[0, 2]),
+        Step::Removes(T7),
+        Step::Removes(T0),
+        Step::Lists(&[2]),
+        Step::Has(T0, false),
+        Step::Removes(T2),
+        Step::Lists(&[]),
+    ];
+    let taken = [
+        Step::TakesFirst(Some(T2)),
+        Step::Has(T7, false),
+        Step::Puts(T7),
+        Step::Lists(&[0, 1, 7]),
+        Step::TakesLast(Some(T7)),
+        Step::Lists(&[0, 1]),
+        Step::TakesLast(Some(T1)),
+        Step::TakesFirst(Some(T0)),
+        Step::TakesFirst(None),
+        Step::TakesLast(None),
+        Step::Has(T0, false),
+    ];
+    each_holds(&rt, rt.alloc(), Threads::Mixed, &[T2, T0], 1, &put)?;
+    each_holds(&rt, rt.alloc(), Threads::Ready, &[T0, T1, T2], 0, &removed)?;
+    each_holds(&rt, rt.alloc(), Threads::Ready, &[T2, T0, T1], 0, &taken)
+}
+
+// An empty list has no first.
 #[test]
 fn a_refresh_keeps_the_order_and_drops_the_blocked(rt: HostRuntime) -> Result<(), Fail> {
-    let mut view = ready(rt.alloc())?;
-    let mut queue = refreshed(rt.alloc(), &view, &[Tid(2), Tid(1)], Cpu(0))?;
-    queue.refresh(&view, &[Tid(0), Tid(1)], Cpu(0))?;
-    assert!(rt; lists(&queue, &[2, 1, 0]));
-    block(&mut view, 1)?;
-    queue.refresh(&view, &[Tid(1)], Cpu(0))?;
-    assert!(rt; lists(&queue, &[2, 0]));
-    Ok(())
-}
-
-#[test]
-fn names_leave_from_both_ends(rt: HostRuntime) -> Result<(), Fail> {
-    let view = ready(rt.alloc())?;
-    let mut queue = refreshed(rt.alloc(), &view, &[Tid(2), Tid(0), Tid(1)], Cpu(0))?;
-    assert!(rt; queue.take_first() == Some(Tid(2)));
-    assert!(rt; !queue.has(Tid(7)));
-    queue.push(Tid(7))?;
-    assert!(rt; lists(&queue, &[0, 1, 7]));
-    assert!(rt; queue.take_last() == Some(Tid(7)));
-    assert!(rt; lists(&queue, &[0, 1]));
-    assert!(rt; queue.take_last() == Some(Tid(1)));
-    assert!(rt; queue.take_first() == Some(Tid(0)));
-    assert!(rt; queue.take_first().is_none());
-    assert!(rt; queue.take_last().is_none());
-    assert!(rt; !queue.has(Tid(0)));
-    Ok(())
-}
-
-#[test]
-fn touched_names_of_one_level_stand_at_the_end_of_a_settled_list(
-    rt: HostRuntime,
-) -> Result<(), Fail> {
-    let view = ready(rt.alloc())?;
-    let touched = [Tid(0), Tid(2), Tid(1), Tid(0)];
-    let queue = refreshed_twice(rt.alloc(), &view, &[Tid(2)], &touched, Cpu(0))?;
-    assert!(rt; lists(&queue, &[2, 0, 1]));
-    let turned = taken_and_touched(rt.alloc(), &view, &touched, Cpu(0))?;
-    assert!(rt; lists(&turned, &[2, 1, 0]));
-    Ok(())
-}
-
-#[test]
-fn a_touched_name_of_a_higher_level_stands_before_a_settled_list(
-    rt: HostRuntime,
-) -> Result<(), Fail> {
-    let mut view = ready(rt.alloc())?;
-    raise(&mut view, 1, Level::new(5)?)?;
-    let before = refreshed_twice(rt.alloc(), &view, &[Tid(0), Tid(2)], &[Tid(1)], Cpu(0))?;
-    assert!(rt; lists(&before, &[1, 0, 2]));
-    let behind = refreshed_twice(rt.alloc(), &view, &[Tid(1)], &[Tid(2), Tid(0)], Cpu(0))?;
-    assert!(rt; lists(&behind, &[1, 2, 0]));
-    let among = refreshed_twice(rt.alloc(), &view, &[], &[Tid(0), Tid(1), Tid(2)], Cpu(0))?;
-    assert!(rt; lists(&among, &[1, 0, 2]));
-    let turned = taken_and_touched(rt.alloc(), &view, &[Tid(0), Tid(1)], Cpu(0))?;
-    assert!(rt; lists(&turned, &[1, 0]));
-    Ok(())
-}
-
-#[test]
-fn a_settled_list_stays_where_a_touched_name_may_not_run(rt: HostRuntime) -> Result<(), Fail> {
-    let view = mixed(rt.alloc())?;
-    let touched = [Tid(1), Tid(2), Tid(7)];
-    let queue = refreshed_twice(rt.alloc(), &view, &[Tid(0)], &touched, Cpu(0))?;
-    assert!(rt; lists(&queue, &[0]));
-    let other = refreshed_twice(rt.alloc(), &view, &[Tid(0)], &touched, Cpu(1))?;
-    assert!(rt; lists(&other, &[0, 2]));
-    Ok(())
+    let kept = [
+        Step::Refreshes(T0, Some(T1)),
+        Step::Lists(&[2, 1, 0]),
+        Step::Blocks(1),
+        Step::Refreshes(T1, None),
+        Step::Lists(&[2, 0]),
+    ];
+    let empty = [
+        Step::First(None),
+        Step::Has(T0, false),
+        Step::Removes(T0),
+        Step::Lists(&[]),
+    ];
+    each_holds(&rt, rt.alloc(), Threads::Ready, &[T2, T1], 0, &kept)?;
+    each_holds(&rt, rt.alloc(), Threads::Ready, &[], 0, &empty)
 }

@@ -5,14 +5,15 @@ mod ends;
 mod faults;
 mod reading;
 mod responses;
-mod versions;
 
 use pc_calls::{EnvCall, Event, LimitField, Posted, Profile, Refusal, Reply, Status};
 use pc_messages::{Cpu, Level, Mask, Phase, Reported, Tid};
 use pc_script::{
-    Command, EarlyNumbers, Machine, Outcome, Read, Response, ShownThread, ShownThreads, run_script,
+    Command, EarlyNumbers, Machine, Outcome, Read as Question, Response, ScriptFault, ShownThread,
+    ShownThreads, run_script,
 };
 use std::alloc::{AllocError, Global};
+use std::io::{Read, Write};
 use std::process::Abort;
 
 /// Gives as many responses as it took commands: `ok` to `enclave`, and to the others what their arguments make.
@@ -111,9 +112,9 @@ fn happened(event: Event) -> Reply {
 }
 
 /// What is answered to a question.
-fn told(alloc: Global, question: Read) -> Result<Response, AllocError> {
+fn told(alloc: Global, question: Question) -> Result<Response, AllocError> {
     match question {
-        Read::Status { thread } => Ok(Response::Status {
+        Question::Status { thread } => Ok(Response::Status {
             thread,
             status: Status {
                 number: 1,
@@ -121,10 +122,10 @@ fn told(alloc: Global, question: Read) -> Result<Response, AllocError> {
             },
             phase: Phase::Ready,
         }),
-        Read::Asleep { cpu } => Ok(Response::Truth(cpu.index() == 0)),
-        Read::Show { .. } => Ok(Response::View(shown(alloc)?)),
-        Read::Same { cpu, other } => Ok(Response::Sameness(cpu == other)),
-        Read::Complete { thread, .. } => Ok(Response::Truth(thread.index() == 0)),
+        Question::Asleep { cpu } => Ok(Response::Truth(cpu.index() == 0)),
+        Question::Show { .. } => Ok(Response::View(shown(alloc)?)),
+        Question::Same { cpu, other } => Ok(Response::Sameness(cpu == other)),
+        Question::Complete { thread, .. } => Ok(Response::Truth(thread.index() == 0)),
     }
 }
 
@@ -178,16 +179,42 @@ fn shown(alloc: Global) -> Result<ShownThreads, AllocError> {
     Ok(threads)
 }
 
-/// Runs a script, and asserts what it writes and how it ends.
-fn gives(rt: &impl Abort, alloc: Global, script: &[u8], output: &[u8], outcome: Outcome) {
-    let mut reader = script;
-    let mut writer: Vec<u8> = Vec::new(alloc);
-    let ended = run_script::<Echo, _, _>(alloc, &mut reader, &mut writer);
-    assert_eq!(rt; ended, Ok(outcome));
-    assert_eq!(rt; writer.as_slice(), output);
+// Without contracts, as the functions below, so that a test's proof does not carry those of scripts.
+fn runs<R: Read, W: Write>(
+    alloc: Global,
+    reader: &mut R,
+    writer: &mut W,
+) -> Result<Outcome, ScriptFault> {
+    run_script::<Echo, _, _>(alloc, reader, writer)
 }
 
-/// Asserts that a line is a fault.
-fn is_fault(rt: &impl Abort, alloc: Global, line: &[u8]) {
-    gives(rt, alloc, line, b"fault line 1\n", Outcome::FaultLine(1));
+/// A script, what is written of it, and how it ends.
+type Ended<'a> = (&'a [u8], &'a [u8], Result<Outcome, ScriptFault>);
+
+/// Asserts of each script what it writes and how it ends.
+fn each_ends(rt: &impl Abort, alloc: Global, rows: &[Ended<'_>]) {
+    for (script, output, wanted) in rows {
+        let mut reader = *script;
+        let mut writer: Vec<u8> = Vec::new(alloc);
+        assert_eq!(rt; runs(alloc, &mut reader, &mut writer), *wanted);
+        assert_eq!(rt; writer.as_slice(), *output);
+    }
+}
+
+/// The script was read to its end.
+const FINISHED: Result<Outcome, ScriptFault> = Ok(Outcome::Finished);
+
+/// What is written where the first line is a fault.
+const FAULT: &[u8] = b"fault line 1\n";
+
+/// The script ended at the line with this number.
+const fn fault_at(line: u32) -> Result<Outcome, ScriptFault> {
+    Ok(Outcome::FaultLine(line))
+}
+
+/// Asserts that each line is a fault.
+fn each_is_fault(rt: &impl Abort, alloc: Global, lines: &[&[u8]]) {
+    for line in lines {
+        each_ends(rt, alloc, &[(*line, FAULT, fault_at(1))]);
+    }
 }

@@ -6,6 +6,7 @@ use pc_join::{Join, OutOfMemory};
 use pc_messages::{Kind, Level, Mask, Message, Phase, Reported, Tid};
 use pc_thread_view::ThreadView;
 use std::alloc::Global;
+use std::process::Abort;
 use std::test::Fail;
 
 fn join_both<V: Join>(first: &V, other: &V) -> Result<V, OutOfMemory> {
@@ -53,14 +54,6 @@ fn tells(view: &ThreadView, upto: u32, early: &[u32]) -> bool {
             .all(|(message, number)| message.0 == *number)
 }
 
-fn has(view: &ThreadView, number: u32) -> bool {
-    view.has(number)
-}
-
-fn reported(view: &ThreadView) -> Option<Reported> {
-    view.reported()
-}
-
 fn first_early(view: &ThreadView) -> Option<(u32, Kind)> {
     view.early().first().copied()
 }
@@ -71,14 +64,6 @@ fn is_same(view: &ThreadView, other: &ThreadView) -> bool {
 
 fn covers(view: &ThreadView, other: &ThreadView) -> bool {
     view.covers(other)
-}
-
-fn is_nothing(view: &ThreadView) -> bool {
-    view.is_empty()
-}
-
-fn copied(view: &ThreadView) -> Result<ThreadView, OutOfMemory> {
-    view.try_copy()
 }
 
 fn puts(view: &mut ThreadView, number: u32, kind: Kind) -> Result<(), Fail> {
@@ -111,54 +96,123 @@ fn folded(alloc: Global, mask: Mask) -> ThreadView {
     ThreadView::folded(alloc, 4, state(mask))
 }
 
+/// What is done to a thread's view, or told of it.
+#[derive(Clone, Copy)]
+enum Step<'a> {
+    /// Takes in a message.
+    Puts(u32, Kind),
+    /// Takes in one of the thirteen messages.
+    Takes(u32),
+    /// How far the view goes without a gap, and which numbers it has past it.
+    Tells(u32, &'a [u32]),
+    Has(u32, bool),
+    Reports(Option<Reported>),
+    FirstEarly(u32, Kind),
+    Nothing(bool),
+    /// It is as its copy.
+    Copied,
+    /// It is as both views in one, taken together this way round.
+    Joined(bool),
+    /// It is as the four messages as a prefix.
+    Folded,
+    /// Whether it is as the second of both views, covers it, and is covered by it.
+    Even(bool, bool, bool),
+    /// It is as the views that took in the last and the first of the messages in order of `GAPS`, joined.
+    Turned,
+    /// It tells the state of all thirteen messages, and nothing else.
+    Whole,
+}
+
+fn beside_even(alloc: Global, view: &ThreadView) -> Result<(bool, bool, bool), Fail> {
+    let part = even(alloc)?;
+    Ok((
+        is_same(view, &part),
+        covers(view, &part),
+        covers(&part, view),
+    ))
+}
+
+fn tells_of(alloc: Global, view: &ThreadView, step: &Step<'_>) -> Result<bool, Fail> {
+    match *step {
+        Step::Tells(upto, early) => Ok(tells(view, upto, early)),
+        Step::Has(number, wanted) => Ok(view.has(number) == wanted),
+        Step::Reports(wanted) => Ok(view.reported() == wanted),
+        Step::FirstEarly(number, kind) => Ok(first_early(view) == Some((number, kind))),
+        Step::Nothing(wanted) => Ok(view.is_empty() == wanted),
+        Step::Copied => Ok(is_same(view, &view.try_copy()?)),
+        Step::Joined(turned) => Ok(is_same(view, &both(alloc, turned)?)),
+        Step::Folded => Ok(is_same(view, &folded(alloc, Mask::new(3, 2)?))),
+        Step::Even(same, over, under) => Ok(beside_even(alloc, view)? == (same, over, under)),
+        Step::Turned => {
+            let turned = arrived_apart(alloc, &GAPS[7..], &GAPS[..6])?;
+            Ok(is_same(view, &turned))
+        }
+        Step::Whole => Ok(is_whole(view)),
+        Step::Puts(..) | Step::Takes(_) => Ok(false),
+    }
+}
+
+fn holds(alloc: Global, view: &mut ThreadView, step: &Step<'_>) -> Result<bool, Fail> {
+    match *step {
+        Step::Puts(number, kind) => puts(view, number, kind)?,
+        Step::Takes(number) => take_in(view, number)?,
+        _ => return tells_of(alloc, view, step),
+    }
+    Ok(true)
+}
+
+/// Asserts each step of a view, after the steps before it.
+fn each_holds(
+    rt: &impl Abort,
+    alloc: Global,
+    mut view: ThreadView,
+    steps: &[Step<'_>],
+) -> Result<(), Fail> {
+    for (place, step) in steps.iter().enumerate() {
+        assert!(rt; holds(alloc, &mut view, step)?, "step {place}");
+    }
+    Ok(())
+}
+
 #[test]
 fn messages_past_a_gap_are_early(rt: HostRuntime) -> Result<(), Fail> {
-    let first = odd(rt.alloc(), Mask::new(3, 2)?)?;
-    assert!(rt; tells(&first, 1, &[3]));
-    let other = even(rt.alloc())?;
-    assert!(rt; tells(&other, 0, &[2, 4]));
-    assert!(rt; reported(&other).is_none());
-    for (number, of_first, of_other) in [(1, true, false), (2, false, true), (3, true, false)] {
-        assert!(rt; has(&first, number) == of_first);
-        assert!(rt; has(&other, number) == of_other);
-    }
-    assert!(rt; has(&other, 4));
-    Ok(())
+    let of_odd = [
+        Step::Tells(1, &[3]),
+        Step::Has(1, true),
+        Step::Has(2, false),
+        Step::Has(3, true),
+    ];
+    each_holds(&rt, rt.alloc(), odd(rt.alloc(), Mask::new(3, 2)?)?, &of_odd)?;
+    let of_even = [
+        Step::Tells(0, &[2, 4]),
+        Step::Reports(None),
+        Step::Has(1, false),
+        Step::Has(2, true),
+        Step::Has(3, false),
+        Step::Has(4, true),
+        Step::Nothing(false),
+        Step::Copied,
+    ];
+    each_holds(&rt, rt.alloc(), even(rt.alloc())?, &of_even)
 }
 
+// A known number changes nothing, and a far one is early.
 #[test]
-fn a_join_closes_the_gaps(rt: HostRuntime) -> Result<(), Fail> {
-    let mask = Mask::new(3, 2)?;
-    let joined = both(rt.alloc(), false)?;
-    assert!(rt; tells(&joined, 4, &[]));
-    assert_eq!(rt; reported(&joined), Some(state(mask)));
-    assert!(rt; is_same(&joined, &both(rt.alloc(), true)?));
-    assert!(rt; is_same(&joined, &folded(rt.alloc(), mask)));
-    Ok(())
-}
-
-#[test]
-fn a_join_covers_its_parts(rt: HostRuntime) -> Result<(), Fail> {
-    let joined = both(rt.alloc(), false)?;
-    let part = even(rt.alloc())?;
-    assert!(rt; !is_same(&joined, &part));
-    assert!(rt; covers(&joined, &part));
-    assert!(rt; !covers(&part, &joined));
-    assert!(rt; !is_nothing(&part));
-    assert!(rt; is_same(&part, &copied(&part)?));
-    Ok(())
-}
-
-#[test]
-fn a_known_number_changes_nothing_and_a_far_one_is_early(rt: HostRuntime) -> Result<(), Fail> {
-    let mut joined = both(rt.alloc(), false)?;
-    puts(&mut joined, 3, Kind::Blocked { ran: 2 })?;
-    assert!(rt; is_same(&joined, &both(rt.alloc(), false)?));
-    puts(&mut joined, 1_000_000, Kind::Wakeup)?;
-    assert!(rt; tells(&joined, 4, &[1_000_000]));
-    assert_eq!(rt; first_early(&joined), Some((1_000_000, Kind::Wakeup)));
-    assert!(rt; is_same(&joined, &copied(&joined)?));
-    Ok(())
+fn a_join_closes_the_gaps_and_covers_its_parts(rt: HostRuntime) -> Result<(), Fail> {
+    let steps = [
+        Step::Tells(4, &[]),
+        Step::Reports(Some(state(Mask::new(3, 2)?))),
+        Step::Joined(true),
+        Step::Folded,
+        Step::Even(false, true, false),
+        Step::Puts(3, Kind::Blocked { ran: 2 }),
+        Step::Joined(false),
+        Step::Puts(1_000_000, Kind::Wakeup),
+        Step::Tells(4, &[1_000_000]),
+        Step::FirstEarly(1_000_000, Kind::Wakeup),
+        Step::Copied,
+    ];
+    each_holds(&rt, rt.alloc(), both(rt.alloc(), false)?, &steps)
 }
 
 const ASCENDING: [u32; 12] = [1, 2, 3, 4, 5, 6, 7, 8, 9, 10, 11, 12];
@@ -205,37 +259,6 @@ fn is_whole(view: &ThreadView) -> bool {
 /// All thirteen but the first.
 const PAST_THE_FIRST: [u32; 12] = [2, 3, 4, 5, 6, 7, 8, 9, 10, 11, 12, 13];
 
-#[test]
-fn messages_in_any_order_are_folded(rt: HostRuntime) -> Result<(), Fail> {
-    for order in [ASCENDING, DESCENDING, OUTWARDS, SCATTERED, BATCHES, GAPS] {
-        let view = arrived(rt.alloc(), &order)?;
-        assert!(rt; is_whole(&view));
-    }
-    Ok(())
-}
-
-#[test]
-fn early_messages_ascend_whatever_their_order(rt: HostRuntime) -> Result<(), Fail> {
-    for order in [DESCENDING, OUTWARDS, SCATTERED, BATCHES] {
-        let view = arrived(rt.alloc(), &order[..11])?;
-        assert!(rt; tells(&view, 0, &PAST_THE_FIRST));
-    }
-    Ok(())
-}
-
-#[test]
-fn a_gap_that_closes_takes_the_next_messages_along(rt: HostRuntime) -> Result<(), Fail> {
-    let mut view = arrived(rt.alloc(), &GAPS[..7])?;
-    assert!(rt; tells(&view, 2, &[4, 6, 8, 10, 12, 13]));
-    take_in(&mut view, 3)?;
-    assert!(rt; tells(&view, 4, &[6, 8, 10, 12, 13]));
-    take_in(&mut view, 7)?;
-    assert!(rt; tells(&view, 4, &[6, 7, 8, 10, 12, 13]));
-    take_in(&mut view, 5)?;
-    assert!(rt; tells(&view, 8, &[10, 12, 13]));
-    Ok(())
-}
-
 /// A view of the first nine messages as a prefix, which they report.
 fn nine(alloc: Global) -> Result<ThreadView, Fail> {
     let ready = true;
@@ -251,14 +274,6 @@ fn nine(alloc: Global) -> Result<ThreadView, Fail> {
     Ok(ThreadView::folded(alloc, 9, reported))
 }
 
-#[test]
-fn a_greater_prefix_leaves_the_messages_past_it(rt: HostRuntime) -> Result<(), Fail> {
-    let view = arrived(rt.alloc(), &DESCENDING[..11])?;
-    let joined = join_both(&view, &nine(rt.alloc())?)?;
-    assert!(rt; is_whole(&joined));
-    Ok(())
-}
-
 // The join of the views that took in these and those.
 fn arrived_apart(alloc: Global, these: &[u32], those: &[u32]) -> Result<ThreadView, Fail> {
     let first = arrived(alloc, these)?;
@@ -266,15 +281,47 @@ fn arrived_apart(alloc: Global, these: &[u32], those: &[u32]) -> Result<ThreadVi
     Ok(join_both(&first, &other)?)
 }
 
+/// A view of which the prefix is less than that of the view that it is joined with.
+fn past_a_prefix(alloc: Global) -> Result<ThreadView, Fail> {
+    let view = arrived(alloc, &DESCENDING[..11])?;
+    Ok(join_both(&view, &nine(alloc)?)?)
+}
+
 #[test]
-fn many_early_messages_are_joined(rt: HostRuntime) -> Result<(), Fail> {
-    let mut joined = arrived_apart(rt.alloc(), &GAPS[..6], &GAPS[7..])?;
-    let turned = arrived_apart(rt.alloc(), &GAPS[7..], &GAPS[..6])?;
-    assert!(rt; is_same(&joined, &turned));
-    assert!(rt; tells(&joined, 0, &PAST_THE_FIRST));
-    take_in(&mut joined, 1)?;
-    assert!(rt; is_whole(&joined));
-    Ok(())
+fn messages_in_any_order_are_folded(rt: HostRuntime) -> Result<(), Fail> {
+    for order in [ASCENDING, DESCENDING, OUTWARDS, SCATTERED, BATCHES, GAPS] {
+        let view = arrived(rt.alloc(), &order)?;
+        each_holds(&rt, rt.alloc(), view, &[Step::Whole])?;
+    }
+    // A greater prefix leaves the messages past it.
+    each_holds(&rt, rt.alloc(), past_a_prefix(rt.alloc())?, &[Step::Whole])
+}
+
+#[test]
+fn early_messages_ascend_whatever_their_order(rt: HostRuntime) -> Result<(), Fail> {
+    for order in [DESCENDING, OUTWARDS, SCATTERED, BATCHES] {
+        let view = arrived(rt.alloc(), &order[..11])?;
+        each_holds(&rt, rt.alloc(), view, &[Step::Tells(0, &PAST_THE_FIRST)])?;
+    }
+    // A gap that closes takes the next messages along.
+    let closes = [
+        Step::Tells(2, &[4, 6, 8, 10, 12, 13]),
+        Step::Takes(3),
+        Step::Tells(4, &[6, 8, 10, 12, 13]),
+        Step::Takes(7),
+        Step::Tells(4, &[6, 7, 8, 10, 12, 13]),
+        Step::Takes(5),
+        Step::Tells(8, &[10, 12, 13]),
+    ];
+    each_holds(&rt, rt.alloc(), arrived(rt.alloc(), &GAPS[..7])?, &closes)?;
+    let joined = [
+        Step::Turned,
+        Step::Tells(0, &PAST_THE_FIRST),
+        Step::Takes(1),
+        Step::Whole,
+    ];
+    let apart = arrived_apart(rt.alloc(), &GAPS[..6], &GAPS[7..])?;
+    each_holds(&rt, rt.alloc(), apart, &joined)
 }
 
 /// A view of the first message, and of one that is far.
@@ -285,15 +332,22 @@ fn with_a_far_message(alloc: Global) -> Result<ThreadView, Fail> {
     Ok(view)
 }
 
+/// Closes one gap after another of a view with a far message. The first pair of messages after which it tells anything else.
+fn first_open(view: &mut ThreadView) -> Result<Option<u32>, Fail> {
+    for pair in 1..500u32 {
+        puts(view, 2 * pair + 1, Kind::Preempted { ran: 1 })?;
+        let waits = tells(view, 2 * pair - 1, &[2 * pair + 1, 9_000]);
+        puts(view, 2 * pair, Kind::Preempted { ran: 1 })?;
+        if !waits || !tells(view, 2 * pair + 1, &[9_000]) {
+            return Ok(Some(pair));
+        }
+    }
+    Ok(None)
+}
+
 #[test]
 fn a_far_message_waits_while_gaps_close(rt: HostRuntime) -> Result<(), Fail> {
     let mut view = with_a_far_message(rt.alloc())?;
-    for pair in 1..500u32 {
-        puts(&mut view, 2 * pair + 1, Kind::Preempted { ran: 1 })?;
-        assert!(rt; tells(&view, 2 * pair - 1, &[2 * pair + 1, 9_000]));
-        puts(&mut view, 2 * pair, Kind::Preempted { ran: 1 })?;
-        assert!(rt; tells(&view, 2 * pair + 1, &[9_000]));
-    }
-    assert!(rt; has(&view, 9_000));
-    Ok(())
+    assert_eq!(rt; first_open(&mut view)?, None);
+    each_holds(&rt, rt.alloc(), view, &[Step::Has(9_000, true)])
 }

@@ -5,6 +5,7 @@ use pc_kernel::{CallFault, Kernel, Limits};
 use pc_messages::{Cpu, Kind, Level, Mask, Message, Phase, Reported, Tid};
 use pc_view::{Stranger, View, audit, complete};
 use std::alloc::Global;
+use std::process::Abort;
 use std::test::Fail;
 
 fn join_both<V: Join>(first: &V, other: &V) -> Result<V, OutOfMemory> {
@@ -79,20 +80,8 @@ fn is_same(first: &View, other: &View) -> bool {
     first == other
 }
 
-fn knows(view: &View, thread: u32, number: u32) -> bool {
-    view.knows(Tid(thread), number)
-}
-
 fn covers(view: &View, other: &View) -> bool {
     view.covers(other)
-}
-
-fn copied(view: &View) -> Result<View, OutOfMemory> {
-    view.try_copy()
-}
-
-fn is_nothing(view: &View) -> bool {
-    view.is_empty()
 }
 
 /// How far the thread is known without a gap, and its state, as what is held of the thread tells them; none where nothing is.
@@ -106,10 +95,6 @@ fn known(view: &View, thread: u32) -> (u32, Option<Reported>) {
     (view.upto(Tid(thread)), view.reported(Tid(thread)))
 }
 
-fn next(view: &View, from: u32) -> Option<Tid> {
-    view.next(Tid(from))
-}
-
 /// A state of the mask 3 and the lowest level.
 const fn state(phase: Phase, mask: Mask, ran: u64) -> Option<Reported> {
     Some(Reported {
@@ -118,45 +103,6 @@ const fn state(phase: Phase, mask: Mask, ran: u64) -> Option<Reported> {
         ran,
         level: Level::LOWEST,
     })
-}
-
-#[test]
-fn merges_and_joins_do_not_depend_on_the_order(rt: HostRuntime) -> Result<(), Fail> {
-    let mask = Mask::new(3, 2)?;
-    let one = merged(rt.alloc(), mask, false)?;
-    let turned = merged(rt.alloc(), mask, true)?;
-    assert!(rt; is_same(&one, &turned));
-    assert!(rt; is_same(&one, &joined(rt.alloc(), mask, false)?));
-    assert!(rt; is_same(&one, &joined(rt.alloc(), mask, true)?));
-    assert!(rt; is_same(&one, &copied(&one)?));
-    assert!(rt; knows(&one, 1, 1));
-    Ok(())
-}
-
-#[test]
-fn a_merge_covers_what_was_merged(rt: HostRuntime) -> Result<(), Fail> {
-    let mask = Mask::new(3, 2)?;
-    let view = merged(rt.alloc(), mask, false)?;
-    let first = odd(rt.alloc(), mask)?;
-    assert!(rt; !is_same(&view, &first));
-    assert!(rt; covers(&view, &first));
-    assert!(rt; !covers(&first, &view));
-    assert!(rt; !knows(&first, 1, 1));
-    Ok(())
-}
-
-#[test]
-fn what_a_view_tells(rt: HostRuntime) -> Result<(), Fail> {
-    let mask = Mask::new(3, 2)?;
-    let view = merged(rt.alloc(), mask, false)?;
-    assert_eq!(rt; held(&view, 0), Some((4, state(Phase::Ready, mask, 2))));
-    assert!(rt; held(&view, 2).is_none());
-    for (from, wanted) in [(0, Some(Tid(0))), (1, Some(Tid(1))), (2, None)] {
-        assert_eq!(rt; next(&view, from), wanted);
-    }
-    assert!(rt; is_nothing(&View::new(rt.alloc())));
-    assert!(rt; !is_nothing(&view));
-    Ok(())
 }
 
 /// A view that has t0's first four messages as a prefix with its state, and t1's first message where that is asked for.
@@ -179,13 +125,117 @@ fn folded(alloc: Global, mask: Mask, with_other: bool) -> Result<View, OutOfMemo
     Ok(view)
 }
 
-#[test]
-fn a_folded_prefix_is_its_messages(rt: HostRuntime) -> Result<(), Fail> {
+/// What a view tells.
+#[derive(Clone, Copy)]
+enum Step {
+    /// It is as that of a merge, this way round.
+    Merged(bool),
+    /// It is as that of a join, this way round.
+    Joined(bool),
+    Copied,
+    Nothing(bool),
+    Knows(u32, u32, bool),
+    /// Whether it is as the first view that was merged, covers it, and is covered by it.
+    Odd(bool, bool, bool),
+    /// Whether it is as a prefix, alone or with t1's first message.
+    Folded(bool, bool),
+    /// What is held of the thread: how far it is known without a gap, and its state. None where nothing is.
+    Held(u32, Option<(u32, Option<Reported>)>),
+    /// The same as the view tells them.
+    Known(u32, (u32, Option<Reported>)),
+    Next(u32, Option<Tid>),
+}
+
+fn beside_odd(alloc: Global, view: &View, mask: Mask) -> Result<(bool, bool, bool), Fail> {
+    let part = odd(alloc, mask)?;
+    Ok((
+        is_same(view, &part),
+        covers(view, &part),
+        covers(&part, view),
+    ))
+}
+
+/// Whether the view is as another.
+fn is_as(alloc: Global, view: &View, step: &Step) -> Result<bool, Fail> {
     let mask = Mask::new(3, 2)?;
-    let all = merged(rt.alloc(), mask, false)?;
-    assert!(rt; !is_same(&folded(rt.alloc(), mask, false)?, &all));
-    assert!(rt; is_same(&folded(rt.alloc(), mask, true)?, &all));
+    match *step {
+        Step::Merged(turned) => Ok(is_same(view, &merged(alloc, mask, turned)?)),
+        Step::Joined(turned) => Ok(is_same(view, &joined(alloc, mask, turned)?)),
+        Step::Copied => Ok(is_same(view, &view.try_copy()?)),
+        Step::Odd(same, over, under) => {
+            Ok(beside_odd(alloc, view, mask)? == (same, over, under))
+        }
+        Step::Folded(other, wanted) => { Ok(is_same(&folded(alloc, mask, other)?, view) == wanted) }
+        _ => Ok(false),
+    }
+}
+
+fn holds(alloc: Global, view: &View, step: &Step) -> Result<bool, Fail> {
+    match *step {
+        Step::Nothing(wanted) => Ok(view.is_empty() == wanted),
+        Step::Knows(thread, number, wanted) => Ok(view.knows(Tid(thread), number) == wanted),
+        Step::Held(thread, wanted) => Ok(held(view, thread) == wanted),
+        Step::Known(thread, wanted) => Ok(known(view, thread) == wanted),
+        Step::Next(from, wanted) => Ok(view.next(Tid(from)) == wanted),
+        _ => is_as(alloc, view, step),
+    }
+}
+
+fn each_holds(rt: &impl Abort, alloc: Global, view: &View, steps: &[Step]) -> Result<(), Fail> {
+    for (place, step) in steps.iter().enumerate() {
+        assert!(rt; holds(alloc, view, step)?, "step {place}");
+    }
     Ok(())
+}
+
+/// The first of t0 and the third; of t1 nothing; of t2 the third alone.
+fn with_gaps(alloc: Global) -> Result<View, Fail> {
+    let mut view = odd(alloc, Mask::new(3, 2)?)?;
+    view.merge(&view_of(alloc, 2, 3, Kind::Wakeup)?)?;
+    Ok(view)
+}
+
+// What was merged is covered, and a folded prefix is as its messages.
+#[test]
+fn merges_and_joins_do_not_depend_on_the_order(rt: HostRuntime) -> Result<(), Fail> {
+    let mask = Mask::new(3, 2)?;
+    let steps = [
+        Step::Merged(true),
+        Step::Joined(false),
+        Step::Joined(true),
+        Step::Copied,
+        Step::Knows(1, 1, true),
+        Step::Odd(false, true, false),
+        Step::Folded(false, false),
+        Step::Folded(true, true),
+        Step::Held(0, Some((4, state(Phase::Ready, mask, 2)))),
+        Step::Held(2, None),
+        Step::Next(0, Some(Tid(0))),
+        Step::Next(1, Some(Tid(1))),
+        Step::Next(2, None),
+        Step::Nothing(false),
+    ];
+    let view = merged(rt.alloc(), mask, false)?;
+    each_holds(&rt, rt.alloc(), &view, &steps)
+}
+
+#[test]
+fn what_is_known_without_a_gap(rt: HostRuntime) -> Result<(), Fail> {
+    let mask = Mask::new(3, 2)?;
+    let first = odd(rt.alloc(), mask)?;
+    each_holds(&rt, rt.alloc(), &first, &[Step::Knows(1, 1, false)])?;
+    let steps = [
+        Step::Known(0, (1, state(Phase::Blocked, mask, 0))),
+        Step::Known(1, (0, None)),
+        Step::Known(2, (0, None)),
+    ];
+    each_holds(&rt, rt.alloc(), &with_gaps(rt.alloc())?, &steps)?;
+    each_holds(
+        &rt,
+        rt.alloc(),
+        &View::new(rt.alloc()),
+        &[Step::Nothing(true)],
+    )
 }
 
 // A kernel of two CPUs whose only message is the Created of t0, ready, with a mask of both.
@@ -235,13 +285,6 @@ fn view_of(alloc: Global, thread: u32, number: u32, kind: Kind) -> Result<View, 
     Ok(view)
 }
 
-fn created(mask: u64) -> Result<Kind, Fail> {
-    Ok(Kind::Created {
-        mask: Mask::new(mask, 2)?,
-        ready: true,
-    })
-}
-
 fn stranger(thread: u32, number: u32) -> Result<(), Stranger> {
     Err(Stranger {
         thread: Tid(thread),
@@ -249,59 +292,40 @@ fn stranger(thread: u32, number: u32) -> Result<(), Stranger> {
     })
 }
 
+/// What a message says.
+#[derive(Clone, Copy)]
+enum Says {
+    /// The thread is created, ready, with a mask of both CPUs, as in the kernel.
+    Same,
+    /// The same with a mask of CPU 0 alone.
+    Other,
+    Wakes,
+    Yields,
+}
+
 /// A message by its thread's name, its number and its kind.
-type Told = (u32, u32, Kind);
+type Told = (u32, u32, Says);
+
+fn kind_of(says: Says) -> Result<Kind, Fail> {
+    let bits = match says {
+        Says::Wakes => return Ok(Kind::Wakeup),
+        Says::Yields => return Ok(Kind::Yield { ran: 1 }),
+        Says::Same => 3,
+        Says::Other => 1,
+    };
+    Ok(Kind::Created {
+        mask: Mask::new(bits, 2)?,
+        ready: true,
+    })
+}
 
 /// A view that merged a view of each of the messages.
 fn view_of_all(alloc: Global, messages: &[Told]) -> Result<View, Fail> {
     let mut view = View::new(alloc);
-    for (thread, number, kind) in messages {
-        view.merge(&view_of(alloc, *thread, *number, *kind)?)?;
+    for (thread, number, says) in messages {
+        view.merge(&view_of(alloc, *thread, *number, kind_of(*says)?)?)?;
     }
     Ok(view)
-}
-
-fn audited(alloc: Global, kernel: &Kernel, messages: &[Told]) -> Result<Audit, Fail> {
-    Ok(audit(&view_of_all(alloc, messages)?, kernel))
-}
-
-type Audit = Result<(), Stranger>;
-
-/// Whether a view of the messages has all of the thread's.
-fn is_complete(
-    alloc: Global,
-    kernel: &Kernel,
-    messages: &[Told],
-    thread: u32,
-) -> Result<bool, Fail> {
-    Ok(complete(&view_of_all(alloc, messages)?, kernel, Tid(thread)))
-}
-
-// The kernel has one message of t0. What is past it is looked at before what the prefix reports, and that before the
-// early messages; of a thread that the kernel does not know the first number that is told is strange.
-#[test]
-fn strangers_to_a_kernel_with_one_message(rt: HostRuntime) -> Result<(), Fail> {
-    let kernel = kernel_of_one(rt.alloc())?;
-    let (same, other) = (created(3)?, created(1)?);
-    for (messages, wanted) in [
-        ([(0, 1, same)].as_slice(), Ok(())),
-        (&[], Ok(())),
-        (&[(0, 1, other)], stranger(0, 1)),
-        (&[(0, 1, same), (0, 2, Kind::Wakeup)], stranger(0, 2)),
-        (&[(0, 7, Kind::Wakeup)], stranger(0, 7)),
-        (&[(9, 1, same)], stranger(9, 1)),
-        (&[(9, 5, Kind::Wakeup)], stranger(9, 5)),
-        (
-            &[(9, 1, same), (4, 3, Kind::Wakeup), (0, 1, same)],
-            stranger(4, 3),
-        ),
-        (&[(0, 1, other), (0, 7, Kind::Wakeup)], stranger(0, 1)),
-        (&[(0, 1, other), (0, 2, Kind::Wakeup)], stranger(0, 2)),
-        (&[(9, 1, same), (9, 5, Kind::Wakeup)], stranger(9, 1)),
-    ] {
-        assert_eq!(rt; audited(rt.alloc(), &kernel, messages)?, wanted);
-    }
-    Ok(())
 }
 
 /// A kernel with t0, ready, and t1, which was created blocked and woken.
@@ -316,30 +340,88 @@ fn kernel_of_three(alloc: Global) -> Result<Kernel, Fail> {
     }
 }
 
-// An early message that the history has otherwise: message 2 is a Wakeup there.
+/// The kernel that has so many messages: one or three.
+fn kernel_of(alloc: Global, messages: u32) -> Result<Kernel, Fail> {
+    if messages == 1 {
+        kernel_of_one(alloc)
+    } else {
+        kernel_of_three(alloc)
+    }
+}
+
+type Audit = Result<(), Stranger>;
+
+fn audited(alloc: Global, kernel: u32, messages: &[Told]) -> Result<Audit, Fail> {
+    Ok(audit(&view_of_all(alloc, messages)?, &kernel_of(alloc, kernel)?))
+}
+
+/// Whether a view of the messages has all of the thread's.
+fn is_complete(alloc: Global, kernel: u32, messages: &[Told], thread: u32) -> Result<bool, Fail> {
+    Ok(complete(
+        &view_of_all(alloc, messages)?,
+        &kernel_of(alloc, kernel)?,
+        Tid(thread),
+    ))
+}
+
+// The kernel has one message of t0. What is past it is looked at before what the prefix reports, and that before the
+// early messages; of a thread that the kernel does not know the first number that is told is strange. In the kernel of
+// three messages the second of t1 is a Wakeup.
 #[test]
-fn another_early_message_is_strange(rt: HostRuntime) -> Result<(), Fail> {
-    let kernel = kernel_of_three(rt.alloc())?;
-    let same = [(1, 2, Kind::Wakeup)];
-    assert_eq!(rt; audited(rt.alloc(), &kernel, &same)?, Ok(()));
-    let other = [(1, 2, Kind::Yield { ran: 1 })];
-    assert_eq!(rt; audited(rt.alloc(), &kernel, &other)?, stranger(1, 2));
-    assert!(rt; !is_complete(rt.alloc(), &kernel, &same, 1)?);
+fn strangers_to_a_kernel(rt: HostRuntime) -> Result<(), Fail> {
+    for (kernel, messages, wanted) in [
+        (1, [(0, 1, Says::Same)].as_slice(), Ok(())),
+        (1, &[], Ok(())),
+        (1, &[(0, 1, Says::Other)], stranger(0, 1)),
+        (
+            1,
+            &[(0, 1, Says::Same), (0, 2, Says::Wakes)],
+            stranger(0, 2),
+        ),
+        (1, &[(0, 7, Says::Wakes)], stranger(0, 7)),
+        (1, &[(9, 1, Says::Same)], stranger(9, 1)),
+        (1, &[(9, 5, Says::Wakes)], stranger(9, 5)),
+        (
+            1,
+            &[(9, 1, Says::Same), (4, 3, Says::Wakes), (0, 1, Says::Same)],
+            stranger(4, 3),
+        ),
+        (
+            1,
+            &[(0, 1, Says::Other), (0, 7, Says::Wakes)],
+            stranger(0, 1),
+        ),
+        (
+            1,
+            &[(0, 1, Says::Other), (0, 2, Says::Wakes)],
+            stranger(0, 2),
+        ),
+        (
+            1,
+            &[(9, 1, Says::Same), (9, 5, Says::Wakes)],
+            stranger(9, 1),
+        ),
+        (3, &[(1, 2, Says::Wakes)], Ok(())),
+        (3, &[(1, 2, Says::Yields)], stranger(1, 2)),
+    ] {
+        assert_eq!(rt; audited(rt.alloc(), kernel, messages)?, wanted);
+    }
     Ok(())
 }
 
 // A view that is not of the kernel's run may know more than the kernel has.
 #[test]
 fn a_view_is_complete_where_it_has_the_last_message(rt: HostRuntime) -> Result<(), Fail> {
-    let kernel = kernel_of_one(rt.alloc())?;
-    let first = (0, 1, created(3)?);
-    for (messages, thread, wanted) in [
-        ([first].as_slice(), 0, true),
-        (&[first], 1, false),
-        (&[], 0, false),
-        (&[first, (0, 2, Kind::Wakeup)], 0, true),
-    ] {
-        assert!(rt; is_complete(rt.alloc(), &kernel, messages, thread)? == wanted);
+    let rows = [
+        (1, [(0, 1, Says::Same)].as_slice(), 0, true),
+        (1, &[(0, 1, Says::Same)], 1, false),
+        (1, &[], 0, false),
+        (1, &[(0, 1, Says::Same), (0, 2, Says::Wakes)], 0, true),
+        (3, &[(1, 2, Says::Wakes)], 1, false),
+    ];
+    for (place, (kernel, messages, thread, wanted)) in rows.iter().enumerate() {
+        let found = is_complete(rt.alloc(), *kernel, messages, *thread)?;
+        assert!(rt; found == *wanted, "row {place}");
     }
     Ok(())
 }
@@ -382,17 +464,5 @@ fn threads_are_walked_and_looked_up_in_order(rt: HostRuntime) -> Result<(), Fail
     assert_eq!(rt; all.as_slice(), [(Tid(0), 1), (Tid(2), 1)].as_slice());
     let found = looked_up(rt.alloc(), &view, &[0, 1, 2, 3])?;
     assert_eq!(rt; found.as_slice(), [Some(1), None, Some(1), None].as_slice());
-    Ok(())
-}
-
-// The first of t0 is known and the third; of t1 nothing; of t2 the third alone.
-#[test]
-fn what_is_known_without_a_gap(rt: HostRuntime) -> Result<(), Fail> {
-    let mask = Mask::new(3, 2)?;
-    let mut view = odd(rt.alloc(), mask)?;
-    view.merge(&view_of(rt.alloc(), 2, 3, Kind::Wakeup)?)?;
-    assert_eq!(rt; known(&view, 0), (1, state(Phase::Blocked, mask, 0)));
-    assert_eq!(rt; known(&view, 1), (0, None));
-    assert_eq!(rt; known(&view, 2), (0, None));
     Ok(())
 }

@@ -1,8 +1,7 @@
 //! Two hundred orders and divisions of the parts of one run.
 
-use super::{Delta, Global, Kind, Message, Part, Tid, View, created, take_in};
+use super::{Delta, Global, Kind, Message, Part, Tid, View, add, created, take_in};
 use pc_messages::{Mask, MaskFault};
-use std::alloc::AllocError;
 use std::test::Fail;
 
 /// A fixed sequence of numbers that are hard to foresee.
@@ -47,11 +46,6 @@ fn message(thread: u32, number: u32, kind: Kind) -> Part {
         number,
         kind,
     })
-}
-
-fn add<T: Copy>(items: &mut Vec<T>, item: T) -> Result<(), AllocError> {
-    items.push(item)?;
-    Ok(())
 }
 
 // The state of a thread's first messages, as a part.

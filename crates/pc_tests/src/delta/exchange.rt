@@ -3,12 +3,12 @@
 ghost use Rattle.std.specs.Prelude.{◌≡◌};
 
 use super::{
-    Delta, Digest, Global, Kind, OutOfMemory, Part, View, created, delta, delta_beyond,
-    delta_since, folded, one, ready, take_all, take_in,
+    Delta, Digest, Global, Kind, OutOfMemory, Part, Shape, View, delta, delta_beyond, delta_since,
+    one, part, take_all, take_in,
 };
-use pc_delta::DeltaFault;
 use pc_join::Join;
 use pc_messages::{Cpu, Item, Message, Phase, Tid};
+use std::process::Abort;
 use std::test::Fail;
 
 fn joined<V: Join>(first: &V, other: &V) -> Result<V, OutOfMemory> {
@@ -20,9 +20,9 @@ fn joined<V: Join>(first: &V, other: &V) -> Result<V, OutOfMemory> {
 // A wakeup, then the created thread as a folded part, then the wakeup again.
 fn three_deltas(alloc: Global) -> Result<Vec<Delta>, Fail> {
     let mut deltas = Vec::new(alloc);
-    deltas.push(delta(alloc, &[one(0, 2, Kind::Wakeup)])?)?;
-    deltas.push(delta(alloc, &[folded(1, 0)?])?)?;
-    deltas.push(delta(alloc, &[one(0, 2, Kind::Wakeup)])?)?;
+    deltas.push(delta(alloc, &[Shape::Wakeup(2)])?)?;
+    deltas.push(delta(alloc, &[Shape::Folded(1, 0)])?)?;
+    deltas.push(delta(alloc, &[Shape::Wakeup(2)])?)?;
     Ok(deltas)
 }
 
@@ -32,140 +32,254 @@ fn view_of_three(alloc: Global) -> Result<View, Fail> {
     Ok(view)
 }
 
-#[test]
-fn deltas_are_taken_in(rt: HostRuntime) -> Result<(), Fail> {
-    let view = view_of_three(rt.alloc())?;
-    let thread = view.thread(Tid(0)).expect(&rt, "t0");
-    assert_eq!(rt; thread.upto(), 2);
-    assert_eq!(rt; thread.early().len(), 0);
-    let reported = thread.reported().expect(&rt, "a state");
-    assert!(rt; reported.phase == Phase::Ready);
-    assert_eq!(rt; reported.mask.bits(), 3);
-    assert_eq!(rt; reported.ran, 0);
+/// What a view takes in, or is told of it, or of its answers to one that asks.
+#[derive(Clone, Copy)]
+enum Step {
+    /// A delta of one part, or two.
+    Takes(Shape, Option<Shape>),
+    /// It is equal to that of the three deltas.
+    Three,
+    /// How far t0 is known without a gap, and how many messages past one.
+    Held(u32, usize),
+    /// The phase, the mask and the ticks of t0.
+    Reports(Phase, u64, u64),
+    /// Whether its digest has the thread's message.
+    Has(u32, u32, bool),
+    DigestEmpty(bool),
+    /// Its digest is equal to its copy.
+    DigestCopied,
+    /// The answer to an empty digest: how many parts it has, and its first.
+    TellsAll(usize, Option<Shape>),
+    /// The same of the answer to its own digest.
+    TellsItself(usize),
+    /// The same of the answer to the digest of the view that asks, and to that view.
+    Answers(usize, Option<Shape>),
+    AnswersBeyond(usize, Option<Shape>),
+    /// Both answers have the same parts.
+    AnswersAlike,
+    /// The view that asks is equal to it once it took in the answer, has an equal digest, and the answer's copy the same parts.
+    Fills(bool, bool, bool),
+}
+
+// Without contracts, as the functions below, so that a test's proof does not carry those of deltas.
+fn takes(alloc: Global, view: &mut View, first: Shape, then: Option<Shape>) -> Result<bool, Fail> {
+    let told = match then {
+        Some(other) => delta(alloc, &[first, other])?,
+        None => delta(alloc, &[first])?,
+    };
+    take_in(view, &told)?;
+    Ok(true)
+}
+
+fn held(view: &View) -> Option<(u32, usize)> {
+    let thread = view.thread(Tid(0))?;
+    Some((thread.upto(), thread.early().len()))
+}
+
+fn reports(view: &View) -> Option<(Phase, u64, u64)> {
+    let reported = view.thread(Tid(0))?.reported()?;
+    Some((reported.phase, reported.mask.bits(), reported.ran))
+}
+
+/// Whether the delta has so many parts, and this one first, where one is asked for.
+fn tells(delta: &Delta, count: usize, first: Option<Shape>) -> Result<bool, Fail> {
+    let Some(shape) = first else {
+        return Ok(delta.parts().len() == count);
+    };
+    Ok(delta.parts().len() == count && delta.parts().first() == Some(&part(&shape)?))
+}
+
+fn answer(alloc: Global, view: &View, asker: &View) -> Result<Delta, OutOfMemory> {
+    delta_since(alloc, view, &Digest::of(alloc, asker)?)
+}
+
+fn is_copied(alloc: Global, view: &View) -> Result<bool, OutOfMemory> {
+    let digest = Digest::of(alloc, view)?;
+    Ok(digest.try_copy()? == digest)
+}
+
+fn is_answered_alike(alloc: Global, view: &View, asker: &View) -> Result<bool, OutOfMemory> {
+    let beyond = delta_beyond(alloc, view, asker)?;
+    Ok(beyond.parts() == answer(alloc, view, asker)?.parts())
+}
+
+fn fills(alloc: Global, view: &View, asker: &View) -> Result<(bool, bool, bool), OutOfMemory> {
+    let told = answer(alloc, view, asker)?;
+    let mut other = asker.try_copy()?;
+    take_in(&mut other, &told)?;
+    let copy = told.try_copy()?;
+    Ok((
+        other == *view,
+        Digest::of(alloc, &other)? == Digest::of(alloc, view)?,
+        copy.parts() == told.parts(),
+    ))
+}
+
+/// Whether that is told of the view's digest.
+fn digest_tells(alloc: Global, view: &View, step: &Step) -> Result<bool, Fail> {
+    match *step {
+        Step::Has(thread, number, wanted) => {
+            Ok(Digest::of(alloc, view)?.has(Tid(thread), number) == wanted)
+        }
+        Step::DigestEmpty(wanted) => Ok(Digest::of(alloc, view)?.is_empty() == wanted),
+        Step::DigestCopied => Ok(is_copied(alloc, view)?),
+        Step::TellsAll(count, first) => tells(
+            &delta_since(alloc, view, &Digest::new(alloc))?,
+            count,
+            first,
+        ),
+        Step::TellsItself(count) => tells(&answer(alloc, view, view)?, count, None),
+        _ => Ok(false),
+    }
+}
+
+fn holds(alloc: Global, view: &mut View, asker: &View, step: &Step) -> Result<bool, Fail> {
+    match *step {
+        Step::Takes(first, then) => takes(alloc, view, first, then),
+        Step::Three => Ok(*view == view_of_three(alloc)?),
+        Step::Held(upto, early) => Ok(held(view) == Some((upto, early))),
+        Step::Reports(phase, mask, ran) => Ok(reports(view) == Some((phase, mask, ran))),
+        Step::Answers(count, first) => tells(&answer(alloc, view, asker)?, count, first),
+        Step::AnswersBeyond(count, first) => {
+            tells(&delta_beyond(alloc, view, asker)?, count, first)
+        }
+        Step::AnswersAlike => Ok(is_answered_alike(alloc, view, asker)?),
+        Step::Fills(equal, digest, copy) => {
+            Ok(fills(alloc, view, asker)? == (equal, digest, copy))
+        }
+        _ => digest_tells(alloc, view, step),
+    }
+}
+
+/// A view that nothing was told yet, or that of three deltas.
+fn first_view(alloc: Global, three: bool) -> Result<View, Fail> {
+    if three {
+        view_of_three(alloc)
+    } else {
+        Ok(View::new(alloc))
+    }
+}
+
+/// The place of the first step that does not hold of such a view, and one that asks, after the steps before it.
+fn first_wrong(
+    alloc: Global,
+    three: bool,
+    asks: bool,
+    steps: &[Step],
+) -> Result<Option<usize>, Fail> {
+    let mut view = first_view(alloc, three)?;
+    let asker = first_view(alloc, asks)?;
+    for (place, step) in steps.iter().enumerate() {
+        if !holds(alloc, &mut view, &asker, step)? {
+            return Ok(Some(place));
+        }
+    }
+    Ok(None)
+}
+
+/// The steps hold of such a view, and one that asks.
+fn each_holds(
+    rt: &impl Abort,
+    alloc: Global,
+    three: bool,
+    asks: bool,
+    steps: &[Step],
+) -> Result<(), Fail> {
+    assert_eq!(rt; first_wrong(alloc, three, asks, steps)?, None);
     Ok(())
 }
 
+// A delta that contradicts the view is safe.
 #[test]
-fn messages_alone_are_taken_in(rt: HostRuntime) -> Result<(), Fail> {
-    let mut view = View::new(rt.alloc());
-    take_in(&mut view, &delta(rt.alloc(), &[one(0, 2, Kind::Wakeup)])?)?;
-    take_in(&mut view, &delta(rt.alloc(), &[one(0, 1, created()?)])?)?;
-    take_in(&mut view, &delta(rt.alloc(), &[one(0, 2, Kind::Wakeup)])?)?;
-    assert!(rt; view == view_of_three(rt.alloc())?);
-    Ok(())
+fn deltas_are_taken_in_and_an_answer_to_an_empty_digest_tells_all(
+    rt: HostRuntime,
+) -> Result<(), Fail> {
+    let three = [
+        Step::Held(2, 0),
+        Step::Reports(Phase::Ready, 3, 0),
+        Step::Fills(true, true, true),
+        Step::Takes(Shape::Dead(2, 9), None),
+        Step::Three,
+        Step::Takes(Shape::Folded(2, 9), None),
+        Step::Held(2, 0),
+    ];
+    each_holds(&rt, rt.alloc(), true, false, &three)?;
+    let alone = [
+        Step::Takes(Shape::Wakeup(2), None),
+        Step::Takes(Shape::Created(0, 1), None),
+        Step::Takes(Shape::Wakeup(2), None),
+        Step::Three,
+    ];
+    each_holds(&rt, rt.alloc(), false, false, &alone)
 }
 
-#[test]
-fn an_answer_to_an_empty_digest_tells_all(rt: HostRuntime) -> Result<(), Fail> {
-    let view = view_of_three(rt.alloc())?;
-    let nothing = Digest::of(rt.alloc(), &View::new(rt.alloc()))?;
-    let answer = delta_since(rt.alloc(), &view, &nothing)?;
-    let mut other = View::new(rt.alloc());
-    take_in(&mut other, &answer)?;
-    assert!(rt; other == view);
-    assert!(rt; Digest::of(rt.alloc(), &other)? == Digest::of(rt.alloc(), &view)?);
-    let copy = answer.try_copy()?;
-    assert!(rt; copy.parts() == answer.parts());
-    Ok(())
-}
-
+// A view is answered as its digest is. Prefixes of four messages and of the most are told by their state, in one part.
 #[test]
 fn an_answer_tells_what_is_lacking(rt: HostRuntime) -> Result<(), Fail> {
-    let mut view = view_of_three(rt.alloc())?;
-    let digest = Digest::of(rt.alloc(), &view)?;
-    assert_eq!(rt; delta_since(rt.alloc(), &view, &digest)?.parts().len(), 0);
-    take_in(
-        &mut view,
-        &delta(
-            rt.alloc(),
-            &[one(0, 9, Kind::Wakeup), one(1, 1, created()?)],
-        )?,
-    )?;
-    let answer = delta_since(rt.alloc(), &view, &digest)?;
-    assert_eq!(rt; answer.parts().len(), 2);
-    assert!(rt; answer.parts().first() == Some(&one(0, 9, Kind::Wakeup)));
-    Ok(())
+    let lacking = [
+        Step::Answers(0, None),
+        Step::AnswersBeyond(0, None),
+        Step::Takes(Shape::Wakeup(9), Some(Shape::Created(1, 1))),
+        Step::Answers(2, Some(Shape::Wakeup(9))),
+        Step::AnswersBeyond(2, Some(Shape::Wakeup(9))),
+        Step::AnswersAlike,
+    ];
+    each_holds(&rt, rt.alloc(), true, true, &lacking)?;
+    let prefix = [
+        Step::Takes(Shape::Wakeup(2), Some(Shape::Wakeup(4))),
+        Step::Takes(Shape::Created(0, 1), Some(Shape::Blocked(3, 2))),
+        Step::TellsAll(1, Some(Shape::Ready(4, 2))),
+        Step::TellsItself(0),
+    ];
+    each_holds(&rt, rt.alloc(), false, false, &prefix)?;
+    let long = [
+        Step::Takes(Shape::Folded(16_000_000, 5), None),
+        Step::Has(0, 16_000_000, true),
+        Step::Has(0, 16_000_001, false),
+        Step::TellsAll(1, Some(Shape::Folded(16_000_000, 5))),
+    ];
+    each_holds(&rt, rt.alloc(), false, false, &long)
 }
 
-#[test]
-fn a_view_is_answered_as_its_digest_is(rt: HostRuntime) -> Result<(), Fail> {
-    let asker = view_of_three(rt.alloc())?;
-    let mut view = view_of_three(rt.alloc())?;
-    let none = delta_beyond(rt.alloc(), &view, &asker)?;
-    assert!(rt; none.parts().is_empty());
-    let more = [one(0, 9, Kind::Wakeup), one(1, 1, created()?)];
-    take_in(&mut view, &delta(rt.alloc(), &more)?)?;
-    let answer = delta_beyond(rt.alloc(), &view, &asker)?;
-    assert_eq!(rt; answer.parts().len(), 2);
-    assert!(rt; answer.parts().first() == Some(&one(0, 9, Kind::Wakeup)));
-    let digest = Digest::of(rt.alloc(), &asker)?;
-    let same = delta_since(rt.alloc(), &view, &digest)?;
-    assert!(rt; answer.parts() == same.parts());
-    Ok(())
-}
-
-#[test]
-fn digests_of_equal_views_are_equal(rt: HostRuntime) -> Result<(), Fail> {
-    let first = Digest::of(rt.alloc(), &view_of_three(rt.alloc())?)?;
-    let other = Digest::of(rt.alloc(), &view_of_three(rt.alloc())?)?;
-    assert!(rt; first == other);
-    assert!(rt; joined(&first, &other)? == first);
-    assert!(rt; first != Digest::new(rt.alloc()));
-    assert!(rt; Digest::new(rt.alloc()).is_empty());
-    assert!(rt; first.covers(&Digest::new(rt.alloc())));
-    assert!(rt; !Digest::new(rt.alloc()).covers(&first));
-    Ok(())
+/// Whether the digests of equal views are equal, their join is the same, it is equal to an empty digest, that one is empty,
+/// and which of the two covers the other.
+fn digests(alloc: Global) -> Result<[bool; 6], Fail> {
+    let first = Digest::of(alloc, &view_of_three(alloc)?)?;
+    let other = Digest::of(alloc, &view_of_three(alloc)?)?;
+    let nothing = Digest::new(alloc);
+    Ok([
+        first == other,
+        joined(&first, &other)? == first,
+        first == nothing,
+        nothing.is_empty(),
+        first.covers(&nothing),
+        nothing.covers(&first),
+    ])
 }
 
 #[test]
 fn what_a_digest_has(rt: HostRuntime) -> Result<(), Fail> {
-    let mut view = view_of_three(rt.alloc())?;
-    take_in(&mut view, &delta(rt.alloc(), &[one(0, 9, Kind::Wakeup)])?)?;
-    let digest = Digest::of(rt.alloc(), &view)?;
-    assert!(rt; digest.has(Tid(0), 1));
-    assert!(rt; digest.has(Tid(0), 2));
-    assert!(rt; !digest.has(Tid(0), 3));
-    assert!(rt; digest.has(Tid(0), 9));
-    assert!(rt; !digest.has(Tid(1), 1));
-    assert!(rt; !digest.is_empty());
-    assert!(rt; digest.try_copy()? == digest);
-    Ok(())
-}
-
-// A prefix of four messages, against nothing and against all four.
-#[test]
-fn a_prefix_is_told_by_its_state(rt: HostRuntime) -> Result<(), Fail> {
-    let mut view = View::new(rt.alloc());
-    let early = [one(0, 2, Kind::Wakeup), one(0, 4, Kind::Wakeup)];
-    take_in(&mut view, &delta(rt.alloc(), &early)?)?;
-    let gaps = [one(0, 1, created()?), one(0, 3, Kind::Blocked { ran: 2 })];
-    take_in(&mut view, &delta(rt.alloc(), &gaps)?)?;
-    let answer = delta_since(rt.alloc(), &view, &Digest::new(rt.alloc()))?;
-    assert_eq!(rt; answer.parts().len(), 1);
-    assert!(rt; answer.parts().first() == Some(&ready(4, 2)?));
-    let digest = Digest::of(rt.alloc(), &view)?;
-    assert_eq!(rt; delta_since(rt.alloc(), &view, &digest)?.parts().len(), 0);
-    Ok(())
-}
-
-// The longest prefix takes one range, and one part.
-#[test]
-fn a_long_prefix_is_one_part(rt: HostRuntime) -> Result<(), Fail> {
-    let mut view = View::new(rt.alloc());
-    take_in(&mut view, &delta(rt.alloc(), &[folded(16_000_000, 5)?])?)?;
-    let digest = Digest::of(rt.alloc(), &view)?;
-    assert!(rt; digest.has(Tid(0), 16_000_000));
-    assert!(rt; !digest.has(Tid(0), 16_000_001));
-    let answer = delta_since(rt.alloc(), &view, &Digest::new(rt.alloc()))?;
-    assert!(rt; answer.parts().first() == Some(&folded(16_000_000, 5)?));
-    assert_eq!(rt; answer.parts().len(), 1);
-    Ok(())
+    assert_eq!(rt;
+        digests(rt.alloc())?.as_slice(),
+        [true, true, false, true, true, false].as_slice()
+    );
+    let steps = [
+        Step::Takes(Shape::Wakeup(9), None),
+        Step::Has(0, 1, true),
+        Step::Has(0, 2, true),
+        Step::Has(0, 3, false),
+        Step::Has(0, 9, true),
+        Step::Has(1, 1, false),
+        Step::DigestEmpty(false),
+        Step::DigestCopied,
+    ];
+    each_holds(&rt, rt.alloc(), true, false, &steps)
 }
 
 // How many early messages a thread has after a view took in these parts twice.
-fn early_after(alloc: Global, parts: &[Part], thread: u32) -> Result<usize, DeltaFault> {
+fn early_after(alloc: Global, shapes: &[Shape], thread: u32) -> Result<usize, Fail> {
     let mut view = View::new(alloc);
-    let contrary = delta(alloc, parts)?;
+    let contrary = delta(alloc, shapes)?;
     take_in(&mut view, &contrary)?;
     take_in(&mut view, &contrary)?;
     Ok(match view.thread(Tid(thread)) {
@@ -178,34 +292,11 @@ fn early_after(alloc: Global, parts: &[Part], thread: u32) -> Result<usize, Delt
 // the parts.
 #[test]
 fn contradicting_parts_are_safe(rt: HostRuntime) -> Result<(), Fail> {
-    let first = [
-        folded(3, 7)?,
-        one(0, 2, Kind::Dead { ran: 1 }),
-        one(0, 5, Kind::Wakeup),
-    ];
-    assert_eq!(rt; early_after(rt.alloc(), &first, 0)?, 1);
-    let other = [
-        one(0, 5, Kind::Wakeup),
-        one(0, 3, Kind::Dead { ran: 1 }),
-        folded(2, 7)?,
-    ];
-    assert_eq!(rt; early_after(rt.alloc(), &other, 0)?, 1);
-    assert_eq!(rt; early_after(rt.alloc(), &other, 1)?, 0);
-    Ok(())
-}
-
-#[test]
-fn a_delta_that_contradicts_a_view_is_safe(rt: HostRuntime) -> Result<(), Fail> {
-    let mut view = view_of_three(rt.alloc())?;
-    take_in(
-        &mut view,
-        &delta(rt.alloc(), &[one(0, 2, Kind::Dead { ran: 9 })])?,
-    )?;
-    assert!(rt; view == view_of_three(rt.alloc())?);
-    take_in(&mut view, &delta(rt.alloc(), &[folded(2, 9)?])?)?;
-    let thread = view.thread(Tid(0)).expect(&rt, "t0");
-    assert_eq!(rt; thread.upto(), 2);
-    assert_eq!(rt; thread.early().len(), 0);
+    let first = [Shape::Folded(3, 7), Shape::Dead(2, 1), Shape::Wakeup(5)];
+    let other = [Shape::Wakeup(5), Shape::Dead(3, 1), Shape::Folded(2, 7)];
+    for (shapes, thread, early) in [(&first, 0, 1), (&other, 0, 1), (&other, 1, 0)] {
+        assert_eq!(rt; early_after(rt.alloc(), shapes, thread)?, early);
+    }
     Ok(())
 }
 

@@ -1,7 +1,8 @@
 //! How the reading and the writing of a script end.
 
-use super::Echo;
-use pc_script::{Outcome, ScriptFault, run_script};
+use super::{FINISHED, fault_at, runs};
+use pc_script::{Outcome, ScriptFault};
+use std::alloc::Global;
 use std::io;
 use std::io::{Error, ErrorKind, Read, Write};
 
@@ -73,85 +74,52 @@ impl Write for Filling {
     }
 }
 
+/// How the script ends of a byte that a reader gives so often, and then fails or ends; how often the reader would give it
+/// still, and whether nothing was written.
+fn read_over(
+    alloc: Global,
+    byte: u8,
+    left: usize,
+    fails: bool,
+) -> (Result<Outcome, ScriptFault>, usize, bool) {
+    let mut reader = Repeated { byte, left, fails };
+    let mut writer: Vec<u8> = Vec::new(alloc);
+    let ended = runs(alloc, &mut reader, &mut writer);
+    (ended, reader.left, writer.is_empty())
+}
+
+const TOO_LONG: Result<Outcome, ScriptFault> = Err(ScriptFault::TooLong);
+
+const UNREAD: Result<Outcome, ScriptFault> = Err(ScriptFault::Read);
+
+const UNWRITTEN: Result<Outcome, ScriptFault> = Err(ScriptFault::Write);
+
 #[test]
-fn a_long_text_is_refused(rt: HostRuntime) {
-    let alloc = rt.alloc();
-    for (length, ended, left) in [
-        (16_777_216, Ok(Outcome::Finished), 0),
-        (16_777_217, Err(ScriptFault::TooLong), 0),
-        (16_777_300, Err(ScriptFault::TooLong), 83),
+fn a_long_text_or_a_read_that_fails_ends_the_reading(rt: HostRuntime) {
+    for (byte, length, fails, ended, left) in [
+        (b'#', 16_777_216, false, FINISHED, 0),
+        (b'#', 16_777_217, false, TOO_LONG, 0),
+        (b'#', 16_777_300, false, TOO_LONG, 83),
+        (b'\n', 0, true, UNREAD, 0),
+        (b'\n', 1, true, UNREAD, 0),
+        (b'\n', 5000, true, UNREAD, 0),
     ] {
-        let mut reader = Repeated {
-            byte: b'#',
-            left: length,
-            fails: false,
-        };
-        let mut writer: Vec<u8> = Vec::new(alloc);
         assert_eq!(rt;
-            run_script::<Echo, _, _>(alloc, &mut reader, &mut writer),
-            ended
+            read_over(rt.alloc(), byte, length, fails),
+            (ended, left, true)
         );
-        assert_eq!(rt; reader.left, left);
-        assert!(rt; writer.is_empty());
     }
 }
 
-#[test]
-fn a_read_that_fails_ends_the_reading(rt: HostRuntime) {
-    let alloc = rt.alloc();
-    for length in [0, 1, 5000] {
-        let mut reader = Repeated {
-            byte: b'\n',
-            left: length,
-            fails: true,
-        };
-        let mut writer: Vec<u8> = Vec::new(alloc);
-        assert_eq!(rt;
-            run_script::<Echo, _, _>(alloc, &mut reader, &mut writer),
-            Err(ScriptFault::Read)
-        );
-        assert!(rt; writer.is_empty());
-    }
-}
+/// What was read of line feeds: how the script ended, which reads gave nothing or failed and which came after one of these,
+/// whether any gave bytes, and how many bytes are left.
+type Reads = (Result<Outcome, ScriptFault>, (u32, u32), bool, usize);
 
-#[test]
-fn nothing_is_read_after_the_end_or_a_failed_read(rt: HostRuntime) {
-    let alloc = rt.alloc();
-    for (length, fails) in [
-        (0, false),
-        (0, true),
-        (1, false),
-        (1, true),
-        (200_000, false),
-        (200_000, true),
-    ] {
-        let inner = Repeated {
-            byte: b'\n',
-            left: length,
-            fails,
-        };
-        let mut reader = Counted {
-            inner,
-            gave: 0,
-            ended: 0,
-            late: 0,
-        };
-        let mut writer: Vec<u8> = Vec::new(alloc);
-        let ended = run_script::<Echo, _, _>(alloc, &mut reader, &mut writer);
-        assert_eq!(rt; ended.is_err(), fails);
-        assert_eq!(rt; (reader.ended, reader.late), (1, 0));
-        assert_eq!(rt; reader.gave > 0, length > 0);
-        assert_eq!(rt; reader.inner.left, 0);
-    }
-}
-
-#[test]
-fn nothing_is_read_past_the_greatest_length(rt: HostRuntime) {
-    let alloc = rt.alloc();
+fn reads_of(alloc: Global, length: usize, fails: bool) -> Reads {
     let inner = Repeated {
         byte: b'\n',
-        left: 16_777_217,
-        fails: true,
+        left: length,
+        fails,
     };
     let mut reader = Counted {
         inner,
@@ -160,37 +128,61 @@ fn nothing_is_read_past_the_greatest_length(rt: HostRuntime) {
         late: 0,
     };
     let mut writer: Vec<u8> = Vec::new(alloc);
-    assert_eq!(rt;
-        run_script::<Echo, _, _>(alloc, &mut reader, &mut writer),
-        Err(ScriptFault::TooLong)
-    );
-    assert_eq!(rt; (reader.ended, reader.late), (0, 0));
+    let ended = runs(alloc, &mut reader, &mut writer);
+    (
+        ended,
+        (reader.ended, reader.late),
+        reader.gave > 0,
+        reader.inner.left,
+    )
+}
+
+// The last row reads one byte past the greatest length, and nothing after it.
+#[test]
+fn nothing_is_read_after_the_end_a_failed_read_or_the_greatest_length(rt: HostRuntime) {
+    for (length, fails, reads) in [
+        (0, false, (FINISHED, (1, 0), false, 0)),
+        (0, true, (UNREAD, (1, 0), false, 0)),
+        (1, false, (FINISHED, (1, 0), true, 0)),
+        (1, true, (UNREAD, (1, 0), true, 0)),
+        (200_000, false, (FINISHED, (1, 0), true, 0)),
+        (200_000, true, (UNREAD, (1, 0), true, 0)),
+        (16_777_217, true, (TOO_LONG, (0, 0), true, 0)),
+    ] {
+        assert_eq!(rt; reads_of(rt.alloc(), length, fails), reads);
+    }
+}
+
+/// A writer that took what a script writes, with room for so many bytes, and how the script ended.
+fn filled(alloc: Global, script: &[u8], room: usize) -> (Filling, Result<Outcome, ScriptFault>) {
+    let mut reader = script;
+    let mut writer = Filling {
+        room,
+        taken: Vec::new(alloc),
+    };
+    let ended = runs(alloc, &mut reader, &mut writer);
+    (writer, ended)
 }
 
 #[test]
 fn what_was_written_before_a_failed_write_is_a_front_of_the_output(rt: HostRuntime) {
-    let alloc = rt.alloc();
+    let script = b"version 2\nwake t1\n# x\nshow 0\nx\nwake t2\n".as_slice();
     let output =
         b"ok\nrefused Stale 1\nt0 upto 2 blocked mask 3 ran 5 early -\nt12 upto 0 - early 2 1000000\nend\nfault line 5\n".as_slice();
     for room in 0..=output.len() {
-        let mut reader = b"version 2\nwake t1\n# x\nshow 0\nx\nwake t2\n".as_slice();
-        let mut writer = Filling {
-            room,
-            taken: Vec::new(alloc),
-        };
-        let ended = run_script::<Echo, _, _>(alloc, &mut reader, &mut writer);
+        let (writer, ended) = filled(rt.alloc(), script, room);
         assert_eq!(rt; writer.taken.as_slice(), &output[..room]);
-        if room < output.len() {
-            assert_eq!(rt; ended, Err(ScriptFault::Write));
+        let wanted = if room < output.len() {
+            UNWRITTEN
         } else {
-            assert_eq!(rt; ended, Ok(Outcome::FaultLine(5)));
-        }
+            fault_at(5)
+        };
+        assert_eq!(rt; ended, wanted);
     }
 }
 
 #[test]
 fn a_write_that_fails_ends_the_script(rt: HostRuntime) {
-    let alloc = rt.alloc();
     for (script, room) in [
         (b"wake t1".as_slice(), 0),
         (b"wake t1", 15),
@@ -198,15 +190,8 @@ fn a_write_that_fails_ends_the_script(rt: HostRuntime) {
         (b"x", 3),
         (b"version 2\nwake t1", 2),
     ] {
-        let mut reader = script;
-        let mut writer = Filling {
-            room,
-            taken: Vec::new(alloc),
-        };
-        assert_eq!(rt;
-            run_script::<Echo, _, _>(alloc, &mut reader, &mut writer),
-            Err(ScriptFault::Write)
-        );
+        let (writer, ended) = filled(rt.alloc(), script, room);
+        assert_eq!(rt; ended, UNWRITTEN);
         assert_eq!(rt; writer.taken.len(), room);
     }
 }
@@ -233,15 +218,11 @@ impl Read for WakeLines {
 
 #[test]
 fn a_script_of_the_greatest_length_is_answered_whole(rt: HostRuntime) {
-    let alloc = rt.alloc();
     let mut reader = WakeLines {
         at: 0,
         left: 16_777_216,
     };
-    let mut writer: Vec<u8> = Vec::new(alloc);
-    assert_eq!(rt;
-        run_script::<Echo, _, _>(alloc, &mut reader, &mut writer),
-        Ok(Outcome::Finished)
-    );
+    let mut writer: Vec<u8> = Vec::new(rt.alloc());
+    assert_eq!(rt; runs(rt.alloc(), &mut reader, &mut writer), FINISHED);
     assert_eq!(rt; writer.len(), 16 * 2_097_152);
 }
