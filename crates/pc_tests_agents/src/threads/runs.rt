@@ -117,6 +117,17 @@ fn three_threads_on_two_cpus(rt: HostRuntime) -> Result<(), Fail> {
     Ok(())
 }
 
+// Each agent whose steal is refused asks 63 others, and each of these answers. Where all of that waited, one thread of three steps
+// was not done after 20 seconds.
+#[test]
+fn a_thread_that_sixty_four_agents_would_have(rt: HostRuntime) -> Result<(), Fail> {
+    let plan = (0, i64::MAX, LIFE.2);
+    let report = run(&rt, rt.alloc(), 64, &[plan], &[])?;
+    assert_eq!(rt; totals(&report), [1, 5, 3, 6]);
+    assert_eq!(rt; report.rows.len(), 64);
+    Ok(())
+}
+
 #[test]
 fn agents_that_restart(rt: HostRuntime) -> Result<(), Fail> {
     for turn in [(0, 2), (1, 1)] {
