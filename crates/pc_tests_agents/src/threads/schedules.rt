@@ -127,14 +127,9 @@ fn one_thread_on_one_cpu_is_listed_so(rt: HostRuntime) -> Result<(), Fail> {
     let steps = [Step::Yield(1), Step::Preempt(2), Step::Die(4)];
     let config = config(rt.alloc(), 1, &[(0, 1, &steps)], &[])?;
     let report = run_agents(&rt, rt.alloc(), &config, &OpenGate)?;
-    let (cpu, queue) = (Cpu(0), Cpu(0));
-    let create = EnvCall::Create {
-        queue,
-        mask: 1,
-        ready: true,
-    };
+    let cpu = Cpu(0);
     let listed = [
-        (Call::Env(create), Answer::Posted(posted(1, 1))),
+        creates(0, cpu, 1),
         consume(1),
         commit(1),
         sleep(1),
@@ -152,6 +147,33 @@ fn one_thread_on_one_cpu_is_listed_so(rt: HostRuntime) -> Result<(), Fail> {
         consume(0),
     ];
     assert_eq!(rt; report.book.calls(), listed.as_slice());
+    Ok(())
+}
+
+/// A thread is created ready, and is the first of its queue.
+const fn creates(thread: u32, queue: Cpu, mask: u64) -> (Call, Answer) {
+    let ready = true;
+    let posted = Posted {
+        thread: Some(Tid(thread)),
+        number: Some(1),
+        queue,
+        aseq: 1,
+        woken: None,
+    };
+    (
+        Call::Env(EnvCall::Create { queue, mask, ready }),
+        Answer::Posted(posted),
+    )
+}
+
+#[test]
+fn threads_are_created_as_planned(rt: HostRuntime) -> Result<(), Fail> {
+    let plans: [Plan<'_>; 2] = [(1, 2, &[Step::Die(1)]), (0, 3, &[Step::Die(1)])];
+    let config = config(rt.alloc(), 2, &plans, &[])?;
+    let report = run_agents(&rt, rt.alloc(), &config, &OpenGate)?;
+    let created = [creates(0, Cpu(1), 2), creates(1, Cpu(0), 3)];
+    let first = report.book.calls().get(..2);
+    assert_eq!(rt; first, Some(created.as_slice()));
     Ok(())
 }
 
