@@ -4,6 +4,7 @@ mod agents;
 mod drawn;
 mod refusals;
 mod runs;
+mod schedules;
 mod settings;
 mod settled;
 

@@ -404,6 +404,7 @@ where
     ensures tells { IfOk result TellsItsBook }
     ensures adds_up { IfOk result AddsUp }
     ensures all { IfOk result (DoesAll config.now) }
+    ensures rows { IfOk result (λ report. pos (vec_len report.rows) ≡ config.now.cpus) }
 {
     config.is_sound();
     let cpus = config.cpus();
@@ -457,6 +458,7 @@ fn run_with<
     ensures tells { IfOk result TellsItsBook }
     ensures adds_up { IfOk result AddsUp }
     ensures all { IfOk result (DoesAll config.now) }
+    ensures rows { IfOk result (λ report. pos (vec_len report.rows) ≡ config.now.cpus) }
 {
     run_named::<Seven<A, B, C, D, E, F, H>, R, G>(rt, alloc, config, gate, blanks)
 }
@@ -477,6 +479,7 @@ pub fn run_agents<R: Threads + Wait + Sync, G: Gate + Sync>(
     ensures tells { IfOk result TellsItsBook }
     ensures adds_up { IfOk result AddsUp }
     ensures all { IfOk result (DoesAll config.now) }
+    ensures rows { IfOk result (λ report. pos (vec_len report.rows) ≡ config.now.cpus) }
 {
     let agents = config.cpus() as u64;
     let blanks = Blanks {

@@ -13,13 +13,13 @@ use std::thread::Threads;
 use std::time::{Clock, Duration};
 
 /// A thread by its queue, its mask and its steps.
-type Plan<'a> = (i64, i64, &'a [Step]);
+pub(crate) type Plan<'a> = (i64, i64, &'a [Step]);
 
 /// A thread that may run on two CPUs: it yields, blocks and dies.
 const LIFE: Plan<'static> = (0, 3, &[Step::Yield(2), Step::Block(3), Step::Die(1)]);
 
 /// What is asked of a run on so many CPUs, with these threads and restarts (their CPU and turn).
-fn config(
+pub(crate) fn config(
     alloc: Global,
     cpus: i64,
     plans: &[Plan<'_>],
@@ -44,12 +44,12 @@ fn config(
 }
 
 /// Threads, messages, commits and ticks.
-fn totals(report: &LoadReport) -> [u64; 4] {
+pub(crate) fn totals(report: &LoadReport) -> [u64; 4] {
     [report.threads, report.messages, report.commits, report.ran]
 }
 
 /// Items consumed, threads committed and taken over, and refusals: stale, pending, others.
-fn counts(row: &Row) -> [u64; 6] {
+pub(crate) fn counts(row: &Row) -> [u64; 6] {
     [
         row.taken,
         row.commits,

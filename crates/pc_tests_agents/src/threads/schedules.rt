@@ -1,0 +1,226 @@
+//! Runs in an order that a gate forces: what is listed, and what is asked and answered around restarts.
+
+use crate::threads::posted;
+use crate::threads::runs::{Plan, config, counts, totals};
+use pc_messages::{Cpu, Tid};
+use pc_threads::{
+    Answer, Call, Driven, EnvCall, Gate, LoadReport, OpenGate, Point, Posted, Step, run_agents,
+};
+use std::alloc::Global;
+use std::sync::Wait;
+use std::sync::atomic::{AtomicU64, Ordering};
+use std::test::Fail;
+use std::thread;
+use std::thread::Threads;
+use std::time::{Clock, Duration};
+
+/// Who is held at which point of its own, until who has come to which. The agents are 0, 1, .., and their points count from 1,
+/// three a turn: 4 is where the second turn begins.
+type Hold = (usize, u64, usize, u64);
+
+/// The driver among those who come to points: its own are the steps that it has done.
+const DRIVER: usize = 3;
+
+/// Holds agents at points, each for 10,000 turns of a millisecond.
+#[derive(Drop)]
+struct Forced<'a, R: Clock> {
+    rt: &'a R,
+    holds: &'a [Hold],
+    /// How many points the agents and the driver have come to.
+    points: [AtomicU64; 4],
+}
+
+impl<'a, R: Clock> Forced<'a, R> {
+    /// Somebody comes to the next point, which this is.
+    fn comes(&self, who: usize) -> u64 {
+        match self.points.get(who) {
+            Some(points) => points.fetch_add(1, Ordering::SeqCst).wrapping_add(1),
+            None => 0,
+        }
+    }
+
+    fn has_come(&self, who: usize, point: u64) -> bool {
+        match self.points.get(who) {
+            Some(points) => points.load(Ordering::SeqCst) >= point,
+            None => false,
+        }
+    }
+
+    /// Whether the other comes to its point in time.
+    fn waits(&self, other: usize, point: u64) -> bool {
+        for _ in 0..10_000 {
+            if self.has_come(other, point) {
+                return true;
+            }
+            thread::sleep(self.rt, Duration::from_millis(1));
+        }
+        false
+    }
+}
+
+impl<'a, R: Clock> Gate for Forced<'a, R> {
+    fn pass(&self, cpu: Cpu, _point: Point) -> bool {
+        let held = cpu.index() as usize;
+        let place = self.comes(held);
+        for hold in self.holds {
+            if hold.0 == held && hold.1 == place && !self.waits(hold.2, hold.3) {
+                return false;
+            }
+        }
+        true
+    }
+
+    fn driven(&self, _so_far: Driven) {
+        self.comes(DRIVER);
+    }
+}
+
+/// A run of these settings in which agents are held so.
+fn forced_run<R: Threads + Wait + Clock + Sync>(
+    rt: &R,
+    alloc: Global,
+    cpus: i64,
+    plans: &[Plan<'_>],
+    turns: &[(i64, i64)],
+    holds: &[Hold],
+) -> Result<LoadReport, Fail> {
+    let config = config(alloc, cpus, plans, turns)?;
+    let gate = Forced {
+        rt,
+        holds,
+        points: [
+            AtomicU64::new(0),
+            AtomicU64::new(0),
+            AtomicU64::new(0),
+            AtomicU64::new(0),
+        ],
+    };
+    Ok(run_agents(rt, alloc, &config, &gate)?)
+}
+
+const fn consume(count: u32) -> (Call, Answer) {
+    let cpu = Cpu(0);
+    (Call::Consume { cpu, count }, Answer::Done)
+}
+
+const fn commit(aseq: u32) -> (Call, Answer) {
+    let (cpu, thread) = (Cpu(0), Tid(0));
+    (Call::Commit { cpu, thread, aseq }, Answer::Done)
+}
+
+const fn sleep(aseq: u32) -> (Call, Answer) {
+    let cpu = Cpu(0);
+    (Call::Sleep { cpu, aseq }, Answer::Done)
+}
+
+/// A step whose message wakes the agent.
+const fn leaves(call: EnvCall, number: u32) -> (Call, Answer) {
+    let posted = Posted {
+        woken: Some(Cpu(0)),
+        ..posted(number, number)
+    };
+    (Call::Env(call), Answer::Posted(posted))
+}
+
+#[test]
+fn one_thread_on_one_cpu_is_listed_so(rt: HostRuntime) -> Result<(), Fail> {
+    let steps = [Step::Yield(1), Step::Preempt(2), Step::Die(4)];
+    let config = config(rt.alloc(), 1, &[(0, 1, &steps)], &[])?;
+    let report = run_agents(&rt, rt.alloc(), &config, &OpenGate)?;
+    let cpu = Cpu(0);
+    let listed = [
+        creates(0, cpu, 1),
+        consume(1),
+        commit(1),
+        sleep(1),
+        leaves(EnvCall::YieldNow { cpu, ran: 1 }, 2),
+        consume(1),
+        commit(2),
+        sleep(2),
+        leaves(EnvCall::Preempt { cpu, ran: 2 }, 3),
+        consume(1),
+        commit(3),
+        sleep(3),
+        leaves(EnvCall::Die { cpu, ran: 4 }, 4),
+        consume(1),
+        sleep(4),
+        consume(0),
+    ];
+    assert_eq!(rt; report.book.calls(), listed.as_slice());
+    Ok(())
+}
+
+/// A thread is created ready, and is the first of its queue.
+const fn creates(thread: u32, queue: Cpu, mask: u64) -> (Call, Answer) {
+    let ready = true;
+    let posted = Posted {
+        thread: Some(Tid(thread)),
+        number: Some(1),
+        queue,
+        aseq: 1,
+        woken: None,
+    };
+    (
+        Call::Env(EnvCall::Create { queue, mask, ready }),
+        Answer::Posted(posted),
+    )
+}
+
+#[test]
+fn threads_are_created_as_planned(rt: HostRuntime) -> Result<(), Fail> {
+    let plans: [Plan<'_>; 2] = [(1, 2, &[Step::Die(1)]), (0, 3, &[Step::Die(1)])];
+    let config = config(rt.alloc(), 2, &plans, &[])?;
+    let report = run_agents(&rt, rt.alloc(), &config, &OpenGate)?;
+    let created = [creates(0, Cpu(1), 2), creates(1, Cpu(0), 3)];
+    let first = report.book.calls().get(..2);
+    assert_eq!(rt; first, Some(created.as_slice()));
+    Ok(())
+}
+
+/// A thread of the first queue and one of the other, which run on the first CPU alone.
+const TWO: [Plan<'static>; 2] = [
+    (0, 1, &[Step::Yield(1), Step::Die(1)]),
+    (1, 1, &[Step::Die(1)]),
+];
+
+/// The first agent has a delta to take when its first turn ends, and a wake when its second one does; what it asked in that
+/// one was answered before it is told the wake.
+const ASKED: [Hold; 3] = [(0, 1, 1, 3), (0, 4, DRIVER, 1), (0, 5, 1, 7)];
+
+/// Where its third turn ends it was answered again.
+const ASKED_AGAIN: Hold = (0, 9, 1, 13);
+
+#[test]
+fn an_answer_takes_the_place_of_what_waits(rt: HostRuntime) -> Result<(), Fail> {
+    let holds = [ASKED[0], ASKED[1], ASKED[2], ASKED_AGAIN];
+    let report = forced_run(&rt, rt.alloc(), 2, &TWO, &[(0, 2), (0, 3)], &holds)?;
+    assert_eq!(rt; totals(&report), [2, 5, 3, 3]);
+    // Nothing stale: the first agent takes its thread back by the later answer, which tells the yield.
+    assert_eq!(rt; report.rows.first().map(counts), Some([4, 3, 2, 0, 0, 8]));
+    Ok(())
+}
+
+#[test]
+fn what_was_answered_before_a_restart_is_kept(rt: HostRuntime) -> Result<(), Fail> {
+    // The other agent restarts behind its answer, and before the first one's third turn.
+    let holds = [ASKED[0], ASKED[1], ASKED[2], (0, 7, 1, 8), ASKED_AGAIN];
+    let turns = [(0, 2), (0, 3), (1, 3)];
+    let report = forced_run(&rt, rt.alloc(), 2, &TWO, &turns, &holds)?;
+    assert_eq!(rt; totals(&report), [2, 5, 3, 3]);
+    Ok(())
+}
+
+#[test]
+fn all_others_are_asked(rt: HostRuntime) -> Result<(), Fail> {
+    // Two agents forget the thread, before either asks; the third one knows it.
+    let report = forced_run(
+        &rt,
+        rt.alloc(),
+        3,
+        &TWO[..1],
+        &[(0, 2), (1, 2)],
+        &[(0, 4, 1, 4)],
+    )?;
+    assert_eq!(rt; totals(&report), [1, 3, 2, 2]);
+    Ok(())
+}
