@@ -5,6 +5,7 @@ pub mod ListsOfKind
 pub mod Looking
 pub mod Outputs
 pub mod Readings
+pub mod Reporting
 pub mod Rows
 pub mod Showing
 pub mod Shown

@@ -2,6 +2,7 @@ pub mod CommandLine
 pub mod Endings
 pub mod GoingOn
 pub mod Inner
+pub mod Programs
 pub mod Progress
 pub mod Reads
 pub mod ReportText

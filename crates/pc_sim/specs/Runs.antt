@@ -13,8 +13,13 @@ abbrev pub DoesWhatIsSpelled : Option Members → LoadReport → Type 0
 DoesWhatIsSpelled (Some table) report = (first_fault (faults_in table) ≡ None) × DoesAll (settings_in table) report
 DoesWhatIsSpelled None report = ⊥
 
--- what is said to be wrong with the settings is wrong with the text
+-- the text spells settings without fault
+abbrev pub SpellsSettings : Option Members → Type 0
+SpellsSettings (Some table) = first_fault (faults_in table) ≡ None
+SpellsSettings None = ⊥
+
+-- what is said to be wrong with the settings is wrong with the text; a run, and the writing of its report, fail only where nothing is
 abbrev pub IsTextsFault : Option Members → RunTextFault → Type 0
 IsTextsFault text (Settings fault) = Reads text (Err fault)
-IsTextsFault text (Run fault) = Unit {0}
-IsTextsFault text Write = Unit {0}
+IsTextsFault text (Run fault) = SpellsSettings text
+IsTextsFault text Write = SpellsSettings text

@@ -1,14 +1,18 @@
 //! `pc-sim`: replays scripts of events on the kernel model and its agents, or runs agents in threads.
 #![tactic(auto)]
 
-ghost use Rattle.std.specs.Prelude.{◌≡◌, ◌+◌, ◌⊎◌, ◌<◌, ◌≤◌, List, ℕ, length, IfOk, IfSome, OnOk, Err};
-ghost use Rattle.std.specs.Io.KnownBytes.{Appends, Consumes};
+ghost use Rattle.std.specs.Prelude.{◌≡◌, ◌+◌, ◌⊎◌, ◌<◌, ◌≤◌, List, [], ℕ, length, IfOk, IfSome, OnOk, Err};
+ghost use Rattle.std.specs.Io.Buffered.{writer_buffer, writer_contents};
+ghost use Rattle.std.specs.Io.KnownBytes.{Appends, Consumes, Keeps};
 ghost use Rattle.pc_script.specs.Scripts.{IsOutput, IsOutputUntil};
 ghost use Rattle.pc_script.specs.declared.input.TheConstants.{MOST_BYTES};
+ghost use Rattle.toml.specs.Parse.{parse_document};
+ghost use Rattle.pc_sim.specs.Programs.{IsReplayed, IsReported};
 ghost use Rattle.pc_sim.specs.Session.{IsSession, RanOut};
 
 mod command_line;
 mod ending;
+mod input;
 mod laws;
 mod progress;
 mod reads;
@@ -20,6 +24,7 @@ mod show;
 
 use command_line::{Command, CommandFault, read_command};
 use ending::Ending;
+use input::read_settings;
 use pc_script::{Outcome, ScriptFault};
 use run_text::run_config;
 use session::Session;
@@ -49,15 +54,35 @@ pub fn run_script<R: Read, W: Write>(
     pc_script::run_script::<Session, R, W>(alloc, reader, writer)
 }
 
-/// Replays the script that a reader gives, writes the replies, and flushes them, whatever the ending.
-fn replay<R: Read, W: Write + Drop>(alloc: Global, reader: &mut R, writer: W) -> Ending {
-    let Ok(mut writer) = BufWriter::new(alloc, writer) else {
-        return Ending::OutOfMemory;
-    };
-    let ending = Ending::from(run_script(alloc, reader, &mut writer));
+/// Flushes what was written before it ended so. That this fails is told before all else.
+fn flushed<W: Write + Drop>(writer: &mut BufWriter<W>, ending: Ending) -> Ending
+    ensures kept { Keeps (writer_contents W.contents writer.old) (writer_contents W.contents writer.new) }
+    ensures flushed { (result ≡ Ending.CannotRead) ⊎ ((result ≡ ending) × (writer_buffer writer.new ≡ [])) }
+{
     match writer.flush() {
         Ok(()) => ending,
         Err(_) => Ending::CannotRead,
+    }
+}
+
+/// Replays the script that a reader gives, writes the replies, and flushes them, whatever the ending.
+fn replay_flushed<R: Read, W: Write + Drop>(
+    alloc: Global,
+    reader: &mut R,
+    writer: &mut BufWriter<W>,
+) -> Ending
+    ensures told { IfSome (R.remaining reader.old) (λ text. IsReplayed text (writer_contents W.contents writer.old) (writer_contents W.contents writer.new) result) }
+    ensures flushed { (result ≡ Ending.CannotRead) ⊎ (writer_buffer writer.new ≡ []) }
+{
+    let ending = Ending::from(run_script(alloc, reader, writer));
+    flushed(writer, ending)
+}
+
+/// Replays the script that a reader gives, through a buffer of its own.
+fn replay<R: Read, W: Write + Drop>(alloc: Global, reader: &mut R, writer: W) -> Ending {
+    match BufWriter::new(alloc, writer) {
+        Ok(mut writer) => replay_flushed(alloc, reader, &mut writer),
+        Err(_) => Ending::OutOfMemory,
     }
 }
 
@@ -117,34 +142,6 @@ fn replay_file(rt: &HostRuntime, file: Option<String>) -> Ending {
     }
 }
 
-/// The greatest length of a settings text, in bytes.
-const MOST_SETTINGS: usize = 1_048_576;
-
-/// The whole text that a reader gives, where it is not too long and is UTF-8.
-fn read_settings<R: Read>(alloc: Global, reader: &mut R) -> Result<String, Ending> {
-    let mut bytes = Vec::new(alloc);
-    let mut buffer = [0u8; 8_192];
-    for _ in 0..=MOST_SETTINGS {
-        let count = match reader.read(&mut buffer) {
-            Ok(count) => count,
-            Err(_) => return Err(Ending::CannotRead),
-        };
-        if bytes.extend_from_slice(&buffer[..count]).is_err() {
-            return Err(Ending::OutOfMemory);
-        }
-        if count == 0 || bytes.len() > MOST_SETTINGS {
-            break;
-        }
-    }
-    if bytes.len() > MOST_SETTINGS {
-        return Err(Ending::CannotRead);
-    }
-    match String::from_utf8(bytes) {
-        Ok(text) => Ok(text),
-        Err(_) => Err(Ending::CannotRead),
-    }
-}
-
 /// The settings text of the file, or else of the standard input.
 fn settings_of(rt: &HostRuntime, file: Option<String>) -> Result<String, Ending> {
     match file {
@@ -176,6 +173,24 @@ fn screen_of(rt: &HostRuntime) -> Option<Stderr> {
 }
 
 /// Runs agents by a settings text, writes the report, and flushes it, whatever the ending.
+fn run_flushed<R: Threads + Wait + Sync, S: Write + Copy + Sync, W: Write + Drop>(
+    rt: &R,
+    alloc: Global,
+    text: &str,
+    per_cpu: bool,
+    screen: Option<S>,
+    writer: &mut BufWriter<W>,
+) -> Ending
+    ensures told { IsReported (parse_document text.now) per_cpu (writer_contents W.contents writer.old) (writer_contents W.contents writer.new) result }
+    ensures flushed { (result ≡ Ending.CannotRead) ⊎ (writer_buffer writer.new ≡ []) }
+{
+    match run_config(rt, alloc, text, per_cpu, screen, writer) {
+        Ok(_report) => flushed(writer, Ending::Finished),
+        Err(fault) => flushed(writer, Ending::from(fault)),
+    }
+}
+
+/// Runs agents by a settings text, and reports through a buffer of its own.
 fn run_settings<R: Threads + Wait + Sync, S: Write + Copy + Sync, W: Write + Drop>(
     rt: &R,
     alloc: Global,
@@ -184,16 +199,9 @@ fn run_settings<R: Threads + Wait + Sync, S: Write + Copy + Sync, W: Write + Dro
     screen: Option<S>,
     writer: W,
 ) -> Ending {
-    let Ok(mut writer) = BufWriter::new(alloc, writer) else {
-        return Ending::OutOfMemory;
-    };
-    let ended = run_config(rt, alloc, text, per_cpu, screen, &mut writer);
-    if writer.flush().is_err() {
-        return Ending::CannotRead;
-    }
-    match ended {
-        Ok(_) => Ending::Finished,
-        Err(fault) => Ending::from(fault),
+    match BufWriter::new(alloc, writer) {
+        Ok(mut writer) => run_flushed(rt, alloc, text, per_cpu, screen, &mut writer),
+        Err(_) => Ending::OutOfMemory,
     }
 }
 

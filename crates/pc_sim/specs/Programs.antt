@@ -1,0 +1,41 @@
+-- What the program wrote, by how it ended.
+use Rattle.std.specs.Prelude.{ℕ, Bool, ◌≡◌, ◌⊎◌, List, Option, Err}
+use Rattle.std.specs.Io.KnownBytes.{Appends, Keeps}
+use Rattle.toml.specs.Data.{Members}
+use Rattle.pc_script.specs.Scripts.{IsOutput, IsOutputUntil}
+use Rattle.pc_script.specs.declared.outcome.Outcome.TheVariants as outcome
+use Rattle.pc_threads.specs.Reports.{AddsUp, TellsItsBook}
+use Rattle.pc_threads.specs.declared.report.LoadReport.{LoadReport}
+use Rattle.pc_sim.specs.Endings.{ending_of_settings}
+use Rattle.pc_sim.specs.ReportText.{report_text}
+use Rattle.pc_sim.specs.Runs.{DoesWhatIsSpelled, SpellsSettings}
+use Rattle.pc_sim.specs.Session.{IsSession, RanOut}
+use Rattle.pc_sim.specs.SettingsText.{Reads}
+use Rattle.pc_sim.specs.declared.ending.Ending.{Ending}
+use Rattle.pc_sim.specs.declared.ending.Ending.TheVariants.{Finished, FaultLine, CannotRead, BadCommandLine, OutOfMemory, Settings, Run, CannotStart}
+use Rattle.pc_sim.specs.declared.settings.SettingsFault.{SettingsFault}
+
+-- after a script of this text: its output, or what comes before the command at which memory ran out
+abbrev pub IsReplayed : (text : List ℕ) (old new : Option (List ℕ)) → Ending → Type 0
+IsReplayed text old new Finished = (output : List ℕ) × IsOutput IsSession text outcome.Finished output × Appends old new output
+IsReplayed text old new FaultLine = (line : ℕ) × (output : List ℕ) × IsOutput IsSession text (outcome.FaultLine line) output × Appends old new output
+IsReplayed text old new OutOfMemory = Keeps old new ⊎ ((output : List ℕ) × IsOutputUntil IsSession RanOut text output × Appends old new output)
+IsReplayed text old new CannotRead = Unit {0}
+IsReplayed text old new BadCommandLine = ⊥
+IsReplayed text old new (Settings bad) = ⊥
+IsReplayed text old new (Run why) = ⊥
+IsReplayed text old new CannotStart = ⊥
+
+-- after a run by settings: the report of a run that did what they ask for, or nothing
+abbrev pub IsReported : (settings : Option Members) (per_cpu : Bool) (old new : Option (List ℕ)) → Ending → Type 0
+IsReported settings per_cpu old new Finished =
+    (report : LoadReport) × TellsItsBook report × AddsUp report × DoesWhatIsSpelled settings report
+    × Appends old new (report_text report per_cpu)
+IsReported settings per_cpu old new (Settings bad) =
+    (fault : SettingsFault) × Reads settings (Err fault) × (ending_of_settings fault ≡ Settings bad) × Keeps old new
+IsReported settings per_cpu old new (Run why) = SpellsSettings settings × Keeps old new
+IsReported settings per_cpu old new CannotStart = SpellsSettings settings × Keeps old new
+IsReported settings per_cpu old new OutOfMemory = Keeps old new
+IsReported settings per_cpu old new CannotRead = Unit {0}
+IsReported settings per_cpu old new FaultLine = ⊥
+IsReported settings per_cpu old new BadCommandLine = ⊥
