@@ -49,9 +49,10 @@ struct Waiting {
     digest: Place<Arc<Digest, Global>>,
 }
 
-/// What an agent is told, in the order in which it takes it. Of what another agent asks or answers only the last waits: that agent
-/// asks for no less than before, or has started again; and since it knows no less than before, it answers all of what it answered
-/// before but what was known to the asker by then. So what waits stays below a bound, however often agents ask.
+/// What an agent is told, in the order in which it takes it. Of what another agent asks or answers only the last waits: a later
+/// digest has all that an earlier one had, or its agent has started again and lacks more; and since an agent knows no less than
+/// before, a later answer tells all that an earlier one told but for what the asker knew by then. So what waits stays below a
+/// bound, however often agents ask.
 #[derive(Drop)]
 pub(crate) struct Inbox {
     to: Sender<Note>,
