@@ -6,9 +6,10 @@
     pinned-8    8 CPUs, 1,000 threads of 100 steps, each bound to one CPU: 138,000 messages
     pinned-64   64 CPUs, 4,032 threads of 20 steps, each bound to one CPU: 124,992 messages
     free-8      8 CPUs, 200 threads of 30 steps, which may all run anywhere: 8,400 messages
+    free-64     64 CPUs, 600 threads of 30 steps, which may all run anywhere: 25,200 messages
 
 SIZE is tenth, third or whole (the last one without it): that part of the threads. Settings cannot bind a thread to CPU 63, so it has none.
-With free threads on 64 CPUs no memory is enough: agents that steal ask all others for what they lack, and are answered at length.
+With free threads on 64 CPUs a program whose agents leave what they ask and answer in plain queues has no memory that is enough.
 """
 import random
 import sys
@@ -36,6 +37,7 @@ NAMES = {
     "pinned-8": Shape(8, 1000, 100, 37, 2),
     "pinned-64": Shape(64, 4032, 20, 10, 1),
     "free-8": Shape(8, 200, 30, 11, 1, is_free=True),
+    "free-64": Shape(64, 600, 30, 11, 1, is_free=True),
 }
 
 

@@ -123,6 +123,8 @@ class Launcher(unittest.TestCase):
             "PATH": str(self.bin), "TMPDIR": str(self.temporary), "RT_RECORD": str(self.record), "PROGRAM": PROGRAM, **environment
         }
         how = {"stdout": subprocess.PIPE, "stderr": subprocess.PIPE, "text": True, "cwd": self.top, "env": environment}
+        # A shell has what it starts in the background ignore interrupts, `nohup` hang-ups, and the tests may have been started so.
+        how["preexec_fn"] = lambda: [signal.signal(it, signal.SIG_DFL) for it in (signal.SIGINT, signal.SIGHUP)]
         process = subprocess.Popen([str(self.tree / command), *args], stdin=stdin, **how)
         self.addCleanup(process.kill)
         return process
