@@ -321,7 +321,8 @@ class Launcher(unittest.TestCase):
     def test_crates_beside_each_other_are_built_side_by_side(self):
         for cores, gigabytes in ((4, 100), (2, 8)):
             with self.subTest(cores=cores, gigabytes=gigabytes):
-                _, began, ended = self.calls_on(cores, gigabytes)
+                # Long enough for a busy machine to begin the second one meanwhile.
+                _, began, ended = self.calls_on(cores, gigabytes, "2")
                 self.assertLess(began["left"], ended["right"])
                 self.assertLess(began["right"], ended["left"])
 
@@ -331,12 +332,12 @@ class Launcher(unittest.TestCase):
                 _, began, ended = self.calls_on(cores, gigabytes)
                 self.assertLessEqual(ended["left"], began["right"])
 
-    def calls_on(self, cores, gigabytes):
-        """The calls of a build from nothing on such a machine."""
+    def calls_on(self, cores, gigabytes, seconds="0.25"):
+        """The calls of a build from nothing on such a machine, each of which takes so long."""
         self.put_machine(cores, gigabytes)
         self.program.unlink(missing_ok=True)
         self.forget_calls()
-        self.assertEqual(self.run_it(RT_SECONDS="0.25")[0], 0)
+        self.assertEqual(self.run_it(RT_SECONDS=seconds)[0], 0)
         self.assert_none_before_what_it_stands_on()
         return self.calls()
 
