@@ -260,7 +260,8 @@ def may_wait(text):
     """Whether every agent restarts: what all of them forget may be known to none, and then the run waits."""
     try:
         settings = tomllib.loads(text.decode())
-        return {row["cpu"] for row in settings["restart"]} >= set(range(settings["cpus"]))
+        # A drawn count of CPUs may be one that no memory holds a set of.
+        return settings["cpus"] <= len(settings["restart"]) and {row["cpu"] for row in settings["restart"]} >= set(range(settings["cpus"]))
     except (ValueError, KeyError, TypeError):
         return False
 

@@ -18,6 +18,8 @@ enum Note {
     Answered(u8),
     /// What the agent of the CPU with this index knows, which asks for the rest, waits in its place.
     Asked(u8),
+    /// The same of an agent that has started again: what it told before stands in front of this, and so is answered.
+    Digest(u8, Arc<Digest, Global>),
     /// All threads are dead, or the run is given up.
     Stop,
 }
@@ -50,9 +52,9 @@ struct Waiting {
 }
 
 /// What an agent is told, in the order in which it takes it. Of what another agent asks or answers only the last waits: a later
-/// digest has all that an earlier one had, or its agent has started again and lacks more; and since an agent knows no less than
-/// before, a later answer tells all that an earlier one told but for what the asker knew by then. So what waits stays below a
-/// bound, however often agents ask.
+/// digest has all that an earlier one had, and since an agent knows no less than before, a later answer tells all that an earlier
+/// one told but for what the asker knew by then. So what waits stays below a bound, however often agents ask. An agent that
+/// starts again knows less, so what it then asks waits behind all that it told, and what it answered before is kept.
 #[derive(Drop)]
 pub(crate) struct Inbox {
     to: Sender<Note>,
@@ -118,6 +120,11 @@ impl Inbox {
         }
     }
 
+    /// Asks the owner for what the agent of this CPU lacks, which has started again.
+    fn ask_anew<R: Wait>(&self, rt: &R, cpu: Cpu, digest: Arc<Digest, Global>) -> Result<(), Quit> {
+        self.tell(rt, Note::Digest(cpu.index(), digest))
+    }
+
     /// Waits for the next thing that the owner is told.
     pub(crate) fn take<R: Wait>(&self, rt: &R) -> Result<Told, Quit> {
         let Ok(note) = self.at.recv(rt) else {
@@ -134,6 +141,7 @@ impl Inbox {
                 Some(digest) => Told::Digest(Cpu(cpu), digest),
                 None => Told::Nothing,
             },
+            Note::Digest(cpu, digest) => Told::Digest(Cpu(cpu), digest),
             Note::Stop => Told::End,
         })
     }
@@ -211,6 +219,21 @@ impl Lines {
         for place in 0..self.inboxes.len() {
             if place != cpu.index() as usize {
                 self.inboxes[place].ask(rt, cpu, Arc::try_clone(digest)?)?;
+            }
+        }
+        Ok(())
+    }
+
+    /// Asks every agent but the CPU's for what that one lacks, which has started again.
+    pub(crate) fn ask_peers_anew<R: Wait>(
+        &self,
+        rt: &R,
+        cpu: Cpu,
+        digest: &Arc<Digest, Global>,
+    ) -> Result<(), Quit> {
+        for place in 0..self.inboxes.len() {
+            if place != cpu.index() as usize {
+                self.inboxes[place].ask_anew(rt, cpu, Arc::try_clone(digest)?)?;
             }
         }
         Ok(())

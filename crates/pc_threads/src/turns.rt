@@ -75,7 +75,8 @@ fn restart<N: Names, R: Wait>(rt: &R, desk: &Desk<N>, worker: &mut Worker<N>) ->
     desk.tallied.lock(rt).rouse(cpu)?;
     desk.lines.keep_answers(rt, cpu)?;
     worker.restart();
-    ask_peers(rt, desk, worker)
+    let digest = worker.digest(desk.alloc)?;
+    desk.lines.ask_peers_anew(rt, cpu, &digest)
 }
 
 /// All that the agent's queue holds, and its count of posts.
