@@ -224,3 +224,19 @@ fn all_others_are_asked(rt: HostRuntime) -> Result<(), Fail> {
     assert_eq!(rt; totals(&report), [1, 3, 2, 2]);
     Ok(())
 }
+
+#[test]
+fn an_agent_that_starts_again_asks_behind_what_it_told(rt: HostRuntime) -> Result<(), Fail> {
+    // The other agent takes nothing before this one has told of its thread, forgotten it, and asked a second time.
+    let plan: Plan<'_> = (1, 2, &[Step::Yield(1), Step::Die(1)]);
+    let report = forced_run(
+        &rt,
+        rt.alloc(),
+        2,
+        &[plan],
+        &[(1, 1), (1, 2)],
+        &[(0, 1, 1, 5)],
+    )?;
+    assert_eq!(rt; totals(&report), [1, 3, 2, 2]);
+    Ok(())
+}
