@@ -1,9 +1,6 @@
 -- What a steal did, in the words of the plain agent.
-use Rattle.std.proofs.Common.{ℕ, ◌≡◌, Bool, true, false, List, [], ◌∷◌, ◌++◌, length, take, Option, Some, None, Result, Ok, Err, IfOk, MatchBool, is_some, OnOk, refl, sym, ap, ◌∙◌, subst}
-use Rattle.std.specs.Result.{is_err}
+use Rattle.std.proofs.Common.{ℕ, ◌≡◌, Bool, true, false, List, [], ◌∷◌, ◌++◌, length, take, Option, Some, None, Result, Ok, Err, IfOk, MatchBool, MatchOption, is_some, OnOk, refl, sym, ap, ◌∙◌, subst}
 use Rattle.std.proofs.Math.Seq.{take-append_seam}
-use Rattle.std.proofs.lemmas.Bool.{false≢true}
-use Rattle.pc_join.specs.declared.join.OutOfMemory.{OutOfMemory as NoMemory}
 use Rattle.pc_messages.specs.Run.{Run}
 use Rattle.pc_messages.specs.State.{state_of}
 use Rattle.pc_calls.specs.declared.call.Call.{Call}
@@ -31,10 +28,24 @@ use Rattle.pc_agent.specs.Shows.{ShowsAgent, ShowsView}
 use Rattle.pc_agent.proofs.Delivered.{ReportsAreTold, UptosAreTold}
 use Rattle.pc_agent.proofs.Ready.{accepts, not_refused}
 
--- what is not an error did what it says
-pub was_pushed : (result : Result (Unit {0}) NoMemory) (Q : Type 0) → is_err result ≡ false → OnOk result Q → Q
-was_pushed (Ok done) Q e h = h
-was_pushed (Err fault) Q e h = absurd (false≢true (sym e))
+-- what is left of a list whose last name was put there
+pub put_back : (result : Option ℕ) (old pushed new : List ℕ) (x : ℕ) → MatchOption result ((pushed ≡ []) × (new ≡ [])) (λ y. pushed ≡ new ++ y ∷ [])
+    → pushed ≡ old ++ x ∷ [] → new ≡ old
+put_back None [] pushed new x h e = cc
+put_back None (a ∷ old) pushed new x h e = cc
+put_back (Some y) old pushed new x h e = shed new old y x (sym h ∙ e)
+  where
+    shed : (xs ys : List ℕ) (x y : ℕ) → xs ++ x ∷ [] ≡ ys ++ y ∷ [] → xs ≡ ys
+    shed [] [] x y e = refl
+    shed [] (b ∷ []) x y e = cc
+    shed [] (b ∷ c ∷ ys) x y e = cc
+    shed (a ∷ []) [] x y e = cc
+    shed (a ∷ c ∷ xs) [] x y e = cc
+    shed (a ∷ xs) (b ∷ ys) x y e =
+        let heads : a ≡ b = cc in
+        let tails : xs ++ x ∷ [] ≡ ys ++ y ∷ [] = cc in
+        let fronts : xs ≡ ys = shed xs ys x y tails in
+        cc
 
 -- a steal for a busy CPU, and for an idle one
 module _ (view : View) (cpu : ℕ) (result : Result ℕ CallFault) (old new : List ℕ) (before after : KernelRows) where

@@ -6,7 +6,7 @@ ghost use Rattle.pc_calls.specs.declared.call.Answer.TheVariants.{Done};
 ghost use Rattle.pc_kernel.specs.Answers.{Accepts};
 ghost use Rattle.pc_kernel.specs.Reads.{Reads, seen, kinds_read, is_cpu, on};
 ghost use Rattle.pc_view.specs.Prefixes.{upto_of};
-ghost use Rattle.pc_run_queue.specs.Runs.{runs_in};
+ghost use Rattle.pc_run_queue.specs.Runs.{IsSettled, runs_in};
 ghost use Rattle.pc_agent.specs.Counts.{steal_counted};
 ghost use Rattle.pc_agent.specs.Own.{StealsAsSeen};
 ghost use Rattle.pc_agent.specs.PlainAgent.{is_idle, is_wanted, may_take};
@@ -134,7 +134,7 @@ fn candidate(
     None
 }
 
-/// A steal for a CPU, by what a view tells, into a run list.
+/// A steal for a CPU, by what a view tells, into a run list, which stays settled where the thread belongs at its end.
 fn take_least(
     view: &View,
     runnable: &Option<NameSet>,
@@ -142,13 +142,16 @@ fn take_least(
     kernel: &mut Kernel,
     cpu: Cpu,
     passed: &mut u32,
+    settled: &mut bool,
 ) -> Result<Tid, CallFault>
     requires runnable { HoldsAll (runs_in view.now cpu) runnable.now }
     requires passed { IsNoneWantedBelow passed.old (runs_in view.now cpu) list.old }
+    requires settled { IsTrue settled.old → IsSettled view.now cpu list.old }
     ensures takes { StealsAsSeen view.now cpu result list.old list.new kernel.old kernel.new }
     ensures goes_on { GoesOn result kernel.old kernel.new }
     ensures left { OnErr result (list.new ≡ list.old) }
     ensures passed { IsNoneWantedBelow passed.new (runs_in view.now cpu) list.new }
+    ensures settled { IsTrue settled.new → IsSettled view.now cpu list.new }
 {
     if kernel.running(cpu).is_some() {
         return Err(CallFault::Refused(Refusal::Busy));
@@ -158,11 +161,14 @@ fn take_least(
         return Err(CallFault::Refused(Refusal::NothingToSteal));
     };
     // The name is pushed before the kernel is asked: once it has accepted, nothing may fail.
-    if list.push(thread).is_err() {
+    let Ok(in_order) = list.push_in_order(view, thread) else {
         return Err(CallFault::OutOfMemory);
-    }
+    };
     match kernel.associate(thread, cpu, view.upto(thread)) {
-        Ok(()) => Ok(thread),
+        Ok(()) => {
+            *settled &= in_order;
+            Ok(thread)
+        }
         Err(refusal) => {
             list.take_last();
             Err(CallFault::Refused(refusal))
@@ -202,9 +208,8 @@ impl Agent {
             kernel,
             self.cpu,
             &mut self.passed,
+            &mut self.settled,
         );
-        // The thread that was taken over may stand behind others of a lower level.
-        self.settled = self.settled && answered.is_err();
         self.counts.count_steal(&answered);
         answered
     }

@@ -187,6 +187,8 @@ enum Step<'a> {
     /// The thread's second message says that it blocked.
     Blocks(u32),
     Puts(Tid),
+    /// The name is put at the end, and the answer is whether it stands in order there.
+    PutsInOrder(Tid, bool),
     Removes(Tid),
     TakesFirst(Option<Tid>),
     TakesLast(Option<Tid>),
@@ -200,6 +202,13 @@ fn puts(queue: &mut RunQueue, name: Tid) -> bool {
         return false;
     }
     queue.push(name).is_ok()
+}
+
+fn puts_in_order(queue: &mut RunQueue, view: &View, name: Tid) -> Result<bool, Fail> {
+    if queue.has(name) {
+        return Err(Fail::from("the name is there"));
+    }
+    Ok(queue.push_in_order(view, name)?)
 }
 
 fn lists(queue: &RunQueue, wanted: &[u32]) -> bool {
@@ -226,6 +235,7 @@ fn holds(queue: &mut RunQueue, view: &mut View, step: &Step<'_>) -> Result<bool,
         Step::Refreshes(first, Some(then)) => queue.refresh(view, &[first, then], Cpu(0))?,
         Step::Blocks(thread) => block(view, thread)?,
         Step::Puts(name) => return Ok(puts(queue, name)),
+        Step::PutsInOrder(name, wanted) => return Ok(puts_in_order(queue, view, name)? == wanted),
         Step::Removes(name) => queue.remove(name),
         Step::TakesFirst(wanted) => return Ok(queue.take_first() == wanted),
         Step::TakesLast(wanted) => return Ok(queue.take_last() == wanted),
@@ -300,6 +310,21 @@ fn names_are_put_at_the_end_and_leave_from_any_place(rt: HostRuntime) -> Result<
     each_holds(&rt, rt.alloc(), Threads::Mixed, &[T2, T0], 1, &put)?;
     each_holds(&rt, rt.alloc(), Threads::Ready, &[T0, T1, T2], 0, &removed)?;
     each_holds(&rt, rt.alloc(), Threads::Ready, &[T2, T0, T1], 0, &taken)
+}
+
+// Where T1 alone is raised it stands in order behind nobody, and everyone behind it.
+#[test]
+fn a_name_put_at_the_end_is_in_order_behind_no_lower_level(rt: HostRuntime) -> Result<(), Fail> {
+    let behind = [
+        Step::PutsInOrder(T0, true),
+        Step::PutsInOrder(T2, true),
+        Step::Lists(&[1, 0, 2]),
+    ];
+    let in_front = [Step::PutsInOrder(T1, false), Step::Lists(&[0, 1])];
+    let alone = [Step::PutsInOrder(T1, true), Step::Lists(&[1])];
+    each_holds(&rt, rt.alloc(), Threads::OneRaised, &[T1], 0, &behind)?;
+    each_holds(&rt, rt.alloc(), Threads::OneRaised, &[T0], 0, &in_front)?;
+    each_holds(&rt, rt.alloc(), Threads::OneRaised, &[], 0, &alone)
 }
 
 // An empty list has no first.

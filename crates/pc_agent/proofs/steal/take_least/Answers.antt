@@ -1,7 +1,8 @@
-use Rattle.std.proofs.Common.{Err, is_some, refl, sym, ap, ◌∙◌}
+use Rattle.std.proofs.Common.{Err, ◌≡◌, is_some, refl, rules, sym, subst, ap, ◌∙◌}
 use Rattle.pc_calls.specs.declared.refusal.Refusal.TheVariants.{Busy}
 use Rattle.pc_calls.specs.declared.refusal.CallFault.TheVariants.{Refused}
-use Rattle.pc_agent.proofs.Stolen.{for_busy, none_found, none_left, was_not_taken, was_pushed, was_taken}
+use Rattle.pc_run_queue.specs.Runs.{IsSettled}
+use Rattle.pc_agent.proofs.Stolen.{for_busy, none_found, put_back, was_not_taken, was_taken}
 use Rattle.pc_agent.proofs.steal.take_least.Goals as goal
 
 pub returns-then-is_some-clause-takes : goal.returns-then-is_some-clause-takes
@@ -12,16 +13,20 @@ pub returns-in_default-clause-takes : goal.returns-in_default-clause-takes
 returns-in_default-clause-takes c =
     none_found c.args.view.now c.args.cpu c.args.list.now c.args.kernel.now (sym (c.if-is_some.ensures ∙ ap is_some c.running.ensures)) c.in_default.ensures
 
-pub returns-then-is_err-clause-takes : goal.returns-then-is_err-clause-takes
-returns-then-is_err-clause-takes c =
-    none_left c.args.view.now c.args.cpu c.args.list.now c.args.kernel.now (sym (c.if-is_some.ensures ∙ ap is_some c.running.ensures)) c.in-Some.thread c.in-Some.ensures c.push.new.self
-
-pub returns-in-Ok-clause-takes : goal.returns-in-Ok-clause-takes
-returns-in-Ok-clause-takes c =
+pub returns-in-Ok-associate-clause-takes : goal.returns-in-Ok-associate-clause-takes
+returns-in-Ok-associate-clause-takes c =
     was_taken c.args.view.now c.args.cpu c.args.list.now c.args.kernel.now (sym (c.if-is_some.ensures ∙ ap is_some c.running.ensures)) c.in-Some.thread c.in-Some.ensures
-    c.upto.result c.upto.ensures c.push.new.self c.associate.new.self c.in-Ok.ensures.fault c.in-Ok.ensures.step (was_pushed c.push.result _ (sym c.is_err.ensures.value ∙ c.if-is_err.false) c.push.ensures.ok)
+    c.upto.result c.upto.ensures c.push_in_order.new.self c.associate.new.self c.in-Ok-associate.ensures.fault c.in-Ok-associate.ensures.step c.in-Ok.ensures.ok
 
 pub returns-in-Err-clause-takes : goal.returns-in-Err-clause-takes
 returns-in-Err-clause-takes c =
     was_not_taken c.args.view.now c.args.cpu c.args.list.now c.args.kernel.now (sym (c.if-is_some.ensures ∙ ap is_some c.running.ensures)) c.in-Some.thread c.in-Some.ensures
     c.upto.result c.upto.ensures c.take_last.new.self c.associate.new.self c.in-Err.refusal c.in-Err.ensures.fault
+
+pub returns-in-Err-clause-settled : goal.returns-in-Err-clause-settled
+returns-in-Err-clause-settled c = λ told. (
+    subst (IsSettled c.args.view.now c.args.cpu) (sym left) (c.requires.settled told)
+    )
+    where
+      left : c.take_last.new.self ≡ c.args.list.now
+      left = put_back c.take_last.result c.args.list.now c.push_in_order.new.self c.take_last.new.self c.in-Some.thread c.take_last.ensures c.in-Ok.ensures.ok
