@@ -1,1 +1,2 @@
 pub mod Annotated
+pub mod Lines

@@ -5,7 +5,12 @@
 //! exactly what the run writes. The sentences themselves are tested, not proved.
 #![tactic(auto)]
 
+mod before;
+mod comment;
+mod line;
 mod run;
+mod sentences;
+mod telling;
 mod watched;
 
 pub use run::explain_script;

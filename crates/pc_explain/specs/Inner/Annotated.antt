@@ -1,11 +1,11 @@
 -- A text with comments put between its lines.
-use Rattle.std.specs.Prelude.{◌≡◌, ◌==◌, ℕ, List, [], ◌∷◌, ◌++◌, false}
-use Rattle.std.specs.List.{All}
+use Rattle.std.specs.Prelude.{◌≡◌, ◌==◌, ℕ, List, [], ◌∷◌, ◌++◌, true, false, not}
+use Rattle.std.specs.List.{list_all}
 use Rattle.pc_explain.specs.Comments.{is_comment}
 
 -- a line has no line feed
 abbrev pub HasNoLineFeed : List ℕ → Type 0
-HasNoLineFeed line = All (λ byte. (byte == 10) ≡ false) line
+HasNoLineFeed line = list_all (λ byte. not (byte == 10)) line ≡ true
 
 -- A text of whole lines, none of which is a comment, and the same text with comments between its lines
 pub data IsAnnotated : List ℕ → List ℕ → Type 0 where
