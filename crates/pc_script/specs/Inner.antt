@@ -1,4 +1,3 @@
-pub mod Left
 pub mod Readings
 pub mod Steps
 pub mod Verbs

@@ -10,7 +10,7 @@ fn is_plain(word: &[u8]) -> bool
 }
 
 /// The number that this word is in decimal, with neither a sign nor a zero in front.
-pub(crate) fn number(word: &[u8]) -> Option<u64>
+pub fn number(word: &[u8]) -> Option<u64>
     ensures { MatchOption result ((n : ℕ) → n < 2 ^ 64 → word.now ≡ decimal n → ⊥) (λ n. (n < 2 ^ 64) × (word.now ≡ decimal n)) }
 {
     if !is_plain(word) {

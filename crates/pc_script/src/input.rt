@@ -36,8 +36,10 @@ fn read_more<R: Read>(reader: &mut R, text: &mut Vec<u8>) -> Result<bool, Script
     }
 }
 
-/// Reads to the end, which is the first read that gives nothing, and no more than a byte past the greatest length.
-pub(crate) fn read_text<R: Read>(alloc: Global, reader: &mut R) -> Result<Vec<u8>, ScriptFault>
+/// Reads a script's text to the end, which is the first read that gives nothing, and no more than a byte past the greatest length.
+///
+/// The fault is `Read` where a read failed, `TooLong` past [`MOST_BYTES`], or `OutOfMemory`; there is no text then.
+pub fn read_text<R: Read>(alloc: Global, reader: &mut R) -> Result<Vec<u8>, ScriptFault>
     ensures ok { IfOk result (λ text. IfSome (R.remaining reader.old) (λ bytes. bytes ≡ text.items)) }
     ensures short { IfOk result (λ text. length text.items ≤ MOST_BYTES) }
     ensures too_long { result ≡ Err ScriptFault.TooLong → IfSome (R.remaining reader.old) (λ bytes. MOST_BYTES < length bytes) }

@@ -28,11 +28,13 @@ mod short;
 mod text;
 
 pub use command::{Command, Read};
-pub use digits::count;
-pub use input::MOST_BYTES;
+pub use digits::{count, number};
+pub use input::{MOST_BYTES, read_text};
 pub use line::{Wish, asked};
+pub use lines::{Lines, first_word, lines_of};
 pub use lists::{EarlyNumbers, ShownThread, ShownThreads};
 pub use machine::Machine;
+pub use opening::{Opening, opening_of};
 pub use outcome::{Outcome, ScriptFault};
 pub use response::Response;
 pub use run::run_script;

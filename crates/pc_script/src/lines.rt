@@ -4,16 +4,16 @@ ghost use Rattle.std.specs.Prelude.{◌≡◌, [], ◌∷◌, MatchOption};
 ghost use Rattle.std.specs.Iterator.{YieldsFirstBy, item_count};
 ghost use Rattle.std.specs.Str.Lines.{strip_carriage_return};
 ghost use Rattle.pc_script.specs.Text.{lines, words};
-ghost use Rattle.pc_script.specs.Inner.Left.{lines_left, lines_of_rest};
+ghost use Rattle.pc_script.specs.Left.{lines_left, lines_of_rest};
 
 /// The lines of a text that are left, or none after the last.
 #[derive(Drop)]
-pub(crate) struct Lines<'a> {
+pub struct Lines<'a> {
     rest: Option<&'a [u8]>,
 }
 
 /// The lines of this rest of a text.
-pub(crate) fn lines_of(rest: Option<&[u8]>) -> Lines<'_>
+pub fn lines_of(rest: Option<&[u8]>) -> Lines<'_>
     ensures { lines_left result ≡ lines_of_rest rest.entry }
 {
     Lines { rest }
@@ -57,7 +57,7 @@ fn without_carriage_return(line: &[u8]) -> &[u8]
 }
 
 /// The first word of a text, and the text after it: words are the parts between spaces that aren't empty.
-pub(crate) fn first_word(text: &[u8]) -> Option<(&[u8], &[u8])>
+pub fn first_word(text: &[u8]) -> Option<(&[u8], &[u8])>
     ensures { MatchOption result (words text.now ≡ []) (λ cut. words text.now ≡ cut.0.now ∷ words cut.1.now) }
 {
     let start = text.iter().position(|b| *b != b' ')?;

@@ -2,7 +2,7 @@
 
 ghost use Rattle.std.specs.Prelude.{◌≤◌, length};
 ghost use Rattle.std.specs.Bool.{MatchBool};
-ghost use Rattle.pc_script.specs.Inner.Left.{lines_left, lines_of_rest};
+ghost use Rattle.pc_script.specs.Left.{lines_left, lines_of_rest};
 ghost use Rattle.pc_script.specs.Inner.Steps.{IsOpener};
 ghost use Rattle.pc_script.specs.Text.{lines};
 ghost use Rattle.pc_script.specs.Versions.{IsVersionTwo, Opens};
@@ -24,12 +24,12 @@ enum Opener {
 
 /// The profile of a script, and what is left of its text.
 #[derive(Drop)]
-pub(crate) struct Opening<'a> {
-    pub(crate) profile: Profile,
+pub struct Opening<'a> {
+    pub profile: Profile,
     /// How many lines came before what is left.
-    pub(crate) passed: u32,
+    pub passed: u32,
     /// The text from the first line on that may ask for a command, if there is one.
-    pub(crate) rest: Option<&'a [u8]>,
+    pub rest: Option<&'a [u8]>,
 }
 
 /// Whether this is the version line.
@@ -59,7 +59,7 @@ fn opener_of(line: &[u8]) -> Opener
 }
 
 /// The profile of the script with this text.
-pub(crate) fn opening_of(text: &[u8]) -> Opening<'_>
+pub fn opening_of(text: &[u8]) -> Opening<'_>
     requires short { length text.now ≤ MOST_BYTES }
     ensures { Opens result.profile result.passed (lines_of_rest result.rest) (lines text.now) }
 {

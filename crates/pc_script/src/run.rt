@@ -2,7 +2,7 @@
 
 ghost use Rattle.std.specs.Prelude.{◌≡◌, ◌≢◌, ◌⊎◌, ◌+◌, ℕ, suc, List, [], ◌<◌, ◌≤◌, length, IfOk, IfSome, OnOk};
 ghost use Rattle.std.specs.Io.KnownBytes.{Appends, Consumes};
-ghost use Rattle.pc_script.specs.Inner.Left.{lines_of_rest};
+ghost use Rattle.pc_script.specs.Left.{lines_of_rest};
 ghost use Rattle.pc_script.specs.Scripts.{IsOutput, IsOutputUntil, IsTold, IsToldUntil, outcome_text};
 ghost use Rattle.pc_script.specs.Versions.{opening_text};
 

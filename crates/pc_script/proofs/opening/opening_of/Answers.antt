@@ -1,6 +1,6 @@
 use Rattle.std.proofs.Common.{arith}
 use Rattle.pc_script.specs.Grammar.{HasNoReply}
-use Rattle.pc_script.specs.Inner.Left.{lines_of_rest}
+use Rattle.pc_script.specs.Left.{lines_of_rest}
 use Rattle.pc_script.specs.Versions.{IsVersionTwo}
 use Rattle.pc_script.proofs.Openings.{here, silent_line, silent_length, two_after, one_after, none_after}
 use Rattle.pc_script.proofs.Splits.{lines-few}

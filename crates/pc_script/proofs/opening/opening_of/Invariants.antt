@@ -1,5 +1,5 @@
 use Rattle.std.proofs.Common.{length}
-use Rattle.pc_script.specs.Inner.Left.{lines_of_rest}
+use Rattle.pc_script.specs.Left.{lines_of_rest}
 use Rattle.pc_script.specs.Text.{lines}
 use Rattle.pc_script.proofs.Openings.{IsSilentUpTo}
 use Rattle.pc_script.proofs.opening.opening_of.Given as goal

@@ -2,7 +2,7 @@ use Rattle.std.proofs.Common.{ℕ, ◌+◌, List, Bor, length, drop, sym, arith}
 use Rattle.std.proofs.lemmas.Iterator.Consumers.{YieldsList-from_first, YieldsList-turn, YieldsList-so_far}
 use Rattle.std.proofs.lemmas.List.{length_push, map-append, length-map}
 use Rattle.std.proofs.lemmas.Result.{err_from_is_err_and}
-use Rattle.pc_script.specs.Inner.Left.{lines_left, lines_of_rest}
+use Rattle.pc_script.specs.Left.{lines_left, lines_of_rest}
 use Rattle.pc_script.proofs.Progress.{HasRun-none, HasRun-more, told_until, told_at_fault, passed_fault}
 use Rattle.pc_script.specs.declared.outcome.ScriptFault.TheVariants.{OutOfMemory}
 use Rattle.pc_script.proofs.Splits.{list_at}

@@ -1,0 +1,3 @@
+pub mod Annotations
+pub mod Plain
+pub mod Tellings

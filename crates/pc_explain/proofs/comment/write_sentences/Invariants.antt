@@ -1,0 +1,6 @@
+use Rattle.std.proofs.Common.{[]}
+use Rattle.pc_explain.specs.Inner.Lines.{Annotates}
+use Rattle.pc_explain.proofs.comment.write_sentences.Given as goal
+
+abbrev pub invariant-loop-sentence : goal.invariant-loop-sentence
+invariant-loop-sentence g l = Annotates [] (g.W.Write.contents l.initial.writer) (g.W.Write.contents l.writer)
