@@ -1,5 +1,5 @@
 -- The parser of the command line as a value, and what the words ask for.
-use Rattle.std.specs.Prelude.{◌≡◌, ◌≢◌, ◌↔◌, ◌⊎◌, IsTrue, true, List, Option, Some, None, option_map, string_bytes, codes}
+use Rattle.std.specs.Prelude.{◌≡◌, ◌≢◌, ◌↔◌, ◌⊎◌, Bool, IsTrue, true, List, Option, Some, None, option_map, string_bytes, codes}
 use Rattle.clap.specs.Walk.{Row, Rule, Text, first_of}
 use Rattle.clap.specs.Simple.{App, new_app, new_rule, on_top, with_rule, with_subcommand}
 use Rattle.clap.specs.Kinds.{IsAmong, Kinds}
@@ -7,7 +7,7 @@ use Rattle.clap.specs.Values.{kind_of}
 use Rattle.clap.specs.declared.builder.action.ArgAction.TheVariants.{SetTrue}
 use Rattle.clap.specs.declared.error.kind.ErrorKind.TheVariants as kind
 use Rattle.pc_sim.specs.declared.command_line.Command.{Command}
-use Rattle.pc_sim.specs.declared.command_line.Command.TheVariants.{Replay, Run}
+use Rattle.pc_sim.specs.declared.command_line.Command.TheVariants.{Replay, Explain, Run}
 use Rattle.pc_sim.specs.declared.command_line.CommandFault.{CommandFault}
 use Rattle.pc_sim.specs.declared.command_line.CommandFault.TheVariants.{OutOfMemory, Clap}
 
@@ -15,42 +15,57 @@ use Rattle.pc_sim.specs.declared.command_line.CommandFault.TheVariants.{OutOfMem
 abbrev pub file : Rule
 file = new_rule (codes "FILE")
 
--- --per-cpu
-abbrev pub per_cpu : Rule
-per_cpu = record (new_rule (codes "per-cpu")) { long = Some (codes "per-cpu"); action = Some SetTrue }
+-- a command that takes a file
+abbrev pub of_file : Text → App
+of_file name = with_rule (new_app name) file
 
--- replay [FILE]
-abbrev pub replay : App
-replay = with_rule (new_app (codes "replay")) file
+-- the flag `--name`
+abbrev pub flag : Text → Rule
+flag name = record (new_rule name) { long = Some name; action = Some SetTrue }
 
 -- run [FILE] [--per-cpu]
 abbrev pub run : App
-run = with_rule (with_rule (new_app (codes "run")) file) per_cpu
+run = with_rule (of_file (codes "run")) (flag (codes "per-cpu"))
 
 -- the program, which has a version, wants a command, and has no command `help`
 abbrev pub pc_sim : App
 pc_sim =
     with_subcommand
     (with_subcommand
+    (with_subcommand
     (on_top (λ s. record s { has_version = true; subcommand_required = true; disable_help_subcommand = true }) (new_app (codes "pc-sim")))
-    replay.top)
+    (of_file (codes "replay")).top)
+    (of_file (codes "explain")).top)
     run.top
+
+-- the file that the word after a command names: none where there is no word, or `-`
+abbrev pub IsInput : Option Text → Option Text → Type 0
+IsInput None named = named ≡ None
+IsInput (Some word) None = word ≡ codes "-"
+IsInput (Some word) (Some name) = (name ≡ word) × (word ≢ codes "-")
+
+-- the command of this name, with this word after it
+abbrev pub IsOf : Text → Option Text → Text × List Row → Type 0
+IsOf name file met = (met.0 ≡ name) × IsInput (first_of (codes "FILE") met.1) file
+
+-- the flag of this name stands there, or not
+abbrev pub IsFlag : Text → Bool → List Row → Type 0
+IsFlag name set rows = IsTrue set ↔ (first_of name rows ≡ Some (codes "true"))
 
 -- the command with this name and these values is asked for
 abbrev pub IsAsked : Option (Text × List Row) → Command → Type 0
 IsAsked None command = ⊥
-IsAsked (Some met) (Replay given) =
-    (met.0 ≡ codes "replay") × (option_map string_bytes given ≡ first_of (codes "FILE") met.1)
-IsAsked (Some met) (Run given each_cpu) =
-    (met.0 ≡ codes "run") × (option_map string_bytes given ≡ first_of (codes "FILE") met.1)
-    × (IsTrue each_cpu ↔ (first_of (codes "per-cpu") met.1 ≡ Some (codes "true")))
+IsAsked (Some met) (Replay given) = IsOf (codes "replay") (option_map string_bytes given) met
+IsAsked (Some met) (Explain given) = IsOf (codes "explain") (option_map string_bytes given) met
+IsAsked (Some met) (Run given each_cpu) = IsOf (codes "run") (option_map string_bytes given) met × IsFlag (codes "per-cpu") each_cpu met.1
 
 -- want of memory, or one of these kinds, of which help and the version are two
 abbrev pub IsRefusal : Kinds → CommandFault → Type 0
 IsRefusal kinds OutOfMemory = Unit {0}
 IsRefusal kinds (Clap error) = (kind_of error ≢ kind.OutOfMemory) × IsAmong (kind_of error) kinds
 
--- one of the two commands was met
+-- one of the commands was met
 abbrev pub IsCommandMet : Option (Text × List Row) → Type 0
 IsCommandMet None = ⊥
-IsCommandMet (Some met) = (met.0 ≡ codes "replay") ⊎ (met.0 ≡ codes "run")
+IsCommandMet (Some met) =
+    (met.0 ≡ codes "replay") ⊎ (met.0 ≡ codes "explain") ⊎ (met.0 ≡ codes "run")

@@ -2,6 +2,7 @@
 use Rattle.std.specs.Prelude.{ℕ, Bool, ◌≡◌, ◌⊎◌, List, Option, Err}
 use Rattle.std.specs.Io.KnownBytes.{Appends, Keeps}
 use Rattle.toml.specs.Data.{Members}
+use Rattle.pc_explain.specs.Comments.{without_comments}
 use Rattle.pc_script.specs.Scripts.{IsOutput, IsOutputUntil}
 use Rattle.pc_script.specs.declared.outcome.Outcome.TheVariants as outcome
 use Rattle.pc_threads.specs.Reports.{AddsUp, TellsItsBook}
@@ -13,18 +14,28 @@ use Rattle.pc_sim.specs.Session.{IsSession, RanOut}
 use Rattle.pc_sim.specs.SettingsText.{Reads}
 use Rattle.pc_sim.specs.declared.ending.Ending.{Ending}
 use Rattle.pc_sim.specs.declared.ending.Ending.TheVariants.{Finished, FaultLine, CannotRead, BadCommandLine, OutOfMemory, Settings, Run, CannotStart}
+use Rattle.pc_sim.specs.declared.forms.Form.{Form}
+use Rattle.pc_sim.specs.declared.forms.Form.TheVariants.{Replies, Explained}
 use Rattle.pc_sim.specs.declared.settings.SettingsFault.{SettingsFault}
 
--- after a script of this text: its output, or what comes before the command at which memory ran out
-abbrev pub IsReplayed : (text : List ℕ) (old new : Option (List ℕ)) → Ending → Type 0
-IsReplayed text old new Finished = (output : List ℕ) × IsOutput IsSession text outcome.Finished output × Appends old new output
-IsReplayed text old new FaultLine = (line : ℕ) × (output : List ℕ) × IsOutput IsSession text (outcome.FaultLine line) output × Appends old new output
-IsReplayed text old new OutOfMemory = Keeps old new ⊎ ((output : List ℕ) × IsOutputUntil IsSession RanOut text output × Appends old new output)
-IsReplayed text old new CannotRead = Unit {0}
-IsReplayed text old new BadCommandLine = ⊥
-IsReplayed text old new (Settings bad) = ⊥
-IsReplayed text old new (Run why) = ⊥
-IsReplayed text old new CannotStart = ⊥
+-- after a script of this text: what was written is plainly its output, or what comes before the command at which memory ran out
+abbrev pub IsAnswered : (plain : List ℕ → List ℕ) (text : List ℕ) (old new : Option (List ℕ)) → Ending → Type 0
+IsAnswered plain text old new Finished =
+    (written : List ℕ) × IsOutput IsSession text outcome.Finished (plain written) × Appends old new written
+IsAnswered plain text old new FaultLine =
+    (line : ℕ) × (written : List ℕ) × IsOutput IsSession text (outcome.FaultLine line) (plain written) × Appends old new written
+IsAnswered plain text old new OutOfMemory =
+    Keeps old new ⊎ ((written : List ℕ) × IsOutputUntil IsSession RanOut text (plain written) × Appends old new written)
+IsAnswered plain text old new CannotRead = Unit {0}
+IsAnswered plain text old new BadCommandLine = ⊥
+IsAnswered plain text old new (Settings bad) = ⊥
+IsAnswered plain text old new (Run why) = ⊥
+IsAnswered plain text old new CannotStart = ⊥
+
+-- after this was made of the text
+abbrev pub IsMade : Form → (text : List ℕ) (old new : Option (List ℕ)) → Ending → Type 0
+IsMade Replies text old new ending = IsAnswered (λ written. written) text old new ending
+IsMade Explained text old new ending = IsAnswered without_comments text old new ending
 
 -- after a run by settings: the report of a run that did what they ask for, or nothing
 abbrev pub IsReported : (settings : Option Members) (per_cpu : Bool) (old new : Option (List ℕ)) → Ending → Type 0

@@ -1,11 +1,11 @@
 //! The command line.
 
-ghost use Rattle.std.specs.Prelude.{◌≡◌, ◌≢◌, ◌↔◌, ◌⊎◌, [], Some, IfOk, IfErr, IsTrue, map, option_map, string_bytes, codes};
-ghost use Rattle.clap.specs.Walk.{first_of, rows_of};
+ghost use Rattle.std.specs.Prelude.{◌≡◌, ◌≢◌, ◌↔◌, ◌⊎◌, [], Some, IfOk, IfErr, IsTrue, false, map, option_map, string_bytes, codes};
+ghost use Rattle.clap.specs.Walk.{first_of, rows_of, rule_of};
 ghost use Rattle.clap.specs.Simple.{app_of, subcommand_of, subcommand_rows_of};
 ghost use Rattle.clap.specs.Faults.{fault_of};
 ghost use Rattle.clap.specs.Matches.{found_of};
-ghost use Rattle.pc_sim.specs.CommandLine.{IsAsked, IsCommandMet, IsRefusal, pc_sim, replay, run};
+ghost use Rattle.pc_sim.specs.CommandLine.{IsAsked, IsCommandMet, IsInput, IsRefusal, flag, of_file, pc_sim, run};
 
 use clap::error::ErrorKind;
 use clap::{Arg, ArgAction, ArgMatches, Command as Parser, Error};
@@ -13,14 +13,18 @@ use std::alloc::{AllocError, Global};
 use std::convert::AsStr;
 use thiserror::Error as Fault;
 
-/// What the program is asked to do.
+/// What the program is asked to do. Where there is no file the standard input is read.
 #[derive(Debug, Drop)]
 pub enum Command {
-    /// Replay a script: that of the file, or else of the standard input.
+    /// Replay a script.
     Replay {
         file: Option<String>,
     },
-    /// Run agents in threads by settings: those of the file, or else of the standard input.
+    /// Replay a script, and explain each line.
+    Explain {
+        file: Option<String>,
+    },
+    /// Run agents in threads by settings.
     Run {
         file: Option<String>,
         /// Whether the report has a line for each CPU.
@@ -59,8 +63,10 @@ const ABOUT: &str =
 const AFTER: &str = "\
 Examples:
   pc-sim replay examples/commits-and-sleepers.script
+  pc-sim explain examples/commits-and-sleepers.script
   pc-sim run settings.toml --per-cpu
 
+FILE may be `-`, the standard input.
 Exit status: 0 finished; 1 a file or a text has a fault; 2 the command line has one; 3 a run did not
 settle; 4 memory or a thread is wanting.
 Scripts, settings and answers are described in docs/FORMATS.md.";
@@ -74,6 +80,16 @@ Example:
 Exit status: 0 finished; 1 a line is no command, or a read or a write failed; 4 memory is wanting.
 Scripts are described in docs/FORMATS.md.";
 
+const ABOUT_EXPLAIN: &str = "Answers each command of a script, and says in comments what happened and why";
+
+const AFTER_EXPLAIN: &str = "\
+Example:
+  pc-sim explain examples/commits-and-sleepers.script
+
+The lines that begin with `#` are comments; the others are what `pc-sim replay` writes.
+Exit status: 0 finished; 1 a line is no command, or a read or a write failed; 4 memory is wanting.
+What is written is described in docs/FORMATS.md.";
+
 const ABOUT_RUN: &str = "Runs agents in threads by settings, and reports what they did";
 
 const AFTER_RUN: &str = "\
@@ -83,6 +99,10 @@ Example:
 Exit status: 0 finished; 1 the settings have a fault, or a read or a write failed; 3 the run did not
 settle; 4 memory or a thread is wanting.
 Settings and the report are described in docs/FORMATS.md.";
+
+const SCRIPT: &str = "the script; without it, and where it is `-`, the standard input is read";
+
+const SETTINGS: &str = "the settings; without it, and where it is `-`, the standard input is read";
 
 /// Reads the words of the command line, of which the first is the program's name.
 pub fn read_command<'a, S: AsStr>(alloc: Global, words: &'a [S]) -> Result<Command, CommandFault>
@@ -98,30 +118,55 @@ pub fn read_command<'a, S: AsStr>(alloc: Global, words: &'a [S]) -> Result<Comma
     }
 }
 
+/// The parser of `NAME [FILE]`; `file` tells what FILE is.
+fn parser_of_file<'a>(
+    alloc: Global,
+    name: &'static str,
+    file: &'static str,
+) -> Result<Parser<'a>, AllocError>
+    ensures { IfOk result (λ parser. app_of parser ≡ of_file name.now) }
+{
+    let file = Arg::new(alloc, "FILE").help(file);
+    Parser::new(alloc, name).arg(file)
+}
+
+/// The flag `--NAME`.
+fn flag_of<'a>(alloc: Global, name: &'static str, help: &'static str) -> Arg<'a>
+    ensures rule { rule_of result ≡ flag name.now }
+    ensures local { result.global ≡ false }
+{
+    Arg::new(alloc, name)
+        .long(name)
+        .action(ArgAction::SetTrue)
+        .help(help)
+}
+
 /// `replay [FILE]`
 fn replay_parser<'a>(alloc: Global) -> Result<Parser<'a>, AllocError>
-    ensures { IfOk result (λ parser. app_of parser ≡ replay) }
+    ensures { IfOk result (λ parser. app_of parser ≡ of_file (codes "replay")) }
 {
-    let file = Arg::new(alloc, "FILE").help("the script; without it the standard input is read");
-    Parser::new(alloc, "replay")
+    Ok(parser_of_file(alloc, "replay", SCRIPT)?
         .about(ABOUT_REPLAY)
-        .after_help(AFTER_REPLAY)
-        .arg(file)
+        .after_help(AFTER_REPLAY))
+}
+
+/// `explain [FILE]`
+fn explain_parser<'a>(alloc: Global) -> Result<Parser<'a>, AllocError>
+    ensures { IfOk result (λ parser. app_of parser ≡ of_file (codes "explain")) }
+{
+    Ok(parser_of_file(alloc, "explain", SCRIPT)?
+        .about(ABOUT_EXPLAIN)
+        .after_help(AFTER_EXPLAIN))
 }
 
 /// `run [FILE] [--per-cpu]`
 fn run_parser<'a>(alloc: Global) -> Result<Parser<'a>, AllocError>
     ensures { IfOk result (λ parser. app_of parser ≡ run) }
 {
-    let file = Arg::new(alloc, "FILE").help("the settings; without it the standard input is read");
-    let per_cpu = Arg::new(alloc, "per-cpu")
-        .long("per-cpu")
-        .action(ArgAction::SetTrue)
-        .help("also reports a line for each CPU");
-    Parser::new(alloc, "run")
+    let per_cpu = flag_of(alloc, "per-cpu", "also reports a line for each CPU");
+    parser_of_file(alloc, "run", SETTINGS)?
         .about(ABOUT_RUN)
         .after_help(AFTER_RUN)
-        .arg(file)?
         .arg(per_cpu)
 }
 
@@ -130,6 +175,7 @@ fn parser<'a>(alloc: Global) -> Result<Parser<'a>, AllocError>
     ensures { IfOk result (λ parser. app_of parser ≡ pc_sim) }
 {
     let replay = replay_parser(alloc)?;
+    let explain = explain_parser(alloc)?;
     let run = run_parser(alloc)?;
     Parser::new(alloc, "pc-sim")
         .version(VERSION)
@@ -138,6 +184,7 @@ fn parser<'a>(alloc: Global) -> Result<Parser<'a>, AllocError>
         .subcommand_required(true)
         .disable_help_subcommand(true)
         .subcommand(replay)?
+        .subcommand(explain)?
         .subcommand(run)
 }
 
@@ -154,28 +201,31 @@ fn command_of(alloc: Global, matches: &ArgMatches<'_>) -> Result<Command, Comman
     if name == "run" {
         Ok(Command::Run {
             file,
-            per_cpu: is_per_cpu(met),
+            per_cpu: is_set(met, "per-cpu"),
         })
+    } else if name == "explain" {
+        Ok(Command::Explain { file })
     } else {
         Ok(Command::Replay { file })
     }
 }
 
-/// The named file.
+/// The named file; none of the standard input, which `-` names too.
 fn file_of(alloc: Global, matches: &ArgMatches<'_>) -> Result<Option<String>, AllocError>
-    ensures { IfOk result (λ file. option_map string_bytes file ≡ first_of (codes "FILE") (rows_of (found_of matches.now))) }
+    ensures { IfOk result (λ file. IsInput (first_of (codes "FILE") (rows_of (found_of matches.now))) (option_map string_bytes file)) }
 {
     match matches.get_str("FILE") {
-        Some(name) => Ok(Some(String::from_str(alloc, name)?)),
         None => Ok(None),
+        Some(name) if name == "-" => Ok(None),
+        Some(name) => Ok(Some(String::from_str(alloc, name)?)),
     }
 }
 
-/// Whether a line for each CPU is wanted.
-fn is_per_cpu(matches: &ArgMatches<'_>) -> bool
-    ensures { IsTrue result ↔ (first_of (codes "per-cpu") (rows_of (found_of matches.now)) ≡ Some (codes "true")) }
+/// Whether the flag of this name stands there.
+fn is_set(matches: &ArgMatches<'_>, name: &str) -> bool
+    ensures { IsTrue result ↔ (first_of name.now (rows_of (found_of matches.now)) ≡ Some (codes "true")) }
 {
-    match matches.get_str("per-cpu") {
+    match matches.get_str(name) {
         Some(word) => word == "true",
         None => false,
     }

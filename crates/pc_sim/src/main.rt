@@ -1,4 +1,4 @@
-//! `pc-sim`: replays scripts of events on the kernel model and its agents, or runs agents in threads.
+//! `pc-sim`: replays scripts of events on the kernel model and its agents, explains them, or runs agents in threads.
 #![tactic(auto)]
 
 ghost use Rattle.std.specs.Prelude.{◌≡◌, ◌+◌, ◌⊎◌, ◌<◌, ◌≤◌, List, [], ℕ, length, IfOk, IfSome, OnOk, Err};
@@ -7,11 +7,12 @@ ghost use Rattle.std.specs.Io.KnownBytes.{Appends, Consumes, Keeps};
 ghost use Rattle.pc_script.specs.Scripts.{IsOutput, IsOutputUntil};
 ghost use Rattle.pc_script.specs.declared.input.TheConstants.{MOST_BYTES};
 ghost use Rattle.toml.specs.Parse.{parse_document};
-ghost use Rattle.pc_sim.specs.Programs.{IsReplayed, IsReported};
+ghost use Rattle.pc_sim.specs.Programs.{IsMade, IsReported};
 ghost use Rattle.pc_sim.specs.Session.{IsSession, RanOut};
 
 mod command_line;
 mod ending;
+mod forms;
 mod input;
 mod laws;
 mod progress;
@@ -24,6 +25,7 @@ mod show;
 
 use command_line::{Command, CommandFault, read_command};
 use ending::Ending;
+use forms::{Form, make};
 use input::read_settings;
 use pc_script::{Outcome, ScriptFault};
 use run_text::run_config;
@@ -65,23 +67,29 @@ fn flushed<W: Write + Drop>(writer: &mut BufWriter<W>, ending: Ending) -> Ending
     }
 }
 
-/// Replays the script that a reader gives, writes the replies, and flushes them, whatever the ending.
-fn replay_flushed<R: Read, W: Write + Drop>(
+/// Makes what is asked for of the text that a reader gives, writes it, and flushes it, whatever the ending.
+fn make_flushed<R: Read, W: Write + Drop>(
     alloc: Global,
+    form: Form,
     reader: &mut R,
     writer: &mut BufWriter<W>,
 ) -> Ending
-    ensures told { IfSome (R.remaining reader.old) (λ text. IsReplayed text (writer_contents W.contents writer.old) (writer_contents W.contents writer.new) result) }
+    ensures told { IfSome (R.remaining reader.old) (λ text. IsMade form text (writer_contents W.contents writer.old) (writer_contents W.contents writer.new) result) }
     ensures flushed { (result ≡ Ending.CannotRead) ⊎ (writer_buffer writer.new ≡ []) }
 {
-    let ending = Ending::from(run_script(alloc, reader, writer));
+    let ending = make(alloc, form, reader, writer);
     flushed(writer, ending)
 }
 
-/// Replays the script that a reader gives, through a buffer of its own.
-fn replay<R: Read, W: Write + Drop>(alloc: Global, reader: &mut R, writer: W) -> Ending {
+/// Makes what is asked for of the text that a reader gives, through a buffer of its own.
+fn make_buffered<R: Read, W: Write + Drop>(
+    alloc: Global,
+    form: Form,
+    reader: &mut R,
+    writer: W,
+) -> Ending {
     match BufWriter::new(alloc, writer) {
-        Ok(mut writer) => replay_flushed(alloc, reader, &mut writer),
+        Ok(mut writer) => make_flushed(alloc, form, reader, &mut writer),
         Err(_) => Ending::OutOfMemory,
     }
 }
@@ -118,11 +126,12 @@ fn command_of(rt: &HostRuntime) -> Result<Command, Ending> {
     }
 }
 
-/// Reads the command line and does what it asks for, but for a run, whose settings are read.
+/// Reads the command line and does what it asks for, but for a run, of which the settings are read.
 fn begin(rt: &HostRuntime) -> Rest {
     match command_of(rt) {
         Err(ending) => Rest::Ended(ending),
-        Ok(Command::Replay { file }) => Rest::Ended(replay_file(rt, file)),
+        Ok(Command::Replay { file }) => Rest::Ended(make_of_file(rt, Form::Replies, file)),
+        Ok(Command::Explain { file }) => Rest::Ended(make_of_file(rt, Form::Explained, file)),
         Ok(Command::Run { file, per_cpu }) => match settings_of(rt, file) {
             Ok(text) => Rest::Run { text, per_cpu },
             Err(ending) => Rest::Ended(ending),
@@ -130,12 +139,12 @@ fn begin(rt: &HostRuntime) -> Rest {
     }
 }
 
-/// Replays the script of the file, or else of the standard input.
-fn replay_file(rt: &HostRuntime, file: Option<String>) -> Ending {
+/// Makes what is asked for of the text of the file, or else of the standard input.
+fn make_of_file(rt: &HostRuntime, form: Form, file: Option<String>) -> Ending {
     match file {
-        None => replay(rt.alloc(), &mut rt.stdin(), rt.stdout()),
+        None => make_buffered(rt.alloc(), form, &mut rt.stdin(), rt.stdout()),
         Some(name) => match File::open(rt, name.as_str()) {
-            Ok(mut file) => replay(rt.alloc(), &mut file, rt.stdout()),
+            Ok(mut file) => make_buffered(rt.alloc(), form, &mut file, rt.stdout()),
             Err(error) if error.kind() == ErrorKind::OutOfMemory => Ending::OutOfMemory,
             Err(_) => Ending::CannotRead,
         },

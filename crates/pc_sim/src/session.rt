@@ -8,6 +8,7 @@ ghost use Rattle.pc_sim.specs.Inner.Sessions.{Answers, StandsAfter, Steps, is_se
 
 use crate::reads::answer_of;
 use pc_calls::{LimitsFault, Profile};
+use pc_explain::Watched;
 use pc_script::{Command, Machine, Response};
 use pc_world::World;
 use std::alloc::{AllocError, Global};
@@ -81,4 +82,13 @@ impl Machine for Session {
     }
 
     ghost is_run_after = { λ profile session commands told stands. is_session profile session.profile session.world commands told stands };
+}
+
+impl Watched for Session {
+    fn world(&self) -> Option<&World> {
+        match &self.world {
+            Some(world) => Some(world),
+            None => None,
+        }
+    }
 }

@@ -29,6 +29,12 @@ static RUN_FILE: [&str; 4] = ["pc-sim", "run", "s.toml", "--per-cpu"];
 
 static RUN_FLAG_FIRST: [&str; 4] = ["pc-sim", "run", "--per-cpu", "s.toml"];
 
+static EXPLAIN_FILE: [&str; 3] = ["pc-sim", "explain", "a.script"];
+
+static EXPLAIN_DASH: [&str; 3] = ["pc-sim", "explain", "-"];
+
+static RUN_DASH: [&str; 3] = ["pc-sim", "run", "-"];
+
 static NOTHING: [&str; 1] = ["pc-sim"];
 
 static HELP_AS_COMMAND: [&str; 2] = ["pc-sim", "help"];
@@ -47,52 +53,62 @@ static HELP: [&str; 2] = ["pc-sim", "--help"];
 
 static HELP_OF_RUN: [&str; 3] = ["pc-sim", "run", "--help"];
 
+static HELP_OF_EXPLAIN: [&str; 3] = ["pc-sim", "explain", "--help"];
+
 static VERSION: [&str; 2] = ["pc-sim", "--version"];
 
-/// The file of a replay, where the words ask for one.
-fn replayed(
+/// What a command line asks for: which command, of which file, with its flag or without.
+#[derive(Debug, PartialEq, Eq)]
+enum Asked {
+    Replay,
+    Explain,
+    Run { per_cpu: bool },
+}
+
+fn asked(
     alloc: Global,
     words: &'static [&'static str],
-) -> Result<Option<Option<String>>, CommandFault> {
+) -> Result<(Asked, Option<String>), CommandFault> {
     match read_command(alloc, words)? {
-        Command::Replay { file } => Ok(Some(file)),
-        Command::Run { .. } => Ok(None),
+        Command::Replay { file } => Ok((Asked::Replay, file)),
+        Command::Explain { file } => Ok((Asked::Explain, file)),
+        Command::Run { file, per_cpu } => Ok((Asked::Run { per_cpu }, file)),
     }
 }
 
-/// The file of a run, and whether each CPU has a line, where the words ask for one.
-fn run(
-    alloc: Global,
-    words: &'static [&'static str],
-) -> Result<Option<(Option<String>, bool)>, CommandFault> {
-    match read_command(alloc, words)? {
-        Command::Replay { .. } => Ok(None),
-        Command::Run { file, per_cpu } => Ok(Some((file, per_cpu))),
+fn is_named(file: &Option<String>, wanted: Option<&'static str>) -> bool {
+    match (file, wanted) {
+        (None, None) => true,
+        (Some(file), Some(wanted)) => file.as_str() == wanted,
+        _ => false,
     }
 }
 
+// `-` is the standard input, as no file is.
 #[test]
-fn a_replay_is_read_off_the_command_line(rt: HostRuntime) -> Result<(), Fail> {
-    let alloc = rt.alloc();
-    let file = replayed(alloc, REPLAY.as_slice())?.ok_or("no replay")?;
-    assert!(rt; file.is_none());
-    let file = replayed(alloc, REPLAY_FILE.as_slice())?.ok_or("no replay")?;
-    assert_eq!(rt; file.ok_or("no file")?.as_str(), "a.script");
-    Ok(())
-}
-
-#[test]
-fn a_run_is_read_off_the_command_line(rt: HostRuntime) -> Result<(), Fail> {
-    let alloc = rt.alloc();
-    let (file, per_cpu) = run(alloc, RUN.as_slice())?.ok_or("no run")?;
-    assert!(rt; file.is_none());
-    assert!(rt; !per_cpu);
-    let (file, per_cpu) = run(alloc, RUN_FILE.as_slice())?.ok_or("no run")?;
-    assert_eq!(rt; file.ok_or("no file")?.as_str(), "s.toml");
-    assert!(rt; per_cpu);
-    let (file, per_cpu) = run(alloc, RUN_FLAG_FIRST.as_slice())?.ok_or("no run")?;
-    assert_eq!(rt; file.ok_or("no file")?.as_str(), "s.toml");
-    assert!(rt; per_cpu);
+fn commands_are_read_off_the_command_line(rt: HostRuntime) -> Result<(), Fail> {
+    for (words, command, wanted) in [
+        (REPLAY.as_slice(), Asked::Replay, None),
+        (REPLAY_FILE.as_slice(), Asked::Replay, Some("a.script")),
+        (EXPLAIN_FILE.as_slice(), Asked::Explain, Some("a.script")),
+        (EXPLAIN_DASH.as_slice(), Asked::Explain, None),
+        (RUN.as_slice(), Asked::Run { per_cpu: false }, None),
+        (RUN_DASH.as_slice(), Asked::Run { per_cpu: false }, None),
+        (
+            RUN_FILE.as_slice(),
+            Asked::Run { per_cpu: true },
+            Some("s.toml"),
+        ),
+        (
+            RUN_FLAG_FIRST.as_slice(),
+            Asked::Run { per_cpu: true },
+            Some("s.toml"),
+        ),
+    ] {
+        let (told, file) = asked(rt.alloc(), words)?;
+        assert_eq!(rt; told, command);
+        assert!(rt; is_named(&file, wanted));
+    }
     Ok(())
 }
 
@@ -121,7 +137,12 @@ fn other_words_are_no_command(rt: HostRuntime) {
 
 #[test]
 fn help_and_the_version_are_told(rt: HostRuntime) {
-    for words in [HELP.as_slice(), HELP_OF_RUN.as_slice(), VERSION.as_slice()] {
+    for words in [
+        HELP.as_slice(),
+        HELP_OF_RUN.as_slice(),
+        HELP_OF_EXPLAIN.as_slice(),
+        VERSION.as_slice(),
+    ] {
         assert_eq!(rt; is_wrong(rt.alloc(), words), Some(false));
     }
 }

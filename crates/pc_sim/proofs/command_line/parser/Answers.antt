@@ -2,7 +2,7 @@ use Rattle.std.proofs.Common.{rules, ap, ap₂, codes, true, ◌≡◌, ◌∙�
 use Rattle.std.proofs.lemmas.Result.{IfOk-weaker}
 use Rattle.clap.specs.Simple.{App, Shape, app_of, app_of_fields, new_app, on_top, with_subcommand}
 use Rattle.clap.proofs.SimpleLemmas.{plain_fields}
-use Rattle.pc_sim.specs.CommandLine.{replay, run}
+use Rattle.pc_sim.specs.CommandLine.{of_file, run}
 use Rattle.pc_sim.proofs.command_line.parser.Goals as goal
 
 -- what the settings change
@@ -23,11 +23,18 @@ returns c =
     let helps : app_of c.disable_help_subcommand.result ≡ on_top helpless (app_of c.subcommand_required.result) = ap app_of_fields c.disable_help_subcommand.ensures in
     let top : app_of c.disable_help_subcommand.result ≡ on_top helpless (on_top demanding (on_top versioned (new_app (codes "pc-sim")))) =
     helps ∙ ap (on_top helpless) (needs ∙ ap (on_top demanding) (told ∙ named)) in
-    let replays : app_of c.in_ok-replay.replay ≡ replay = search rules in
+    let replays : app_of c.in_ok-replay.replay ≡ of_file (codes "replay") = search rules in
+    let explains : app_of c.in_ok-explain.explain ≡ of_file (codes "explain") = search rules in
     let runs : app_of c.in_ok-run.run' ≡ run = search rules in
-    let first : app_of c.in_ok-subcommand.field-0 ≡ with_subcommand (app_of c.disable_help_subcommand.result) replay.top =
+    let first : app_of c.in_ok-subcommand.field-0 ≡ with_subcommand (app_of c.disable_help_subcommand.result) (of_file (codes "replay")).top =
     c.in_ok-subcommand.ensures.shape (plain_fields c.in_ok-replay.replay (ap (λ (a : App). a.top.is_plain) replays)).globals
     ∙ ap (λ (a : App). with_subcommand (app_of c.disable_help_subcommand.result) a.top) replays in
-    IfOk-weaker c.subcommand-2.result _ _ (λ parser h.
+    let second : app_of c.in_ok-subcommand-2.field-0 ≡ with_subcommand (app_of c.in_ok-subcommand.field-0) (of_file (codes "explain")).top =
+    c.in_ok-subcommand-2.ensures.shape (plain_fields c.in_ok-explain.explain (ap (λ (a : App). a.top.is_plain) explains)).globals
+    ∙ ap (λ (a : App). with_subcommand (app_of c.in_ok-subcommand.field-0) a.top) explains in
+    let one : app_of c.in_ok-subcommand.field-0 ≡ with_subcommand (on_top helpless (on_top demanding (on_top versioned (new_app (codes "pc-sim"))))) (of_file (codes "replay")).top =
+    first ∙ ap (λ (a : App). with_subcommand a (of_file (codes "replay")).top) top in
+    let two = second ∙ ap (λ (a : App). with_subcommand a (of_file (codes "explain")).top) one in
+    IfOk-weaker c.subcommand-3.result _ _ (λ parser h.
     h.shape (plain_fields c.in_ok-run.run' (ap (λ (a : App). a.top.is_plain) runs)).globals
-    ∙ ap₂ (λ (a b : App). with_subcommand a b.top) (first ∙ ap (λ (a : App). with_subcommand a replay.top) top) runs) c.subcommand-2.ensures
+    ∙ ap₂ (λ (a b : App). with_subcommand a b.top) two runs) c.subcommand-3.ensures

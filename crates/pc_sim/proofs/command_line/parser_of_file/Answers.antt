@@ -6,5 +6,5 @@ use Rattle.pc_sim.proofs.command_line.parser_of_file.Goals as goal
 
 pub returns : goal.returns
 returns c =
-    let file_is : rule_of c.help.result ≡ new_rule (codes "FILE") = ap rule_of c.help.ensures ∙ c.new.ensures.rule in
+    let file_is : rule_of c.help-file.result ≡ new_rule (codes "FILE") = ap rule_of c.help-file.ensures ∙ c.new.ensures.rule in
     IfOk-weaker c.arg.result _ _ (λ parser h. h.shape (search rules) ∙ ap₂ with_rule c.new-2.ensures.app file_is) c.arg.ensures
