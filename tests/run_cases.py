@@ -10,6 +10,7 @@ A case is a folder of tests/cases:
   status    its exit status (none: 0)
   run       a bash script in place of args and stdin: its first argument is the program, and what it writes and its status are compared
 Every other file of the folder lies where the program runs.
+What replays a script is explained too: without its comments an explanation is what a replay writes, with the same ending.
 """
 import argparse
 import pathlib
@@ -44,14 +45,32 @@ def difference(what, found, wanted):
     return f"{what}, line {place + 1}: {one}, wanted {other}"
 
 
-def faults_of(case, program):
-    """What differs from the wanted, as a list of texts."""
-    args = (case / "args").read_text().splitlines() if (case / "args").is_file() else ["replay"]
+def args_of(case):
+    return (case / "args").read_text().splitlines() if (case / "args").is_file() else ["replay"]
+
+
+def is_replay(case):
+    """Whether the case replays a script by its arguments (and does not ask for help)."""
+    args = args_of(case)
+    return not (case / "run").is_file() and args[:1] == ["replay"] and not any(word.startswith("--") for word in args)
+
+
+def without_comments(text):
+    return b"".join(line for line in text.splitlines(keepends=True) if not line.startswith(b"#"))
+
+
+def faults_of(case, program, explained=False):
+    """What differs from the wanted, as a list of texts. Where it is explained, what differs without the comments."""
+    args = args_of(case)
+    if explained:
+        args = ["explain", *args[1:]]
     words = ["bash", "run", str(program)] if (case / "run").is_file() else [str(program), *args]
     status = int((case / "status").read_text()) if (case / "status").is_file() else 0
     with tempfile.TemporaryDirectory() as folder:
         shutil.copytree(case, folder, dirs_exist_ok=True)
         run = subprocess.run(words, cwd=folder, input=standard_input(case, folder), capture_output=True, timeout=SECONDS)
+    if explained:
+        run.stdout = without_comments(run.stdout)
     faults = []
     if run.returncode != status:
         faults.append(f"status {run.returncode}, wanted {status}")
@@ -65,10 +84,12 @@ def faults_of(case, program):
     return faults
 
 
-def faults_of_example(example, program):
+def faults_of_example(example, program, explained=False):
     """What differs from the output that stands beside an example, a script or settings, as a list of texts."""
-    command = "run" if example.suffix == ".toml" else "replay"
+    command = "run" if example.suffix == ".toml" else "explain" if explained else "replay"
     run = subprocess.run([str(program), command, str(example)], capture_output=True, timeout=SECONDS)
+    if explained:
+        run.stdout = without_comments(run.stdout)
     wanted = example.with_suffix(".output").read_bytes()
     if (run.returncode, run.stdout, run.stderr) == (0, wanted, b""):
         return []
@@ -86,9 +107,13 @@ def faults_of_page(page, program):
 
 def faults(path, program):
     """What differs from the wanted of a case, of an example or of the page."""
-    if path.is_dir():
-        return faults_of(path, program)
-    return faults_of_page(path, program) if path == PAGE else faults_of_example(path, program)
+    if path == PAGE:
+        return faults_of_page(path, program)
+    found = faults_of(path, program) if path.is_dir() else faults_of_example(path, program)
+    if is_replay(path) if path.is_dir() else path.suffix == ".script":
+        explained = faults_of(path, program, True) if path.is_dir() else faults_of_example(path, program, True)
+        found += [f"explained: {fault}" for fault in explained]
+    return found
 
 
 def counted(line):
