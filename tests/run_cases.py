@@ -56,7 +56,7 @@ def is_replay(case):
 
 
 def without_comments(text):
-    return b"".join(line for line in text.splitlines(keepends=True) if not line.startswith(b"#"))
+    return b"\n".join(line for line in text.split(b"\n") if not line.startswith(b"#"))
 
 
 def faults_of(case, program, explained=False):

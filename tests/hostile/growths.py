@@ -16,7 +16,7 @@ def fault_of_ample(subject, run):
         return f"with ample memory: {told(run)}"
     if subject.out is None:
         return None if run.out else "with ample memory: nothing is written"
-    return None if run.out == subject.out else "with ample memory: another output than is wanted"
+    return None if subject.plain(run.out) == subject.out else "with ample memory: another output than is wanted"
 
 
 def fault_of_refused(ample, run):

@@ -53,6 +53,14 @@ class Subject:
     err: bytes = b""
     status: int = 0
     environment: dict = field(default_factory=dict)
+    # Whether comments stand between what it has to write.
+    commented: bool = False
+
+    def plain(self, text):
+        """What was written, without the comments: lines whose first byte is `#`."""
+        if not self.commented:
+            return text
+        return b"\n".join(line for line in text.split(b"\n") if not line.startswith(b"#"))
 
 
 def compiler():

@@ -6,7 +6,7 @@ import subprocess
 
 from machine import SECONDS, Run, Subject, ended, told
 from settings import ONE_TOTALS, ROWS, written
-from subjects import OPENING, examples
+from subjects import OPENING, examples, explained
 
 CANNOT_READ = b"pc-sim: cannot read\n"
 READ_ERRORS = [errno.EIO, errno.EISDIR, errno.EAGAIN]
@@ -18,6 +18,7 @@ def subjects(folder):
     """Each example by its name and on the standard input, a script whose answers fill buffers, one with a fault, and an empty one; and settings."""
     for example in examples():
         yield example
+        yield explained(example)
         yield Subject(f"{example.name} as standard input", ["replay"], pathlib.Path(example.words[1]), out=example.out)
     texts = {
         "long": (OPENING + b"asleep 0\n" * LONG, b"ok\n" + b"no\n" * LONG, 0),
@@ -27,7 +28,9 @@ def subjects(folder):
     for name, (text, out, status) in texts.items():
         file = pathlib.Path(folder) / f"{name}.stream"
         file.write_bytes(text)
-        yield Subject(f"{name} script", ["replay"], file, out=out, status=status)
+        script = Subject(f"{name} script", ["replay"], file, out=out, status=status)
+        yield script
+        yield explained(script)
     yield from settings(folder)
 
 
@@ -47,7 +50,7 @@ def settings(folder):
 
 def fault_of_same(subject, run):
     """What is wrong where all is to be as without a hindrance."""
-    return None if (run.status, run.out, run.err) == (subject.status, subject.out, subject.err) else told(run)
+    return None if (run.status, subject.plain(run.out), run.err) == (subject.status, subject.out, subject.err) else told(run)
 
 
 def fault_of_read(run):
@@ -59,7 +62,7 @@ def fault_of_write(subject, run):
     """What is wrong after a write that failed: a first part of the answers was written."""
     if (run.status, run.err) != (1, CANNOT_READ):
         return told(run)
-    return None if subject.out.startswith(run.out) else "what was written is no first part of the answers"
+    return None if subject.out.startswith(subject.plain(run.out)) else "what was written is no first part of the answers"
 
 
 def numbers(count, most):

@@ -1,4 +1,5 @@
 """What the program is run on: the examples, the cases, command lines, and malformed texts, each with what is written with ample memory."""
+import dataclasses
 import pathlib
 import subprocess
 import sys
@@ -111,6 +112,7 @@ TOLD = {
     "help": ["--help"],
     "help in short": ["-h"],
     "help of replay": ["replay", "--help"],
+    "help of explain": ["explain", "--help"],
     "help of run": ["run", "--help"],
     "help of run in short": ["run", "-h"],
     "version": ["--version"],
@@ -127,6 +129,7 @@ WORDS = {
     "an unknown flag": ["--fast"],
     "an unknown letter": ["-x"],
     "an unknown flag of replay": ["replay", "--fast"],
+    "an unknown flag of explain": ["explain", "--per-cpu"],
     "an unknown flag of run": ["run", "--per-thread"],
     "the version of a command": ["replay", "--version"],
     "two files": ["replay", "a", "b"],
@@ -139,6 +142,7 @@ WORDS = {
 }
 FILES = {
     "a file without a name": ["replay", ""],
+    "a file without a name to explain": ["explain", ""],
     "settings without a name": ["run", ""],
     "a name of 100,000 bytes": ["replay", "x" * 100_000],
     "settings by a name of 100,000 bytes": ["run", "x" * 100_000],
@@ -157,10 +161,16 @@ def command_lines():
         yield Subject(f"command line of {name}", words, err=NO_FILE, status=1)
 
 
+def explained(script):
+    """The same script, with comments between its answers."""
+    return dataclasses.replace(script, name=f"explained {script.name}", words=["explain", *script.words[1:]], commented=True)
+
+
 def replayed(folder):
-    """All of it."""
-    yield from examples()
+    """All of it; the examples and the malformed texts are explained too."""
+    for script in [*examples(), *malformed(folder)]:
+        yield script
+        yield explained(script)
     yield from cases(folder)
-    yield from malformed(folder)
     yield from faulty(folder)
     yield from command_lines()
