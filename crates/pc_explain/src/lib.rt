@@ -8,11 +8,13 @@
 mod advice;
 mod before;
 mod comment;
+mod faults;
 mod line;
 mod news;
 mod run;
 mod sentences;
 mod telling;
+mod usage;
 mod watched;
 mod words;
 
