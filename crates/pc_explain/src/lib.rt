@@ -20,3 +20,6 @@ mod words;
 
 pub use run::explain_script;
 pub use watched::Watched;
+
+#[cfg(test)]
+mod tests;

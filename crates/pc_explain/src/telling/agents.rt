@@ -28,7 +28,7 @@ pub(super) fn published(
     let held = Count(u64::from(items), "item");
     writeln!(
         text,
-        "Agent {agent} takes in the {held} that queue {agent} holds, which stay there until a consume."
+        "Agent {agent} takes in what queue {agent} holds: {held}, which a consume may remove now."
     )?;
     tells(text, delta, world)
 }

@@ -81,22 +81,25 @@ fn shown(text: &mut Sentences, cpu: Cpu, threads: &ShownThreads) -> fmt::Result 
         return writeln!(text, "Agent {agent} knows no message.");
     }
     let known = Count(rows.len() as u64, "thread");
-    write!(text, "Agent {agent} knows messages of {known}:")?;
+    write!(text, "Agent {agent} knows messages of {known}")?;
+    let mut before = ":";
     for row in rows.iter().take(MOST_SHOWN) {
         let thread = row.thread.index();
         let upto = row.upto;
         match row.reported {
             Some(reported) => {
                 let phase = phase_name(reported.phase);
-                write!(text, " t{thread} to {upto}, {phase};")?;
+                write!(text, "{before} t{thread} up to {upto} ({phase})")?;
             }
-            None => write!(text, " t{thread} without its first;")?,
+            None => write!(text, "{before} t{thread} without its first")?,
         }
+        before = ",";
     }
-    if rows.len() > MOST_SHOWN {
-        writeln!(text, " and more.")
+    let more = rows.len().saturating_sub(MOST_SHOWN);
+    if more > 0 {
+        writeln!(text, ", and of {more} more.")
     } else {
-        writeln!(text, " that is all.")
+        writeln!(text, ".")
     }
 }
 
