@@ -24,7 +24,10 @@ fn fault(text: &mut Sentences, line: &[u8]) -> fmt::Result {
         );
     }
     match usage_of(name) {
-        None => writeln!(text, "Word 1, `{quoted}`: the name of a command was wanted."),
+        None => writeln!(
+            text,
+            "Word 1, `{quoted}`: the name of a command was wanted."
+        ),
         Some(usage) => {
             wrong_word(text, &usage, rest)?;
             let form = usage.form;

@@ -100,7 +100,8 @@ impl News {
     fn place_before(&self, next: &Range) -> Option<usize> {
         let ranges = &self.ranges[..self.told];
         ranges.iter().position(|range| {
-            range.thread.index() == next.thread.index() && range.to.checked_add(1) == Some(next.from)
+            range.thread.index() == next.thread.index()
+                && range.to.checked_add(1) == Some(next.from)
         })
     }
 }

@@ -61,7 +61,11 @@ fn write_fault_line<W: Write>(number: u32, writer: &mut W) -> Result<(), ScriptF
 }
 
 /// Answers the line `version 2`, if the script has one, and tells of it.
-fn write_opening<W: Write>(opening: &Opening<'_>, text: &[u8], writer: &mut W) -> Result<(), ScriptFault>
+fn write_opening<W: Write>(
+    opening: &Opening<'_>,
+    text: &[u8],
+    writer: &mut W,
+) -> Result<(), ScriptFault>
     ensures ok { OnOk result (Annotates (opening_text opening.now.profile) (W.contents writer.old) (W.contents writer.new)) }
     ensures err { (result ≢ Err ScriptFault.OutOfMemory) × (result ≢ Err ScriptFault.Read) × (result ≢ Err ScriptFault.TooLong) }
 {

@@ -142,11 +142,7 @@ impl Watched for Small {
 type Told = (&'static [u8], &'static [u8], Outcome);
 
 // Without contracts, as the functions below, so that a test's proof does not carry those of scripts.
-fn explained(
-    alloc: Global,
-    script: &[u8],
-    written: &mut Vec<u8>,
-) -> Result<Outcome, ScriptFault> {
+fn explained(alloc: Global, script: &[u8], written: &mut Vec<u8>) -> Result<Outcome, ScriptFault> {
     let mut reader = script;
     explain_script::<Small, _, _>(alloc, &mut reader, written)
 }

@@ -72,7 +72,11 @@ pub(crate) struct Usage {
 }
 
 static ENCLAVE: [Wanted; 5] = [
-    Wanted::Cpus, Wanted::Count, Wanted::Count, Wanted::Count, Wanted::Count,
+    Wanted::Cpus,
+    Wanted::Count,
+    Wanted::Count,
+    Wanted::Count,
+    Wanted::Count,
 ];
 
 static CREATE: [Wanted; 3] = [Wanted::Queue, Wanted::Mask, Wanted::State];

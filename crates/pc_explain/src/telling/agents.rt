@@ -93,7 +93,10 @@ pub(super) fn crashed(text: &mut Sentences, cpu: Cpu, before: &Before) -> fmt::R
         }
         _ => writeln!(text, "Agent {agent} starts again, awake, with nothing.")?,
     }
-    writeln!(text, "Queue {agent}, and what the agent sent to others, stay.")
+    writeln!(
+        text,
+        "Queue {agent}, and what the agent sent to others, stay."
+    )
 }
 
 /// A thread's messages go to another queue.
@@ -126,12 +129,7 @@ pub(super) fn associated(
 }
 
 /// A thread runs.
-pub(super) fn committed(
-    text: &mut Sentences,
-    event: &Event,
-    thread: Tid,
-    cpu: Cpu,
-) -> fmt::Result {
+pub(super) fn committed(text: &mut Sentences, event: &Event, thread: Tid, cpu: Cpu) -> fmt::Result {
     let thread = thread.index();
     let cpu = cpu.index();
     match event {

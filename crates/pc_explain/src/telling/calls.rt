@@ -15,7 +15,10 @@ pub(super) fn posted(text: &mut Sentences, call: &EnvCall, posted: &Posted) -> f
             text,
             "Message {number} of the thread stands in queue {queue}, which had {posts} so far."
         )?,
-        None => writeln!(text, "A tick stands in queue {queue}, which had {posts} so far.")?,
+        None => writeln!(
+            text,
+            "A tick stands in queue {queue}, which had {posts} so far."
+        )?,
     }
     match posted.woken {
         Some(cpu) => {
@@ -58,7 +61,13 @@ fn changed(text: &mut Sentences, call: &EnvCall, posted: &Posted) -> fmt::Result
             left(text, thread, cpu.index(), *ran, "stays ready: it yielded")
         }
         EnvCall::Preempt { cpu, ran } => {
-            left(text, thread, cpu.index(), *ran, "stays ready: it was preempted")
+            left(
+                text,
+                thread,
+                cpu.index(),
+                *ran,
+                "stays ready: it was preempted",
+            )
         }
         EnvCall::Die { cpu, ran } => left(text, thread, cpu.index(), *ran, "is dead"),
     }

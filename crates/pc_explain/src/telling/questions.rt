@@ -5,7 +5,7 @@ use crate::telling::refusals;
 use crate::words::Count;
 use pc_calls::Status;
 use pc_messages::{Cpu, Phase, Tid};
-use pc_script::{Read, Response, ShownThreads};
+use pc_script::{Read, Response, ShownThread, ShownThreads};
 use pc_world::World;
 use std::fmt::{self, Write};
 
@@ -36,7 +36,9 @@ pub(super) fn answered(
             let how = if *sleeps { "sleeps" } else { "is awake" };
             writeln!(text, "Agent {agent} {how}.")
         }
-        (Read::Same { cpu, other }, Response::Sameness(same)) => compared(text, *cpu, *other, *same),
+        (Read::Same { cpu, other }, Response::Sameness(same)) => compared(
+            text, *cpu, *other, *same,
+        ),
         (Read::Complete { cpu, thread }, Response::Truth(complete)) => {
             completed(text, *cpu, *thread, *complete)
         }
@@ -81,25 +83,31 @@ fn shown(text: &mut Sentences, cpu: Cpu, threads: &ShownThreads) -> fmt::Result 
         return writeln!(text, "Agent {agent} knows no message.");
     }
     let known = Count(rows.len() as u64, "thread");
-    write!(text, "Agent {agent} knows messages of {known}")?;
-    let mut before = ":";
-    for row in rows.iter().take(MOST_SHOWN) {
-        let thread = row.thread.index();
-        let upto = row.upto;
-        match row.reported {
-            Some(reported) => {
-                let phase = phase_name(reported.phase);
-                write!(text, "{before} t{thread} up to {upto} ({phase})")?;
-            }
-            None => write!(text, "{before} t{thread} without its first")?,
+    write!(text, "Agent {agent} knows messages of {known}:")?;
+    for (place, row) in rows.iter().take(MOST_SHOWN).enumerate() {
+        if place > 0 {
+            write!(text, ",")?;
         }
-        before = ",";
+        shown_thread(text, row)?;
     }
     let more = rows.len().saturating_sub(MOST_SHOWN);
     if more > 0 {
         writeln!(text, ", and of {more} more.")
     } else {
         writeln!(text, ".")
+    }
+}
+
+/// What an agent knows of a thread.
+fn shown_thread(text: &mut Sentences, row: &ShownThread) -> fmt::Result {
+    let thread = row.thread.index();
+    let upto = row.upto;
+    match row.reported {
+        Some(reported) => {
+            let phase = phase_name(reported.phase);
+            write!(text, " t{thread} up to {upto} ({phase})")
+        }
+        None => write!(text, " t{thread} without its first"),
     }
 }
 
@@ -110,7 +118,10 @@ fn compared(text: &mut Sentences, cpu: Cpu, other: Cpu, same: bool) -> fmt::Resu
     if same {
         writeln!(text, "Agents {one} and {other} know the same messages.")
     } else {
-        writeln!(text, "Agents {one} and {other} do not know the same messages.")
+        writeln!(
+            text,
+            "Agents {one} and {other} do not know the same messages."
+        )
     }
 }
 

@@ -1,6 +1,6 @@
 //! The sentences on refusals.
 
-use crate::advice::{self, Advice, advice_on};
+use crate::advice::{Closed, reason, remedy};
 use crate::sentences::Sentences;
 use crate::words::Count;
 use pc_calls::{Event, LimitField, Refusal};
@@ -18,7 +18,7 @@ pub(super) fn refused(
     if let Refusal::Stale(now) = refusal {
         return stale(text, event, *now);
     }
-    advised(text, &advice_on(*refusal))?;
+    advised(text, reason(*refusal), remedy(*refusal))?;
     match refusal {
         Refusal::Running(cpu) => {
             let cpu = cpu.index();
@@ -36,9 +36,7 @@ pub(super) fn refused(
 }
 
 /// The table's words.
-fn advised(text: &mut Sentences, advice: &Advice) -> fmt::Result {
-    let reason = advice.reason;
-    let remedy = advice.remedy;
+fn advised(text: &mut Sentences, reason: &str, remedy: &str) -> fmt::Result {
     writeln!(text, "Refused: {reason}. Accepted: {remedy}.")
 }
 
@@ -81,7 +79,11 @@ fn stale(text: &mut Sentences, event: Option<&Event>, now: u32) -> fmt::Result {
                 "Agent {agent} does not know the thread's last message, which is {now}. Deliver it to the agent, and steal again."
             )
         }
-        _ => advised(text, &advice_on(Refusal::Stale(now))),
+        _ => advised(
+            text,
+            reason(Refusal::Stale(now)),
+            remedy(Refusal::Stale(now)),
+        ),
     }
 }
 
@@ -105,26 +107,34 @@ fn old_posts(text: &mut Sentences, cpu: Cpu, verb: &str, now: u32) -> fmt::Resul
     )
 }
 
+/// The table's words on what a session answers.
+fn closed(text: &mut Sentences, why: Closed) -> fmt::Result {
+    advised(text, why.reason(), why.remedy())
+}
+
 /// There is no kernel yet.
 pub(super) fn no_enclave(text: &mut Sentences) -> fmt::Result {
-    advised(text, &advice::no_enclave())
+    closed(text, Closed::NoEnclave)
 }
 
 /// There is a kernel already.
 pub(super) fn have_enclave(text: &mut Sentences) -> fmt::Result {
-    advised(text, &advice::have_enclave())
+    closed(text, Closed::HaveEnclave)
 }
 
 /// A limit is out of its range.
 pub(super) fn bad_limits(text: &mut Sentences, limit: &LimitField) -> fmt::Result {
-    advised(text, &advice::bad_limits())?;
+    closed(text, Closed::BadLimits)?;
     match limit {
         LimitField::Cpus => writeln!(text, "CPUS is 1 to 64."),
         LimitField::Threads => {
             writeln!(text, "THREADS is 1 to 4096, and with version 2 to 65535.")
         }
         LimitField::Numbers => {
-            writeln!(text, "NUMBERS is 1 to 1000000, and with version 2 to 16000000.")
+            writeln!(
+                text,
+                "NUMBERS is 1 to 1000000, and with version 2 to 16000000."
+            )
         }
         LimitField::Room => writeln!(text, "ROOM is 1 to 65536."),
         LimitField::Posts => writeln!(text, "POSTS is 1 to 4294967295."),
