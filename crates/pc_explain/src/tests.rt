@@ -7,7 +7,7 @@ use pc_calls::{Limits, LimitsFault, Profile, Refusal};
 use pc_messages::Cpu;
 use pc_script::{
     Command, EarlyNumbers, Machine, Outcome, Read as Question, Response, ScriptFault, ShownThread,
-    ShownThreads, run_script,
+    ShownThreads, first_word, lines_of, number, opening_of, read_text, run_script,
 };
 use pc_thread_view::ThreadView;
 use pc_view::complete;
@@ -205,5 +205,45 @@ fn without_comments_it_is_what_a_run_writes(rt: HostRuntime) {
         let mut wanted: Vec<u8> = Vec::new(alloc);
         assert_eq!(&rt; replayed(alloc, script, &mut wanted), told);
         assert_eq!(&rt; plain.as_slice(), wanted.as_slice());
+    }
+}
+
+/// The profile of a script, how many lines come before the rest, and the first word of the rest's first line with the number
+/// behind it.
+fn first_words(
+    alloc: Global,
+    script: &[u8],
+) -> Result<Option<(Profile, u32, bool, Option<u64>)>, ScriptFault> {
+    let mut reader = script;
+    let text = read_text(alloc, &mut reader)?;
+    let opening = opening_of(text.as_slice());
+    let mut lines = lines_of(opening.rest);
+    let Some(line) = lines.next() else {
+        return Ok(None);
+    };
+    let Some((word, rest)) = first_word(line) else {
+        return Ok(None);
+    };
+    let value = match first_word(rest) {
+        Some((digits, _)) => number(digits),
+        None => None,
+    };
+    let is_tick = word == b"tick".as_slice();
+    Ok(Some((opening.profile, opening.passed, is_tick, value)))
+}
+
+#[test]
+fn a_script_is_read_in_parts(rt: HostRuntime) {
+    for (script, wanted) in [
+        (b"".as_slice(), None),
+        (b"# none\n", None),
+        (
+            b"# one\n\n tick 18446744073709551615\r\n",
+            Some((Profile::One, 2, true, Some(u64::MAX))),
+        ),
+        (b"version 2\ntick 01", Some((Profile::Two, 1, true, None))),
+        (b"show 0\n", Some((Profile::One, 0, false, Some(0)))),
+    ] {
+        assert_eq!(rt; first_words(rt.alloc(), script), Ok(wanted));
     }
 }
