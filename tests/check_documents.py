@@ -8,10 +8,11 @@
   names        each `Type::name`, `Module.word` and path of a file in any other document is there
   crates       docs/ARCHITECTURE.md has each crate, and what it stands on, as crates.txt has it
   refusals     docs/FORMATS.md and docs/GLOSSARY.md have a row for each refusal
+  advice       docs/GLOSSARY.md has the words of pc_explain on each refusal: why, and what would be accepted
   examples     each example's script has its output beside it
   citations    no file cites the papers that the project was made from
 
-A line for each finding, how much was looked at, and then `N passed, M failed`, of these nine checks. The exit status is 0
+A line for each finding, how much was looked at, and then `N passed, M failed`, of these ten checks. The exit status is 0
 only where none failed.
 """
 import pathlib
@@ -436,6 +437,25 @@ class Checker:
             for refusal in sorted(refusals):
                 self.expect(refusal in told, f"docs/{name}.md", f"it has no row for `{refusal}`")
 
+    def check_advice(self):
+        """The table of refusals that an explained script tells, and docs/GLOSSARY.md's: the same names, reasons and remedies."""
+        text = (ROOT / "crates/pc_explain/src/advice.rt").read_text()
+        columns = []
+        for name in ("reason", "remedy"):
+            bodies = re.findall(r"fn " + name + r"\(.*?\n(?:    )?\}", text, re.S)
+            columns.append(dict(re.findall(r"::(\w+)(?:\(_\))? =>\s*(?:\{\s*)?\"([^\"]*)\"", "".join(bodies))))
+        glossary, in_table = {}, False
+        for line in (ROOT / "docs/GLOSSARY.md").read_text().splitlines():
+            in_table = line.startswith("| refusal |") or in_table and line.startswith("|")
+            cells = line.strip("| ").split(" | ")
+            if in_table and line.startswith("| `") and len(cells) == 4:
+                glossary[cells[0].strip("`")] = cells[2:]
+        where = "docs/GLOSSARY.md"
+        self.expect(set(glossary) == set(columns[0]) == set(columns[1]), where, "its refusals are not those of crates/pc_explain/src/advice.rt")
+        for name, told in glossary.items():
+            for column, cell in zip(columns, told):
+                self.expect(column.get(name) == cell, where, f"`{name}` has not the words `{column.get(name)}` of crates/pc_explain/src/advice.rt")
+
     def check_examples(self):
         inputs = {".script", ".toml"}
         for example in sorted((ROOT / "examples").iterdir()):
@@ -470,6 +490,7 @@ def main():
         checker.check_names,
         checker.check_crates,
         checker.check_refusals,
+        checker.check_advice,
         checker.check_examples,
         checker.check_citations,
     ]

@@ -5,13 +5,21 @@
 //! exactly what the run writes. The sentences themselves are tested, not proved.
 #![tactic(auto)]
 
+mod advice;
 mod before;
 mod comment;
+mod faults;
 mod line;
+mod news;
 mod run;
 mod sentences;
 mod telling;
+mod usage;
 mod watched;
+mod words;
 
 pub use run::explain_script;
 pub use watched::Watched;
+
+#[cfg(test)]
+mod tests;

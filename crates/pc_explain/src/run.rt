@@ -10,6 +10,7 @@ ghost use Rattle.pc_script.specs.Versions.{opening_text};
 ghost use Rattle.pc_script.specs.declared.input.TheConstants.{MOST_BYTES};
 
 use crate::comment::{write_heading, write_sentences};
+use crate::faults::tell_fault;
 use crate::line::take_line;
 use crate::sentences::Sentences;
 use crate::watched::Watched;
@@ -18,13 +19,30 @@ use pc_script::{Opening, Outcome, ScriptFault, lines_of, opening_of, read_text};
 use std::alloc::Global;
 use std::io::{Read, Write};
 
+/// What is told of the line `version 2`.
+const VERSION_TWO: &[u8] =
+    b"The script is of version 2: an enclave may have up to 65535 threads, and each 16000000 messages.";
+
+/// The line with this number, counted from 1.
+fn line_at(text: &[u8], number: u32) -> &[u8] {
+    let mut place = 0u32;
+    for line in lines_of(Some(text)) {
+        place = place.saturating_add(1);
+        if place == number {
+            return line;
+        }
+    }
+    text
+}
+
 /// Writes what is told of the line that is a fault.
 fn write_fault<W: Write>(number: u32, line: &[u8], writer: &mut W) -> Result<Outcome, ScriptFault>
     ensures ok { IfOk result (λ outcome. (outcome ≡ Outcome.FaultLine number)
         × Annotates (outcome_text (Outcome.FaultLine number)) (W.contents writer.old) (W.contents writer.new)) }
     ensures err { (result ≢ Err ScriptFault.OutOfMemory) × (result ≢ Err ScriptFault.Read) × (result ≢ Err ScriptFault.TooLong) }
 {
-    let sentences = Sentences::new();
+    let mut sentences = Sentences::new();
+    tell_fault(&mut sentences, line);
     write_heading(number, line, writer)?;
     write_fault_line(number, writer)?;
     write_sentences(&sentences, writer)?;
@@ -43,15 +61,20 @@ fn write_fault_line<W: Write>(number: u32, writer: &mut W) -> Result<(), ScriptF
 }
 
 /// Answers the line `version 2`, if the script has one, and tells of it.
-fn write_opening<W: Write>(opening: &Opening<'_>, text: &[u8], writer: &mut W) -> Result<(), ScriptFault>
+fn write_opening<W: Write>(
+    opening: &Opening<'_>,
+    text: &[u8],
+    writer: &mut W,
+) -> Result<(), ScriptFault>
     ensures ok { OnOk result (Annotates (opening_text opening.now.profile) (W.contents writer.old) (W.contents writer.new)) }
     ensures err { (result ≢ Err ScriptFault.OutOfMemory) × (result ≢ Err ScriptFault.Read) × (result ≢ Err ScriptFault.TooLong) }
 {
     match opening.profile {
         Profile::One => Ok(()),
         Profile::Two => {
-            let sentences = Sentences::new();
-            write_heading(opening.passed, text, writer)?;
+            let mut sentences = Sentences::new();
+            sentences.add(VERSION_TWO);
+            write_heading(opening.passed, line_at(text, opening.passed), writer)?;
             write_ok(writer)?;
             write_sentences(&sentences, writer)
         }

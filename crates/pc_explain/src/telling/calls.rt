@@ -1,0 +1,83 @@
+//! The sentences on calls of the environment.
+
+use crate::sentences::Sentences;
+use crate::words::{Count, Cpus};
+use pc_calls::{EnvCall, Posted};
+use std::fmt::{self, Write};
+
+/// A call that posted an item.
+pub(super) fn posted(text: &mut Sentences, call: &EnvCall, posted: &Posted) -> fmt::Result {
+    changed(text, call, posted)?;
+    let queue = posted.queue.index();
+    let posts = Count(u64::from(posted.aseq), "post");
+    match posted.number {
+        Some(number) => writeln!(
+            text,
+            "Message {number} of the thread stands in queue {queue}, which had {posts} so far."
+        )?,
+        None => writeln!(
+            text,
+            "A tick stands in queue {queue}, which had {posts} so far."
+        )?,
+    }
+    match posted.woken {
+        Some(cpu) => {
+            let cpu = cpu.index();
+            writeln!(text, "The post wakes agent {cpu}.")
+        }
+        None => Ok(()),
+    }
+}
+
+/// What the call changed.
+fn changed(text: &mut Sentences, call: &EnvCall, posted: &Posted) -> fmt::Result {
+    let thread = match posted.thread {
+        Some(thread) => thread.index(),
+        None => 0,
+    };
+    match call {
+        EnvCall::Create { mask, ready, .. } => {
+            let state = if *ready { "ready" } else { "blocked" };
+            let cpus = Cpus(*mask);
+            writeln!(
+                text,
+                "There is a new thread t{thread}, {state}, which may run on {cpus}."
+            )
+        }
+        EnvCall::Wake { .. } => writeln!(text, "Thread t{thread} was blocked, and is ready."),
+        EnvCall::SetAffinity { mask, .. } => {
+            let cpus = Cpus(*mask);
+            writeln!(text, "Thread t{thread} may run on {cpus} from now on.")
+        }
+        EnvCall::SetPriority { level, .. } => {
+            writeln!(text, "Thread t{thread} has level {level} from now on.")
+        }
+        EnvCall::Tick { cpu } => {
+            let cpu = cpu.index();
+            writeln!(text, "The timer of CPU {cpu} went off.")
+        }
+        EnvCall::Block { cpu, ran } => left(text, thread, cpu.index(), *ran, "is blocked"),
+        EnvCall::YieldNow { cpu, ran } => {
+            left(text, thread, cpu.index(), *ran, "stays ready: it yielded")
+        }
+        EnvCall::Preempt { cpu, ran } => {
+            left(
+                text,
+                thread,
+                cpu.index(),
+                *ran,
+                "stays ready: it was preempted",
+            )
+        }
+        EnvCall::Die { cpu, ran } => left(text, thread, cpu.index(), *ran, "is dead"),
+    }
+}
+
+/// A thread that left its CPU.
+fn left(text: &mut Sentences, thread: u32, cpu: u8, ran: u32, state: &str) -> fmt::Result {
+    let ticks = Count(u64::from(ran), "tick");
+    writeln!(
+        text,
+        "Thread t{thread} leaves CPU {cpu}, which is idle now, after {ticks}, and {state}."
+    )
+}
