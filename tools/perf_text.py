@@ -35,7 +35,7 @@ class Event(NamedTuple):
 # Reading the text
 
 HEAD = re.compile(r" *(\S.*?) +(?:\d+/)?(-?\d+) +\[(\d+)\] +(\d+)\.(\d{6,9}): +(.*)")
-CALL_CHAIN = re.compile(r"\s+[0-9a-f]+ \S.*")
+CALL_CHAIN = re.compile(r"\s+[0-9a-f]+ \S.*\(.*\)")
 LOST = re.compile(r"PERF_RECORD_LOST(?:_SAMPLES)?\s+lost (\d+)")
 
 SWITCHED = re.compile(
@@ -121,24 +121,30 @@ class Recording:
             return
         comm, pid, cpu, seconds, fraction, text = head.groups()
         time = int(seconds + fraction.ljust(9, "0"))
-        name, _, rest = text.partition(": ")
-        name = name.removeprefix("sched:").rstrip(":")
-        if read := READERS.get(name):
-            event = read(time, int(cpu), rest)
-            if event.kind == SWITCH:
-                self.foreign |= event.pid != int(pid) >= 0
-                self.is_on(time, event.cpu, event.pid, event.comm, "")
-                self.on[event.cpu] = event.other
-            else:
-                self.is_on(time, int(cpu), int(pid), comm, BY_HEAD)
-            self.cpus = max(self.cpus, event.target + 1, event.cpu + 1)
-            self.events.append(event if name != "sched_wakeup" else event._replace(state=BY_WAKEUP))
-        elif lost := LOST.match(text):
+        if lost := LOST.match(text):
             self.passed["events lost by perf"] += int(lost[1])
         else:
-            self.is_on(time, int(cpu), int(pid), comm, BY_HEAD)
-            self.other_kinds[name] += 1
+            self.take_event(comm, int(pid), int(cpu), time, text)
         self.read += 1
+
+    def take_event(self, comm: str, current: int, cpu: int, time: int, text: str) -> None:
+        name, colon, rest = text.partition(": ")
+        name = name.removeprefix("sched:") if colon else name.removeprefix("sched:").removesuffix(":")
+        if not name.strip() or not colon and not text.endswith(":"):
+            raise ValueError
+        read = READERS.get(name)
+        event = read(time, cpu, rest) if read else None
+        if event is None:
+            self.other_kinds[name] += 1
+        if event is None or event.kind != SWITCH:
+            self.is_on(time, cpu, current, comm, BY_HEAD)
+        else:
+            self.foreign |= event.pid != current >= 0
+            self.is_on(time, cpu, event.pid, event.comm, "")
+            self.on[cpu] = event.other
+        if event is not None:
+            self.cpus = max(self.cpus, event.target + 1, event.cpu + 1)
+            self.events.append(event if name != "sched_wakeup" else event._replace(state=BY_WAKEUP))
 
     def is_on(self, time: int, cpu: int, pid: int, comm: str, source: str) -> None:
         """An event is recorded by the thread that is on the CPU. (Of a thread that ends perf may say -1.)"""
