@@ -203,7 +203,7 @@ KERNEL_NAMES = re.compile(
     r"(?:kworker|ksoftirqd|migration|cpuhp|idle_inject|irq_work|irq|ktimers|rcuc|rcuo\w|rcuog|rcub|jbd2|watchdog)[/_-].*"
     r"|(?:scsi_eh|scsi_tmf|xfs\w*|btrfs|ext4|ecryptfs|kprobe|pool_workqueue)[/_-].*"
     r"|(?:kswapd|kcompactd|loop|nvme|virtio|hrtimer)\d.*"
-    r"|rcu_\w+|kthreadd|kdevtmpfs|kauditd|khungtaskd|oom_reaper|writeback|ksmd|khugepaged|kblockd|ksgxd|hwrng|watchdogd"
+    r"|rcu_\w+|kthreadd|kdamond.*|kdevtmpfs|kauditd|khungtaskd|oom_reaper|writeback|ksmd|khugepaged|kblockd|ksgxd|hwrng|watchdogd"
     r"|netns|mm_percpu_wq|inet_frag_wq|card\d+-crtc\d+"
 )
 
