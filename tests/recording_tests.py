@@ -189,11 +189,11 @@ class Texts(unittest.TestCase):
     def test_a_ready_thread_moves(self) -> None:
         made = self.make(switch(10, 0, 7, "R", 8) + move(15, 1, 9, 7, 0, 1) + switch(20, 1, 9, "R+", 7))
         self.assertEqual(made.body(), [
-            "create 0 3 ready", "publish 0", "consume 0", "commit 0 t0 1", "yield 0 0",
-            "create 0 3 ready", "publish 0", "consume 0", "commit 0 t1 3",
-            "create 1 3 ready", "publish 1", "consume 1", "commit 1 t2 1",
+            "create 0 3 ready", "publish 0", "consume 0", "commit 0 t0 1",
+            "create 1 3 ready", "publish 1", "consume 1", "commit 1 t1 1",
+            "yield 0 0", "create 0 3 ready", "publish 0", "consume 0", "commit 0 t2 3",
             "associate t0 1 2",
-            "preempt 1 5", "publish 1", "consume 1", "commit 1 t0 2",
+            "preempt 1 10", "publish 1", "consume 1", "commit 1 t0 2",
         ])
 
     def test_a_thread_with_a_message_in_its_queue_moves(self) -> None:
@@ -206,6 +206,24 @@ class Texts(unittest.TestCase):
             "create 0 3 blocked", "wake t1",
             "publish 0", "consume 0", "associate t1 1 2", "commit 1 t1 0",
         ])
+
+    def test_who_is_first_heard_of_on_a_cpu_was_there_from_the_start(self) -> None:
+        made = self.make(switch(10, 0, 7, "S", 8) + switch(30, 1, 9, "S", 0))
+        self.assertEqual(made.body(), [
+            "create 0 3 ready", "publish 0", "consume 0", "commit 0 t0 1",
+            "create 1 3 ready", "publish 1", "consume 1", "commit 1 t1 1",
+            "block 0 0", "create 0 3 ready", "publish 0", "consume 0", "commit 0 t2 3",
+            "block 1 20",
+        ])
+
+    def test_who_was_seen_elsewhere_before_was_not(self) -> None:
+        """The thread left CPU 0 before the first event of CPU 1, which it recorded."""
+        made = self.make(switch(10, 0, 7, "R", 8) + wake(30, 1, 7, 9, 0))
+        self.assertEqual(made.body()[4:], [
+            "yield 0 0", "create 0 3 ready", "publish 0", "consume 0", "commit 0 t1 3",
+            "associate t0 1 2", "commit 1 t0 0", "create 0 3 blocked", "wake t2",
+        ])
+        self.assertEqual(made.put_in(), [])
 
     def test_first_sight_of_a_thread_that_moves_was_ready(self) -> None:
         made = self.make(move(10, 0, 7, 8, 1, 0))
@@ -251,16 +269,16 @@ class Texts(unittest.TestCase):
     def test_a_waking_on_the_way_off_the_cpu_stands_behind_the_block(self) -> None:
         text = switch(10, 0, 0, "R", 7) + wake(20, 1, 9, 7, 0) + switch(21, 0, 7, "S", 0) + switch(30, 0, 0, "R", 7)
         made = self.make(text)
-        self.assertEqual([line for line in made.body() if "t0" in line or line.startswith("block")],
-                         ["commit 0 t0 1", "block 0 11", "wake t0", "commit 0 t0 3"])
+        self.assertEqual([line for line in made.body() if "t1" in line or line.startswith("block")],
+                         ["commit 0 t1 1", "block 0 11", "wake t1", "commit 0 t1 3"])
         self.assertIn("written later: 1 wakings of threads that were leaving", made.told)
         self.assertEqual(made.left_out(), ["1 switches to the idle thread"])
 
     def test_a_waking_of_a_thread_that_runs_on_is_left_out(self) -> None:
         text = switch(10, 0, 0, "R", 7) + wake(20, 1, 9, 7, 0) + switch(21, 0, 7, "S", 0) + wake(30, 1, 9, 7, 0)
         made = self.make(text + switch(31, 0, 0, "R", 7))
-        self.assertEqual([line for line in made.body() if "t0" in line or line.startswith("block")],
-                         ["commit 0 t0 1", "block 0 11", "wake t0", "commit 0 t0 3"])
+        self.assertEqual([line for line in made.body() if "t1" in line or line.startswith("block")],
+                         ["commit 0 t1 1", "block 0 11", "wake t1", "commit 0 t1 3"])
         self.assertEqual(made.left_out(), ["1 switches to the idle thread", "1 wakings of a thread that runs"])
 
     def test_a_waking_of_a_ready_thread_is_left_out(self) -> None:
@@ -443,7 +461,10 @@ class Texts(unittest.TestCase):
         """The heads tell pids of perf's own namespace, which are passed over where a switch shows that."""
         text = wake(10, 0, 3, 8, 0) + switch(20, 0, 7, "S", 8).replace("    7 [", "    3 [")
         made = self.make(text)
-        self.assertEqual(made.body()[:2], ["create 0 1 blocked", "wake t0"])
+        self.assertEqual(made.body(), [
+            "create 0 1 ready", "publish 0", "consume 0", "commit 0 t0 1",
+            "create 0 1 blocked", "wake t1", "block 0 10", "publish 0", "consume 0", "commit 0 t1 4",
+        ])
         self.assertEqual(made.left_out(), ["1 threads that are told by pids of another namespace"])
 
     # Bad input

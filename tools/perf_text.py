@@ -181,6 +181,7 @@ def read_recording(lines: Iterable[str], limit: int | None) -> Recording:
                 raise BadLine(f"line {number} is no event of perf script: {plain(text.strip()[:100])}") from None
             recording.passed["a last line that was cut short"] += 1
     without_repeats(recording)
+    recording.events = from_the_start(recording.events)
     for name, count in recording.other_kinds.items():
         recording.passed[f"events of the kind {plain(name.split()[0])}"] += count
     return recording
@@ -195,6 +196,26 @@ def without_repeats(recording: Recording) -> None:
         for state in dropped & set(found):
             recording.passed[DROPPED[state]] += found[state]
         recording.events = [event for event in recording.events if event.state not in dropped]
+
+
+def from_the_start(events: list[Event]) -> list[Event]:
+    """Who recorded the first event of a CPU was there from the start, but for a thread that was told of elsewhere before."""
+    first: list[Event] = []
+    later: list[Event] = []
+    unheard = {event.cpu for event in events if event.kind == RUNS}
+    told: set[int] = set()
+    for place, event in enumerate(events):
+        if not unheard:
+            return first + later + events[place:]
+        if event.kind == RUNS and event.cpu in unheard:
+            unheard.discard(event.cpu)
+            if event.pid not in told:
+                first.append(event._replace(time=events[0].time))
+                told.add(event.pid)
+                continue
+        told.update((event.pid, event.other))
+        later.append(event)
+    return first + later
 
 
 # What only the whole recording tells
