@@ -580,6 +580,22 @@ class Recordings(Texts):
             replies = path.with_suffix(".output").read_text()
             self.assertEqual(refusals(made.script, replies), made.refused(), path.name)
 
+    def test_the_tutorial_prints_what_it_says(self) -> None:
+        """Each command behind a dollar sign is typed, in order; where the page still has a TODO, what it prints is passed over."""
+        if not self.program:
+            return
+        steps = tutorial_steps((ROOT / "docs/TUTORIAL.md").read_text())
+        self.assertGreater(len(steps), 10)
+        with tempfile.TemporaryDirectory() as folder:
+            for name in ("examples", "tools", "docs"):
+                pathlib.Path(folder, name).symlink_to(ROOT / name)
+            for command, wanted in steps:
+                if "TODO" in wanted:
+                    continue
+                line = f'pc-sim() {{ "{self.program}" "$@"; }}\n{command} 2>&1'
+                run = subprocess.run(["bash", "-c", line], cwd=folder, capture_output=True, text=True, timeout=SECONDS)
+                self.assertEqual(run.stdout, wanted, command)
+
     def row_of(self, made: Made) -> list[str]:
         """The numbers of a recording, as the document's table has them."""
         told = "\n".join(made.told)
@@ -588,6 +604,16 @@ class Recordings(Texts):
         moves, moved = re.search(r"(\d+) associates, (\d+) to be accepted", told).groups()
         refused = ", ".join(f"{count} {what}" for what, count in sorted(made.refused().items())) or "none"
         return [f"{int(it):,}" for it in (events, threads, commits, accepted, moves, moved)] + [refused]
+
+
+def tutorial_steps(page: str) -> list[tuple[str, str]]:
+    """The commands of the page, each with what it prints."""
+    steps: list[tuple[str, str]] = []
+    for block in re.findall(r"(?:^    .*\n)+", page, re.M):
+        for part in re.split(r"^    \$ ", block, flags=re.M)[1:]:
+            command, *lines = part.splitlines()
+            steps.append((command, "".join(line.removeprefix("    ") + "\n" for line in lines)))
+    return steps
 
 
 def load_tool() -> types.ModuleType:
