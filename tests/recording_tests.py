@@ -324,6 +324,17 @@ class Texts(unittest.TestCase):
         self.assertEqual(made.put_in(), ["1 comings that were not recorded", "1 leavings that were not recorded"])
         self.assertEqual(made.refused(), Counter())
 
+    def test_a_thread_that_is_seen_on_two_cpus_in_turn(self) -> None:
+        made = self.make(switch(10, 0, 0, "R", 7) + wake(20, 1, 7, 9, 0) + switch(30, 0, 7, "S", 0))
+        self.assertEqual(made.body()[4:], [
+            "preempt 0 10", "publish 0", "consume 0", "associate t0 1 2", "commit 1 t0 0",
+            "create 0 3 blocked", "wake t1",
+            "preempt 1 10", "publish 1", "consume 1", "associate t0 0 3", "publish 0", "consume 0", "commit 0 t0 4",
+            "block 0 0",
+        ])
+        self.assertEqual(made.put_in(), ["1 comings that were not recorded", "2 leavings that were not recorded"])
+        self.assertEqual(made.refused(), Counter())
+
     def test_an_idle_cpu_that_was_not_recorded(self) -> None:
         made = self.make(switch(10, 0, 0, "R", 7) + wake(20, 0, 0, 8, 0) + switch(30, 0, 0, "R", 8))
         self.assertEqual(made.body()[3:], [

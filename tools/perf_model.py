@@ -131,9 +131,9 @@ class Model:
             refusal = "NotReady"
         elif thread.home != cpu:
             refusal = "NotYours"
-        elif thread.cpu >= 0 and thread.cpu != cpu:
+        elif thread.cpu >= 0:
             refusal = "Running"
-        elif self.cpus[cpu].thread is not None and self.cpus[cpu].thread is not thread:
+        elif self.cpus[cpu].thread is not None:
             refusal = "Busy"
         if self.ask("commit", f"commit {cpu} t{thread.name} {self.cpus[cpu].posts}", refusal):
             thread.cpu = cpu
