@@ -15,6 +15,7 @@ import shutil
 import subprocess
 import sys
 import unittest
+from collections.abc import Callable
 
 ROOT = pathlib.Path(__file__).resolve().parent.parent
 PROGRAM = ROOT / "crates/pc_sim/out/pc_sim"
@@ -69,7 +70,7 @@ class Completions(unittest.TestCase):
         self.assertEqual((run.returncode, run.stderr), (0, ""))
         return [line.split("\t")[0] for line in run.stdout.splitlines()]
 
-    def shells(self):
+    def shells(self) -> list[Callable[..., list[str]]]:
         return [self.bash, *([self.fish] if shutil.which("fish") else [])]
 
     def test_the_help_is_understood(self) -> None:

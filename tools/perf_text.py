@@ -1,4 +1,4 @@
-"""Reads the text of `perf sched script` or `perf script` as events of the scheduler, and what only the whole of it says."""
+"""Reads the text of `perf sched script` or `perf script` as events of the scheduler, and tells what only all of it says."""
 from __future__ import annotations
 
 import re
@@ -9,7 +9,7 @@ from typing import NamedTuple
 
 # The kinds of events. RUNS is no event of the scheduler: it says who is on a CPU, where no switch has told.
 RUNS, SWITCH, WAKE, WAKE_NEW, FORK, MOVE, EXIT = range(7)
-# What RUNS and WAKE were read from, in place of a state (no state is so written), and what is told where they are dropped.
+# What RUNS and WAKE were read from, in place of a state (no state is so written), and how they are told of if dropped.
 BY_HEAD, BY_WAKEUP = "(head)", "(wakeup)"
 DROPPED = {BY_HEAD: "threads that are told by pids of another namespace", BY_WAKEUP: "wakeups, which repeat wakings"}
 
@@ -199,7 +199,7 @@ def without_repeats(recording: Recording) -> None:
 
 
 def from_the_start(events: list[Event]) -> list[Event]:
-    """Who recorded the first event of a CPU was there from the start, but for a thread that was told of elsewhere before."""
+    """Who recorded the first event of a CPU was there from the start, but for a thread that was seen elsewhere before."""
     first: list[Event] = []
     later: list[Event] = []
     unheard = {event.cpu for event in events if event.kind == RUNS}
@@ -221,10 +221,11 @@ def from_the_start(events: list[Event]) -> list[Event]:
 # What only the whole recording tells
 
 KERNEL_NAMES = re.compile(
-    r"(?:kworker|ksoftirqd|migration|cpuhp|idle_inject|irq_work|irq|ktimers|rcuc|rcuo\w|rcuog|rcub|jbd2|watchdog)[/_-].*"
-    r"|(?:scsi_eh|scsi_tmf|xfs\w*|btrfs|ext4|ecryptfs|kprobe|pool_workqueue)[/_-].*"
+    r"(?:kworker|ksoftirqd|migration|cpuhp|idle_inject|irq_work|irq|ktimers|rcuc|rcuo\w|rcuog|rcub)[/_-].*"
+    r"|(?:jbd2|watchdog|scsi_eh|scsi_tmf|xfs\w*|btrfs|ext4|ecryptfs|kprobe|pool_workqueue)[/_-].*"
     r"|(?:kswapd|kcompactd|loop|nvme|virtio|hrtimer)\d.*"
-    r"|rcu_\w+|kthreadd|kdamond.*|kdevtmpfs|kauditd|khungtaskd|oom_reaper|writeback|ksmd|khugepaged|kblockd|ksgxd|hwrng|watchdogd"
+    r"|rcu_\w+|kthreadd|kdamond.*|kdevtmpfs|kauditd|khungtaskd|oom_reaper|writeback|ksmd|khugepaged"
+    r"|kblockd|ksgxd|hwrng|watchdogd"
     r"|netns|mm_percpu_wq|inet_frag_wq|card\d+-crtc\d+"
 )
 
