@@ -393,8 +393,9 @@ class Texts(unittest.TestCase):
             ENCLAVE.format(64, 1), "create 63 18446744073709551615 ready", "publish 63", "consume 63", "commit 63 t0 1", "block 63 10",
         ])
         self.assertEqual(made.left_out(), [
-            "5 events of CPUs past 63", "1 switches to the idle thread", "1 threads of the settings that ran on CPU 63 alone",
+            "5 events of CPUs past 63", "1 switches to the idle thread",
         ])
+        self.assertEqual(made.told[-1], "left out of the settings: 1 threads that ran on CPU 63 alone")
 
     def test_fewer_cpus_than_there_are(self) -> None:
         text = switch(10, 0, 0, "R", 7) + switch(11, 1, 0, "R", 8) + switch(20, 1, 8, "S", 0)
@@ -558,13 +559,24 @@ class Texts(unittest.TestCase):
         first = made.settings.split("[[thread]]")[1]
         self.assertEqual(first.count("yield"), 999)
         self.assertTrue(first.split("]")[0].endswith('"yield 1", "die 1"'), first[-60:])
-        self.assertEqual(made.left_out(), ["5 runs of the settings past 1,000 of a thread"])
+        self.assertEqual(made.told[-1], "left out of the settings: 5 runs past 1,000 of a thread")
 
     def test_settings_of_too_many_threads(self) -> None:
         text = "".join(switch(10, 0, pid, "X", pid + 1) for pid in range(100, 100 + 4_097))
         made = self.make(text)
         self.assertEqual(made.settings.count("[[thread]]"), 4_096)
-        self.assertEqual(made.left_out(), ["2 threads of the settings, which are long enough"])
+        self.assertEqual(made.told[-1], "left out of the settings: 2 threads past the greatest count or length")
+
+    def test_a_thread_that_never_ran_has_no_settings(self) -> None:
+        made = self.make(switch(0, 0, 7, "S", 0) + wake(5, 0, 0, 8, 0))
+        self.assertEqual(made.settings.count("[[thread]]"), 1)
+        self.assertEqual(made.told[-1], "left out of the settings: 1 threads that never ran")
+
+    def test_a_queue_is_one_of_the_mask(self) -> None:
+        """Bit 63 cannot be written in settings, so a thread that ran there first begins elsewhere."""
+        text = switch(0, 63, 0, "R", 7) + switch(5, 63, 7, "R", 0) + move(6, 2, 0, 7, 63, 2) + switch(8, 2, 0, "R", 7)
+        made = self.make(text + switch(9, 2, 7, "X", 0))
+        self.assertIn('queue = 2\nmask = 4\nsteps = ["yield 5", "die 1"]', made.settings)
 
 
 class Recordings(Texts):

@@ -169,6 +169,7 @@ class Lives:
         self.lives: dict[int, Life] = {}
         self.runs = 0
         self.ticks = 0
+        self.left_out: Counter[str] = Counter()
 
     def ran(self, thread: Thread, comm: str, cpu: int, word: str, ticks: int) -> None:
         life = self.lives.get(thread.name)
@@ -179,26 +180,28 @@ class Lives:
         self.runs += 1
         self.ticks += ticks
 
-    def text(self, left_out: Counter[str]) -> str:
-        """The settings. Whoever was not seen to die dies at the end of the last run."""
+    def text(self, threads: int) -> str:
+        """The settings. Of so many threads, those that never ran have none; who was not seen to die dies in the last run."""
+        self.left_out["threads that never ran"] += threads - len(self.lives)
         text = f"cpus = {self.cpus}\n"
         written = 0
         for _, life in sorted(self.lives.items()):
-            table = self.table(life, left_out)
+            table = self.table(life)
             if written == SETTINGS_THREADS or len(text) + len(table) > LONGEST_SETTINGS:
-                left_out["threads of the settings, which are long enough"] += 1
+                self.left_out["threads past the greatest count or length"] += 1
             elif table:
                 text += table
                 written += 1
         return text
 
-    def table(self, life: Life, left_out: Counter[str]) -> str:
+    def table(self, life: Life) -> str:
         mask = life.mask & SETTINGS_MASK
         if not mask:
-            left_out["threads of the settings that ran on CPU 63 alone"] += 1
+            self.left_out["threads that ran on CPU 63 alone"] += 1
             return ""
         if len(life.steps) > MOST_STEPS:
-            left_out[f"runs of the settings past {MOST_STEPS:,} of a thread"] += len(life.steps) - MOST_STEPS
+            self.left_out[f"runs past {MOST_STEPS:,} of a thread"] += len(life.steps) - MOST_STEPS
         words = [f'"{word} {ticks}"' for word, ticks in life.steps[: MOST_STEPS - 1] if word != "die"]
         words = words[: min(len(life.steps), MOST_STEPS) - 1] + [f'"die {life.steps[: MOST_STEPS][-1][1]}"']
-        return f"\n# {life.title}\n[[thread]]\nqueue = {life.queue}\nmask = {mask}\nsteps = [{', '.join(words)}]\n"
+        queue = life.queue if mask >> life.queue & 1 else (mask & -mask).bit_length() - 1
+        return f"\n# {life.title}\n[[thread]]\nqueue = {queue}\nmask = {mask}\nsteps = [{', '.join(words)}]\n"

@@ -1,4 +1,4 @@
-"""Reads the text of `perf sched script` or `perf script` as events of the scheduler, and tells what only all of it says."""
+"""Reads the text of `perf sched script` or `perf script` as events of the scheduler, and what only all of it says."""
 from __future__ import annotations
 
 import re
@@ -199,7 +199,7 @@ def without_repeats(recording: Recording) -> None:
 
 
 def from_the_start(events: list[Event]) -> list[Event]:
-    """Who recorded the first event of a CPU was there from the start, but for a thread that was seen elsewhere before."""
+    """Who recorded the first event of a CPU was there from the start, but for one seen elsewhere before."""
     first: list[Event] = []
     later: list[Event] = []
     unheard = {event.cpu for event in events if event.kind == RUNS}
