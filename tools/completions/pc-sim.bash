@@ -1,0 +1,44 @@
+# Completions of pc-sim for bash. Source this file, or put it where bash-completion looks for files:
+#     cp tools/completions/pc-sim.bash ~/.local/share/bash-completion/completions/pc-sim
+
+# The first of the words that is a command.
+_pc_sim_command() {
+    local word
+    for word; do
+        case $word in
+        replay | explain | draw | run)
+            echo "$word"
+            return
+            ;;
+        esac
+    done
+}
+
+# The files with the extension that fit the word, and folders on the way to some; or all files where there are none.
+_pc_sim_files() {
+    mapfile -t COMPREPLY < <(compgen -f -X "!*.$2" -- "$1"; compgen -d -- "$1")
+    [ "${#COMPREPLY[@]}" -gt 0 ] || mapfile -t COMPREPLY < <(compgen -f -- "$1")
+    compopt -o filenames 2>/dev/null
+}
+
+_pc_sim() {
+    local word=${COMP_WORDS[COMP_CWORD]} command flags report=
+    command=$(_pc_sim_command "${COMP_WORDS[@]:1:COMP_CWORD-1}")
+    COMPREPLY=()
+    [[ " ${COMP_WORDS[*]} " != *" --report "* ]] || report=yes
+    case $command in
+    run) flags="--per-cpu -h --help" ;;
+    draw) flags="--report -h --help" ;;
+    replay | explain) flags="-h --help" ;;
+    *) flags="-h --help -V --version" ;;
+    esac
+    case $command$report:$word in
+    *:-*) mapfile -t COMPREPLY < <(compgen -W "$flags" -- "$word") ;;
+    :*) mapfile -t COMPREPLY < <(compgen -W "replay explain draw run" -- "$word") ;;
+    run:*) _pc_sim_files "$word" toml ;;
+    drawyes:*) _pc_sim_files "$word" txt ;;
+    *) _pc_sim_files "$word" script ;;
+    esac
+}
+
+complete -F _pc_sim pc-sim ./pc-sim
