@@ -56,6 +56,17 @@ pub(crate) fn write_heading<W: Write>(
     write_comment(front.as_slice(), line, writer)
 }
 
+/// Writes a sentence, if there is one, as a comment.
+fn write_sentence<W: Write>(sentence: &[u8], writer: &mut W) -> Result<(), ScriptFault>
+    ensures ok { OnOk result (Annotates [] (W.contents writer.old) (W.contents writer.new)) }
+    ensures err { (result ≢ Err ScriptFault.OutOfMemory) × (result ≢ Err ScriptFault.Read) × (result ≢ Err ScriptFault.TooLong) }
+{
+    if sentence.is_empty() {
+        return Ok(());
+    }
+    write_comment(b"    ", sentence, writer)
+}
+
 /// Writes each sentence as a comment.
 pub(crate) fn write_sentences<W: Write>(
     sentences: &Sentences,
@@ -65,9 +76,7 @@ pub(crate) fn write_sentences<W: Write>(
     ensures err { (result ≢ Err ScriptFault.OutOfMemory) × (result ≢ Err ScriptFault.Read) × (result ≢ Err ScriptFault.TooLong) }
 {
     for sentence in lines_of(Some(sentences.as_slice())) {
-        if !sentence.is_empty() {
-            write_comment(b"    ", sentence, writer)?;
-        }
+        write_sentence(sentence, writer)?;
     }
     Ok(())
 }

@@ -183,13 +183,16 @@ fn faults_are_told(rt: HostRuntime) {
 
 /// Adds the lines of a text that do not begin with `#`.
 fn add_plain(text: &[u8], plain: &mut Vec<u8>) -> Result<(), AllocError> {
-    let mut rest = text;
-    while let Some(end) = rest.iter().position(|b| *b == b'\n') {
-        if rest.first().copied() != Some(b'#') {
-            plain.extend_from_slice(&rest[..end])?;
-            plain.push(b'\n')?;
+    let mut begins = true;
+    let mut is_comment = false;
+    for byte in text {
+        if begins {
+            is_comment = *byte == b'#';
         }
-        rest = &rest[end + 1..];
+        begins = *byte == b'\n';
+        if !is_comment {
+            plain.push(*byte)?;
+        }
     }
     Ok(())
 }
