@@ -516,6 +516,17 @@ class Texts(unittest.TestCase):
         made = self.make("", "-o", "/no/such/file", status=1)
         self.assertEqual(made.told, ["/no/such/file: No such file or directory"])
 
+    def test_files_that_cannot_be_read_or_written(self) -> None:
+        text = switch(10, 0, 7, "S", 0)
+        self.assertEqual(self.make(text, "-o", "/dev/full", status=1).told, ["/dev/full: No space left on device"])
+        with open("/dev/full", "w") as full:
+            run = subprocess.run([str(TOOL)], input=text, stdout=full, stderr=subprocess.PIPE, text=True, timeout=SECONDS)
+        self.assertEqual((run.returncode, run.stderr), (1, "from-perf-sched: standard output: No space left on device\n"))
+        run = subprocess.run(["bash", "-c", '"$0" <&-', str(TOOL)], capture_output=True, text=True, timeout=SECONDS)
+        self.assertEqual((run.returncode, run.stderr), (1, "from-perf-sched: standard input: Bad file descriptor\n"))
+        run = subprocess.run([str(TOOL), "/"], capture_output=True, text=True, timeout=SECONDS)
+        self.assertEqual((run.returncode, run.stderr), (1, "from-perf-sched: /: Is a directory\n"))
+
     def test_a_bad_command_line(self) -> None:
         for words in (["--cpus", "0"], ["--cpus", "65"], ["--cpus", "x"], ["--limit", "-1"], ["a", "b"], ["--unknown"]):
             run = subprocess.run([str(TOOL), *words], input="", capture_output=True, text=True, timeout=SECONDS)
