@@ -6,7 +6,7 @@ _pc_sim_command() {
     local word
     for word; do
         case $word in
-        replay | explain | draw | run)
+        replay | explain | run)
             echo "$word"
             return
             ;;
@@ -22,21 +22,18 @@ _pc_sim_files() {
 }
 
 _pc_sim() {
-    local word=${COMP_WORDS[COMP_CWORD]} command flags report=
+    local word=${COMP_WORDS[COMP_CWORD]} command flags
     command=$(_pc_sim_command "${COMP_WORDS[@]:1:COMP_CWORD-1}")
     COMPREPLY=()
-    [[ " ${COMP_WORDS[*]} " != *" --report "* ]] || report=yes
     case $command in
     run) flags="--per-cpu -h --help" ;;
-    draw) flags="--report -h --help" ;;
     replay | explain) flags="-h --help" ;;
     *) flags="-h --help -V --version" ;;
     esac
-    case $command$report:$word in
+    case $command:$word in
     *:-*) mapfile -t COMPREPLY < <(compgen -W "$flags" -- "$word") ;;
-    :*) mapfile -t COMPREPLY < <(compgen -W "replay explain draw run" -- "$word") ;;
+    :*) mapfile -t COMPREPLY < <(compgen -W "replay explain run" -- "$word") ;;
     run:*) _pc_sim_files "$word" toml ;;
-    drawyes:*) _pc_sim_files "$word" txt ;;
     *) _pc_sim_files "$word" script ;;
     esac
 }
