@@ -18,7 +18,7 @@ use Rattle.pc_join.specs.ByName.{AscendFrom, known_in, value_at}
 use Rattle.pc_join.proofs.Entries.{IsWalked, walked_start, walked_found, walked_on, walked_all, walked_weaker}
 use Rattle.pc_thread_view.specs.Told.{Told, IsSound, IsOfThread, RiseAbove, HasEach, numbers_of, only, is_early, tells}
 use Rattle.pc_thread_view.specs.Inner.Taking.{AreTold}
-use Rattle.pc_thread_view.specs.Inner.ToldLaws.{lacks_next}
+use Rattle.pc_thread_view.specs.Inner.ToldLaws.{lacks_next, prefix_yes}
 use Rattle.pc_thread_view.proofs.Histories.{prefix_to}
 use Rattle.pc_view.specs.declared.view.View.{View}
 use Rattle.pc_view.specs.Views.{IsPrefixOfRun, pairs_of, thread_of, pair, source_of}
@@ -33,9 +33,6 @@ use Rattle.std.proofs.lemmas.Bool.{and_parts}
 use Rattle.pc_messages.proofs.Bools.{both, or_cases, or_left, or_right}
 use Rattle.pc_delta.proofs.Lists.{all_none, all_first, all_rest, all_cons, left_item, none_left}
 use Rattle.pc_delta.proofs.Intake.{set_of-append}
-
-prefix_yes : (upto n : ℕ) → 1 ≤ n → n ≤ upto → one_to upto n ≡ true
-prefix_yes upto n h e = grind (arith, nat_tests)
 
 prefix_in : (upto more n : ℕ) → upto ≤ more → one_to upto n ≡ true → one_to more n ≡ true
 prefix_in upto more n h e = grind (arith, nat_tests)

@@ -5,6 +5,7 @@ use Rattle.std.proofs.lemmas.List.{append-nil, drop-append-le}
 use Rattle.std.proofs.lemmas.List.Elements.{filter_map-append, filter-append}
 use Rattle.std.proofs.lemmas.Bool.{lt-ltb}
 use Rattle.std.proofs.lemmas.Bool.Decides.{eqb_tells}
+use Rattle.pc_messages.proofs.Bools.{or_none}
 use Rattle.pc_messages.specs.declared.kind.Kind.{Kind}
 use Rattle.pc_messages.specs.declared.message.Message.{Message}
 use Rattle.pc_messages.specs.declared.message.Item.{Item}
@@ -98,10 +99,6 @@ or_true : (b : Bool) → (b || true) ≡ true
 or_true true = refl
 or_true false = refl
 
-or_false : (b : Bool) → (b || false) ≡ b
-or_false true = refl
-or_false false = refl
-
 filter_one : (p : ℕ → Bool) (y : ℕ) → p y ≡ true → filter p (y ∷ []) ≡ y ∷ []
 filter_one p y e = rw e refl
 
@@ -165,7 +162,7 @@ named_item (item.Thread m) t n b e ks l =
 list_any_cons_option : (o : Option ℕ) (xs : List ℕ) (t : ℕ) →
     has_name (cons_option o xs) t ≡ (has_name (cons_option o []) t || has_name xs t)
 list_any_cons_option None xs t = refl
-list_any_cons_option (Some x) xs t = ap (λ b. b || has_name xs t) (sym (or_false (x == t)))
+list_any_cons_option (Some x) xs t = ap (λ b. b || has_name xs t) (sym (or_none (x == t)))
 
 pub known_by_name : (posts : List Post) (t : ℕ) → nat_lt 0 (length (filter_map (λ (post : Post). kind_in t post.item) posts)) ≡ has_name (names posts) t
 known_by_name [] t = refl

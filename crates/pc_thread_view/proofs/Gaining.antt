@@ -11,6 +11,7 @@ use Rattle.pc_messages.specs.declared.reported.Reported.{Reported}
 use Rattle.pc_messages.specs.State.{state_of}
 use Rattle.pc_messages.specs.Run.{IsWellFormed, is_created}
 use Rattle.pc_join.specs.Sets.{Source}
+use Rattle.pc_thread_view.specs.Inner.ToldLaws.{prefix_yes}
 use Rattle.pc_thread_view.specs.Told.{Told, IsSound, RiseAbove, AreLater, HasKinds, HasEach, IsStateOfSome, tells, is_early}
 use Rattle.pc_thread_view.specs.Inner.Taking.{Gains, NoneAbove}
 use Rattle.pc_join.specs.Ranges.{one_to}
@@ -27,9 +28,6 @@ eq_true n m e = grind (arith, nat_tests)
 pub eq_sym : (n m : ℕ) → (n == m) ≡ (m == n)
 eq_sym n m = grind (arith, nat_tests)
 
-in_prefix_yes : (upto n : ℕ) → 1 ≤ n → n ≤ upto → one_to upto n ≡ true
-in_prefix_yes upto n h e = grind (arith, nat_tests)
-
 -- nothing new
 pub gains_nothing : (v : Told) (number : ℕ) (kind : Kind) → IsSound v → tells v number ≡ true → Gains v number kind v
 gains_nothing v number kind sound known = record {
@@ -39,7 +37,7 @@ gains_nothing v number kind sound known = record {
 }
 
 pub gains_known : (v : Told) (number : ℕ) (kind : Kind) → IsSound v → 1 ≤ number → number ≤ v.upto → Gains v number kind v
-gains_known v number kind sound h e = gains_nothing v number kind sound (ap (λ b. b || is_early v.early number) (in_prefix_yes v.upto number h e))
+gains_known v number kind sound h e = gains_nothing v number kind sound (ap (λ b. b || is_early v.early number) (prefix_yes v.upto number h e))
 
 or_true : (a b : Bool) → b ≡ true → (a || b) ≡ true
 or_true true b e = refl

@@ -13,6 +13,7 @@ use Rattle.pc_join.specs.Inner.Ranges.{IsEither}
 use Rattle.pc_thread_view.specs.Told.{Told, IsSound, IsOfThread, IsPrefix, RiseAbove, IsStateOfSome, tells, is_early}
 use Rattle.pc_thread_view.specs.Inner.Taking.{IsLoose, IsLooselyOf, IsAbsorbed, IsSettled, Gains}
 use Rattle.pc_join.specs.Ranges.{one_to}
+use Rattle.pc_thread_view.specs.Inner.ToldLaws.{prefix_yes}
 use Rattle.pc_thread_view.proofs.Gaining.{eq_sym, kinds_push}
 use Rattle.pc_thread_view.proofs.Taking.{early_told, told_rest}
 
@@ -25,9 +26,6 @@ or_swap false true true = refl
 or_swap false true false = refl
 or_swap false false true = refl
 or_swap false false false = refl
-
-prefix_yes : (upto n : ℕ) → 1 ≤ n → n ≤ upto → one_to upto n ≡ true
-prefix_yes upto n h e = grind (arith, nat_tests)
 
 -- one more kind at the end of a prefix
 pub prefix_push : (s : Source) (upto : ℕ) (state next : Option Reported) (kind : Kind) → IsPrefix s upto state → s ((upto + 1) ∷ []) ≡ Some kind

@@ -2,7 +2,7 @@
 
 ghost use Rattle.std.specs.Prelude.{ℕ, ◌≡◌, ◌+◌, ◌<◌, ◌^◌, All, IfOk, IfSome, OnOk, if◌then◌else◌, length, map, sum_by};
 ghost use Rattle.pc_calls.specs.declared.call.Call.TheVariants.{Env};
-ghost use Rattle.pc_threads.specs.Inner.Driving.{IsOneFewer, left_of, one, told_in};
+ghost use Rattle.pc_threads.specs.Inner.Driving.{IsOneFewer, leaving, left_of, one, told_in};
 ghost use Rattle.pc_threads.specs.Inner.Shares.{HasPosted};
 ghost use Rattle.pc_threads.specs.Settings.{IsPlan, is_block, plan_of, steps_in, ticks};
 ghost use Rattle.pc_threads.specs.Totals.{created_by, ran_by, told_by};
@@ -102,6 +102,7 @@ struct Left {
 
 /// What a thread's step is to the kernel.
 fn call_of(cpu: Cpu, step: &Step) -> EnvCall
+    ensures same { result ≡ leaving cpu step.now }
     ensures created { created_by (Env result) ≡ 0 }
     ensures told { told_by (Env result) ≡ 1 }
     ensures ran { ran_by (Env result) ≡ ticks step.now }

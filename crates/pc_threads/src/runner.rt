@@ -3,6 +3,7 @@
 ghost use Rattle.std.specs.Prelude.{pos, ◌≡◌, ◌+◌, ◌<◌, ◌≤◌, [], ◌∷◌, IfOk, OnOk, length, vec_len};
 ghost use Rattle.pc_calls.specs.declared.limits.TheConstants.{MOST_CPUS};
 ghost use Rattle.pc_kernel.specs.Reads.{seen};
+ghost use Rattle.pc_agent.specs.Shows.{cpu_of};
 ghost use Rattle.pc_threads.specs.Inner.Driving.{sum_in, told_in};
 ghost use Rattle.pc_threads.specs.Inner.Ends.{HasEnded};
 ghost use Rattle.pc_threads.specs.Inner.Shares.{HasDone, HasPosted, idle};
@@ -84,6 +85,7 @@ fn known_are_created(book: &Book)
 fn lend<N: Names>(pool: &mut Pool<N>, alloc: Global, cpu: Cpu) -> Worker<N>
     requires some { 0 < pool.old.agents }
     requires nothing { pool.old ≡ idle pool.old.agents }
+    ensures cpu { cpu_of result.agent ≡ cpu }
     ensures fewer { pool.new.agents + 1 ≡ pool.old.agents }
     ensures nothing { pool.new ≡ idle pool.new.agents }
 {

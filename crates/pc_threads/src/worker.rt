@@ -43,6 +43,7 @@ impl<N: Names> Worker<N> {
         requires committed { (committed.parts ≡ 1) × (committed.amount ≡ 0) }
         requires taken_over { (taken_over.parts ≡ 1) × (taken_over.amount ≡ 0) }
         requires consumed { (consumed.parts ≡ 1) × (consumed.amount ≡ 0) }
+        ensures agent { result.agent ≡ agent }
     {
         Worker {
             agent,

@@ -31,16 +31,12 @@ use Rattle.pc_world.specs.Inner.Handling.{Handles}
 use Rattle.pc_world.specs.Inner.Places.{IsPlace}
 use Rattle.pc_world.proofs.Places.{kept_same, match_true, plain_cpu, unchanged}
 use Rattle.pc_world.proofs.Sent.{sent_length, sent_more}
-use Rattle.pc_messages.proofs.Bools.{both}
-
-or_false : (b : Bool) → (b || false) ≡ b
-or_false true = refl
-or_false false = refl
+use Rattle.pc_messages.proofs.Bools.{both, or_none}
 
 module _ (pairs_law : (parts : List Part) → IsSameSet (set_of parts) (as_members (pairs_of_parts parts))) where
   part_has : (part : Part) (t n : ℕ) → has (pairs_of_part part) t n ≡ set_of_part part (t ∷ n ∷ [])
   part_has part t n =
-      ap (λ l. has l t n) (sym (append-nil (pairs_of_part part))) ∙ sym (pairs_law (part ∷ []) (t ∷ n ∷ [])) ∙ or_false (set_of_part part (t ∷ n ∷ []))
+      ap (λ l. has l t n) (sym (append-nil (pairs_of_part part))) ∙ sym (pairs_law (part ∷ []) (t ∷ n ∷ [])) ∙ or_none (set_of_part part (t ∷ n ∷ []))
 
   answer_set : (run : Run) (view digest : Set) (agent other : View) (delta : List Part) → IsOfRun run agent → IsSameSet (pairs_of agent) (as_members view)
       → IsSameSet (pairs_of other) (as_members digest) → IsAnswerTo agent (pairs_of other) delta → IsAnswerSet run view digest (pairs_of_parts delta)

@@ -23,7 +23,8 @@ lacks_below n (d ∷ ds) m h e = ap (λ b. b || is_early ds m) (other d.0 m (ome
     other : (a b : ℕ) → b < a → (a == b) ≡ false
     other a b h = grind (arith, nat_tests)
 
-prefix_yes : (upto n : ℕ) → 1 ≤ n → n ≤ upto → one_to upto n ≡ true
+-- the numbers of a prefix are in it
+pub prefix_yes : (upto n : ℕ) → 1 ≤ n → n ≤ upto → one_to upto n ≡ true
 prefix_yes upto n h e = grind (arith, nat_tests)
 
 prefix_no : (upto n : ℕ) → upto < n → one_to upto n ≡ false

@@ -1,6 +1,9 @@
 -- What the steps that threads have still to do come to.
 use Rattle.std.specs.Prelude.{ℕ, ◌+◌, ◌≡◌, List, [], ◌∷◌, drop, sum_by, if◌then◌else◌}
+use Rattle.pc_calls.specs.declared.call.EnvCall.{EnvCall}
+use Rattle.pc_calls.specs.declared.call.EnvCall.TheVariants.{YieldNow, Block, Preempt, Die}
 use Rattle.pc_threads.specs.declared.config.Step.{Step}
+use Rattle.pc_threads.specs.declared.config.Step.TheVariants as step
 use Rattle.pc_threads.specs.Settings.{Plan, is_block}
 
 -- by how many steps each thread has done
@@ -15,6 +18,13 @@ one step = 1
 -- a step's messages: its own, and behind a block that of the wakeup
 abbrev pub told_in : Step → ℕ
 told_in step = 1 + (if is_block step then 1 else 0)
+
+-- how a thread leaves a CPU by a step
+abbrev pub leaving : ℕ → Step → EnvCall
+leaving cpu (step.Yield n) = YieldNow cpu n
+leaving cpu (step.Block n) = Block cpu n
+leaving cpu (step.Preempt n) = Preempt cpu n
+leaving cpu (step.Die n) = Die cpu n
 
 -- this step was done of all that were left
 abbrev pub IsOneFewer : List Plan → Step → List ℕ → List ℕ → Type 0
