@@ -12,7 +12,7 @@ use pc_script::{
 use pc_thread_view::ThreadView;
 use pc_view::complete;
 use pc_world::World;
-use rows::{AGENTS, CALLS, EVERYTHING, FAULTS, REFUSALS};
+use rows::{AGENTS, CALLS, EVERYTHING, FAULTS, REFUSALS, WORD_TOO_MANY};
 use std::alloc::{AllocError, Global};
 use std::process::Abort;
 
@@ -179,6 +179,27 @@ fn refusals_are_told(rt: HostRuntime) {
 #[test]
 fn faults_are_told(rt: HostRuntime) {
     each_is_told(&rt, rt.alloc(), FAULTS.as_slice());
+}
+
+/// The third line of a text.
+fn third_line(text: &[u8]) -> Option<&[u8]> {
+    let mut lines = lines_of(Some(text));
+    let _ = lines.next()?;
+    let _ = lines.next()?;
+    lines.next()
+}
+
+#[test]
+fn each_command_takes_its_words_and_no_more(rt: HostRuntime) {
+    let alloc = rt.alloc();
+    for (line, wanted) in WORD_TOO_MANY {
+        let mut written: Vec<u8> = Vec::new(alloc);
+        assert_eq!(&rt;
+            explained(alloc, line, &mut written),
+            Ok(Outcome::FaultLine(1))
+        );
+        assert!(&rt; third_line(written.as_slice()) == Some(wanted));
+    }
 }
 
 /// Adds the lines of a text that do not begin with `#`.

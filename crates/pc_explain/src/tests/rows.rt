@@ -509,3 +509,37 @@ pick 0 1
 enclave 1 1 1 1 1
 ",
 ];
+
+/// Each command with a word too many, and what is told of it.
+pub(super) static WORD_TOO_MANY: [(&[u8], &[u8]); 27] = [
+    (
+        b"enclave 2 8 100 16 1000 x",
+        b"#    Word 7, `x`, is one too many.",
+    ),
+    (b"create 0 3 ready x", b"#    Word 5, `x`, is one too many."),
+    (b"wake t0 x", b"#    Word 3, `x`, is one too many."),
+    (b"block 0 1 x", b"#    Word 4, `x`, is one too many."),
+    (b"yield 0 1 x", b"#    Word 4, `x`, is one too many."),
+    (b"preempt 0 1 x", b"#    Word 4, `x`, is one too many."),
+    (b"die 0 1 x", b"#    Word 4, `x`, is one too many."),
+    (b"affinity t0 1 x", b"#    Word 4, `x`, is one too many."),
+    (b"priority t0 1 x", b"#    Word 4, `x`, is one too many."),
+    (b"tick 0 x", b"#    Word 3, `x`, is one too many."),
+    (b"associate t0 1 1 x", b"#    Word 5, `x`, is one too many."),
+    (b"commit 0 t0 1 x", b"#    Word 5, `x`, is one too many."),
+    (b"sleep 0 1 x", b"#    Word 4, `x`, is one too many."),
+    (b"rouse 0 x", b"#    Word 3, `x`, is one too many."),
+    (b"config 0 - x", b"#    Word 4, `x`, is one too many."),
+    (b"publish 0 fail x", b"#    Word 4, `x`, is one too many."),
+    (b"consume 0 x", b"#    Word 3, `x`, is one too many."),
+    (b"deliver 0 0 x", b"#    Word 4, `x`, is one too many."),
+    (b"answer 0 1 x", b"#    Word 4, `x`, is one too many."),
+    (b"pick 0 1 x", b"#    Word 4, `x`, is one too many."),
+    (b"steal 0 x", b"#    Word 3, `x`, is one too many."),
+    (b"crash 0 x", b"#    Word 3, `x`, is one too many."),
+    (b"status t0 x", b"#    Word 3, `x`, is one too many."),
+    (b"asleep 0 x", b"#    Word 3, `x`, is one too many."),
+    (b"show 0 x", b"#    Word 3, `x`, is one too many."),
+    (b"same 0 1 x", b"#    Word 4, `x`, is one too many."),
+    (b"complete 0 t0 x", b"#    Word 4, `x`, is one too many."),
+];
