@@ -58,7 +58,7 @@ static HELP_OF_EXPLAIN: [&str; 3] = ["pc-sim", "explain", "--help"];
 static VERSION: [&str; 2] = ["pc-sim", "--version"];
 
 /// What a command line asks for: which command, of which file, with its flag or without.
-#[derive(Debug, PartialEq, Eq)]
+#[derive(Clone, Copy, Debug, PartialEq, Eq)]
 enum Asked {
     Replay,
     Explain,
