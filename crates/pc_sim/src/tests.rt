@@ -65,7 +65,7 @@ enum Asked {
     Run { per_cpu: bool },
 }
 
-fn asked(
+fn read_off(
     alloc: Global,
     words: &'static [&'static str],
 ) -> Result<(Asked, Option<String>), CommandFault> {
@@ -105,7 +105,7 @@ fn commands_are_read_off_the_command_line(rt: HostRuntime) -> Result<(), Fail> {
             Some("s.toml"),
         ),
     ] {
-        let (told, file) = asked(rt.alloc(), words)?;
+        let (told, file) = read_off(rt.alloc(), words)?;
         assert_eq!(rt; told, command);
         assert!(rt; is_named(&file, wanted));
     }
