@@ -80,7 +80,8 @@ Example:
 Exit status: 0 finished; 1 a line is no command, or a read or a write failed; 4 memory is wanting.
 Scripts are described in docs/FORMATS.md.";
 
-const ABOUT_EXPLAIN: &str = "Answers each command of a script, and says in comments what happened and why";
+const ABOUT_EXPLAIN: &str =
+    "Answers each command of a script, and says in comments what happened and why";
 
 const AFTER_EXPLAIN: &str = "\
 Example:
@@ -145,18 +146,22 @@ fn flag_of<'a>(alloc: Global, name: &'static str, help: &'static str) -> Arg<'a>
 fn replay_parser<'a>(alloc: Global) -> Result<Parser<'a>, AllocError>
     ensures { IfOk result (λ parser. app_of parser ≡ of_file (codes "replay")) }
 {
-    Ok(parser_of_file(alloc, "replay", SCRIPT)?
-        .about(ABOUT_REPLAY)
-        .after_help(AFTER_REPLAY))
+    Ok(
+        parser_of_file(alloc, "replay", SCRIPT)?
+            .about(ABOUT_REPLAY)
+            .after_help(AFTER_REPLAY),
+    )
 }
 
 /// `explain [FILE]`
 fn explain_parser<'a>(alloc: Global) -> Result<Parser<'a>, AllocError>
     ensures { IfOk result (λ parser. app_of parser ≡ of_file (codes "explain")) }
 {
-    Ok(parser_of_file(alloc, "explain", SCRIPT)?
-        .about(ABOUT_EXPLAIN)
-        .after_help(AFTER_EXPLAIN))
+    Ok(
+        parser_of_file(alloc, "explain", SCRIPT)?
+            .about(ABOUT_EXPLAIN)
+            .after_help(AFTER_EXPLAIN),
+    )
 }
 
 /// `run [FILE] [--per-cpu]`

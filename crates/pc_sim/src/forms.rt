@@ -33,12 +33,7 @@ fn explained<R: Read, W: Write>(alloc: Global, reader: &mut R, writer: &mut W) -
 }
 
 /// Reads a script, makes this of it, writes it, and tells how it ended. Nothing is flushed.
-pub fn make<R: Read, W: Write>(
-    alloc: Global,
-    form: Form,
-    reader: &mut R,
-    writer: &mut W,
-) -> Ending
+pub fn make<R: Read, W: Write>(alloc: Global, form: Form, reader: &mut R, writer: &mut W) -> Ending
     ensures { IfSome (R.remaining reader.old) (λ text. IsMade form text (W.contents writer.old) (W.contents writer.new) result) }
 {
     match form {

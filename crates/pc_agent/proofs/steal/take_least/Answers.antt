@@ -27,6 +27,6 @@ pub returns-in-Err-clause-settled : goal.returns-in-Err-clause-settled
 returns-in-Err-clause-settled c = λ told. (
     subst (IsSettled c.args.view.now c.args.cpu) (sym left) (c.requires.settled told)
     )
-    where
-      left : c.take_last.new.self ≡ c.args.list.now
-      left = put_back c.take_last.result c.args.list.now c.push_in_order.new.self c.take_last.new.self c.in-Some.thread c.take_last.ensures c.in-Ok.ensures.ok
+  where
+    left : c.take_last.new.self ≡ c.args.list.now
+    left = put_back c.take_last.result c.args.list.now c.push_in_order.new.self c.take_last.new.self c.in-Some.thread c.take_last.ensures c.in-Ok.ensures.ok
