@@ -20,6 +20,3 @@ mod words;
 
 pub use run::explain_script;
 pub use watched::Watched;
-
-#[cfg(test)]
-mod tests;

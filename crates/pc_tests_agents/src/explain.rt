@@ -1,9 +1,9 @@
-//! What is told of scripts, with a machine over a world.
+//! Tests: scripts with what is told of them, by a machine over a world.
 
 mod rows;
 
-use crate::{Watched, explain_script};
 use pc_calls::{Limits, LimitsFault, Profile, Refusal};
+use pc_explain::{Watched, explain_script};
 use pc_messages::Cpu;
 use pc_script::{
     Command, EarlyNumbers, Machine, Outcome, Read as Question, Response, ScriptFault, ShownThread,
