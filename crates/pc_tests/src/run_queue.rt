@@ -141,13 +141,15 @@ fn names(queue: &RunQueue) -> &[Tid] {
     queue.names()
 }
 
-const T0: Tid = Tid(0);
+/// The three threads of the views.
+const FIRST: Tid = Tid(0);
 
-const T1: Tid = Tid(1);
+const SECOND: Tid = Tid(1);
 
-const T2: Tid = Tid(2);
+const THIRD: Tid = Tid(2);
 
-const T7: Tid = Tid(7);
+/// A name of none of them.
+const UNKNOWN: Tid = Tid(7);
 
 // Those that may run are listed once. Touched names stand at the end of a settled list of their level, which stays where
 // they may not run.
@@ -156,22 +158,67 @@ fn the_highest_level_comes_first(rt: HostRuntime) -> Result<(), Fail> {
     let (mixed, ready) = (Threads::Mixed, Threads::Ready);
     let (one, two) = (Threads::OneRaised, Threads::TwoRaised);
     for (threads, made, cpu, wanted) in [
-        (mixed, Made::Once(&[T2, T1, T0, T0]), 0, [T0].as_slice()),
-        (mixed, Made::Once(&[T2, T1, T0, T0]), 1, &[T2, T0]),
-        (two, Made::Once(&[T0, T2, T1]), 0, &[T2, T1, T0]),
+        (
+            mixed,
+            Made::Once(&[THIRD, SECOND, FIRST, FIRST]),
+            0,
+            [FIRST].as_slice(),
+        ),
+        (
+            mixed,
+            Made::Once(&[THIRD, SECOND, FIRST, FIRST]),
+            1,
+            &[THIRD, FIRST],
+        ),
+        (
+            two,
+            Made::Once(&[FIRST, THIRD, SECOND]),
+            0,
+            &[THIRD, SECOND, FIRST],
+        ),
         (
             ready,
-            Made::Twice(&[T2], &[T0, T2, T1, T0]),
+            Made::Twice(&[THIRD], &[FIRST, THIRD, SECOND, FIRST]),
             0,
-            &[T2, T0, T1],
+            &[THIRD, FIRST, SECOND],
         ),
-        (ready, Made::Taken(&[T0, T2, T1, T0]), 0, &[T2, T1, T0]),
-        (one, Made::Twice(&[T0, T2], &[T1]), 0, &[T1, T0, T2]),
-        (one, Made::Twice(&[T1], &[T2, T0]), 0, &[T1, T2, T0]),
-        (one, Made::Twice(&[], &[T0, T1, T2]), 0, &[T1, T0, T2]),
-        (one, Made::Taken(&[T0, T1]), 0, &[T1, T0]),
-        (mixed, Made::Twice(&[T0], &[T1, T2, T7]), 0, &[T0]),
-        (mixed, Made::Twice(&[T0], &[T1, T2, T7]), 1, &[T0, T2]),
+        (
+            ready,
+            Made::Taken(&[FIRST, THIRD, SECOND, FIRST]),
+            0,
+            &[THIRD, SECOND, FIRST],
+        ),
+        (
+            one,
+            Made::Twice(&[FIRST, THIRD], &[SECOND]),
+            0,
+            &[SECOND, FIRST, THIRD],
+        ),
+        (
+            one,
+            Made::Twice(&[SECOND], &[THIRD, FIRST]),
+            0,
+            &[SECOND, THIRD, FIRST],
+        ),
+        (
+            one,
+            Made::Twice(&[], &[FIRST, SECOND, THIRD]),
+            0,
+            &[SECOND, FIRST, THIRD],
+        ),
+        (one, Made::Taken(&[FIRST, SECOND]), 0, &[SECOND, FIRST]),
+        (
+            mixed,
+            Made::Twice(&[FIRST], &[SECOND, THIRD, UNKNOWN]),
+            0,
+            &[FIRST],
+        ),
+        (
+            mixed,
+            Made::Twice(&[FIRST], &[SECOND, THIRD, UNKNOWN]),
+            1,
+            &[FIRST, THIRD],
+        ),
     ] {
         let queue = listed(rt.alloc(), threads, &made, cpu)?;
         assert_eq!(rt; names(&queue), wanted);
@@ -282,48 +329,62 @@ fn names_are_put_at_the_end_and_leave_from_any_place(rt: HostRuntime) -> Result<
         Step::Puts(Tid(5)),
         Step::Lists(&[2, 0, 5]),
         Step::Has(Tid(5), true),
-        Step::First(Some(T2)),
+        Step::First(Some(THIRD)),
     ];
     let removed = [
-        Step::Removes(T1),
+        Step::Removes(SECOND),
         Step::Lists(&[0, 2]),
-        Step::Removes(T7),
-        Step::Removes(T0),
+        Step::Removes(UNKNOWN),
+        Step::Removes(FIRST),
         Step::Lists(&[2]),
-        Step::Has(T0, false),
-        Step::Removes(T2),
+        Step::Has(FIRST, false),
+        Step::Removes(THIRD),
         Step::Lists(&[]),
     ];
     let taken = [
-        Step::TakesFirst(Some(T2)),
-        Step::Has(T7, false),
-        Step::Puts(T7),
+        Step::TakesFirst(Some(THIRD)),
+        Step::Has(UNKNOWN, false),
+        Step::Puts(UNKNOWN),
         Step::Lists(&[0, 1, 7]),
-        Step::TakesLast(Some(T7)),
+        Step::TakesLast(Some(UNKNOWN)),
         Step::Lists(&[0, 1]),
-        Step::TakesLast(Some(T1)),
-        Step::TakesFirst(Some(T0)),
+        Step::TakesLast(Some(SECOND)),
+        Step::TakesFirst(Some(FIRST)),
         Step::TakesFirst(None),
         Step::TakesLast(None),
-        Step::Has(T0, false),
+        Step::Has(FIRST, false),
     ];
-    each_holds(&rt, rt.alloc(), Threads::Mixed, &[T2, T0], 1, &put)?;
-    each_holds(&rt, rt.alloc(), Threads::Ready, &[T0, T1, T2], 0, &removed)?;
-    each_holds(&rt, rt.alloc(), Threads::Ready, &[T2, T0, T1], 0, &taken)
+    each_holds(&rt, rt.alloc(), Threads::Mixed, &[THIRD, FIRST], 1, &put)?;
+    each_holds(
+        &rt,
+        rt.alloc(),
+        Threads::Ready,
+        &[FIRST, SECOND, THIRD],
+        0,
+        &removed,
+    )?;
+    each_holds(
+        &rt,
+        rt.alloc(),
+        Threads::Ready,
+        &[THIRD, FIRST, SECOND],
+        0,
+        &taken,
+    )
 }
 
-// Where T1 alone is raised it stands in order behind nobody, and everyone behind it.
+// Where SECOND alone is raised it stands in order behind nobody, and everyone behind it.
 #[test]
 fn a_name_put_at_the_end_is_in_order_behind_no_lower_level(rt: HostRuntime) -> Result<(), Fail> {
     let behind = [
-        Step::PutsInOrder(T0, true),
-        Step::PutsInOrder(T2, true),
+        Step::PutsInOrder(FIRST, true),
+        Step::PutsInOrder(THIRD, true),
         Step::Lists(&[1, 0, 2]),
     ];
-    let in_front = [Step::PutsInOrder(T1, false), Step::Lists(&[0, 1])];
-    let alone = [Step::PutsInOrder(T1, true), Step::Lists(&[1])];
-    each_holds(&rt, rt.alloc(), Threads::OneRaised, &[T1], 0, &behind)?;
-    each_holds(&rt, rt.alloc(), Threads::OneRaised, &[T0], 0, &in_front)?;
+    let in_front = [Step::PutsInOrder(SECOND, false), Step::Lists(&[0, 1])];
+    let alone = [Step::PutsInOrder(SECOND, true), Step::Lists(&[1])];
+    each_holds(&rt, rt.alloc(), Threads::OneRaised, &[SECOND], 0, &behind)?;
+    each_holds(&rt, rt.alloc(), Threads::OneRaised, &[FIRST], 0, &in_front)?;
     each_holds(&rt, rt.alloc(), Threads::OneRaised, &[], 0, &alone)
 }
 
@@ -331,18 +392,18 @@ fn a_name_put_at_the_end_is_in_order_behind_no_lower_level(rt: HostRuntime) -> R
 #[test]
 fn a_refresh_keeps_the_order_and_drops_the_blocked(rt: HostRuntime) -> Result<(), Fail> {
     let kept = [
-        Step::Refreshes(T0, Some(T1)),
+        Step::Refreshes(FIRST, Some(SECOND)),
         Step::Lists(&[2, 1, 0]),
         Step::Blocks(1),
-        Step::Refreshes(T1, None),
+        Step::Refreshes(SECOND, None),
         Step::Lists(&[2, 0]),
     ];
     let empty = [
         Step::First(None),
-        Step::Has(T0, false),
-        Step::Removes(T0),
+        Step::Has(FIRST, false),
+        Step::Removes(FIRST),
         Step::Lists(&[]),
     ];
-    each_holds(&rt, rt.alloc(), Threads::Ready, &[T2, T1], 0, &kept)?;
+    each_holds(&rt, rt.alloc(), Threads::Ready, &[THIRD, SECOND], 0, &kept)?;
     each_holds(&rt, rt.alloc(), Threads::Ready, &[], 0, &empty)
 }
