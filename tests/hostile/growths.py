@@ -19,12 +19,14 @@ def fault_of_ample(subject, run):
     return None if subject.plain(run.out) == subject.out else "with ample memory: another output than is wanted"
 
 
-def fault_of_refused(ample, run):
-    """What is wrong where a growth was refused: the run is as the ample one, or says that memory ran out, after whole lines of it."""
+def fault_of_refused(ample, run, whole=False):
+    """What is wrong where a growth was refused: the run is as the ample one, or says that memory ran out, after whole lines of it, or none."""
     if (run.status, run.out, run.err) == (ample.status, ample.out, ample.err):
         return None
     if run.status != 4 or run.err != OUT_OF_MEMORY:
         return told(run)
+    if whole and run.out:
+        return f"a part of what is written whole or not at all: {len(run.out)} bytes"
     if run.out and not run.out.endswith(b"\n"):
         return f"half a line: {run.out[-80:]!r}"
     return None if ample.out.startswith(run.out) else "the lines are not those that the full output begins with"
@@ -54,7 +56,7 @@ class Sweep:
             return f"no growth was refused, though as many were there before: {told(run)}, {run.growths} growths"
         if later and run.status == 4:
             self.written[place] = len(run.out)
-        return fault_of_refused(self.ample, run)
+        return fault_of_refused(self.ample, run, self.subject.whole)
 
     def past_the_last(self):
         run = self.machine.run(self.subject, growth=f"{self.ample.growths + 1}..")

@@ -55,6 +55,8 @@ class Subject:
     environment: dict = field(default_factory=dict)
     # Whether comments stand between what it has to write.
     commented: bool = False
+    # Whether nothing is written where memory runs out: a picture is whole, or is not there.
+    whole: bool = False
 
     def plain(self, text):
         """What was written, without the comments: lines whose first byte is `#`."""

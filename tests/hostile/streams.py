@@ -1,4 +1,5 @@
 """Reads and writes that fail, move one byte at a time, or are interrupted, and outputs that are closed, full or broken."""
+import dataclasses
 import errno
 import os
 import pathlib
@@ -6,7 +7,7 @@ import subprocess
 
 from machine import SECONDS, Run, Subject, ended, told
 from settings import ONE_TOTALS, ROWS, written
-from subjects import OPENING, examples, explained
+from subjects import OPENING, drawn, examples, explained
 
 CANNOT_READ = b"pc-sim: cannot read\n"
 READ_ERRORS = [errno.EIO, errno.EISDIR, errno.EAGAIN]
@@ -19,6 +20,7 @@ def subjects(folder):
     for example in examples():
         yield example
         yield explained(example)
+        yield drawn(example)
         yield Subject(f"{example.name} as standard input", ["replay"], pathlib.Path(example.words[1]), out=example.out)
     texts = {
         "long": (OPENING + b"asleep 0\n" * LONG, b"ok\n" + b"no\n" * LONG, 0),
@@ -31,6 +33,7 @@ def subjects(folder):
         script = Subject(f"{name} script", ["replay"], file, out=out, status=status)
         yield script
         yield explained(script)
+        yield drawn(script)
     yield from settings(folder)
 
 
@@ -75,8 +78,10 @@ class Streams:
     """The runs of one subject."""
 
     def __init__(self, machine, subject, most, broken):
-        self.machine, self.subject, self.most, self.broken = machine, subject, most, broken
         self.plain = machine.run(subject)
+        # Of a picture nothing is written down: here it is only held against itself.
+        self.subject = subject if subject.out is not None else dataclasses.replace(subject, out=self.plain.out)
+        self.machine, self.most, self.broken = machine, most, broken
         self.by_bytes = machine.run(subject, read_most=1, write_most=1)
 
     def failed_read(self, **hostile):

@@ -10,6 +10,7 @@ from settings import faulty
 GENERATED = ["first-run", "kernel-calls", "late", "late-batches", "scattered", "answer-half", "rounds", "steals", "day", "restarts"]
 NO_COMMAND = b"pc-sim: bad command line\n"
 NO_FILE = b"pc-sim: cannot read\n"
+ENDS_THERE = b"pc-sim: a line of the script is no command, and the picture ends there\n"
 # Of a script.
 MOST_BYTES = 16 * 2**20
 OPENING = b"enclave 2 8 100 16 1000\n"
@@ -113,6 +114,7 @@ TOLD = {
     "help in short": ["-h"],
     "help of replay": ["replay", "--help"],
     "help of explain": ["explain", "--help"],
+    "help of draw": ["draw", "--help"],
     "help of run": ["run", "--help"],
     "help of run in short": ["run", "-h"],
     "version": ["--version"],
@@ -130,6 +132,7 @@ WORDS = {
     "an unknown letter": ["-x"],
     "an unknown flag of replay": ["replay", "--fast"],
     "an unknown flag of explain": ["explain", "--per-cpu"],
+    "an unknown flag of draw": ["draw", "--per-cpu"],
     "an unknown flag of run": ["run", "--per-thread"],
     "the version of a command": ["replay", "--version"],
     "two files": ["replay", "a", "b"],
@@ -143,6 +146,7 @@ WORDS = {
 FILES = {
     "a file without a name": ["replay", ""],
     "a file without a name to explain": ["explain", ""],
+    "a file without a name to draw": ["draw", ""],
     "settings without a name": ["run", ""],
     "a name of 100,000 bytes": ["replay", "x" * 100_000],
     "settings by a name of 100,000 bytes": ["run", "x" * 100_000],
@@ -166,11 +170,18 @@ def explained(script):
     return dataclasses.replace(script, name=f"explained {script.name}", words=["explain", *script.words[1:]], commented=True)
 
 
+def drawn(script):
+    """A picture of the same script. At a fault it ends, and says so."""
+    words, err = ["draw", *script.words[1:]], ENDS_THERE if script.status == 1 else b""
+    return dataclasses.replace(script, name=f"drawn {script.name}", words=words, out=None, err=err, whole=True)
+
+
 def replayed(folder):
-    """All of it; the examples and the malformed texts are explained too."""
+    """All of it; the examples and the malformed texts are explained and drawn too."""
     for script in [*examples(), *malformed(folder)]:
         yield script
         yield explained(script)
+        yield drawn(script)
     yield from cases(folder)
     yield from faulty(folder)
     yield from command_lines()

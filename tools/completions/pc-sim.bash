@@ -6,7 +6,7 @@ _pc_sim_command() {
     local word
     for word; do
         case $word in
-        replay | explain | run)
+        replay | explain | draw | run)
             echo "$word"
             return
             ;;
@@ -26,13 +26,13 @@ _pc_sim() {
     command=$(_pc_sim_command "${COMP_WORDS[@]:1:COMP_CWORD-1}")
     COMPREPLY=()
     case $command in
-    run) flags="--per-cpu -h --help" ;;
-    replay | explain) flags="-h --help" ;;
+    run) flags="--per-cpu --draw -h --help" ;;
+    replay | explain | draw) flags="-h --help" ;;
     *) flags="-h --help -V --version" ;;
     esac
     case $command:$word in
     *:-*) mapfile -t COMPREPLY < <(compgen -W "$flags" -- "$word") ;;
-    :*) mapfile -t COMPREPLY < <(compgen -W "replay explain run" -- "$word") ;;
+    :*) mapfile -t COMPREPLY < <(compgen -W "replay explain draw run" -- "$word") ;;
     run:*) _pc_sim_files "$word" toml ;;
     *) _pc_sim_files "$word" script ;;
     esac

@@ -1,14 +1,16 @@
 # Completions of pc-sim for fish. Source this file, or put it where fish looks for files:
 #     cp tools/completions/pc-sim.fish ~/.config/fish/completions/
 
-set -l commands replay explain run
+set -l commands replay explain draw run
 
 complete -c pc-sim -f
 complete -c pc-sim -n "not __fish_seen_subcommand_from $commands" -a replay -d "Answers each command of a script"
 complete -c pc-sim -n "not __fish_seen_subcommand_from $commands" -a explain -d "Explains a script line by line"
+complete -c pc-sim -n "not __fish_seen_subcommand_from $commands" -a draw -d "Draws a script as SVG"
 complete -c pc-sim -n "not __fish_seen_subcommand_from $commands" -a run -d "Runs agents in threads by settings"
 complete -c pc-sim -n "not __fish_seen_subcommand_from $commands" -s V -l version -d "Tells the version"
 complete -c pc-sim -s h -l help -d "Tells what there is"
 complete -c pc-sim -n "__fish_seen_subcommand_from run" -l per-cpu -d "Also reports a line for each CPU"
-complete -c pc-sim -n "__fish_seen_subcommand_from replay explain" -k -a "(__fish_complete_suffix .script)"
+complete -c pc-sim -n "__fish_seen_subcommand_from run" -l draw -d "Draws the report as SVG"
+complete -c pc-sim -n "__fish_seen_subcommand_from replay explain draw" -k -a "(__fish_complete_suffix .script)"
 complete -c pc-sim -n "__fish_seen_subcommand_from run" -k -a "(__fish_complete_suffix .toml)"

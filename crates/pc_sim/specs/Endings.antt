@@ -12,7 +12,7 @@ use Rattle.pc_sim.specs.declared.ending.BadSettings.TheVariants as bad
 use Rattle.pc_sim.specs.declared.ending.Unsettled.{Unsettled}
 use Rattle.pc_sim.specs.declared.ending.Unsettled.TheVariants as why
 use Rattle.pc_sim.specs.declared.ending.Ending.{Ending}
-use Rattle.pc_sim.specs.declared.ending.Ending.TheVariants.{Finished, FaultLine, CannotRead, BadCommandLine, OutOfMemory, Settings, Run, CannotStart}
+use Rattle.pc_sim.specs.declared.ending.Ending.TheVariants.{Finished, FaultLine, DrawnToFault, CannotRead, BadCommandLine, OutOfMemory, Settings, Run, CannotStart}
 use Rattle.pc_sim.specs.declared.run_text.RunTextFault.{RunTextFault}
 use Rattle.pc_sim.specs.declared.run_text.RunTextFault.TheVariants as text
 use Rattle.pc_sim.specs.declared.settings.SettingsFault.{SettingsFault}
@@ -26,6 +26,12 @@ ending_of (Err fault.Read) = CannotRead
 ending_of (Err fault.TooLong) = CannotRead
 ending_of (Err fault.Write) = CannotRead
 ending_of (Err fault.OutOfMemory) = OutOfMemory
+
+-- how it ends after the drawing of a script
+abbrev pub ending_of_picture : Result Outcome ScriptFault → Ending
+ending_of_picture (Ok outcome.Finished) = Finished
+ending_of_picture (Ok (outcome.FaultLine line)) = DrawnToFault
+ending_of_picture (Err why) = ending_of (Err why)
 
 -- how it ends where settings have a fault, where a run met one, and where either did
 abbrev pub ending_of_settings : SettingsFault → Ending
@@ -55,6 +61,7 @@ ending_of_run_text text.Write = CannotRead
 abbrev pub status_of : Ending → ℕ
 status_of Finished = 0
 status_of FaultLine = 1
+status_of DrawnToFault = 1
 status_of CannotRead = 1
 status_of BadCommandLine = 2
 status_of OutOfMemory = 4
@@ -82,6 +89,7 @@ unsettled_message why.GaveUp = codes "pc-sim: run GaveUp"
 abbrev pub message_of : Ending → Option (List ℕ)
 message_of Finished = None
 message_of FaultLine = None
+message_of DrawnToFault = Some (codes "pc-sim: a line of the script is no command, and the picture ends there")
 message_of CannotRead = Some (codes "pc-sim: cannot read")
 message_of BadCommandLine = Some (codes "pc-sim: bad command line")
 message_of OutOfMemory = Some (codes "pc-sim: out of memory")

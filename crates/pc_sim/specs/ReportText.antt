@@ -1,7 +1,11 @@
--- The text of a run's report.
-use Rattle.std.specs.Prelude.{ℕ, Bool, List, [], ◌∷◌, ◌++◌, codes, decimal, flat_map, if◌then◌else◌}
+-- A run's report, as text or as a picture.
+use Rattle.std.specs.Prelude.{ℕ, List, [], ◌∷◌, ◌++◌, Option, codes, decimal, flat_map}
+use Rattle.std.specs.Io.KnownBytes.{Appends}
+use Rattle.pc_draw.specs.Reports.{IsPictureOfReport}
 use Rattle.pc_threads.specs.declared.report.LoadReport.{LoadReport}
 use Rattle.pc_threads.specs.declared.row.Row.{Row}
+use Rattle.pc_sim.specs.declared.report.ReportForm.{ReportForm}
+use Rattle.pc_sim.specs.declared.report.ReportForm.TheVariants.{Totals, EachCpu, Picture}
 
 -- a text, and a line feed
 abbrev pub text_line : List ℕ → List ℕ
@@ -26,6 +30,8 @@ row_text row =
 abbrev pub rows_text : List Row → List ℕ
 rows_text rows = flat_map (λ row. text_line (row_text row)) rows
 
--- a report, with a line for each CPU where it is asked for
-abbrev pub report_text : LoadReport → Bool → List ℕ
-report_text report per_cpu = totals_text report ++ (if per_cpu then rows_text report.rows.items else [])
+-- the report was written in this form
+abbrev pub IsReport : ReportForm → LoadReport → (old new : Option (List ℕ)) → Type 0
+IsReport Totals report old new = Appends old new (totals_text report)
+IsReport EachCpu report old new = Appends old new (totals_text report ++ rows_text report.rows.items)
+IsReport Picture report old new = (written : List ℕ) × IsPictureOfReport report written × Appends old new written

@@ -5,8 +5,9 @@ ghost use Rattle.clap.specs.Walk.{first_of, rows_of, rule_of};
 ghost use Rattle.clap.specs.Simple.{app_of, subcommand_of, subcommand_rows_of};
 ghost use Rattle.clap.specs.Faults.{fault_of};
 ghost use Rattle.clap.specs.Matches.{found_of};
-ghost use Rattle.pc_sim.specs.CommandLine.{IsAsked, IsCommandMet, IsInput, IsRefusal, flag, of_file, pc_sim, run};
+ghost use Rattle.pc_sim.specs.CommandLine.{IsAsked, IsCommandMet, IsInput, IsRefusal, IsReportForm, flag, of_file, pc_sim, run};
 
+use crate::report::ReportForm;
 use clap::error::ErrorKind;
 use clap::{Arg, ArgAction, ArgMatches, Command as Parser, Error};
 use std::alloc::{AllocError, Global};
@@ -24,11 +25,15 @@ pub enum Command {
     Explain {
         file: Option<String>,
     },
+    /// Replay a script, and draw what happened.
+    Draw {
+        file: Option<String>,
+    },
     /// Run agents in threads by settings.
     Run {
         file: Option<String>,
-        /// Whether the report has a line for each CPU.
-        per_cpu: bool,
+        /// How the report is told.
+        form: ReportForm,
     },
 }
 
@@ -64,6 +69,7 @@ const AFTER: &str = "\
 Examples:
   pc-sim replay examples/commits-and-sleepers.script
   pc-sim explain examples/commits-and-sleepers.script
+  pc-sim draw examples/crash-and-steal.script >picture.svg
   pc-sim run settings.toml --per-cpu
 
 FILE may be `-`, the standard input.
@@ -91,12 +97,23 @@ The lines that begin with `#` are comments; the others are what `pc-sim replay` 
 Exit status: 0 finished; 1 a line is no command, or a read or a write failed; 4 memory is wanting.
 What is written is described in docs/FORMATS.md.";
 
+const ABOUT_DRAW: &str = "Draws what happens in a script, as SVG on standard output";
+
+const AFTER_DRAW: &str = "\
+Example:
+  pc-sim draw examples/crash-and-steal.script >picture.svg
+
+Time goes to the right, a step for each command; each CPU has a lane. A browser shows the picture.
+Exit status: 0 finished; 1 a line is no command, or a read or a write failed; 4 memory is wanting.
+What is drawn is described in docs/FORMATS.md.";
+
 const ABOUT_RUN: &str = "Runs agents in threads by settings, and reports what they did";
 
 const AFTER_RUN: &str = "\
 Example:
   printf 'cpus = 2\\n[[thread]]\\nqueue = 0\\nmask = 3\\nsteps = [\"yield 2\", \"die 1\"]\\n' | pc-sim run
 
+With --draw the report is a picture, and --per-cpu changes nothing.
 Exit status: 0 finished; 1 the settings have a fault, or a read or a write failed; 3 the run did not
 settle; 4 memory or a thread is wanting.
 Settings and the report are described in docs/FORMATS.md.";
@@ -164,15 +181,28 @@ fn explain_parser<'a>(alloc: Global) -> Result<Parser<'a>, AllocError>
     )
 }
 
-/// `run [FILE] [--per-cpu]`
+/// `draw [FILE]`
+fn draw_parser<'a>(alloc: Global) -> Result<Parser<'a>, AllocError>
+    ensures { IfOk result (λ parser. app_of parser ≡ of_file (codes "draw")) }
+{
+    Ok(
+        parser_of_file(alloc, "draw", SCRIPT)?
+            .about(ABOUT_DRAW)
+            .after_help(AFTER_DRAW),
+    )
+}
+
+/// `run [FILE] [--per-cpu] [--draw]`
 fn run_parser<'a>(alloc: Global) -> Result<Parser<'a>, AllocError>
     ensures { IfOk result (λ parser. app_of parser ≡ run) }
 {
     let per_cpu = flag_of(alloc, "per-cpu", "also reports a line for each CPU");
+    let draw = flag_of(alloc, "draw", "draws the report, as SVG");
     parser_of_file(alloc, "run", SETTINGS)?
         .about(ABOUT_RUN)
         .after_help(AFTER_RUN)
-        .arg(per_cpu)
+        .arg(per_cpu)?
+        .arg(draw)
 }
 
 /// The program's parser.
@@ -181,6 +211,7 @@ fn parser<'a>(alloc: Global) -> Result<Parser<'a>, AllocError>
 {
     let replay = replay_parser(alloc)?;
     let explain = explain_parser(alloc)?;
+    let draw = draw_parser(alloc)?;
     let run = run_parser(alloc)?;
     Parser::new(alloc, "pc-sim")
         .version(VERSION)
@@ -190,6 +221,7 @@ fn parser<'a>(alloc: Global) -> Result<Parser<'a>, AllocError>
         .disable_help_subcommand(true)
         .subcommand(replay)?
         .subcommand(explain)?
+        .subcommand(draw)?
         .subcommand(run)
 }
 
@@ -206,10 +238,12 @@ fn command_of(alloc: Global, matches: &ArgMatches<'_>) -> Result<Command, Comman
     if name == "run" {
         Ok(Command::Run {
             file,
-            per_cpu: is_set(met, "per-cpu"),
+            form: form_of(met),
         })
     } else if name == "explain" {
         Ok(Command::Explain { file })
+    } else if name == "draw" {
+        Ok(Command::Draw { file })
     } else {
         Ok(Command::Replay { file })
     }
@@ -223,6 +257,19 @@ fn file_of(alloc: Global, matches: &ArgMatches<'_>) -> Result<Option<String>, Al
         None => Ok(None),
         Some(name) if name == "-" => Ok(None),
         Some(name) => Ok(Some(String::from_str(alloc, name)?)),
+    }
+}
+
+/// How the report is told.
+fn form_of(matches: &ArgMatches<'_>) -> ReportForm
+    ensures { IsReportForm result (rows_of (found_of matches.now)) }
+{
+    if is_set(matches, "draw") {
+        ReportForm::Picture
+    } else if is_set(matches, "per-cpu") {
+        ReportForm::EachCpu
+    } else {
+        ReportForm::Totals
     }
 }
 

@@ -1,7 +1,7 @@
 //! How the program ends.
 
 ghost use Rattle.std.specs.Prelude.{◌≡◌, option_map};
-ghost use Rattle.pc_sim.specs.Endings.{message_of, settings_message, status_of, unsettled_message};
+ghost use Rattle.pc_sim.specs.Endings.{ending_of_picture, message_of, settings_message, status_of, unsettled_message};
 
 use crate::run_text::RunTextFault;
 use crate::settings::SettingsFault;
@@ -15,6 +15,8 @@ pub enum Ending {
     Finished,
     /// The script has a line that is no command; its output says which.
     FaultLine,
+    /// The same of a script that was drawn: the picture says which, and goes up to it.
+    DrawnToFault,
     /// A file, a read or a write failed, or the text is too long.
     CannotRead,
     /// The words of the command line are no command.
@@ -57,7 +59,8 @@ impl Ending {
     {
         match self {
             Ending::Finished => 0,
-            Ending::FaultLine | Ending::CannotRead | Ending::Settings(_) => 1,
+            Ending::FaultLine | Ending::DrawnToFault | Ending::CannotRead | Ending::Settings(_) =>
+                1,
             Ending::BadCommandLine => 2,
             Ending::Run(_) => 3,
             Ending::OutOfMemory | Ending::CannotStart => 4,
@@ -70,12 +73,27 @@ impl Ending {
     {
         match self {
             Ending::Finished | Ending::FaultLine => None,
+            Ending::DrawnToFault => {
+                Some("pc-sim: a line of the script is no command, and the picture ends there")
+            }
             Ending::CannotRead => Some("pc-sim: cannot read"),
             Ending::BadCommandLine => Some("pc-sim: bad command line"),
             Ending::OutOfMemory => Some("pc-sim: out of memory"),
             Ending::CannotStart => Some("pc-sim: cannot start"),
             Ending::Settings(bad) => Some(bad.message()),
             Ending::Run(why) => Some(why.message()),
+        }
+    }
+}
+
+impl Ending {
+    /// How the program ends after it drew a script.
+    pub fn of_picture(drawn: Result<Outcome, ScriptFault>) -> Ending
+        ensures { result ≡ ending_of_picture drawn }
+    {
+        match drawn {
+            Ok(Outcome::FaultLine(_)) => Ending::DrawnToFault,
+            ended => Ending::from(ended),
         }
     }
 }

@@ -1,12 +1,13 @@
-//! What is made of a script: its replies, or these with an explanation.
+//! What is made of a script: its replies, these with an explanation, or a picture.
 
 ghost use Rattle.std.specs.Prelude.{IfSome};
 ghost use Rattle.pc_explain.specs.Comments.{without_comments};
-ghost use Rattle.pc_sim.specs.Programs.{IsAnswered, IsMade};
+ghost use Rattle.pc_sim.specs.Programs.{IsAnswered, IsDrawn, IsMade};
 
 use crate::ending::Ending;
 use crate::run_script;
 use crate::session::Session;
+use pc_draw::draw_script;
 use pc_explain::explain_script;
 use std::alloc::Global;
 use std::io::{Read, Write};
@@ -18,6 +19,8 @@ pub enum Form {
     Replies,
     /// These, with comments between that explain them.
     Explained,
+    /// A picture of what happened.
+    Picture,
 }
 
 fn replies<R: Read, W: Write>(alloc: Global, reader: &mut R, writer: &mut W) -> Ending
@@ -32,6 +35,12 @@ fn explained<R: Read, W: Write>(alloc: Global, reader: &mut R, writer: &mut W) -
     Ending::from(explain_script::<Session, R, W>(alloc, reader, writer))
 }
 
+fn picture<R: Read, W: Write>(alloc: Global, reader: &mut R, writer: &mut W) -> Ending
+    ensures { IfSome (R.remaining reader.old) (λ text. IsDrawn text (W.contents writer.old) (W.contents writer.new) result) }
+{
+    Ending::of_picture(draw_script::<Session, R, W>(alloc, reader, writer))
+}
+
 /// Reads a script, makes this of it, writes it, and tells how it ended. Nothing is flushed.
 pub fn make<R: Read, W: Write>(alloc: Global, form: Form, reader: &mut R, writer: &mut W) -> Ending
     ensures { IfSome (R.remaining reader.old) (λ text. IsMade form text (W.contents writer.old) (W.contents writer.new) result) }
@@ -39,5 +48,6 @@ pub fn make<R: Read, W: Write>(alloc: Global, form: Form, reader: &mut R, writer
     match form {
         Form::Replies => replies(alloc, reader, writer),
         Form::Explained => explained(alloc, reader, writer),
+        Form::Picture => picture(alloc, reader, writer),
     }
 }

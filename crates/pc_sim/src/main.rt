@@ -1,4 +1,4 @@
-//! `pc-sim`: replays scripts of events on the kernel model and its agents, explains them, or runs agents in threads.
+//! `pc-sim`: replays scripts of events on the kernel model and its agents, explains or draws them, or runs agents in threads.
 #![tactic(auto)]
 
 ghost use Rattle.std.specs.Prelude.{◌≡◌, ◌+◌, ◌⊎◌, ◌<◌, ◌≤◌, List, [], ℕ, length, IfOk, IfSome, OnOk, Err};
@@ -28,6 +28,7 @@ use ending::Ending;
 use forms::{Form, make};
 use input::read_settings;
 use pc_script::{Outcome, ScriptFault};
+use report::ReportForm;
 use run_text::run_config;
 use session::Session;
 use std::alloc::Global;
@@ -132,8 +133,9 @@ fn begin(rt: &HostRuntime) -> Rest {
         Err(ending) => Rest::Ended(ending),
         Ok(Command::Replay { file }) => Rest::Ended(make_of_file(rt, Form::Replies, file)),
         Ok(Command::Explain { file }) => Rest::Ended(make_of_file(rt, Form::Explained, file)),
-        Ok(Command::Run { file, per_cpu }) => match settings_of(rt, file) {
-            Ok(text) => Rest::Run { text, per_cpu },
+        Ok(Command::Draw { file }) => Rest::Ended(make_of_file(rt, Form::Picture, file)),
+        Ok(Command::Run { file, form }) => match settings_of(rt, file) {
+            Ok(text) => Rest::Run { text, form },
             Err(ending) => Rest::Ended(ending),
         },
     }
@@ -168,7 +170,7 @@ enum Rest {
     /// Nothing.
     Ended(Ending),
     /// A run of agents by this settings text.
-    Run { text: String, per_cpu: bool },
+    Run { text: String, form: ReportForm },
 }
 
 /// Standard error, where a person reads it at a terminal.
@@ -186,14 +188,14 @@ fn run_flushed<R: Threads + Wait + Sync, S: Write + Copy + Sync, W: Write + Drop
     rt: &R,
     alloc: Global,
     text: &str,
-    per_cpu: bool,
+    form: ReportForm,
     screen: Option<S>,
     writer: &mut BufWriter<W>,
 ) -> Ending
-    ensures told { IsReported (parse_document text.now) per_cpu (writer_contents W.contents writer.old) (writer_contents W.contents writer.new) result }
+    ensures told { IsReported (parse_document text.now) form (writer_contents W.contents writer.old) (writer_contents W.contents writer.new) result }
     ensures flushed { (result ≡ Ending.CannotRead) ⊎ (writer_buffer writer.new ≡ []) }
 {
-    match run_config(rt, alloc, text, per_cpu, screen, writer) {
+    match run_config(rt, alloc, text, form, screen, writer) {
         Ok(_report) => flushed(writer, Ending::Finished),
         Err(fault) => flushed(writer, Ending::from(fault)),
     }
@@ -204,12 +206,12 @@ fn run_settings<R: Threads + Wait + Sync, S: Write + Copy + Sync, W: Write + Dro
     rt: &R,
     alloc: Global,
     text: &str,
-    per_cpu: bool,
+    form: ReportForm,
     screen: Option<S>,
     writer: W,
 ) -> Ending {
     match BufWriter::new(alloc, writer) {
-        Ok(mut writer) => run_flushed(rt, alloc, text, per_cpu, screen, &mut writer),
+        Ok(mut writer) => run_flushed(rt, alloc, text, form, screen, &mut writer),
         Err(_) => Ending::OutOfMemory,
     }
 }
@@ -217,9 +219,9 @@ fn run_settings<R: Threads + Wait + Sync, S: Write + Copy + Sync, W: Write + Dro
 fn main(rt: HostRuntime) -> ExitCode {
     let ending = match begin(&rt) {
         Rest::Ended(ending) => ending,
-        Rest::Run { text, per_cpu } => {
+        Rest::Run { text, form } => {
             let screen = screen_of(&rt);
-            run_settings(&rt, rt.alloc(), text.as_str(), per_cpu, screen, rt.stdout())
+            run_settings(&rt, rt.alloc(), text.as_str(), form, screen, rt.stdout())
         }
     };
     if let Some(message) = ending.message() {

@@ -1,12 +1,23 @@
-//! The text of a run's report.
+//! A run's report, as text or as a picture.
 
 ghost use Rattle.std.specs.Prelude.{Some, OnOk};
-ghost use Rattle.std.specs.Io.KnownBytes.{Appends};
-ghost use Rattle.pc_sim.specs.ReportText.{report_text, row_text, rows_text, totals_text};
+ghost use Rattle.pc_sim.specs.ReportText.{IsReport, row_text, rows_text, totals_text};
 
+use pc_draw::draw_report;
 use pc_threads::{LoadReport, Row};
 use std::fmt;
 use std::io::{self, Write};
+
+/// How a report is told.
+#[derive(Clone, Copy, Debug, PartialEq, Eq)]
+pub enum ReportForm {
+    /// What the whole run came to, in four lines.
+    Totals,
+    /// That, and a line for each CPU.
+    EachCpu,
+    /// A picture of both.
+    Picture,
+}
 
 /// What a whole run came to, a line for each number.
 #[derive(Clone, Copy)]
@@ -66,19 +77,19 @@ impl fmt::Display for CpuRows<'_> {
     }
 }
 
-/// Writes the report: four lines, and where it is asked for a line for each CPU.
+/// Writes the report in its form.
 pub(crate) fn write_report<W: Write>(
     writer: &mut W,
     report: &LoadReport,
-    per_cpu: bool,
+    form: ReportForm,
 ) -> io::Result<()>
-    ensures { OnOk result (Appends (W.contents writer.old) (W.contents writer.new) (report_text report.now per_cpu)) }
+    ensures { OnOk result (IsReport form report.now (W.contents writer.old) (W.contents writer.new)) }
 {
     let totals = Totals(report);
-    if per_cpu {
-        let rows = CpuRows(report.rows.as_slice());
-        write!(writer, "{totals}{rows}")
-    } else {
-        write!(writer, "{totals}")
+    let rows = CpuRows(report.rows.as_slice());
+    match form {
+        ReportForm::Totals => write!(writer, "{totals}"),
+        ReportForm::EachCpu => write!(writer, "{totals}{rows}"),
+        ReportForm::Picture => draw_report(report, writer),
     }
 }

@@ -1,14 +1,13 @@
 //! A run of agents in threads, from a settings text to the text of its report.
 
 ghost use Rattle.std.specs.Prelude.{◌≡◌, ◌≢◌, IfErr, IfOk};
-ghost use Rattle.std.specs.Io.KnownBytes.{Appends};
 ghost use Rattle.toml.specs.Parse.{parse_document};
 ghost use Rattle.pc_threads.specs.Reports.{AddsUp, TellsItsBook};
-ghost use Rattle.pc_sim.specs.ReportText.{report_text};
+ghost use Rattle.pc_sim.specs.ReportText.{IsReport};
 ghost use Rattle.pc_sim.specs.Runs.{DoesWhatIsSpelled, IsTextsFault};
 
 use crate::progress::Progress;
-use crate::report::write_report;
+use crate::report::{ReportForm, write_report};
 use crate::settings::{SettingsFault, read_config};
 use pc_threads::{LoadReport, RunFault, run_agents};
 use std::alloc::Global;
@@ -37,14 +36,14 @@ pub fn run_config<R: Threads + Wait + Sync, S: Write + Copy + Sync, W: Write>(
     rt: &R,
     alloc: Global,
     text: &str,
-    per_cpu: bool,
+    form: ReportForm,
     screen: Option<S>,
     writer: &mut W,
 ) -> Result<LoadReport, RunTextFault>
     ensures tells { IfOk result TellsItsBook }
     ensures adds_up { IfOk result AddsUp }
     ensures all { IfOk result (DoesWhatIsSpelled (parse_document text.now)) }
-    ensures writes { IfOk result (λ report. Appends (W.contents writer.old) (W.contents writer.new) (report_text report per_cpu)) }
+    ensures writes { IfOk result (λ report. IsReport form report (W.contents writer.old) (W.contents writer.new)) }
     ensures settings { IfErr result (IsTextsFault (parse_document text.now)) }
     ensures unwritten { IfErr result (λ fault. fault ≢ RunTextFault.Write → writer.new ≡ writer.old) }
 {
@@ -59,7 +58,7 @@ pub fn run_config<R: Threads + Wait + Sync, S: Write + Copy + Sync, W: Write>(
         Ok(report) => report,
         Err(fault) => return Err(RunTextFault::Run(fault)),
     };
-    match write_report(writer, &report, per_cpu) {
+    match write_report(writer, &report, form) {
         Ok(()) => Ok(report),
         Err(_) => Err(RunTextFault::Write),
     }

@@ -4,8 +4,10 @@ mod settings;
 
 use crate::command_line::{Command, CommandFault, read_command};
 use crate::ending::Ending;
+use crate::forms::{Form, make};
+use crate::report::ReportForm;
 use crate::run_script;
-use pc_script::{Outcome, ScriptFault};
+use pc_script::{Outcome, ScriptFault, lines_of};
 use std::alloc::Global;
 use std::test::Fail;
 
@@ -17,6 +19,40 @@ fn a_fault_ends_a_script_over_memory(rt: HostRuntime) {
     let ended = run_script(alloc, &mut reader, &mut writer);
     assert_eq!(rt; ended, Ok(Outcome::FaultLine(2)));
     assert_eq!(rt; writer.as_slice(), b"ok\nfault line 2\n".as_slice());
+}
+
+/// Whether the text has this line.
+fn has_line(text: &[u8], wanted: &'static [u8]) -> bool {
+    for line in lines_of(Some(text)) {
+        if line == wanted {
+            return true;
+        }
+    }
+    false
+}
+
+#[test]
+fn a_script_is_drawn_over_memory(rt: HostRuntime) {
+    let alloc = rt.alloc();
+    for (script, ending, title) in [
+        (
+            b"enclave 2 8 100 16 1000\ntick 5\ntick 0\n".as_slice(),
+            Ending::Finished,
+            b"<title>commands 3, refused 1</title>".as_slice(),
+        ),
+        (
+            b"wake t0\n\nwalk\n".as_slice(),
+            Ending::DrawnToFault,
+            b"<title>commands 1, refused 1, fault line 3</title>".as_slice(),
+        ),
+    ] {
+        let mut reader = script;
+        let mut writer = Vec::new(alloc);
+        let ended = make(alloc, Form::Picture, &mut reader, &mut writer);
+        assert_eq!(rt; ended, ending);
+        assert!(rt; has_line(writer.as_slice(), title));
+        assert!(rt; has_line(writer.as_slice(), b"</svg>"));
+    }
 }
 
 static REPLAY: [&str; 2] = ["pc-sim", "replay"];
@@ -32,6 +68,14 @@ static RUN_FLAG_FIRST: [&str; 4] = ["pc-sim", "run", "--per-cpu", "s.toml"];
 static EXPLAIN_FILE: [&str; 3] = ["pc-sim", "explain", "a.script"];
 
 static EXPLAIN_DASH: [&str; 3] = ["pc-sim", "explain", "-"];
+
+static DRAW_FILE: [&str; 3] = ["pc-sim", "draw", "a.script"];
+
+static DRAW_DASH: [&str; 3] = ["pc-sim", "draw", "-"];
+
+static RUN_DRAW: [&str; 4] = ["pc-sim", "run", "--draw", "s.toml"];
+
+static RUN_BOTH: [&str; 4] = ["pc-sim", "run", "--per-cpu", "--draw"];
 
 static RUN_DASH: [&str; 3] = ["pc-sim", "run", "-"];
 
@@ -55,14 +99,19 @@ static HELP_OF_RUN: [&str; 3] = ["pc-sim", "run", "--help"];
 
 static HELP_OF_EXPLAIN: [&str; 3] = ["pc-sim", "explain", "--help"];
 
+static HELP_OF_DRAW: [&str; 3] = ["pc-sim", "draw", "--help"];
+
+static DRAW_FLAG: [&str; 3] = ["pc-sim", "draw", "--draw"];
+
 static VERSION: [&str; 2] = ["pc-sim", "--version"];
 
-/// What a command line asks for: which command, of which file, with its flag or without.
+/// What a command line asks for: which command, of which file, and how a report is told.
 #[derive(Clone, Copy, Debug, PartialEq, Eq)]
 enum Asked {
     Replay,
     Explain,
-    Run { per_cpu: bool },
+    Draw,
+    Run(ReportForm),
 }
 
 fn read_off(
@@ -72,7 +121,8 @@ fn read_off(
     match read_command(alloc, words)? {
         Command::Replay { file } => Ok((Asked::Replay, file)),
         Command::Explain { file } => Ok((Asked::Explain, file)),
-        Command::Run { file, per_cpu } => Ok((Asked::Run { per_cpu }, file)),
+        Command::Draw { file } => Ok((Asked::Draw, file)),
+        Command::Run { file, form } => Ok((Asked::Run(form), file)),
     }
 }
 
@@ -92,16 +142,24 @@ fn commands_are_read_off_the_command_line(rt: HostRuntime) -> Result<(), Fail> {
         (REPLAY_FILE.as_slice(), Asked::Replay, Some("a.script")),
         (EXPLAIN_FILE.as_slice(), Asked::Explain, Some("a.script")),
         (EXPLAIN_DASH.as_slice(), Asked::Explain, None),
-        (RUN.as_slice(), Asked::Run { per_cpu: false }, None),
-        (RUN_DASH.as_slice(), Asked::Run { per_cpu: false }, None),
+        (DRAW_FILE.as_slice(), Asked::Draw, Some("a.script")),
+        (DRAW_DASH.as_slice(), Asked::Draw, None),
+        (RUN.as_slice(), Asked::Run(ReportForm::Totals), None),
+        (RUN_DASH.as_slice(), Asked::Run(ReportForm::Totals), None),
+        (RUN_BOTH.as_slice(), Asked::Run(ReportForm::Picture), None),
         (
             RUN_FILE.as_slice(),
-            Asked::Run { per_cpu: true },
+            Asked::Run(ReportForm::EachCpu),
             Some("s.toml"),
         ),
         (
             RUN_FLAG_FIRST.as_slice(),
-            Asked::Run { per_cpu: true },
+            Asked::Run(ReportForm::EachCpu),
+            Some("s.toml"),
+        ),
+        (
+            RUN_DRAW.as_slice(),
+            Asked::Run(ReportForm::Picture),
             Some("s.toml"),
         ),
     ] {
@@ -128,6 +186,7 @@ fn other_words_are_no_command(rt: HostRuntime) {
         ANOTHER_COMMAND.as_slice(),
         TWO_FILES.as_slice(),
         FLAG_OF_ANOTHER.as_slice(),
+        DRAW_FLAG.as_slice(),
         FLAG_WITH_VALUE.as_slice(),
         FLAG_TWICE.as_slice(),
     ] {
@@ -141,6 +200,7 @@ fn help_and_the_version_are_told(rt: HostRuntime) {
         HELP.as_slice(),
         HELP_OF_RUN.as_slice(),
         HELP_OF_EXPLAIN.as_slice(),
+        HELP_OF_DRAW.as_slice(),
         VERSION.as_slice(),
     ] {
         assert_eq!(rt; is_wrong(rt.alloc(), words), Some(false));
@@ -152,6 +212,11 @@ fn endings_have_their_status_and_text(rt: HostRuntime) {
     for (ending, status, message) in [
         (Ending::Finished, 0, None),
         (Ending::from(Ok(Outcome::FaultLine(3))), 1, None),
+        (
+            Ending::of_picture(Ok(Outcome::FaultLine(3))),
+            1,
+            Some("pc-sim: a line of the script is no command, and the picture ends there"),
+        ),
         (
             Ending::from(Err(ScriptFault::TooLong)),
             1,

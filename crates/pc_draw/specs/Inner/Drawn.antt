@@ -1,0 +1,16 @@
+-- What is written of a picture.
+use Rattle.std.specs.Prelude.{ℕ, List, Option}
+use Rattle.std.specs.Io.KnownBytes.{Appends}
+use Rattle.pc_draw.specs.Pictures.{AreMarks, picture_text}
+
+-- marks were written
+abbrev pub Marks : Option (List ℕ) → Option (List ℕ) → Type 0
+Marks before after = (marks : List ℕ) × AreMarks marks × Appends before after marks
+
+-- A whole picture was written, with this title
+pub record Pictures (title : List ℕ) (before after : Option (List ℕ)) : Type 0 where
+  pub width : ℕ
+  pub height : ℕ
+  pub marks : List ℕ
+  pub are_marks : AreMarks marks
+  pub written : Appends before after (picture_text width height title marks)

@@ -1,0 +1,304 @@
+//! The bars of a script's picture: what each row of each lane shows, column by column.
+
+use crate::canvas::Canvas;
+use crate::layout::Layout;
+use crate::rows::{FIFTHS, ROWS, Row, Strip, draw_strip, height_of};
+use crate::scene::{Lane, MOST_LANES, Scene, place_of};
+use crate::step::{Step, Told};
+use pc_calls::{Event, Reply};
+use pc_script::Command;
+
+/// How many rows all lanes have.
+const MOST_STRIPS: usize = 512;
+
+/// What happened at a CPU in one column.
+#[derive(Clone, Copy)]
+struct Tally {
+    /// In how many steps a thread ran.
+    busy: u32,
+    /// The thread of the last step in which one ran.
+    thread: u32,
+    /// Whether another one ran before it.
+    is_mixed: bool,
+    /// The most threads that waited there.
+    waits: u32,
+    /// The most items in the queue.
+    items: u32,
+    /// In how many steps nobody ran there while threads waited.
+    idle: u32,
+    /// The most threads that waited anywhere in such a step.
+    elsewhere: u32,
+    /// Whether the agent slept after some step.
+    is_asleep: bool,
+    posts: u32,
+    deltas: u32,
+    refusals: u32,
+}
+
+/// A column in which nothing happened.
+const NOTHING: Tally = Tally {
+    busy: 0,
+    thread: 0,
+    is_mixed: false,
+    waits: 0,
+    items: 0,
+    idle: 0,
+    elsewhere: 0,
+    is_asleep: false,
+    posts: 0,
+    deltas: 0,
+    refusals: 0,
+};
+
+/// A row that shows nothing yet.
+const BLANK: Strip = Strip {
+    value: 0,
+    since: 0,
+    line: 0,
+    least: 0,
+    most: 0,
+    total: 0,
+};
+
+/// What a row shows in a column: a value, which lasts as long as it is the same, and a count for its title.
+#[derive(Clone, Copy)]
+struct Shown {
+    value: u32,
+    most: u32,
+}
+
+/// The bars so far.
+#[derive(Drop)]
+pub(crate) struct Bars {
+    layout: Layout,
+    strips: [Strip; MOST_STRIPS],
+    tallies: [Tally; MOST_LANES],
+    /// The column that is being counted, its steps so far, and its first and last line.
+    column: u32,
+    steps: u32,
+    first: u32,
+    last: u32,
+}
+
+/// A count as it is shown: itself, or where a column is of several steps the height of its bar.
+fn value_of(count: u32, is_dense: bool) -> u32 {
+    if is_dense { height_of(count) } else { count }
+}
+
+/// Something of which there is a count.
+fn counted(count: u32, is_dense: bool) -> Shown {
+    Shown {
+        value: value_of(count, is_dense),
+        most: count,
+    }
+}
+
+/// Something that is shown only where a column is of several steps.
+fn counted_if(count: u32, is_dense: bool) -> Shown {
+    if is_dense {
+        counted(count, true)
+    } else {
+        Shown { value: 0, most: 0 }
+    }
+}
+
+/// Something that is shown or not.
+fn shown_if(is_shown: bool, most: u32) -> Shown {
+    Shown {
+        value: if is_shown { 1 } else { 0 },
+        most,
+    }
+}
+
+impl Tally {
+    /// Counts what goes on at the CPU after a step.
+    fn count(&mut self, lane: &Lane, elsewhere: u32) {
+        match lane.runs {
+            Some(thread) => {
+                if self.busy > 0 && self.thread != thread {
+                    self.is_mixed = true;
+                }
+                self.thread = thread;
+                self.busy = self.busy.saturating_add(1);
+            }
+            None => {
+                if elsewhere > 0 {
+                    self.idle = self.idle.saturating_add(1);
+                    self.elsewhere = self.elsewhere.max(elsewhere);
+                }
+            }
+        }
+        self.waits = self.waits.max(lane.waits);
+        self.items = self.items.max(lane.items);
+        self.is_asleep |= lane.is_asleep;
+    }
+
+    /// Who ran: a thread that did in every step of the column, or the busy fifths of the column, rounded.
+    fn runs(&self, steps: u32) -> Shown {
+        if self.busy == 0 {
+            return Shown { value: 0, most: 0 };
+        }
+        if self.busy >= steps && !self.is_mixed {
+            let value = self.thread.saturating_add(FIFTHS + 1);
+            return Shown { value, most: 0 };
+        }
+        let doubled = self.busy.saturating_mul(2 * FIFTHS).saturating_add(steps);
+        let fifths = doubled
+            .checked_div(steps.saturating_mul(2))
+            .unwrap_or(FIFTHS);
+        Shown {
+            value: fifths.clamp(1, FIFTHS),
+            most: 0,
+        }
+    }
+
+    /// What a row shows of a column of so many steps.
+    fn shown(&self, row: Row, steps: u32, is_dense: bool) -> Shown {
+        match row {
+            Row::Asleep => shown_if(self.is_asleep, 0),
+            Row::Runs => self.runs(steps),
+            Row::Idle => shown_if(
+                self.idle > 0 && self.idle.saturating_mul(2) >= steps,
+                self.elsewhere,
+            ),
+            Row::Waits => counted(self.waits, is_dense),
+            Row::Queue => counted(self.items, is_dense),
+            Row::Posts => counted_if(self.posts, is_dense),
+            Row::Deltas => counted_if(self.deltas, is_dense),
+            Row::Refusals => counted_if(self.refusals, is_dense),
+        }
+    }
+}
+
+impl Bars {
+    /// Before the first step.
+    pub(crate) fn new(layout: Layout) -> Bars {
+        Bars {
+            layout,
+            strips: [BLANK; MOST_STRIPS],
+            tallies: [NOTHING; MOST_LANES],
+            column: 0,
+            steps: 0,
+            first: 0,
+            last: 0,
+        }
+    }
+
+    /// Takes a step, which is counted from 0, after which this goes on, and draws the bars that end before its column.
+    pub(crate) fn take(&mut self, index: u32, step: &Step<'_>, scene: &Scene, canvas: &mut Canvas) {
+        let column = self.layout.column_of(index);
+        if column != self.column {
+            self.end_column(canvas);
+            self.column = column;
+            self.steps = 0;
+            self.tallies = [NOTHING; MOST_LANES];
+        }
+        if self.steps == 0 {
+            self.first = step.number;
+        }
+        self.last = step.number;
+        self.steps = self.steps.saturating_add(1);
+        self.count(scene);
+        self.count_step(step, scene);
+    }
+
+    /// Draws the bars that last to the end.
+    pub(crate) fn end(&mut self, canvas: &mut Canvas) {
+        if self.steps > 0 {
+            self.end_column(canvas);
+        }
+        self.column = self.layout.columns;
+        self.first = self.last;
+        let mut place = 0usize;
+        for cpu in 0..self.layout.lanes {
+            for row in &ROWS {
+                self.show(place, cpu, *row, Shown { value: 0, most: 0 }, canvas);
+                place = place.saturating_add(1);
+            }
+        }
+    }
+
+    /// Counts what goes on.
+    fn count(&mut self, scene: &Scene) {
+        let waits = scene.waits();
+        let lanes = self.layout.lanes as usize;
+        let mut cpu = 0usize;
+        for tally in self.tallies.iter_mut() {
+            if cpu < lanes {
+                tally.count(&scene.lane(cpu), waits);
+            }
+            cpu = cpu.saturating_add(1);
+        }
+    }
+
+    /// Counts what the step itself did.
+    fn count_step(&mut self, step: &Step<'_>, scene: &Scene) {
+        let Command::Event(event) = step.command else {
+            return;
+        };
+        match step.answer {
+            Told::Event(Reply::Posted(posted)) => {
+                if let Some(tally) = self.tallies.get_mut(posted.queue.index() as usize) {
+                    tally.posts = tally.posts.saturating_add(1);
+                }
+            }
+            Told::Event(Reply::Done) => {
+                if let Event::Deliver { cpu, .. } = event
+                    && let Some(tally) = self.tallies.get_mut(cpu.index() as usize)
+                {
+                    tally.deltas = tally.deltas.saturating_add(1);
+                }
+            }
+            Told::Refused(_) => {
+                let cpu = place_of(&event, scene);
+                if let Some(tally) = self.tallies.get_mut(cpu) {
+                    tally.refusals = tally.refusals.saturating_add(1);
+                }
+            }
+            _ => {}
+        }
+    }
+
+    /// Ends the column: draws each bar that does not go on in it.
+    fn end_column(&mut self, canvas: &mut Canvas) {
+        let steps = self.steps;
+        let is_dense = self.layout.is_dense;
+        let mut place = 0usize;
+        for cpu in 0..self.layout.lanes {
+            let tally = match self.tallies.get(cpu as usize) {
+                Some(tally) => *tally,
+                None => NOTHING,
+            };
+            for row in &ROWS {
+                let shown = tally.shown(*row, steps, is_dense);
+                self.show(place, cpu, *row, shown, canvas);
+                place = place.saturating_add(1);
+            }
+        }
+    }
+
+    /// A row shows this in the column.
+    fn show(&mut self, place: usize, cpu: u32, row: Row, shown: Shown, canvas: &mut Canvas) {
+        let since = self.column;
+        let line = self.first;
+        let Some(strip) = self.strips.get_mut(place) else {
+            return;
+        };
+        if strip.value == shown.value {
+            strip.least = strip.least.min(shown.most);
+            strip.most = strip.most.max(shown.most);
+            strip.total = strip.total.saturating_add(shown.most);
+            return;
+        }
+        let old = *strip;
+        *strip = Strip {
+            value: shown.value,
+            since,
+            line,
+            least: shown.most,
+            most: shown.most,
+            total: shown.most,
+        };
+        draw_strip(canvas, &self.layout, cpu, row, &old, since, line);
+    }
+}

@@ -1,0 +1,286 @@
+//! What a script's picture shows of single steps: posts, deltas, moves of threads, refusals and crashes.
+//!
+//! Where a column is of several steps, only crashes and moves are shown here, and of each no more than [`MOST_MOMENTS`]: words tell how
+//! many there are, and how many refused commands are of no CPU. The others are counted in rows.
+
+use crate::canvas::Canvas;
+use crate::layout::{Layout, TOP};
+use crate::pen::{arrow, bold_cross, hollow_cross, outline, stroke, words};
+use crate::scene::{Scene, place_of};
+use crate::step::{Reason, Step, Told};
+use crate::words::Quoted;
+use pc_calls::{Event, Posted, Refusal, Reply};
+use pc_messages::Cpu;
+use pc_script::Command;
+use std::fmt::Write;
+
+/// The most crashes, and the most moves of threads, that are drawn one by one in a picture of many steps.
+const MOST_MOMENTS: u32 = 500;
+
+/// The style of a delta's line.
+const THIN: &str = "stroke=\"#777\"";
+
+/// The style of a post's tick.
+pub(crate) const POST: &str = "stroke=\"#000\" stroke-width=\"2\"";
+
+/// What was shown so far.
+#[derive(Drop)]
+pub(crate) struct Moments {
+    layout: Layout,
+    crashes: u32,
+    moves: u32,
+    /// How many refused commands were of no lane, where a column is of several steps.
+    unplaced: u32,
+}
+
+/// Says a step's line, and ends the mark.
+fn say_line(canvas: &mut Canvas, step: &Step<'_>) {
+    let number = step.number;
+    let line = Quoted(step.line);
+    let _ = write!(canvas, "line {number}: {line}");
+    canvas.done();
+}
+
+/// Says why a command was refused.
+fn say_reason(canvas: &mut Canvas, reason: Reason) {
+    match reason {
+        Reason::NoEnclave => canvas.add(b" NoEnclave"),
+        Reason::HaveEnclave => canvas.add(b" HaveEnclave"),
+        Reason::BadLimits => canvas.add(b" BadLimits"),
+        Reason::Of(refusal) => say_refusal(canvas, refusal),
+    }
+}
+
+/// Says the name of a refusal, and its argument, as it is replied.
+fn say_refusal(canvas: &mut Canvas, refusal: Refusal) {
+    let _ = match refusal {
+        Refusal::Stale(now) => write!(canvas, " Stale {now}"),
+        Refusal::Running(cpu) => {
+            let cpu = cpu.index();
+            write!(canvas, " Running {cpu}")
+        }
+        Refusal::NotYours(queue) => {
+            let queue = queue.index();
+            write!(canvas, " NotYours {queue}")
+        }
+        _ => write!(canvas, " {refusal:?}"),
+    };
+}
+
+impl Moments {
+    /// Before the first step.
+    pub(crate) fn new(layout: Layout) -> Moments {
+        Moments {
+            layout,
+            crashes: 0,
+            moves: 0,
+            unplaced: 0,
+        }
+    }
+
+    /// Draws a step, which is counted from 0, before which this goes on.
+    pub(crate) fn take(&mut self, index: u32, step: &Step<'_>, scene: &Scene, canvas: &mut Canvas) {
+        match (step.answer, step.command) {
+            (Told::Refused(reason), command) => self.refusal(
+                index, step, reason, &command, scene, canvas,
+            ),
+            (Told::Event(reply), Command::Event(event)) => {
+                self.event(index, step, &event, &reply, scene, canvas);
+            }
+            _ => {}
+        }
+    }
+
+    /// Says what was not drawn.
+    pub(crate) fn end(&self, canvas: &mut Canvas) {
+        if self.unplaced > 0 {
+            let unplaced = self.unplaced;
+            words(canvas, 560, 38, "font-size=\"11\" fill=\"#222\"");
+            let _ = write!(
+                canvas,
+                "refused commands that are of no CPU, and are not drawn: {unplaced}"
+            );
+            canvas.done();
+        }
+        if !self.layout.is_dense || self.crashes.max(self.moves) <= MOST_MOMENTS {
+            return;
+        }
+        let crashes = self.crashes;
+        let moves = self.moves;
+        words(canvas, 440, 20, "font-size=\"11\" fill=\"#222\"");
+        let _ = write!(
+            canvas,
+            "{crashes} crashes and {moves} moves of threads: the first {MOST_MOMENTS} of each are drawn"
+        );
+        canvas.done();
+    }
+
+    /// An event that was accepted.
+    fn event(
+        &mut self,
+        index: u32,
+        step: &Step<'_>,
+        event: &Event,
+        reply: &Reply,
+        scene: &Scene,
+        canvas: &mut Canvas,
+    ) {
+        match (event, reply) {
+            (Event::Crash { cpu }, _) => self.crash(index, step, *cpu, canvas),
+            (_, Reply::Associated { thread, queue }) => {
+                let is_steal = matches!(event, Event::Steal { .. });
+                self.change_home(index, step, thread.index(), *queue, is_steal, scene, canvas);
+            }
+            (_, Reply::Posted(posted)) => self.post(index, step, posted, canvas),
+            (Event::Deliver { cpu, delta }, _) => self.delta(
+                index, step, *cpu, *delta, scene, canvas,
+            ),
+            _ => {}
+        }
+    }
+
+    /// The line of a lane at this height in it.
+    fn height_in(&self, cpu: Cpu, height: u32) -> u32 {
+        self.layout.y(u32::from(cpu.index())).saturating_add(height)
+    }
+
+    /// A command that was refused.
+    fn refusal(
+        &mut self,
+        index: u32,
+        step: &Step<'_>,
+        reason: Reason,
+        command: &Command,
+        scene: &Scene,
+        canvas: &mut Canvas,
+    ) {
+        let place = match command {
+            Command::Event(event) => u32::try_from(place_of(event, scene)).unwrap_or(u32::MAX),
+            _ => u32::MAX,
+        };
+        if self.layout.is_dense {
+            if place >= self.layout.lanes {
+                self.unplaced = self.unplaced.saturating_add(1);
+            }
+            return;
+        }
+        let y = if place < self.layout.lanes {
+            self.layout.y(place).saturating_add(17)
+        } else {
+            TOP.saturating_sub(6)
+        };
+        hollow_cross(canvas, self.layout.middle(index), y);
+        let number = step.number;
+        let line = Quoted(step.line);
+        let _ = write!(canvas, "line {number}: {line}: refused");
+        say_reason(canvas, reason);
+        canvas.done();
+    }
+
+    /// An agent crashed.
+    fn crash(&mut self, index: u32, step: &Step<'_>, cpu: Cpu, canvas: &mut Canvas) {
+        self.crashes = self.crashes.saturating_add(1);
+        if self.layout.is_dense && self.crashes > MOST_MOMENTS {
+            return;
+        }
+        bold_cross(canvas, self.layout.middle(index), self.height_in(cpu, 17));
+        let cpu = cpu.index();
+        let number = step.number;
+        let _ = write!(canvas, "crash {cpu}, line {number}");
+        canvas.done();
+    }
+
+    /// A thread has another home.
+    fn change_home(
+        &mut self,
+        index: u32,
+        step: &Step<'_>,
+        thread: u32,
+        queue: Cpu,
+        is_steal: bool,
+        scene: &Scene,
+        canvas: &mut Canvas,
+    ) {
+        self.moves = self.moves.saturating_add(1);
+        if self.layout.is_dense && self.moves > MOST_MOMENTS {
+            return;
+        }
+        let Some(home) = scene.home(thread) else {
+            return;
+        };
+        let half = if is_steal { 3 } else { 1 };
+        let verb = if is_steal { "stolen" } else { "moved" };
+        // A thread that stays where it is, as one that a new agent takes over from itself, has a short arrow.
+        let is_same = home == queue.index();
+        arrow(
+            canvas,
+            self.layout.middle(index),
+            self.height_in(Cpu(home), if is_same { 18 } else { 34 }),
+            self.height_in(queue, 34),
+            half,
+            thread,
+        );
+        let queue = queue.index();
+        let _ = write!(
+            canvas,
+            "t{thread} {verb} from queue {home} to queue {queue}, "
+        );
+        say_line(canvas, step);
+    }
+
+    /// An item was posted.
+    fn post(&self, index: u32, step: &Step<'_>, posted: &Posted, canvas: &mut Canvas) {
+        if self.layout.is_dense {
+            return;
+        }
+        let x = self.layout.middle(index);
+        stroke(
+            canvas,
+            x,
+            self.height_in(posted.queue, 54),
+            x,
+            self.height_in(posted.queue, 61),
+            POST,
+        );
+        say_line(canvas, step);
+    }
+
+    /// A delta was taken in.
+    fn delta(
+        &self,
+        index: u32,
+        step: &Step<'_>,
+        cpu: Cpu,
+        delta: u64,
+        scene: &Scene,
+        canvas: &mut Canvas,
+    ) {
+        let Some(sent) = scene.sender(delta) else {
+            return;
+        };
+        if self.layout.is_dense {
+            return;
+        }
+        let x = self.layout.middle(index);
+        let y = self.height_in(cpu, 29);
+        let from = sent.cpu;
+        stroke(
+            canvas,
+            self.layout.middle(sent.step),
+            self.height_in(Cpu(from), 29),
+            x,
+            y,
+            THIN,
+        );
+        say_line(canvas, step);
+        let head = if from < cpu.index() {
+            "l-3,-7h6z"
+        } else if from > cpu.index() {
+            "l-3,7h6z"
+        } else {
+            "l-7,-3v6z"
+        };
+        outline(canvas, x, y, head, "fill=\"#777\"");
+        say_line(canvas, step);
+    }
+}

@@ -1,0 +1,284 @@
+//! The rows of a lane: what a strip of one looks like.
+
+use crate::canvas::Canvas;
+use crate::layout::Layout;
+use crate::pen::{bar, stroke, thread_bar, words};
+use crate::words::{Count, Lines};
+use std::fmt::Write;
+
+/// The rows of a lane, from top to bottom but for [`Row::Idle`], which lies where who runs would.
+#[derive(Clone, Copy)]
+pub(crate) enum Row {
+    /// Whether the agent sleeps.
+    Asleep,
+    /// Who runs.
+    Runs,
+    /// Whether nobody runs while threads wait.
+    Idle,
+    /// How many threads wait.
+    Waits,
+    /// How many items the queue holds.
+    Queue,
+    /// How many items were posted, where a column is of several steps.
+    Posts,
+    /// How many deltas were taken in, likewise.
+    Deltas,
+    /// How many commands were refused, likewise.
+    Refusals,
+}
+
+/// All rows.
+pub(crate) const ROWS: [Row; 8] = [
+    Row::Asleep,
+    Row::Runs,
+    Row::Idle,
+    Row::Waits,
+    Row::Queue,
+    Row::Posts,
+    Row::Deltas,
+    Row::Refusals,
+];
+
+/// The values of [`Row::Runs`] up to this one are the busy fifths of columns; those above are threads, from `t0` up.
+pub(crate) const FIFTHS: u32 = 5;
+
+/// The style of [`Row::Idle`].
+pub(crate) const IDLE: &str = "stroke=\"#8B2A1A\" stroke-width=\"3\" stroke-dasharray=\"3 2\"";
+
+/// The style of [`Row::Waits`].
+pub(crate) const WAITS: &str = "fill=\"#fff\" stroke=\"#000\" stroke-dasharray=\"2 1\"";
+
+/// The greatest height of a bar that shows a count.
+const MOST_HEIGHT: u32 = 10;
+
+/// What a row shows over some columns.
+#[derive(Clone, Copy)]
+pub(crate) struct Strip {
+    /// What is shown; 0 where nothing is.
+    pub(crate) value: u32,
+    /// The first column.
+    pub(crate) since: u32,
+    /// The first line.
+    pub(crate) line: u32,
+    /// The least and the greatest count of its columns.
+    pub(crate) least: u32,
+    pub(crate) most: u32,
+    /// The counts of all its columns together.
+    pub(crate) total: u32,
+}
+
+/// What stands before the greatest count of a strip, where it is not that of each column.
+fn up_to(strip: &Strip) -> &'static str {
+    if strip.least < strip.most {
+        "up to "
+    } else {
+        ""
+    }
+}
+
+/// Where a strip lies.
+#[derive(Clone, Copy)]
+struct Span {
+    x: u32,
+    width: u32,
+    /// The top of its lane.
+    y: u32,
+    cpu: u32,
+    lines: Lines,
+}
+
+/// The height of a bar that shows a count: 4 for 1, and more slowly higher than the count.
+pub(crate) fn height_of(count: u32) -> u32 {
+    match count {
+        0 => 0,
+        1 => 4,
+        2 => 6,
+        3..=4 => 7,
+        5..=8 => 8,
+        9..=16 => 9,
+        _ => MOST_HEIGHT,
+    }
+}
+
+/// The opacity of so many fifths.
+fn opacity(fifths: u32) -> &'static str {
+    match fifths {
+        0 | 1 => "fill=\"#444\" fill-opacity=\".2\"",
+        2 => "fill=\"#444\" fill-opacity=\".4\"",
+        3 => "fill=\"#444\" fill-opacity=\".6\"",
+        4 => "fill=\"#444\" fill-opacity=\".8\"",
+        _ => "fill=\"#444\"",
+    }
+}
+
+/// Draws a strip of a CPU's row that ends before a column, at a line.
+pub(crate) fn draw_strip(
+    canvas: &mut Canvas,
+    layout: &Layout,
+    cpu: u32,
+    row: Row,
+    strip: &Strip,
+    end: u32,
+    line: u32,
+) {
+    if strip.value == 0 {
+        return;
+    }
+    let x = layout.x(strip.since);
+    let span = Span {
+        x,
+        width: layout.x(end).saturating_sub(x),
+        y: layout.y(cpu),
+        cpu,
+        lines: Lines(strip.line, line),
+    };
+    match row {
+        Row::Asleep => draw_asleep(canvas, &span),
+        Row::Runs => draw_runs(canvas, &span, strip),
+        Row::Idle => draw_idle(canvas, &span, strip),
+        Row::Waits => draw_waits(canvas, &span, strip),
+        Row::Queue => draw_queue(canvas, &span, strip),
+        Row::Posts => draw_posts(canvas, &span, strip),
+        Row::Deltas => draw_deltas(canvas, &span, strip),
+        Row::Refusals => draw_refusals(canvas, &span, strip),
+    }
+}
+
+/// A bar of a height by a count, which stands on a line of the lane.
+fn count_bar(canvas: &mut Canvas, span: &Span, bottom: u32, count: u32, style: &str) {
+    let height = height_of(count);
+    let y = span.y.saturating_add(bottom).saturating_sub(height);
+    bar(canvas, span.x, y, span.width, height, style);
+}
+
+fn draw_asleep(canvas: &mut Canvas, span: &Span) {
+    let y = span.y.saturating_add(1);
+    bar(canvas, span.x, y, span.width, 3, "fill=\"#222\"");
+    let cpu = span.cpu;
+    let lines = span.lines;
+    let _ = write!(canvas, "agent {cpu} asleep, {lines}");
+    canvas.done();
+}
+
+fn draw_runs(canvas: &mut Canvas, span: &Span, strip: &Strip) {
+    match strip.value.checked_sub(FIFTHS + 1) {
+        Some(thread) => draw_thread(canvas, span, thread),
+        None => draw_share(canvas, span, strip.value),
+    }
+}
+
+/// A thread that runs.
+fn draw_thread(canvas: &mut Canvas, span: &Span, thread: u32) {
+    let x = span.x;
+    let y = span.y.saturating_add(8);
+    let width = span.width;
+    let cpu = span.cpu;
+    let lines = span.lines;
+    thread_bar(canvas, x, y, width, 18, thread);
+    let _ = write!(canvas, "t{thread} on CPU {cpu}, {lines}");
+    canvas.done();
+    if width >= room_of(thread) {
+        words(
+            canvas,
+            x.saturating_add(3),
+            span.y.saturating_add(21),
+            "font-size=\"11\" fill=\"#000\" stroke=\"#fff\" stroke-width=\"3\" paint-order=\"stroke\"",
+        );
+        let _ = write!(canvas, "t{thread}");
+        canvas.done();
+    }
+}
+
+/// The width that a thread's name needs.
+fn room_of(thread: u32) -> u32 {
+    match thread {
+        0..=9 => 19,
+        10..=99 => 26,
+        100..=999 => 33,
+        1_000..=9_999 => 40,
+        _ => 47,
+    }
+}
+
+/// Columns in which several threads ran, or one did for a part.
+fn draw_share(canvas: &mut Canvas, span: &Span, fifths: u32) {
+    let y = span.y.saturating_add(8);
+    bar(canvas, span.x, y, span.width, 18, opacity(fifths));
+    let cpu = span.cpu;
+    let share = fifths.saturating_mul(20);
+    let lines = span.lines;
+    let _ = write!(canvas, "CPU {cpu} busy about {share} %, {lines}");
+    canvas.done();
+}
+
+fn draw_idle(canvas: &mut Canvas, span: &Span, strip: &Strip) {
+    let y = span.y.saturating_add(17);
+    let to = span.x.saturating_add(span.width);
+    stroke(canvas, span.x, y, to, y, IDLE);
+    let waiting = Count(u64::from(strip.most), "ready thread");
+    let verb = if strip.most == 1 { "waits" } else { "wait" };
+    let cpu = span.cpu;
+    let lines = span.lines;
+    let _ = write!(
+        canvas,
+        "CPU {cpu} idle while up to {waiting} {verb}, {lines}"
+    );
+    canvas.done();
+}
+
+fn draw_waits(canvas: &mut Canvas, span: &Span, strip: &Strip) {
+    count_bar(canvas, span, 40, strip.most, WAITS);
+    let waiting = Count(u64::from(strip.most), "ready thread");
+    let verb = if strip.most == 1 { "waits" } else { "wait" };
+    let cpu = span.cpu;
+    let lines = span.lines;
+    let before = up_to(strip);
+    let _ = write!(canvas, "{before}{waiting} {verb} for CPU {cpu}, {lines}");
+    canvas.done();
+}
+
+fn draw_queue(canvas: &mut Canvas, span: &Span, strip: &Strip) {
+    count_bar(canvas, span, 51, strip.most, "fill=\"#999\"");
+    let items = Count(u64::from(strip.most), "item");
+    let before = up_to(strip);
+    let cpu = span.cpu;
+    let lines = span.lines;
+    let _ = write!(canvas, "{before}{items} in queue {cpu}, {lines}");
+    canvas.done();
+}
+
+fn draw_posts(canvas: &mut Canvas, span: &Span, strip: &Strip) {
+    count_bar(canvas, span, 62, strip.most, "fill=\"#000\"");
+    let posts = Count(u64::from(strip.total), "post");
+    let cpu = span.cpu;
+    let lines = span.lines;
+    let _ = write!(canvas, "{posts} to queue {cpu}, {lines}");
+    canvas.done();
+}
+
+fn draw_deltas(canvas: &mut Canvas, span: &Span, strip: &Strip) {
+    let y = span.y.saturating_add(27);
+    bar(canvas, span.x, y, span.width, 2, "fill=\"#777\"");
+    let deltas = Count(u64::from(strip.total), "delta");
+    let cpu = span.cpu;
+    let lines = span.lines;
+    let _ = write!(canvas, "{deltas} taken in by agent {cpu}, {lines}");
+    canvas.done();
+}
+
+fn draw_refusals(canvas: &mut Canvas, span: &Span, strip: &Strip) {
+    let y = span.y.saturating_add(5);
+    bar(
+        canvas,
+        span.x,
+        y,
+        span.width,
+        2,
+        "fill=\"#fff\" stroke=\"#000\" stroke-width=\".5\"",
+    );
+    let refused = Count(u64::from(strip.total), "command");
+    let cpu = span.cpu;
+    let lines = span.lines;
+    let _ = write!(canvas, "{refused} refused at CPU {cpu}, {lines}");
+    canvas.done();
+}

@@ -1,0 +1,284 @@
+#!/usr/bin/env python3
+"""Tests the pictures that the built program draws: of scripts written here, of the examples, and of reports.
+
+    tests/drawing_tests.py [--program PROGRAM]
+
+What a picture has to show is worked out here from the script and from what `replay` answers, by a few lines of Python of their own. Every picture is
+parsed as XML. The last line is 'N passed, M failed'.
+"""
+from __future__ import annotations
+
+import argparse
+import pathlib
+import re
+import subprocess
+import sys
+import tempfile
+import unittest
+import xml.etree.ElementTree as ElementTree
+from collections import Counter
+from dataclasses import dataclass, field
+
+ROOT = pathlib.Path(__file__).resolve().parent.parent
+PROGRAM = ROOT / "crates/pc_sim/out/pc_sim"
+SCRIPTS = [*sorted((ROOT / "examples").glob("*.script")), *sorted((ROOT / "examples/recordings").glob("*.script"))]
+SETTINGS = [*sorted((ROOT / "examples").glob("*.toml")), *sorted((ROOT / "examples/recordings").glob("*.toml"))]
+SVG = "{http://www.w3.org/2000/svg}"
+SHAPES = {SVG + name for name in ("rect", "line", "path", "circle")}
+SECONDS = 120
+ENCLAVE = "enclave 2 8 100 16 1000\n"
+LEAVE = ("block", "yield", "preempt", "die")
+
+
+@dataclass
+class Story:
+    """What happens in a script, from its lines and their answers."""
+
+    commands: int = 0
+    refused: int = 0
+    last: int = 0
+    on: dict[int, tuple[int, int]] = field(default_factory=dict)
+    runs: Counter[str] = field(default_factory=Counter)
+    crashes: int = 0
+    steals: int = 0
+    taken_in: int = 0
+    posted: int = 0
+
+    def take(self, number: int, words: list[str], answer: str) -> None:
+        self.commands += 1
+        self.last = number
+        self.posted += " wake " in answer
+        if answer.startswith("refused"):
+            self.refused += 1
+        elif words[0] in ("commit", "pick"):
+            thread, cpu = re.fullmatch(r"ok t(\d+) c(\d+)", answer).groups()
+            self.on[int(cpu)] = (int(thread), number)
+        elif words[0] in LEAVE:
+            self.leave(int(words[1]), number)
+        elif words[0] == "crash":
+            self.crashes += 1
+        elif words[0] == "steal":
+            self.steals += 1
+        elif words[0] == "deliver":
+            self.taken_in += 1
+
+    def leave(self, cpu: int, number: int) -> None:
+        thread, first = self.on.pop(cpu)
+        self.runs[f"t{thread} on CPU {cpu}, lines {first} to {number}"] += 1
+
+    def end(self) -> Story:
+        for cpu in list(self.on):
+            self.leave(cpu, self.last)
+        return self
+
+
+def story_of(script: str, output: str) -> Story:
+    """The story of a script that replay answered so."""
+    told, answers = Story(), iter(output.splitlines())
+    for number, line in enumerate(script.splitlines(), 1):
+        words = line.split(" ")
+        if line.startswith("#") or not line.strip(" "):
+            continue
+        answer = next(answers, "")
+        if answer.startswith("fault line"):
+            break
+        if words[0] == "version":
+            continue
+        if words[0] == "show":
+            while answer != "end" and not answer.startswith("refused"):
+                answer = next(answers)
+        told.take(number, words, answer)
+    return told.end()
+
+
+class Drawings(unittest.TestCase):
+    program = PROGRAM
+
+    def run_program(self, *words: str, text: str = "") -> subprocess.CompletedProcess[str]:
+        return subprocess.run([str(self.program), *words], input=text, capture_output=True, text=True, timeout=SECONDS)
+
+    def draw(self, script: str, status: int = 0) -> ElementTree.Element:
+        run = self.run_program("draw", text=script)
+        self.assertEqual(run.returncode, status)
+        return self.parsed(run.stdout)
+
+    def parsed(self, picture: str) -> ElementTree.Element:
+        """The picture's root. Whatever is drawn, it is ASCII, has a size, and every shape says what it is."""
+        self.assertTrue(picture.isascii())
+        root = ElementTree.fromstring(picture)
+        self.assertEqual(root.tag, SVG + "svg")
+        width, height = int(root.get("width")), int(root.get("height"))
+        self.assertEqual(root.get("viewBox"), f"0 0 {width} {height}")
+        for element in root[1:]:
+            self.assertIn(element.tag, SHAPES | {SVG + "text"})
+            if element.tag in SHAPES:
+                self.assertEqual([child.tag for child in element], [SVG + "title"])
+            else:
+                self.assertEqual(len(element), 0)
+                self.assertTrue(element.text)
+            self.within(element, width, height)
+        return root
+
+    def within(self, element: ElementTree.Element, width: int, height: int) -> None:
+        """The element begins within the picture."""
+        for name, most in (("x", width), ("x1", width), ("cx", width), ("y", height), ("y1", height), ("cy", height)):
+            if element.get(name) is not None:
+                self.assertTrue(0 <= float(element.get(name)) <= most, ElementTree.tostring(element))
+
+    def titles(self, root: ElementTree.Element) -> list[str]:
+        return [element[0].text or "" for element in root[1:] if element.tag in SHAPES]
+
+    def title(self, root: ElementTree.Element) -> str:
+        self.assertEqual(root[0].tag, SVG + "title")
+        return root[0].text
+
+    def told(self, root: ElementTree.Element, pattern: str) -> Counter[str]:
+        return Counter(title for title in self.titles(root) if re.fullmatch(pattern, title))
+
+    def answers(self, script: str) -> str:
+        return self.run_program("replay", text=script).stdout
+
+    def test_an_empty_script_has_a_picture(self) -> None:
+        self.assertEqual(self.title(self.draw("")), "commands 0, refused 0")
+        self.assertEqual(self.title(self.draw("# nothing\n\n")), "commands 0, refused 0")
+
+    def test_a_refusal_before_the_enclave_is_counted(self) -> None:
+        self.assertEqual(self.title(self.draw("wake t0\nenclave 0 1 1 1 1\n")), "commands 2, refused 2")
+
+    def test_a_fault_ends_the_picture(self) -> None:
+        run = self.run_program("draw", text=ENCLAVE + "tick 0\ntick\ntick 0\n")
+        self.assertEqual((run.returncode, run.stderr), (1, "pc-sim: a line of the script is no command, and the picture ends there\n"))
+        self.assertEqual(self.title(self.parsed(run.stdout)), "commands 2, refused 0, fault line 3")
+
+    def test_a_fault_in_the_first_line_has_a_picture(self) -> None:
+        self.assertEqual(self.title(self.draw("walk\n", 1)), "commands 0, refused 0, fault line 1")
+
+    def test_version_two_is_no_command(self) -> None:
+        self.assertEqual(self.title(self.draw("version 2\nenclave 2 65535 100 16 1000\n")), "commands 1, refused 0")
+
+    def test_a_run_is_a_bar_from_its_commit_to_what_it_left_by(self) -> None:
+        script = ENCLAVE + "create 0 3 ready\npublish 0\nconsume 0\ncommit 0 t0 1\ntick 0\nblock 0 5\n"
+        self.assertEqual(self.told(self.draw(script), r"t\d+ on CPU .*"), Counter(["t0 on CPU 0, lines 5 to 7"]))
+
+    def test_a_thread_that_waits_elsewhere_is_told_where_a_cpu_idles(self) -> None:
+        script = ENCLAVE + "create 0 3 ready\ncreate 0 3 ready\npublish 0\nconsume 0\ncommit 0 t0 2\ntick 0\n"
+        root = self.draw(script)
+        waits = ["1 ready thread waits for CPU 0, lines 2 to 3", "2 ready threads wait for CPU 0, lines 3 to 6",
+                 "1 ready thread waits for CPU 0, lines 6 to 7"]
+        self.assertEqual(self.told(root, r"\d+ ready .*"), Counter(waits))
+        idle = ["CPU 0 idle while up to 2 ready threads wait, lines 2 to 6", "CPU 1 idle while up to 2 ready threads wait, lines 2 to 7"]
+        self.assertEqual(self.told(root, r"CPU \d+ idle .*"), Counter(idle))
+
+    def test_a_busy_cpu_is_not_told_idle(self) -> None:
+        script = "enclave 1 8 100 16 1000\ncreate 0 1 ready\npublish 0\nconsume 0\ncommit 0 t0 1\ncreate 0 1 ready\ntick 0\n"
+        idle = ["CPU 0 idle while up to 1 ready thread waits, lines 2 to 5"]
+        self.assertEqual(self.told(self.draw(script), r"CPU \d+ idle .*"), Counter(idle))
+
+    def test_a_refusal_is_told_where_it_was(self) -> None:
+        script = ENCLAVE + "create 0 3 ready\npublish 0\nconsume 0\ncommit 0 t0 2\nwake t0\n"
+        told = ["line 5: commit 0 t0 2: refused Stale 1", "line 6: wake t0: refused NotBlocked"]
+        self.assertEqual(self.told(self.draw(script), r".*: refused .*"), Counter(told))
+
+    def test_what_agents_send_and_take_over_is_told(self) -> None:
+        script = ENCLAVE + "create 0 3 ready\npublish 0\nconsume 0\ndeliver 1 0\nsteal 1\ncrash 0\nsleep 0 1\n"
+        root = self.draw(script)
+        self.assertEqual(self.told(root, r"t0 stolen .*"), Counter(["t0 stolen from queue 0 to queue 1, line 6: steal 1"]))
+        self.assertEqual(set(self.told(root, r"line 5: .*")), {"line 5: deliver 1 0"})
+        self.assertEqual(self.told(root, r"crash .*"), Counter(["crash 0, line 7"]))
+        self.assertEqual(self.told(root, r"1 item in queue 0, .*"), Counter(["1 item in queue 0, lines 2 to 4"]))
+
+    def test_bytes_of_a_script_cannot_become_markup(self) -> None:
+        for line in ("<svg>", "wake <t0>", "wake t0 &amp;", "wake \"t0'", "wake t0\x1b", "wake t0]]>", "\x7f"):
+            root = self.draw(ENCLAVE + "wake t0\n" + line + "\n", 1)
+            self.assertEqual(self.title(root), "commands 2, refused 1, fault line 3")
+
+    def test_each_example_is_drawn_as_it_is_answered(self) -> None:
+        for file in SCRIPTS:
+            with self.subTest(file=file.name):
+                script = file.read_text()
+                story = story_of(script, self.answers(script))
+                root = self.draw(script)
+                self.assertEqual(self.title(root), f"commands {story.commands}, refused {story.refused}")
+                if story.commands <= 1000:
+                    self.assertEqual(self.told(root, r"t\d+ on CPU \d+, lines \d+ to \d+"), story.runs)
+                    self.assertEqual(len(self.told(root, r"crash\b.*, line \d+.*")), story.crashes)
+
+    def test_many_threads_and_cpus_stay_small(self) -> None:
+        script = self.many(64, 10_000)
+        run = self.run_program("draw", text=script)
+        self.assertEqual(run.returncode, 0)
+        self.assertLess(len(run.stdout), 8_000_000)
+        story = story_of(script, self.answers(script))
+        self.assertEqual(self.title(self.parsed(run.stdout)), f"commands {story.commands}, refused {story.refused}")
+        self.assertGreater(story.commands, 9_999)
+
+    def sum_of(self, root: ElementTree.Element, pattern: str) -> int:
+        """The sum of the numbers that titles begin with."""
+        return sum(int(title.split()[0]) * times for title, times in self.told(root, pattern).items())
+
+    def test_counts_of_many_commands_add_up(self) -> None:
+        refused = "commit 0 t0 0\ncommit 9 t0 0\nstatus t4095\nsame 0 9\n"
+        script = self.many(8, 3_000).replace("deliver 0 ", refused + "deliver 0 ")
+        story = story_of(script, self.answers(script))
+        root = self.draw(script)
+        self.assertEqual(self.sum_of(root, r"\d+ posts? to queue .*"), story.posted)
+        self.assertEqual(self.sum_of(root, r"\d+ deltas? taken in by agent .*"), story.taken_in)
+        words = [element.text for element in root if element.tag == SVG + "text" and element.text.startswith("refused commands that are of no CPU")]
+        self.assertEqual(len(words), 1)
+        of_no_cpu = int(words[0].rsplit(" ", 1)[1])
+        self.assertEqual(of_no_cpu, 3 * script.count("commit 9 t0 0\n"))
+        self.assertEqual(self.sum_of(root, r"\d+ commands? refused at CPU .*") + of_no_cpu, story.refused)
+
+    def many(self, cpus: int, least: int) -> str:
+        """A script in which each CPU in turn creates, commits and blocks threads of its own, and tells the next CPU."""
+        lines, posts, thread, delta = [f"enclave {cpus} 4096 1000 4096 100000"], [0] * cpus, 0, 0
+        while len(lines) < least:
+            cpu = thread % cpus
+            lines += [f"create {cpu} {1 << cpu} ready", f"publish {cpu}", f"consume {cpu}", f"commit {cpu} t{thread} {posts[cpu] + 1}"]
+            lines += [f"deliver {(cpu + 1) % cpus} {delta}", f"block {cpu} 5"]
+            posts[cpu] += 2
+            thread, delta = thread + 1, delta + 1
+        return "\n".join(lines) + "\n"
+
+    def test_a_file_and_a_dash(self) -> None:
+        with tempfile.TemporaryDirectory() as name:
+            file = pathlib.Path(name) / "a.script"
+            file.write_text(ENCLAVE)
+            by_name = self.run_program("draw", str(file)).stdout
+        self.assertEqual(self.run_program("draw", "-", text=ENCLAVE).stdout, by_name)
+        self.assertEqual(self.title(self.parsed(by_name)), "commands 1, refused 0")
+        run = self.run_program("draw", "no-such-file")
+        self.assertEqual((run.returncode, run.stdout, run.stderr), (1, "", "pc-sim: cannot read\n"))
+
+    def test_a_report_is_drawn(self) -> None:
+        for file in SETTINGS:
+            with self.subTest(file=file.name):
+                totals = self.run_program("run", str(file)).stdout.split()
+                for flags in (["--draw"], ["--draw", "--per-cpu"]):
+                    root = self.parsed(self.run_program("run", *flags, str(file)).stdout)
+                    pairs = zip(totals[::2], totals[1::2])
+                    self.assertEqual(self.title(root), ", ".join(f"{name} {number}" for name, number in pairs))
+
+    def test_settings_with_a_fault_are_not_drawn(self) -> None:
+        run = self.run_program("run", "--draw", text="cpus = 0\n")
+        self.assertEqual((run.returncode, run.stdout, run.stderr), (1, "", "pc-sim: settings BadCpus\n"))
+
+
+def main() -> int:
+    parser = argparse.ArgumentParser(description=__doc__, formatter_class=argparse.RawDescriptionHelpFormatter)
+    parser.add_argument("--program", type=pathlib.Path, default=PROGRAM)
+    Drawings.program = parser.parse_args().program.resolve()
+    passed = failed = 0
+    for test in unittest.defaultTestLoader.getTestCaseNames(Drawings):
+        result = unittest.TestResult()
+        Drawings(test).run(result)
+        faults = [text for _, text in [*result.failures, *result.errors]]
+        passed, failed = (passed, failed + 1) if faults else (passed + 1, failed)
+        for fault in faults:
+            print(f"drawing, {test}: {fault}")
+    print(f"{passed} passed, {failed} failed")
+    return 1 if failed else 0
+
+
+if __name__ == "__main__":
+    sys.exit(main())
