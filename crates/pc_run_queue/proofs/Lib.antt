@@ -4,3 +4,4 @@ pub mod Order
 pub mod Ends
 pub mod Sorting
 pub mod Settled
+pub mod Inserting

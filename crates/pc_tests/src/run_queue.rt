@@ -226,6 +226,56 @@ fn the_highest_level_comes_first(rt: HostRuntime) -> Result<(), Fail> {
     Ok(())
 }
 
+/// Twenty threads that are ready on both CPUs, of the levels 0, 1, 2, 0, 1, 2 and so on.
+fn twenty(alloc: Global) -> Result<View, Fail> {
+    let mut view = View::new(alloc);
+    for thread in 0..20u32 {
+        create(&mut view, thread, Mask::new(3, 2)?, true)?;
+        let level = match thread % 3 {
+            0 => 0,
+            1 => 1,
+            _ => 2,
+        };
+        raise(&mut view, thread, Level::new(level)?)?;
+    }
+    Ok(view)
+}
+
+/// The list of the first ten threads, after a refresh of the settled list.
+fn after_ten(alloc: Global, touched: &[Tid]) -> Result<RunQueue, Fail> {
+    let view = twenty(alloc)?;
+    let mut first = Vec::new(alloc);
+    for thread in 0..10u32 {
+        first.push(Tid(thread))?;
+    }
+    refreshed_twice(alloc, &view, first.as_slice(), touched, Cpu(0))
+}
+
+// A few names are put in one by one, of more the list is sorted: the same names in the same order.
+#[test]
+fn touched_names_stand_behind_those_of_their_level(rt: HostRuntime) -> Result<(), Fail> {
+    let few = [Tid(11), Tid(12), Tid(10), Tid(3), Tid(11)];
+    let more = [
+        Tid(19),
+        Tid(18),
+        Tid(17),
+        Tid(16),
+        Tid(15),
+        Tid(14),
+        Tid(13),
+        Tid(12),
+        Tid(11),
+        Tid(10),
+    ];
+    let after_few = [2, 5, 8, 11, 1, 4, 7, 10, 0, 3, 6, 9, 12];
+    let after_more = [
+        2, 5, 8, 17, 14, 11, 1, 4, 7, 19, 16, 13, 10, 0, 3, 6, 9, 18, 15, 12,
+    ];
+    assert!(rt; lists(&after_ten(rt.alloc(), &few)?, &after_few));
+    assert!(rt; lists(&after_ten(rt.alloc(), &more)?, &after_more));
+    Ok(())
+}
+
 /// What is done to a list, or told of it.
 #[derive(Clone, Copy)]
 enum Step<'a> {
