@@ -174,11 +174,24 @@ fn hold<V: Join>(values: &mut BTreeMap<u32, V>, name: u32, value: V) -> Result<(
     Ok(())
 }
 
+/// Whether the name is after all that are held, found without a search: names mostly come in their order.
+fn is_after_all<V: Join>(values: &BTreeMap<u32, V>, name: u32) -> bool
+    ensures { IsTrue result → get nat_cmp values.now name ≡ None }
+{
+    match values.last_key_value() {
+        Some((last, _)) => *last < name,
+        None => true,
+    }
+}
+
 /// Joins a value to what is held under the name.
 fn put_value<V: Join>(values: &mut BTreeMap<u32, V>, name: u32, value: V) -> Result<(), OutOfMemory>
     ensures put { IsPut V.known V.is_of (get nat_cmp values.old) name value (get nat_cmp values.new) }
     ensures whole { OnOk result (IsWholeAt V.known (get nat_cmp values.old name) (Some value) (get nat_cmp values.new name)) }
 {
+    if is_after_all(values, name) {
+        return hold(values, name, value);
+    }
     match values.get_mut(&name) {
         Some(held) => held.join_from(&value),
         None => hold(values, name, value),

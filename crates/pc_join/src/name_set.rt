@@ -104,9 +104,12 @@ impl NameSet {
         ensures ok { OnOk result ((t : ℕ) → is_in self.new t ≡ (if name == t then true else is_in self.old t)) }
         ensures err { OnErr result ((t : ℕ) → is_in self.new t ≡ is_in self.old t) }
     {
-        let block = name.index() / 64;
-        let word = with_bit(word_of(&self.blocks, block), name.index() % 64);
-        self.blocks.insert(block, word)?;
+        let (block, bit) = (name.index() / 64, name.index() % 64);
+        if let Some(word) = self.blocks.get_mut(&block) {
+            *word = with_bit(*word, bit);
+            return Ok(());
+        }
+        self.blocks.insert(block, with_bit(0, bit))?;
         Ok(())
     }
 

@@ -12,13 +12,13 @@ use smallvec::SmallVec;
 use std::alloc::Global;
 use std::marker::Model;
 
-/// How many messages take no memory of their own.
-const INLINE: usize = 4;
+/// How many messages take no memory of their own: most threads have none that is early, and each has this room in each view.
+const INLINE: usize = 1;
 
 /// Messages with their numbers, behind slots that are not in use.
 #[derive(Drop)]
 pub struct Early {
-    slots: SmallVec<(u32, Kind), 4>,
+    slots: SmallVec<(u32, Kind), 1>,
     front: usize,
 }
 
@@ -34,7 +34,7 @@ impl Model for Early {
 }
 
 /// The list behind as many unused slots as it has messages.
-fn spread(alloc: Global, list: &[(u32, Kind)]) -> Result<SmallVec<(u32, Kind), 4>, OutOfMemory>
+fn spread(alloc: Global, list: &[(u32, Kind)]) -> Result<SmallVec<(u32, Kind), 1>, OutOfMemory>
     ensures { IfOk result (λ slots. slots.items ≡ list.now ++ list.now) }
 {
     let mut slots = SmallVec::with_capacity(alloc, list.len().saturating_add(list.len()))?;
@@ -45,7 +45,7 @@ fn spread(alloc: Global, list: &[(u32, Kind)]) -> Result<SmallVec<(u32, Kind), 4
 
 /// Puts a message after so many unused slots and so many messages, and moves the later ones up.
 fn insert_behind(
-    slots: &mut SmallVec<(u32, Kind), 4>,
+    slots: &mut SmallVec<(u32, Kind), 1>,
     front: usize,
     place: usize,
     entry: (u32, Kind),
@@ -71,10 +71,10 @@ fn lower(slots: &mut [(u32, Kind)], front: usize, place: usize, entry: (u32, Kin
 }
 
 impl Early {
-    /// No messages. The first four take no memory of their own.
+    /// No messages. The first takes no memory of its own.
     pub fn new(alloc: Global) -> Self
         ensures items { result.items ≡ [] }
-        ensures room { result.room ≡ 4 }
+        ensures room { result.room ≡ 1 }
     {
         Early {
             slots: SmallVec::new(alloc),
