@@ -6,7 +6,7 @@ use pc_messages::{Cpu, Tid};
 #[derive(Clone, Copy, Debug, PartialEq, Eq)]
 pub enum EnvCall {
     /// A new thread, whose home is the queue; it is ready or blocked.
-    Create { queue: Cpu, mask: u64, ready: bool },
+    Create { queue: Cpu, ready: bool, mask: u64 },
     /// The blocked thread is ready.
     Wake { thread: Tid },
     /// The thread on the CPU leaves it and is blocked.

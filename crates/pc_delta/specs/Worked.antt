@@ -29,9 +29,9 @@ Numbers = (first_fault (folded 0 0 ∷ []) ≡ Some ZeroNumber)
     × (first_fault (one 16000001 Wakeup ∷ []) ≡ Some NumberTooLarge)
 
 abbrev pub Misplaced : Type 0
-Misplaced = (first_fault (one 2 (Created 3 true) ∷ []) ≡ Some CreatedMisplaced)
+Misplaced = (first_fault (one 2 (Created true 3) ∷ []) ≡ Some CreatedMisplaced)
     × (first_fault (one 1 Wakeup ∷ []) ≡ Some CreatedMisplaced)
-    × (first_fault (one 1 (Created 3 false) ∷ []) ≡ None)
+    × (first_fault (one 1 (Created false 3) ∷ []) ≡ None)
 
 abbrev pub Ran : Type 0
 Ran = (first_fault (folded 1 4294967296 ∷ []) ≡ Some RanTooLarge) × (first_fault (folded 1 4294967295 ∷ []) ≡ None)

@@ -67,7 +67,7 @@ place_pushed threads row s c is =
     go (Some r) p h e = ap (option_and_then (λ (row : ThreadRow). row.on)) (h r refl) ∙ e
 
 created_ran : (kind : Kind) → is_created kind ≡ true → ran_given kind ≡ 0
-created_ran (Created mask ready) e = refl
+created_ran (Created ready mask) e = refl
 created_ran (Blocked ran) e = cc
 created_ran (Preempted ran) e = cc
 created_ran (Yield ran) e = cc

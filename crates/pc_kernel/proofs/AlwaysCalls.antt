@@ -200,7 +200,7 @@ at_other : (f : ℕ → ℕ) (place n x : ℕ) → (n ≡ place → ⊥) → at 
 at_other f place n x o = elim (eqb_tells n place) [ inl e ↦ absurd (o e.1) | inr e ↦ rw e.0 refl ]
 
 -- a new thread has no message yet, so any queue may be its home
-pub created_kept : (P : PlainKernel) (queue mask : ℕ) (ready : Bool) → IsKept P → queue < P.limits.cpus → IsKept (told (record P { home = at P.home (threads P) queue }) (threads P) (kind.Created mask ready))
+pub created_kept : (P : PlainKernel) (queue mask : ℕ) (ready : Bool) → IsKept P → queue < P.limits.cpus → IsKept (told (record P { home = at P.home (threads P) queue }) (threads P) (kind.Created ready mask))
 created_kept P queue mask ready h there =
     let t : ℕ = threads P in
     let none : kinds P t ≡ [] = h.fresh t (omega arith) in
@@ -245,9 +245,9 @@ created_kept P queue mask ready h there =
         | inr o ↦ subst (λ q. q < P.limits.cpus) (sym (other_home n o)) (h.homes n e)
       ];
     } in
-    told_kept B t (kind.Created mask ready) kept record {
+    told_kept B t (kind.Created ready mask) kept record {
       named = omega arith;
       housed = subst (λ q. q < P.limits.cpus) (sym (at_same P.home t queue)) there;
-      begun = subst (λ ks. IsBegun (ks ++ kind.Created mask ready ∷ [])) (sym none) (refl, All-nil (λ x. IsFalse (is_created x)));
+      begun = subst (λ ks. IsBegun (ks ++ kind.Created ready mask ∷ [])) (sym none) (refl, All-nil (λ x. IsFalse (is_created x)));
       stays = λ c e. absurd (nowhere c e);
     }

@@ -25,7 +25,7 @@ low_of : (P : PlainKernel) (c : ℕ) → not (reads.is_cpu (shown P) c) ≡ fals
 low_of P c e = ltb-true c P.limits.cpus (not_false (reads.is_cpu (shown P) c) e)
 
 env_kept : (P : PlainKernel) (call : EnvCall) → IsKept P → NoneHold (refusals (shown P) (Env call)) → IsKept (changed P (Env call))
-env_kept P (Create queue mask ready) h n = created_kept P queue mask ready h (low_of P queue n.0)
+env_kept P (Create queue ready mask) h n = created_kept P queue mask ready h (low_of P queue n.0)
 env_kept P (Wake t) h n = wake_kept P t h n.0 n.1.1.0
 env_kept P (Block cpu ran) h n = left_kept P cpu (kind.Blocked ran) h n.0 n.1.0 refl
 env_kept P (YieldNow cpu ran) h n = left_kept P cpu (kind.Yield ran) h n.0 n.1.0 refl

@@ -115,7 +115,7 @@ told_same P Q e h =
     }
 
 posting_posts : (P : PlainKernel) (call : EnvCall) → (posting P call).before.posts ≡ P.posts
-posting_posts P (env.Create queue mask ready) = refl
+posting_posts P (env.Create queue ready mask) = refl
 posting_posts P (env.Wake t) = refl
 posting_posts P (env.Block cpu ran) = refl
 posting_posts P (env.YieldNow cpu ran) = refl
@@ -126,8 +126,8 @@ posting_posts P (env.SetPriority t level) = refl
 posting_posts P (env.Tick cpu) = refl
 
 env_told : (P : PlainKernel) (call : EnvCall) → IsToldOf P → IsToldOf (changed P (Env call))
-env_told P (env.Create queue mask ready) h =
-    let B = (posting P (env.Create queue mask ready)).before in told_more B (threads P) (kind.Created mask ready) (told_same P B refl h)
+env_told P (env.Create queue ready mask) h =
+    let B = (posting P (env.Create queue ready mask)).before in told_more B (threads P) (kind.Created ready mask) (told_same P B refl h)
 env_told P (env.Wake t) h = told_more P t kind.Wakeup h
 env_told P (env.Block cpu ran) h = let B = (posting P (env.Block cpu ran)).before in told_more B (unwrap_or (P.on cpu) 0) (kind.Blocked ran) (told_same P B refl h)
 env_told P (env.YieldNow cpu ran) h = let B = (posting P (env.YieldNow cpu ran)).before in told_more B (unwrap_or (P.on cpu) 0) (kind.Yield ran) (told_same P B refl h)
@@ -188,7 +188,7 @@ no_more : (n : ℕ) → n ≡ n + 0
 no_more n = omega arith
 
 env_eats : (P : PlainKernel) (call : EnvCall) (q : ℕ) → (changed P (Env call)).eaten q ≡ P.eaten q + 0
-env_eats P (env.Create queue mask ready) q = no_more (P.eaten q)
+env_eats P (env.Create queue ready mask) q = no_more (P.eaten q)
 env_eats P (env.Wake t) q = no_more (P.eaten q)
 env_eats P (env.Block cpu ran) q = no_more (P.eaten q)
 env_eats P (env.YieldNow cpu ran) q = no_more (P.eaten q)

@@ -77,7 +77,7 @@ is_barred r t mask = option_map_or (λ c. not (allows mask c)) (place r t) false
 
 -- of each call of the environment, in order
 abbrev pub env_refusals : Reads → EnvCall → List Condition
-env_refusals r (Create queue mask ready) =
+env_refusals r (Create queue ready mask) =
     (not (is_cpu r queue), refusal.BadCpu)
     ∷ mask_refusals r mask
     ++ (nat_le r.limits.threads r.threads, refusal.NamesSpent)
@@ -167,9 +167,9 @@ abbrev pub leaving : PlainKernel → ℕ → Kind → Posting
 leaving P cpu kind = telling (record P { on = at P.on cpu None }) (unwrap_or (P.on cpu) 0) kind
 
 abbrev pub posting : PlainKernel → EnvCall → Posting
-posting P (Create queue mask ready) =
+posting P (Create queue ready mask) =
     let t = plain.threads P in
-    telling (record P { home = at P.home t queue }) t (kind.Created mask ready)
+    telling (record P { home = at P.home t queue }) t (kind.Created ready mask)
 posting P (Wake t) = telling P t kind.Wakeup
 posting P (Block cpu ran) = leaving P cpu (kind.Blocked ran)
 posting P (YieldNow cpu ran) = leaving P cpu (kind.Yield ran)

@@ -6,7 +6,7 @@ use Rattle.pc_messages.specs.declared.kind.Kind.TheVariants.{Created, Blocked, P
 
 -- the kind is that of a first message
 abbrev pub is_created : Kind → Bool
-is_created (Created mask ready) = true
+is_created (Created ready mask) = true
 is_created (Blocked ran) = false
 is_created (Preempted ran) = false
 is_created (Yield ran) = false

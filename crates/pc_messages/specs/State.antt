@@ -9,8 +9,8 @@ use Rattle.pc_messages.specs.declared.reported.Reported.{Reported}
 
 -- the phase that a kind gives
 abbrev pub phase_given : Kind → Option Phase
-phase_given (Created mask true) = Some phase.Ready
-phase_given (Created mask false) = Some phase.Blocked
+phase_given (Created true mask) = Some phase.Ready
+phase_given (Created false mask) = Some phase.Blocked
 phase_given (Blocked ran) = Some phase.Blocked
 phase_given (Preempted ran) = Some phase.Ready
 phase_given (Yield ran) = Some phase.Ready
@@ -21,7 +21,7 @@ phase_given (Priority level) = None
 
 -- the mask that a kind gives
 abbrev pub mask_given : Kind → Option ℕ
-mask_given (Created mask ready) = Some mask
+mask_given (Created ready mask) = Some mask
 mask_given (Blocked ran) = None
 mask_given (Preempted ran) = None
 mask_given (Yield ran) = None
@@ -32,7 +32,7 @@ mask_given (Priority level) = None
 
 -- the level that a kind gives
 abbrev pub level_given : Kind → Option ℕ
-level_given (Created mask ready) = None
+level_given (Created ready mask) = None
 level_given (Blocked ran) = None
 level_given (Preempted ran) = None
 level_given (Yield ran) = None
@@ -43,7 +43,7 @@ level_given (Priority level) = Some level
 
 -- the ticks that a kind tells of
 abbrev pub ran_given : Kind → ℕ
-ran_given (Created mask ready) = 0
+ran_given (Created ready mask) = 0
 ran_given (Blocked ran) = ran
 ran_given (Preempted ran) = ran
 ran_given (Yield ran) = ran

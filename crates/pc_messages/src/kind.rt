@@ -18,7 +18,7 @@ pub const MOST_TICKS: u32 = u32::MAX;
 #[derive(Clone, Copy, Debug, Default, PartialEq, Eq)]
 pub enum Kind {
     /// THREAD_CREATED: the thread is there, ready to run or blocked.
-    Created { mask: Mask, ready: bool },
+    Created { ready: bool, mask: Mask },
     /// THREAD_BLOCKED: the thread left its CPU and waits.
     Blocked { ran: u32 },
     /// THREAD_PREEMPTED: the thread lost its CPU and is ready to run.

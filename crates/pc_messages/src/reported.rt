@@ -20,9 +20,9 @@ pub enum Phase {
 /// What the messages of a thread, in order, report of it. `ran` is in ticks.
 #[derive(Clone, Copy, Debug, PartialEq, Eq)]
 pub struct Reported {
-    pub phase: Phase,
     pub mask: Mask,
     pub ran: u64,
+    pub phase: Phase,
     pub level: Level,
 }
 

@@ -99,7 +99,7 @@ row name fields = record { name = name; fields = fields }
 
 -- calls of the environment
 abbrev pub call_row : EnvCall → Row
-call_row (env.Create queue mask ready) = row (codes "create") (Queue queue ∷ Mask mask ∷ State ready ∷ [])
+call_row (env.Create queue ready mask) = row (codes "create") (Queue queue ∷ Mask mask ∷ State ready ∷ [])
 call_row (env.Wake thread) = row (codes "wake") (Thread thread ∷ [])
 call_row (env.Block cpu ran) = row (codes "block") (Processor cpu ∷ Count ran ∷ [])
 call_row (env.YieldNow cpu ran) = row (codes "yield") (Processor cpu ∷ Count ran ∷ [])

@@ -27,8 +27,8 @@ some_report (Some p) (Some m) ran level e f = refl
 
 pub phase_some : (ks : List Kind) → IsBegun ks → 1 ≤ length ks → is_some (phase_of ks) ≡ true
 phase_some [] h low = absurd (omega arith)
-phase_some (Created mask true ∷ ks) h low = last_some _ (filter_map phase_given ks)
-phase_some (Created mask false ∷ ks) h low = last_some _ (filter_map phase_given ks)
+phase_some (Created true mask ∷ ks) h low = last_some _ (filter_map phase_given ks)
+phase_some (Created false mask ∷ ks) h low = last_some _ (filter_map phase_given ks)
 phase_some (Blocked ran ∷ ks) h low = let bad : false ≡ true = h.0 in cc
 phase_some (Preempted ran ∷ ks) h low = let bad : false ≡ true = h.0 in cc
 phase_some (Yield ran ∷ ks) h low = let bad : false ≡ true = h.0 in cc
@@ -39,10 +39,10 @@ phase_some (Priority level ∷ ks) h low = let bad : false ≡ true = h.0 in cc
 
 state_some : (ks : List Kind) → IsBegun ks → 1 ≤ length ks → is_some (state_of ks) ≡ true
 state_some [] h low = absurd (omega arith)
-state_some (Created mask true ∷ ks) h low =
-    some_report (phase_of (Created mask true ∷ ks)) (mask_of (Created mask true ∷ ks)) _ _ (last_some _ (filter_map phase_given ks)) (last_some mask (filter_map mask_given ks))
-state_some (Created mask false ∷ ks) h low =
-    some_report (phase_of (Created mask false ∷ ks)) (mask_of (Created mask false ∷ ks)) _ _ (last_some _ (filter_map phase_given ks)) (last_some mask (filter_map mask_given ks))
+state_some (Created true mask ∷ ks) h low =
+    some_report (phase_of (Created true mask ∷ ks)) (mask_of (Created true mask ∷ ks)) _ _ (last_some _ (filter_map phase_given ks)) (last_some mask (filter_map mask_given ks))
+state_some (Created false mask ∷ ks) h low =
+    some_report (phase_of (Created false mask ∷ ks)) (mask_of (Created false mask ∷ ks)) _ _ (last_some _ (filter_map phase_given ks)) (last_some mask (filter_map mask_given ks))
 state_some (Blocked ran ∷ ks) h low = let bad : false ≡ true = h.0 in cc
 state_some (Preempted ran ∷ ks) h low = let bad : false ≡ true = h.0 in cc
 state_some (Yield ran ∷ ks) h low = let bad : false ≡ true = h.0 in cc

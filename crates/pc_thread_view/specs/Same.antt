@@ -14,7 +14,7 @@ same_numbers xs ys = pointwise (λ x y. x == y) xs ys
 
 -- a kind, written as numbers
 abbrev pub written : Kind → List ℕ
-written (Created mask ready) = 0 ∷ mask ∷ cond ready 1 0 ∷ []
+written (Created ready mask) = 0 ∷ mask ∷ cond ready 1 0 ∷ []
 written (Blocked ran) = 1 ∷ ran ∷ []
 written (Preempted ran) = 2 ∷ ran ∷ []
 written (Yield ran) = 3 ∷ ran ∷ []

@@ -76,7 +76,7 @@ below_most f most (suc n) is =
 
 -- limits stay
 limits_changed : (P : PlainKernel) (call : Call) → (changed P call).limits ≡ P.limits
-limits_changed P (Env (Create queue mask ready)) = refl
+limits_changed P (Env (Create queue ready mask)) = refl
 limits_changed P (Env (Wake t)) = refl
 limits_changed P (Env (Block cpu ran)) = refl
 limits_changed P (Env (YieldNow cpu ran)) = refl
@@ -94,7 +94,7 @@ limits_changed P (Config queue None) = refl
 limits_changed P (Config queue (Some cpu)) = refl
 
 eaten_env : (P : PlainKernel) (call : EnvCall) → (changed P (Env call)).eaten ≡ P.eaten
-eaten_env P (Create queue mask ready) = refl
+eaten_env P (Create queue ready mask) = refl
 eaten_env P (Wake t) = refl
 eaten_env P (Block cpu ran) = refl
 eaten_env P (YieldNow cpu ran) = refl

@@ -69,10 +69,10 @@ same_count : (a b : ℕ) → a ≡ b → a ≡ b + 0
 same_count a b e = omega (arith, e)
 
 env_counted : (P : PlainKernel) (call : EnvCall) → IsKept P → NoneHold (refusals (shown P) (Env call)) → threads (changed P (Env call)) ≡ threads P + created_by (Env call)
-env_counted P (Create queue mask ready) h n =
+env_counted P (Create queue ready mask) h n =
     let Q : PlainKernel = record P { home = at P.home (threads P) queue } in
-    let p = posting P (Create queue mask ready) in
-    threads-posted_new Q p.queue record { thread = threads P; number = length (kinds P (threads P)) + 1; kind = kind.Created mask ready } (next_unknown P h)
+    let p = posting P (Create queue ready mask) in
+    threads-posted_new Q p.queue record { thread = threads P; number = length (kinds P (threads P)) + 1; kind = kind.Created ready mask } (next_unknown P h)
 env_counted P (Wake t) h n =
     same_count (threads (changed P (Env (Wake t)))) (threads P)
     (threads-posted_known P (P.home t) record { thread = t; number = length (kinds P t) + 1; kind = kind.Wakeup } (known_of P t n.0))

@@ -9,7 +9,7 @@ use Rattle.pc_calls.specs.declared.limits.TheConstants.{MOST_THREADS, MOST_NUMBE
 
 -- how many threads a call creates
 abbrev pub created_by : Call → ℕ
-created_by (Env (Create queue mask ready)) = 1
+created_by (Env (Create queue ready mask)) = 1
 created_by call = 0
 
 -- how many messages of threads it posts

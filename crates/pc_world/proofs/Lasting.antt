@@ -23,7 +23,7 @@ use Rattle.pc_world.proofs.Reaching.{reached_good}
 
 -- no call changes the limits
 env_limits : (P : PlainKernel) (made : EnvCall) → (posting P made).before.limits ≡ P.limits
-env_limits P (env.Create queue mask ready) = refl
+env_limits P (env.Create queue ready mask) = refl
 env_limits P (env.Wake t) = refl
 env_limits P (env.Block cpu ran) = refl
 env_limits P (env.YieldNow cpu ran) = refl

@@ -16,9 +16,9 @@ impl Kernel {
 
     /// Creates a thread, whose name is the next one and whose home is the queue.
     pub fn create(&mut self, queue: Cpu, mask: u64, ready: bool) -> Result<Posted, CallFault>
-        ensures step { StepsInMemory Answer.Posted (Call.Env (EnvCall.Create queue mask ready)) result self.old self.new }
+        ensures step { StepsInMemory Answer.Posted (Call.Env (EnvCall.Create queue ready mask)) result self.old self.new }
         ensures fault { (refusal : Refusal) → (result ≡ Err (CallFault.Refused refusal))
-            ↔ (refused (seen self.old) (Call.Env (EnvCall.Create queue mask ready)) ≡ Some refusal) }
+            ↔ (refused (seen self.old) (Call.Env (EnvCall.Create queue ready mask)) ≡ Some refusal) }
         ensures limits { self.new.limits ≡ self.old.limits }
         ensures extends { Extends (kinds_read (seen self.new)) (kinds_read (seen self.old)) }
         ensures err { OnErr result (self.new ≡ self.old) }

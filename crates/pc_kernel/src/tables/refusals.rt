@@ -135,8 +135,8 @@ impl Tables {
 
     /// The first message of a new thread, or why there is none.
     pub(crate) fn first_kind(&self, queue: Cpu, mask: u64, ready: bool) -> Result<Kind, Refusal>
-        ensures kind { IfOk result (λ kind. kind ≡ Kind.Created mask ready) }
-        ensures refused { result_err result ≡ refused (seen self.now) (Call.Env (EnvCall.Create queue mask ready)) }
+        ensures kind { IfOk result (λ kind. kind ≡ Kind.Created ready mask) }
+        ensures refused { result_err result ≡ refused (seen self.now) (Call.Env (EnvCall.Create queue ready mask)) }
     {
         if queue.index() >= self.cpus() {
             return Err(Refusal::BadCpu);

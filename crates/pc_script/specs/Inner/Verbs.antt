@@ -54,7 +54,7 @@ back verb.Enclave f = command.Enclave (record {
   room = number_at 3 f;
   posts = number_at 4 f;
 })
-back verb.Create f = command.Event (event.Env (env.Create (number_at 0 f) (number_at 1 f) (state_in (field_at 2 f))))
+back verb.Create f = command.Event (event.Env (env.Create (number_at 0 f) (state_in (field_at 2 f)) (number_at 1 f)))
 back verb.Wake f = command.Event (event.Env (env.Wake (number_at 0 f)))
 back verb.Block f = command.Event (event.Env (env.Block (number_at 0 f) (number_at 1 f)))
 back verb.Yield f = command.Event (event.Env (env.YieldNow (number_at 0 f) (number_at 1 f)))

@@ -23,12 +23,12 @@ read (tag ∷ n ∷ []) = by_tag tag n
     by_tag tag n =
         cond (tag == 1) (Blocked n) (cond (tag == 2) (Preempted n) (cond (tag == 3) (Yield n)
         (cond (tag == 4) (Dead n) (cond (tag == 6) (Affinity n) (Priority n)))))
-read (tag ∷ mask ∷ ready ∷ rest) = Created mask (ready == 1)
+read (tag ∷ mask ∷ ready ∷ rest) = Created (ready == 1) mask
 
 read_written : (kind : Kind) → read (written kind) ≡ kind
 unfolding read
-read_written (Created mask true) = refl
-read_written (Created mask false) = refl
+read_written (Created true mask) = refl
+read_written (Created false mask) = refl
 read_written (Blocked ran) = refl
 read_written (Preempted ran) = refl
 read_written (Yield ran) = refl

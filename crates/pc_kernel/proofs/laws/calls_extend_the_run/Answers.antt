@@ -16,7 +16,7 @@ extends_itself : (P : PlainKernel) → Extends (kinds P) (kinds P)
 extends_itself P t = ([], sym (append-nil (kinds P t)))
 
 posting_posts : (P : PlainKernel) (call : EnvCall) → (posting P call).before.posts ≡ P.posts
-posting_posts P (Create queue mask ready) = refl
+posting_posts P (Create queue ready mask) = refl
 posting_posts P (Wake t) = refl
 posting_posts P (Block cpu ran) = refl
 posting_posts P (YieldNow cpu ran) = refl

@@ -12,8 +12,8 @@ use Rattle.pc_messages.proofs.laws.states_are_built_message_by_message.Goals as 
 
 -- a Created has a state
 first_state : (kind : Kind) → is_created kind ≡ true → (first : Reported) × (state_of (kind ∷ []) ≡ Some first)
-first_state (Created mask true) e = (_, refl)
-first_state (Created mask false) e = (_, refl)
+first_state (Created true mask) e = (_, refl)
+first_state (Created false mask) e = (_, refl)
 first_state (Blocked ran) e = cc
 first_state (Preempted ran) e = cc
 first_state (Yield ran) e = cc

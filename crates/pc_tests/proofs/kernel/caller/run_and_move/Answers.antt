@@ -18,7 +18,7 @@ both first second posted old middle new h g =
 
 pub returns-in-Ok-associate : goal.returns-in-Ok-associate
 returns-in-Ok-associate c =
-    let create = Env (Create c.args.queue 3 true) in
+    let create = Env (Create c.args.queue true 3) in
     let commit = Commit c.args.queue c.args.runs c.args.aseq in
     let associate = Associate c.args.moves c.args.home c.args.number in
     let k = c.args.kernel.now in
@@ -31,7 +31,7 @@ returns-in-Ok-associate c =
 
 pub returns-in-Err-associate : goal.returns-in-Err-associate
 returns-in-Err-associate c =
-    let create = Env (Create c.args.queue 3 true) in
+    let create = Env (Create c.args.queue true 3) in
     let commit = Commit c.args.queue c.args.runs c.args.aseq in
     let associate = Associate c.args.moves c.args.home c.args.number in
     let refusal = c.in-Err-associate.field-0 in
