@@ -3,61 +3,56 @@
 //! Messages may arrive in ascending or in descending order, and the first ones leave the list when the prefix
 //! reaches them. None of that moves the others: unused slots stand in front of the list.
 
-ghost use Rattle.std.specs.Prelude.{ℕ, ◌+◌, ◌≡◌, ◌≤◌, ◌<◌, List, [], ◌∷◌, ◌++◌, length, drop, insert, slice_set, IsTrue, IsOk, IfOk, OnOk, OnErr};
-ghost use Rattle.pc_messages.specs.declared.kind.Kind.{Kind};
+ghost use Rattle.std.specs.Prelude.{◌+◌, ◌≡◌, ◌≤◌, ◌<◌, [], ◌∷◌, ◌++◌, length, drop, insert, IsOk, IfOk, OnOk, OnErr};
+ghost use Rattle.pc_thread_view.specs.Inner.Early.{early_of, IsFront, HasFront};
 
 use pc_join::OutOfMemory;
 use pc_messages::Kind;
-use smallvec::SmallVec;
 use std::alloc::Global;
 use std::marker::Model;
+use std::slice::from_ref;
 
-/// How many messages take no memory of their own: most threads have none that is early, and each has this room in each view.
-const INLINE: usize = 1;
+/// So many slots can be counted in 32 bits; a list that needs more answers that memory is wanted. None comes near
+/// that: the numbers of messages are at most 16,000,000.
+const MOST_SLOTS: usize = u32::MAX as usize;
 
-/// Messages with their numbers, behind slots that are not in use.
+/// Messages with their numbers: none or one of them in place, more of them behind slots that are not in use. Most
+/// threads have none that is early, and those that have one need no memory for it in any view.
 #[derive(Drop)]
 pub struct Early {
-    slots: SmallVec<(u32, Kind), 1>,
-    front: usize,
+    form: Form,
+    alloc: Global,
+}
+
+/// Where the messages are. The front is narrow and stands before the slots, so that it lies beside the mark of the
+/// variant and makes the list no larger.
+#[derive(Drop)]
+enum Form {
+    Empty,
+    One((u32, Kind)),
+    Many { front: u32, slots: Vec<(u32, Kind)> },
 }
 
 impl Model for Early {
-    ghost use Rattle.std.specs.Prelude.{◌≤◌, length};
-    ghost use Rattle.pc_thread_view.specs.Inner.Early.{Early as Listed, early_of};
+    ghost use Rattle.pc_thread_view.specs.Inner.Early.{Early as Listed, early_of, HasFront};
 
     ghost Value = { Listed };
 
-    ghost view = { λ early. early_of early.slots early.front };
+    ghost view = { λ early. early_of early.form };
 
-    ghost invariant = { λ early. early.front ≤ length early.slots.items };
+    ghost invariant = { λ early. HasFront early.form };
 }
 
-/// The list behind as many unused slots as it has messages.
-fn spread(alloc: Global, list: &[(u32, Kind)]) -> Result<SmallVec<(u32, Kind), 1>, OutOfMemory>
-    ensures { IfOk result (λ slots. slots.items ≡ list.now ++ list.now) }
+/// Messages with no unused slot in front.
+fn many(alloc: Global, list: &[(u32, Kind)]) -> Result<Form, OutOfMemory>
+    ensures items { IfOk result (λ form. (early_of form).items ≡ list.now) }
+    ensures front { IfOk result HasFront }
 {
-    let mut slots = SmallVec::with_capacity(alloc, list.len().saturating_add(list.len()))?;
-    slots.extend_from_slice(list)?;
-    slots.extend_from_slice(list)?;
-    Ok(slots)
-}
-
-/// Puts a message after so many unused slots and so many messages, and moves the later ones up.
-fn insert_behind(
-    slots: &mut SmallVec<(u32, Kind), 1>,
-    front: usize,
-    place: usize,
-    entry: (u32, Kind),
-) -> Result<(), OutOfMemory>
-    requires { front + place ≤ length slots.old.items }
-    ensures front { front ≤ length slots.new.items }
-    ensures ok { OnOk result (drop front slots.new.items ≡ insert (drop front slots.old.items) place entry) }
-    ensures err { OnErr result (slots.new ≡ slots.old) }
-{
-    let _ = slots.len();
-    slots.insert(front + place, entry)?;
-    Ok(())
+    if list.len() > MOST_SLOTS {
+        return Err(OutOfMemory);
+    }
+    let slots = Vec::from_slice(alloc, list)?;
+    Ok(Form::Many { front: 0, slots })
 }
 
 /// Moves so many messages one slot down, into the last unused one, and writes one more behind them.
@@ -70,6 +65,124 @@ fn lower(slots: &mut [(u32, Kind)], front: usize, place: usize, entry: (u32, Kin
     slots[front + place] = entry;
 }
 
+/// Makes as many unused slots as there are messages.
+fn spread(front: &mut u32, slots: &mut Vec<(u32, Kind)>) -> Result<(), OutOfMemory>
+    requires none { front.old ≡ 0 }
+    requires front { IsFront front.old slots.old.items }
+    ensures items { drop front.new slots.new.items ≡ drop front.old slots.old.items }
+    ensures front { IsFront front.new slots.new.items }
+    ensures unused { OnOk result (front.new ≡ length slots.old.items) }
+{
+    let live = slots.len();
+    if live > MOST_SLOTS / 2 {
+        return Err(OutOfMemory);
+    }
+    let mut wide = Vec::with_capacity(*slots.allocator(), live + live)?;
+    wide.extend_from_slice(slots.as_slice())?;
+    wide.extend_from_slice(slots.as_slice())?;
+    *slots = wide;
+    *front = live as u32;
+    Ok(())
+}
+
+/// Gives the unused slots back where they are most of the slots, and there is no room behind the messages.
+fn pack(front: &mut u32, slots: &mut Vec<(u32, Kind)>) -> Result<(), OutOfMemory>
+    requires front { IsFront front.old slots.old.items }
+    ensures items { drop front.new slots.new.items ≡ drop front.old slots.old.items }
+    ensures front { IsFront front.new slots.new.items }
+{
+    let unused = *front as usize;
+    let live = slots.len() - unused;
+    if slots.len() < slots.capacity() || unused / 2 <= live {
+        return Ok(());
+    }
+    let packed = Vec::from_slice(*slots.allocator(), &slots[unused..])?;
+    *slots = packed;
+    *front = 0;
+    Ok(())
+}
+
+/// Puts a message after all others.
+fn push_behind(
+    front: &mut u32,
+    slots: &mut Vec<(u32, Kind)>,
+    entry: (u32, Kind),
+) -> Result<(), OutOfMemory>
+    requires front { IsFront front.old slots.old.items }
+    ensures ok { OnOk result (drop front.new slots.new.items ≡ drop front.old slots.old.items ++ entry ∷ []) }
+    ensures err { OnErr result (drop front.new slots.new.items ≡ drop front.old slots.old.items) }
+    ensures front { IsFront front.new slots.new.items }
+{
+    pack(front, slots)?;
+    if slots.len() >= MOST_SLOTS {
+        return Err(OutOfMemory);
+    }
+    slots.push(entry)?;
+    Ok(())
+}
+
+/// Puts a message after so many others, and moves the later ones up.
+fn insert_behind(
+    front: &mut u32,
+    slots: &mut Vec<(u32, Kind)>,
+    place: usize,
+    entry: (u32, Kind),
+) -> Result<(), OutOfMemory>
+    requires front { IsFront front.old slots.old.items }
+    requires place { place ≤ length (drop front.old slots.old.items) }
+    ensures ok { OnOk result (drop front.new slots.new.items ≡ insert (drop front.old slots.old.items) place entry) }
+    ensures err { OnErr result (drop front.new slots.new.items ≡ drop front.old slots.old.items) }
+    ensures front { IsFront front.new slots.new.items }
+{
+    pack(front, slots)?;
+    if slots.len() >= MOST_SLOTS {
+        return Err(OutOfMemory);
+    }
+    slots.insert(*front as usize + place, entry)?;
+    Ok(())
+}
+
+/// Puts a message after so many others, and moves the earlier ones down.
+fn insert_ahead(
+    front: &mut u32,
+    slots: &mut Vec<(u32, Kind)>,
+    place: usize,
+    entry: (u32, Kind),
+) -> Result<(), OutOfMemory>
+    requires front { IsFront front.old slots.old.items }
+    requires place { place < length (drop front.old slots.old.items) }
+    ensures ok { OnOk result (drop front.new slots.new.items ≡ insert (drop front.old slots.old.items) place entry) }
+    ensures err { OnErr result (drop front.new slots.new.items ≡ drop front.old slots.old.items) }
+    ensures front { IsFront front.new slots.new.items }
+{
+    if *front == 0 {
+        spread(front, slots)?;
+    }
+    *front -= 1;
+    lower(slots.as_mut_slice(), *front as usize, place, entry);
+    Ok(())
+}
+
+/// Puts a message after so many others. The fewer are before it, or after it, the fewer are moved.
+fn insert_among(
+    front: &mut u32,
+    slots: &mut Vec<(u32, Kind)>,
+    place: usize,
+    entry: (u32, Kind),
+) -> Result<(), OutOfMemory>
+    requires front { IsFront front.old slots.old.items }
+    requires place { place ≤ length (drop front.old slots.old.items) }
+    ensures ok { OnOk result (drop front.new slots.new.items ≡ insert (drop front.old slots.old.items) place entry) }
+    ensures err { OnErr result (drop front.new slots.new.items ≡ drop front.old slots.old.items) }
+    ensures front { IsFront front.new slots.new.items }
+{
+    let live = slots.len() - *front as usize;
+    if place < live - place {
+        return insert_ahead(front, slots, place, entry);
+    }
+    insert_behind(front, slots, place, entry)
+}
+
 impl Early {
     /// No messages. The first takes no memory of its own.
     pub fn new(alloc: Global) -> Self
@@ -77,8 +190,8 @@ impl Early {
         ensures room { result.room ≡ 1 }
     {
         Early {
-            slots: SmallVec::new(alloc),
-            front: 0,
+            form: Form::Empty,
+            alloc,
         }
     }
 
@@ -86,36 +199,28 @@ impl Early {
     pub fn of_slice(alloc: Global, list: &[(u32, Kind)]) -> Result<Self, OutOfMemory>
         ensures { IfOk result (λ early. early.items ≡ list.now) }
     {
-        let slots = SmallVec::from_slice(alloc, list)?;
-        Ok(Early { slots, front: 0 })
+        let form = match list {
+            [] => Form::Empty,
+            [one] => Form::One(*one),
+            _ => many(alloc, list)?,
+        };
+        Ok(Early { form, alloc })
     }
 
     /// The allocator.
     pub fn allocator(&self) -> Global {
-        *self.slots.allocator()
+        self.alloc
     }
 
     /// The messages.
     pub fn as_slice(&self) -> &[(u32, Kind)]
         ensures { result.now ≡ self.now.items }
     {
-        let slots = self.slots.as_slice();
-        &slots[self.front..]
-    }
-
-    /// How many messages there are.
-    fn len(&self) -> usize
-        ensures { result ≡ length self.now.items }
-    {
-        self.slots.len() - self.front
-    }
-
-    /// Whether the slots are full, and most of them unused, or the messages would fit inline.
-    fn is_sparse(&self) -> bool
-        ensures { IsTrue result → self.now.room ≡ 0 }
-    {
-        let live = self.len();
-        self.slots.len() == self.slots.capacity() && (live < INLINE || self.front / 2 > live)
+        match &self.form {
+            Form::Empty => &[],
+            Form::One(entry) => from_ref(entry),
+            Form::Many { front, slots } => &slots[*front as usize..],
+        }
     }
 
     /// Puts a message after all others.
@@ -124,21 +229,11 @@ impl Early {
         ensures err { OnErr result (self.new.items ≡ self.old.items) }
         ensures succeeds { 1 ≤ self.old.room → IsOk result }
     {
-        if self.is_sparse() {
-            return self.push_packed(entry);
+        match &mut self.form {
+            Form::Empty => self.form = Form::One(entry),
+            Form::One(first) => self.form = many(self.alloc, &[*first, entry])?,
+            Form::Many { front, slots } => push_behind(front, slots, entry)?,
         }
-        self.slots.push(entry)?;
-        Ok(())
-    }
-
-    /// Puts a message after all others, and gives the unused slots back.
-    fn push_packed(&mut self, entry: (u32, Kind)) -> Result<(), OutOfMemory>
-        ensures ok { OnOk result (self.new.items ≡ self.old.items ++ entry ∷ []) }
-        ensures err { OnErr result (self.new.items ≡ self.old.items) }
-    {
-        let mut slots = SmallVec::from_slice(self.allocator(), self.as_slice())?;
-        slots.push(entry)?;
-        *self = Early { slots, front: 0 };
         Ok(())
     }
 
@@ -148,67 +243,29 @@ impl Early {
         ensures ok { OnOk result (self.new.items ≡ insert self.old.items place entry) }
         ensures err { OnErr result (self.new.items ≡ self.old.items) }
     {
-        let live = self.len();
-        if place < live - place {
-            if self.front > 0 {
-                let front = self.front - 1;
-                lower(self.slots.as_mut_slice(), front, place, entry);
-                self.front = front;
-                return Ok(());
+        match &mut self.form {
+            Form::Empty => self.form = Form::One(entry),
+            Form::One(other) => {
+                let pair = if place == 0 {
+                    [entry, *other]
+                } else {
+                    [*other, entry]
+                };
+                self.form = many(self.alloc, &pair)?;
             }
-            if live >= INLINE {
-                return self.insert_spread(place, entry);
-            }
+            Form::Many { front, slots } => insert_among(front, slots, place, entry)?,
         }
-        if self.is_sparse() {
-            return self.insert_packed(place, entry);
-        }
-        insert_behind(&mut self.slots, self.front, place, entry)
-    }
-
-    /// Puts a message after so many others, and makes as many unused slots as there are messages.
-    fn insert_spread(&mut self, place: usize, entry: (u32, Kind)) -> Result<(), OutOfMemory>
-        requires { place < length self.old.items }
-        ensures ok { OnOk result (self.new.items ≡ insert self.old.items place entry) }
-        ensures err { OnErr result (self.new.items ≡ self.old.items) }
-    {
-        let front = self.len() - 1;
-        let mut slots = spread(self.allocator(), self.as_slice())?;
-        lower(slots.as_mut_slice(), front, place, entry);
-        *self = Early { slots, front };
         Ok(())
     }
 
-    /// Puts a message after so many others, and gives the unused slots back.
-    fn insert_packed(&mut self, place: usize, entry: (u32, Kind)) -> Result<(), OutOfMemory>
-        requires { place ≤ length self.old.items }
-        ensures ok { OnOk result (self.new.items ≡ insert self.old.items place entry) }
-        ensures err { OnErr result (self.new.items ≡ self.old.items) }
-    {
-        let mut slots = SmallVec::from_slice(self.allocator(), self.as_slice())?;
-        insert_behind(&mut slots, 0, place, entry)?;
-        *self = Early { slots, front: 0 };
-        Ok(())
-    }
-
-    /// Leaves the first message out.
+    /// Leaves the first message out. Where none is left, the memory is given back.
     pub fn leave_first(&mut self)
         requires { 1 ≤ length self.old.items }
         ensures { self.new.items ≡ drop 1 self.old.items }
     {
-        let count = self.slots.len();
-        let front = self.front + 1;
-        if front < count {
-            self.front = front;
-        } else {
-            self.clear();
+        match &mut self.form {
+            Form::Many { front, slots } if (*front as usize) + 1 < slots.len() => *front += 1,
+            _ => self.form = Form::Empty,
         }
-    }
-
-    /// Leaves all messages out, and gives their memory back.
-    fn clear(&mut self)
-        ensures { self.new.items ≡ [] }
-    {
-        *self = Early::new(self.allocator());
     }
 }

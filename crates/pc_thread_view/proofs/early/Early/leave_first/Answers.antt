@@ -1,11 +1,7 @@
-use Rattle.std.proofs.Common.{drop, ap, ◌∙◌, arith}
-use Rattle.pc_thread_view.proofs.Slots.{drop_one, none_left}
+use Rattle.std.proofs.Common.{drop, ap, ◌∙◌, sym}
+use Rattle.pc_thread_view.specs.Inner.Early.{early_of}
+use Rattle.pc_thread_view.proofs.Slots.{drop_one}
 use Rattle.pc_thread_view.proofs.early.Early.leave_first.Goals as goal
 
-pub returns-then-front-count : goal.returns-then-front-count
-returns-then-front-count c = drop_one c.self.inside.front c.self.inside.slots.items ∙ ap (λ v. drop 1 v.items) c.self.view_is
-
-pub returns-else-front-count : goal.returns-else-front-count
-returns-else-front-count c =
-    let none = none_left c.self.inside.front c.self.inside.slots.items (omega (arith, c.len-count.ensures.value, c.if-front-count.false)) ∙ ap (λ v. drop 1 v.items) c.self.view_is in
-    c.clear.ensures ∙ none
+pub returns-in-Many : goal.returns-in-Many
+returns-in-Many c = drop_one c.in-Many.front c.in-Many.slots.items ∙ sym (ap (λ form. drop 1 (early_of form).items) c.in-Many.is) ∙ ap (λ v. drop 1 v.items) c.self.view_is
