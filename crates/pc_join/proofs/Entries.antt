@@ -1,12 +1,12 @@
 -- Entries by ascending names.
-use Rattle.std.proofs.Common.{ℕ, suc, ◌+◌, ◌<◌, ◌≤◌, ◌≡◌, ◌&&◌, ◌⊎◌, ◌↔◌, ◌^◌, Bool, true, false, cond, List, [], ◌∷◌, length, map as map_list, Option, Some, None, IsSome, Bor, refl, sym, ap, subst, ◌∙◌, arith, inl, inr}
+use Rattle.std.proofs.Common.{ℕ, suc, ◌+◌, ◌<◌, ◌≤◌, ◌≡◌, ◌&&◌, ◌⊎◌, ◌↔◌, ◌^◌, Bool, true, false, cond, List, [], ◌∷◌, length, Option, Some, None, IsSome, Bor, refl, sym, ap, subst, ◌∙◌, arith, inl, inr}
 use Rattle.std.proofs.Math.Dec.{T}
 use Rattle.std.specs.List.{All, AllByRecursion}
 use Rattle.std.specs.List.Sorted.{IsStrictlySortedBy}
 use Rattle.std.specs.Map.{keys_of}
 use Rattle.std.specs.declared.cmp.Ordering.{Ordering}
 use Rattle.std.specs.declared.cmp.Ordering.TheVariants.{Less}
-use Rattle.std.specs.Ordering.{nat_cmp, eq_by_cmp, is_eq, is_lt}
+use Rattle.std.specs.Ordering.{nat_cmp, is_eq, is_lt}
 use Rattle.std.specs.Cmp.{nat_cmp_total}
 use Rattle.std.specs.FinMap as map
 use Rattle.std.specs.FinMap.Entries.{below_all}
@@ -18,11 +18,6 @@ use Rattle.pc_join.specs.Sets.{Members, IsVoid}
 use Rattle.std.specs.Option.{MatchOption}
 use Rattle.pc_join.specs.ByName.{AscendFrom, HoldsNoEmpty, HasShortNames, named, value_at}
 use Rattle.pc_join.specs.Inner.Puts.{left_of}
-use Rattle.std.specs.Cmp.{eq_by_cmp_equiv}
-use Rattle.std.proofs.lemmas.List.{map-id}
-use Rattle.std.proofs.lemmas.Map.Keys.{IsDistinct-from_sorted}
-use Rattle.std.proofs.lemmas.Map.Made.{update_all_none}
-use Rattle.pc_join.proofs.Puts.{shown}
 
 -- the orders of std
 both : (a b : Bool) → T a → T b → T (a && b)
@@ -64,14 +59,6 @@ module _ {V : Type 0} where
   sorted_each [] h = tt
   sorted_each (e ∷ es) h = both (below_all nat_cmp e.0 es) (map.is_sorted nat_cmp es) (below_each e.0 es h.0) (sorted_each es h.1)
 
-  -- the entries of the map that a tree shows are those of the tree
-  pub entries_shown : (m : BTreeMap ℕ V) → tree.IsOrdered nat_cmp m → m.entries ≡ map.entries (map.from_entries {R = nat_cmp} m.entries)
-  entries_shown m ordered =
-      let sorted : T (map.is_sorted nat_cmp m.entries) = sorted_each m.entries ordered in
-      let same : map.from_entries {R = nat_cmp} m.entries ≡ map.from_sorted {R = nat_cmp} m.entries =
-      map.same_map nat_cmp_total map.nat_cmp-IsAntisymmetric _ _ (λ q. map.get-from_entries nat_cmp_total m.entries q ∙ sym (map.get-from_sorted nat_cmp m.entries q sorted)) in
-      sym (map.entries-from_sorted nat_cmp m.entries sorted) ∙ ap map.entries (sym same)
-
   ascend_on : (n : ℕ) (e : ℕ × V) (es : List (ℕ × V)) → n ≤ e.0 → T (map.is_sorted nat_cmp (e ∷ es)) → AscendFrom n (e ∷ es)
   ascend_on n e [] le sorted = (le, tt)
   ascend_on n e (f ∷ fs) le sorted = (
@@ -84,6 +71,10 @@ module _ {V : Type 0} where
   ascend_all : (es : List (ℕ × V)) → T (map.is_sorted nat_cmp es) → AscendFrom 0 es
   ascend_all [] sorted = tt
   ascend_all (e ∷ es) sorted = ascend_on 0 e es (omega arith) sorted
+
+  -- the keys of a tree ascend
+  pub ordered_ascend : (m : BTreeMap ℕ V) → tree.IsOrdered nat_cmp m → AscendFrom 0 m.entries
+  ordered_ascend m ordered = ascend_all m.entries (sorted_each m.entries ordered)
 
   -- the entries of a map ascend
   pub entries_ascend : (a : map.FinMap nat_cmp V) → AscendFrom 0 (map.entries a)
@@ -175,13 +166,17 @@ module _ {V : Type 0} where
   names_ascend n [] h = tt
   names_ascend n (e ∷ es) h = (names_above e.0 (e.0 + 1) es h.1 (omega arith), names_ascend (e.0 + 1) es h.1)
 
-  pub collected_map : (es all : List (ℕ × V)) (m : BTreeMap ℕ V) → AscendFrom 0 es → map_list (λ e. e) all ≡ es → tree.IsFromIterResult nat_cmp all m → map.from_entries {R = nat_cmp} m.entries ≡ map.from_entries es
-  collected_map es all m ascend is made =
-      let same : all ≡ es = sym (map-id all) ∙ is in
-      let distinct = IsDistinct-from_sorted nat_cmp (keys_of es) (names_ascend 0 es ascend) in
-      let built : tree.IsFromIterResult nat_cmp es m = subst (λ xs. tree.IsFromIterResult nat_cmp xs m) same made in
-      map.same_map nat_cmp_total map.nat_cmp-IsAntisymmetric _ _
-      (λ q. shown m q ∙ built.0 q ∙ update_all_none (eq_by_cmp_equiv nat_cmp_total) (eq_by_cmp nat_cmp) (λ x y. refl) es q distinct ∙ sym (map.get-from_entries nat_cmp_total es q))
+  -- the entries of the map of entries that ascend are these
+  pub entries_shown : (es : List (ℕ × V)) → AscendFrom 0 es → es ≡ map.entries (map.from_entries {R = nat_cmp} es)
+  entries_shown es ascend =
+      let sorted : T (map.is_sorted nat_cmp es) = sorted_each es (names_ascend 0 es ascend) in
+      let same : map.from_entries {R = nat_cmp} es ≡ map.from_sorted {R = nat_cmp} es =
+      map.same_map nat_cmp_total map.nat_cmp-IsAntisymmetric _ _ (λ q. map.get-from_entries nat_cmp_total es q ∙ sym (map.get-from_sorted nat_cmp es q sorted)) in
+      sym (map.entries-from_sorted nat_cmp es sorted) ∙ ap map.entries (sym same)
+
+  -- entries that have the same under each name make the same map
+  pub made_map : (es fs : List (ℕ × V)) → ((q : ℕ) → value_at es q ≡ value_at fs q) → map.from_entries {R = nat_cmp} es ≡ map.from_entries fs
+  made_map es fs h = map.same_map nat_cmp_total map.nat_cmp-IsAntisymmetric _ _ (λ q. map.get-from_entries nat_cmp_total es q ∙ h q ∙ sym (map.get-from_entries nat_cmp_total fs q))
 
   -- what holds of every entry holds of the map
   pub map_kept : (known : V → Members) (es : List (ℕ × V)) (a : map.FinMap nat_cmp V) → a ≡ map.from_entries es → All (λ e. ¬ IsVoid (known e.1)) es → HoldsNoEmpty known a

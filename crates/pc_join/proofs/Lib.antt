@@ -6,3 +6,5 @@ pub mod Names
 pub mod Puts
 pub mod Walks
 pub mod Entries
+pub mod Standing
+pub mod Trees

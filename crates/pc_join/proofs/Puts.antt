@@ -3,18 +3,16 @@ use Rattle.std.proofs.Common.{ℕ, ◌<◌, ◌≡◌, ◌==◌, ◌⊎◌, ◌|
 use Rattle.std.specs.Ordering.{nat_cmp, is_eq}
 use Rattle.std.specs.FinMap as map
 use Rattle.std.specs.Cmp.{nat_cmp_total}
-use Rattle.std.specs.BTreeMap as tree
-use Rattle.std.specs.BTreeMap.{BTreeMap}
 use Rattle.std.proofs.lemmas.Bool.{false≢true}
 use Rattle.std.proofs.lemmas.Bool.Decides.{nat_tests}
 use Rattle.pc_join.specs.Sets.{Members, Source, IsWithin, IsVoid, IsUnion, IsBetween, members_at, source_at}
-use Rattle.pc_join.specs.ByName.{known_in, members_by_name, HoldsNoEmpty, HasShortNames, IsOfByName, IsLeastFrom, IsNextName}
+use Rattle.pc_join.specs.ByName.{known_in, members_by_name, HoldsNoEmpty, HasShortNames, IsOfByName, IsLeastFrom, IsNextName, value_at}
 use Rattle.pc_join.specs.Inner.Puts.{IsJoinedAt, IsPut, IsWholeAt}
 use Rattle.pc_messages.proofs.Bools.{or_none}
 
--- the map that is shown has what the tree has
-pub shown : {V : Type 0} (m : BTreeMap ℕ V) (q : ℕ) → map.get (map.from_entries {R = nat_cmp} m.entries) q ≡ tree.get nat_cmp m q
-shown m q = map.get-from_entries nat_cmp_total m.entries q
+-- the map that is shown has what the entries have
+pub shown : {V : Type 0} (m : List (ℕ × V)) (q : ℕ) → map.get (map.from_entries {R = nat_cmp} m) q ≡ value_at m q
+shown m q = map.get-from_entries nat_cmp_total m q
 
 tied : (a b : ℕ) → is_eq (nat_cmp a b) ≡ (b == a)
 tied a b = grind (arith, nat_tests)
@@ -163,41 +161,41 @@ pub OnOk_then : {A E P Q : Type 0} (r : Result A E) → OnOk r P → (P → Q) �
 OnOk_then (Ok a) h f = f h
 OnOk_then (Err e) h f = tt
 
--- the same of a tree and of the map that it shows
-module _ {V : Type 0} (known : V → Members) (is_of : V → Source → Type 0) (old new : BTreeMap ℕ V) (a : map.FinMap nat_cmp V) (e : map.from_entries {R = nat_cmp} old.entries ≡ a) where
-  at_old : (q : ℕ) → map.get a q ≡ tree.get nat_cmp old q
+-- the same of entries and of the map that they show
+module _ {V : Type 0} (known : V → Members) (is_of : V → Source → Type 0) (old new : List (ℕ × V)) (a : map.FinMap nat_cmp V) (e : map.from_entries {R = nat_cmp} old ≡ a) where
+  at_old : (q : ℕ) → map.get a q ≡ value_at old q
   at_old q = ap (λ m. map.get m q) (sym e) ∙ shown old q
 
-  at_new : (q : ℕ) → map.get (map.from_entries {R = nat_cmp} new.entries) q ≡ tree.get nat_cmp new q
+  at_new : (q : ℕ) → map.get (map.from_entries {R = nat_cmp} new) q ≡ value_at new q
   at_new q = shown new q
 
-  pub joined_shown : (q : ℕ) (other : Option V) → IsJoinedAt known is_of (tree.get nat_cmp old q) other (tree.get nat_cmp new q) → IsJoinedAt known is_of (map.get a q) other (map.get (map.from_entries {R = nat_cmp} new.entries) q)
-  joined_shown q other h = subst (λ x. IsJoinedAt known is_of x other (map.get (map.from_entries {R = nat_cmp} new.entries) q)) (sym (at_old q)) (subst (λ x. IsJoinedAt known is_of (tree.get nat_cmp old q) other x) (sym (at_new q)) h)
+  pub joined_shown : (q : ℕ) (other : Option V) → IsJoinedAt known is_of (value_at old q) other (value_at new q) → IsJoinedAt known is_of (map.get a q) other (map.get (map.from_entries {R = nat_cmp} new) q)
+  joined_shown q other h = subst (λ x. IsJoinedAt known is_of x other (map.get (map.from_entries {R = nat_cmp} new) q)) (sym (at_old q)) (subst (λ x. IsJoinedAt known is_of (value_at old q) other x) (sym (at_new q)) h)
 
-  pub whole_shown : (q : ℕ) (other : Option V) → IsWholeAt known (tree.get nat_cmp old q) other (tree.get nat_cmp new q) → IsWholeAt known (map.get a q) other (map.get (map.from_entries {R = nat_cmp} new.entries) q)
-  whole_shown q other h = subst (λ x. IsWholeAt known x other (map.get (map.from_entries {R = nat_cmp} new.entries) q)) (sym (at_old q)) (subst (λ x. IsWholeAt known (tree.get nat_cmp old q) other x) (sym (at_new q)) h)
+  pub whole_shown : (q : ℕ) (other : Option V) → IsWholeAt known (value_at old q) other (value_at new q) → IsWholeAt known (map.get a q) other (map.get (map.from_entries {R = nat_cmp} new) q)
+  whole_shown q other h = subst (λ x. IsWholeAt known x other (map.get (map.from_entries {R = nat_cmp} new) q)) (sym (at_old q)) (subst (λ x. IsWholeAt known (value_at old q) other x) (sym (at_new q)) h)
 
-  module _ (name : ℕ) (value : V) (put : IsPut known is_of (tree.get nat_cmp old) name value (tree.get nat_cmp new)) where
-    pub put_shown : IsPut known is_of (map.get a) name value (map.get (map.from_entries {R = nat_cmp} new.entries))
+  module _ (name : ℕ) (value : V) (put : IsPut known is_of (value_at old) name value (value_at new)) where
+    pub put_shown : IsPut known is_of (map.get a) name value (map.get (map.from_entries {R = nat_cmp} new))
     put_shown = record {
       others = λ q ne. at_new q ∙ put.others q ne ∙ sym (at_old q);
       here = joined_shown name (Some value) put.here;
     }
 
-    pub put_union : IsWholeAt known (tree.get nat_cmp old name) (Some value) (tree.get nat_cmp new name) → IsUnion (members_by_name known a) (members_at name (known value)) (members_by_name known (map.from_entries new.entries))
-    put_union whole = union_by_name known is_of a (map.from_entries new.entries) name value put_shown (whole_shown name (Some value) whole)
+    pub put_union : IsWholeAt known (value_at old name) (Some value) (value_at new name) → IsUnion (members_by_name known a) (members_at name (known value)) (members_by_name known (map.from_entries new))
+    put_union whole = union_by_name known is_of a (map.from_entries new) name value put_shown (whole_shown name (Some value) whole)
 
-    pub put_between : IsBetween (members_by_name known a) (members_at name (known value)) (members_by_name known (map.from_entries new.entries))
-    put_between = between_by_name known is_of a (map.from_entries new.entries) name value put_shown
+    pub put_between : IsBetween (members_by_name known a) (members_at name (known value)) (members_by_name known (map.from_entries new))
+    put_between = between_by_name known is_of a (map.from_entries new) name value put_shown
 
-    pub put_kept : HoldsNoEmpty known (map.from_entries old.entries) → ¬ IsVoid (known value) → HoldsNoEmpty known (map.from_entries new.entries)
-    put_kept kept nonvoid = kept_by_name known is_of a (map.from_entries new.entries) name value put_shown (subst (λ x. HoldsNoEmpty known x) e kept) nonvoid
+    pub put_kept : HoldsNoEmpty known (map.from_entries old) → ¬ IsVoid (known value) → HoldsNoEmpty known (map.from_entries new)
+    put_kept kept nonvoid = kept_by_name known is_of a (map.from_entries new) name value put_shown (subst (λ x. HoldsNoEmpty known x) e kept) nonvoid
 
-    pub put_short : HasShortNames (map.from_entries {R = nat_cmp} old.entries) → name < 2 ^ 32 → HasShortNames (map.from_entries {R = nat_cmp} new.entries)
-    put_short short fits = short_by_name known is_of a (map.from_entries new.entries) name value put_shown (subst (λ x. HasShortNames x) e short) fits
+    pub put_short : HasShortNames (map.from_entries {R = nat_cmp} old) → name < 2 ^ 32 → HasShortNames (map.from_entries {R = nat_cmp} new)
+    put_short short fits = short_by_name known is_of a (map.from_entries new) name value put_shown (subst (λ x. HasShortNames x) e short) fits
 
-    pub put_of_source : HoldsNoEmpty known (map.from_entries new.entries) → (s : Source) → IsOfByName known is_of a s → is_of value (source_at s name) → IsOfByName known is_of (map.from_entries new.entries) s
-    put_of_source kept s of_old of_value = of_source_by_name known is_of a (map.from_entries new.entries) name value put_shown kept s of_old of_value
+    pub put_of_source : HoldsNoEmpty known (map.from_entries new) → (s : Source) → IsOfByName known is_of a s → is_of value (source_at s name) → IsOfByName known is_of (map.from_entries new) s
+    put_of_source kept s of_old of_value = of_source_by_name known is_of a (map.from_entries new) name value put_shown kept s of_old of_value
 
 -- an empty value changes nothing
 module _ {V : Type 0} (known : V → Members) (a : map.FinMap nat_cmp V) (name : ℕ) (value : V) (void : IsVoid (known value)) where
@@ -215,8 +213,8 @@ module _ {V : Type 0} (known : V → Members) (a : map.FinMap nat_cmp V) (name :
   pub void_between : IsBetween (members_by_name known a) (members_at name (known value)) (members_by_name known a)
   void_between = record { at_least = λ m e. e; at_most = λ m e. sym (void_union m) ∙ e }
 
--- the next name of a tree, and of the map that it shows
-pub next_shown : {V : Type 0} (values : BTreeMap ℕ V) (a : map.FinMap nat_cmp V) (from name : ℕ) → map.from_entries {R = nat_cmp} values.entries ≡ a → HasShortNames (map.from_entries {R = nat_cmp} values.entries) → IsLeastFrom (tree.get nat_cmp values) from name → IsNextName a from name
+-- the next name of entries, and of the map that they show
+pub next_shown : {V : Type 0} (values : List (ℕ × V)) (a : map.FinMap nat_cmp V) (from name : ℕ) → map.from_entries {R = nat_cmp} values ≡ a → HasShortNames (map.from_entries {R = nat_cmp} values) → IsLeastFrom (value_at values) from name → IsNextName a from name
 next_shown values a from name e short h = record {
   least = record {
     held = subst (λ x. IsSome x) (sym (there name)) h.held;
@@ -226,10 +224,10 @@ next_shown values a from name e short h = record {
   short = short name (subst (λ x. IsSome x) (sym (shown values name)) h.held);
 }
   where
-    there : (q : ℕ) → map.get a q ≡ tree.get nat_cmp values q
+    there : (q : ℕ) → map.get a q ≡ value_at values q
     there q = ap (λ m. map.get m q) (sym e) ∙ shown values q
 
-pub none_shown : {V : Type 0} (values : BTreeMap ℕ V) (a : map.FinMap nat_cmp V) (from : ℕ) → map.from_entries {R = nat_cmp} values.entries ≡ a → ((name : ℕ) → IsSome (tree.get nat_cmp values name) → name < from) → (name : ℕ) → IsSome (map.get a name) → name < from
+pub none_shown : {V : Type 0} (values : List (ℕ × V)) (a : map.FinMap nat_cmp V) (from : ℕ) → map.from_entries {R = nat_cmp} values ≡ a → ((name : ℕ) → IsSome (value_at values name) → name < from) → (name : ℕ) → IsSome (map.get a name) → name < from
 none_shown values a from e h name some = h name (subst (λ x. IsSome x) (ap (λ m. map.get m name) (sym e) ∙ shown values name) some)
 
 -- what is got is not empty
@@ -245,10 +243,10 @@ copied_some None p P e h = tt
 copied_some (Some v) p P e h = subst (λ x. IfSome x P) (sym e) h
 
 -- the map of no entries
-pub new_kept : {V : Type 0} (known : V → Members) (m : BTreeMap ℕ V) → m.entries ≡ [] → HoldsNoEmpty known (map.from_entries {R = nat_cmp} m.entries) × HasShortNames (map.from_entries {R = nat_cmp} m.entries)
+pub new_kept : {V : Type 0} (known : V → Members) (m : List (ℕ × V)) → m ≡ [] → HoldsNoEmpty known (map.from_entries {R = nat_cmp} m) × HasShortNames (map.from_entries {R = nat_cmp} m)
 new_kept known m e =
-    let none : (q : ℕ) → map.get (map.from_entries {R = nat_cmp} m.entries) q ≡ None = λ q. shown m q ∙ ap (λ es. map.find nat_cmp q es) e in
-    (λ q v some. no_some (map.get (map.from_entries {R = nat_cmp} m.entries) q) v (none q) some, λ q some. absurd (not_some (map.get (map.from_entries {R = nat_cmp} m.entries) q) (none q) some))
+    let none : (q : ℕ) → map.get (map.from_entries {R = nat_cmp} m) q ≡ None = λ q. shown m q ∙ ap (λ es. map.find nat_cmp q es) e in
+    (λ q v some. no_some (map.get (map.from_entries {R = nat_cmp} m) q) v (none q) some, λ q some. absurd (not_some (map.get (map.from_entries {R = nat_cmp} m) q) (none q) some))
   where
     no_some : {V : Type 0} {P : Type 0} (o : Option V) (v : V) → o ≡ None → o ≡ Some v → P
     no_some o v e f = cc

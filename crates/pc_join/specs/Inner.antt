@@ -7,3 +7,4 @@ pub mod Upto
 pub mod Puts
 pub mod NameLaws
 pub mod Blocks
+pub mod Leaves

@@ -2,18 +2,17 @@
 
 ghost use Rattle.std.specs.Prelude.{ℕ, ◌≡◌, ◌↔◌, ◌<◌, ◌^◌, Bool, true, false, List, [], ◌∷◌, Some, None, IsTrue, IsOk, IfOk, OnOk, OnErr, IfSome, MatchOption, IsSome, All, option_copied};
 ghost use Rattle.std.specs.FinMap as map;
-ghost use Rattle.std.specs.BTreeMap.{get};
 ghost use Rattle.std.specs.Ordering.{nat_cmp};
 ghost use Rattle.pc_join.specs.Sets.{Members, Source, IsUnion, IsBetween, IsWithin, IsVoid, members_at, source_at};
-ghost use Rattle.pc_join.specs.ByName.{members_by_name, IsOfByName, HoldsNoEmpty, HasShortNames, IsNextName, known_in, IsLeastFrom, AscendFrom};
+ghost use Rattle.pc_join.specs.ByName.{members_by_name, IsOfByName, HoldsNoEmpty, HasShortNames, IsNextName, known_in, IsLeastFrom, AscendFrom, value_at};
 ghost use Rattle.pc_join.specs.Inner.Puts.{IsJoinedAt, IsPut, IsWholeAt, HasNoVoid, IsCovered};
 ghost use Rattle.pc_join.specs.Inner.NameLaws.{unique_by_name, stays_by_name};
 
 use crate::join::{Join, OutOfMemory};
+use crate::leaves::Leaves;
 use crate::walk::{Iter, Lookups};
 use pc_messages::Tid;
 use std::alloc::Global;
-use std::collections::BTreeMap;
 use std::marker::Model;
 
 /// One value for each name, of which none is empty. A name that is not held stands for the empty value.
@@ -21,7 +20,7 @@ use std::marker::Model;
 /// A join searches here for each name of the other: the other is mostly the smaller by far.
 #[derive(Drop)]
 pub struct ByName<V: Join> {
-    values: BTreeMap<u32, V>,
+    values: Leaves<V>,
     alloc: Global,
 }
 
@@ -36,9 +35,9 @@ impl<V: Join> Model for ByName<V> {
 
     ghost use Rattle.pc_join.specs.ByName.{HoldsNoEmpty, HasShortNames};
 
-    ghost view = { λ held. map.from_entries held.values.entries };
+    ghost view = { λ held. map.from_entries held.values };
 
-    ghost invariant = { λ held. HoldsNoEmpty V.known (map.from_entries held.values.entries) × HasShortNames (map.from_entries {R = nat_cmp} held.values.entries) };
+    ghost invariant = { λ held. HoldsNoEmpty V.known (map.from_entries held.values) × HasShortNames (map.from_entries {R = nat_cmp} held.values) };
 }
 
 impl<V: Join> ByName<V> {
@@ -47,7 +46,7 @@ impl<V: Join> ByName<V> {
         ensures { result ≡ map.empty }
     {
         ByName {
-            values: BTreeMap::new(alloc),
+            values: Leaves::new(alloc),
             alloc,
         }
     }
@@ -74,7 +73,7 @@ impl<V: Join> ByName<V> {
         ensures value { option_copied result ≡ map.get self.now name }
         ensures some { IfSome result (λ value. ¬ IsVoid (V.known value.now)) }
     {
-        self.values.get(&name.index())
+        self.values.get(name.index())
     }
 
     /// The names that are held, ascending, each with its value.
@@ -82,7 +81,7 @@ impl<V: Join> ByName<V> {
         ensures entries { result ≡ map.entries self.now }
         ensures short { HasShortNames self.now }
     {
-        Iter::of(&self.values)
+        self.values.iter()
     }
 
     /// The same walk, for a caller that asks for names in ascending order.
@@ -107,7 +106,7 @@ impl<V: Join> ByName<V> {
         if value.is_empty() {
             return Ok(());
         }
-        put_value(&mut self.values, name.index(), value)
+        self.values.put(name.index(), value)
     }
 
     /// The least name that is held, from this one on.
@@ -115,7 +114,7 @@ impl<V: Join> ByName<V> {
         ensures least { MatchOption result ((name : ℕ) → IsSome (map.get self.now name) → name < from) (IsNextName self.now from) }
         ensures short { HasShortNames self.now }
     {
-        match next_name(&self.values, from.index()) {
+        match self.values.next(from.index()) {
             None => None,
             Some(name) => Some(Tid(name)),
         }
@@ -152,116 +151,50 @@ impl<V: Join> Join for ByName<V> {
     ghost stays = { stays_by_name V.known V.is_of V.stays };
 }
 
-/// The map of these entries.
-fn collected<V: Join>(
-    alloc: Global,
-    entries: Vec<(u32, V)>,
-) -> Result<BTreeMap<u32, V>, OutOfMemory>
+/// The values of these entries.
+fn collected<V: Join>(alloc: Global, entries: Vec<(u32, V)>) -> Result<Leaves<V>, OutOfMemory>
     requires { AscendFrom 0 entries.items }
-    ensures { IfOk result (λ values. map.from_entries {R = nat_cmp} values.entries ≡ map.from_entries entries.items) }
+    ensures { IfOk result (λ values. map.from_entries {R = nat_cmp} values ≡ map.from_entries entries.items) }
 {
-    let values = entries.into_iter().collect(alloc)?;
+    let mut values = Leaves::new(alloc);
+    for (name, value) in entries {
+        values.put(name, value)?;
+    }
     Ok(values)
 }
 
-/// Holds a value under a new name.
-fn hold<V: Join>(values: &mut BTreeMap<u32, V>, name: u32, value: V) -> Result<(), OutOfMemory>
-    requires { get nat_cmp values.old name ≡ None }
-    ensures put { IsPut V.known V.is_of (get nat_cmp values.old) name value (get nat_cmp values.new) }
-    ensures whole { OnOk result (IsWholeAt V.known (get nat_cmp values.old name) (Some value) (get nat_cmp values.new name)) }
-{
-    values.insert(name, value)?;
-    Ok(())
-}
-
-/// Whether the name is after all that are held, found without a search: names mostly come in their order.
-fn is_after_all<V: Join>(values: &BTreeMap<u32, V>, name: u32) -> bool
-    ensures { IsTrue result → get nat_cmp values.now name ≡ None }
-{
-    match values.last_key_value() {
-        Some((last, _)) => *last < name,
-        None => true,
-    }
-}
-
-/// Joins a value to what is held under the name.
-fn put_value<V: Join>(values: &mut BTreeMap<u32, V>, name: u32, value: V) -> Result<(), OutOfMemory>
-    ensures put { IsPut V.known V.is_of (get nat_cmp values.old) name value (get nat_cmp values.new) }
-    ensures whole { OnOk result (IsWholeAt V.known (get nat_cmp values.old name) (Some value) (get nat_cmp values.new name)) }
-{
-    if is_after_all(values, name) {
-        return hold(values, name, value);
-    }
-    match values.get_mut(&name) {
-        Some(held) => held.join_from(&value),
-        None => hold(values, name, value),
-    }
-}
-
-/// Joins a value, of which a copy is held where the name is new.
-fn join_value<V: Join>(
-    values: &mut BTreeMap<u32, V>,
-    name: u32,
-    value: &V,
-) -> Result<(), OutOfMemory>
-    ensures put { IsPut V.known V.is_of (get nat_cmp values.old) name value.now (get nat_cmp values.new) }
-    ensures whole { OnOk result (IsWholeAt V.known (get nat_cmp values.old name) (Some value.now) (get nat_cmp values.new name)) }
-{
-    match values.get_mut(&name) {
-        Some(held) => held.join_from(value),
-        None => {
-            let copy = value.try_copy()?;
-            hold(values, name, copy)
-        }
-    }
-}
-
-/// The least name in the map, from one on.
-fn next_name<V: Join>(values: &BTreeMap<u32, V>, from: u32) -> Option<u32>
-    ensures { MatchOption result ((name : ℕ) → IsSome (get nat_cmp values.now name)
-        → name < from) (IsLeastFrom (get nat_cmp values.now) from) }
-{
-    match values.range(from..).next() {
-        None => None,
-        Some((name, _)) => Some(*name),
-    }
-}
-
 /// Joins each value of the other to what is held under its name.
-fn join_all<V: Join>(
-    values: &mut BTreeMap<u32, V>,
-    other: &BTreeMap<u32, V>,
-) -> Result<(), OutOfMemory>
+fn join_all<V: Join>(values: &mut Leaves<V>, other: &Leaves<V>) -> Result<(), OutOfMemory>
     ensures part { (name : ℕ)
-        → IsJoinedAt V.known V.is_of (get nat_cmp values.old name) (get nat_cmp other.now name) (get nat_cmp values.new name) }
+        → IsJoinedAt V.known V.is_of (value_at values.old name) (value_at other.now name) (value_at values.new name) }
     ensures whole { OnOk result ((name : ℕ)
-        → IsWholeAt V.known (get nat_cmp values.old name) (get nat_cmp other.now name) (get nat_cmp values.new name)) }
+        → IsWholeAt V.known (value_at values.old name) (value_at other.now name) (value_at values.new name)) }
 {
     for (name, value) in other.iter() {
-        join_value(values, *name, value)?;
+        values.join(name.index(), value)?;
     }
     Ok(())
 }
 
 /// Whether what is held under the name knows all that the value knows.
-fn covers_at<V: Join>(values: &BTreeMap<u32, V>, name: u32, value: &V) -> bool
-    ensures covered { IsTrue result → IsWithin (V.known value.now) (known_in V.known (get nat_cmp values.now name)) }
+fn covers_at<V: Join>(values: &Leaves<V>, name: u32, value: &V) -> bool
+    ensures covered { IsTrue result → IsWithin (V.known value.now) (known_in V.known (value_at values.now name)) }
     ensures not_covered { ¬ IsVoid (V.known value.now)
-        → IsWithin (V.known value.now) (known_in V.known (get nat_cmp values.now name)) → IsTrue result }
+        → IsWithin (V.known value.now) (known_in V.known (value_at values.now name)) → IsTrue result }
 {
-    match values.get(&name) {
+    match values.get(name) {
         Some(held) => held.covers(value),
         None => false,
     }
 }
 
 /// Whether what is held under each name knows all that the other holds there.
-fn covers_all<V: Join>(values: &BTreeMap<u32, V>, other: &BTreeMap<u32, V>) -> bool
-    requires { HasNoVoid V.known (get nat_cmp other.now) }
-    ensures { IsTrue result ↔ IsCovered V.known (get nat_cmp other.now) (get nat_cmp values.now) }
+fn covers_all<V: Join>(values: &Leaves<V>, other: &Leaves<V>) -> bool
+    requires { HasNoVoid V.known (value_at other.now) }
+    ensures { IsTrue result ↔ IsCovered V.known (value_at other.now) (value_at values.now) }
 {
     for (name, value) in other.iter() {
-        if !covers_at(values, *name, value) {
+        if !covers_at(values, name.index(), value) {
             return false;
         }
     }
@@ -269,16 +202,13 @@ fn covers_all<V: Join>(values: &BTreeMap<u32, V>, other: &BTreeMap<u32, V>) -> b
 }
 
 /// A map with equal values.
-fn copy_all<V: Join>(
-    alloc: Global,
-    values: &BTreeMap<u32, V>,
-) -> Result<BTreeMap<u32, V>, OutOfMemory>
-    ensures { IfOk result (λ copy. (name : ℕ) → get nat_cmp copy name ≡ get nat_cmp values.now name) }
+fn copy_all<V: Join>(alloc: Global, values: &Leaves<V>) -> Result<Leaves<V>, OutOfMemory>
+    ensures { IfOk result (λ copy. (name : ℕ) → value_at copy name ≡ value_at values.now name) }
 {
-    let mut copy = BTreeMap::new(alloc);
+    let mut copy = Leaves::new(alloc);
     for (name, value) in values.iter() {
         let one = value.try_copy()?;
-        copy.insert(*name, one)?;
+        copy.put(name.index(), one)?;
     }
     Ok(copy)
 }

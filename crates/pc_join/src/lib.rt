@@ -7,6 +7,8 @@
 mod by_name;
 mod join;
 pub mod laws;
+mod leaf;
+mod leaves;
 mod name_set;
 mod numbers;
 mod turn;

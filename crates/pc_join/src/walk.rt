@@ -1,37 +1,39 @@
 //! Walks over values by name, by ascending names.
 
 ghost use Rattle.std.specs.Prelude.{ℕ, ◌≡◌, ◌≤◌, List, option_copied};
-ghost use Rattle.std.specs.FinMap as map;
-ghost use Rattle.std.specs.Ordering.{nat_cmp};
 ghost use Rattle.std.specs.Iterator.{YieldsFirstBy, item_count};
 ghost use Rattle.pc_join.specs.ByName.{AscendFrom, named, value_at};
+ghost use Rattle.pc_join.specs.Inner.Leaves.{entries_of};
 ghost use Rattle.pc_join.specs.Inner.Puts.{left_of};
 
 use pc_messages::Tid;
 use std::collections::{BTreeMap, btree_map};
 use std::marker::Model;
 
-/// The entries of values by name that a walk has left.
+/// The entries of values by name that a walk has left: those of one leaf, and the leaves behind it.
 #[derive(Drop)]
 pub struct Iter<'a, V> {
-    entries: btree_map::Iter<'a, u32, V>,
+    entries: &'a [(u32, V)],
+    leaves: btree_map::Iter<'a, u32, Vec<(u32, V)>>,
 }
 
 impl<'a, V> Model for Iter<'a, V> {
-    ghost use Rattle.std.specs.Prelude.{ℕ, List};
+    ghost use Rattle.std.specs.Prelude.{ℕ, List, ◌++◌};
+    ghost use Rattle.pc_join.specs.Inner.Leaves.{entries_of};
 
     ghost Value = { List (ℕ × V) };
 
-    ghost view = { λ iter. iter.entries };
+    ghost view = { λ iter. iter.entries.now ++ entries_of iter.leaves };
 }
 
 impl<'a, V> Iter<'a, V> {
-    /// All entries of a map.
-    pub(crate) fn of(values: &'a BTreeMap<u32, V>) -> Self
-        ensures { result ≡ map.entries (map.from_entries {R = nat_cmp} values.now.entries) }
+    /// All entries of leaves.
+    pub(crate) fn of(leaves: &'a BTreeMap<u32, Vec<(u32, V)>>) -> Self
+        ensures { result ≡ entries_of leaves.now.entries }
     {
         Iter {
-            entries: values.iter(),
+            entries: &[],
+            leaves: leaves.iter(),
         }
     }
 }
@@ -44,8 +46,16 @@ impl<'a, V> Iterator for Iter<'a, V> {
     ghost remaining = { item_count (λ left. left) };
 
     fn next(&mut self) -> Option<(Tid, &'a V)> {
-        let (name, value) = self.entries.next()?;
-        Some((Tid(*name), value))
+        'leaves: loop {
+            if let Some((entry, rest)) = self.entries.split_first() {
+                self.entries = rest;
+                return Some((Tid(entry.0), &entry.1));
+            }
+            let Some((_, leaf)) = self.leaves.next() else {
+                return None;
+            };
+            self.entries = leaf.as_slice();
+        }
     }
 }
 

@@ -1,11 +1,16 @@
-use Rattle.std.proofs.Common.{◌∙◌}
-use Rattle.std.proofs.lemmas.Iterator.{items_from_drains}
-use Rattle.std.proofs.lemmas.Iterator.Adapters.{YieldsList-from_vec}
-use Rattle.pc_join.proofs.Entries.{collected_map}
+use Rattle.std.proofs.Common.{rules}
+use Rattle.pc_join.specs.ByName.{value_at}
+use Rattle.pc_join.proofs.Names.{copying_start, copying_on, copying_fresh, copying_done, no_entries}
+use Rattle.pc_join.proofs.Entries.{made_map}
 use Rattle.pc_join.proofs.by_name.collected.Goals as goal
 
+pub loop-name-init : goal.loop-name-init
+loop-name-init g c = copying_start c.args.entries.items c.new-values.result c.into_iter-name-iterator.result.rest.items (search rules) c.new-values.ensures c.requires
+
+pub loop-name-preserved : goal.loop-name-preserved
+loop-name-preserved g c =
+    copying_on (value_at c.args.entries.items) (value_at c.loop-name.values) (value_at c.put.new.self) c.loop-name.name-iterator.rest.items c.next.new.self.rest.items c.in-Some.name c.in-Some.value c.in-Some.ensures.steps.0 c.loop-name.invariant
+    (c.in_ok-put.ensures.fresh (copying_fresh (value_at c.args.entries.items) (value_at c.loop-name.values) c.loop-name.name-iterator.rest.items c.next.new.self.rest.items c.in-Some.name c.in-Some.value c.in-Some.ensures.steps.0 c.loop-name.invariant))
+
 pub returns : goal.returns
-returns g c =
-    let ran = c.in_ok-values.ensures.ran in
-    collected_map c.args.entries.items ran.0 c.in_ok-values.values c.requires
-    (items_from_drains ran.0 ran.1 (YieldsList-from_vec c.args.entries.items c.into_iter.ensures.rest (c.into_iter.ensures.len ∙ c.args.entries.ok.0))) ran.2
+returns g c = made_map c.loop-name.values c.args.entries.items (copying_done (value_at c.args.entries.items) (value_at c.loop-name.values) c.loop-name.name-iterator.rest.items (no_entries c.loop-name.name-iterator.rest.items (search rules)) c.loop-name.invariant)
