@@ -349,6 +349,73 @@ fn names_are_walked_and_looked_up_in_order(rt: HostRuntime) -> Result<(), Fail> 
 }
 
 #[test]
+fn names_far_apart_are_found_and_walked(rt: HostRuntime) -> Result<(), Fail> {
+    let far = [
+        (4_294_967_295, 8),
+        (64, 3),
+        (0, 1),
+        (128, 6),
+        (63, 2),
+        (1_000_000, 7),
+        (127, 5),
+        (65, 4),
+    ];
+    let names = known(rt.alloc(), far.as_slice())?;
+    assert_eq!(rt;
+        walked(rt.alloc(), &names)?.as_slice(),
+        [
+            (Tid(0), 1),
+            (Tid(63), 2),
+            (Tid(64), 3),
+            (Tid(65), 4),
+            (Tid(127), 5),
+            (Tid(128), 6),
+            (Tid(1_000_000), 7),
+            (Tid(4_294_967_295), 8),
+        ]
+        .as_slice()
+    );
+    for (name, wanted) in [
+        (63, Some(2)),
+        (64, Some(3)),
+        (66, None),
+        (126, None),
+        (192, None),
+        (4_294_967_295, Some(8)),
+    ] {
+        assert_eq!(rt; known_of(&names, name), wanted);
+    }
+    for (from, wanted) in [
+        (1, Tid(63)),
+        (64, Tid(64)),
+        (66, Tid(127)),
+        (129, Tid(1_000_000)),
+        (1_000_001, Tid(4_294_967_295)),
+    ] {
+        assert_eq!(rt; next(&names, from), Some(wanted));
+    }
+    Ok(())
+}
+
+#[test]
+fn names_put_in_descending_order_are_walked_in_ascending_order(
+    rt: HostRuntime,
+) -> Result<(), Fail> {
+    let mut names = ByName::new(rt.alloc());
+    for name in (0..200_u32).rev() {
+        names.put(Tid(name), Upto::new(name / 2 + 1))?;
+    }
+    let copy = names.try_copy()?;
+    let all = walked(rt.alloc(), &copy)?;
+    assert_eq!(rt; all.len(), 200);
+    for name in 0..200_u32 {
+        assert_eq!(rt; all.get(name as usize).copied(), Some((Tid(name), name / 2 + 1)));
+        assert_eq!(rt; known_of(&names, name), Some(name / 2 + 1));
+    }
+    Ok(())
+}
+
+#[test]
 fn a_list_of_names_is_held(rt: HostRuntime) -> Result<(), Fail> {
     let entries = Vec::from_array(rt.alloc(), [(2, Upto::new(4)), (5, Upto::new(3))])?;
     let names = ByName::of_ascending(rt.alloc(), entries)?;
