@@ -150,6 +150,28 @@ module _ {V : Type 0} where
     | inr le ↦ not_some (value_at xs q) (beyond xs n p q h le ∙ ap (λ es. value_at es q) (past xs p is)) some
   ]
 
+  -- the place after all
+  before_last : (a : ℕ) (front : List (ℕ × V)) (last : ℕ × V) (n : ℕ) → AscendFrom a (front ++ last ∷ []) → last.0 < n → (a < n) × AreBefore n (front ++ last ∷ [])
+  before_last a [] last n h lt = (let le = h.0 in omega arith, (lt, tt))
+  before_last a (x ∷ front) last n h lt = let k = before_last (x.0 + 1) front last n h.1 lt in let up = k.0 in let le = h.0 in (omega arith, (omega arith, k.1))
+
+  whole_before : (n : ℕ) (xs : List (ℕ × V)) → AreBefore n xs → AreBefore n (take (length xs) xs)
+  whole_before n [] h = tt
+  whole_before n (x ∷ xs) h = (h.0, whole_before n xs h.1)
+
+  none_after : (n : ℕ) (xs : List (ℕ × V)) → AscendFrom n (drop (length xs) xs)
+  none_after n [] = tt
+  none_after n (x ∷ xs) = none_after n xs
+
+  at_end : (xs : List (ℕ × V)) (n : ℕ) → AreBefore n xs → IsPlaceIn xs n (length xs)
+  at_end xs n h = record { fits = omega arith; before = whole_before n xs h; after = none_after n xs }
+
+  pub after_last : (xs front : List (ℕ × V)) (last : ℕ × V) (n : ℕ) → xs ≡ front ++ last ∷ [] → AscendFrom 0 xs → last.0 < n → IsPlaceIn xs n (length xs)
+  after_last xs front last n e h lt = at_end xs n (subst (AreBefore n) (sym e) (before_last 0 front last n (subst (AscendFrom 0) e h) lt).1)
+
+  pub after_none : (xs : List (ℕ × V)) (n : ℕ) → xs ≡ [] → IsPlaceIn xs n (length xs)
+  after_none xs n e = at_end xs n (subst (AreBefore n) (sym e) tt)
+
   -- an entry put at the place
   strictly : (n : ℕ) (es : List (ℕ × V)) → AscendFrom n es → begins_with es n ≡ false → AscendFrom (n + 1) es
   strictly n [] h e = tt

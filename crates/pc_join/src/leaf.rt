@@ -20,6 +20,17 @@ pub fn stands_at<V>(entries: &[(u32, V)], place: usize, name: u32) -> bool
     }
 }
 
+/// Whether the name is after all that stand there, found without a search: names mostly come in their order.
+fn is_after_all<V>(entries: &[(u32, V)], name: u32) -> bool
+    requires { AscendFrom 0 entries.now }
+    ensures { IsTrue result → IsPlaceIn entries.now name (length entries.now) }
+{
+    match entries.split_last() {
+        Some((last, _)) => last.0 < name,
+        None => true,
+    }
+}
+
 /// How many of the entries have lesser names. Names mostly are dense: then each stands at the place that its bits below 64 say.
 pub fn place_of<V>(entries: &[(u32, V)], name: u32) -> usize
     requires { AscendFrom 0 entries.now }
@@ -28,6 +39,9 @@ pub fn place_of<V>(entries: &[(u32, V)], name: u32) -> usize
     let dense = (name % NAMES) as usize;
     if stands_at(entries, dense, name) {
         return dense;
+    }
+    if is_after_all(entries, name) {
+        return entries.len();
     }
     entries.partition_point(
         |entry: &(u32, V)| -> bool
