@@ -409,7 +409,10 @@ fn names_put_in_descending_order_are_walked_in_ascending_order(
     let all = walked(rt.alloc(), &copy)?;
     assert_eq!(rt; all.len(), 200);
     for name in 0..200_u32 {
-        assert_eq!(rt; all.get(name as usize).copied(), Some((Tid(name), name / 2 + 1)));
+        assert_eq!(rt;
+            all.get(name as usize).copied(),
+            Some((Tid(name), name / 2 + 1))
+        );
         assert_eq!(rt; known_of(&names, name), Some(name / 2 + 1));
     }
     Ok(())
