@@ -8,3 +8,5 @@ pub mod Walks
 pub mod Entries
 pub mod Standing
 pub mod Trees
+pub mod Indexed
+pub mod Both

@@ -8,3 +8,4 @@ pub mod Puts
 pub mod NameLaws
 pub mod Blocks
 pub mod Leaves
+pub mod Near

@@ -9,7 +9,7 @@ ghost use Rattle.pc_join.specs.Inner.Puts.{IsJoinedAt, IsPut, IsWholeAt, HasNoVo
 ghost use Rattle.pc_join.specs.Inner.NameLaws.{unique_by_name, stays_by_name};
 
 use crate::join::{Join, OutOfMemory};
-use crate::leaves::Leaves;
+use crate::values::Values;
 use crate::walk::{Iter, Lookups};
 use pc_messages::Tid;
 use std::alloc::Global;
@@ -20,7 +20,7 @@ use std::marker::Model;
 /// A join searches here for each name of the other: the other is mostly the smaller by far.
 #[derive(Drop)]
 pub struct ByName<V: Join> {
-    values: Leaves<V>,
+    values: Values<V>,
     alloc: Global,
 }
 
@@ -46,7 +46,7 @@ impl<V: Join> ByName<V> {
         ensures { result ≡ map.empty }
     {
         ByName {
-            values: Leaves::new(alloc),
+            values: Values::new(alloc),
             alloc,
         }
     }
@@ -152,11 +152,11 @@ impl<V: Join> Join for ByName<V> {
 }
 
 /// The values of these entries.
-fn collected<V: Join>(alloc: Global, entries: Vec<(u32, V)>) -> Result<Leaves<V>, OutOfMemory>
+fn collected<V: Join>(alloc: Global, entries: Vec<(u32, V)>) -> Result<Values<V>, OutOfMemory>
     requires { AscendFrom 0 entries.items }
     ensures { IfOk result (λ values. map.from_entries {R = nat_cmp} values ≡ map.from_entries entries.items) }
 {
-    let mut values = Leaves::new(alloc);
+    let mut values = Values::new(alloc);
     for (name, value) in entries {
         values.put(name, value)?;
     }
@@ -164,7 +164,7 @@ fn collected<V: Join>(alloc: Global, entries: Vec<(u32, V)>) -> Result<Leaves<V>
 }
 
 /// Joins each value of the other to what is held under its name.
-fn join_all<V: Join>(values: &mut Leaves<V>, other: &Leaves<V>) -> Result<(), OutOfMemory>
+fn join_all<V: Join>(values: &mut Values<V>, other: &Values<V>) -> Result<(), OutOfMemory>
     ensures part { (name : ℕ)
         → IsJoinedAt V.known V.is_of (value_at values.old name) (value_at other.now name) (value_at values.new name) }
     ensures whole { OnOk result ((name : ℕ)
@@ -177,7 +177,7 @@ fn join_all<V: Join>(values: &mut Leaves<V>, other: &Leaves<V>) -> Result<(), Ou
 }
 
 /// Whether what is held under the name knows all that the value knows.
-fn covers_at<V: Join>(values: &Leaves<V>, name: u32, value: &V) -> bool
+fn covers_at<V: Join>(values: &Values<V>, name: u32, value: &V) -> bool
     ensures covered { IsTrue result → IsWithin (V.known value.now) (known_in V.known (value_at values.now name)) }
     ensures not_covered { ¬ IsVoid (V.known value.now)
         → IsWithin (V.known value.now) (known_in V.known (value_at values.now name)) → IsTrue result }
@@ -189,7 +189,7 @@ fn covers_at<V: Join>(values: &Leaves<V>, name: u32, value: &V) -> bool
 }
 
 /// Whether what is held under each name knows all that the other holds there.
-fn covers_all<V: Join>(values: &Leaves<V>, other: &Leaves<V>) -> bool
+fn covers_all<V: Join>(values: &Values<V>, other: &Values<V>) -> bool
     requires { HasNoVoid V.known (value_at other.now) }
     ensures { IsTrue result ↔ IsCovered V.known (value_at other.now) (value_at values.now) }
 {
@@ -202,10 +202,10 @@ fn covers_all<V: Join>(values: &Leaves<V>, other: &Leaves<V>) -> bool
 }
 
 /// A map with equal values.
-fn copy_all<V: Join>(alloc: Global, values: &Leaves<V>) -> Result<Leaves<V>, OutOfMemory>
+fn copy_all<V: Join>(alloc: Global, values: &Values<V>) -> Result<Values<V>, OutOfMemory>
     ensures { IfOk result (λ copy. (name : ℕ) → value_at copy name ≡ value_at values.now name) }
 {
-    let mut copy = Leaves::new(alloc);
+    let mut copy = Values::new(alloc);
     for (name, value) in values.iter() {
         let one = value.try_copy()?;
         copy.put(name.index(), one)?;

@@ -1,5 +1,5 @@
-//! Values by name, in leaves of 64 names: so a look-up is one in a map of few leaves and one in a leaf, a walk goes through
-//! memory in order, and a name after all others of its leaf is put at the leaf's end.
+//! Values by names that are far apart, in leaves of 64 names: so a look-up is one in a map of few leaves and one in a leaf, a
+//! walk goes through memory in order, and a name after all others of its leaf is put at the leaf's end.
 
 ghost use Rattle.std.specs.Prelude.{ℕ, ◌≡◌, ◌↔◌, ◌<◌, ◌/◌, List, [], Option, Some, None, IsSome, IsTrue, MatchOption, OnOk, length, option_copied};
 ghost use Rattle.std.specs.BTreeMap.{get};
@@ -10,7 +10,7 @@ ghost use Rattle.pc_join.specs.Inner.Puts.{IsPut, IsWholeAt};
 
 use crate::join::{Join, OutOfMemory};
 use crate::leaf::{NAMES, join_in, name_from, put_in, value_of};
-use crate::walk::Iter;
+use crate::walk::FarIter;
 use std::alloc::Global;
 use std::collections::BTreeMap;
 use std::marker::Model;
@@ -157,6 +157,7 @@ impl<V: Join> Leaves<V> {
         ensures put { IsPut V.known V.is_of (value_at self.old) name value (value_at self.new) }
         ensures whole { OnOk result (IsWholeAt V.known (value_at self.old name) (Some value) (value_at self.new name)) }
         ensures fresh { value_at self.old name ≡ None → OnOk result (IsSetAt (value_at self.old) name value (value_at self.new)) }
+        ensures ascend { AscendFrom 0 self.new }
     {
         put_value(&mut self.leaves, self.alloc, name, value)
     }
@@ -165,6 +166,7 @@ impl<V: Join> Leaves<V> {
     pub fn join(&mut self, name: u32, value: &V) -> Result<(), OutOfMemory>
         ensures put { IsPut V.known V.is_of (value_at self.old) name value.now (value_at self.new) }
         ensures whole { OnOk result (IsWholeAt V.known (value_at self.old name) (Some value.now) (value_at self.new name)) }
+        ensures ascend { AscendFrom 0 self.new }
     {
         join_value(&mut self.leaves, self.alloc, name, value)
     }
@@ -185,10 +187,10 @@ impl<V: Join> Leaves<V> {
     }
 
     /// All values with their names, by ascending names.
-    pub fn iter(&self) -> Iter<'_, V>
+    pub fn iter(&self) -> FarIter<'_, V>
         ensures entries { result ≡ self.now }
         ensures ascend { AscendFrom 0 self.now }
     {
-        Iter::of(&self.leaves)
+        FarIter::of(&self.leaves)
     }
 }

@@ -10,9 +10,11 @@ pub mod laws;
 mod leaf;
 mod leaves;
 mod name_set;
+mod near;
 mod numbers;
 mod turn;
 mod upto;
+mod values;
 mod walk;
 
 pub use by_name::ByName;

@@ -1,0 +1,234 @@
+//! Values by names that are near 0, where the names of threads are: found by an index.
+
+ghost use Rattle.std.specs.Prelude.{ℕ, ◌≡◌, ◌<◌, ◌≤◌, ◌+◌, [], ◌∷◌, None, Some, IsTrue, ◌↔◌, IsSome, MatchOption, OnOk, length, option_copied};
+ghost use Rattle.pc_join.specs.ByName.{IsLeastFrom, value_at};
+ghost use Rattle.pc_join.specs.Inner.Leaves.{IsSetAt};
+ghost use Rattle.pc_join.specs.Inner.Near.{AreNear, FindsPlace, IsIndex, entries_at, first_value, entry_at, found_by, place_in};
+ghost use Rattle.pc_join.specs.Inner.Puts.{IsPut, IsWholeAt};
+
+use crate::join::{Join, OutOfMemory};
+use crate::walk::NearIter;
+use std::alloc::Global;
+use std::marker::Model;
+
+/// So many names have an index, which then takes 256 KiB at the most: no kernel gives as many. Names from here on come from
+/// deltas that somebody made up.
+pub const NEAR: u32 = 65_536;
+
+/// So many entries can be counted in 32 bits.
+const MOST: usize = u32::MAX as usize;
+
+/// Values by near names: the place of each name, counted from 1, or 0, and entries in the order in which their names came. So
+/// a look-up reads one place and one entry, and a new name moves no other.
+#[derive(Drop)]
+pub struct Near<V: Join> {
+    places: Vec<u32>,
+    entries: Vec<(u32, V)>,
+}
+
+impl<V: Join> Model for Near<V> {
+    ghost use Rattle.std.specs.Prelude.{ℕ, List};
+    ghost use Rattle.pc_join.specs.Inner.Near.{IsIndex, entries_at};
+
+    ghost Value = { List (ℕ × V) };
+
+    ghost view = { λ near. entries_at near.places.items near.entries.items };
+
+    ghost invariant = { λ near. IsIndex near.places.items near.entries.items };
+}
+
+/// The place of the name; 0 where it has none.
+fn place_of(places: &[u32], name: u32) -> u32
+    ensures { result ≡ place_in places.now name }
+{
+    match places.get(name as usize) {
+        Some(place) => *place,
+        None => 0,
+    }
+}
+
+/// The entry at a place.
+pub(crate) fn entry_of<V>(entries: &[(u32, V)], place: u32) -> Option<&(u32, V)>
+    ensures { MatchOption result (entry_at entries.now place ≡ []) (λ entry. entry_at entries.now place ≡ entry.now ∷ []) }
+{
+    if place == 0 {
+        return None;
+    }
+    entries.get(place as usize - 1)
+}
+
+/// The value at a place.
+fn value_of<V>(entries: &[(u32, V)], place: u32) -> Option<&V>
+    ensures { option_copied result ≡ first_value (entry_at entries.now place) }
+{
+    match entry_of(entries, place) {
+        Some(entry) => Some(&entry.1),
+        None => None,
+    }
+}
+
+/// Joins a value to the one at the place of its name.
+fn join_at<V: Join>(
+    places: &[u32],
+    entries: &mut Vec<(u32, V)>,
+    name: u32,
+    place: u32,
+    value: &V,
+) -> Result<(), OutOfMemory>
+    requires index { IsIndex places.now entries.old.items }
+    requires place { place ≡ place_in places.now name }
+    requires there { 1 ≤ place }
+    ensures put { IsPut V.known V.is_of (found_by places.now entries.old.items) name value.now (found_by places.now entries.new.items) }
+    ensures whole { OnOk result
+        (IsWholeAt V.known (found_by places.now entries.old.items name) (Some value.now) (found_by places.now entries.new.items name)) }
+    ensures index { IsIndex places.now entries.new.items }
+    ensures there { ¬ (found_by places.now entries.old.items name ≡ None) }
+{
+    let _ = places.len();
+    entries[place as usize - 1].1.join_from(value)
+}
+
+/// Makes the index reach the name.
+fn reach(places: &mut Vec<u32>, name: u32) -> Result<(), OutOfMemory>
+    requires near { length places.old.items ≤ NEAR }
+    requires name { name < NEAR }
+    ensures same { (other : ℕ) → place_in places.new.items other ≡ place_in places.old.items other }
+    ensures near { length places.new.items ≤ NEAR }
+    ensures reached { OnOk result (name < length places.new.items) }
+{
+    let wanted = name as usize + 1;
+    if places.len() < wanted {
+        places.resize(wanted, 0)?;
+    }
+    Ok(())
+}
+
+/// Puts a value under a name that has no place yet.
+fn start_at<V: Join>(
+    places: &mut Vec<u32>,
+    entries: &mut Vec<(u32, V)>,
+    name: u32,
+    value: V,
+) -> Result<(), OutOfMemory>
+    requires index { IsIndex places.old.items entries.old.items }
+    requires name { name < NEAR }
+    requires new { place_in places.old.items name ≡ 0 }
+    ensures put { IsPut V.known V.is_of (found_by places.old.items entries.old.items) name value
+        (found_by places.new.items entries.new.items) }
+    ensures whole { OnOk result (IsWholeAt V.known (found_by places.old.items entries.old.items name) (Some value)
+        (found_by places.new.items entries.new.items name)) }
+    ensures fresh { OnOk result
+        (IsSetAt (found_by places.old.items entries.old.items) name value (found_by places.new.items entries.new.items)) }
+    ensures index { IsIndex places.new.items entries.new.items }
+{
+    if entries.len() >= MOST {
+        return Err(OutOfMemory);
+    }
+    reach(places, name)?;
+    entries.push((name, value))?;
+    places[name as usize] = entries.len() as u32;
+    Ok(())
+}
+
+/// The least name from one on that has a place.
+fn next_name(places: &[u32], from: u32) -> Option<u32>
+    requires { length places.now ≤ NEAR }
+    ensures { FindsPlace places.now from result }
+{
+    for name in from as usize..places.len() {
+        if places[name] != 0 {
+            return Some(name as u32);
+        }
+    }
+    None
+}
+
+impl<V: Join> Near<V> {
+    /// No values.
+    pub fn new(alloc: Global) -> Self
+        ensures none { result ≡ [] }
+        ensures near { AreNear result }
+    {
+        Near {
+            places: Vec::new(alloc),
+            entries: Vec::new(alloc),
+        }
+    }
+
+    /// Takes all values out, and keeps the room that they had.
+    pub fn clear(&mut self)
+        ensures none { self.new ≡ [] }
+        ensures near { AreNear self.new }
+    {
+        self.places.clear();
+        self.entries.clear();
+    }
+
+    /// What stands under the name.
+    pub fn get(&self, name: u32) -> Option<&V>
+        ensures { option_copied result ≡ value_at self.now name }
+    {
+        value_of(
+            self.entries.as_slice(),
+            place_of(self.places.as_slice(), name),
+        )
+    }
+
+    /// Joins a value to what stands under the name.
+    pub fn put(&mut self, name: u32, value: V) -> Result<(), OutOfMemory>
+        requires { name < NEAR }
+        ensures put { IsPut V.known V.is_of (value_at self.old) name value (value_at self.new) }
+        ensures whole { OnOk result (IsWholeAt V.known (value_at self.old name) (Some value) (value_at self.new name)) }
+        ensures fresh { value_at self.old name ≡ None → OnOk result (IsSetAt (value_at self.old) name value (value_at self.new)) }
+        ensures near { AreNear self.new }
+    {
+        let place = place_of(self.places.as_slice(), name);
+        if place == 0 {
+            return start_at(&mut self.places, &mut self.entries, name, value);
+        }
+        join_at(
+            self.places.as_slice(),
+            &mut self.entries,
+            name,
+            place,
+            &value,
+        )
+    }
+
+    /// Joins a value, of which a copy is held where the name is new.
+    pub fn join(&mut self, name: u32, value: &V) -> Result<(), OutOfMemory>
+        requires { name < NEAR }
+        ensures put { IsPut V.known V.is_of (value_at self.old) name value.now (value_at self.new) }
+        ensures whole { OnOk result (IsWholeAt V.known (value_at self.old name) (Some value.now) (value_at self.new name)) }
+        ensures near { AreNear self.new }
+    {
+        let place = place_of(self.places.as_slice(), name);
+        if place == 0 {
+            let copy = value.try_copy()?;
+            return start_at(&mut self.places, &mut self.entries, name, copy);
+        }
+        join_at(
+            self.places.as_slice(),
+            &mut self.entries,
+            name,
+            place,
+            value,
+        )
+    }
+
+    /// The least name under which a value stands, from one on.
+    pub fn next(&self, from: u32) -> Option<u32>
+        ensures { MatchOption result ((name : ℕ) → IsSome (value_at self.now name)
+            → name < from) (IsLeastFrom (value_at self.now) from) }
+    {
+        next_name(self.places.as_slice(), from)
+    }
+
+    /// All values with their names, by ascending names.
+    pub fn iter(&self) -> NearIter<'_, V>
+        ensures entries { result ≡ self.now }
+        ensures near { AreNear self.now }
+    {
+        NearIter::of(self.places.as_slice(), self.entries.as_slice())
+    }
+}
