@@ -1,13 +1,12 @@
 -- Sets of names.
-use Rattle.std.specs.Prelude.{ℕ, ◌/◌, ◌%◌, ◌<◌, ◌≤◌, ◌≡◌, Bool, true, false, Option, Some, None}
-use Rattle.std.specs.BTreeMap.{get}
-use Rattle.std.specs.Ordering.{nat_cmp}
-use Rattle.pc_join.specs.Inner.Blocks.{is_in_block}
+use Rattle.std.specs.Prelude.{ℕ, ◌<◌, ◌≤◌, ◌≡◌, Bool, true, false, ltb, if◌then◌else◌, Option, Some, None}
+use Rattle.pc_join.specs.Inner.Blocks.{is_in_blocks, is_in_words}
 use Rattle.pc_join.specs.declared.name_set.NameSet.{NameSet}
+use Rattle.pc_join.specs.declared.name_set.TheConstants.{DENSE}
 
--- the set has the name
+-- the set has the name: below the bound its word has it, from there on its block
 abbrev pub is_in : NameSet → ℕ → Bool
-is_in set name = is_in_block (get nat_cmp set.blocks (name / 64)) (name % 64)
+is_in set name = if ltb name DENSE then is_in_words set.words.items name else is_in_blocks set.blocks name
 
 -- the name passes the test, and no lesser one does, of those from one on; it fits 32 bits
 pub record IsFirstFrom (test : ℕ → Bool) (from name : ℕ) : Type 0 where
