@@ -11,9 +11,10 @@ use Rattle.pc_messages.specs.declared.kind.Kind.{Kind}
 use Rattle.pc_messages.specs.declared.reported.Reported.{Reported}
 use Rattle.pc_messages.specs.Run.{IsWellFormed, is_created}
 use Rattle.pc_join.specs.Sets.{Source}
-use Rattle.pc_thread_view.specs.Told.{IsSound, RiseAbove, AreLater, HasEach, is_early}
+use Rattle.pc_thread_view.specs.Told.{Told, IsSound, RiseAbove, AreLater, HasEach, is_early, tells}
 use Rattle.pc_thread_view.specs.Inner.Taking.{IsPlace, BeginsWith, AreBelow, Gains}
 use Rattle.pc_join.specs.Ranges.{one_to}
+use Rattle.pc_thread_view.specs.Inner.ToldLaws.{lacks_next}
 use Rattle.pc_thread_view.proofs.Gaining.{rise_from, not_created, eq_sym}
 
 above : (n : ℕ) (xs : List (ℕ × Kind)) (j : ℕ) (d : ℕ × Kind) → RiseAbove n xs → j < length xs → n < (get_or xs j d).0
@@ -104,6 +105,21 @@ lacks early number p h =
     ∙ list_any-append (λ e. e.0 == number) (take p early) (drop p early)
     ∙ ap (λ b. b || is_early (drop p early) number) (lacks_below number (take p early) h.before)
     ∙ lacks_above 0 number (drop p early) h.after
+
+-- a number past the next of the prefix that has a place is not told, and neither is the next one
+pub lacks_told : (v : Told) (number p : ℕ) → v.upto + 1 < number → IsPlace v.early number p → tells v number ≡ false
+lacks_told v number p gap h = ap (λ b. b || is_early v.early number) (none v.upto number (omega arith)) ∙ lacks v.early number p h
+  where
+    none : (upto n : ℕ) → upto < n → one_to upto n ≡ false
+    none upto n h = grind (arith, nat_tests)
+
+pub next_lacks : (v : Told) (number : ℕ) → IsSound v → number ≡ v.upto + 1 → tells v number ≡ false
+next_lacks v number h e = ap (tells v) e ∙ lacks_next v h.gap
+
+-- where the last one is below the number, all are
+pub below_last : (n : ℕ) (front : List (ℕ × Kind)) (last : ℕ × Kind) (number : ℕ) → RiseAbove n (front ++ last ∷ []) → last.0 < number → (n < number) × AreBelow number (front ++ last ∷ [])
+below_last n [] last number h lt = (omega arith, (lt, tt))
+below_last n (x ∷ xs) last number h lt = let k = below_last x.0 xs last number h.1 lt in (omega arith, (k.0, k.1))
 
 pub is_there : (early : List (ℕ × Kind)) (number : ℕ) (p : Option ℕ) (r : Bool) → MatchOption p (is_early early number ≡ true) (IsPlace early number) → is_some p ≡ not r → r ≡ is_early early number
 is_there early number None true h e = sym h

@@ -9,7 +9,7 @@ ghost use Rattle.pc_messages.specs.declared.kind.Kind.{Kind};
 ghost use Rattle.pc_join.specs.Sets.{Source};
 ghost use Rattle.pc_join.specs.Inner.Ranges.{IsEither, IsAmid};
 ghost use Rattle.pc_thread_view.specs.Told.{Told, IsSound, IsOfThread, RiseAbove, AreLater, HasEach, IsStateOfSome, tells, is_early};
-ghost use Rattle.pc_thread_view.specs.Inner.Taking.{Gains, NoneAbove, NoneAfter, IsLoose, IsAbsorbed, IsSettled, IsPlace, BeginsWith, AreTold, AreAmong};
+ghost use Rattle.pc_thread_view.specs.Inner.Taking.{Gains, NoneAbove, NoneAfter, IsLoose, IsAbsorbed, IsSettled, IsPlace, BeginsWith, AreTold, AreAmong, AreBelow};
 ghost use Rattle.pc_join.specs.Ranges.{one_to};
 ghost use Rattle.pc_thread_view.specs.Inner.Held.{told};
 
@@ -160,8 +160,30 @@ fn advance(held: &mut Held, other: &Held)
     settle(held);
 }
 
-/// How many of the messages come before the number; nothing where one of them has it.
-fn place_of(early: &[(u32, Kind)], number: u32) -> Option<usize>
+/// Whether the number comes after each of the messages.
+fn is_after_all(early: &[(u32, Kind)], number: u32) -> bool
+    requires { RiseAbove 0 early.now }
+    ensures { IsTrue result → AreBelow number early.now }
+{
+    match early.split_last() {
+        Some((last, _)) => last.0 < number,
+        None => true,
+    }
+}
+
+/// Whether the number comes before each of the messages.
+fn is_before_all(early: &[(u32, Kind)], number: u32) -> bool
+    requires { RiseAbove 0 early.now }
+    ensures { IsTrue result → RiseAbove number early.now }
+{
+    match early.split_first() {
+        Some((first, _)) => number < first.0,
+        None => true,
+    }
+}
+
+/// How many of the messages come before the number, by halves; nothing where one of them has it.
+fn place_by_halves(early: &[(u32, Kind)], number: u32) -> Option<usize>
     requires { RiseAbove 0 early.now }
     ensures { MatchOption result (is_early early.now number ≡ true) (IsPlace early.now number) }
 {
@@ -171,6 +193,21 @@ fn place_of(early: &[(u32, Kind)], number: u32) -> Option<usize>
         return None;
     }
     Some(place)
+}
+
+/// How many of the messages come before the number; nothing where one of them has it. Numbers mostly arrive in
+/// ascending or in descending order, so both ends are looked at before a search by halves.
+fn place_of(early: &[(u32, Kind)], number: u32) -> Option<usize>
+    requires { RiseAbove 0 early.now }
+    ensures { MatchOption result (is_early early.now number ≡ true) (IsPlace early.now number) }
+{
+    if is_after_all(early, number) {
+        return Some(early.len());
+    }
+    if is_before_all(early, number) {
+        return Some(0);
+    }
+    place_by_halves(early, number)
 }
 
 /// Whether the number is that of the first message.
@@ -183,11 +220,13 @@ fn begins_with(early: &[(u32, Kind)], number: u32) -> bool
     }
 }
 
-/// Takes in one message.
+/// Takes in one message. A number that is known changes nothing, and its place is searched only once.
 pub fn take_one(held: &mut Held, number: u32, kind: Kind) -> Result<(), OutOfMemory>
     requires sound { IsSound (told held.old) }
     requires well_formed { IsWellFormed number kind }
     ensures ok { OnOk result (Gains (told held.old) number kind (told held.new)) }
+    ensures known { IsTrue (tells (told held.old) number) → told held.new ≡ told held.old }
+    ensures known_succeeds { IsTrue (tells (told held.old) number) → IsOk result }
     ensures err { OnErr result (told held.new ≡ told held.old) }
 {
     let next = held.upto + 1;
@@ -207,8 +246,8 @@ pub fn take_one(held: &mut Held, number: u32, kind: Kind) -> Result<(), OutOfMem
     Ok(())
 }
 
-/// Takes in messages past the first: at the end where they belong there, one at its place, and else all anew.
-fn take_early(held: &mut Held, more: &[(u32, Kind)]) -> Result<(), OutOfMemory>
+/// Takes in several messages past the first: at the end where they belong there, and else all anew.
+fn take_several(held: &mut Held, more: &[(u32, Kind)]) -> Result<(), OutOfMemory>
     requires sound { IsSound (told held.old) }
     requires more { AreTold more.now }
     ensures sound { IsSound (told held.new) }
@@ -219,10 +258,6 @@ fn take_early(held: &mut Held, more: &[(u32, Kind)]) -> Result<(), OutOfMemory>
     if comes_after(held.early.as_slice(), more) {
         return merge(held, &[], more);
     }
-    if let [one] = more {
-        take_one(held, one.0, one.1)?;
-        return Ok(());
-    }
     let mut joined = Held {
         upto: held.upto,
         state: held.state,
@@ -231,6 +266,25 @@ fn take_early(held: &mut Held, more: &[(u32, Kind)]) -> Result<(), OutOfMemory>
     merge(&mut joined, held.early.as_slice(), more)?;
     *held = joined;
     Ok(())
+}
+
+/// Takes in messages past the first. Mostly there is none or one, which costs no walk over those that are held.
+fn take_early(held: &mut Held, more: &[(u32, Kind)]) -> Result<(), OutOfMemory>
+    requires sound { IsSound (told held.old) }
+    requires more { AreTold more.now }
+    ensures sound { IsSound (told held.new) }
+    ensures union { OnOk result (IsEither (tells (told held.old)) (is_early more.now) (tells (told held.new))) }
+    ensures amid { IsAmid (tells (told held.old)) (is_early more.now) (tells (told held.new)) }
+    ensures of_source { (s : Source) → IsOfThread (told held.old) s → HasEach s more.now → IsOfThread (told held.new) s }
+{
+    match more {
+        [] => Ok(()),
+        [one] => {
+            take_one(held, one.0, one.1)?;
+            Ok(())
+        }
+        _ => take_several(held, more),
+    }
 }
 
 /// Takes in all that the other holds.

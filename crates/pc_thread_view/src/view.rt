@@ -82,9 +82,6 @@ impl ThreadView {
         ensures err { OnErr result (self.new ≡ self.old) }
         ensures sound { IsSound self.new }
     {
-        if self.has(number) {
-            return Ok(());
-        }
         take_one(&mut self.held, number, kind)?;
         Ok(())
     }

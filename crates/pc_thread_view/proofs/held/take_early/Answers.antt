@@ -1,22 +1,5 @@
-use Rattle.std.proofs.Common.{subst, sym, arith, ◌+◌}
-use Rattle.pc_thread_view.specs.Inner.Held.{told}
-use Rattle.pc_thread_view.specs.Told.{RiseAbove, HasEach}
-use Rattle.pc_thread_view.specs.Inner.Taking.{AreTold}
-use Rattle.pc_thread_view.proofs.Gaining.{rise_from}
-use Rattle.pc_thread_view.proofs.Taking.{early_told, fresh_source, one_of_source}
+use Rattle.pc_thread_view.proofs.Taking.{one_of_source}
 use Rattle.pc_thread_view.proofs.held.take_early.Goals as goal
 
-pub comes_after-requires : goal.comes_after-requires
-comes_after-requires c = subst (RiseAbove 0) (sym c.as_slice.ensures) (rise_from (c.args.held.now.upto + 1) 0 c.args.held.now.early.items (omega arith) c.requires.sound.gap)
-
-pub returns-then-comes_after-clause-of_source : goal.returns-then-comes_after-clause-of_source
-returns-then-comes_after-clause-of_source c = λ s a b. c.merge.ensures.of_source s a tt b
-
-pub merge-requires-2-clause-first : goal.merge-requires-2-clause-first
-merge-requires-2-clause-first c = subst AreTold (sym c.as_slice-2.ensures) (early_told (told c.args.held.now) c.requires.sound)
-
-pub returns-clause-of_source : goal.returns-clause-of_source
-returns-clause-of_source c = λ s a b. c.merge-2.ensures.of_source s (fresh_source (told c.args.held.now) c.new.result.items c.args.more.now (told c.args.held.now) c.new.ensures.items s a) (subst (HasEach s) (sym c.as_slice-2.ensures) a.early) b
-
-pub returns-in-len1-clause-of_source : goal.returns-in-len1-clause-of_source
-returns-in-len1-clause-of_source c = λ s a b. c.in_ok-take_one.ensures.ok.of_source s a (one_of_source c.args.more.now c.one-item.result s c.in-len1.len_at_least c.in-len1.len_below c.one-item.is b)
+pub returns-in_ok-take_one-in-len1-clause-of_source : goal.returns-in_ok-take_one-in-len1-clause-of_source
+returns-in_ok-take_one-in-len1-clause-of_source c = λ s a b. c.in_ok-take_one-in-len1.ensures.ok.of_source s a (one_of_source c.args.more.now c.one-item.result s c.in-len1.len_at_least c.in-len1.len_below c.one-item.is b)

@@ -1,11 +1,12 @@
-use Rattle.std.proofs.Common.{subst, sym, arith, ◌+◌, ◌≢◌, List, ℕ}
+use Rattle.std.proofs.Common.{subst, sym, arith, ◌∙◌, ◌+◌, ◌<◌, ◌≤◌, ◌≢◌, List, ℕ}
+use Rattle.std.proofs.lemmas.Bool.{false≢true}
 use Rattle.pc_messages.specs.declared.kind.Kind.{Kind}
 use Rattle.pc_thread_view.specs.Inner.Held.{told}
 use Rattle.pc_thread_view.specs.Told.{RiseAbove}
 use Rattle.pc_thread_view.specs.Inner.Taking.{Gains, IsPlace}
 use Rattle.pc_thread_view.proofs.Gaining.{rise_from}
 use Rattle.pc_thread_view.proofs.Settling.{next_loose, next_gains}
-use Rattle.pc_thread_view.proofs.Places.{gains_insert}
+use Rattle.pc_thread_view.proofs.Places.{gains_insert, lacks_told, next_lacks}
 use Rattle.pc_thread_view.proofs.held.take_one.Goals as goal
 
 pub settle-requires : goal.settle-requires
@@ -24,3 +25,20 @@ returns-clause-ok c =
     subst P (sym c.in_ok-insert.ensures.ok)
     (gains_insert c.args.held.now.upto c.args.held.now.state early c.args.number c.in-Some.place c.args.kind c.requires.sound c.requires.well_formed (let h = c.if-number-next.false in let g : c.args.number ≢ c.args.held.now.upto + 1 = c.if-number-next-2.false in omega arith)
     (subst (λ es. IsPlace es c.args.number c.in-Some.place) c.as_slice.ensures c.in-Some.ensures))
+
+pub returns-then-number-next-2-clause-known : goal.returns-then-number-next-2-clause-known
+returns-then-number-next-2-clause-known c t = absurd (false≢true (sym (next_lacks (told c.args.held.now) c.args.number c.requires.sound c.if-number-next-2.true) ∙ t))
+
+-- between the two
+past : (n m : ℕ) → m + 1 ≤ n → n ≢ m + 1 → m + 1 < n
+past n m h e = omega arith
+
+pub returns-in_err-insert-clause-known_succeeds : goal.returns-in_err-insert-clause-known_succeeds
+returns-in_err-insert-clause-known_succeeds c t =
+    absurd (false≢true (sym (lacks_told (told c.args.held.now) c.args.number c.in-Some.place (past c.args.number c.args.held.now.upto c.if-number-next.false c.if-number-next-2.false)
+    (subst (λ es. IsPlace es c.args.number c.in-Some.place) c.as_slice.ensures c.in-Some.ensures)) ∙ t))
+
+pub returns-clause-known : goal.returns-clause-known
+returns-clause-known c t =
+    absurd (false≢true (sym (lacks_told (told c.args.held.now) c.args.number c.in-Some.place (past c.args.number c.args.held.now.upto c.if-number-next.false c.if-number-next-2.false)
+    (subst (λ es. IsPlace es c.args.number c.in-Some.place) c.as_slice.ensures c.in-Some.ensures)) ∙ t))

@@ -1,7 +1,7 @@
 use Rattle.std.proofs.Common.{ltb, rules}
 use Rattle.std.proofs.lemmas.List.Sorted.{IsPartitionPoint-from_clause, IsPartitionedBy-ltb}
 use Rattle.pc_thread_view.proofs.Places.{ascending, place, there}
-use Rattle.pc_thread_view.proofs.held.place_of.Goals as goal
+use Rattle.pc_thread_view.proofs.held.place_by_halves.Goals as goal
 
 pub returns-then-begins_with : goal.returns-then-begins_with
 returns-then-begins_with c = there c.args.early.now c.split_at.result.1.now c.partition_point-place.result c.args.number c.begins_with.result c.split_at.ensures.back c.begins_with.ensures c.if-begins_with.true
