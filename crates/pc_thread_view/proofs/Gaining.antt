@@ -64,10 +64,10 @@ kinds_push s n (k ∷ ks) kind h e = (h.0, kinds_push s (n + 1) ks kind h.1 (sub
 prefix_more : (upto n : ℕ) → (one_to (upto + 1) n || false) ≡ ((one_to upto n || false) || (n == upto + 1))
 prefix_more upto n = grind (arith, nat_tests)
 
-pub gains_next : (upto : ℕ) (state next : Option Reported) (early : List (ℕ × Kind)) (number : ℕ) (kind : Kind) → IsSound (record { upto = upto; state = state; early = early }) → IsWellFormed number kind → number ≡ upto + 1 → NoneAbove number early
+pub gains_next : (upto u : ℕ) (state next : Option Reported) (early : List (ℕ × Kind)) (number : ℕ) (kind : Kind) → IsSound (record { upto = upto; state = state; early = early }) → IsWellFormed number kind → number ≡ upto + 1 → u ≡ upto + 1 → NoneAbove number early
     → IsStateOfSome (upto + 1) next → ((kinds : List Kind) → length kinds ≡ upto → state ≡ state_of kinds → next ≡ state_of (kinds ++ kind ∷ []))
-    → Gains (record { upto = upto; state = state; early = early }) number kind (record { upto = number; state = next; early = early })
-gains_next upto state next early number kind sound well e none some folded =
+    → Gains (record { upto = upto; state = state; early = early }) number kind (record { upto = u; state = next; early = early })
+gains_next upto u state next early number kind sound well e un none some folded =
     let empty : early ≡ [] = none_early (upto + 1) early sound.gap (subst (λ n. NoneAbove n early) e none) in
     let at_end : Gains (record { upto = upto; state = state; early = [] }) (upto + 1) kind (record { upto = upto + 1; state = next; early = [] }) = record {
       sound = record { state = some; upto_fits = let k = well.greatest in omega arith; gap = tt; early = tt };
@@ -83,8 +83,9 @@ gains_next upto state next early number kind sound well e none some folded =
         early = tt;
       };
     } in
-    subst (λ es. Gains (record { upto = upto; state = state; early = es }) number kind (record { upto = number; state = next; early = es })) (sym empty)
-    (subst (λ m. Gains (record { upto = upto; state = state; early = [] }) m kind (record { upto = m; state = next; early = [] })) (sym e) at_end)
+    subst (λ es. Gains (record { upto = upto; state = state; early = es }) number kind (record { upto = u; state = next; early = es })) (sym empty)
+    (subst (λ m. Gains (record { upto = upto; state = state; early = [] }) m kind (record { upto = u; state = next; early = [] })) (sym e)
+    (subst (λ m. Gains (record { upto = upto; state = state; early = [] }) (upto + 1) kind (record { upto = m; state = next; early = [] })) (sym un) at_end))
   where
     place : (l u : ℕ) → l ≡ u → u + 1 ≡ 0 + l + 1
     place l u h = omega arith

@@ -83,15 +83,16 @@ module _ (upto : ℕ) (state : Option Reported) (first : ℕ × Kind) (rest : Li
       known n true e = absorbed (one_to upto n) (is_early rest n) (subst (λ m. one_to upto m ≡ true) (eq_true first.0 n e) (prefix_yes upto first.0 (let k = loose.early.rise.0 in omega arith) le))
       known n false e = refl
 
-pub absorbs_next : (upto : ℕ) (state next : Option Reported) (early rest after : List (ℕ × Kind)) (first : ℕ × Kind) → IsLoose (record { upto = upto; state = state; early = early }) → early ≡ first ∷ rest → after ≡ drop 1 early → first.0 ≡ upto + 1
+pub absorbs_next : (upto u : ℕ) (state next : Option Reported) (early rest after : List (ℕ × Kind)) (first : ℕ × Kind) → IsLoose (record { upto = upto; state = state; early = early }) → early ≡ first ∷ rest → after ≡ drop 1 early → first.0 ≡ upto + 1 → u ≡ upto + 1
     → IsStateOfSome (upto + 1) next → ((kinds : List Kind) → length kinds ≡ upto → state ≡ state_of kinds → next ≡ state_of (kinds ++ first.1 ∷ []))
-    → IsAbsorbed (record { upto = upto; state = state; early = early }) (record { upto = first.0; state = next; early = after })
-absorbs_next upto state next early rest after first loose e f n some folded =
+    → IsAbsorbed (record { upto = upto; state = state; early = early }) (record { upto = u; state = next; early = after })
+absorbs_next upto u state next early rest after first loose e f n un some folded =
     let on : IsLoose (record { upto = upto; state = state; early = first ∷ rest }) = subst (λ es. IsLoose (record { upto = upto; state = state; early = es })) e loose in
     let left : after ≡ rest = f ∙ ap (drop 1) e in
-    subst (λ es. IsAbsorbed (record { upto = upto; state = state; early = es }) (record { upto = first.0; state = next; early = after })) (sym e)
+    subst (λ m. IsAbsorbed (record { upto = upto; state = state; early = early }) (record { upto = m; state = next; early = after })) (n ∙ sym un)
+    (subst (λ es. IsAbsorbed (record { upto = upto; state = state; early = es }) (record { upto = first.0; state = next; early = after })) (sym e)
     (subst (λ es. IsAbsorbed (record { upto = upto; state = state; early = first ∷ rest }) (record { upto = first.0; state = next; early = es })) (sym left)
-    (absorb_next upto state first rest on next n some folded))
+    (absorb_next upto state first rest on next n some folded)))
 
 pub absorbs_known : (upto : ℕ) (state : Option Reported) (early rest after : List (ℕ × Kind)) (first : ℕ × Kind) → IsLoose (record { upto = upto; state = state; early = early }) → early ≡ first ∷ rest → after ≡ drop 1 early → first.0 ≤ upto
     → IsAbsorbed (record { upto = upto; state = state; early = early }) (record { upto = upto; state = state; early = after })
@@ -156,25 +157,25 @@ pub advance_source : (v w new : Told) → IsSettled (record { upto = w.upto; sta
 advance_source v w new h s a b = h.of_source s (record { prefix = b.prefix; early = a.early })
 
 -- the next message of the prefix
-module _ (upto number : ℕ) (state next : Option Reported) (early : List (ℕ × Kind)) (kind : Kind) (sound : IsSound (record { upto = upto; state = state; early = early })) (well : IsWellFormed number kind) (e : number ≡ upto + 1) (some : IsStateOfSome (upto + 1) next) where
-  pub next_loose : IsLoose (record { upto = number; state = next; early = early })
+module _ (upto number u : ℕ) (state next : Option Reported) (early : List (ℕ × Kind)) (kind : Kind) (sound : IsSound (record { upto = upto; state = state; early = early })) (well : IsWellFormed number kind) (e : number ≡ upto + 1) (un : u ≡ upto + 1) (some : IsStateOfSome (upto + 1) next) where
+  pub next_loose : IsLoose (record { upto = u; state = next; early = early })
   next_loose = record {
-    state = subst (λ n. IsStateOfSome n next) (sym e) some;
+    state = subst (λ n. IsStateOfSome n next) (sym un) some;
     some = omega arith;
-    upto_fits = well.greatest;
+    upto_fits = let k = well.greatest in omega arith;
     early = early_told (record { upto = upto; state = state; early = early }) sound;
   }
 
-  pub next_gains : (new : Told) → ((kinds : List Kind) → length kinds ≡ upto → state ≡ state_of kinds → next ≡ state_of (kinds ++ kind ∷ [])) → IsSettled (record { upto = number; state = next; early = early }) new
+  pub next_gains : (new : Told) → ((kinds : List Kind) → length kinds ≡ upto → state ≡ state_of kinds → next ≡ state_of (kinds ++ kind ∷ [])) → IsSettled (record { upto = u; state = next; early = early }) new
       → Gains (record { upto = upto; state = state; early = early }) number kind new
   next_gains new folded h = record {
     sound = h.sound;
     union = λ n.
-        h.same n ∙ ap (λ m. one_to m n || is_early early n) e ∙ ap (λ b. b || is_early early n) (prefix_next upto n)
+        h.same n ∙ ap (λ m. one_to m n || is_early early n) un ∙ ap (λ b. b || is_early early n) (prefix_next upto n)
         ∙ or_swap (one_to upto n) (upto + 1 == n) (is_early early n)
         ∙ ap (λ b. (one_to upto n || is_early early n) || b) (ap (λ m. m == n) (sym e) ∙ eq_sym number n);
     of_source = λ s a g. h.of_source s (record {
-      prefix = subst (λ m. IsPrefix s m next) (sym e) (prefix_push s upto state next kind a.prefix (subst (λ m. s (m ∷ []) ≡ Some kind) e g) folded);
+      prefix = subst (λ m. IsPrefix s m next) (sym un) (prefix_push s upto state next kind a.prefix (subst (λ m. s (m ∷ []) ≡ Some kind) e g) folded);
       early = a.early;
     });
   }

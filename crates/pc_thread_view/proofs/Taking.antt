@@ -170,19 +170,19 @@ shuffled : (p a b : Bool) → ((p || false) || (a || b)) ≡ ((p || a) || b)
 shuffled true a b = refl
 shuffled false a b = refl
 
-module _ (a : Told) (none more : List (ℕ × Kind)) (v : Told) (empty : none ≡ []) where
-  abbrev pub fresh : Told
-  fresh = record { upto = a.upto; state = a.state; early = none }
-
+module _ (a fresh : Told) (alone : fresh ≡ record { upto = a.upto; state = a.state; early = [] }) where
   pub fresh_sound : IsSound a → IsSound fresh
-  fresh_sound h = subst (λ es. IsSound (record { upto = a.upto; state = a.state; early = es })) (sym empty) (record { state = h.state; upto_fits = h.upto_fits; gap = tt; early = tt })
+  fresh_sound h = subst IsSound (sym alone) (record { state = h.state; upto_fits = h.upto_fits; gap = tt; early = tt })
 
   pub fresh_source : (s : Source) → IsOfThread a s → IsOfThread fresh s
-  fresh_source s h = subst (λ es. IsOfThread (record { upto = a.upto; state = a.state; early = es }) s) (sym empty) (record { prefix = h.prefix; gap = tt; early = tt })
+  fresh_source s h = subst (λ v. IsOfThread v s) (sym alone) (record { prefix = h.prefix; gap = tt; early = tt })
 
-  pub union_anew : IsEither (tells fresh) (λ n. is_early a.early n || is_early more n) (tells v) → IsEither (tells a) (is_early more) (tells v)
-  union_anew e n =
-      e n ∙ ap (λ es. (one_to a.upto n || is_early es n) || (is_early a.early n || is_early more n)) empty
+  pub fresh_after : (more : List (ℕ × Kind)) → NoneAfter fresh.early more
+  fresh_after more = after_none fresh.early (ap (λ v. v.early) alone) more
+
+  pub union_anew : (more : List (ℕ × Kind)) (v : Told) → IsEither (tells fresh) (λ n. is_early a.early n || is_early more n) (tells v) → IsEither (tells a) (is_early more) (tells v)
+  union_anew more v e n =
+      e n ∙ ap (λ f. tells f n || (is_early a.early n || is_early more n)) alone
       ∙ shuffled (one_to a.upto n) (is_early a.early n) (is_early more n)
 
 -- one message

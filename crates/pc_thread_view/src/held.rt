@@ -1,42 +1,26 @@
 //! What a thread view holds, built up in the order of the numbers: nothing is put into a gap, and nothing is taken
 //! out again.
 
-ghost use Rattle.std.specs.Prelude.{ℕ, ◌+◌, ◌≡◌, ◌≤◌, ◌<◌, ◌↔◌, ◌==◌, ◌||◌, Bool, true, false, List, [], ◌∷◌, ◌++◌, length, Some, None, MatchOption, IsTrue, IsFalse, IsOk, IfOk, OnOk, OnErr};
-ghost use Rattle.pc_messages.specs.declared.message.TheConstants.{GREATEST_NUMBER};
-ghost use Rattle.pc_messages.specs.Run.{IsWellFormed, is_created};
-ghost use Rattle.pc_messages.specs.State.{state_of};
+ghost use Rattle.std.specs.Prelude.{ℕ, ◌+◌, ◌≡◌, ◌≤◌, ◌<◌, ◌↔◌, ◌==◌, ◌||◌, true, false, [], Some, None, MatchOption, IsTrue, IsFalse, IsOk, OnOk, OnErr};
+ghost use Rattle.pc_messages.specs.Run.{IsWellFormed};
 ghost use Rattle.pc_messages.specs.declared.kind.Kind.{Kind};
 ghost use Rattle.pc_join.specs.Sets.{Source};
 ghost use Rattle.pc_join.specs.Inner.Ranges.{IsEither, IsAmid};
-ghost use Rattle.pc_thread_view.specs.Told.{Told, IsSound, IsOfThread, RiseAbove, AreLater, HasEach, IsStateOfSome, tells, is_early};
+ghost use Rattle.pc_thread_view.specs.Told.{IsSound, IsOfThread, RiseAbove, HasEach, tells, is_early};
 ghost use Rattle.pc_thread_view.specs.Inner.Taking.{Gains, NoneAbove, NoneAfter, IsLoose, IsAbsorbed, IsSettled, IsPlace, BeginsWith, AreTold, AreAmong, AreBelow};
 ghost use Rattle.pc_join.specs.Ranges.{one_to};
 ghost use Rattle.pc_thread_view.specs.Inner.Held.{told};
 
 use crate::early::Early;
+use crate::prefix::Prefix;
 use pc_join::{OutOfMemory, next_turn};
-use pc_messages::{Kind, Reported, is_same_kind, is_same_state};
+use pc_messages::{Kind, is_same_kind, is_same_state};
 
 /// A folded prefix, and messages past the first that is missing, ascending.
 #[derive(Drop)]
 pub struct Held {
-    pub upto: u32,
-    pub state: Option<Reported>,
+    pub prefix: Prefix,
     pub early: Early,
-}
-
-/// The state after the next message of the prefix.
-fn fold(upto: u32, state: Option<Reported>, kind: Kind) -> Option<Reported>
-    requires state { IsStateOfSome upto state }
-    requires fits { upto < GREATEST_NUMBER }
-    requires created { IsTrue (is_created kind) ↔ (upto + 1 ≡ 1) }
-    ensures some { IsStateOfSome (upto + 1) result }
-    ensures folded { (kinds : List Kind) → length kinds ≡ upto → state ≡ state_of kinds → result ≡ state_of (kinds ++ kind ∷ []) }
-{
-    match state {
-        None => Reported::first(kind),
-        Some(reported) => Some(reported.apply(kind)),
-    }
 }
 
 /// Whether the number is that of the last early message.
@@ -61,12 +45,12 @@ pub fn append(held: &mut Held, number: u32, kind: Kind) -> Result<(), OutOfMemor
     ensures err { OnErr result (told held.new ≡ told held.old) }
     ensures succeeds { 1 ≤ held.old.early.room → IsOk result }
 {
-    if number <= held.upto {
+    let upto = held.prefix.upto();
+    if number <= upto {
         return Ok(());
     }
-    if number == held.upto + 1 {
-        held.state = fold(held.upto, held.state, kind);
-        held.upto = number;
+    if number == upto + 1 {
+        held.prefix.take(kind);
         return Ok(());
     }
     if ends_with(held.early.as_slice(), number) {
@@ -119,21 +103,21 @@ fn comes_after(early: &[(u32, Kind)], more: &[(u32, Kind)]) -> bool
 fn absorb(held: &mut Held) -> bool
     requires { IsLoose (told held.old) }
     ensures done { IsTrue result → IsAbsorbed (told held.old) (told held.new) }
-    ensures none { IsFalse result → (told held.new ≡ told held.old) × RiseAbove (held.old.upto + 1) held.old.early.items }
+    ensures none { IsFalse result → (told held.new ≡ told held.old) × RiseAbove (held.old.prefix.upto + 1) held.old.early.items }
 {
     let Some((first, _)) = held.early.as_slice().split_first() else {
         return false;
     };
     let (number, kind) = *first;
-    if number > held.upto + 1 {
+    let upto = held.prefix.upto();
+    if number > upto + 1 {
         return false;
     }
-    if number <= held.upto {
+    if number <= upto {
         held.early.leave_first();
         return true;
     }
-    held.state = fold(held.upto, held.state, kind);
-    held.upto = number;
+    held.prefix.take(kind);
     held.early.leave_first();
     true
 }
@@ -150,13 +134,12 @@ fn settle(held: &mut Held)
 fn advance(held: &mut Held, other: &Held)
     requires sound { IsSound (told held.old) }
     requires other { IsSound (told other.now) }
-    requires greater { held.old.upto < other.now.upto }
+    requires greater { held.old.prefix.upto < other.now.prefix.upto }
     ensures sound { IsSound (told held.new) }
-    ensures union { IsEither (tells (told held.old)) (one_to other.now.upto) (tells (told held.new)) }
+    ensures union { IsEither (tells (told held.old)) (one_to other.now.prefix.upto) (tells (told held.new)) }
     ensures of_source { (s : Source) → IsOfThread (told held.old) s → IsOfThread (told other.now) s → IsOfThread (told held.new) s }
 {
-    held.upto = other.upto;
-    held.state = other.state;
+    held.prefix = other.prefix.copy();
     settle(held);
 }
 
@@ -229,13 +212,12 @@ pub fn take_one(held: &mut Held, number: u32, kind: Kind) -> Result<(), OutOfMem
     ensures known_succeeds { IsTrue (tells (told held.old) number) → IsOk result }
     ensures err { OnErr result (told held.new ≡ told held.old) }
 {
-    let next = held.upto + 1;
+    let next = held.prefix.upto() + 1;
     if number < next {
         return Ok(());
     }
     if number == next {
-        held.state = fold(held.upto, held.state, kind);
-        held.upto = number;
+        held.prefix.take(kind);
         settle(held);
         return Ok(());
     }
@@ -244,6 +226,16 @@ pub fn take_one(held: &mut Held, number: u32, kind: Kind) -> Result<(), OutOfMem
     };
     held.early.insert(place, (number, kind))?;
     Ok(())
+}
+
+/// The prefix alone.
+fn without_early(held: &Held) -> Held
+    ensures { told result ≡ record { upto = held.now.prefix.upto; state = held.now.prefix.state; early = [] } }
+{
+    Held {
+        prefix: held.prefix.copy(),
+        early: Early::new(held.early.allocator()),
+    }
 }
 
 /// Takes in several messages past the first: at the end where they belong there, and else all anew.
@@ -258,11 +250,7 @@ fn take_several(held: &mut Held, more: &[(u32, Kind)]) -> Result<(), OutOfMemory
     if comes_after(held.early.as_slice(), more) {
         return merge(held, &[], more);
     }
-    let mut joined = Held {
-        upto: held.upto,
-        state: held.state,
-        early: Early::new(held.early.allocator()),
-    };
+    let mut joined = without_early(held);
     merge(&mut joined, held.early.as_slice(), more)?;
     *held = joined;
     Ok(())
@@ -296,7 +284,7 @@ pub fn join_held(held: &mut Held, other: &Held) -> Result<(), OutOfMemory>
     ensures amid { IsAmid (tells (told held.old)) (tells (told other.now)) (tells (told held.new)) }
     ensures of_source { (s : Source) → IsOfThread (told held.old) s → IsOfThread (told other.now) s → IsOfThread (told held.new) s }
 {
-    if held.upto < other.upto {
+    if held.prefix.upto() < other.prefix.upto() {
         advance(held, other);
         return take_early(held, other.early.as_slice());
     }
@@ -316,7 +304,7 @@ pub fn has_held(held: &Held, number: u32) -> bool
     requires { IsSound (told held.now) }
     ensures { result ≡ tells (told held.now) number }
 {
-    if 1 <= number && number <= held.upto {
+    if 1 <= number && number <= held.prefix.upto() {
         return true;
     }
     is_among(held.early.as_slice(), number)
@@ -357,8 +345,8 @@ pub fn covers_held(held: &Held, other: &Held) -> bool
     requires other { IsSound (told other.now) }
     ensures { IsTrue result ↔ ((n : ℕ) → tells (told other.now) n ≡ true → tells (told held.now) n ≡ true) }
 {
-    other.upto <= held.upto
-        && covers_early(held.upto, held.early.as_slice(), other.early.as_slice())
+    let upto = held.prefix.upto();
+    other.prefix.upto() <= upto && covers_early(upto, held.early.as_slice(), other.early.as_slice())
 }
 
 /// Whether the messages are equal.
@@ -389,10 +377,10 @@ fn is_same_early(first: &[(u32, Kind)], other: &[(u32, Kind)]) -> bool
 pub fn is_same_held(held: &Held, other: &Held) -> bool
     ensures { IsTrue result ↔ (told held.now ≡ told other.now) }
 {
-    if held.upto != other.upto {
+    if held.prefix.upto() != other.prefix.upto() {
         return false;
     }
-    if !is_same_state(held.state, other.state) {
+    if !is_same_state(held.prefix.state(), other.prefix.state()) {
         return false;
     }
     is_same_early(held.early.as_slice(), other.early.as_slice())

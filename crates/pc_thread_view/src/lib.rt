@@ -6,6 +6,7 @@
 
 mod early;
 mod held;
+mod prefix;
 mod view;
 
 pub use view::{ThreadView, equality_is_exact, of_a_history_in_plain_words};

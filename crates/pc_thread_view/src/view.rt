@@ -14,6 +14,7 @@ ghost use Rattle.pc_thread_view.specs.Inner.SameLaws.{told_partial, told_equival
 
 use crate::early::Early;
 use crate::held::{Held, append, covers_held, has_held, is_same_held, join_held, take_one};
+use crate::prefix::Prefix;
 use pc_join::{Join, OutOfMemory};
 use pc_messages::{Kind, Reported};
 use std::alloc::Global;
@@ -47,8 +48,7 @@ impl ThreadView {
         ensures sound { IsSound result }
     {
         let mut held = Held {
-            upto: 0,
-            state: None,
+            prefix: Prefix::none(),
             early: Early::new(alloc),
         };
         append(&mut held, number, kind).unwrap();
@@ -64,8 +64,7 @@ impl ThreadView {
     {
         ThreadView {
             held: Held {
-                upto,
-                state: Some(reported),
+                prefix: Prefix::of(upto, reported),
                 early: Early::new(alloc),
             },
         }
@@ -92,7 +91,7 @@ impl ThreadView {
         ensures sound { IsSound self.now }
         ensures some { TellsSome self.now }
     {
-        self.held.upto
+        self.held.prefix.upto()
     }
 
     /// The state that these messages report.
@@ -100,7 +99,7 @@ impl ThreadView {
         ensures value { result ≡ self.now.state }
         ensures sound { IsSound self.now }
     {
-        self.held.state
+        self.held.prefix.state()
     }
 
     /// The messages past the first that is missing, with their numbers, ascending.
@@ -149,8 +148,7 @@ impl Join for ThreadView {
         let early = Early::of_slice(self.held.early.allocator(), self.held.early.as_slice())?;
         Ok(ThreadView {
             held: Held {
-                upto: self.held.upto,
-                state: self.held.state,
+                prefix: self.held.prefix.copy(),
                 early,
             },
         })

@@ -4,4 +4,4 @@ use Rattle.pc_thread_view.proofs.Gaining.{rise_from}
 use Rattle.pc_thread_view.proofs.held.has_held.Goals as goal
 
 pub is_among-requires : goal.is_among-requires
-is_among-requires c = subst (RiseAbove 0) (sym c.as_slice.ensures) (rise_from (c.args.held.now.upto + 1) 0 c.args.held.now.early.items (omega arith) c.requires.gap)
+is_among-requires c = subst (RiseAbove 0) (sym c.as_slice.ensures) (rise_from (c.args.held.now.prefix.upto + 1) 0 c.args.held.now.early.items (omega arith) c.requires.gap)

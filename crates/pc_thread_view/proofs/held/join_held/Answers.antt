@@ -8,8 +8,8 @@ use Rattle.pc_thread_view.proofs.held.join_held.Goals as goal
 pub take_early-requires-clause-more : goal.take_early-requires-clause-more
 take_early-requires-clause-more c = subst AreTold (sym c.as_slice.ensures) (early_told (told c.args.other.now) c.requires.other)
 
-pub returns-then-held-other-clause-of_source : goal.returns-then-held-other-clause-of_source
-returns-then-held-other-clause-of_source c = λ s a b. c.take_early.ensures.of_source s (c.advance.ensures.of_source s a b) (subst (HasEach s) (sym c.as_slice.ensures) b.early)
+pub returns-then-upto-clause-of_source : goal.returns-then-upto-clause-of_source
+returns-then-upto-clause-of_source c = λ s a b. c.take_early.ensures.of_source s (c.advance.ensures.of_source s a b) (subst (HasEach s) (sym c.as_slice.ensures) b.early)
 
 pub take_early-requires-2-clause-more : goal.take_early-requires-2-clause-more
 take_early-requires-2-clause-more c = subst AreTold (sym c.as_slice-2.ensures) (early_told (told c.args.other.now) c.requires.other)
