@@ -72,7 +72,7 @@ impl Agent {
         ensures counts { self.new.counts ≡ self.old.counts }
     {
         views_tell_what_their_sets_tell();
-        self.view = View::new(self.alloc);
+        self.view.clear();
         self.list = RunQueue::new(self.alloc);
         self.shown = 0;
         self.passed = 0;

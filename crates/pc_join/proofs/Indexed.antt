@@ -1,5 +1,5 @@
 -- Values found by an index.
-use Rattle.std.proofs.Common.{ℕ, suc, zero, ◌+◌, ◌<◌, ◌≤◌, ◌≡◌, ◌≢◌, ◌⊎◌, List, [], ◌∷◌, ◌++◌, length, take, drop, set, get_or, Option, Some, None, IsSome, refl, sym, ap, subst, ◌∙◌, arith, inl, inr, false}
+use Rattle.std.proofs.Common.{ℕ, suc, zero, ◌+◌, ◌<◌, ◌≤◌, ◌≡◌, ◌⊎◌, List, [], ◌∷◌, ◌++◌, length, set, get_or, Option, Some, None, IsSome, refl, sym, ap, subst, ◌∙◌, arith, inl, inr}
 use Rattle.std.specs.Option.{MatchOption}
 use Rattle.std.proofs.lemmas.Bool.{false≢true}
 use Rattle.std.proofs.lemmas.List.{get_or_append_left, get_or-set_other, get_or-set_same}
@@ -82,7 +82,7 @@ module _ {V : Type 0} where
       let e = entry_there es p here.0 in
       let name : e.0.0 ≡ n = name_there n p es here in
       subst (AscendFrom n) (sym (ap (λ l. l ++ entries_at ps es) e.1.0))
-          (omega (arith, name), subst (λ k. AscendFrom (k + 1) (entries_at ps es)) (sym name) (ascend (n + 1) ps es (behind n (suc p) ps es h)))
+      (omega (arith, name), subst (λ k. AscendFrom (k + 1) (entries_at ps es)) (sym name) (ascend (n + 1) ps es (behind n (suc p) ps es h)))
 
   below : (n b : ℕ) (ps : List ℕ) (es : List (ℕ × V)) → AreFrom n ps es → n + length ps ≤ b → AreBefore b (entries_at ps es)
   below n b [] es h le = tt
@@ -168,10 +168,13 @@ module _ {V : Type 0} where
 
       kept : (q k : ℕ) → IsPlaceOf q k es → IsPlaceOf q k (set es p y)
       kept q zero g = tt
-      kept q (suc j) g = (let n = length_set es p y in let lt = g.0 in omega (arith, n), λ c. elim (same_or_other j p) [
-        | inl same ↦ ap (λ n. (get_or (set es p y) n c).0) same ∙ ap (λ x. x.0) (get_or-set_same es p y c at_place) ∙ named_so ∙ sym (here.1 d) ∙ ap (λ n. (get_or es n d).0) (sym same) ∙ g.1 d
-        | inr other ↦ ap (λ x. x.0) (get_or-set_other es p j y c other) ∙ g.1 c
-      ])
+      kept q (suc j) g = (
+        let n = length_set es p y in let lt = g.0 in omega (arith, n),
+        λ c. elim (same_or_other j p) [
+          | inl same ↦ ap (λ n. (get_or (set es p y) n c).0) same ∙ ap (λ x. x.0) (get_or-set_same es p y c at_place) ∙ named_so ∙ sym (here.1 d) ∙ ap (λ n. (get_or es n d).0) (sym same) ∙ g.1 d
+          | inr other ↦ ap (λ x. x.0) (get_or-set_other es p j y c other) ∙ g.1 c
+        ],
+      )
 
       pub index_set : IsIndex ps (set es p y)
       index_set = record { each = λ q. kept q (place_in ps q) (h.each q); near = h.near }

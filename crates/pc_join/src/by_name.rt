@@ -63,6 +63,13 @@ impl<V: Join> ByName<V> {
         Ok(ByName { values, alloc })
     }
 
+    /// Takes all names out. It takes no memory and keeps most of what it has, so that names that come again find room.
+    pub fn clear(&mut self)
+        ensures { self.new ≡ map.empty }
+    {
+        self.values.clear();
+    }
+
     /// The allocator that new names take their memory from.
     pub fn allocator(&self) -> Global {
         self.alloc

@@ -142,6 +142,13 @@ impl<V: Join> Leaves<V> {
         }
     }
 
+    /// Takes all values out.
+    pub fn clear(&mut self)
+        ensures { self.new ≡ [] }
+    {
+        self.leaves = BTreeMap::new(self.alloc);
+    }
+
     /// What stands under the name.
     pub fn get(&self, name: u32) -> Option<&V>
         ensures { option_copied result ≡ value_at self.now name }

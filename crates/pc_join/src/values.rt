@@ -43,6 +43,14 @@ impl<V: Join> Values<V> {
         }
     }
 
+    /// Takes all values out, and keeps the room that those of near names had.
+    pub fn clear(&mut self)
+        ensures { self.new ≡ [] }
+    {
+        self.near.clear();
+        self.far.clear();
+    }
+
     /// What stands under the name.
     pub fn get(&self, name: u32) -> Option<&V>
         ensures { option_copied result ≡ value_at self.now name }

@@ -34,6 +34,14 @@ impl View {
         }
     }
 
+    /// Forgets all. It takes no memory and keeps most of what it has, so that what is learnt again finds room.
+    pub fn clear(&mut self)
+        ensures nothing { IsVoid (pairs_of self.new) }
+        ensures of_run { (run : Run) → IsOfRun run self.new }
+    {
+        self.threads.clear();
+    }
+
     /// Takes in one message. One that is known changes nothing. Where memory runs out, the view is as before or has
     /// taken it in.
     pub fn insert(&mut self, message: Message) -> Result<(), OutOfMemory>

@@ -1,4 +1,4 @@
-use Rattle.std.proofs.Common.{ℕ, suc, ◌≡◌, ◌∷◌, ◌++◌, [], length, set, sym, ap, subst, ◌∙◌, arith, rules}
+use Rattle.std.proofs.Common.{suc, ◌≡◌, length, set, sym, ap, subst, rules}
 use Rattle.pc_join.specs.Inner.Leaves.{IsSetAt}
 use Rattle.pc_join.specs.Inner.Near.{IsIndex, found_by}
 use Rattle.pc_join.proofs.Puts.{put_new}

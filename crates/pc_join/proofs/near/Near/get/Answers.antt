@@ -1,5 +1,4 @@
-use Rattle.std.proofs.Common.{sym, ap, subst, ◌∙◌, rules}
-use Rattle.pc_join.specs.Inner.Near.{entry_at, first_value}
+use Rattle.std.proofs.Common.{rules}
 use Rattle.pc_join.proofs.Indexed.{shown_now}
 use Rattle.pc_join.proofs.near.Near.get.Goals as goal
 

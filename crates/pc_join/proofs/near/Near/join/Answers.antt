@@ -1,4 +1,4 @@
-use Rattle.std.proofs.Common.{◌≡◌, None, Some, subst}
+use Rattle.std.proofs.Common.{Some, subst}
 use Rattle.pc_join.specs.ByName.{value_at}
 use Rattle.pc_join.specs.Inner.Near.{IsIndex, found_by}
 use Rattle.pc_join.specs.Inner.Puts.{IsPut, IsWholeAt}
