@@ -46,49 +46,40 @@ enum Verb {
     Complete,
 }
 
-/// The verb that a word is, from a table.
-macro_rules! find {
-    ($word:expr, $($name:literal => $verb:expr),+) => {{
-        $(if $word == $name.as_slice() {
-            return Some($verb);
-        })+
-        None
-    }};
-}
-
 /// The verb that this word is.
 fn verb_of(word: &[u8]) -> Option<Verb>
     ensures { MatchOption result ((any : Verb) → word.now ≡ name_of any → ⊥) (λ verb. word.now ≡ name_of verb) }
 {
-    find!(word,
-        b"enclave" => Verb::Enclave,
-        b"create" => Verb::Create,
-        b"wake" => Verb::Wake,
-        b"block" => Verb::Block,
-        b"yield" => Verb::Yield,
-        b"preempt" => Verb::Preempt,
-        b"die" => Verb::Die,
-        b"affinity" => Verb::Affinity,
-        b"priority" => Verb::Priority,
-        b"tick" => Verb::Tick,
-        b"associate" => Verb::Associate,
-        b"commit" => Verb::Commit,
-        b"sleep" => Verb::Sleep,
-        b"rouse" => Verb::Rouse,
-        b"config" => Verb::Config,
-        b"publish" => Verb::Publish,
-        b"consume" => Verb::Consume,
-        b"deliver" => Verb::Deliver,
-        b"answer" => Verb::Answer,
-        b"pick" => Verb::Pick,
-        b"steal" => Verb::Steal,
-        b"crash" => Verb::Crash,
-        b"status" => Verb::Status,
-        b"asleep" => Verb::Asleep,
-        b"show" => Verb::Show,
-        b"same" => Verb::Same,
-        b"complete" => Verb::Complete
-    )
+    match word {
+        b"enclave" => Some(Verb::Enclave),
+        b"create" => Some(Verb::Create),
+        b"wake" => Some(Verb::Wake),
+        b"block" => Some(Verb::Block),
+        b"yield" => Some(Verb::Yield),
+        b"preempt" => Some(Verb::Preempt),
+        b"die" => Some(Verb::Die),
+        b"affinity" => Some(Verb::Affinity),
+        b"priority" => Some(Verb::Priority),
+        b"tick" => Some(Verb::Tick),
+        b"associate" => Some(Verb::Associate),
+        b"commit" => Some(Verb::Commit),
+        b"sleep" => Some(Verb::Sleep),
+        b"rouse" => Some(Verb::Rouse),
+        b"config" => Some(Verb::Config),
+        b"publish" => Some(Verb::Publish),
+        b"consume" => Some(Verb::Consume),
+        b"deliver" => Some(Verb::Deliver),
+        b"answer" => Some(Verb::Answer),
+        b"pick" => Some(Verb::Pick),
+        b"steal" => Some(Verb::Steal),
+        b"crash" => Some(Verb::Crash),
+        b"status" => Some(Verb::Status),
+        b"asleep" => Some(Verb::Asleep),
+        b"show" => Some(Verb::Show),
+        b"same" => Some(Verb::Same),
+        b"complete" => Some(Verb::Complete),
+        _ => None,
+    }
 }
 
 /// Fields as the nested pairs that [`Arguments`] reads. A failure stands last.
