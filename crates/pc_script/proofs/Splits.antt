@@ -1,9 +1,10 @@
 -- The lines and the words of a text.
-use Rattle.std.proofs.Common.{◌≡◌, ℕ, zero, suc, ◌+◌, ◌-◌, length-drop, filter, cond, inl, inr, ◌⊎◌, subst, refl, ◌<◌, ◌≤◌, true, false, not, List, [], ◌∷◌, length, map, take, drop, eqb, get_or, sym, ap, ◌∙◌, ◌++◌, arith, add-one, drop-cons, take-append-drop}
+use Rattle.std.proofs.Common.{◌≡◌, ℕ, zero, suc, ◌+◌, ◌-◌, length-drop, filter, cond, inl, inr, ◌⊎◌, subst, refl, ◌<◌, ◌≤◌, Bool, true, false, not, List, [], ◌∷◌, length, map, take, drop, eqb, get_or, sym, ap, ◌∙◌, ◌++◌, arith, add-one, drop-cons, take-append-drop}
 use Rattle.std.specs.List.{slice_split, AllWithin, HoldsAt, position_or_len}
 use Rattle.std.specs.Str.Lines.{strip_carriage_return}
 use Rattle.std.proofs.lemmas.List.Splits.{slice_split-cons_yes, slice_split_none, slice_split_first, length-slice_split}
 use Rattle.std.proofs.lemmas.List.Sums.{prefix_len_is, count_by-le-length}
+use Rattle.std.proofs.lemmas.Grind.{get_or_default_zero}
 use Rattle.std.proofs.lemmas.List.{length-map, length-take-le, take_all}
 use Rattle.std.proofs.lemmas.Bool.{ne_eqb, true≢false}
 use Rattle.pc_script.specs.Text.{lines, words}
@@ -14,6 +15,19 @@ IsLineFeed b = eqb b 10 ≡ true
 
 abbrev pub IsNoLineFeed : ℕ → Type 0
 IsNoLineFeed b = eqb b 10 ≡ false
+
+untrue : (b : Bool) → (b ≡ true → ⊥) → b ≡ false
+untrue true none = absurd (none refl)
+untrue false none = refl
+
+-- a byte of a text that is found to be a line feed, and bytes that are found to be others
+pub line_feed_at : (text : List ℕ) (place : ℕ) → place < length text → IsLineFeed (get_or text place 0) → HoldsAt IsLineFeed text place
+line_feed_at text place within is = λ d. subst IsLineFeed (sym (get_or_default_zero text place d within)) is
+
+pub no_line_feed : (text : List ℕ) (end : ℕ) → end ≤ length text → ((k : ℕ) → 0 ≤ k → k < end → IsLineFeed (get_or text k 0) → ⊥)
+    → AllWithin IsNoLineFeed text 0 end
+no_line_feed text end within none = λ k d low high.
+    subst IsNoLineFeed (sym (get_or_default_zero text k d (omega (arith, within, high)))) (untrue (eqb (get_or text k 0) 10) (none k low high))
 
 -- a text without a line feed is one line
 pub lines-last : (text : List ℕ) → AllWithin IsNoLineFeed text 0 (length text) → lines text ≡ strip_carriage_return text ∷ []

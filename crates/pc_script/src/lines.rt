@@ -6,6 +6,8 @@ ghost use Rattle.std.specs.Str.Lines.{strip_carriage_return};
 ghost use Rattle.pc_script.specs.Text.{lines, words};
 ghost use Rattle.pc_script.specs.Left.{lines_left, lines_of_rest};
 
+use memchr::memchr;
+
 /// The lines of a text that are left, or none after the last.
 #[derive(Drop)]
 pub struct Lines<'a> {
@@ -37,7 +39,7 @@ impl<'a> Iterator for Lines<'a> {
 pub(crate) fn first_line(text: &[u8]) -> (&[u8], Option<&[u8]>)
     ensures { lines text.now ≡ result.0.now ∷ lines_of_rest result.1 }
 {
-    let Some(end) = text.iter().position(|b| *b == b'\n') else {
+    let Some(end) = memchr(b'\n', text) else {
         return (without_carriage_return(text), None);
     };
     (
