@@ -3,7 +3,6 @@ use Rattle.std.proofs.Common.{ℕ, ◌+◌, ◌<◌, ◌≤◌, ◌≡◌, ◌==
 use Rattle.std.specs.List.{All}
 use Rattle.std.specs.Option.{is_some, option_or, MatchOption}
 use Rattle.std.specs.FinMap as map
-use Rattle.std.specs.Ordering.{nat_cmp}
 use Rattle.std.proofs.lemmas.Bool.{false≢true}
 use Rattle.std.proofs.lemmas.Bool.Decides.{nat_tests}
 use Rattle.std.proofs.lemmas.List.{append_assoc}
@@ -14,7 +13,7 @@ use Rattle.pc_messages.specs.declared.reported.Reported.{Reported}
 use Rattle.pc_messages.specs.Run.{Run, is_created}
 use Rattle.pc_join.specs.Sets.{Members, IsWithin, members_at, source_at, Source}
 use Rattle.pc_join.specs.Ranges.{in_ranges, numbers_in, IsFirstMissing, one_to}
-use Rattle.pc_join.specs.ByName.{AscendFrom, known_in, value_at}
+use Rattle.pc_join.specs.ByName.{known_in}
 use Rattle.pc_join.proofs.Entries.{IsWalked, walked_start, walked_found, walked_on, walked_all, walked_weaker}
 use Rattle.pc_thread_view.specs.Told.{Told, IsSound, IsOfThread, RiseAbove, HasEach, numbers_of, only, is_early, tells}
 use Rattle.pc_thread_view.specs.Inner.Taking.{AreTold}
@@ -27,8 +26,8 @@ use Rattle.pc_delta.specs.declared.part.Part.TheVariants.{Folded, One}
 use Rattle.pc_delta.specs.declared.fault.DeltaFault.TheVariants as fault
 use Rattle.pc_delta.specs.Faults.{first_fault, first_of, fault_of, is_misplaced}
 use Rattle.pc_delta.specs.Parts.{set_of_part, set_of, IsPartOfRun}
-use Rattle.pc_delta.specs.Exchange.{IsAnswerTo, IsNews}
-use Rattle.pc_delta.specs.Inner.Answering.{IsLacking, IsUseful, IsUsefulOf, IsToldAt, IsOneOf, KnowsPrefix, TellsAll, TellsPrefix, asked_by, listed}
+use Rattle.pc_delta.specs.Exchange.{IsAnswerTo}
+use Rattle.pc_delta.specs.Inner.Answering.{IsLacking, IsUseful, IsUsefulOf, IsToldAt, IsOneOf, KnowsPrefix, TellsAll, TellsPrefix, listed}
 use Rattle.std.proofs.lemmas.Bool.{and_parts}
 use Rattle.pc_messages.proofs.Bools.{both, or_cases, or_left, or_right}
 use Rattle.pc_delta.proofs.Lists.{all_none, all_first, all_rest, all_cons, left_item, none_left}
@@ -202,23 +201,17 @@ module _ (thread : ℕ) (told : Told) (known : Members) (old : List Part) (early
       let done : IsTelling thread told known [] from.more = subst (λ left. IsTelling thread told known left from.more) (none_left early i le) from.telling in
       (from.more, from.split, record { useful = done.useful; all = done.telling })
 
--- what an asker knows of a thread
-module _ {K : Type 0} (known : K → Members) (entries : List (ℕ × K)) where
-  pub asked_at : (thread : ℕ) (o : Option K) → o ≡ value_at entries thread → (m : List ℕ) → asked_by known entries (thread ∷ m) ≡ known_in known o m
-  asked_at thread o e m = ap (λ x. known_in known x m) (sym e)
+-- of a thread of which all is known nothing has to be told
+pub tells_none : (thread : ℕ) (told : Told) (known : Members) → ((n : ℕ) → tells told n ≡ true → known (n ∷ []) ≡ true) → TellsAll thread told known []
+tells_none thread told known all_known = record {
+  useful = all_none (IsUsefulOf thread told known);
+  all = λ n there lacking. absurd (false≢true (sym lacking ∙ all_known n there));
+}
 
-pub asked_map : {K : Type 0} (known : K → Members) (a : map.FinMap nat_cmp K) (entries : List (ℕ × K)) (members : Members) → entries ≡ map.entries a → members [] ≡ false → ((t : ℕ) (m : List ℕ) → members (t ∷ m) ≡ known_in known (map.get a t) m)
-    → (m : List ℕ) → asked_by known entries m ≡ members m
-asked_map known a entries members e none at [] = sym none
-asked_map known a entries members e none at (t ∷ m) = ap (λ o. known_in known o m) (ap (λ es. value_at es t) e ∙ sym (map.get-entries a t)) ∙ sym (at t m)
-
--- how far an answer has come: the threads that were passed are told, and what is known of the others can be asked for
-pub record IsAnswering {K : Type 0} (known : K → Members) (view : View) (asked : List (ℕ × K)) (left : List (ℕ × Told)) (rest : List (ℕ × K)) (parts : List Part) : Type 0 where
-  pub useful : All (IsUseful view (asked_by known asked)) parts
-  pub walked : IsWalked (λ thread told. IsToldAt view (asked_by known asked) thread parts) view.threads left
-  pub from : ℕ
-  pub ascend : AscendFrom from left
-  pub ahead : (t : ℕ) → from ≤ t → value_at rest t ≡ value_at asked t
+-- how far an answer has come: the threads that were passed are told
+pub record IsAnswering (view : View) (asked : Members) (left : List (ℕ × Told)) (parts : List Part) : Type 0 where
+  pub useful : All (IsUseful view asked) parts
+  pub walked : IsWalked (λ thread told. IsToldAt view asked thread parts) view.threads left
 
 -- what holds of a thread of the view holds of the view
 module _ (view : View) (asked : Members) (thread : ℕ) (told : Told) (there : thread_of view thread ≡ Some told) (known : Members) (same : (m : List ℕ) → asked (thread ∷ m) ≡ known m) where
@@ -253,43 +246,26 @@ all_append P (x ∷ xs) ys a b = all_cons P x (xs ++ ys) (all_first P x xs a) (a
 kept_append : (old more parts : List Part) → parts ≡ old ++ more → IsWithin (set_of old) (set_of parts)
 kept_append old more parts e m h = ap (λ ps. set_of ps m) e ∙ set_of-append old more m ∙ or_left (set_of old m) (set_of more m) h
 
-module _ {K : Type 0} (known : K → Members) (view : View) (asked : List (ℕ × K)) where
-  set : Members
-  set = asked_by known asked
+module _ (view : View) (asked : Members) where
+  pub answering_start : (left : List (ℕ × Told)) (parts : List Part) → left ≡ map.entries view.threads → parts ≡ [] → IsAnswering view asked left parts
+  answering_start left parts e none = record {
+    useful = subst (λ ps. All (IsUseful view asked) ps) (sym none) (all_none (IsUseful view asked));
+    walked = walked_start (λ thread told. IsToldAt view asked thread parts) view.threads left e;
+  }
 
-  pub answering_start : (left : List (ℕ × Told)) (parts : List Part) → left ≡ map.entries view.threads → parts ≡ [] → IsAnswering known view asked left asked parts
-  answering_start left parts e none =
-      let walked = walked_start (λ thread told. IsToldAt view (asked_by known asked) thread parts) view.threads left e in
-      record {
-        useful = subst (λ ps. All (IsUseful view (asked_by known asked)) ps) (sym none) (all_none (IsUseful view (asked_by known asked)));
-        walked = walked;
-        from = 0;
-        ascend = walked.ascend;
-        ahead = λ t le. refl;
-      }
-
-  module _ (left after : List (ℕ × Told)) (rest later : List (ℕ × K)) (old new : List Part) (k : ℕ) (told : Told) (here : Option K) (is : left ≡ (k, told) ∷ after) (answering : IsAnswering known view asked left rest old)
-      (value : here ≡ value_at rest k) (on : (t : ℕ) → k ≤ t → value_at later t ≡ value_at rest t) (told_more : (more : List Part) × (new ≡ old ++ more) × TellsAll k told (known_in known here) more) where
-    ascend_here : AscendFrom answering.from ((k, told) ∷ after)
-    ascend_here = subst (AscendFrom answering.from) is answering.ascend
-
+  module _ (left after : List (ℕ × Told)) (old new : List Part) (k : ℕ) (told : Told) (known : Members) (is : left ≡ (k, told) ∷ after) (answering : IsAnswering view asked left old)
+      (same : (m : List ℕ) → asked (k ∷ m) ≡ known m) (told_more : (more : List Part) × (new ≡ old ++ more) × TellsAll k told known more) where
     there : thread_of view k ≡ Some told
-    there = walked_found (λ thread told. IsToldAt view (asked_by known asked) thread old) view.threads left after k told is answering.walked
+    there = walked_found (λ thread told. IsToldAt view asked thread old) view.threads left after k told is answering.walked
 
-    known_here : (m : List ℕ) → asked_by known asked (k ∷ m) ≡ known_in known here m
-    known_here = asked_at known asked k here (value ∙ answering.ahead k ascend_here.0)
-
-    pub answering_on : IsAnswering known view asked after later new
+    pub answering_on : IsAnswering view asked after new
     answering_on = record {
-      useful = subst (λ ps. All (IsUseful view (asked_by known asked)) ps) (sym told_more.1)
-          (all_append (IsUseful view (asked_by known asked)) old told_more.0 answering.useful
-          (All-weaker (IsUsefulOf k told (known_in known here)) (IsUseful view (asked_by known asked)) (useful_in view (asked_by known asked) k told there (known_in known here) known_here) told_more.0 told_more.2.useful));
-      walked = walked_on (λ thread told. IsToldAt view (asked_by known asked) thread new) view.threads left after k told is
-          (walked_weaker (λ thread told. IsToldAt view (asked_by known asked) thread old) (λ thread told. IsToldAt view (asked_by known asked) thread new) view.threads left (λ t w h m a b. kept_append old told_more.0 new told_more.1 (t ∷ m) (h m a b)) answering.walked)
-          (told_in view (asked_by known asked) k told there (known_in known here) known_here old told_more.0 new told_more.1 told_more.2);
-      from = k + 1;
-      ascend = ascend_here.1;
-      ahead = λ t le. on t (omega arith) ∙ answering.ahead t (let reached = ascend_here.0 in omega arith);
+      useful = subst (λ ps. All (IsUseful view asked) ps) (sym told_more.1)
+          (all_append (IsUseful view asked) old told_more.0 answering.useful
+          (All-weaker (IsUsefulOf k told known) (IsUseful view asked) (useful_in view asked k told there known same) told_more.0 told_more.2.useful));
+      walked = walked_on (λ thread told. IsToldAt view asked thread new) view.threads left after k told is
+          (walked_weaker (λ thread told. IsToldAt view asked thread old) (λ thread told. IsToldAt view asked thread new) view.threads left (λ t w h m a b. kept_append old told_more.0 new told_more.1 (t ∷ m) (h m a b)) answering.walked)
+          (told_in view asked k told there known same old told_more.0 new told_more.1 told_more.2);
     }
 
 pub faultless : (view : View) (asked : Members) (parts : List Part) → All (IsUseful view asked) parts → first_fault parts ≡ None
@@ -306,27 +282,18 @@ all_within view asked (p ∷ ps) all m h = elim (or_cases (set_of_part p m) (set
   | inr later ↦ all_within view asked ps (all_rest (IsUseful view asked) p ps all) m later
 ]
 
-pub answered : {K : Type 0} (known : K → Members) (view : View) (asked : List (ℕ × K)) (left : List (ℕ × Told)) (rest : List (ℕ × K)) (parts : List Part) → left ≡ [] → IsAnswering known view asked left rest parts → IsAnswerTo view (asked_by known asked) parts
-answered known view asked left rest parts none answering = record {
+pub answered : (view : View) (asked : Members) (left : List (ℕ × Told)) (parts : List Part) → left ≡ [] → IsAnswering view asked left parts → IsAnswerTo view asked parts
+answered view asked left parts none answering = record {
   lacking = lacking;
-  within = all_within view (asked_by known asked) parts answering.useful;
-  none_spare = All-weaker (IsUseful view (asked_by known asked)) _ (λ part u. u.news) parts answering.useful;
-  of_run = λ run of_run. All-weaker (IsUseful view (asked_by known asked)) (IsPartOfRun run) (λ part u. u.of_run run of_run) parts answering.useful;
+  within = all_within view asked parts answering.useful;
+  none_spare = All-weaker (IsUseful view asked) _ (λ part u. u.news) parts answering.useful;
+  of_run = λ run of_run. All-weaker (IsUseful view asked) (IsPartOfRun run) (λ part u. u.of_run run of_run) parts answering.useful;
 }
   where
-    by_value : (t : ℕ) (m : List ℕ) (o : Option Told) → thread_of view t ≡ o → pairs_of view (t ∷ m) ≡ true → asked_by known asked (t ∷ m) ≡ false → set_of parts (t ∷ m) ≡ true
+    by_value : (t : ℕ) (m : List ℕ) (o : Option Told) → thread_of view t ≡ o → pairs_of view (t ∷ m) ≡ true → asked (t ∷ m) ≡ false → set_of parts (t ∷ m) ≡ true
     by_value t m None e h g = absurd (false≢true (sym (ap (λ o. known_in numbers_of o m) e) ∙ h))
-    by_value t m (Some told) e h g = walked_all (λ thread told. IsToldAt view (asked_by known asked) thread parts) view.threads left none answering.walked t told e m h g
+    by_value t m (Some told) e h g = walked_all (λ thread told. IsToldAt view asked thread parts) view.threads left none answering.walked t told e m h g
 
-    lacking : (m : List ℕ) → pairs_of view m ≡ true → asked_by known asked m ≡ false → set_of parts m ≡ true
+    lacking : (m : List ℕ) → pairs_of view m ≡ true → asked m ≡ false → set_of parts m ≡ true
     lacking [] h g = absurd (false≢true h)
     lacking (t ∷ m) h g = by_value t m (thread_of view t) refl h g
-
--- an asker that knows the same is answered the same
-pub answer_to : (view : View) (asked same : Members) (parts delta : List Part) → ((m : List ℕ) → asked m ≡ same m) → delta ≡ parts → IsAnswerTo view asked parts → IsAnswerTo view same delta
-answer_to view asked same parts delta e f answer = subst (IsAnswerTo view same) (sym f) (record {
-  lacking = λ m h g. answer.lacking m h (e m ∙ g);
-  within = answer.within;
-  none_spare = All-weaker (λ part. IsNews asked (set_of_part part)) (λ part. IsNews same (set_of_part part)) (λ part news. record { thread = news.thread; number = news.number; told = news.told; lacking = sym (e (news.thread ∷ news.number ∷ [])) ∙ news.lacking }) parts answer.none_spare;
-  of_run = answer.of_run;
-})

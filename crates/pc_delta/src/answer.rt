@@ -2,16 +2,17 @@
 
 ghost use Rattle.std.specs.Prelude.{ℕ, ◌≡◌, ◌<◌, ◌≤◌, true, List, [], ◌∷◌, ◌++◌, None, Some, All, IfOk, OnOk, MatchOption, IsTrue, IsFalse, option_copied};
 ghost use Rattle.pc_join.specs.ByName.{AscendFrom, known_in};
+ghost use Rattle.pc_thread_view.specs.Told.{tells};
 ghost use Rattle.pc_view.specs.Views.{pairs_of};
 ghost use Rattle.pc_delta.specs.Faults.{first_fault};
 ghost use Rattle.pc_delta.specs.Exchange.{IsAnswer, IsAnswerTo};
-ghost use Rattle.pc_delta.specs.Inner.Answering.{IsUsefulOf, IsLacking, IsOneOf, KnowsPrefix, TellsAll, TellsPrefix, asked_by, listed};
+ghost use Rattle.pc_delta.specs.Inner.Answering.{IsUsefulOf, IsLacking, IsOneOf, KnowsPrefix, TellsAll, TellsPrefix, listed};
 
 use crate::delta::Delta;
 use crate::digest::Digest;
-use crate::known::Known;
+use crate::known::{Asker, Known};
 use crate::part::Part;
-use pc_join::{Lookups, OutOfMemory};
+use pc_join::OutOfMemory;
 use pc_messages::{Kind, Message, Tid};
 use pc_thread_view::ThreadView;
 use pc_view::View;
@@ -22,8 +23,7 @@ use std::alloc::Global;
 pub fn delta_since(alloc: Global, view: &View, digest: &Digest) -> Result<Delta, OutOfMemory>
     ensures { IfOk result (λ delta. IsAnswer view.now digest.now delta) }
 {
-    let mut asked = digest.lookups();
-    let parts = lacking_parts(alloc, view, &mut asked)?;
+    let parts = lacking_parts(alloc, view, digest)?;
     Ok(Delta::of_faultless(parts))
 }
 
@@ -32,26 +32,28 @@ pub fn delta_since(alloc: Global, view: &View, digest: &Digest) -> Result<Delta,
 pub fn delta_beyond(alloc: Global, view: &View, other: &View) -> Result<Delta, OutOfMemory>
     ensures { IfOk result (λ delta. IsAnswerTo view.now (pairs_of other.now) delta) }
 {
-    let mut asked = other.lookups();
-    let parts = lacking_parts(alloc, view, &mut asked)?;
+    let parts = lacking_parts(alloc, view, other)?;
     Ok(Delta::of_faultless(parts))
 }
 
-/// The parts that tell what an asker lacks of a view, by one walk over both.
-fn lacking_parts<K: Known>(
-    alloc: Global,
-    view: &View,
-    asked: &mut Lookups<'_, K>,
-) -> Result<Vec<Part>, OutOfMemory>
+/// The parts that tell what an asker lacks of a view, which is asked for each thread of the view.
+fn lacking_parts<A: Asker>(alloc: Global, view: &View, asker: &A) -> Result<Vec<Part>, OutOfMemory>
     ensures sound { IfOk result (λ parts. first_fault parts.items ≡ None) }
-    ensures answer { IfOk result (λ parts. IsAnswerTo view.now (asked_by K.known asked.old) parts.items) }
+    ensures answer { IfOk result (λ parts. IsAnswerTo view.now (A.members asker.now) parts.items) }
 {
     let mut parts = Vec::new(alloc);
     for (thread, held) in view.iter() {
-        let known = asked.at(thread);
-        add_thread(&mut parts, thread, held, known)?;
+        add_thread(&mut parts, thread, held, asker.of_thread(thread))?;
     }
     Ok(parts)
+}
+
+/// Whether all that is told of a thread is known, as far as that is seen at a glance: where no message of it is early,
+/// as mostly, its last number decides.
+fn has_all<K: Known>(held: &ThreadView, known: Option<&K>) -> bool
+    ensures { IsTrue result → (n : ℕ) → tells held.now n ≡ true → known_in K.known (option_copied known.entry) (n ∷ []) ≡ true }
+{
+    held.early().is_empty() && !lacks(known, held.upto())
 }
 
 /// Adds what is not known of a thread.
@@ -64,6 +66,9 @@ fn add_thread<K: Known>(
     ensures { OnOk result ((more : List _) × (parts.new.items ≡ parts.old.items ++ more)
         × TellsAll thread held.now (known_in K.known (option_copied known.entry)) more) }
 {
+    if has_all(held, known) {
+        return Ok(());
+    }
     append(parts, folded_part(thread, held, known))?;
     for entry in held.early() {
         append(parts, early_part(thread, *entry, known))?;
@@ -103,12 +108,12 @@ fn folded_part<K: Known>(thread: Tid, held: &ThreadView, known: Option<&K>) -> O
         (λ part. IsUsefulOf thread held.now (known_in K.known (option_copied known.entry)) part × TellsPrefix thread held.now.upto part) }
 {
     let upto = held.upto();
-    let Some(reported) = held.reported() else {
-        return None;
-    };
     if !lacks(known, upto) {
         return None;
     }
+    let Some(reported) = held.reported() else {
+        return None;
+    };
     Some(Part::Folded {
         thread,
         upto,
@@ -116,15 +121,14 @@ fn folded_part<K: Known>(thread: Tid, held: &ThreadView, known: Option<&K>) -> O
     })
 }
 
-/// Whether one of the numbers from 1 to this one, which is not 0, is not known.
+/// Whether one of the numbers from 1 to this one is not known.
 fn lacks<K: Known>(known: Option<&K>, upto: u32) -> bool
-    requires { 1 ≤ upto }
     ensures one { IsTrue result → IsLacking (known_in K.known (option_copied known.entry)) upto }
     ensures none { IsFalse result → KnowsPrefix (known_in K.known (option_copied known.entry)) upto }
 {
     match known {
         Some(held) => held.lacks(upto),
-        None => true,
+        None => 0 < upto,
     }
 }
 

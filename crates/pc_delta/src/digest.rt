@@ -10,7 +10,7 @@ ghost use Rattle.pc_view.specs.Views.{pairs_of, thread_of};
 ghost use Rattle.pc_delta.specs.Digests.{RangesByName, set_of_digest, IsOfAnySource, IsDigest, is_same_digest};
 ghost use Rattle.pc_delta.specs.Inner.DigestLaws.{unique_digest, stays_digest, digest_partial, digest_equivalence};
 
-use pc_join::{ByName, Join, Lookups, Numbers, OutOfMemory};
+use pc_join::{ByName, Join, Numbers, OutOfMemory};
 use pc_messages::Tid;
 use pc_thread_view::ThreadView;
 use pc_view::View;
@@ -77,11 +77,11 @@ impl Digest {
         }
     }
 
-    /// The known numbers of each thread, for a caller that asks for threads in ascending order.
-    pub(crate) fn lookups(&self) -> Lookups<'_, Numbers>
-        ensures { result ≡ map.entries self.now }
+    /// The known numbers of the thread; none where there are none.
+    pub(crate) fn thread(&self, thread: Tid) -> Option<&Numbers>
+        ensures { option_copied result ≡ map.get self.now thread }
     {
-        self.numbers.lookups()
+        self.numbers.get(thread)
     }
 }
 

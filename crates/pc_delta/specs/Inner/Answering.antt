@@ -4,7 +4,6 @@ use Rattle.pc_messages.specs.declared.kind.Kind.{Kind}
 use Rattle.pc_messages.specs.Run.{Run}
 use Rattle.pc_join.specs.Sets.{Members, IsWithin, members_at, source_at}
 use Rattle.pc_join.specs.Ranges.{one_to}
-use Rattle.pc_join.specs.ByName.{known_in, value_at}
 use Rattle.std.specs.List.{All}
 use Rattle.pc_thread_view.specs.Told.{Told, IsOfThread, numbers_of, tells}
 use Rattle.pc_view.specs.declared.view.View.{View}
@@ -14,11 +13,6 @@ use Rattle.pc_delta.specs.declared.part.Part.TheVariants.{One}
 use Rattle.pc_delta.specs.Parts.{set_of_part, set_of, IsPartOfRun}
 use Rattle.pc_delta.specs.Faults.{fault_of}
 use Rattle.pc_delta.specs.Exchange.{IsNews}
-
--- the messages that an asker knows, from what is known of each thread
-abbrev pub asked_by : {K : Type 0} → (K → Members) → List (ℕ × K) → Members
-asked_by known entries [] = false
-asked_by known entries (thread ∷ m) = known_in known (value_at entries thread) m
 
 -- a part without a fault, which tells what the view has, and something that the asker has not
 pub record IsUseful (view : View) (asked : Members) (part : Part) : Type 0 where
