@@ -9,7 +9,8 @@ ghost use Rattle.pc_agent.specs.Exchanging.{Delivers, IsAnswered};
 ghost use Rattle.pc_agent.specs.Shows.{cpu_of};
 
 use crate::agent::Agent;
-use crate::runnable::{runnable_after, stays_settled};
+use crate::runnable::runnable_after;
+use crate::watch::watched;
 use crate::wire::{SendFault, Wire};
 use pc_delta::{Delta, Digest, delta_beyond, delta_since, take_in};
 use pc_join::OutOfMemory;
@@ -30,11 +31,11 @@ impl Agent {
         self.passed = 0;
         let parts = delta.parts();
         let runnable = self.runnable.take();
-        let settled = stays_settled(self.settled, &self.list, parts);
+        let watch = watched(self.settled, &self.list, &self.view, self.cpu, parts);
         self.settled = false;
         take_in(&mut self.view, delta)?;
         self.runnable = runnable_after(runnable, &self.view, self.cpu, parts);
-        self.settled = settled;
+        self.settled = watch.stands(&self.view, self.cpu);
         Ok(())
     }
 

@@ -15,6 +15,7 @@ mod pick;
 mod queue;
 mod runnable;
 mod steal;
+mod watch;
 mod wire;
 
 pub use agent::Agent;

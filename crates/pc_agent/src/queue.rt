@@ -21,7 +21,8 @@ ghost use Rattle.pc_agent.specs.Publishing.{Copies, IsConsumed, IsPublished, Wha
 ghost use Rattle.pc_agent.specs.Shows.{ShowsAgent, cpu_of};
 
 use crate::agent::Agent;
-use crate::runnable::{runnable_after, stays_settled};
+use crate::runnable::runnable_after;
+use crate::watch::watched;
 use crate::wire::{SendFault, Wire};
 use pc_calls::{CallFault, Refusal};
 use pc_delta::laws::{parts_of_items_are_of_the_run, parts_stay_as_the_run_goes_on};
@@ -90,13 +91,13 @@ impl Agent {
         self.passed = 0;
         let parts = delta.parts();
         let runnable = self.runnable.take();
-        let settled = stays_settled(self.settled, &self.list, parts);
+        let watch = watched(self.settled, &self.list, &self.view, self.cpu, parts);
         self.settled = false;
         take_in(&mut self.view, &delta)?;
         self.runnable = runnable_after(runnable, &self.view, self.cpu, parts);
         refresh_list(
             &mut self.list,
-            settled,
+            watch.stands(&self.view, self.cpu),
             &self.view,
             touched.as_slice(),
             self.cpu,

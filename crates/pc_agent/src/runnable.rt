@@ -1,10 +1,9 @@
 //! Which threads a steal has to look at.
 
-ghost use Rattle.std.specs.Prelude.{ℕ, Bool, ◌==◌, ◌&&◌, not, Some, IsTrue};
+ghost use Rattle.std.specs.Prelude.{ℕ, Bool, ◌==◌, ◌&&◌, not, Some};
 ghost use Rattle.pc_delta.specs.Parts.{tells_of};
 ghost use Rattle.pc_run_queue.specs.Runs.{runs_in};
 ghost use Rattle.pc_agent.specs.PlainAgent.{is_wanted};
-ghost use Rattle.pc_agent.specs.Inner.Settled.{TellsOfNone};
 ghost use Rattle.pc_agent.specs.Inner.Wanted.{AreShort, HoldsAll, HoldsAllBut, IsNoneBefore};
 
 use pc_delta::Part;
@@ -60,23 +59,4 @@ pub(crate) fn runnable_after(
         kept = with_thread(kept?, view, cpu, part.thread());
     }
     kept
-}
-
-/// Whether no part tells of a thread of the list.
-fn lists_none(list: &RunQueue, parts: &[Part]) -> bool
-    ensures { IsTrue result → TellsOfNone parts.now list.now }
-{
-    for part in parts {
-        if list.has(part.thread()) {
-            return false;
-        }
-    }
-    true
-}
-
-/// Whether a list that may be settled stays so, once a view has taken the parts in.
-pub(crate) fn stays_settled(settled: bool, list: &RunQueue, parts: &[Part]) -> bool
-    ensures { IsTrue result → IsTrue settled × TellsOfNone parts.now list.now }
-{
-    settled && lists_none(list, parts)
 }

@@ -8,5 +8,5 @@
 mod levels;
 mod run_queue;
 
-pub use levels::runs_on;
+pub use levels::{level_on, runs_on};
 pub use run_queue::RunQueue;

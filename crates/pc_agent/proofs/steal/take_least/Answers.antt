@@ -1,4 +1,4 @@
-use Rattle.std.proofs.Common.{Err, ◌≡◌, is_some, refl, rules, sym, subst, ap, ◌∙◌}
+use Rattle.std.proofs.Common.{Err, ◌≡◌, is_some, refl, sym, subst, ap, ◌∙◌}
 use Rattle.pc_calls.specs.declared.refusal.Refusal.TheVariants.{Busy}
 use Rattle.pc_calls.specs.declared.refusal.CallFault.TheVariants.{Refused}
 use Rattle.pc_run_queue.specs.Runs.{IsSettled}

@@ -3,7 +3,7 @@ use Rattle.pc_delta.specs.Exchange.{IsPartlyTakenIn, IsTakenIn}
 use Rattle.pc_delta.specs.Parts.{tells_of}
 use Rattle.pc_run_queue.specs.Runs.{refreshed}
 use Rattle.pc_agent.proofs.Delivered.{has_copied, has_partly_copied}
-use Rattle.pc_agent.specs.Inner.Settled.{TellsOfNone}
+use Rattle.pc_agent.specs.Inner.Settled.{TellsOfNoOther}
 use Rattle.pc_agent.proofs.Kept.{held_but}
 use Rattle.pc_agent.proofs.Settles.{still_settled}
 use Rattle.pc_agent.proofs.agent.Agent.copied.Goals as goal
@@ -35,6 +35,5 @@ runnable_after-requires c names is t untold runs =
 
 pub refresh_list-requires : goal.refresh_list-requires
 refresh_list-requires c e =
-    let stays = c.stays_settled-settled.ensures e in
-    still_settled c.in_ok-delta.delta c.args.self.now.view c.take_in.new.view c.args.self.now.cpu c.args.self.now.list c.take_in.ensures.others
-    (subst (λ parts. TellsOfNone parts c.args.self.now.list) c.parts-parts.ensures.same stays.1) (c.args.self.now.settled_is stays.0)
+    still_settled c.in_ok-delta.delta c.args.self.now.view c.take_in.new.view c.args.self.now.cpu c.args.self.now.list c.args.self.now.settled c.watched-watch.result c.take_in.ensures.others
+    (subst (λ parts. TellsOfNoOther parts c.args.self.now.list c.watched-watch.result) c.parts-parts.ensures.same c.watched-watch.ensures.others) c.watched-watch.ensures.was (c.stands.ensures e) c.args.self.now.settled_is

@@ -1,7 +1,7 @@
 use Rattle.std.proofs.Common.{Ok, refl, subst, sym, ap, ◌∙◌}
 use Rattle.pc_delta.specs.Parts.{tells_of}
 use Rattle.pc_agent.proofs.Delivered.{delivered, partly_delivered}
-use Rattle.pc_agent.specs.Inner.Settled.{TellsOfNone}
+use Rattle.pc_agent.specs.Inner.Settled.{TellsOfNoOther}
 use Rattle.pc_agent.proofs.Kept.{held_but}
 use Rattle.pc_agent.proofs.Settles.{still_settled}
 use Rattle.pc_agent.proofs.agent.Agent.deliver.Goals as goal
@@ -21,6 +21,5 @@ runnable_after-requires c names is t untold runs =
 
 pub invariant_of-self-2-clause-settled_is : goal.invariant_of-self-2-clause-settled_is
 invariant_of-self-2-clause-settled_is c e =
-    let stays = c.stays_settled-settled.ensures e in
-    still_settled c.args.delta.now c.args.self.now.view c.take_in.new.view c.args.self.now.cpu c.args.self.now.list c.take_in.ensures.others
-    (subst (λ parts. TellsOfNone parts c.args.self.now.list) c.parts-parts.ensures.same stays.1) (c.args.self.now.settled_is stays.0)
+    still_settled c.args.delta.now c.args.self.now.view c.take_in.new.view c.args.self.now.cpu c.args.self.now.list c.args.self.now.settled c.watched-watch.result c.take_in.ensures.others
+    (subst (λ parts. TellsOfNoOther parts c.args.self.now.list c.watched-watch.result) c.parts-parts.ensures.same c.watched-watch.ensures.others) c.watched-watch.ensures.was (c.stands-self.ensures e) c.args.self.now.settled_is
