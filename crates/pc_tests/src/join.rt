@@ -359,6 +359,8 @@ fn names_far_apart_are_found_and_walked(rt: HostRuntime) -> Result<(), Fail> {
         (1_000_000, 7),
         (127, 5),
         (65, 4),
+        (65_536, 10),
+        (65_535, 9),
     ];
     let names = known(rt.alloc(), far.as_slice())?;
     assert_eq!(rt;
@@ -370,6 +372,8 @@ fn names_far_apart_are_found_and_walked(rt: HostRuntime) -> Result<(), Fail> {
             (Tid(65), 4),
             (Tid(127), 5),
             (Tid(128), 6),
+            (Tid(65_535), 9),
+            (Tid(65_536), 10),
             (Tid(1_000_000), 7),
             (Tid(4_294_967_295), 8),
         ]
@@ -381,6 +385,10 @@ fn names_far_apart_are_found_and_walked(rt: HostRuntime) -> Result<(), Fail> {
         (66, None),
         (126, None),
         (192, None),
+        (65_534, None),
+        (65_535, Some(9)),
+        (65_536, Some(10)),
+        (65_537, None),
         (4_294_967_295, Some(8)),
     ] {
         assert_eq!(rt; known_of(&names, name), wanted);
@@ -389,7 +397,9 @@ fn names_far_apart_are_found_and_walked(rt: HostRuntime) -> Result<(), Fail> {
         (1, Tid(63)),
         (64, Tid(64)),
         (66, Tid(127)),
-        (129, Tid(1_000_000)),
+        (129, Tid(65_535)),
+        (65_536, Tid(65_536)),
+        (65_537, Tid(1_000_000)),
         (1_000_001, Tid(4_294_967_295)),
     ] {
         assert_eq!(rt; next(&names, from), Some(wanted));
@@ -415,6 +425,23 @@ fn names_put_in_descending_order_are_walked_in_ascending_order(
         );
         assert_eq!(rt; known_of(&names, name), Some(name / 2 + 1));
     }
+    Ok(())
+}
+
+#[test]
+fn names_that_were_cleared_are_gone_and_can_come_again(rt: HostRuntime) -> Result<(), Fail> {
+    let mut names = known(rt.alloc(), &[(0, 1), (70, 2), (65_536, 3)])?;
+    names.clear();
+    for name in [0, 70, 65_536] {
+        assert_eq!(rt; known_of(&names, name), None);
+    }
+    assert_eq!(rt; next(&names, 0), None);
+    names.put(Tid(70), Upto::new(5))?;
+    names.put(Tid(65_536), Upto::new(6))?;
+    assert_eq!(rt;
+        walked(rt.alloc(), &names)?.as_slice(),
+        [(Tid(70), 5), (Tid(65_536), 6)].as_slice()
+    );
     Ok(())
 }
 

@@ -33,20 +33,20 @@ fn has(set: &NameSet, name: u32) -> bool {
 
 #[test]
 fn names_are_added_and_taken_out_alone(rt: HostRuntime) -> Result<(), Fail> {
-    let mut set = set_of(rt.alloc(), &[0, 63, 64, 63, 4_095, LAST])?;
-    for name in [0, 63, 64, 4_095, LAST] {
+    let mut set = set_of(rt.alloc(), &[0, 63, 64, 63, 4_095, 65_535, 65_536, LAST])?;
+    for name in [0, 63, 64, 4_095, 65_535, 65_536, LAST] {
         assert!(rt; has(&set, name));
     }
-    for name in [1, 62, 65, 127, 128, 4_094, 4_096, LAST - 1] {
+    for name in [1, 62, 65, 128, 4_094, 65_534, 65_537, LAST - 1] {
         assert!(rt; !has(&set, name));
     }
-    for name in [63, 7, LAST] {
+    for name in [63, 7, 65_535, LAST] {
         set.remove(Tid(name));
     }
-    for name in [0, 64, 4_095] {
+    for name in [0, 64, 4_095, 65_536] {
         assert!(rt; has(&set, name));
     }
-    for name in [63, 7, LAST] {
+    for name in [63, 7, 65_535, LAST] {
         assert!(rt; !has(&set, name));
     }
     Ok(())
@@ -69,7 +69,7 @@ fn found(alloc: Global, walk: &Walk<'_>) -> Result<[Option<Tid>; 2], OutOfMemory
 
 #[test]
 fn a_walk_finds_the_least_name_that_the_others_lack(rt: HostRuntime) -> Result<(), Fail> {
-    let walks: [Walk<'_>; 12] = [
+    let walks: [Walk<'_>; 14] = [
         (&[], &[], 0, None),
         (&[0], &[], 0, Some(Tid(0))),
         (&[0], &[0], 0, None),
@@ -79,6 +79,8 @@ fn a_walk_finds_the_least_name_that_the_others_lack(rt: HostRuntime) -> Result<(
         (&[63, 64], &[63], 1, Some(Tid(64))),
         (&[63, 64], &[63], 65, None),
         (&[5, 70, 200], &[70], 6, Some(Tid(200))),
+        (&[65_535, 65_536], &[63], 64, Some(Tid(65_535))),
+        (&[65_535, 65_536], &[65_535], 1, Some(Tid(65_536))),
         (&[5, 70, LAST], &[5, 70], 0, Some(Tid(LAST))),
         (&[LAST], &[LAST - 1], LAST, Some(Tid(LAST))),
         (&[LAST], &[LAST], LAST, None),
