@@ -1,5 +1,5 @@
 -- Entries by ascending names.
-use Rattle.std.proofs.Common.{ℕ, suc, ◌+◌, ◌<◌, ◌≤◌, ◌≡◌, ◌&&◌, ◌⊎◌, ◌↔◌, ◌^◌, Bool, true, false, cond, List, [], ◌∷◌, length, Option, Some, None, IsSome, Bor, refl, sym, ap, subst, ◌∙◌, arith, inl, inr}
+use Rattle.std.proofs.Common.{ℕ, suc, ◌+◌, ◌<◌, ◌≤◌, ◌≡◌, ◌&&◌, ◌⊎◌, ◌↔◌, ◌^◌, Bool, true, false, cond, List, [], ◌∷◌, Option, Some, None, IsSome, refl, sym, ap, subst, ◌∙◌, arith, inl, inr}
 use Rattle.std.proofs.Math.Dec.{T}
 use Rattle.std.specs.List.{All, AllByRecursion}
 use Rattle.std.specs.List.Sorted.{IsStrictlySortedBy}
@@ -15,9 +15,7 @@ use Rattle.std.specs.BTreeMap.{BTreeMap}
 use Rattle.std.proofs.lemmas.Bool.{false≢true}
 use Rattle.std.proofs.lemmas.Bool.Decides.{nat_tests}
 use Rattle.pc_join.specs.Sets.{Members, IsVoid}
-use Rattle.std.specs.Option.{MatchOption}
-use Rattle.pc_join.specs.ByName.{AscendFrom, HoldsNoEmpty, HasShortNames, named, value_at}
-use Rattle.pc_join.specs.Inner.Puts.{left_of}
+use Rattle.pc_join.specs.ByName.{AscendFrom, HoldsNoEmpty, HasShortNames, value_at}
 
 -- the orders of std
 both : (a b : Bool) → T a → T b → T (a && b)
@@ -116,41 +114,6 @@ module _ {V : Type 0} where
     where
       inside : {X : Type 0} {x y : X} → ◌≡◌ {A = Option X} (Some x) (Some y) → x ≡ y
       inside e = cc
-
--- how far look-ups have come: nothing that may still be asked for has been passed
-pub record IsPassing {V : Type 0} (name : ℕ) (old left : List (ℕ × V)) : Type 0 where
-  pub ascend : AscendFrom 0 left
-  pub same : (other : ℕ) → name ≤ other → value_at left other ≡ value_at old other
-
-module _ {V : Type 0} where
-  pub next_left : (r : Option (ℕ × Bor V)) (s t : List (ℕ × V)) → MatchOption r ((s ≡ []) × (t ≡ [])) (λ x. s ≡ named x ∷ t) → left_of r t ≡ s
-  next_left None s t h = sym h.0
-  next_left (Some x) s t h = sym h
-
-  pub passing_start : (name : ℕ) (old left : List (ℕ × V)) → left ≡ old → AscendFrom 0 left → IsPassing name old left
-  passing_start name old left e ascend = record { ascend = ascend; same = λ other le. ap (λ es. value_at es other) e }
-
-  module _ (name : ℕ) (old left rest : List (ℕ × V)) (held : ℕ) (value : V) (is : left ≡ (held, value) ∷ rest) (passing : IsPassing name old left) where
-    here : IsPassing name old ((held, value) ∷ rest)
-    here = subst (λ es. IsPassing name old es) is passing
-
-    pub passing_on : held < name → IsPassing name old rest
-    passing_on lt = record {
-      ascend = ascend_zero (held + 1) rest here.ascend.1;
-      same = λ other le. sym (at_later (held, value) rest other (λ e. absurd (omega arith))) ∙ here.same other le;
-    }
-
-    pub passing_found : held ≡ name → Some value ≡ value_at old name
-    passing_found e = sym (at_first (held, value) rest) ∙ ap (value_at ((held, value) ∷ rest)) e ∙ here.same name (omega arith)
-
-    pub passing_beyond : name < held → None ≡ value_at old name
-    passing_beyond lt = sym (sym (here.same name (omega arith)) ∙ none_before held ((held, value) ∷ rest) name ((omega arith), here.ascend.1) lt)
-
-  pub passing_end : (name : ℕ) (old left : List (ℕ × V)) → left ≡ [] → IsPassing name old left → None ≡ value_at old name
-  passing_end name old left e passing = sym (sym (passing.same name (omega arith)) ∙ ap (λ es. value_at es name) e)
-
-  pub fewer_left : (left rest after : List (ℕ × V)) (e : ℕ × V) → left ≡ e ∷ rest → after ≡ rest → length after < length left
-  fewer_left left rest after e is same = let n = ap length is in let m = ap length same in omega arith
 
 -- a map of entries that ascend
 module _ {V : Type 0} where

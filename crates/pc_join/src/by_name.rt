@@ -10,7 +10,7 @@ ghost use Rattle.pc_join.specs.Inner.NameLaws.{unique_by_name, stays_by_name};
 
 use crate::join::{Join, OutOfMemory};
 use crate::values::Values;
-use crate::walk::{Iter, Lookups};
+use crate::walk::Iter;
 use pc_messages::Tid;
 use std::alloc::Global;
 use std::marker::Model;
@@ -76,6 +76,7 @@ impl<V: Join> ByName<V> {
     }
 
     /// What is held under the name; it is not empty.
+    #[inline(always)]
     pub fn get(&self, name: Tid) -> Option<&V>
         ensures value { option_copied result ≡ map.get self.now name }
         ensures some { IfSome result (λ value. ¬ IsVoid (V.known value.now)) }
@@ -89,13 +90,6 @@ impl<V: Join> ByName<V> {
         ensures short { HasShortNames self.now }
     {
         self.values.iter()
-    }
-
-    /// The same walk, for a caller that asks for names in ascending order.
-    pub fn lookups(&self) -> Lookups<'_, V>
-        ensures { result ≡ map.entries self.now }
-    {
-        Lookups::of(self.iter())
     }
 
     /// Joins the value to what is held under the name. An empty value changes nothing, and no other name changes.

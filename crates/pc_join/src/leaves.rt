@@ -149,7 +149,8 @@ impl<V: Join> Leaves<V> {
         self.leaves = BTreeMap::new(self.alloc);
     }
 
-    /// What stands under the name.
+    /// What stands under the name. It stays a call of its own: few names are far.
+    #[inline(never)]
     pub fn get(&self, name: u32) -> Option<&V>
         ensures { option_copied result ≡ value_at self.now name }
     {

@@ -23,4 +23,4 @@ pub use name_set::NameSet;
 pub use numbers::Numbers;
 pub use turn::{Turn, next_turn};
 pub use upto::Upto;
-pub use walk::{Iter, Lookups};
+pub use walk::Iter;

@@ -165,6 +165,7 @@ impl<V: Join> Near<V> {
     }
 
     /// What stands under the name.
+    #[inline(always)]
     pub fn get(&self, name: u32) -> Option<&V>
         ensures { option_copied result ≡ value_at self.now name }
     {

@@ -1,11 +1,10 @@
 //! Walks over values by name, by ascending names.
 
-ghost use Rattle.std.specs.Prelude.{ℕ, ◌≡◌, ◌≤◌, ◌++◌, List, option_copied};
+ghost use Rattle.std.specs.Prelude.{ℕ, ◌≡◌, ◌++◌, List};
 ghost use Rattle.std.specs.Iterator.{YieldsFirstBy, item_count};
-ghost use Rattle.pc_join.specs.ByName.{AscendFrom, named, value_at};
+ghost use Rattle.pc_join.specs.ByName.{named};
 ghost use Rattle.pc_join.specs.Inner.Leaves.{entries_of};
 ghost use Rattle.pc_join.specs.Inner.Near.{entries_at};
-ghost use Rattle.pc_join.specs.Inner.Puts.{left_of};
 
 use crate::near::entry_of;
 use pc_messages::Tid;
@@ -141,60 +140,6 @@ impl<'a, V> Iterator for Iter<'a, V> {
         match self.near.next() {
             Some(entry) => Some(entry),
             None => self.far.next(),
-        }
-    }
-}
-
-/// Values by name for a caller that asks for ascending names: the names that it passes over are passed once, so that
-/// all look-ups together cost one walk.
-#[derive(Drop)]
-pub struct Lookups<'a, V> {
-    first: Option<(Tid, &'a V)>,
-    rest: Iter<'a, V>,
-}
-
-impl<'a, V> Model for Lookups<'a, V> {
-    ghost use Rattle.std.specs.Prelude.{ℕ, List};
-
-    ghost Value = { List (ℕ × V) };
-
-    ghost use Rattle.pc_join.specs.ByName.{AscendFrom};
-    ghost use Rattle.pc_join.specs.Inner.Puts.{left_of};
-
-    ghost view = { λ lookups. left_of lookups.first lookups.rest };
-
-    ghost invariant = { λ lookups. AscendFrom 0 (left_of lookups.first lookups.rest) };
-}
-
-impl<'a, V> Lookups<'a, V> {
-    /// Look-ups in what a walk has left.
-    pub(crate) fn of(mut entries: Iter<'a, V>) -> Self
-        requires { AscendFrom 0 entries }
-        ensures { result ≡ entries.entry }
-    {
-        let first = entries.next();
-        Lookups {
-            first,
-            rest: entries,
-        }
-    }
-
-    /// What stands under the name. From then on only this name and later ones can be asked for.
-    pub fn at(&mut self, name: Tid) -> Option<&'a V>
-        ensures value { option_copied result ≡ value_at self.old name }
-        ensures later { (other : ℕ) → name ≤ other → value_at self.new other ≡ value_at self.old other }
-    {
-        'below: loop {
-            let Some((held, value)) = self.first else {
-                return None;
-            };
-            if held.index() == name.index() {
-                return Some(value);
-            }
-            if held.index() > name.index() {
-                return None;
-            }
-            self.first = self.rest.next();
         }
     }
 }

@@ -310,20 +310,6 @@ fn walked(alloc: Global, names: &ByName<Upto>) -> Result<Vec<(Tid, u32)>, OutOfM
     Ok(walked)
 }
 
-/// How far the names are known that are looked up, one after the other.
-fn looked_up(
-    alloc: Global,
-    names: &ByName<Upto>,
-    asked: &[u32],
-) -> Result<Vec<Option<u32>>, OutOfMemory> {
-    let mut found = names.lookups();
-    let mut all = Vec::new(alloc);
-    for name in asked {
-        all.push(found.at(Tid(*name)).map(|value| value.get()))?;
-    }
-    Ok(all)
-}
-
 fn known_of(names: &ByName<Upto>, name: u32) -> Option<u32> {
     names.get(Tid(name)).map(|value| value.get())
 }
@@ -333,17 +319,11 @@ fn next(names: &ByName<Upto>, from: u32) -> Option<Tid> {
 }
 
 #[test]
-fn names_are_walked_and_looked_up_in_order(rt: HostRuntime) -> Result<(), Fail> {
+fn names_are_walked_in_order(rt: HostRuntime) -> Result<(), Fail> {
     let names = known(rt.alloc(), &[(9, 1), (2, 4), (5, 3)])?;
     assert_eq!(rt;
         walked(rt.alloc(), &names)?.as_slice(),
         [(Tid(2), 4), (Tid(5), 3), (Tid(9), 1)].as_slice()
-    );
-    // A look-up passes the names below it.
-    let names = known(rt.alloc(), &[(2, 4), (5, 3)])?;
-    assert_eq!(rt;
-        looked_up(rt.alloc(), &names, &[1, 2, 2, 4, 5, 6])?.as_slice(),
-        [None, Some(4), Some(4), None, Some(3), None].as_slice()
     );
     Ok(())
 }

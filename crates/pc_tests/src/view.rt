@@ -447,22 +447,10 @@ fn walked(alloc: Global, view: &View) -> Result<Vec<(Tid, u32)>, OutOfMemory> {
     Ok(walked)
 }
 
-/// How far the threads are known that are looked up, one after the other.
-fn looked_up(alloc: Global, view: &View, names: &[u32]) -> Result<Vec<Option<u32>>, OutOfMemory> {
-    let mut found = view.lookups();
-    let mut all = Vec::new(alloc);
-    for name in names {
-        all.push(found.at(Tid(*name)).map(|held| held.upto()))?;
-    }
-    Ok(all)
-}
-
 #[test]
-fn threads_are_walked_and_looked_up_in_order(rt: HostRuntime) -> Result<(), Fail> {
+fn threads_are_walked_in_order(rt: HostRuntime) -> Result<(), Fail> {
     let view = two_threads(rt.alloc(), Mask::new(3, 2)?)?;
     let all = walked(rt.alloc(), &view)?;
     assert_eq!(rt; all.as_slice(), [(Tid(0), 1), (Tid(2), 1)].as_slice());
-    let found = looked_up(rt.alloc(), &view, &[0, 1, 2, 3])?;
-    assert_eq!(rt; found.as_slice(), [Some(1), None, Some(1), None].as_slice());
     Ok(())
 }

@@ -12,7 +12,7 @@ ghost use Rattle.pc_view.specs.Views.{is_same_view, pairs_of, thread_of, pair, p
 ghost use Rattle.pc_view.specs.Prefixes.{upto_of, reported_in};
 ghost use Rattle.pc_view.specs.Inner.ViewLaws.{unique_view, stays_view, view_partial, view_equivalence};
 
-use pc_join::{ByName, Iter, Join, Lookups, OutOfMemory};
+use pc_join::{ByName, Iter, Join, OutOfMemory};
 use pc_messages::{Message, Reported, Tid};
 use pc_thread_view::ThreadView;
 use std::alloc::Global;
@@ -139,13 +139,6 @@ impl View {
         ensures short { HasShortNames self.now.threads }
     {
         self.threads.iter()
-    }
-
-    /// The same walk, for a caller that asks for threads in ascending order.
-    pub fn lookups(&self) -> Lookups<'_, ThreadView>
-        ensures { result ≡ map.entries self.now.threads }
-    {
-        self.threads.lookups()
     }
 }
 

@@ -1,8 +1,7 @@
 -- What is held under one name, as values are joined.
-use Rattle.std.specs.Prelude.{ℕ, ◌≡◌, List, [], ◌∷◌, Option, Some, None, IfSome}
-use Rattle.std.proofs.Common.{Bor}
+use Rattle.std.specs.Prelude.{ℕ, ◌≡◌, Option, Some, IfSome}
 use Rattle.pc_join.specs.Sets.{Members, Source, IsBetween, IsUnion, IsVoid, IsWithin}
-use Rattle.pc_join.specs.ByName.{known_in, named}
+use Rattle.pc_join.specs.ByName.{known_in}
 
 -- of what is held under one name: it was old, some of other was joined to it, and it is new
 pub record IsJoinedAt {V : Type 0} (known : V → Members) (is_of : V → Source → Type 0) (old other new : Option V) : Type 0 where
@@ -27,8 +26,3 @@ HasNoVoid {V} known values = (name : ℕ) (value : V) → values name ≡ Some v
 -- what is held under each name knows all that the other holds there
 abbrev pub IsCovered : {V : Type 0} → (V → Members) → (ℕ → Option V) → (ℕ → Option V) → Type 0
 IsCovered known other values = (name : ℕ) → IsWithin (known_in known (other name)) (known_in known (values name))
-
--- what is left of a walk that has taken its next entry out already; where there was none, nothing is
-abbrev pub left_of : {V : Type 0} → Option (ℕ × Bor V) → List (ℕ × V) → List (ℕ × V)
-left_of None rest = []
-left_of (Some entry) rest = named entry ∷ rest
