@@ -1,5 +1,5 @@
 -- Names that are kept: what they lack does not pass the test.
-use Rattle.std.proofs.Common.{ℕ, ◌+◌, ◌^◌, ◌<◌, ◌≤◌, ◌==◌, ◌&&◌, ◌||◌, ◌≡◌, not, Bool, true, false, List, ◌∷◌, length, drop, get_or, Option, refl, sym, ap, ◌∙◌, add-one}
+use Rattle.std.proofs.Common.{ℕ, ◌+◌, ◌^◌, ◌<◌, ◌==◌, ◌&&◌, ◌||◌, ◌≡◌, not, Bool, true, false, List, ◌∷◌, length, drop, get_or, Option, Some, None, refl, sym, ap, ◌∙◌, add-one}
 use Rattle.pc_join.specs.NameSets.{is_in}
 use Rattle.pc_join.specs.declared.name_set.NameSet.{NameSet}
 use Rattle.std.proofs.Math.Seq.{drop-cons}
@@ -12,28 +12,22 @@ use Rattle.pc_delta.specs.Exchange.{KeepsOthers}
 use Rattle.pc_run_queue.specs.Names.{has_name}
 use Rattle.pc_run_queue.specs.Runs.{may_run, runs_in}
 use Rattle.pc_agent.specs.PlainAgent.{is_wanted}
-use Rattle.pc_join.specs.NameSets.{IsFirstFrom}
+use Rattle.pc_join.specs.NameSets.{FindsFrom}
 use Rattle.pc_agent.specs.Inner.Wanted.{AreShort, HasAllBut, HoldsAll, HoldsAllBut}
 
 module _ (runs : ℕ → Bool) (list : List ℕ) (names : NameSet) (all : HasAllBut (λ t. false) runs names) where
-  not_wanted : (t : ℕ) → (is_in names t && not (has_name list t)) ≡ false → is_wanted runs list t ≡ false
-  not_wanted t e = by_test (runs t) refl
-    where
-      by_test : (b : Bool) → runs t ≡ b → (b && not (has_name list t)) ≡ false
-      by_test true f = sym (ap (λ b. b && not (has_name list t)) (all t refl f).0) ∙ e
-      by_test false f = refl
+  as_kept : (t : ℕ) → is_wanted runs list t ≡ (is_in names t && not (has_name list t))
+  as_kept t = ap (λ b. b && not (has_name list t)) (sym (all t refl).0)
 
-  pub none_wanted : (from : ℕ) → ((t : ℕ) → from ≤ t → (is_in names t && not (has_name list t)) ≡ false) → (t : ℕ) → from ≤ t → is_wanted runs list t ≡ false
-  none_wanted from none t le = not_wanted t (none t le)
-
-  pub none_wanted_before : (from name : ℕ) → IsFirstFrom (λ t. is_in names t && not (has_name list t)) from name → (t : ℕ) → from ≤ t → t < name → is_wanted runs list t ≡ false
-  none_wanted_before from name first t le lt = not_wanted t (first.least t le lt)
+  pub finds_wanted : (from : ℕ) (result : Option ℕ) → FindsFrom (λ t. is_in names t && not (has_name list t)) from result → FindsFrom (is_wanted runs list) from result
+  finds_wanted from None none = λ t le. as_kept t ∙ none t le
+  finds_wanted from (Some name) first = record { reached = first.reached; passes = as_kept name ∙ first.passes; least = λ t le lt. as_kept t ∙ first.least t le lt }
 
   pub are_short : AreShort (is_wanted runs list)
   are_short t e = by_test (runs t) refl e
     where
       by_test : (b : Bool) → runs t ≡ b → (b && not (has_name list t)) ≡ true → t < 2 ^ 32
-      by_test true f e = (all t refl f).1
+      by_test true f e = (all t refl).1 f
       by_test false f e = absurd (false≢true e)
 
 -- the other threads run as before
@@ -41,7 +35,9 @@ pub runs_as_before : (parts : List Part) (old new : View) (cpu t : ℕ) → Keep
 runs_as_before parts old new cpu t keeps untold = ap (λ told. may_run (state_told told) cpu) (keeps t untold)
 
 pub held_but : (parts : List Part) (old new : View) (cpu : ℕ) (kept : Option (NameSet)) → KeepsOthers parts old new → HoldsAll (runs_in old cpu) kept → HoldsAllBut (tells_of parts) (runs_in new cpu) kept
-held_but parts old new cpu kept keeps all names is t untold runs = all names is t refl (sym (runs_as_before parts old new cpu t keeps untold) ∙ runs)
+held_but parts old new cpu kept keeps all names is t untold =
+    let same : runs_in new cpu t ≡ runs_in old cpu t = runs_as_before parts old new cpu t keeps untold in
+    let held = all names is t refl in (held.0 ∙ sym same, λ runs. held.1 (sym same ∙ runs))
 
 -- one part after another
 still_but : (a b : Bool) → b ≡ false → ((a || b) && not a) ≡ false
@@ -50,8 +46,8 @@ still_but false b e = ap (λ x. x && true) e
 
 pub one_less : (parts : List Part) (i : ℕ) (part : Part) (test : ℕ → Bool) (kept : Option (NameSet)) → part ≡ get_or parts i part → i < length parts
     → HoldsAllBut (λ t. tells_of (drop i parts) t && not (thread_of_part part == t)) test kept → HoldsAllBut (tells_of (drop (i + 1) parts)) test kept
-one_less parts i part test kept e lt h names is t untold passes =
-    h names is t (ap (λ left. tells_of left t && not (thread_of_part part == t)) from_there ∙ still_but (thread_of_part part == t) (tells_of (drop (i + 1) parts) t) untold) passes
+one_less parts i part test kept e lt h names is t untold =
+    h names is t (ap (λ left. tells_of left t && not (thread_of_part part == t)) from_there ∙ still_but (thread_of_part part == t) (tells_of (drop (i + 1) parts) t) untold)
   where
     from_there : drop i parts ≡ part ∷ drop (i + 1) parts
     from_there = drop-cons parts i part lt ∙ ap (λ n. get_or parts i part ∷ drop n parts) (sym (add-one i)) ∙ ap (λ y. y ∷ drop (i + 1) parts) (sym e)

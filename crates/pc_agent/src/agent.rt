@@ -27,8 +27,8 @@ pub struct Agent {
     /// Below this name no thread is wanted: each that the view reports ready and allowed here is in the run list. A steal
     /// begins to look here. What the kernel says plays no part in it.
     pub(crate) passed: u32,
-    /// The names of at least all threads that the view reports ready and allowed on the CPU: a steal looks at these alone.
-    /// None where memory ran out while they were kept; a steal then looks at all threads that the view knows.
+    /// The names of the threads that the view reports ready and allowed on the CPU: a steal looks at these alone, and not at
+    /// the view. None where memory ran out while they were kept; a steal then looks at all threads that the view knows.
     pub(crate) runnable: Option<NameSet>,
     /// Whether it is known that a refresh that touches no thread would leave the run list as it is: then a refresh looks at
     /// the touched threads alone.

@@ -12,21 +12,12 @@ use pc_messages::{Cpu, Tid};
 use pc_run_queue::{RunQueue, runs_on};
 use pc_view::View;
 
-/// The least thread from one on that a steal has to look at: of the names that are kept and not in the run list, or, where none
-/// are kept, of all threads that the view knows.
-pub(crate) fn next_runnable(
-    view: &View,
-    runnable: &Option<NameSet>,
-    list: &RunQueue,
-    from: u32,
-) -> Option<Tid>
-    ensures passed { (cpu : ℕ) → HoldsAll (runs_in view.now cpu) runnable.now → IsNoneBefore (is_wanted (runs_in view.now cpu) list.now) from result }
-    ensures short { (cpu : ℕ) → HoldsAll (runs_in view.now cpu) runnable.now → AreShort (is_wanted (runs_in view.now cpu) list.now) }
+/// The least thread from one on that the view knows: none before it is wanted. The run list and the CPU stand in the clauses alone.
+pub(crate) fn next_in_view(view: &View, list: &RunQueue, cpu: Cpu, from: u32) -> Option<Tid>
+    ensures passed { IsNoneBefore (is_wanted (runs_in view.now cpu) list.now) from result }
+    ensures short { AreShort (is_wanted (runs_in view.now cpu) list.now) }
 {
-    match runnable {
-        Some(names) => list.next_outside(names, Tid(from)),
-        None => view.next(Tid(from)),
-    }
+    view.next(Tid(from))
 }
 
 /// Keeps the thread's name, or drops it, as the view now reports the thread. None, where memory runs out.

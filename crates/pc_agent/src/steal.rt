@@ -18,7 +18,7 @@ ghost use Rattle.pc_join.specs.NameSets.{FindsFrom};
 ghost use Rattle.pc_agent.specs.Inner.Wanted.{AreShort, HoldsAll, IsNoneWantedBelow};
 
 use crate::agent::Agent;
-use crate::runnable::next_runnable;
+use crate::runnable::next_in_view;
 use pc_calls::{CallFault, Refusal};
 use pc_join::NameSet;
 use pc_kernel::Kernel;
@@ -44,7 +44,26 @@ fn wants(view: &View, list: &RunQueue, cpu: Cpu, thread: Tid) -> bool
     runs_on(view, cpu, thread) && !list.has(thread)
 }
 
-/// The least thread from one on that is wanted.
+/// The least thread from one on that is wanted, of all that the view knows.
+fn next_known(view: &View, list: &RunQueue, cpu: Cpu, from: u32) -> Option<Tid>
+    ensures finds { FindsFrom (is_wanted (runs_in view.now cpu) list.now) from result }
+    ensures short { AreShort (is_wanted (runs_in view.now cpu) list.now) }
+{
+    let mut start = from;
+    while let Some(name) = next_in_view(view, list, cpu, start) {
+        if wants(view, list, cpu, name) {
+            return Some(name);
+        }
+        match name.index().checked_add(1) {
+            Some(following) => start = following,
+            None => return None,
+        }
+    }
+    None
+}
+
+/// The least thread from one on that is wanted: of the names that are kept it is the least that is not in the run list, with no
+/// look at the view.
 fn next_wanted(
     view: &View,
     runnable: &Option<NameSet>,
@@ -56,17 +75,10 @@ fn next_wanted(
     ensures finds { FindsFrom (is_wanted (runs_in view.now cpu) list.now) from result }
     ensures short { AreShort (is_wanted (runs_in view.now cpu) list.now) }
 {
-    let mut start = from;
-    while let Some(name) = next_runnable(view, runnable, list, start) {
-        if wants(view, list, cpu, name) {
-            return Some(name);
-        }
-        match name.index().checked_add(1) {
-            Some(following) => start = following,
-            None => return None,
-        }
+    match runnable {
+        Some(names) => list.next_outside(names, Tid(from)),
+        None => next_known(view, list, cpu, from),
     }
-    None
 }
 
 /// The least thread after this one that is wanted.

@@ -22,14 +22,14 @@ abbrev pub IsNoneBefore : (ℕ → Bool) → ℕ → Option ℕ → Type 0
 IsNoneBefore test from None = (t : ℕ) → from ≤ t → test t ≡ false
 IsNoneBefore test from (Some name) = (from ≤ name) × (name < 2 ^ 32) × ((t : ℕ) → from ≤ t → t < name → test t ≡ false)
 
--- each number that passes the test is among the names, but for some, and fits 32 bits
+-- the names are those of the numbers that pass the test, but for some; each of these numbers fits 32 bits
 abbrev pub HasAllBut : (ℕ → Bool) → (ℕ → Bool) → NameSet → Type 0
-HasAllBut but test names = (t : ℕ) → but t ≡ false → test t ≡ true → (is_in names t ≡ true) × (t < 2 ^ 32)
+HasAllBut but test names = (t : ℕ) → but t ≡ false → (is_in names t ≡ test t) × (test t ≡ true → t < 2 ^ 32)
 
 -- the same, where names are kept
 abbrev pub HoldsAllBut : (ℕ → Bool) → (ℕ → Bool) → Option (NameSet) → Type 0
 HoldsAllBut but test kept = ForSome kept (HasAllBut but test)
 
--- where names are kept, each number that passes the test is among them, and fits 32 bits
+-- where names are kept, they are those of the numbers that pass the test, and each of these fits 32 bits
 abbrev pub HoldsAll : (ℕ → Bool) → Option (NameSet) → Type 0
 HoldsAll test kept = ForSome kept (HasAllBut (λ t. false) test)

@@ -15,4 +15,4 @@ loop-part-preserved c =
     (c.with_thread-kept.ensures left (λ names e. c.loop-part.invariant names (c.in_ok-kept.was ∙ e))))
 
 pub returns : goal.returns
-returns c names is t e runs = c.loop-part.invariant names is t (ap (λ left. tells_of left t) (none_left c.args.parts.now c.loop-part.part-index c.loop-part-test.false)) runs
+returns c names is t e = c.loop-part.invariant names is t (ap (λ left. tells_of left t) (none_left c.args.parts.now c.loop-part.part-index c.loop-part-test.false))

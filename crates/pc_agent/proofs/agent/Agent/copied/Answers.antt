@@ -29,9 +29,9 @@ returns-clause-copies c run p are h =
     }
 
 pub runnable_after-requires : goal.runnable_after-requires
-runnable_after-requires c names is t untold runs =
+runnable_after-requires c names is t untold =
     held_but c.in_ok-delta.delta c.args.self.now.view c.take_in.new.view c.args.self.now.cpu c.args.self.now.runnable c.take_in.ensures.others c.args.self.now.runnable_has
-    names (sym c.take-runnable.ensures.value ∙ is) t (sym (ap (λ parts. tells_of parts t) c.parts-parts.ensures.same) ∙ untold) runs
+    names (sym c.take-runnable.ensures.value ∙ is) t (sym (ap (λ parts. tells_of parts t) c.parts-parts.ensures.same) ∙ untold)
 
 pub refresh_list-requires : goal.refresh_list-requires
 refresh_list-requires c e =

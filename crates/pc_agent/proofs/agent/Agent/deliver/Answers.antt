@@ -15,9 +15,9 @@ returns-in_err-take_in-clause-delivers c run p set tells h =
     partly_delivered run p set c.from_residual.result c.from_residual.ensures.0 c.args.self.now _ c.args.delta.now tells h c.take_in.ensures.partly refl refl
 
 pub runnable_after-requires : goal.runnable_after-requires
-runnable_after-requires c names is t untold runs =
+runnable_after-requires c names is t untold =
     held_but c.args.delta.now c.args.self.now.view c.take_in.new.view c.args.self.now.cpu c.args.self.now.runnable c.take_in.ensures.others c.args.self.now.runnable_has
-    names (sym c.take-runnable.ensures.value ∙ is) t (sym (ap (λ parts. tells_of parts t) c.parts-parts.ensures.same) ∙ untold) runs
+    names (sym c.take-runnable.ensures.value ∙ is) t (sym (ap (λ parts. tells_of parts t) c.parts-parts.ensures.same) ∙ untold)
 
 pub invariant_of-self-2-clause-settled_is : goal.invariant_of-self-2-clause-settled_is
 invariant_of-self-2-clause-settled_is c e =

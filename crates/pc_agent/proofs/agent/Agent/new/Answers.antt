@@ -14,6 +14,6 @@ returns-clause-fresh c run = record {
 pub invariant_of-result : goal.invariant_of-result
 invariant_of-result c = record {
   settled_is = λ e. subst (IsSettled c.new.result c.args.cpu) (sym c.new-2.ensures) refl;
-  runnable_has = none_to_hold c.views_tell_what_their_sets_tell.ensures.reported c.new.result c.new.ensures.nothing c.new.ensures.of_run c.args.cpu _;
+  runnable_has = none_to_hold c.views_tell_what_their_sets_tell.ensures.reported c.new.result c.new.ensures.nothing c.new.ensures.of_run c.args.cpu c.new-4.result c.new-4.ensures;
   passed_over = λ t lt. absurd (omega (arith, lt));
 }

@@ -14,6 +14,6 @@ returns-clause-fresh c run = record {
 pub invariant_of-self : goal.invariant_of-self
 invariant_of-self c = record {
   settled_is = λ e. subst (IsSettled c.clear.new.self c.args.self.now.cpu) (sym c.new.ensures) refl;
-  runnable_has = none_to_hold c.views_tell_what_their_sets_tell.ensures.reported c.clear.new.self c.clear.ensures.nothing c.clear.ensures.of_run c.args.self.now.cpu _;
+  runnable_has = none_to_hold c.views_tell_what_their_sets_tell.ensures.reported c.clear.new.self c.clear.ensures.nothing c.clear.ensures.of_run c.args.self.now.cpu c.new-2.result c.new-2.ensures;
   passed_over = λ t lt. absurd (omega (arith, lt));
 }
