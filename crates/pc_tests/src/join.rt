@@ -408,6 +408,24 @@ fn names_put_in_descending_order_are_walked_in_ascending_order(
     Ok(())
 }
 
+/// Joins names, and tells whether each of both covers the other then.
+fn joins_names(names: &mut ByName<Upto>, other: &ByName<Upto>) -> Result<[bool; 2], OutOfMemory> {
+    names.join_from(other)?;
+    Ok([names.covers(other), other.covers(names)])
+}
+
+#[test]
+fn near_and_far_names_are_joined(rt: HostRuntime) -> Result<(), Fail> {
+    let mut names = known(rt.alloc(), &[(65_535, 1), (65_536, 2)])?;
+    let other = known(rt.alloc(), &[(65_536, 3), (4_294_967_295, 4)])?;
+    assert_eq!(rt; joins_names(&mut names, &other)?, [true, false]);
+    assert_eq!(rt;
+        walked(rt.alloc(), &names)?.as_slice(),
+        [(Tid(65_535), 1), (Tid(65_536), 3), (Tid(4_294_967_295), 4)].as_slice()
+    );
+    Ok(())
+}
+
 #[test]
 fn names_that_were_cleared_are_gone_and_can_come_again(rt: HostRuntime) -> Result<(), Fail> {
     let mut names = known(rt.alloc(), &[(0, 1), (70, 2), (65_536, 3)])?;
