@@ -44,10 +44,10 @@ still_but : (a b : Bool) → b ≡ false → ((a || b) && not a) ≡ false
 still_but true b e = refl
 still_but false b e = ap (λ x. x && true) e
 
-pub one_less : (parts : List Part) (i : ℕ) (part : Part) (test : ℕ → Bool) (kept : Option (NameSet)) → part ≡ get_or parts i part → i < length parts
-    → HoldsAllBut (λ t. tells_of (drop i parts) t && not (thread_of_part part == t)) test kept → HoldsAllBut (tells_of (drop (i + 1) parts)) test kept
-one_less parts i part test kept e lt h names is t untold =
-    h names is t (ap (λ left. tells_of left t && not (thread_of_part part == t)) from_there ∙ still_but (thread_of_part part == t) (tells_of (drop (i + 1) parts) t) untold)
+pub one_less : (parts : List Part) (i : ℕ) (part : Part) (test : ℕ → Bool) (names : NameSet) → part ≡ get_or parts i part → i < length parts
+    → HasAllBut (λ t. tells_of (drop i parts) t && not (thread_of_part part == t)) test names → HasAllBut (tells_of (drop (i + 1) parts)) test names
+one_less parts i part test names e lt h t untold =
+    h t (ap (λ left. tells_of left t && not (thread_of_part part == t)) from_there ∙ still_but (thread_of_part part == t) (tells_of (drop (i + 1) parts) t) untold)
   where
     from_there : drop i parts ≡ part ∷ drop (i + 1) parts
     from_there = drop-cons parts i part lt ∙ ap (λ n. get_or parts i part ∷ drop n parts) (sym (add-one i)) ∙ ap (λ y. y ∷ drop (i + 1) parts) (sym e)

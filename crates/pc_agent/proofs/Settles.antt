@@ -1,7 +1,9 @@
 -- Settled run lists, of whose threads no part tells anything that would change them.
-use Rattle.std.proofs.Common.{ℕ, ◌+◌, ◌<◌, ◌==◌, ◌||◌, ◌≡◌, Bool, true, false, List, IsTrue, length, drop, get_or, sym, ap, ◌∙◌, inl, inr, refl, subst}
+use Rattle.std.proofs.Common.{ℕ, ◌+◌, ◌<◌, ◌==◌, ◌||◌, ◌≡◌, Bool, true, false, List, [], ◌∷◌, ◌++◌, length, drop, get_or, sym, ap, ◌∙◌, inl, inr, refl, subst}
 use Rattle.std.proofs.lemmas.Bool.{false≢true}
 use Rattle.std.proofs.lemmas.Bool.Decides.{eqb_tells}
+use Rattle.std.proofs.lemmas.List.Elements.{All-head, All-tail}
+use Rattle.std.proofs.lemmas.List.Folds.{list_any-append}
 use Rattle.pc_view.specs.declared.view.View.{View}
 use Rattle.pc_view.specs.Prefixes.{state_told}
 use Rattle.pc_delta.specs.declared.part.Part.{Part}
@@ -11,9 +13,7 @@ use Rattle.pc_delta.proofs.Lists.{left_item}
 use Rattle.pc_run_queue.specs.Names.{has_name}
 use Rattle.pc_run_queue.specs.Runs.{IsSettled}
 use Rattle.pc_run_queue.proofs.Settled.{StandsAsBefore, reported_as_before, settled_where_same}
-use Rattle.pc_agent.specs.declared.watch.Watch.{Watch}
-use Rattle.pc_agent.specs.declared.watch.Watch.TheVariants.{Lost, Untold, Told}
-use Rattle.pc_agent.specs.Inner.Settled.{Stands, TellsOfNoOther, WasSettled}
+use Rattle.pc_agent.specs.Inner.Settled.{AreAsNoted, IsAsNoted, TellsOfNoOther, is_noted}
 
 -- a part that does not tell of this thread
 pub one_less : (parts : List Part) (i : ℕ) (part : Part) (t : ℕ) → part ≡ get_or parts i part → i < length parts → (thread_of_part part == t) ≡ false
@@ -32,23 +32,42 @@ pub one_listed_less : (parts : List Part) (i : ℕ) (part : Part) (list : List �
     → (t : ℕ) → has_name list t ≡ true → tells_of (drop i parts) t ≡ tells_of (drop (i + 1) parts) t
 one_listed_less parts i part list e lt absent t listed = one_less parts i part t e lt (differs list (thread_of_part part) t absent listed)
 
--- the thread that is watched, and another
+-- a thread that is noted
 same_name : (new old : View) (cpu name t : ℕ) → (name == t) ≡ true → StandsAsBefore old new cpu name → StandsAsBefore old new cpu t
 same_name new old cpu name t e h = elim (eqb_tells name t) [
   | inl k ↦ subst (StandsAsBefore old new cpu) k.1 h
   | inr k ↦ absurd (false≢true (sym k.0 ∙ e))
 ]
 
-pub still_settled : (parts : List Part) (old new : View) (cpu : ℕ) (list : List ℕ) (settled : Bool) (watch : Watch) → KeepsOthers parts old new
-    → TellsOfNoOther parts list watch → WasSettled settled old cpu watch → Stands new cpu watch → (IsTrue settled → IsSettled old cpu list) → IsSettled new cpu list
-still_settled parts old new cpu list settled Lost keeps others was now h = absurd now
-still_settled parts old new cpu list settled Untold keeps others was now h =
-    settled_where_same old new cpu list (λ t listed. reported_as_before old new cpu t (ap state_told (keeps t (others t listed refl)))) (h was)
-still_settled parts old new cpu list settled (Told name level) keeps others was now h = settled_where_same old new cpu list (λ t listed. by_test t (name == t) refl listed) (h was.0)
+noted_same : (old new : View) (cpu : ℕ) (noted : List (ℕ × ℕ)) (t : ℕ) → AreAsNoted old cpu noted → AreAsNoted new cpu noted → is_noted noted t ≡ true → StandsAsBefore old new cpu t
+noted_same old new cpu [] t was now e = absurd (false≢true e)
+noted_same old new cpu (row ∷ rows) t was now e =
+    by_test (row.0 == t) refl (noted_same old new cpu rows t (All-tail (IsAsNoted old cpu) row rows was) (All-tail (IsAsNoted new cpu) row rows now))
   where
-    as_before : StandsAsBefore old new cpu name
-    as_before = (now.0 ∙ sym was.1, now.1 ∙ sym was.2)
+    then : IsAsNoted old cpu row
+    then = All-head (IsAsNoted old cpu) row rows was
 
-    by_test : (t : ℕ) (b : Bool) → (name == t) ≡ b → has_name list t ≡ true → StandsAsBefore old new cpu t
-    by_test t true e listed = same_name new old cpu name t e as_before
+    since : IsAsNoted new cpu row
+    since = All-head (IsAsNoted new cpu) row rows now
+
+    by_test : (b : Bool) → (row.0 == t) ≡ b → (is_noted rows t ≡ true → StandsAsBefore old new cpu t) → StandsAsBefore old new cpu t
+    by_test true f ih = same_name new old cpu row.0 t f (since.0 ∙ sym then.0, since.1 ∙ sym then.1)
+    by_test false f ih = ih (sym (ap (λ b. b || is_noted rows t) f) ∙ e)
+
+pub still_settled : (parts : List Part) (old new : View) (cpu : ℕ) (list : List ℕ) (noted : List (ℕ × ℕ)) → KeepsOthers parts old new
+    → TellsOfNoOther parts list noted → AreAsNoted old cpu noted → AreAsNoted new cpu noted → IsSettled old cpu list → IsSettled new cpu list
+still_settled parts old new cpu list noted keeps others was now h = settled_where_same old new cpu list (λ t listed. by_test t (is_noted noted t) refl listed) h
+  where
+    by_test : (t : ℕ) (b : Bool) → is_noted noted t ≡ b → has_name list t ≡ true → StandsAsBefore old new cpu t
+    by_test t true e listed = noted_same old new cpu noted t was now e
     by_test t false e listed = reported_as_before old new cpu t (ap state_told (keeps t (others t listed e)))
+
+-- one more thread that is noted
+neither : (a b : Bool) → (a || b) ≡ false → (a ≡ false) × (b ≡ false)
+neither true b e = absurd (false≢true (sym e))
+neither false b e = (refl, e)
+
+pub one_noted : (noted : List (ℕ × ℕ)) (row : ℕ × ℕ) (t : ℕ) → is_noted (noted ++ row ∷ []) t ≡ false → (is_noted noted t ≡ false) × ((row.0 == t) ≡ false)
+one_noted noted row t e =
+    let both = neither (is_noted noted t) (is_noted (row ∷ []) t) (sym (list_any-append (λ row. row.0 == t) noted (row ∷ [])) ∙ e) in
+    (both.0, (neither (row.0 == t) false both.1).0)

@@ -33,6 +33,8 @@ pub struct Agent {
     /// Whether it is known that a refresh that touches no thread would leave the run list as it is: then a refresh looks at
     /// the touched threads alone.
     pub(crate) settled: bool,
+    /// The threads of the run list of which the parts tell that the view is about to take in, each with its level.
+    pub(crate) noted: Vec<(Tid, u8)>,
     ghost settled_is: { IsTrue settled → IsSettled view cpu list },
     ghost runnable_has: { HoldsAll (runs_in view cpu) runnable },
     ghost passed_over: { IsNoneWantedBelow passed (runs_in view cpu) list },
@@ -61,6 +63,7 @@ impl Agent {
             passed: 0,
             runnable: Some(NameSet::new(alloc)),
             settled: true,
+            noted: Vec::new(alloc),
         }
     }
 

@@ -9,8 +9,8 @@ ghost use Rattle.pc_agent.specs.Exchanging.{Delivers, IsAnswered};
 ghost use Rattle.pc_agent.specs.Shows.{cpu_of};
 
 use crate::agent::Agent;
-use crate::runnable::runnable_after;
-use crate::watch::watched;
+use crate::runnable::keep_runnable;
+use crate::watch::{are_as_noted, note_told};
 use crate::wire::{SendFault, Wire};
 use pc_delta::{Delta, Digest, delta_beyond, delta_since, take_in};
 use pc_join::OutOfMemory;
@@ -30,12 +30,23 @@ impl Agent {
     {
         self.passed = 0;
         let parts = delta.parts();
-        let runnable = self.runnable.take();
-        let watch = watched(self.settled, &self.list, &self.view, self.cpu, parts);
+        let all = note_told(
+            &mut self.noted,
+            self.settled,
+            &self.list,
+            &self.view,
+            self.cpu,
+            parts,
+        );
         self.settled = false;
-        take_in(&mut self.view, delta)?;
-        self.runnable = runnable_after(runnable, &self.view, self.cpu, parts);
-        self.settled = watch.stands(&self.view, self.cpu);
+        match take_in(&mut self.view, delta) {
+            Ok(()) => keep_runnable(&mut self.runnable, &self.view, self.cpu, parts),
+            Err(fault) => {
+                self.runnable = None;
+                return Err(fault);
+            }
+        }
+        self.settled = are_as_noted(all, &self.view, self.cpu, self.noted.as_slice());
         Ok(())
     }
 

@@ -21,12 +21,10 @@ ghost use Rattle.pc_agent.specs.Publishing.{Copies, IsConsumed, IsPublished, Wha
 ghost use Rattle.pc_agent.specs.Shows.{ShowsAgent, cpu_of};
 
 use crate::agent::Agent;
-use crate::runnable::runnable_after;
-use crate::watch::watched;
 use crate::wire::{SendFault, Wire};
 use pc_calls::{CallFault, Refusal};
+use pc_delta::Delta;
 use pc_delta::laws::{parts_of_items_are_of_the_run, parts_stay_as_the_run_goes_on};
-use pc_delta::{Delta, take_in};
 use pc_join::OutOfMemory;
 use pc_kernel::Kernel;
 use pc_kernel::laws::reads_are_plain;
@@ -88,16 +86,13 @@ impl Agent {
         parts_of_items_are_of_the_run();
         let delta = Delta::of_items(self.alloc, items)?;
         let touched = threads_of(self.alloc, items)?;
+        self.deliver(&delta)?;
         self.passed = 0;
-        let parts = delta.parts();
-        let runnable = self.runnable.take();
-        let watch = watched(self.settled, &self.list, &self.view, self.cpu, parts);
+        let settled = self.settled;
         self.settled = false;
-        take_in(&mut self.view, &delta)?;
-        self.runnable = runnable_after(runnable, &self.view, self.cpu, parts);
         refresh_list(
             &mut self.list,
-            watch.stands(&self.view, self.cpu),
+            settled,
             &self.view,
             touched.as_slice(),
             self.cpu,

@@ -1,8 +1,0 @@
-use Rattle.std.proofs.Common.{drop}
-use Rattle.pc_delta.specs.Parts.{tells_of}
-use Rattle.pc_run_queue.specs.Runs.{runs_in}
-use Rattle.pc_agent.specs.Inner.Wanted.{HoldsAllBut}
-use Rattle.pc_agent.proofs.runnable.runnable_after.Given as goal
-
-abbrev pub invariant-loop-part : goal.invariant-loop-part
-invariant-loop-part l = HoldsAllBut (tells_of (drop l.part-index l.parts)) (runs_in l.view l.cpu) l.kept
