@@ -35,6 +35,9 @@ pub struct Agent {
     pub(crate) settled: bool,
     /// The threads of the run list of which the parts tell that the view is about to take in, each with its level.
     pub(crate) noted: Vec<(Tid, u8)>,
+    /// The threads that the refresh under way touches. Like those that are noted, they stand here so that no call takes memory
+    /// for them anew.
+    pub(crate) touched: Vec<Tid>,
     ghost settled_is: { IsTrue settled → IsSettled view cpu list },
     ghost runnable_has: { HoldsAll (runs_in view cpu) runnable },
     ghost passed_over: { IsNoneWantedBelow passed (runs_in view cpu) list },
@@ -64,6 +67,7 @@ impl Agent {
             runnable: Some(NameSet::new(alloc)),
             settled: true,
             noted: Vec::new(alloc),
+            touched: Vec::new(alloc),
         }
     }
 

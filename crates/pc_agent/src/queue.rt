@@ -31,20 +31,19 @@ use pc_kernel::laws::reads_are_plain;
 use pc_messages::{Cpu, Item, Tid};
 use pc_run_queue::RunQueue;
 use pc_view::{View, views_tell_what_their_sets_tell};
-use std::alloc::Global;
 
-/// The threads of the items, in their order; a tick has none.
-fn threads_of(alloc: Global, items: &[Item]) -> Result<Vec<Tid>, OutOfMemory>
-    ensures { IfOk result (λ threads. threads.items ≡ threads_in items.now) }
+/// Lists the threads of the items, in their order, in place of what the list had; a tick has none.
+fn list_threads(threads: &mut Vec<Tid>, items: &[Item]) -> Result<(), OutOfMemory>
+    ensures { OnOk result (threads.new.items ≡ threads_in items.now) }
 {
-    let mut threads = Vec::new(alloc);
+    threads.clear();
     for item in items {
         match item {
             Item::Thread(message) => threads.push(message.thread)?,
             Item::Tick(_) => {}
         }
     }
-    Ok(threads)
+    Ok(())
 }
 
 /// Refreshes a run list, of which it may be known that only the touched threads can change it.
@@ -85,8 +84,8 @@ impl Agent {
         views_tell_what_their_sets_tell();
         parts_of_items_are_of_the_run();
         let delta = Delta::of_items(self.alloc, items)?;
-        let touched = threads_of(self.alloc, items)?;
         self.deliver(&delta)?;
+        list_threads(&mut self.touched, items)?;
         self.passed = 0;
         let settled = self.settled;
         self.settled = false;
@@ -94,7 +93,7 @@ impl Agent {
             &mut self.list,
             settled,
             &self.view,
-            touched.as_slice(),
+            self.touched.as_slice(),
             self.cpu,
         )?;
         self.settled = true;
