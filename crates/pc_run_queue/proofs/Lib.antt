@@ -3,5 +3,6 @@ pub mod Firsts
 pub mod Order
 pub mod Ends
 pub mod Sorting
+pub mod Passes
 pub mod Settled
 pub mod Inserting
