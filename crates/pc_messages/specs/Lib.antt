@@ -1,4 +1,5 @@
 pub mod Built
+pub mod Inner
 pub mod Items
 pub mod Mask
 pub mod Run

@@ -6,9 +6,12 @@ use std::marker::Model;
 use thiserror::Error;
 
 /// A thread's priority: 0 to 7, of which 7 runs first (own).
+///
+/// It takes two bytes, so that a kind of message has no bytes between its fields that mean nothing: what has such bytes is
+/// copied field by field.
 #[derive(Clone, Copy, Debug, Default, PartialEq, Eq, PartialOrd, Ord)]
 pub struct Level {
-    number: u8,
+    number: u16,
 }
 
 impl Model for Level {
@@ -43,7 +46,9 @@ impl Level {
         if number > 7 {
             return Err(LevelFault::BadLevel);
         }
-        Ok(Level { number })
+        Ok(Level {
+            number: number as u16,
+        })
     }
 
     /// The level's number, 0 to 7.
@@ -51,6 +56,6 @@ impl Level {
         ensures number { result ≡ self }
         ensures greatest { result ≤ 7 }
     {
-        self.number
+        self.number as u8
     }
 }

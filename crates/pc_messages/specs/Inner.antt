@@ -1,0 +1,2 @@
+-- Laws behind the crate's types.
+pub mod Halves
