@@ -3,10 +3,10 @@ use Rattle.std.proofs.Common.{◌≡◌, ◌∙◌, ℕ, suc, zero, ◌+◌, ◌
 use Rattle.std.specs.List.{range_with_len}
 use Rattle.std.specs.Option.{option_map, option_map_or, option_and_then}
 use Rattle.std.proofs.lemmas.Bool.Decides.{eqb_tells, nat_tests}
-use Rattle.std.proofs.lemmas.List.{length_push, length-map, append-nil}
+use Rattle.std.proofs.lemmas.List.{length_push, length-map, map_push, append-nil}
 use Rattle.std.proofs.lemmas.Option.{same_Some, slice_get-map, slice_get_past, slice_get_cases}
 use Rattle.pc_messages.specs.State.{ran_given, ran_of}
-use Rattle.pc_messages.specs.Run.{is_created}
+use Rattle.pc_messages.specs.Run.{is_created, Extends}
 use Rattle.pc_messages.specs.declared.kind.Kind.{Kind}
 use Rattle.pc_messages.specs.declared.kind.Kind.TheVariants.{Created, Blocked, Preempted, Yield, Dead, Wakeup, Affinity, Priority}
 use Rattle.pc_messages.specs.declared.message.Message.{Message}
@@ -18,8 +18,9 @@ use Rattle.pc_calls.specs.declared.limits.Limits.{Limits}
 use Rattle.pc_kernel.specs.PlainKernel.{PlainKernel, is_named}
 use Rattle.pc_kernel.specs.PlainKernel as plain
 use Rattle.pc_kernel.specs.Rows.{ThreadRow, CpuRow, KernelRows}
-use Rattle.pc_kernel.specs.Reads.{thread_row, shown}
+use Rattle.pc_kernel.specs.Reads.{thread_row, shown, seen, kinds_read}
 use Rattle.pc_kernel.specs.Inner.Entries.{row_of, rows, place_in, IsKernel, IsPosted}
+use Rattle.pc_kernel.specs.Inner.LastPosts.{KeptThread, thread_row_of, thread_rows, AreTables}
 use Rattle.pc_kernel.specs.Sound.{IsThreadRow}
 use Rattle.pc_kernel.specs.Answers.{Shows}
 use Rattle.pc_kernel.specs.Inner.Sends.{Sends, adding}
@@ -30,6 +31,7 @@ use Rattle.pc_kernel.proofs.Slots.{slice_get_push}
 use Rattle.pc_kernel.proofs.Shown.{ShowsParts, shows_from, shows_parts}
 use Rattle.pc_kernel.proofs.ShownReads.{unknown_kinds}
 use Rattle.pc_kernel.proofs.Grows.{kinds_in, slice_get_append, kernel_posted}
+use Rattle.pc_kernel.proofs.LastPosts.{kept_added}
 use Rattle.pc_kernel.proofs.CpuPosting.{cpu_shown, cpus_posted, landed}
 use Rattle.pc_kernel.proofs.Posting.{telling_same, quiet_other, kinds_told, kinds_quiet, threads-posted_new, aseq-posted_le}
 
@@ -37,7 +39,7 @@ use Rattle.pc_kernel.proofs.Posting.{telling_same, quiet_other, kinds_told, kind
 abbrev pub first_row : ℕ → Kind → ThreadRow
 first_row queue kind = record { home = queue; kinds = kind ∷ []; on = None }
 
-abbrev first_message : ℕ → Kind → Message
+abbrev pub first_message : ℕ → Kind → Message
 first_message t kind = record { thread = t; number = 1; kind = kind }
 
 push_same : (threads : List ThreadRow) (row : ThreadRow) → slice_get (threads ++ row ∷ []) (length threads) ≡ Some row
@@ -47,7 +49,7 @@ push_same (r ∷ threads) row = push_same threads row
 push_other : (threads : List ThreadRow) (row : ThreadRow) (s : ℕ) → (s == length threads) ≡ false → slice_get (threads ++ row ∷ []) s ≡ slice_get threads s
 push_other threads row s e = slice_get_push threads row s ∙ rw e refl
 
-pub added_grows : (threads : List ThreadRow) (row : ThreadRow) (s : ℕ) → (more : List Kind) × (kinds_in (threads ++ row ∷ []) s ≡ kinds_in threads s ++ more)
+added_grows : (threads : List ThreadRow) (row : ThreadRow) (s : ℕ) → (more : List Kind) × (kinds_in (threads ++ row ∷ []) s ≡ kinds_in threads s ++ more)
 added_grows threads row s = elim (eqb_tells s (length threads)) [
   | inl at ↦ (
     row.kinds,
@@ -91,7 +93,7 @@ kept_row_sound : (k new : KernelRows) (row : ThreadRow) → new.limits ≡ k.lim
 kept_row_sound k new row same h = record { home = rw same h.home; told = h.told; numbers = rw same h.numbers; begun = h.begun; ran = h.ran }
 
 -- what holds of every kernel holds after the message
-pub kernel_added : (limits : Limits) (threads : List ThreadRow) (old new : List CpuEntry) (queue : ℕ) (kind : Kind) (landing : Landing) → IsKernel limits threads old
+kernel_added : (limits : Limits) (threads : List ThreadRow) (old new : List CpuEntry) (queue : ℕ) (kind : Kind) (landing : Landing) → IsKernel limits threads old
     → IsPosted old new queue (item.Thread (first_message (length threads) kind)) landing → queue < limits.cpus → length threads < limits.threads → is_created kind ≡ true → IsKernel limits (threads ++ first_row queue kind ∷ []) new
 kernel_added limits threads old new queue kind landing k h there few e =
     let row = first_row queue kind in
@@ -189,7 +191,7 @@ added_at limits threads old new queue kind landing answer P n k shows count len 
     )
 
 -- the code's step for a new thread is the plain kernel's
-pub added_sends : (limits : Limits) (threads : List ThreadRow) (old new : List CpuEntry) (queue : ℕ) (kind : Kind) (landing : Landing) → IsKernel limits threads old
+added_sends : (limits : Limits) (threads : List ThreadRow) (old new : List CpuEntry) (queue : ℕ) (kind : Kind) (landing : Landing) → IsKernel limits threads old
     → IsPosted old new queue (item.Thread (first_message (length threads) kind)) landing
     → Sends (λ P. adding P queue kind) record { thread = Some (length threads); number = Some 1; queue = queue; aseq = landing.aseq; woken = landing.woken } (rows limits threads old) (rows limits (threads ++ first_row queue kind ∷ []) new)
 added_sends limits threads old new queue kind landing k h P shows =
@@ -206,3 +208,50 @@ added_sends limits threads old new queue kind landing k h P shows =
     (subst (λ (n : ℕ). IsPosted old new queue (item.Thread (first_message n kind)) landing) parts.count h)
     (ap (λ (n : ℕ). record { thread = Some n; number = Some 1; queue = queue; aseq = landing.aseq; woken = landing.woken }) parts.count) in
     subst (λ (q : ℕ). F q (plain.number P n + 1)) (sym home) (subst (F queue) (sym one) base)
+
+-- the same of what the code keeps
+abbrev pub first_thread : ℕ → Kind → ℕ → KeptThread
+first_thread queue kind post = record { home = queue; kinds = kind ∷ []; on = None; last_post = post }
+
+first_pushed : (threads : List KeptThread) (queue : ℕ) (kind : Kind) (post : ℕ) → thread_rows (threads ++ first_thread queue kind post ∷ []) ≡ thread_rows threads ++ first_row queue kind ∷ []
+first_pushed threads queue kind post = map_push thread_row_of threads (first_thread queue kind post)
+
+-- the code's list, where the row of the new thread notes its post and comes to the end
+pub pushed_thread : (threads grown after : List KeptThread) (queue : ℕ) (kind : Kind) (post : ℕ) (entry new : KeptThread) → grown ≡ threads → entry ≡ first_thread queue kind 0 → new ≡ record entry { last_post = post } → after ≡ grown ++ new ∷ []
+    → after ≡ threads ++ first_thread queue kind post ∷ []
+pushed_thread threads grown after queue kind post entry new same first noted pushed =
+    pushed ∙ (λ i. same i ++ (noted ∙ ap (λ (entry : KeptThread). record entry { last_post = post }) first) i ∷ [])
+
+-- the message of the next name, by the count of rows
+named : (threads : List KeptThread) (old new : List CpuEntry) (queue n : ℕ) (kind : Kind) (landing : Landing) → n ≡ length threads → IsPosted old new queue (item.Thread (first_message n kind)) landing
+    → IsPosted old new queue (item.Thread (first_message (length (thread_rows threads)) kind)) landing
+named threads old new queue n kind landing count h = subst (λ (n : ℕ). IsPosted old new queue (item.Thread (first_message n kind)) landing) (count ∙ sym (length-map threads thread_row_of)) h
+
+pub tables_add : (limits : Limits) (threads after : List KeptThread) (old new : List CpuEntry) (queue n : ℕ) (kind : Kind) (landing : Landing) (before : KernelRows) → AreTables limits threads old → rows limits (thread_rows threads) old ≡ before → n ≡ length threads
+    → after ≡ threads ++ first_thread queue kind landing.aseq ∷ [] → IsPosted old new queue (item.Thread (first_message n kind)) landing → queue < before.limits.cpus → length before.threads < before.limits.threads → is_created kind ≡ true → AreTables limits after new
+tables_add limits threads after old new queue n kind landing before k view count is h there names e =
+    let within : queue < limits.cpus = subst (λ (k : KernelRows). queue < k.limits.cpus) (sym view) there in
+    let few : length (thread_rows threads) < limits.threads = subst (λ (k : KernelRows). length k.threads < k.limits.threads) (sym view) names in
+    let held = (k.kernel.sound.cpu queue (row_of h.entry) (slice_get-map row_of old queue ∙ ap (option_map row_of) h.there)).held in
+    rw is record {
+      kernel = rw (first_pushed threads queue kind landing.aseq) (kernel_added limits (thread_rows threads) old new queue kind landing k.kernel (named threads old new queue n kind landing count h) within few e);
+      last_posts = kept_added old new threads (first_thread queue kind landing.aseq) (first_message n kind) landing h held count refl k.last_posts;
+    }
+
+pub sends_add : (limits : Limits) (threads after : List KeptThread) (old new : List CpuEntry) (queue n : ℕ) (kind : Kind) (landing : Landing) (before : KernelRows) → AreTables limits threads old → rows limits (thread_rows threads) old ≡ before → n ≡ length threads
+    → after ≡ threads ++ first_thread queue kind landing.aseq ∷ [] → IsPosted old new queue (item.Thread (first_message n kind)) landing
+    → Sends (λ P. adding P queue kind) record { thread = Some n; number = Some 1; queue = queue; aseq = landing.aseq; woken = landing.woken } before (rows limits (thread_rows after) new)
+sends_add limits threads after old new queue n kind landing before k view count is h =
+    let answer : ℕ → Posted = λ n. record { thread = Some n; number = Some 1; queue = queue; aseq = landing.aseq; woken = landing.woken } in
+    let next = rows limits (thread_rows after) new in
+    let list : thread_rows threads ++ first_row queue kind ∷ [] ≡ thread_rows after = sym (ap thread_rows is ∙ first_pushed threads queue kind landing.aseq) in
+    let sends = added_sends limits (thread_rows threads) old new queue kind landing k.kernel (named threads old new queue n kind landing count h) in
+    let named = subst (λ (n : ℕ). Sends (λ P. adding P queue kind) (answer n) (rows limits (thread_rows threads) old) (rows limits (thread_rows threads ++ first_row queue kind ∷ []) new)) (length-map threads thread_row_of ∙ sym count) sends in
+    subst (λ (before : KernelRows). Sends (λ P. adding P queue kind) (answer n) before next) view
+    (subst (λ (list : List ThreadRow). Sends (λ P. adding P queue kind) (answer n) (rows limits (thread_rows threads) old) (rows limits list new)) list named)
+
+pub extends_add : (limits : Limits) (threads after : List KeptThread) (old : List CpuEntry) (queue : ℕ) (kind : Kind) (post : ℕ) (before : KernelRows) → rows limits (thread_rows threads) old ≡ before → after ≡ threads ++ first_thread queue kind post ∷ []
+    → Extends (kinds_in (thread_rows after)) (kinds_read (seen before))
+extends_add limits threads after old queue kind post before view is =
+    subst (λ (k : KernelRows). Extends (kinds_in (thread_rows after)) (kinds_read (seen k))) view
+    (subst (λ (list : List ThreadRow). Extends (kinds_in list) (kinds_in (thread_rows threads))) (sym (ap thread_rows is ∙ first_pushed threads queue kind post)) (added_grows (thread_rows threads) (first_row queue kind)))

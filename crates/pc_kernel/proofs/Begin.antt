@@ -13,6 +13,7 @@ use Rattle.std.proofs.lemmas.List.Elements.{All-nil}
 use Rattle.pc_kernel.specs.PlainKernel.{start}
 use Rattle.pc_kernel.specs.Rows.{ThreadRow, CpuRow}
 use Rattle.pc_kernel.specs.Inner.Entries.{row_of, rows, fresh_cpu, IsKernel}
+use Rattle.pc_kernel.specs.Inner.LastPosts.{AreTables}
 use Rattle.pc_kernel.specs.Sound.{IsCpuRow}
 use Rattle.pc_kernel.specs.Answers.{Shows}
 use Rattle.pc_kernel.proofs.Ranges.{AreRanges, ranges}
@@ -37,7 +38,7 @@ fresh_row limits threads cpus c h l = record {
   tellable = record { well_formed = λ m w. absurd (omega (arith, w.1)); alike = λ m n w. absurd (omega (arith, w.1)) };
 }
 
-pub begins : (limits : Limits) (cpus : List CpuEntry) → bad_field Two limits ≡ None → length cpus ≡ limits.cpus → ((c : ℕ) → c < limits.cpus → slice_get cpus c ≡ Some (fresh_cpu limits c)) → IsKernel limits [] cpus
+begins : (limits : Limits) (cpus : List CpuEntry) → bad_field Two limits ≡ None → length cpus ≡ limits.cpus → ((c : ℕ) → c < limits.cpus → slice_get cpus c ≡ Some (fresh_cpu limits c)) → IsKernel limits [] cpus
 begins limits cpus h count each = record {
   sound = record {
     limits = h;
@@ -64,4 +65,11 @@ begins_shows limits cpus count each = shows_from (rows limits [] cpus) (start li
     | inr l ↦ let past : length cpus ≤ c = omega arith in rw (slice_get_past cpus c past, le-ltb c limits.cpus l) refl
   ];
   eaten = λ q. omega arith;
+}
+
+-- no thread has an item
+pub tables_begin : (limits : Limits) (cpus : List CpuEntry) → bad_field Two limits ≡ None → length cpus ≡ limits.cpus → ((c : ℕ) → c < limits.cpus → slice_get cpus c ≡ Some (fresh_cpu limits c)) → AreTables limits [] cpus
+tables_begin limits cpus h count each = record {
+  kernel = begins limits cpus h count each;
+  last_posts = λ t q e is. let at = fresh_at limits cpus count each q e is in rw at.1 refl;
 }

@@ -53,7 +53,7 @@ grown : (old new : List ThreadRow) → Grows old new → (t n : ℕ) (kind : Kin
 grown old new g t n kind e = rw (g.each t).1 (kind_at_append (kinds_in old t) (g.each t).0 n kind e)
 
 -- the rows of CPUs after a post
-posted_at : (old new : List CpuEntry) (q : ℕ) (it : Item) (landing : Landing) (h : IsPosted old new q it landing) (c : ℕ) (f : CpuEntry) → slice_get new c ≡ Some f
+pub posted_at : (old new : List CpuEntry) (q : ℕ) (it : Item) (landing : Landing) (h : IsPosted old new q it landing) (c : ℕ) (f : CpuEntry) → slice_get new c ≡ Some f
     → (e : CpuEntry) × (slice_get old c ≡ Some e) × (roused_entry h.entry.target c (given_entry q it c e) ≡ f)
 posted_at old new q it landing h c f e =
     go (slice_get old c) (sym (h.each c) ∙ e)

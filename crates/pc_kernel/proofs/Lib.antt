@@ -21,6 +21,7 @@ mod Stepped
 mod Moves
 mod Becoming
 mod TickSent
+mod LastPosts
 mod Marked
 mod Pending
 pub mod Answered

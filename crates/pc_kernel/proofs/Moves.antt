@@ -37,7 +37,7 @@ pub cpu_of : (limits : Limits) (threads : List ThreadRow) (cpus : List CpuEntry)
 cpu_of limits threads cpus c e k there = k.sound.cpu c (row_of e) (slice_get-map row_of cpus c ∙ ap (option_map row_of) there)
 
 -- another row of a thread, with the same history
-kinds_kept : (threads : List ThreadRow) (t : ℕ) (row new : ThreadRow) → slice_get threads t ≡ Some row → new.kinds ≡ row.kinds → (s : ℕ)
+pub kinds_kept : (threads : List ThreadRow) (t : ℕ) (row new : ThreadRow) → slice_get threads t ≡ Some row → new.kinds ≡ row.kinds → (s : ℕ)
     → option_map_or (λ (row : ThreadRow). row.kinds) (slice_get (set threads t new) s) [] ≡ option_map_or (λ (row : ThreadRow). row.kinds) (slice_get threads s) []
 kinds_kept threads t row new there same s = elim (eqb_tells s t) [
   | inl at ↦

@@ -12,12 +12,14 @@ use Rattle.pc_kernel.specs.PlainKernel.{PlainKernel}
 use Rattle.pc_kernel.specs.PlainKernel as plain
 use Rattle.pc_kernel.specs.Rows.{ThreadRow}
 use Rattle.pc_kernel.specs.Inner.Entries.{row_of, rows, IsKernel, IsPosted}
+use Rattle.pc_kernel.specs.Inner.LastPosts.{KeptThread, thread_rows, AreTables}
 use Rattle.pc_kernel.specs.Sound.{IsThreadRow}
 use Rattle.pc_kernel.specs.Inner.Sends.{Sends, ticking}
 use Rattle.pc_kernel.specs.Steps.{posted}
 use Rattle.pc_kernel.proofs.Shown.{shows_from, shows_parts}
 use Rattle.pc_kernel.proofs.Items.{tick_next}
 use Rattle.pc_kernel.proofs.Grows.{Grows, kinds_in, kernel_posted}
+use Rattle.pc_kernel.proofs.LastPosts.{kept_ticked}
 use Rattle.pc_kernel.proofs.CpuPosting.{cpus_posted, landed}
 use Rattle.pc_kernel.proofs.Posting.{IsQuiet, kinds_quiet, threads-posted_tick, aseq-posted_le}
 
@@ -28,9 +30,15 @@ kept_row : (limits : Limits) (threads : List ThreadRow) (old new : List CpuEntry
 kept_row limits threads old new row h = record { home = h.home; told = h.told; numbers = h.numbers; begun = h.begun; ran = h.ran }
 
 -- what holds of every kernel holds after the tick
-pub kernel_ticked : (limits : Limits) (threads : List ThreadRow) (old new : List CpuEntry) (c : ℕ) (landing : Landing) → IsKernel limits threads old → IsPosted old new c (item.Tick c) landing → IsKernel limits threads new
+kernel_ticked : (limits : Limits) (threads : List ThreadRow) (old new : List CpuEntry) (c : ℕ) (landing : Landing) → IsKernel limits threads old → IsPosted old new c (item.Tick c) landing → IsKernel limits threads new
 kernel_ticked limits threads old new c landing k h =
     kernel_posted limits threads threads old new c (item.Tick c) landing k h (same_grows threads) k.sound.threads (λ t row is. kept_row limits threads old new row (k.sound.thread t row is)) (tick_next (kinds_in threads) c)
+
+pub tables_ticked : (limits : Limits) (threads : List KeptThread) (old new : List CpuEntry) (c : ℕ) (landing : Landing) → AreTables limits threads old → IsPosted old new c (item.Tick c) landing → AreTables limits threads new
+tables_ticked limits threads old new c landing k h = record {
+  kernel = kernel_ticked limits (thread_rows threads) old new c landing k.kernel h;
+  last_posts = kept_ticked old new threads c c landing h (k.kernel.sound.cpu c (row_of h.entry) (slice_get-map row_of old c ∙ ap (option_map row_of) h.there)).held k.last_posts;
+}
 
 tick_quiet : (t c : ℕ) → IsQuiet t (item.Tick c)
 tick_quiet t c = record { kind = refl; message = refl; not_of = refl }

@@ -3,10 +3,10 @@ use Rattle.std.proofs.Common.{◌≡◌, ◌∙◌, ℕ, suc, zero, ◌+◌, ◌
 use Rattle.std.specs.Option.{option_map, option_map_or, option_and_then}
 use Rattle.std.proofs.lemmas.Bool.{lt-ltb}
 use Rattle.std.proofs.lemmas.Bool.Decides.{eqb_tells}
-use Rattle.std.proofs.lemmas.List.{length_push, append-nil}
+use Rattle.std.proofs.lemmas.List.{length_push, append-nil, map-set}
 use Rattle.std.proofs.lemmas.List.Elements.{All-push}
 use Rattle.std.proofs.lemmas.List.Sums.{sum_by_push}
-use Rattle.std.proofs.lemmas.Option.{same_Some, slice_get-map, slice_get_read}
+use Rattle.std.proofs.lemmas.Option.{same_Some, slice_get-map}
 use Rattle.std.specs.declared.alloc.AllocError.{AllocError}
 use Rattle.pc_messages.specs.State.{ran_given, ran_of}
 use Rattle.pc_messages.specs.Run.{is_created, IsBegun, Extends}
@@ -21,8 +21,9 @@ use Rattle.pc_calls.specs.declared.limits.Limits.{Limits}
 use Rattle.pc_kernel.specs.PlainKernel.{PlainKernel}
 use Rattle.pc_kernel.specs.PlainKernel as plain
 use Rattle.pc_kernel.specs.Rows.{ThreadRow, CpuRow, KernelRows}
-use Rattle.pc_kernel.specs.Reads.{thread_row, shown, seen, number_read, on}
+use Rattle.pc_kernel.specs.Reads.{thread_row, shown, seen, kinds_read, number_read, on}
 use Rattle.pc_kernel.specs.Inner.Entries.{row_of, rows, roused_entry, given_entry, place_in, IsKernel}
+use Rattle.pc_kernel.specs.Inner.LastPosts.{KeptThread, thread_row_of, thread_rows, AreTables}
 use Rattle.pc_kernel.specs.Inner.ThreadEntry.{IsTold}
 use Rattle.pc_kernel.specs.Sound.{IsThreadRow}
 use Rattle.pc_kernel.specs.Answers.{Shows}
@@ -33,6 +34,7 @@ use Rattle.pc_kernel.proofs.Ranges.{ranges}
 use Rattle.pc_kernel.proofs.Slots.{slice_get_set, slice_get_set_same, slice_get_set_other}
 use Rattle.pc_kernel.proofs.Shown.{ShowsParts, shows_from, shows_parts}
 use Rattle.pc_kernel.proofs.Grows.{Grows, kinds_in, kind_at_last, running_kept, kernel_posted}
+use Rattle.pc_kernel.proofs.LastPosts.{thread_read, row_read, kept_told}
 use Rattle.pc_kernel.proofs.CpuPosting.{cpus_posted, landed}
 use Rattle.pc_kernel.proofs.Posting.{telling_same, quiet_other, kinds_told, kinds_quiet, threads-posted_known, aseq-posted_le}
 
@@ -176,32 +178,51 @@ told_sends limits threads old new t row kind answer k there h P shows =
     subst F (sym as_shown.1) (told_at limits threads old new t kind answer P k parts as_shown.0) there h
 
 -- however the code's step ended
-keep : (threads : List ThreadRow) (t : ℕ) (row : ThreadRow) → slice_get threads t ≡ Some row → set threads t row ≡ threads
-keep [] t row e = refl
-keep (r ∷ threads) zero row e = ap (λ r. r ∷ threads) (same_Some row r (sym e))
-keep (r ∷ threads) (suc t) row e = ap (λ l. r ∷ l) (keep threads t row e)
+keep : {X : Type 0} (xs : List X) (i : ℕ) (x : X) → slice_get xs i ≡ Some x → set xs i x ≡ xs
+keep [] i x e = refl
+keep (y ∷ xs) zero x e = ap (λ y. y ∷ xs) (same_Some x y (sym e))
+keep (y ∷ xs) (suc i) x e = ap (λ l. y ∷ l) (keep xs i x e)
 
-pub kernel_tell : (r : Result Posted AllocError) (limits : Limits) (threads : List ThreadRow) (old new : List CpuEntry) (i t : ℕ) (row after : ThreadRow) (kind : Kind) → IsKernel limits threads old → i ≡ t → t < length threads → row ≡ get_or threads i row
-    → IfOk r (λ _. after ≡ told_row row kind) → IfOk r (λ answer. IsTold old new row t kind answer) → OnErr r (after ≡ row) → OnErr r (new ≡ old)
-    → length row.kinds < limits.numbers → is_created kind ≡ false → ran_given kind ≤ MOST_TICKS → IsKernel limits (set threads i after) new
-kernel_tell (Ok answer) limits threads old new i t row after kind k at within read is told same kept spare e small =
-    rw (at, is) (kernel_told limits threads old new t row kind answer k (slice_get_read threads (length threads) t row refl within (rw (← at) read)) told spare e small)
-kernel_tell (Err error) limits threads old new i t row after kind k at within read is told same kept spare e small =
-    rw (at, same, keep threads t row (slice_get_read threads (length threads) t row refl within (rw (← at) read)), kept) k
+-- the thread with one more message, its last post
+abbrev pub told_thread : KeptThread → Kind → ℕ → KeptThread
+told_thread thread kind post = record thread { kinds = thread.kinds ++ kind ∷ []; last_post = post }
 
-pub extends_tell : (r : Result Posted AllocError) (threads : List ThreadRow) (i t : ℕ) (row after : ThreadRow) (kind : Kind) → i ≡ t → t < length threads → row ≡ get_or threads i row
-    → IfOk r (λ _. after ≡ told_row row kind) → OnErr r (after ≡ row) → Extends (kinds_in (set threads i after)) (kinds_in threads)
-extends_tell (Ok answer) threads i t row after kind at within read is same =
-    rw (at, is) (grows_at threads t row kind (slice_get_read threads (length threads) t row refl within (rw (← at) read)))
-extends_tell (Err error) threads i t row after kind at within read is same =
-    rw (at, same, keep threads t row (slice_get_read threads (length threads) t row refl within (rw (← at) read))) (λ s. ([], sym (append-nil (kinds_in threads s))))
+pub tables_tell : (r : Result Posted AllocError) (limits : Limits) (threads : List KeptThread) (old new : List CpuEntry) (i t : ℕ) (thread after : KeptThread) (kind : Kind) (before : KernelRows) → AreTables limits threads old → rows limits (thread_rows threads) old ≡ before
+    → i ≡ t → t < length before.threads → thread ≡ get_or threads i thread → IfOk r (λ answer. after ≡ told_thread thread kind answer.aseq) → IfOk r (λ answer. IsTold old new (thread_row_of thread) t kind answer) → OnErr r (after ≡ thread) → OnErr r (new ≡ old)
+    → number_read (seen before) t < before.limits.numbers → is_created kind ≡ false → ran_given kind ≤ MOST_TICKS → AreTables limits (set threads i after) new
+tables_tell (Ok answer) limits threads old new i t thread after kind before k view at known read is told same kept spare e small =
+    let there : slice_get threads t ≡ Some thread = thread_read limits threads old i t thread before view at known read in
+    let row : slice_get (thread_rows threads) t ≡ Some (thread_row_of thread) = row_read threads t thread there in
+    let next = told_thread thread kind answer.aseq in
+    let few : length thread.kinds < limits.numbers =
+    subst (λ (o : Option ThreadRow). length (option_map_or (λ row. row.kinds) o []) < limits.numbers) row (subst (λ (k : KernelRows). number_read (seen k) t < k.limits.numbers) (sym view) spare) in
+    let held = (k.kernel.sound.cpu thread.home (row_of told.lands.entry) (slice_get-map row_of old thread.home ∙ ap (option_map row_of) told.lands.there)).held in
+    rw (at, is) record {
+      kernel = rw (map-set thread_row_of threads t next) (kernel_told limits (thread_rows threads) old new t (thread_row_of thread) kind answer k.kernel row told few e small);
+      last_posts = kept_told old new threads t thread next _ told.landing told.lands held there refl refl (ap (λ (p : Posted). p.aseq) told.answer) k.last_posts;
+    }
+tables_tell (Err error) limits threads old new i t thread after kind before k view at known read is told same kept spare e small =
+    rw (at, same, keep threads t thread (thread_read limits threads old i t thread before view at known read), kept) k
 
-pub sends_tell : (r : Result Posted AllocError) (limits : Limits) (threads : List ThreadRow) (old new : List CpuEntry) (i t : ℕ) (row after : ThreadRow) (kind : Kind) → IsKernel limits threads old → i ≡ t → t < length threads → row ≡ get_or threads i row
-    → IfOk r (λ _. after ≡ told_row row kind) → IfOk r (λ answer. IsTold old new row t kind answer)
-    → IfOk r (λ answer. Sends (λ P. telling P t kind) answer (rows limits threads old) (rows limits (set threads i after) new))
-sends_tell (Ok answer) limits threads old new i t row after kind k at within read is told =
-    rw (at, is) (told_sends limits threads old new t row kind answer k (slice_get_read threads (length threads) t row refl within (rw (← at) read)) told)
-sends_tell (Err error) limits threads old new i t row after kind k at within read is told = tt
+pub extends_tell : (r : Result Posted AllocError) (limits : Limits) (threads : List KeptThread) (old : List CpuEntry) (i t : ℕ) (thread after : KeptThread) (kind : Kind) (before : KernelRows) → rows limits (thread_rows threads) old ≡ before
+    → i ≡ t → t < length before.threads → thread ≡ get_or threads i thread → IfOk r (λ answer. after ≡ told_thread thread kind answer.aseq) → OnErr r (after ≡ thread) → Extends (kinds_in (thread_rows (set threads i after))) (kinds_read (seen before))
+extends_tell (Ok answer) limits threads old i t thread after kind before view at known read is same =
+    let there : slice_get threads t ≡ Some thread = thread_read limits threads old i t thread before view at known read in
+    subst (λ (k : KernelRows). Extends (kinds_in (thread_rows (set threads i after))) (kinds_read (seen k))) view
+    (rw (at, is, map-set thread_row_of threads t (told_thread thread kind answer.aseq)) (grows_at (thread_rows threads) t (thread_row_of thread) kind (row_read threads t thread there)))
+extends_tell (Err error) limits threads old i t thread after kind before view at known read is same =
+    let there : slice_get threads t ≡ Some thread = thread_read limits threads old i t thread before view at known read in
+    subst (λ (k : KernelRows). Extends (kinds_in (thread_rows (set threads i after))) (kinds_read (seen k))) view
+    (rw (at, same, keep threads t thread there) (λ s. ([], sym (append-nil (kinds_in (thread_rows threads) s)))))
+
+pub sends_tell : (r : Result Posted AllocError) (limits : Limits) (threads : List KeptThread) (old new : List CpuEntry) (i t : ℕ) (thread after : KeptThread) (kind : Kind) (before : KernelRows) → AreTables limits threads old → rows limits (thread_rows threads) old ≡ before
+    → i ≡ t → t < length before.threads → thread ≡ get_or threads i thread → IfOk r (λ answer. after ≡ told_thread thread kind answer.aseq) → IfOk r (λ answer. IsTold old new (thread_row_of thread) t kind answer)
+    → IfOk r (λ answer. Sends (λ P. telling P t kind) answer before (rows limits (thread_rows (set threads i after)) new))
+sends_tell (Ok answer) limits threads old new i t thread after kind before k view at known read is told =
+    let there : slice_get threads t ≡ Some thread = thread_read limits threads old i t thread before view at known read in
+    subst (λ (before : KernelRows). Sends (λ P. telling P t kind) answer before (rows limits (thread_rows (set threads i after)) new)) view
+    (rw (at, is, map-set thread_row_of threads t (told_thread thread kind answer.aseq)) (told_sends limits (thread_rows threads) old new t (thread_row_of thread) kind answer k.kernel (row_read threads t thread there) told))
+sends_tell (Err error) limits threads old new i t thread after kind before k view at known read is told = tt
 
 -- no thread comes to a CPU or leaves one
 pub on_told : (r : Result Posted AllocError) (limits : Limits) (threads others : List ThreadRow) (old new : List CpuEntry) (row : ThreadRow) (t : ℕ) (kind : Kind) → IfOk r (λ answer. IsTold old new row t kind answer) → OnErr r (new ≡ old)
@@ -216,9 +237,3 @@ on_told (Ok answer) limits threads others old new row t kind h kept c =
     same None = refl
     same (Some e) = sym (running_kept h.lands.entry.target row.home (item.Thread record { thread = t; number = length row.kinds + 1; kind = kind }) c e)
 on_told (Err error) limits threads others old new row t kind h kept c = rw kept refl
-
--- the thread's numbers are not spent
-pub spare_of : (limits : Limits) (threads : List ThreadRow) (cpus : List CpuEntry) (i t : ℕ) (row : ThreadRow) → i ≡ t → t < length threads → row ≡ get_or threads i row → number_read (seen (rows limits threads cpus)) t < limits.numbers → length row.kinds < limits.numbers
-spare_of limits threads cpus i t row at within read spare =
-    let there : slice_get threads t ≡ Some row = slice_get_read threads (length threads) t row refl within (rw (← at) read) in
-    subst (λ (o : Option ThreadRow). length (option_map_or (λ row. row.kinds) o []) < limits.numbers) there spare

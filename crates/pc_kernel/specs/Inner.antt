@@ -1,3 +1,4 @@
 pub mod Entries
+pub mod LastPosts
 pub mod Sends
 pub mod ThreadEntry

@@ -7,14 +7,14 @@ ghost use Rattle.pc_kernel.specs.Steps.{woken_of};
 
 use pc_calls::Limits;
 use pc_messages::{Cpu, Item, Tid};
-use pc_queue::CpuQueue;
+use pc_queue::ItemQueue;
 use std::alloc::{AllocError, Global};
 
 /// A CPU: its queue, the agent that the queue wakes, the thread that runs here, and whether the CPU's own agent
 /// sleeps.
 #[derive(Drop)]
 pub(crate) struct CpuEntry {
-    pub(crate) queue: CpuQueue,
+    pub(crate) queue: ItemQueue,
     pub(crate) target: Option<Cpu>,
     pub(crate) running: Option<Tid>,
     pub(crate) asleep: bool,
@@ -37,7 +37,7 @@ pub(crate) fn fresh(alloc: Global, limits: Limits) -> Result<Vec<CpuEntry>, Allo
     let mut cpus = Vec::with_capacity(alloc, limits.cpus as usize)?;
     for cpu in 0..limits.cpus {
         cpus.push(CpuEntry {
-            queue: CpuQueue::new(alloc, limits.room, limits.posts),
+            queue: ItemQueue::new(alloc, limits.room, limits.posts),
             target: Some(Cpu(cpu)),
             running: None,
             asleep: false,

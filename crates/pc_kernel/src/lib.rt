@@ -1,7 +1,7 @@
 //! The kernel model: threads, CPUs and queues, and the calls by which the environment and the agents change them.
 //!
 //! What a kernel is and what each call does is defined over lists in `specs/PlainKernel.antt`, from one list of
-//! posts. The code keeps rows with queues, caches and counts, which no contract names.
+//! posts. The code keeps rows with queues, caches and each thread's last post, which no contract names.
 #![tactic(auto)]
 
 mod cpus;

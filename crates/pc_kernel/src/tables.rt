@@ -24,17 +24,19 @@ pub(crate) struct Tables {
 
 impl Model for Tables {
     ghost use Rattle.pc_kernel.specs.Rows.{KernelRows};
-    ghost use Rattle.pc_kernel.specs.Inner.Entries.{rows, IsKernel};
+    ghost use Rattle.pc_kernel.specs.Inner.Entries.{rows};
+    ghost use Rattle.pc_kernel.specs.Inner.LastPosts.{thread_rows, AreTables};
 
     ghost Value = { KernelRows };
 
-    ghost view = { λ k. rows k.limits k.threads.items k.cpus.items };
+    ghost view = { λ k. rows k.limits (thread_rows k.threads.items) k.cpus.items };
 
-    ghost invariant = { λ k. IsKernel k.limits k.threads.items k.cpus.items };
+    ghost invariant = { λ k. AreTables k.limits k.threads.items k.cpus.items };
 }
 
 impl Tables {
     ghost use Rattle.pc_kernel.specs.Inner.Entries.{row_of};
+    ghost use Rattle.pc_kernel.specs.Inner.LastPosts.{thread_row_of};
     ghost use Rattle.pc_kernel.specs.Sound.{IsSound};
     ghost use Rattle.pc_kernel.specs.Reads.{seen, is_known, is_cpu};
 
@@ -72,7 +74,7 @@ impl Tables {
 
     /// The thread's row.
     pub(crate) fn thread(&self, thread: Tid) -> Option<&ThreadEntry>
-        ensures { option_copied result ≡ slice_get self.now.threads thread }
+        ensures { option_map thread_row_of (option_copied result) ≡ slice_get self.now.threads thread }
     {
         self.threads.get(thread.index() as usize)
     }

@@ -15,32 +15,37 @@ use std::alloc::{AllocError, Global};
 use std::marker::Model;
 
 /// A thread: its home queue, the kinds of its messages, the state that they report, and the CPU that it runs on.
+///
+/// Beside them stands the home queue's count of posts after its last one of the thread, so that whether a message of
+/// the thread is pending there takes no search; 0 where no post was, since the thread came there.
 #[derive(Drop)]
 pub(crate) struct ThreadEntry {
     home: Cpu,
     kinds: Vec<Kind>,
     state: Reported,
     on: Option<Cpu>,
+    last_post: u32,
 }
 
 impl Model for ThreadEntry {
-    ghost use Rattle.pc_kernel.specs.Rows.{ThreadRow};
+    ghost use Rattle.pc_kernel.specs.Inner.LastPosts.{KeptThread};
     ghost use Rattle.pc_kernel.specs.Inner.ThreadEntry.{IsEntry};
 
-    ghost Value = { ThreadRow };
+    ghost Value = { KeptThread };
 
-    ghost view = { λ e. record { home = e.home; kinds = e.kinds.items; on = e.on } };
+    ghost view = { λ e. record { home = e.home; kinds = e.kinds.items; on = e.on; last_post = e.last_post } };
 
     ghost invariant = { λ e. IsEntry e.kinds.items e.state };
 }
 
 impl ThreadEntry {
+    ghost use Rattle.pc_kernel.specs.Inner.LastPosts.{thread_row_of};
     ghost use Rattle.pc_kernel.specs.Inner.ThreadEntry.{IsTold};
 
-    /// A thread with its first message, on no CPU.
+    /// A thread with its first message, which is yet to be posted, on no CPU.
     pub(crate) fn first(alloc: Global, home: Cpu, kind: &Kind) -> Result<Self, AllocError>
         requires { IsTrue (is_created kind.now) }
-        ensures { IfOk result (λ e. e ≡ record { home = home; kinds = kind.now ∷ []; on = None }) }
+        ensures { IfOk result (λ e. e ≡ record { home = home; kinds = kind.now ∷ []; on = None; last_post = 0 }) }
     {
         let state = match Reported::first(*kind) {
             Some(state) => state,
@@ -53,6 +58,7 @@ impl ThreadEntry {
             kinds,
             state,
             on: None,
+            last_post: 0,
         })
     }
 
@@ -92,6 +98,20 @@ impl ThreadEntry {
         self.on
     }
 
+    /// The home queue's count of posts after its last one of the thread; 0 where none was, since the thread came there.
+    pub(crate) fn last_post(&self) -> u32
+        ensures { result ≡ self.now.last_post }
+    {
+        self.last_post
+    }
+
+    /// Notes the home queue's count of posts, right after one of the thread.
+    pub(crate) fn set_last_post(&mut self, last_post: u32)
+        ensures { self.new ≡ record self.old { last_post = last_post } }
+    {
+        self.last_post = last_post;
+    }
+
     /// Puts the thread on a CPU, or on none.
     pub(crate) fn set_on(&mut self, on: Option<Cpu>)
         ensures { self.new ≡ record self.old { on = on } }
@@ -99,11 +119,12 @@ impl ThreadEntry {
         self.on = on;
     }
 
-    /// Gives the thread another home queue.
+    /// Gives the thread another home queue, which has had no post of it since.
     pub(crate) fn set_home(&mut self, home: Cpu)
-        ensures { self.new ≡ record self.old { home = home } }
+        ensures { self.new ≡ record self.old { home = home; last_post = 0 } }
     {
         self.home = home;
+        self.last_post = 0;
     }
 
     /// Tells of one more message: posts it to the home queue, and adds it to the history. Both growths come before
@@ -118,8 +139,8 @@ impl ThreadEntry {
         requires targets { AreTargets cpus.old.items }
         requires number { length self.old.kinds < GREATEST_NUMBER }
         requires ran { ran_given kind ≤ MOST_TICKS }
-        ensures row { IfOk result (λ _. self.new ≡ record self.old { kinds = self.old.kinds ++ kind ∷ [] }) }
-        ensures ok { IfOk result (λ posted. IsTold cpus.old.items cpus.new.items self.old thread kind posted) }
+        ensures row { IfOk result (λ posted. self.new ≡ record self.old { kinds = self.old.kinds ++ kind ∷ []; last_post = posted.aseq }) }
+        ensures ok { IfOk result (λ posted. IsTold cpus.old.items cpus.new.items (thread_row_of self.old) thread kind posted) }
         ensures err { OnErr result (self.new ≡ self.old) }
         ensures err_cpus { OnErr result (cpus.new.items ≡ cpus.old.items) }
     {
@@ -137,6 +158,7 @@ impl ThreadEntry {
         )?;
         append(&mut self.kinds, &kind);
         self.state = self.state.apply(kind);
+        self.last_post = landing.aseq;
         Ok(Posted {
             thread: Some(thread),
             number: Some(number),

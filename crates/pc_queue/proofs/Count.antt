@@ -1,10 +1,12 @@
 -- The count of one thread changes, and no other.
-use Rattle.std.proofs.Common.{◌≡◌, ℕ, ◌+◌, ◌-◌, ◌<◌, ◌==◌, Bool, true, false, cond, List, [], ◌∷◌, ◌++◌, Option, Some, None, is_some, count_by, ◌||◌, ⊎_elim, refl, arith, unwrap_or, ◌∙◌, ap, sym}
+use Rattle.std.proofs.Common.{◌≡◌, ℕ, ◌+◌, ◌-◌, ◌<◌, ◌==◌, Bool, true, false, cond, List, [], ◌∷◌, ◌++◌, Option, Some, None, is_some, count_by, drop, slice_get, ◌||◌, ⊎_elim, refl, arith, unwrap_or, ◌∙◌, ap, sym, subst}
 use Rattle.std.proofs.lemmas.Bool.Decides.{nat_tests}
 use Rattle.std.specs.BTreeMap.{BTreeMap, get, is_at}
 use Rattle.std.specs.Ordering.{nat_cmp}
 use Rattle.std.specs.List.{list_any}
 use Rattle.std.proofs.lemmas.Bool.{cases_eq}
+use Rattle.std.proofs.lemmas.List.{drop_more}
+use Rattle.std.proofs.lemmas.Option.{slice_get_within, get_or_from_slice_get}
 use Rattle.std.proofs.lemmas.List.Sums.{sum_by_push, sum_by-cons}
 use Rattle.pc_messages.specs.declared.message.Item.{Item}
 use Rattle.pc_messages.specs.declared.message.Item.TheVariants.{Thread}
@@ -55,6 +57,14 @@ counts_push old new message items sets counts = record {
       let after : count_of t (items ++ Thread message ∷ []) ≡ count_of t items + cond (s == t) 1 0 = sum_by_push (λ x. cond (is_of t x) 1 0) items (Thread message) in
       rw after (one_more t s n (count_of t items) (get nat_cmp new t) (sets t ∙ ap (cond (t == s) (Some (n + 1))) (counts.each t)) (λ e. before ∙ ap (λ k. count_of k items) (sym e)));
 }
+
+-- the item at a place goes out of the counts of those from there on
+pub discounted : (old new : BTreeMap ℕ ℕ) (items : List Item) (place : ℕ) (item : Item) → slice_get items place ≡ Some item
+    → ((rest : List Item) → Counts old (item ∷ rest) → Counts new rest) → Counts old (drop place items) → Counts new (drop (place + 1) items)
+discounted old new items place item there goes counts =
+    let first : drop place items ≡ item ∷ drop (place + 1) items =
+    drop_more items place item (slice_get_within items place item there) ∙ ap (λ x. x ∷ drop (place + 1) items) (get_or_from_slice_get items place item item there) in
+    goes (drop (place + 1) items) (subst (λ (items : List Item). Counts old items) first counts)
 
 some_more : (b : Bool) (n : ℕ) → (b || is_some (some_count n)) ≡ is_some (some_count (cond b 1 0 + n))
 some_more true n = grind (arith, nat_tests)

@@ -47,7 +47,7 @@ pub(crate) fn count(held: &mut BTreeMap<Tid, u32>, item: &Item) -> Result<(), Al
     }
 }
 
-/// Takes the first item, which goes, out of the counts.
+/// Takes an item out of the counts of those from it on.
 pub(crate) fn discount(held: &mut BTreeMap<Tid, u32>, item: &Item)
     ensures { (items : List Item) → Counts held.old (item.now ∷ items) → Counts held.new items }
 {

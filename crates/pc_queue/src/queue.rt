@@ -1,16 +1,16 @@
-//! One CPU's queue.
+//! One CPU's queue, with counts of its threads.
 
 ghost use Rattle.std.specs.Prelude.{◌≡◌, ℕ, ◌+◌, ◌<◌, ◌≤◌, ◌↔◌, [], ◌∷◌, ◌++◌, length, take, drop, OnOk, OnErr, IfOk, IsErr, IsTrue};
-ghost use Rattle.std.specs.VecDeque.{deque_len, deque_capacity};
 ghost use Rattle.std.specs.BTreeMap.{get};
 ghost use Rattle.std.specs.Ordering.{nat_cmp};
 ghost use Rattle.pc_queue.specs.Queue.{refusal_of, is_pending, held_of};
 
 use crate::counts::{count, discount};
 use crate::fault::{QueueFault, TooMany};
+use crate::items::ItemQueue;
 use pc_messages::{Item, Tid};
 use std::alloc::{AllocError, Global};
-use std::collections::{BTreeMap, VecDeque};
+use std::collections::BTreeMap;
 use std::marker::Model;
 
 /// One CPU's queue: the items held, the oldest first, and how many posts it has had.
@@ -18,30 +18,19 @@ use std::marker::Model;
 /// Beside the items stands how many of them each thread has, so that [`CpuQueue::pending`] is one look-up.
 #[derive(Drop)]
 pub struct CpuQueue {
-    items: VecDeque<Item>,
+    queue: ItemQueue,
     held: BTreeMap<Tid, u32>,
-    room: u32,
-    most: u32,
-    posts: u32,
 }
 
 impl Model for CpuQueue {
     ghost use Rattle.pc_queue.specs.Queue.{Queue};
-    ghost use Rattle.pc_queue.specs.Inner.Counts.{IsQueue};
+    ghost use Rattle.pc_queue.specs.Inner.Counts.{IsCounted};
 
     ghost Value = { Queue };
 
-    ghost view = { λ q. record { room = q.room; most = q.most; posts = q.posts; items = q.items.items } };
+    ghost view = { λ q. q.queue };
 
-    ghost invariant = { λ q. IsQueue (record { room = q.room; most = q.most; posts = q.posts; items = q.items.items }) q.held };
-}
-
-/// Puts an element at the end, where a place is reserved for it.
-fn push<T: Copy>(items: &mut VecDeque<T>, item: T)
-    requires { deque_len items.old < deque_capacity items.old }
-    ensures { items.new.items ≡ items.old.items ++ item ∷ [] }
-{
-    let _ = items.push_back(item);
+    ghost invariant = { λ q. IsCounted q.queue q.held };
 }
 
 impl CpuQueue {
@@ -52,11 +41,8 @@ impl CpuQueue {
         ensures { result ≡ record { room = room; most = posts; posts = 0; items = [] } }
     {
         CpuQueue {
-            items: VecDeque::new(alloc),
+            queue: ItemQueue::new(alloc, room, posts),
             held: BTreeMap::new(alloc),
-            room,
-            most: posts,
-            posts: 0,
         }
     }
 
@@ -64,13 +50,7 @@ impl CpuQueue {
     pub fn refusal(&self) -> Option<QueueFault>
         ensures { result ≡ refusal_of self.now }
     {
-        if self.items.len() >= self.room as usize {
-            Some(QueueFault::QueueFull)
-        } else if self.posts >= self.most {
-            Some(QueueFault::PostsSpent)
-        } else {
-            None
-        }
+        self.queue.refusal()
     }
 
     /// Puts an item at the end of the queue, and counts the post.
@@ -83,32 +63,21 @@ impl CpuQueue {
         ensures ok { OnOk result (self.new ≡ record self.old { posts = self.old.posts + 1; items = self.old.items ++ item ∷ [] }) }
         ensures err { OnErr result (self.new ≡ self.old) }
     {
-        match self.refusal() {
-            Some(fault) => Err(fault),
-            None => self.append(item).map_err(|_| QueueFault::OutOfMemory),
+        self.queue.post(item)?;
+        match count(&mut self.held, &item) {
+            Ok(()) => Ok(()),
+            Err(_) => {
+                self.queue.take_back();
+                Err(QueueFault::OutOfMemory)
+            }
         }
-    }
-
-    /// Puts an item at the end, where neither room nor posts are wanting. All growth comes before any change.
-    fn append(&mut self, item: Item) -> Result<(), AllocError>
-        requires room { length self.old.items < self.old.room }
-        requires posts { self.old.posts < self.old.most }
-        ensures ok { OnOk result (self.new ≡ record self.old { posts = self.old.posts + 1; items = self.old.items ++ item ∷ [] }) }
-        ensures err { OnErr result (self.new ≡ self.old) }
-    {
-        self.items.reserve(1)?;
-        count(&mut self.held, &item)?;
-        push(&mut self.items, item);
-        self.posts += 1;
-        Ok(())
     }
 
     /// The first `n` items, or all where there are fewer. They stay in the queue.
     pub fn peek(&self, n: u32) -> Result<Vec<Item>, AllocError>
         ensures { IfOk result (λ items. items.items ≡ take n self.now.items) }
     {
-        let alloc = *self.items.allocator();
-        self.items.iter().take(n as usize).copied().collect(alloc)
+        self.queue.peek(n)
     }
 
     /// Removes the first `n` items. It takes no memory, so it succeeds where the queue holds as many.
@@ -117,15 +86,13 @@ impl CpuQueue {
         ensures ok { OnOk result (self.new ≡ record self.old { items = drop n self.old.items }) }
         ensures err { OnErr result (self.new ≡ self.old) }
     {
-        if self.items.len() < n as usize {
+        if self.queue.len() < n {
             return Err(TooMany);
         }
-        for _ in 0..n {
-            if let Some(item) = self.items.pop_front() {
-                discount(&mut self.held, &item);
-            }
+        for place in 0..n {
+            discount(&mut self.held, self.queue.item(place));
         }
-        Ok(())
+        self.queue.consume(n)
     }
 
     /// How many posts the queue has had: the sequence number of its CPU's agent (the ghOSt paper's Aseq).
@@ -133,7 +100,7 @@ impl CpuQueue {
         ensures posts { result ≡ self.now.posts }
         ensures within_posts { result ≤ self.now.most }
     {
-        self.posts
+        self.queue.aseq()
     }
 
     /// How many items the queue holds.
@@ -141,14 +108,14 @@ impl CpuQueue {
         ensures items { result ≡ length self.now.items }
         ensures within_room { result ≤ self.now.room }
     {
-        self.items.len() as u32
+        self.queue.len()
     }
 
     /// Whether the queue holds no item.
     pub fn is_empty(&self) -> bool
         ensures { IsTrue result ↔ (self.now.items ≡ []) }
     {
-        self.items.is_empty()
+        self.queue.is_empty()
     }
 
     /// Whether an item of the thread is held.

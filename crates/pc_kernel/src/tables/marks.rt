@@ -1,13 +1,13 @@
 //! Changes of single rows, which take no memory.
 
-ghost use Rattle.std.specs.Prelude.{◌≡◌, ◌≤◌, ◌<◌, ◌+◌, ℕ, Some, None, length, slice_get};
+ghost use Rattle.std.specs.Prelude.{◌≡◌, ◌≤◌, ◌<◌, ◌+◌, ℕ, Some, None, length, slice_get, IsFalse};
 ghost use Rattle.std.specs.Option.{ForSome};
 
 use crate::tables::Tables;
 use pc_messages::{Cpu, Tid};
 
 impl Tables {
-    ghost use Rattle.pc_kernel.specs.Reads.{seen, kinds_read, on, place, content_read};
+    ghost use Rattle.pc_kernel.specs.Reads.{seen, kinds_read, on, place, content_read, is_pending};
     ghost use Rattle.pc_kernel.specs.Inner.Sends.{Becomes};
     ghost use Rattle.pc_kernel.specs.Steps.{at};
 
@@ -38,10 +38,11 @@ impl Tables {
         self.cpus[cpu.index() as usize].running = Some(thread);
     }
 
-    /// Gives a thread another home queue.
+    /// Gives a thread another home queue, where the one that it has holds no message of it.
     pub(crate) fn move_home(&mut self, thread: Tid, queue: Cpu)
         requires known { thread < length self.old.threads }
         requires there { queue < self.old.limits.cpus }
+        requires nothing_waits { IsFalse (is_pending (seen self.old) thread) }
         ensures shown { Becomes (λ P. record P { home = at P.home thread queue }) self.old self.new }
         ensures kinds { (t : ℕ) → kinds_read (seen self.new) t ≡ kinds_read (seen self.old) t }
         ensures limits { self.new.limits ≡ self.old.limits }

@@ -54,7 +54,7 @@ impl Tables {
         let alloc = *self.threads.allocator();
         self.threads.reserve(1)?;
         let thread = Tid(self.threads.len() as u32);
-        let entry = ThreadEntry::first(alloc, queue, &kind)?;
+        let mut entry = ThreadEntry::first(alloc, queue, &kind)?;
         let landing = post(
             &mut self.cpus,
             queue,
@@ -64,6 +64,7 @@ impl Tables {
                 kind,
             }),
         )?;
+        entry.set_last_post(landing.aseq);
         push(&mut self.threads, entry);
         Ok(Posted {
             thread: Some(thread),

@@ -11,8 +11,8 @@ use pc_messages::{Cpu, Kind, Level, LevelFault, Mask, MaskFault, Phase, Tid};
 use pc_queue::QueueFault;
 
 impl Tables {
-    ghost use Rattle.pc_queue.specs.Queue.{is_pending};
-    ghost use Rattle.pc_kernel.specs.Reads.{seen, number_read, content_read, on};
+    ghost use Rattle.pc_kernel.specs.Inner.LastPosts.{thread_row_of};
+    ghost use Rattle.pc_kernel.specs.Reads.{seen, number_read, is_pending, on};
     ghost use Rattle.pc_kernel.specs.Steps.{refused, queue_refusals, post_refusals, mask_refusals, thread_refusals, leave_refusals};
 
     /// Why the first items of a queue are not removed.
@@ -44,7 +44,7 @@ impl Tables {
         if number != entry.number() {
             return Some(Refusal::Stale(entry.number()));
         }
-        if self.holds(entry.home(), thread) {
+        if self.is_pending(thread) {
             return Some(Refusal::Pending);
         }
         match entry.on() {
@@ -123,14 +123,15 @@ impl Tables {
         }
     }
 
-    /// Whether the queue holds a message of the thread.
-    fn holds(&self, queue: Cpu, thread: Tid) -> bool
-        ensures { result ≡ is_pending thread (content_read (seen self.now) queue) }
+    /// Whether the thread's home queue holds a message of it: whether the last post of one is not among those that are gone.
+    fn is_pending(&self, thread: Tid) -> bool
+        requires { thread < length self.now.threads }
+        ensures { result ≡ is_pending (seen self.now) thread }
     {
-        match self.cpu(queue) {
-            Some(entry) => entry.queue.pending(thread),
-            None => false,
-        }
+        let entry = &self.threads[thread.index() as usize];
+        let queue = &self.cpus[entry.home().index() as usize].queue;
+        let gone = queue.aseq() - queue.len();
+        entry.last_post() > gone
     }
 
     /// The first message of a new thread, or why there is none.
@@ -220,7 +221,7 @@ impl Tables {
 
     /// The thread's row, where it is known and alive.
     fn living(&self, thread: Tid) -> Result<&ThreadEntry, Refusal>
-        ensures row { IfOk result (λ entry. slice_get self.now.threads thread ≡ Some entry.now) }
+        ensures row { IfOk result (λ entry. slice_get self.now.threads thread ≡ Some (thread_row_of entry.now)) }
         ensures refused { result_err result ≡ first_of (thread_refusals (seen self.now) thread) }
     {
         match self.thread(thread) {

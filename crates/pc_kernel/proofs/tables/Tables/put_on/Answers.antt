@@ -1,3 +1,6 @@
+use Rattle.std.proofs.Common.{ap}
+use Rattle.pc_kernel.specs.Inner.LastPosts.{KeptThread}
+use Rattle.pc_kernel.proofs.LastPosts.{kinds_stay}
 use Rattle.pc_kernel.proofs.Marked.{come_on}
 use Rattle.pc_kernel.proofs.tables.Tables.put_on.Goals as goal
 
@@ -8,3 +11,7 @@ invariant_of-self c =
 pub returns-clause-shown : goal.returns-clause-shown
 returns-clause-shown c =
     (come_on c.self.inside.limits c.self.inside.threads.items c.self.inside.cpus.items c.index.result c.args.thread c.index_mut.result.now c.set_on.new.self c.index-2.result c.args.cpu c.index_mut-2.result.now c.args.self.now c.self.invariant c.self.view_is c.index.ensures c.requires.known c.index_mut.ensures.value c.set_on.ensures c.index-2.ensures c.requires.there c.index_mut-2.ensures.value c.requires.nowhere c.requires.idle).1
+
+pub returns-clause-kinds : goal.returns-clause-kinds
+returns-clause-kinds c =
+    kinds_stay c.self.inside.limits c.self.inside.threads.items c.self.inside.cpus.items c.index.result c.args.thread c.index_mut.result.now c.set_on.new.self c.args.self.now c.self.view_is c.index.ensures c.requires.known c.index_mut.ensures.value (ap (λ (thread : KeptThread). thread.kinds) c.set_on.ensures)
