@@ -29,7 +29,7 @@ module _ {V : Type 0} where
   set_others : (old new : ℕ → Option V) (name : ℕ) (value : V) → IsSetAt old name value new → (q : ℕ) → ¬ (q ≡ name) → new q ≡ old q
   set_others old new name value h q ne = h q ∙ ap (λ b. cond b (Some value) (old q)) (apart name q ne)
 
-  lacks_above : (n : ℕ) (xs : List (ℕ × V)) (q : ℕ) → AreBefore n xs → n ≤ q → value_at xs q ≡ None
+  pub lacks_above : (n : ℕ) (xs : List (ℕ × V)) (q : ℕ) → AreBefore n xs → n ≤ q → value_at xs q ≡ None
   lacks_above n [] q h le = refl
   lacks_above n (x ∷ xs) q h le = at_later x xs q (λ same. let lt = h.0 in absurd (omega arith)) ∙ lacks_above n xs q h.1 le
 
@@ -73,7 +73,7 @@ module _ {V : Type 0} where
 
     -- a value is put under a near name
     module _ (new : List (ℕ × V)) (low : AreNear new) (name : ℕ) (lt : name < NEAR) (value : V) where
-      new_near : (q : ℕ) → q < NEAR → value_at (new ++ far) q ≡ value_at new q
+      pub new_near : (q : ℕ) → q < NEAR → value_at (new ++ far) q ≡ value_at new q
       new_near q l = right_none new far q (none_before NEAR far q fits.1 l)
 
       same_far : (q : ℕ) → NEAR ≤ q → value_at (new ++ far) q ≡ value_at now q
@@ -107,7 +107,7 @@ module _ {V : Type 0} where
       pub high : AscendFrom NEAR new
       high = from_bound NEAR new up (λ q lt. put.others q (λ same. absurd (omega (arith, same))) ∙ none_before NEAR far q fits.1 lt)
 
-      new_far : (q : ℕ) → NEAR ≤ q → value_at (near ++ new) q ≡ value_at new q
+      pub new_far : (q : ℕ) → NEAR ≤ q → value_at (near ++ new) q ≡ value_at new q
       new_far q l = left_none near new q (lacks_above NEAR near q fits.0.near l)
 
       same_near : (q : ℕ) → q < NEAR → value_at (near ++ new) q ≡ value_at now q

@@ -1,5 +1,5 @@
 -- Entries by ascending names.
-use Rattle.std.proofs.Common.{ℕ, suc, ◌+◌, ◌<◌, ◌≤◌, ◌≡◌, ◌&&◌, ◌⊎◌, ◌↔◌, ◌^◌, Bool, true, false, cond, List, [], ◌∷◌, Option, Some, None, IsSome, refl, sym, ap, subst, ◌∙◌, arith, inl, inr}
+use Rattle.std.proofs.Common.{ℕ, suc, ◌+◌, ◌<◌, ◌≤◌, ◌≡◌, ◌&&◌, ◌⊎◌, ◌^◌, Bool, true, false, cond, List, [], ◌∷◌, Option, Some, None, IsSome, refl, sym, ap, subst, ◌∙◌, arith, inl, inr}
 use Rattle.std.proofs.Math.Dec.{T}
 use Rattle.std.specs.List.{All, AllByRecursion}
 use Rattle.std.specs.List.Sorted.{IsStrictlySortedBy}
@@ -202,38 +202,3 @@ module _ {V : Type 0} (P : ℕ → V → Type 0) (a : map.FinMap nat_cmp V) wher
 
 pub walked_weaker : {V : Type 0} (P Q : ℕ → V → Type 0) (a : map.FinMap nat_cmp V) (left : List (ℕ × V)) → ((q : ℕ) (v : V) → P q v → Q q v) → IsWalked P a left → IsWalked Q a left
 walked_weaker P Q a left weaker walked = record { ascend = walked.ascend; found = walked.found; done = λ q v there none. weaker q v (walked.done q v there none) }
-
--- two walks in step tell whether the maps have the same entries
-pub record IsInStep {V : Type 0} (a b : map.FinMap nat_cmp V) (left right : List (ℕ × V)) : Type 0 where
-  pub same : (a ≡ b) ↔ (left ≡ right)
-
-module _ {V : Type 0} (a b : map.FinMap nat_cmp V) where
-  pub step_start : (left right : List (ℕ × V)) → left ≡ map.entries a → right ≡ map.entries b → IsInStep a b left right
-  step_start left right e f = record { same = (λ same. e ∙ ap map.entries same ∙ sym f, λ same. map.same_entries_map a b (sym e ∙ same ∙ f)) }
-
-  module _ (left right more rest : List (ℕ × V)) (p q : ℕ × V) (is : left ≡ p ∷ more) (step : IsInStep a b left right) where
-    pub step_on : right ≡ q ∷ rest → p ≡ q → IsInStep a b more rest
-    step_on there same = record {
-      same = (
-        λ e. tails p q more rest (sym is ∙ step.same.0 e ∙ there),
-        λ e. step.same.1 (is ∙ (λ i. same i ∷ e i) ∙ sym there),
-      );
-    }
-      where
-        tails : (x y : ℕ × V) (xs ys : List (ℕ × V)) → ◌≡◌ {A = List (ℕ × V)} (x ∷ xs) (y ∷ ys) → xs ≡ ys
-        tails x y xs ys e = cc
-
-    pub step_shorter : right ≡ [] → ¬ (a ≡ b)
-    step_shorter none e = no (sym is ∙ step.same.0 e ∙ none)
-      where
-        no : {x : ℕ × V} {xs : List (ℕ × V)} → ◌≡◌ {A = List (ℕ × V)} (x ∷ xs) [] → ⊥
-        no e = cc
-
-    pub step_other : right ≡ q ∷ rest → ¬ (p ≡ q) → ¬ (a ≡ b)
-    step_other there other e = other (heads p q more rest (sym is ∙ step.same.0 e ∙ there))
-      where
-        heads : (x y : ℕ × V) (xs ys : List (ℕ × V)) → ◌≡◌ {A = List (ℕ × V)} (x ∷ xs) (y ∷ ys) → x ≡ y
-        heads x y xs ys e = cc
-
-  pub step_end : (left right : List (ℕ × V)) → left ≡ [] → IsInStep a b left right → (a ≡ b) ↔ (right ≡ [])
-  step_end left right none step = (λ e. sym (step.same.0 e) ∙ none, λ e. step.same.1 (none ∙ sym e))

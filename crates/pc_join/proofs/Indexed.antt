@@ -6,7 +6,7 @@ use Rattle.std.proofs.lemmas.List.{get_or_append_left, get_or-set_other, get_or-
 use Rattle.pc_join.specs.ByName.{AscendFrom, IsLeastFrom, value_at}
 use Rattle.pc_join.specs.declared.near.TheConstants.{NEAR}
 use Rattle.pc_join.specs.Inner.Leaves.{AreBefore, IsSetAt}
-use Rattle.pc_join.specs.Inner.Near.{AreNear, FindsPlace, IsIndex, IsPlaceOf, entries_at, entry_at, first_value, found_by, place_in}
+use Rattle.pc_join.specs.Inner.Near.{AreNear, AreWithin, FindsPlace, IsIndex, IsPlaceOf, entries_at, entry_at, first_value, found_by, place_in}
 use Rattle.pc_join.proofs.Entries.{same_or_other, at_first, at_later, none_before}
 use Rattle.pc_join.proofs.Standing.{set_of}
 
@@ -93,6 +93,13 @@ module _ {V : Type 0} where
       let name : e.0.0 ≡ n = name_there n p es here in
       subst (AreBefore b) (sym (ap (λ l. l ++ entries_at ps es) e.1.0)) (omega (arith, name), below (n + 1) b ps es (behind n (suc p) ps es h) (omega arith))
 
+  within : (n : ℕ) (ps : List ℕ) (es : List (ℕ × V)) → AreFrom n ps es → AreWithin ps es
+  within n [] es h = tt
+  within n (zero ∷ ps) es h = (omega arith, within (n + 1) ps es (behind n zero ps es h))
+  within n (suc p ∷ ps) es h =
+      let here : IsPlaceOf n (suc p) es = h n zero (omega arith) in
+      (let lt = here.0 in omega arith, within (n + 1) ps es (behind n (suc p) ps es h))
+
   found : (n : ℕ) (ps : List ℕ) (es : List (ℕ × V)) → AreFrom n ps es → (i m : ℕ) → m ≡ n + i → value_at (entries_at ps es) m ≡ first_value (entry_at es (place_in ps i))
   found n [] es h i m e = refl
   found n (zero ∷ ps) es h zero m e = none_before (n + 1) (entries_at ps es) m (ascend (n + 1) ps es (behind n zero ps es h)) (omega (arith, e))
@@ -125,6 +132,9 @@ module _ {V : Type 0} where
     near = below 0 NEAR ps es (from_start ps es h) (let le = h.near in omega arith);
   }
 
+  pub all_within : (ps : List ℕ) (es : List (ℕ × V)) → IsIndex ps es → AreWithin ps es
+  all_within ps es h = within 0 ps es (from_start ps es h)
+
   pub near_now : (ps : List ℕ) (es now : List (ℕ × V)) → entries_at ps es ≡ now → IsIndex ps es → AreNear now
   near_now ps es now is h = subst (λ l. AreNear l) is (are_near ps es h)
 
@@ -138,7 +148,7 @@ module _ {V : Type 0} where
   some_at q zero es h ne = absurd (ne refl)
   some_at q (suc p) es h ne = subst (λ l. IsSome (first_value l)) (sym (entry_there es p h.0).1.0) refl
 
-  none_zero : (k : ℕ) (es : List (ℕ × V)) → k ≡ 0 → first_value (entry_at es k) ≡ None
+  pub none_zero : (k : ℕ) (es : List (ℕ × V)) → k ≡ 0 → first_value (entry_at es k) ≡ None
   none_zero k es e = ap (λ n. first_value (entry_at es n)) e
 
   -- the index is one of the same names

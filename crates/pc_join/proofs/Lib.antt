@@ -4,9 +4,11 @@ pub mod Counts
 pub mod Joins
 pub mod Names
 pub mod Puts
+pub mod Pieces
 pub mod Walks
 pub mod Entries
 pub mod Standing
 pub mod Trees
 pub mod Indexed
 pub mod Both
+pub mod Comparing

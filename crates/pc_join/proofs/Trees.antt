@@ -238,7 +238,7 @@ module _ {V : Type 0} where
       ];
     }
 
-    new_here : (q : ℕ) → q / 64 ≡ k → held_in new q ≡ value_at leaf.items q
+    pub new_here : (q : ℕ) → q / 64 ≡ k → held_in new q ≡ value_at leaf.items q
     new_here q same = ap (λ o. found_in o q) (here (q / 64) same)
 
     new_off : (q : ℕ) → ¬ (q / 64 ≡ k) → held_in new q ≡ held_in old q

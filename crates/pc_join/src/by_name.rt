@@ -1,16 +1,18 @@
 //! Values by the name of the thread that they are about.
 
-ghost use Rattle.std.specs.Prelude.{ℕ, ◌≡◌, ◌↔◌, ◌<◌, ◌^◌, Bool, true, false, List, [], ◌∷◌, Some, None, IsTrue, IsOk, IfOk, OnOk, OnErr, IfSome, MatchOption, IsSome, All, option_copied};
+ghost use Rattle.std.specs.Prelude.{ℕ, ◌≡◌, ◌↔◌, ◌<◌, ◌^◌, ◌++◌, Bool, true, false, List, [], ◌∷◌, Some, None, IsTrue, IsOk, IfOk, OnOk, OnErr, IfSome, MatchOption, IsSome, All, option_copied};
 ghost use Rattle.std.specs.FinMap as map;
 ghost use Rattle.std.specs.Ordering.{nat_cmp};
 ghost use Rattle.pc_join.specs.Sets.{Members, Source, IsUnion, IsBetween, IsWithin, IsVoid, members_at, source_at};
-ghost use Rattle.pc_join.specs.ByName.{members_by_name, IsOfByName, HoldsNoEmpty, HasShortNames, IsNextName, known_in, IsLeastFrom, AscendFrom, value_at};
+ghost use Rattle.pc_join.specs.ByName.{members_by_name, IsOfByName, HoldsNoEmpty, HasShortNames, IsNextName, known_in, IsLeastFrom, AscendFrom, is_same_by_name, value_at};
 ghost use Rattle.pc_join.specs.Inner.Puts.{IsJoinedAt, IsPut, IsWholeAt, HasNoVoid, IsCovered};
 ghost use Rattle.pc_join.specs.Inner.NameLaws.{unique_by_name, stays_by_name};
+ghost use Rattle.pc_join.specs.Inner.Equal.{partial_by_name};
 
 use crate::join::{Join, OutOfMemory};
+use crate::piece::Piece;
 use crate::values::Values;
-use crate::walk::Iter;
+use crate::walk::{Iter, TwoWalks};
 use pc_messages::Tid;
 use std::alloc::Global;
 use std::marker::Model;
@@ -92,6 +94,14 @@ impl<V: Join> ByName<V> {
         self.values.iter()
     }
 
+    /// The same as two walks: over the names that are found by an index, and over those behind them.
+    pub fn walks(&self) -> TwoWalks<'_, V>
+        ensures entries { result.near ++ result.far ≡ map.entries self.now }
+        ensures short { HasShortNames self.now }
+    {
+        self.values.walks()
+    }
+
     /// Joins the value to what is held under the name. An empty value changes nothing, and no other name changes.
     pub fn put(&mut self, name: Tid, value: V) -> Result<(), OutOfMemory>
         ensures union { OnOk result
@@ -108,6 +118,23 @@ impl<V: Join> ByName<V> {
             return Ok(());
         }
         self.values.put(name.index(), value)
+    }
+
+    /// Joins what the piece stands for to what is held under the name, in place. A piece of which all is known changes
+    /// nothing, and no other name changes.
+    #[inline(always)]
+    pub fn put_piece<P: Piece<V>>(&mut self, name: Tid, piece: P) -> Result<(), OutOfMemory>
+        ensures union { OnOk result (IsUnion (members_by_name V.known self.old) (members_at name (V.known (P.stands_for piece)))
+            (members_by_name V.known self.new)) }
+        ensures between { IsBetween (members_by_name V.known self.old) (members_at name (V.known (P.stands_for piece)))
+            (members_by_name V.known self.new) }
+        ensures of_source { (s : Source) → IsOfByName V.known V.is_of self.old s → V.is_of (P.stands_for piece) (source_at s name)
+            → IsOfByName V.known V.is_of self.new s }
+        ensures others { (other : ℕ) → ¬ (other ≡ name) → map.get self.new other ≡ map.get self.old other }
+        ensures known { IsWithin (V.known (P.stands_for piece)) (known_in V.known (map.get self.old name)) → self.new ≡ self.old }
+        ensures known_succeeds { IsWithin (V.known (P.stands_for piece)) (known_in V.known (map.get self.old name)) → IsOk result }
+    {
+        self.values.put_piece(name.index(), piece)
     }
 
     /// The least name that is held, from this one on.
@@ -150,6 +177,16 @@ impl<V: Join> Join for ByName<V> {
     ghost unique = { unique_by_name V.known V.is_of V.unique };
 
     ghost stays = { stays_by_name V.known V.is_of V.stays };
+}
+
+impl<V: Join + PartialEq> PartialEq for ByName<V> {
+    ghost eq = { is_same_by_name V.eq };
+
+    ghost laws = { partial_by_name V.laws };
+
+    fn eq(&self, other: &ByName<V>) -> bool {
+        self.values.is_same(&other.values)
+    }
 }
 
 /// The values of these entries.

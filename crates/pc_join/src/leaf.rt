@@ -3,9 +3,10 @@
 ghost use Rattle.std.specs.Prelude.{ℕ, ◌≡◌, ◌<◌, ◌/◌, false, Option, List, Some, None, length, drop, ltb, IsTrue, OnOk, option_copied, IsSome, MatchOption};
 ghost use Rattle.pc_join.specs.ByName.{AscendFrom, IsLeastFrom, value_at};
 ghost use Rattle.pc_join.specs.Inner.Leaves.{IsLeaf, IsPlaceIn, IsSetAt, begins_with};
-ghost use Rattle.pc_join.specs.Inner.Puts.{IsPut, IsWholeAt};
+ghost use Rattle.pc_join.specs.Inner.Puts.{IsPieceJoined, IsPut, IsWholeAt};
 
 use crate::join::{Join, OutOfMemory};
+use crate::piece::Piece;
 
 /// How many names a leaf is of.
 pub const NAMES: u32 = 64;
@@ -137,4 +138,37 @@ pub fn join_in<V: Join>(leaf: &mut Vec<(u32, V)>, name: u32, value: &V) -> Resul
     }
     let copy = value.try_copy()?;
     insert_at(leaf, place, name, copy)
+}
+
+/// Joins a piece to the value at this place, which has the name.
+fn join_piece_at<V: Join, P: Piece<V>>(
+    leaf: &mut Vec<(u32, V)>,
+    place: usize,
+    name: u32,
+    piece: P,
+) -> Result<(), OutOfMemory>
+    requires place { IsPlaceIn leaf.old.items name place }
+    requires there { IsTrue (begins_with (drop place leaf.old.items) name) }
+    ensures joined { IsPieceJoined V.known V.is_of (value_at leaf.old.items) name (P.stands_for piece) (value_at leaf.new.items) result }
+    ensures leaf { (number : ℕ) → IsLeaf number leaf.old.items → IsLeaf number leaf.new.items }
+{
+    piece.join_to(&mut leaf[place].1)
+}
+
+/// Joins a piece to what stands under the name, where that is.
+pub fn put_piece_in<V: Join, P: Piece<V>>(
+    leaf: &mut Vec<(u32, V)>,
+    name: u32,
+    piece: P,
+) -> Result<(), OutOfMemory>
+    requires { AscendFrom 0 leaf.old.items }
+    ensures joined { IsPieceJoined V.known V.is_of (value_at leaf.old.items) name (P.stands_for piece) (value_at leaf.new.items) result }
+    ensures leaf { (number : ℕ) → number ≡ name / 64 → IsLeaf number leaf.old.items → IsLeaf number leaf.new.items }
+{
+    let place = place_of(leaf.as_slice(), name);
+    if stands_at(leaf.as_slice(), place, name) {
+        return join_piece_at(leaf, place, name, piece);
+    }
+    let value = piece.alone(*leaf.allocator());
+    insert_at(leaf, place, name, value)
 }

@@ -6,10 +6,12 @@ ghost use Rattle.std.specs.BTreeMap.{get};
 ghost use Rattle.std.specs.Ordering.{nat_cmp};
 ghost use Rattle.pc_join.specs.ByName.{AscendFrom, IsLeastFrom, value_at};
 ghost use Rattle.pc_join.specs.Inner.Leaves.{AreLeaves, IsSetAt, found_in, held_in};
-ghost use Rattle.pc_join.specs.Inner.Puts.{IsPut, IsWholeAt};
+ghost use Rattle.pc_join.specs.Inner.Equal.{HasSame};
+ghost use Rattle.pc_join.specs.Inner.Puts.{IsPieceJoined, IsPut, IsWholeAt};
 
 use crate::join::{Join, OutOfMemory};
-use crate::leaf::{NAMES, join_in, name_from, put_in, value_of};
+use crate::leaf::{NAMES, join_in, name_from, put_in, put_piece_in, value_of};
+use crate::piece::Piece;
 use crate::walk::FarIter;
 use std::alloc::Global;
 use std::collections::BTreeMap;
@@ -90,6 +92,23 @@ fn join_value<V: Join>(
             let copy = value.try_copy()?;
             start_leaf(leaves, alloc, name, copy)
         }
+    }
+}
+
+/// Joins a piece to what stands under the name, where that is.
+fn put_piece_by<V: Join, P: Piece<V>>(
+    leaves: &mut BTreeMap<u32, Vec<(u32, V)>>,
+    alloc: Global,
+    name: u32,
+    piece: P,
+) -> Result<(), OutOfMemory>
+    requires { AreLeaves leaves.old }
+    ensures joined { IsPieceJoined V.known V.is_of (held_in leaves.old) name (P.stands_for piece) (held_in leaves.new) result }
+    ensures leaves { AreLeaves leaves.new }
+{
+    match leaves.get_mut(&(name / NAMES)) {
+        Some(leaf) => put_piece_in(leaf, name, piece),
+        None => start_leaf(leaves, alloc, name, piece.alone(alloc)),
     }
 }
 
@@ -179,6 +198,15 @@ impl<V: Join> Leaves<V> {
         join_value(&mut self.leaves, self.alloc, name, value)
     }
 
+    /// Joins a piece to what stands under the name, where that is. It stays a call of its own: few names are far.
+    #[inline(never)]
+    pub fn put_piece<P: Piece<V>>(&mut self, name: u32, piece: P) -> Result<(), OutOfMemory>
+        ensures joined { IsPieceJoined V.known V.is_of (value_at self.old) name (P.stands_for piece) (value_at self.new) result }
+        ensures ascend { AscendFrom 0 self.new }
+    {
+        put_piece_by(&mut self.leaves, self.alloc, name, piece)
+    }
+
     /// Whether there are no values.
     pub fn is_empty(&self) -> bool
         ensures { IsTrue result ↔ (length self.now ≡ 0) }
@@ -200,5 +228,26 @@ impl<V: Join> Leaves<V> {
         ensures ascend { AscendFrom 0 self.now }
     {
         FarIter::of(&self.leaves)
+    }
+}
+
+impl<V: Join + PartialEq> Leaves<V> {
+    /// Whether the same names have equal values, by one walk over both.
+    pub fn is_same(&self, other: &Leaves<V>) -> bool
+        ensures { IsTrue result ↔ HasSame V.eq (value_at self.now) (value_at other.now) }
+    {
+        let mut others = other.iter();
+        for (name, mine) in self.iter() {
+            let Some(theirs) = others.next() else {
+                return false;
+            };
+            if name.index() != theirs.0.index() {
+                return false;
+            }
+            if mine != theirs.1 {
+                return false;
+            }
+        }
+        others.next().is_none()
     }
 }

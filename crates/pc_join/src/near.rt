@@ -1,12 +1,15 @@
 //! Values by names that are near 0, where the names of threads are: found by an index.
 
 ghost use Rattle.std.specs.Prelude.{ℕ, ◌≡◌, ◌<◌, ◌≤◌, ◌+◌, [], ◌∷◌, None, Some, IsTrue, ◌↔◌, IsSome, MatchOption, OnOk, length, option_copied};
+ghost use Rattle.std.specs.Option.{option_eq};
 ghost use Rattle.pc_join.specs.ByName.{IsLeastFrom, value_at};
 ghost use Rattle.pc_join.specs.Inner.Leaves.{IsSetAt};
 ghost use Rattle.pc_join.specs.Inner.Near.{AreNear, FindsPlace, IsIndex, entries_at, first_value, entry_at, found_by, place_in};
-ghost use Rattle.pc_join.specs.Inner.Puts.{IsPut, IsWholeAt};
+ghost use Rattle.pc_join.specs.Inner.Equal.{HasSame};
+ghost use Rattle.pc_join.specs.Inner.Puts.{IsPieceJoined, IsPut, IsWholeAt};
 
 use crate::join::{Join, OutOfMemory};
+use crate::piece::Piece;
 use crate::walk::NearIter;
 use std::alloc::Global;
 use std::marker::Model;
@@ -14,6 +17,9 @@ use std::marker::Model;
 /// So many names have an index, which then takes 256 KiB at the most: no kernel gives as many. Names from here on come from
 /// deltas that somebody made up.
 pub const NEAR: u32 = 65_536;
+
+/// The index grows by so many names at once.
+const STEP: usize = 64;
 
 /// So many entries can be counted in 32 bits.
 const MOST: usize = u32::MAX as usize;
@@ -48,23 +54,23 @@ fn place_of(places: &[u32], name: u32) -> u32
 }
 
 /// The entry at a place.
-pub(crate) fn entry_of<V>(entries: &[(u32, V)], place: u32) -> Option<&(u32, V)>
-    ensures { MatchOption result (entry_at entries.now place ≡ []) (λ entry. entry_at entries.now place ≡ entry.now ∷ []) }
+pub(crate) fn entry_of<V>(entries: &[(u32, V)], place: u32) -> &(u32, V)
+    requires some { 1 ≤ place }
+    requires within { place ≤ length entries.now }
+    ensures { entry_at entries.now place ≡ result.now ∷ [] }
 {
-    if place == 0 {
-        return None;
-    }
-    entries.get(place as usize - 1)
+    &entries[place as usize - 1]
 }
 
 /// The value at a place.
 fn value_of<V>(entries: &[(u32, V)], place: u32) -> Option<&V>
+    requires { place ≤ length entries.now }
     ensures { option_copied result ≡ first_value (entry_at entries.now place) }
 {
-    match entry_of(entries, place) {
-        Some(entry) => Some(&entry.1),
-        None => None,
+    if place == 0 {
+        return None;
     }
+    Some(&entry_of(entries, place).1)
 }
 
 /// Joins a value to the one at the place of its name.
@@ -88,7 +94,27 @@ fn join_at<V: Join>(
     entries[place as usize - 1].1.join_from(value)
 }
 
-/// Makes the index reach the name.
+/// Joins a piece to the value at the place of its name.
+#[inline(always)]
+fn join_piece_at<V: Join, P: Piece<V>>(
+    places: &[u32],
+    entries: &mut Vec<(u32, V)>,
+    name: u32,
+    place: u32,
+    piece: P,
+) -> Result<(), OutOfMemory>
+    requires index { IsIndex places.now entries.old.items }
+    requires place { place ≡ place_in places.now name }
+    requires there { 1 ≤ place }
+    ensures joined { IsPieceJoined V.known V.is_of (found_by places.now entries.old.items) name (P.stands_for piece)
+        (found_by places.now entries.new.items) result }
+    ensures index { IsIndex places.now entries.new.items }
+{
+    let _ = places.len();
+    piece.join_to(&mut entries[place as usize - 1].1)
+}
+
+/// Makes the index reach the name, and those just behind it, which mostly come next.
 fn reach(places: &mut Vec<u32>, name: u32) -> Result<(), OutOfMemory>
     requires near { length places.old.items ≤ NEAR }
     requires name { name < NEAR }
@@ -96,7 +122,7 @@ fn reach(places: &mut Vec<u32>, name: u32) -> Result<(), OutOfMemory>
     ensures near { length places.new.items ≤ NEAR }
     ensures reached { OnOk result (name < length places.new.items) }
 {
-    let wanted = name as usize + 1;
+    let wanted = (name as usize / STEP + 1) * STEP;
     if places.len() < wanted {
         places.resize(wanted, 0)?;
     }
@@ -128,6 +154,44 @@ fn start_at<V: Join>(
     entries.push((name, value))?;
     places[name as usize] = entries.len() as u32;
     Ok(())
+}
+
+/// Whether a name has equal values at these places, or at neither a value.
+#[inline(always)]
+fn is_same_at<V: PartialEq>(
+    entries: &[(u32, V)],
+    place: u32,
+    others: &[(u32, V)],
+    other: u32,
+) -> bool
+    requires within { place ≤ length entries.now }
+    requires other_within { other ≤ length others.now }
+    ensures { result ≡ option_eq V.eq (first_value (entry_at entries.now place)) (first_value (entry_at others.now other)) }
+{
+    if place == 0 || other == 0 {
+        return place == other;
+    }
+    entries[place as usize - 1].1 == others[other as usize - 1].1
+}
+
+/// Whether the same names have equal values. Each name is compared where its places stand, so no name is read.
+fn is_same_by<V: PartialEq>(
+    places: &[u32],
+    entries: &[(u32, V)],
+    other_places: &[u32],
+    other_entries: &[(u32, V)],
+) -> bool
+    requires index { IsIndex places.now entries.now }
+    requires other_index { IsIndex other_places.now other_entries.now }
+    ensures { IsTrue result ↔ HasSame V.eq (found_by places.now entries.now) (found_by other_places.now other_entries.now) }
+{
+    let shared = places.len().min(other_places.len());
+    for name in 0..shared {
+        if !is_same_at(entries, places[name], other_entries, other_places[name]) {
+            return false;
+        }
+    }
+    next_name(places, shared as u32).is_none() && next_name(other_places, shared as u32).is_none()
 }
 
 /// The least name from one on that has a place.
@@ -217,6 +281,27 @@ impl<V: Join> Near<V> {
         )
     }
 
+    /// Joins a piece to what stands under the name, where that is.
+    #[inline(always)]
+    pub fn put_piece<P: Piece<V>>(&mut self, name: u32, piece: P) -> Result<(), OutOfMemory>
+        requires { name < NEAR }
+        ensures joined { IsPieceJoined V.known V.is_of (value_at self.old) name (P.stands_for piece) (value_at self.new) result }
+        ensures near { AreNear self.new }
+    {
+        let place = place_of(self.places.as_slice(), name);
+        if place == 0 {
+            let value = piece.alone(*self.entries.allocator());
+            return start_at(&mut self.places, &mut self.entries, name, value);
+        }
+        join_piece_at(
+            self.places.as_slice(),
+            &mut self.entries,
+            name,
+            place,
+            piece,
+        )
+    }
+
     /// The least name under which a value stands, from one on.
     pub fn next(&self, from: u32) -> Option<u32>
         ensures { MatchOption result ((name : ℕ) → IsSome (value_at self.now name)
@@ -231,5 +316,19 @@ impl<V: Join> Near<V> {
         ensures near { AreNear self.now }
     {
         NearIter::of(self.places.as_slice(), self.entries.as_slice())
+    }
+}
+
+impl<V: Join + PartialEq> Near<V> {
+    /// Whether the same names have equal values.
+    pub fn is_same(&self, other: &Near<V>) -> bool
+        ensures { IsTrue result ↔ HasSame V.eq (value_at self.now) (value_at other.now) }
+    {
+        is_same_by(
+            self.places.as_slice(),
+            self.entries.as_slice(),
+            other.places.as_slice(),
+            other.entries.as_slice(),
+        )
     }
 }

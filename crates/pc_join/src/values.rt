@@ -1,14 +1,16 @@
 //! Values by name: those of near names found by an index, all others in leaves.
 
-ghost use Rattle.std.specs.Prelude.{ℕ, ◌≡◌, ◌↔◌, ◌<◌, List, [], Option, Some, None, IsSome, IsTrue, MatchOption, OnOk, length, option_copied};
+ghost use Rattle.std.specs.Prelude.{ℕ, ◌≡◌, ◌↔◌, ◌<◌, ◌++◌, List, [], Option, Some, None, IsSome, IsTrue, MatchOption, OnOk, length, option_copied};
 ghost use Rattle.pc_join.specs.ByName.{AscendFrom, IsLeastFrom, value_at};
 ghost use Rattle.pc_join.specs.Inner.Leaves.{IsSetAt};
-ghost use Rattle.pc_join.specs.Inner.Puts.{IsPut, IsWholeAt};
+ghost use Rattle.pc_join.specs.Inner.Equal.{HasSame};
+ghost use Rattle.pc_join.specs.Inner.Puts.{IsPieceJoined, IsPut, IsWholeAt};
 
 use crate::join::{Join, OutOfMemory};
 use crate::leaves::Leaves;
 use crate::near::{NEAR, Near};
-use crate::walk::Iter;
+use crate::piece::Piece;
+use crate::walk::{Iter, TwoWalks};
 use std::alloc::Global;
 use std::marker::Model;
 
@@ -85,6 +87,17 @@ impl<V: Join> Values<V> {
         self.far.join(name, value)
     }
 
+    /// Joins a piece to what stands under the name, where that is.
+    #[inline(always)]
+    pub fn put_piece<P: Piece<V>>(&mut self, name: u32, piece: P) -> Result<(), OutOfMemory>
+        ensures { IsPieceJoined V.known V.is_of (value_at self.old) name (P.stands_for piece) (value_at self.new) result }
+    {
+        if name < NEAR {
+            return self.near.put_piece(name, piece);
+        }
+        self.far.put_piece(name, piece)
+    }
+
     /// Whether there are no values.
     pub fn is_empty(&self) -> bool
         ensures { IsTrue result ↔ (length self.now ≡ 0) }
@@ -109,5 +122,25 @@ impl<V: Join> Values<V> {
         ensures ascend { AscendFrom 0 self.now }
     {
         Iter::of(self.near.iter(), self.far.iter())
+    }
+
+    /// All values with their names, by ascending names: those of near names, and those of the others.
+    pub fn walks(&self) -> TwoWalks<'_, V>
+        ensures entries { result.near ++ result.far ≡ self.now }
+        ensures ascend { AscendFrom 0 self.now }
+    {
+        TwoWalks {
+            near: self.near.iter(),
+            far: self.far.iter(),
+        }
+    }
+}
+
+impl<V: Join + PartialEq> Values<V> {
+    /// Whether the same names have equal values.
+    pub fn is_same(&self, other: &Values<V>) -> bool
+        ensures { IsTrue result ↔ HasSame V.eq (value_at self.now) (value_at other.now) }
+    {
+        self.near.is_same(&other.near) && self.far.is_same(&other.far)
     }
 }

@@ -4,7 +4,7 @@ ghost use Rattle.std.specs.Prelude.{ℕ, ◌≡◌, ◌++◌, List};
 ghost use Rattle.std.specs.Iterator.{YieldsFirstBy, item_count};
 ghost use Rattle.pc_join.specs.ByName.{named};
 ghost use Rattle.pc_join.specs.Inner.Leaves.{entries_of};
-ghost use Rattle.pc_join.specs.Inner.Near.{entries_at};
+ghost use Rattle.pc_join.specs.Inner.Near.{AreWithin, entries_at};
 
 use crate::near::entry_of;
 use pc_messages::Tid;
@@ -25,11 +25,16 @@ impl<'a, V> Model for NearIter<'a, V> {
     ghost Value = { List (ℕ × V) };
 
     ghost view = { λ iter. entries_at iter.places.now iter.entries.now };
+
+    ghost use Rattle.pc_join.specs.Inner.Near.{AreWithin};
+
+    ghost invariant = { λ iter. AreWithin iter.places.now iter.entries.now };
 }
 
 impl<'a, V> NearIter<'a, V> {
     /// The entries at these places.
     pub(crate) fn of(places: &'a [u32], entries: &'a [(u32, V)]) -> Self
+        requires { AreWithin places.now entries.now }
         ensures { result ≡ entries_at places.now entries.now }
     {
         NearIter { places, entries }
@@ -49,7 +54,8 @@ impl<'a, V> Iterator for NearIter<'a, V> {
                 return None;
             };
             self.places = rest;
-            if let Some(entry) = entry_of(self.entries, *place) {
+            if *place > 0 {
+                let entry = entry_of(self.entries, *place);
                 return Some((Tid(entry.0), &entry.1));
             }
         }
@@ -142,4 +148,12 @@ impl<'a, V> Iterator for Iter<'a, V> {
             None => self.far.next(),
         }
     }
+}
+
+/// Two walks, over the entries of near names and over the others behind them. A loop over each of them asks less at each
+/// step than one over both, and what the first has left stands in registers.
+#[derive(Drop)]
+pub struct TwoWalks<'a, V> {
+    pub near: NearIter<'a, V>,
+    pub far: FarIter<'a, V>,
 }

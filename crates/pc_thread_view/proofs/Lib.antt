@@ -4,4 +4,5 @@ pub mod Taking
 pub mod Settling
 pub mod Places
 pub mod Slots
+pub mod Alone
 pub mod Histories

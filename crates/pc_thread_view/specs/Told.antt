@@ -1,5 +1,5 @@
 -- What is told of one thread: a folded prefix of its messages, and early messages past a gap.
-use Rattle.std.specs.Prelude.{ℕ, ◌+◌, ◌*◌, ◌<◌, ◌≤◌, ◌≡◌, ◌==◌, ◌||◌, Bool, true, IsFalse, List, [], ◌∷◌, length, Option, MatchOption, Some}
+use Rattle.std.specs.Prelude.{ℕ, ◌+◌, ◌*◌, ◌<◌, ◌≤◌, ◌≡◌, ◌==◌, ◌||◌, Bool, true, IsFalse, List, [], ◌∷◌, length, Option, MatchOption, Some, None, if◌then◌else◌}
 use Rattle.std.specs.List.{list_any}
 use Rattle.pc_messages.specs.declared.message.TheConstants.{GREATEST_NUMBER}
 use Rattle.pc_messages.specs.declared.kind.TheConstants.{MOST_TICKS}
@@ -15,6 +15,15 @@ pub record Told : Type 0 where
   pub upto : ℕ
   pub state : Option Reported
   pub early : List (ℕ × Kind)
+
+-- what one message tells alone: the state of a thread where it is its first, and else a message past the gap
+abbrev pub told_by_message : ℕ → Kind → Told
+told_by_message number kind =
+    if number == 1 then record { upto = 1; state = state_of (kind ∷ []); early = [] } else record { upto = 0; state = None; early = (number, kind) ∷ [] }
+
+-- what the messages up to a number tell alone, which report this state
+abbrev pub told_by_prefix : ℕ → Reported → Told
+told_by_prefix upto reported = record { upto = upto; state = Some reported; early = [] }
 
 -- an early message has the number
 abbrev pub is_early : List (ℕ × Kind) → ℕ → Bool

@@ -195,6 +195,16 @@ impl Early {
         }
     }
 
+    /// One message. It takes no memory.
+    pub fn one(alloc: Global, entry: (u32, Kind)) -> Self
+        ensures { result.items ≡ entry ∷ [] }
+    {
+        Early {
+            form: Form::One(entry),
+            alloc,
+        }
+    }
+
     /// An equal list, with no unused slot in front.
     pub fn of_slice(alloc: Global, list: &[(u32, Kind)]) -> Result<Self, OutOfMemory>
         ensures { IfOk result (λ early. early.items ≡ list.now) }

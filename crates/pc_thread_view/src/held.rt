@@ -6,7 +6,7 @@ ghost use Rattle.pc_messages.specs.Run.{IsWellFormed};
 ghost use Rattle.pc_messages.specs.declared.kind.Kind.{Kind};
 ghost use Rattle.pc_join.specs.Sets.{Source};
 ghost use Rattle.pc_join.specs.Inner.Ranges.{IsEither, IsAmid};
-ghost use Rattle.pc_thread_view.specs.Told.{IsSound, IsOfThread, RiseAbove, HasEach, tells, is_early};
+ghost use Rattle.pc_thread_view.specs.Told.{IsSound, IsOfThread, RiseAbove, HasEach, tells, is_early, told_by_message, told_by_prefix};
 ghost use Rattle.pc_thread_view.specs.Inner.Taking.{Gains, NoneAbove, NoneAfter, IsLoose, IsAbsorbed, IsSettled, IsPlace, BeginsWith, AreTold, AreAmong, AreBelow};
 ghost use Rattle.pc_join.specs.Ranges.{one_to};
 ghost use Rattle.pc_thread_view.specs.Inner.Held.{told};
@@ -14,13 +14,31 @@ ghost use Rattle.pc_thread_view.specs.Inner.Held.{told};
 use crate::early::Early;
 use crate::prefix::Prefix;
 use pc_join::{OutOfMemory, next_turn};
-use pc_messages::{Kind, is_same_kind, is_same_state};
+use pc_messages::{Kind, Reported, is_same_kind, is_same_state};
+use std::alloc::Global;
 
 /// A folded prefix, and messages past the first that is missing, ascending.
 #[derive(Drop)]
 pub struct Held {
     pub prefix: Prefix,
     pub early: Early,
+}
+
+/// What one message tells alone. It takes no memory.
+pub fn one(alloc: Global, number: u32, kind: Kind) -> Held
+    requires { IsWellFormed number kind }
+    ensures { told result ≡ told_by_message number kind }
+{
+    if number == 1 {
+        return Held {
+            prefix: Prefix::first(kind),
+            early: Early::new(alloc),
+        };
+    }
+    Held {
+        prefix: Prefix::none(),
+        early: Early::one(alloc, (number, kind)),
+    }
 }
 
 /// Whether the number is that of the last early message.
@@ -36,7 +54,7 @@ fn ends_with(early: &[(u32, Kind)], number: u32) -> bool
 }
 
 /// Takes in a message whose number is at or after that of each early one.
-pub fn append(held: &mut Held, number: u32, kind: Kind) -> Result<(), OutOfMemory>
+fn append(held: &mut Held, number: u32, kind: Kind) -> Result<(), OutOfMemory>
     requires sound { IsSound (told held.old) }
     requires well_formed { IsWellFormed number kind }
     requires last { NoneAbove number held.old.early.items }
@@ -140,6 +158,22 @@ fn advance(held: &mut Held, other: &Held)
     ensures of_source { (s : Source) → IsOfThread (told held.old) s → IsOfThread (told other.now) s → IsOfThread (told held.new) s }
 {
     held.prefix = other.prefix.copy();
+    settle(held);
+}
+
+/// Takes in all messages up to a number, which report this state. Where they are known nothing changes. It takes no memory.
+pub fn take_prefix(held: &mut Held, upto: u32, reported: Reported)
+    requires sound { IsSound (told held.old) }
+    requires prefix { IsSound (told_by_prefix upto reported) }
+    ensures sound { IsSound (told held.new) }
+    ensures union { IsEither (tells (told held.old)) (one_to upto) (tells (told held.new)) }
+    ensures of_source { (s : Source) → IsOfThread (told held.old) s → IsOfThread (told_by_prefix upto reported) s → IsOfThread (told held.new) s }
+    ensures known { upto ≤ held.old.prefix.upto → told held.new ≡ told held.old }
+{
+    if upto <= held.prefix.upto() {
+        return;
+    }
+    held.prefix = Prefix::of(upto, reported);
     settle(held);
 }
 
@@ -349,7 +383,8 @@ pub fn covers_held(held: &Held, other: &Held) -> bool
     other.prefix.upto() <= upto && covers_early(upto, held.early.as_slice(), other.early.as_slice())
 }
 
-/// Whether the messages are equal.
+/// Whether the messages are equal. It stays a call of its own: most threads have none.
+#[inline(never)]
 fn is_same_early(first: &[(u32, Kind)], other: &[(u32, Kind)]) -> bool
     ensures { IsTrue result ↔ (first.now ≡ other.now) }
 {
@@ -374,6 +409,7 @@ fn is_same_early(first: &[(u32, Kind)], other: &[(u32, Kind)]) -> bool
 }
 
 /// Whether the same is held.
+#[inline(always)]
 pub fn is_same_held(held: &Held, other: &Held) -> bool
     ensures { IsTrue result ↔ (told held.now ≡ told other.now) }
 {
@@ -383,5 +419,9 @@ pub fn is_same_held(held: &Held, other: &Held) -> bool
     if !is_same_state(held.prefix.state(), other.prefix.state()) {
         return false;
     }
-    is_same_early(held.early.as_slice(), other.early.as_slice())
+    let mine = held.early.as_slice();
+    if mine.is_empty() {
+        return other.early.as_slice().is_empty();
+    }
+    is_same_early(mine, other.early.as_slice())
 }

@@ -6,7 +6,9 @@
 
 mod early;
 mod held;
+mod pieces;
 mod prefix;
 mod view;
 
+pub use pieces::{FoldedPrefix, OneMessage};
 pub use view::{ThreadView, equality_is_exact, of_a_history_in_plain_words};

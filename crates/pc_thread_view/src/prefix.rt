@@ -59,6 +59,14 @@ impl Prefix {
         }
     }
 
+    /// Of a thread's first message.
+    pub fn first(kind: Kind) -> Self
+        requires { IsTrue (is_created kind) }
+        ensures { result ≡ record { upto = 1; state = state_of (kind ∷ []) } }
+    {
+        Prefix::of(1, Reported::first(kind).unwrap())
+    }
+
     /// Of so many messages, which report this state.
     pub fn of(upto: u32, reported: Reported) -> Self
         requires { 1 ≤ upto }

@@ -6,14 +6,16 @@ ghost use Rattle.pc_messages.specs.declared.kind.TheConstants.{MOST_TICKS};
 ghost use Rattle.pc_messages.specs.Run.{IsWellFormed};
 ghost use Rattle.pc_join.specs.Sets.{Members, Source, IsUnion, IsBetween, IsWithin, IsVoid, IsSameSet};
 ghost use Rattle.pc_messages.specs.declared.kind.Kind.{Kind};
-ghost use Rattle.pc_thread_view.specs.Told.{Told, IsSound, IsOfThread, RiseAbove, TellsSome, numbers_of, only, tells};
+ghost use Rattle.pc_thread_view.specs.Told.{Told, IsSound, IsOfThread, RiseAbove, TellsSome, numbers_of, only, tells, told_by_message, told_by_prefix};
 ghost use Rattle.pc_thread_view.specs.Histories.{IsOfHistory, source_of_kinds};
 ghost use Rattle.pc_thread_view.specs.Inner.ToldLaws.{unique_told, stays_told};
 ghost use Rattle.pc_thread_view.specs.Same.{is_same_told};
 ghost use Rattle.pc_thread_view.specs.Inner.SameLaws.{told_partial, told_equivalence};
 
 use crate::early::Early;
-use crate::held::{Held, append, covers_held, has_held, is_same_held, join_held, take_one};
+use crate::held::{
+    Held, covers_held, has_held, is_same_held, join_held, one, take_one, take_prefix,
+};
 use crate::prefix::Prefix;
 use pc_join::{Join, OutOfMemory};
 use pc_messages::{Kind, Reported};
@@ -46,13 +48,11 @@ impl ThreadView {
         ensures known { IsSameSet (numbers_of result) (only number) }
         ensures of_source { (s : Source) → s (number ∷ []) ≡ Some kind → IsOfThread result s }
         ensures sound { IsSound result }
+        ensures value { result ≡ told_by_message number kind }
     {
-        let mut held = Held {
-            prefix: Prefix::none(),
-            early: Early::new(alloc),
-        };
-        append(&mut held, number, kind).unwrap();
-        ThreadView { held }
+        ThreadView {
+            held: one(alloc, number, kind),
+        }
     }
 
     /// The view of all messages up to a number, which report this state. It takes no memory.
@@ -83,6 +83,18 @@ impl ThreadView {
     {
         take_one(&mut self.held, number, kind)?;
         Ok(())
+    }
+
+    /// Takes in all messages up to a number, which report this state. Where they are known nothing changes. It takes no memory.
+    pub(crate) fn take_prefix(&mut self, upto: u32, reported: Reported)
+        requires positive { 1 ≤ upto }
+        requires fits { upto ≤ GREATEST_NUMBER }
+        requires ran { reported.ran ≤ upto * MOST_TICKS }
+        ensures union { IsUnion (numbers_of self.old) (numbers_of (told_by_prefix upto reported)) (numbers_of self.new) }
+        ensures of_source { (s : Source) → IsOfThread self.old s → IsOfThread (told_by_prefix upto reported) s → IsOfThread self.new s }
+        ensures known { IsWithin (numbers_of (told_by_prefix upto reported)) (numbers_of self.old) → self.new ≡ self.old }
+    {
+        take_prefix(&mut self.held, upto, reported);
     }
 
     /// The last number of the messages that are all known; 0 where the first message is not.
@@ -164,6 +176,7 @@ impl PartialEq for ThreadView {
 
     ghost laws = { told_partial };
 
+    #[inline(always)]
     fn eq(&self, other: &ThreadView) -> bool {
         is_same_held(&self.held, &other.held)
     }

@@ -1,7 +1,6 @@
 -- Views and the runs that they are of.
-use Rattle.std.proofs.Common.{ℕ, suc, zero, ◌+◌, ◌-◌, ◌<◌, ◌≤◌, ◌≡◌, ◌==◌, ◌⊎◌, cond, Bool, true, false, IsTrue, ◌↔◌, List, [], ◌∷◌, ◌++◌, ◌||◌, ◌&&◌, length, take, Option, Some, None, refl, sym, ap, ◌∙◌, arith, inl, inr}
+use Rattle.std.proofs.Common.{ℕ, suc, zero, ◌+◌, ◌-◌, ◌<◌, ◌≤◌, ◌≡◌, ◌==◌, ◌⊎◌, cond, Bool, true, false, ◌↔◌, List, [], ◌∷◌, ◌++◌, ◌||◌, ◌&&◌, length, take, Option, Some, None, refl, sym, ap, ◌∙◌, arith, inl, inr}
 use Rattle.std.specs.List.{slice_get}
-use Rattle.std.specs.Bool.{Decides}
 use Rattle.std.specs.Ordering.{nat_cmp}
 use Rattle.std.specs.FinMap as map
 use Rattle.std.proofs.lemmas.Bool.Decides.{nat_tests}
@@ -16,10 +15,11 @@ use Rattle.pc_messages.specs.Run.{Run, Extends, kind_at}
 use Rattle.pc_join.specs.Sets.{Source, IsVoid, source_at, members_at}
 use Rattle.pc_messages.proofs.Bools.{or_none}
 use Rattle.pc_join.specs.ByName.{members_by_name, known_in, IsOfByName}
-use Rattle.pc_thread_view.specs.Told.{Told, IsOfThread, TellsSome, numbers_of, is_early, tells}
+use Rattle.pc_thread_view.specs.Told.{Told, IsOfThread, TellsSome, numbers_of, is_early, tells, told_by_message}
+use Rattle.pc_thread_view.proofs.Alone.{one_same}
 use Rattle.pc_join.specs.Ranges.{one_to}
 use Rattle.pc_view.specs.declared.view.View.{View}
-use Rattle.pc_view.specs.Views.{source_of, IsOfRun, IsPrefixOfRun, TellsOfRun, thread_of, pairs_of, prefix_pairs}
+use Rattle.pc_view.specs.Views.{source_of, IsOfRun, IsPrefixOfRun, TellsOfRun, thread_of, pair, pairs_of, prefix_pairs}
 
 -- a run that goes on gives what it gave
 got_append : {A : Type 0} (xs ys : List A) (i : ℕ) → ¬ (slice_get xs i ≡ None) → slice_get (xs ++ ys) i ≡ slice_get xs i
@@ -41,6 +41,11 @@ goes_on longer shorter extends (t ∷ n ∷ []) h =
     let more = extends t in
     ap (λ kinds. kind_at kinds n) more.1 ∙ kind_on (shorter t) more.0 n h
 goes_on longer shorter extends (t ∷ n ∷ k ∷ m) h = refl
+
+-- one message tells its number alone
+pub message_members : (thread number : ℕ) (kind : Kind) (m : List ℕ) → members_at thread (numbers_of (told_by_message number kind)) m ≡ pair thread number m
+message_members thread number kind [] = refl
+message_members thread number kind (t ∷ m) = ap (λ b. (t == thread) && b) (one_same number kind m)
 
 -- a folded prefix
 pub folded_of : (run : Run) (thread upto : ℕ) (reported : Reported) → IsPrefixOfRun run thread upto (Some reported) → IsOfThread (record { upto = upto; state = Some reported; early = [] }) (source_at (source_of run) thread)
@@ -69,9 +74,6 @@ nothing_of x e s = record { kept = λ q v some. absurd (clash (map.get x q) v (n
 
 pub cases : (a b : ℕ) → (a < b) ⊎ (b ≤ a)
 cases a b = grind arith
-
-pub same_threads : (a b : View) (r : Bool) → IsTrue r ↔ (a.threads ≡ b.threads) → Decides r (a ≡ b)
-same_threads a b r h = (λ t. let e = h.0 t in λ i. record { threads = e i }, λ e. h.1 (ap (λ v. v.threads) e))
 
 -- what a view of a run tells of a thread
 module _ (run : Run) (view : View) (thread : ℕ) (told : Told) (of_run : IsOfRun run view) (there : thread_of view thread ≡ Some told) where

@@ -1,6 +1,6 @@
 //! The view of all threads.
 
-ghost use Rattle.std.specs.Prelude.{ℕ, ◌+◌, ◌*◌, ◌≡◌, ◌≤◌, ◌<◌, ◌↔◌, Bool, true, false, List, [], ◌∷◌, Some, None, IsTrue, IsOk, IsSome, IfSome, IfOk, OnOk, MatchOption, option_copied, take, length, All};
+ghost use Rattle.std.specs.Prelude.{ℕ, ◌+◌, ◌*◌, ◌≡◌, ◌≤◌, ◌<◌, ◌↔◌, Bool, true, false, List, [], ◌∷◌, ◌++◌, Some, None, IsTrue, IsOk, IsSome, IfSome, IfOk, OnOk, MatchOption, option_copied, take, length, All};
 ghost use Rattle.pc_messages.specs.declared.message.TheConstants.{GREATEST_NUMBER};
 ghost use Rattle.pc_messages.specs.declared.kind.TheConstants.{MOST_TICKS};
 ghost use Rattle.std.specs.FinMap as map;
@@ -12,9 +12,9 @@ ghost use Rattle.pc_view.specs.Views.{is_same_view, pairs_of, thread_of, pair, p
 ghost use Rattle.pc_view.specs.Prefixes.{upto_of, reported_in};
 ghost use Rattle.pc_view.specs.Inner.ViewLaws.{unique_view, stays_view, view_partial, view_equivalence};
 
-use pc_join::{ByName, Iter, Join, OutOfMemory};
+use pc_join::{ByName, Iter, Join, OutOfMemory, TwoWalks};
 use pc_messages::{Message, Reported, Tid};
-use pc_thread_view::ThreadView;
+use pc_thread_view::{FoldedPrefix, OneMessage, ThreadView};
 use std::alloc::Global;
 
 /// What is known of all threads: for each, a folded prefix of its messages, and early ones past a gap.
@@ -54,11 +54,11 @@ impl View {
         ensures known { IsTrue (pairs_of self.old (message.thread ∷ message.number ∷ [])) → self.new ≡ self.old }
         ensures known_succeeds { IsTrue (pairs_of self.old (message.thread ∷ message.number ∷ [])) → IsOk result }
     {
-        if self.knows(message.thread, message.number) {
-            return Ok(());
-        }
-        let one = ThreadView::of(self.threads.allocator(), message.number, message.kind);
-        self.threads.put(message.thread, one)
+        let one = OneMessage {
+            number: message.number,
+            kind: message.kind,
+        };
+        self.threads.put_piece(message.thread, one)
     }
 
     /// Takes in all messages of a thread up to a number, which report this state. Where memory runs out, the view
@@ -72,8 +72,8 @@ impl View {
         ensures of_run { (run : Run) → IsOfRun run self.old → IsPrefixOfRun run thread upto (Some reported) → IsOfRun run self.new }
         ensures others { (other : ℕ) → ¬ (other ≡ thread) → thread_of self.new other ≡ thread_of self.old other }
     {
-        let prefix = ThreadView::folded(self.threads.allocator(), upto, reported);
-        self.threads.put(thread, prefix)
+        self.threads
+            .put_piece(thread, FoldedPrefix { upto, reported })
     }
 
     /// Takes in all that the other view knows. Where memory runs out, a part of it may have been taken in; merging
@@ -140,6 +140,14 @@ impl View {
     {
         self.threads.iter()
     }
+
+    /// The same as two walks, one behind the other.
+    pub fn walks(&self) -> TwoWalks<'_, ThreadView>
+        ensures entries { result.near ++ result.far ≡ map.entries self.now.threads }
+        ensures short { HasShortNames self.now.threads }
+    {
+        self.threads.walks()
+    }
 }
 
 impl Join for View {
@@ -175,36 +183,10 @@ impl PartialEq for View {
     ghost laws = { view_partial };
 
     fn eq(&self, other: &View) -> bool {
-        is_same(&self.threads, &other.threads)
+        self.threads == other.threads
     }
 }
 
 impl Eq for View {
     ghost laws = { view_equivalence };
-}
-
-/// Whether the same is known under every name, by one walk over both.
-fn is_same(first: &ByName<ThreadView>, other: &ByName<ThreadView>) -> bool
-    ensures { IsTrue result ↔ (first.now ≡ other.now) }
-{
-    let mut others = other.iter();
-    for (name, mine) in first.iter() {
-        let Some((other_name, theirs)) = others.next() else {
-            return false;
-        };
-        if name.index() != other_name.index() {
-            return false;
-        }
-        if !is_same_thread(mine, theirs) {
-            return false;
-        }
-    }
-    others.next().is_none()
-}
-
-/// Whether the same is known of a thread.
-fn is_same_thread(mine: &ThreadView, theirs: &ThreadView) -> bool
-    ensures { IsTrue result ↔ (mine.now ≡ theirs.now) }
-{
-    *mine == *theirs
 }

@@ -14,6 +14,11 @@ abbrev pub entries_at : {V : Type 0} → List ℕ → List (ℕ × V) → List (
 entries_at [] entries = []
 entries_at (place ∷ places) entries = entry_at entries place ++ entries_at places entries
 
+-- each place is that of an entry, or none
+abbrev pub AreWithin : {V : Type 0} → List ℕ → List (ℕ × V) → Type 0
+AreWithin [] entries = Unit {0}
+AreWithin (place ∷ places) entries = (place ≤ length entries) × AreWithin places entries
+
 -- the value of the first entry
 abbrev pub first_value : {V : Type 0} → List (ℕ × V) → Option V
 first_value [] = None

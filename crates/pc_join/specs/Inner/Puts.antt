@@ -1,5 +1,5 @@
 -- What is held under one name, as values are joined.
-use Rattle.std.specs.Prelude.{ℕ, ◌≡◌, Option, Some, IfSome}
+use Rattle.std.specs.Prelude.{ℕ, ◌≡◌, Option, Some, IfSome, Result, IsOk, OnOk}
 use Rattle.pc_join.specs.Sets.{Members, Source, IsBetween, IsUnion, IsVoid, IsWithin}
 use Rattle.pc_join.specs.ByName.{known_in}
 
@@ -18,6 +18,16 @@ pub record IsPut {V : Type 0} (known : V → Members) (is_of : V → Source → 
 -- all of the other was joined to what was held under one name
 abbrev pub IsWholeAt : {V : Type 0} → (V → Members) → Option V → Option V → Option V → Type 0
 IsWholeAt known old other new = IsUnion (known_in known old) (known_in known other) (known_in known new)
+
+-- a value that is not empty was joined to what is held under the name, all of it where the call succeeds; where all of it
+-- was known there, the same is held and the call succeeds
+pub record IsPieceJoined {V A E : Type 0} (known : V → Members) (is_of : V → Source → Type 0)
+    (old : ℕ → Option V) (name : ℕ) (value : V) (new : ℕ → Option V) (result : Result A E) : Type 0 where
+  pub put : IsPut known is_of old name value new
+  pub whole : OnOk result (IsWholeAt known (old name) (Some value) (new name))
+  pub kept : IsWithin (known value) (known_in known (old name)) → new name ≡ old name
+  pub succeeds : IsWithin (known value) (known_in known (old name)) → IsOk result
+  pub not_empty : ¬ IsVoid (known value)
 
 -- no value is empty, as what is held under each name
 abbrev pub HasNoVoid : {V : Type 0} → (V → Members) → (ℕ → Option V) → Type 0
