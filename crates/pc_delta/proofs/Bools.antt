@@ -1,7 +1,6 @@
 -- Or, and what follows from it.
-use Rattle.std.proofs.Common.{◌≡◌, ◌||◌, ◌&&◌, ◌⊎◌, Bool, true, false, refl, inl, inr}
+use Rattle.std.proofs.Common.{◌≡◌, ◌||◌, ◌&&◌, Bool, true, false, refl}
 use Rattle.std.proofs.lemmas.Bool.{false≢true}
-use Rattle.pc_messages.proofs.Bools.{both, or_cases, or_left, or_none, or_right}
 
 pub or_other : (a b : Bool) → a ≡ false → (a || b) ≡ true → b ≡ true
 or_other true b e h = absurd (cc)

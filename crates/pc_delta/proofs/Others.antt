@@ -1,5 +1,5 @@
 -- Threads that parts do not tell of stay as they were.
-use Rattle.std.proofs.Common.{ℕ, ◌+◌, ◌<◌, ◌≤◌, ◌==◌, ◌≡◌, ◌≢◌, ◌||◌, Bool, true, false, List, [], ◌∷◌, ◌++◌, length, drop, get_or, refl, sym, ap, ◌∙◌, subst, inl, inr}
+use Rattle.std.proofs.Common.{ℕ, ◌+◌, ◌<◌, ◌==◌, ◌≡◌, ◌≢◌, ◌||◌, Bool, true, false, List, [], ◌∷◌, ◌++◌, length, drop, get_or, refl, sym, ◌∙◌, subst, inl, inr}
 use Rattle.std.proofs.lemmas.Bool.{false≢true}
 use Rattle.std.proofs.lemmas.Bool.Decides.{eqb_tells}
 use Rattle.std.proofs.lemmas.List.Folds.{list_any-append}
@@ -9,7 +9,7 @@ use Rattle.pc_view.specs.Views.{thread_of}
 use Rattle.pc_delta.specs.declared.part.Part.{Part}
 use Rattle.pc_delta.specs.Parts.{all_parts, tells_of, thread_of_part}
 use Rattle.pc_delta.specs.Exchange.{KeepsOthers}
-use Rattle.pc_delta.proofs.Lists.{left_item, none_left}
+use Rattle.pc_delta.proofs.Lists.{left_item}
 
 neither : (a b : Bool) → (a || b) ≡ false → (a ≡ false) × (b ≡ false)
 neither true b e = absurd (false≢true (sym e))

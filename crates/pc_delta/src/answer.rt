@@ -1,9 +1,10 @@
 //! Deltas that answer an asker.
 
-ghost use Rattle.std.specs.Prelude.{ℕ, ◌≡◌, ◌<◌, ◌≤◌, true, List, [], ◌∷◌, ◌++◌, None, Some, All, IfOk, OnOk, MatchOption, IsTrue, IsFalse, option_copied};
+ghost use Rattle.std.specs.Prelude.{ℕ, ◌≡◌, ◌<◌, ◌≤◌, true, List, [], ◌∷◌, ◌++◌, None, Some, Option, All, IfOk, OnOk, MatchOption, IsTrue, IsFalse, option_copied};
 ghost use Rattle.pc_join.specs.ByName.{AscendFrom, known_in};
 ghost use Rattle.pc_thread_view.specs.Told.{tells};
 ghost use Rattle.pc_view.specs.Views.{pairs_of};
+ghost use Rattle.pc_delta.specs.declared.part.Part.{Part};
 ghost use Rattle.pc_delta.specs.Faults.{first_fault};
 ghost use Rattle.pc_delta.specs.Exchange.{IsAnswer, IsAnswerTo};
 ghost use Rattle.pc_delta.specs.Inner.Answering.{IsUsefulOf, IsLacking, IsOneOf, KnowsPrefix, TellsAll, TellsPrefix, listed};
@@ -12,7 +13,7 @@ use crate::delta::Delta;
 use crate::digest::Digest;
 use crate::known::{Asker, Known};
 use crate::part::Part;
-use pc_join::OutOfMemory;
+use pc_join::{OutOfMemory, TwoWalks};
 use pc_messages::{Kind, Message, Tid};
 use pc_thread_view::ThreadView;
 use pc_view::View;
@@ -42,7 +43,11 @@ fn lacking_parts<A: Asker>(alloc: Global, view: &View, asker: &A) -> Result<Vec<
     ensures answer { IfOk result (λ parts. IsAnswerTo view.now (A.members asker.now) parts.items) }
 {
     let mut parts = Vec::new(alloc);
-    for (thread, held) in view.iter() {
+    let TwoWalks { near, far } = view.walks();
+    'near: for (thread, held) in near {
+        add_thread(&mut parts, thread, held, asker.of_thread(thread))?;
+    }
+    'far: for (thread, held) in far {
         add_thread(&mut parts, thread, held, asker.of_thread(thread))?;
     }
     Ok(parts)
@@ -56,7 +61,8 @@ fn has_all<K: Known>(held: &ThreadView, known: Option<&K>) -> bool
     held.early().is_empty() && !lacks(known, held.upto())
 }
 
-/// Adds what is not known of a thread.
+/// Adds what is not known of a thread. Mostly that is nothing, or its first messages alone: both stand where threads are walked.
+#[inline(always)]
 fn add_thread<K: Known>(
     parts: &mut Vec<Part>,
     thread: Tid,
@@ -71,12 +77,28 @@ fn add_thread<K: Known>(
     }
     append(parts, folded_part(thread, held, known))?;
     for entry in held.early() {
-        append(parts, early_part(thread, *entry, known))?;
+        add_early(parts, thread, *entry, known)?;
     }
     Ok(())
 }
 
+/// Adds an early message, where it is not known.
+#[inline(never)]
+fn add_early<K: Known>(
+    parts: &mut Vec<Part>,
+    thread: Tid,
+    entry: (u32, Kind),
+    known: Option<&K>,
+) -> Result<(), OutOfMemory>
+    ensures { OnOk result ((part : Option Part) × (parts.new.items ≡ parts.old.items ++ listed part)
+        × MatchOption part (known_in K.known (option_copied known.entry) (entry.0 ∷ []) ≡ true)
+        (IsOneOf thread entry (known_in K.known (option_copied known.entry)))) }
+{
+    append(parts, early_part(thread, entry, known))
+}
+
 /// Adds an item, where there is one.
+#[inline(always)]
 fn append<T: Copy>(items: &mut Vec<T>, item: Option<T>) -> Result<(), OutOfMemory>
     ensures { OnOk result (items.new.items ≡ items.old.items ++ listed item) }
 {
@@ -103,6 +125,7 @@ fn early_part<K: Known>(thread: Tid, entry: (u32, Kind), known: Option<&K>) -> O
 }
 
 /// The part that tells a thread's first messages, where one of them is not known.
+#[inline(always)]
 fn folded_part<K: Known>(thread: Tid, held: &ThreadView, known: Option<&K>) -> Option<Part>
     ensures { MatchOption result (KnowsPrefix (known_in K.known (option_copied known.entry)) held.now.upto)
         (λ part. IsUsefulOf thread held.now (known_in K.known (option_copied known.entry)) part × TellsPrefix thread held.now.upto part) }

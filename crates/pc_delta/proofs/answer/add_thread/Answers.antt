@@ -9,8 +9,10 @@ loop-entry-init g c = tell_start c.args.thread c.args.held.now (known_in g.K.Kno
     c.folded_part.result c.append.new.items.items c.early-entry-items.ensures.sound c.early-entry-items.ensures.value c.folded_part.ensures c.in_ok-append.ensures
 
 pub loop-entry-preserved : goal.loop-entry-preserved
-loop-entry-preserved g c = tell_on c.args.thread c.args.held.now (known_in g.K.Known.known (option_copied c.args.known)) c.args.parts.now.items c.early-entry-items.result.now
-    c.loop-entry.entry-index c.entry-item.result c.loop-entry.parts.items c.append-in-loop-entry.new.items.items c.early_part.result c.entry-item.is c.loop-entry-test.true c.loop-entry.invariant c.early_part.ensures c.in_ok-append-2.ensures
+loop-entry-preserved g c =
+    let added = c.in_ok-add_early.ensures in
+    tell_on c.args.thread c.args.held.now (known_in g.K.Known.known (option_copied c.args.known)) c.args.parts.now.items c.early-entry-items.result.now
+    c.loop-entry.entry-index c.entry-item.result c.loop-entry.parts.items c.add_early.new.parts.items added.0 c.entry-item.is c.loop-entry-test.true c.loop-entry.invariant added.2 added.1
 
 pub returns-then-has_all : goal.returns-then-has_all
 returns-then-has_all g c = ([], sym (append-nil c.args.parts.now.items), tells_none c.args.thread c.args.held.now (known_in g.K.Known.known (option_copied c.args.known)) (c.has_all.ensures c.if-has_all.true))
