@@ -47,6 +47,7 @@ enum Verb {
 }
 
 /// The verb that this word is.
+#[inline(always)]
 fn verb_of(word: &[u8]) -> Option<Verb>
     ensures { MatchOption result ((any : Verb) → word.now ≡ name_of any → ⊥) (λ verb. word.now ≡ name_of verb) }
 {
@@ -102,6 +103,7 @@ macro_rules! read {
 }
 
 /// The command of this verb whose fields are the words of this text.
+#[inline(always)]
 fn read_as(verb: Verb, text: &[u8]) -> Option<Command>
     ensures { MatchOption result
         ((any : List Field) → kinds_of any ≡ kinds verb → AreInRange any → words text.now ≡ words_of any → ⊥)
@@ -140,6 +142,7 @@ fn read_as(verb: Verb, text: &[u8]) -> Option<Command>
 }
 
 /// The command that a line with this first word spells, and with the words of this text after it.
+#[inline(always)]
 pub(crate) fn command_of(name: &[u8], rest: &[u8]) -> Option<Command>
     ensures { IsReading (name.now ∷ words rest.now) result }
 {

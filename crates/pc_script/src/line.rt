@@ -37,6 +37,7 @@ pub(crate) fn has_no_reply(line: &[u8]) -> bool
 
 /// What this line of a script asks for. It takes no memory. `version 2` is no command, so it is `Stop` here: who runs a whole
 /// script looks for it first.
+#[inline(always)]
 pub fn asked(line: &[u8]) -> Wish
     ensures { IsAsked line.now result }
 {
@@ -53,6 +54,7 @@ pub fn asked(line: &[u8]) -> Wish
 }
 
 /// Has the machine answer a command, and writes the response.
+#[inline(always)]
 fn answer<M: Machine, W: Write>(
     machine: &mut M,
     command: Command,
@@ -77,6 +79,7 @@ fn answer<M: Machine, W: Write>(
 }
 
 /// Has the machine take what a line asks for, and writes the response. Answers false where the line is a fault.
+#[inline(always)]
 pub(crate) fn take_line<M: Machine, W: Write>(
     line: &[u8],
     machine: &mut M,

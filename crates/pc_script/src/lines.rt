@@ -36,6 +36,7 @@ impl<'a> Iterator for Lines<'a> {
 }
 
 /// The first line of a text, and the text after it.
+#[inline(always)]
 pub(crate) fn first_line(text: &[u8]) -> (&[u8], Option<&[u8]>)
     ensures { lines text.now ≡ result.0.now ∷ lines_of_rest result.1 }
 {
