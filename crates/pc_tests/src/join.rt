@@ -310,6 +310,27 @@ fn walked(alloc: Global, names: &ByName<Upto>) -> Result<Vec<(Tid, u32)>, OutOfM
     Ok(walked)
 }
 
+/// How many of the names are walked in the first part, and all of them.
+fn walked_in_two(
+    alloc: Global,
+    names: &ByName<Upto>,
+) -> Result<(usize, Vec<(Tid, u32)>), OutOfMemory> {
+    let mut walked = Vec::new(alloc);
+    let walks = names.walks();
+    for (name, value) in walks.near {
+        walked.push((name, value.get()))?;
+    }
+    let near = walked.len();
+    for (name, value) in walks.far {
+        walked.push((name, value.get()))?;
+    }
+    Ok((near, walked))
+}
+
+fn are_equal(first: &ByName<Upto>, other: &ByName<Upto>) -> bool {
+    first == other
+}
+
 fn known_of(names: &ByName<Upto>, name: u32) -> Option<u32> {
     names.get(Tid(name)).map(|value| value.get())
 }
@@ -325,6 +346,52 @@ fn names_are_walked_in_order(rt: HostRuntime) -> Result<(), Fail> {
         walked(rt.alloc(), &names)?.as_slice(),
         [(Tid(2), 4), (Tid(5), 3), (Tid(9), 1)].as_slice()
     );
+    Ok(())
+}
+
+#[test]
+fn near_names_are_walked_before_the_others(rt: HostRuntime) -> Result<(), Fail> {
+    let names = known(
+        rt.alloc(),
+        &[(65_536, 3), (9, 1), (1_000_000, 4), (65_535, 2)],
+    )?;
+    let (near, all) = walked_in_two(rt.alloc(), &names)?;
+    assert_eq!(rt; near, 2);
+    assert_eq!(rt;
+        all.as_slice(),
+        [
+            (Tid(9), 1),
+            (Tid(65_535), 2),
+            (Tid(65_536), 3),
+            (Tid(1_000_000), 4),
+        ]
+        .as_slice()
+    );
+    Ok(())
+}
+
+/// Names with values, others with values, and whether they are equal.
+const EQUAL: [(&[(u32, u32)], &[(u32, u32)], bool); 11] = [
+    (&[], &[], true),
+    (&[(3, 1), (5, 2)], &[(5, 2), (3, 1)], true),
+    (&[(3, 1)], &[(3, 2)], false),
+    (&[(3, 1)], &[(4, 1)], false),
+    (&[(3, 1)], &[(3, 1), (9, 1)], false),
+    (&[(3, 1), (9, 1)], &[(3, 1)], false),
+    (&[(3, 1), (70_000, 1)], &[(70_000, 1), (3, 1)], true),
+    (&[(70_000, 1)], &[(70_000, 2)], false),
+    (&[(70_000, 1)], &[(70_001, 1)], false),
+    (&[(3, 1)], &[(3, 1), (70_000, 1)], false),
+    (&[(3, 1), (70_000, 1)], &[(3, 1)], false),
+];
+
+#[test]
+fn names_are_equal_where_they_hold_the_same(rt: HostRuntime) -> Result<(), Fail> {
+    for (place, (first, other, wanted)) in EQUAL.iter().enumerate() {
+        let names = known(rt.alloc(), first)?;
+        let others = known(rt.alloc(), other)?;
+        assert!(rt; are_equal(&names, &others) == *wanted, "row {place}");
+    }
     Ok(())
 }
 

@@ -1,5 +1,5 @@
 use pc_messages::{Cpu, Item, Kind, Mask, Message, Tid};
-use pc_queue::{CpuQueue, QueueFault, TooMany};
+use pc_queue::{CpuQueue, ItemQueue, QueueFault, TooMany};
 use std::alloc::Global;
 use std::test::Fail;
 
@@ -69,6 +69,47 @@ fn first_wrong(alloc: Global, room: u32, posts: u32, steps: &[Step<'_>]) -> Opti
     let mut queue = CpuQueue::new(alloc, room, posts);
     for (place, step) in steps.iter().enumerate() {
         if !holds(&mut queue, step) {
+            return Some(place);
+        }
+    }
+    None
+}
+
+// The same of a queue without counts.
+fn items_peeked(queue: &ItemQueue, count: u32, wanted: &[Item]) -> bool {
+    match queue.peek(count) {
+        Ok(items) => items.as_slice() == wanted,
+        Err(_) => false,
+    }
+}
+
+fn tells_items(queue: &ItemQueue, step: &Step<'_>) -> bool {
+    match *step {
+        Step::Peeks(count, wanted) => items_peeked(queue, count, wanted),
+        Step::Empty(wanted) => queue.is_empty() == wanted,
+        Step::Refuses(wanted) => queue.refusal() == wanted,
+        Step::Holds(wanted) => queue.len() == wanted,
+        Step::Posted(wanted) => queue.aseq() == wanted,
+        Step::Posts(..) | Step::Consumes(..) => false,
+        Step::HeldThreads(_) | Step::Held(_) | Step::Pending(..) => false,
+    }
+}
+
+fn holds_items(queue: &mut ItemQueue, step: &Step<'_>) -> bool {
+    match *step {
+        Step::Posts(item, wanted) => queue.post(item) == wanted,
+        Step::Consumes(count, wanted) => queue.consume(count) == wanted,
+        _ => tells_items(queue, step),
+    }
+}
+
+fn first_wrong_of_items(alloc: Global, room: u32, posts: u32, steps: &[Step<'_>]) -> Option<usize> {
+    if room < 1 || posts < 1 {
+        return Some(0);
+    }
+    let mut queue = ItemQueue::new(alloc, room, posts);
+    for (place, step) in steps.iter().enumerate() {
+        if !holds_items(&mut queue, step) {
             return Some(place);
         }
     }
@@ -147,5 +188,62 @@ fn several_of_one_thread_and_a_full_queue_whose_posts_are_spent(
     for (room, posts, steps) in [(4, 4, several.as_slice()), (1, 1, full.as_slice())] {
         assert_eq!(rt; first_wrong(rt.alloc(), room, posts, steps), None);
     }
+    Ok(())
+}
+
+// A queue without counts, of room for two items and three posts in all.
+#[test]
+fn room_and_posts_without_counts(rt: HostRuntime) -> Result<(), Fail> {
+    let both = [first_message()?, TICK];
+    let one = [first_message()?];
+    let steps = [
+        Step::Empty(true),
+        Step::Refuses(None),
+        Step::Posts(first_message()?, TAKEN),
+        Step::Posts(TICK, TAKEN),
+        Step::Empty(false),
+        Step::Holds(2),
+        Step::Refuses(Some(QueueFault::QueueFull)),
+        Step::Posts(TICK, FULL),
+        Step::Peeks(5, &both),
+        Step::Peeks(1, &one),
+        Step::Consumes(3, Err(TooMany)),
+        Step::Consumes(0, Ok(())),
+        Step::Consumes(1, Ok(())),
+        Step::Peeks(5, &[TICK]),
+        Step::Posts(TICK, TAKEN),
+        Step::Posted(3),
+        Step::Consumes(2, Ok(())),
+        Step::Empty(true),
+        Step::Holds(0),
+        Step::Refuses(Some(QueueFault::PostsSpent)),
+        Step::Posts(TICK, SPENT),
+        Step::Posted(3),
+    ];
+    assert_eq!(rt; first_wrong_of_items(rt.alloc(), 2, 3, &steps), None);
+    Ok(())
+}
+
+// Items are removed across the end of the ring.
+#[test]
+fn items_round_the_ring(rt: HostRuntime) -> Result<(), Fail> {
+    const OTHER: Item = Item::Tick(Cpu(1));
+    let mixed = [TICK, OTHER, OTHER, TICK];
+    let rest = [OTHER, TICK];
+    let steps = [
+        Step::Posts(OTHER, TAKEN),
+        Step::Posts(OTHER, TAKEN),
+        Step::Posts(OTHER, TAKEN),
+        Step::Posts(TICK, TAKEN),
+        Step::Consumes(3, Ok(())),
+        Step::Posts(OTHER, TAKEN),
+        Step::Posts(OTHER, TAKEN),
+        Step::Posts(TICK, TAKEN),
+        Step::Peeks(9, &mixed),
+        Step::Consumes(2, Ok(())),
+        Step::Peeks(9, &rest),
+        Step::Posted(7),
+    ];
+    assert_eq!(rt; first_wrong_of_items(rt.alloc(), 4, 9, &steps), None);
     Ok(())
 }

@@ -2,9 +2,9 @@
 
 ghost use Rattle.std.specs.Prelude.{◌≡◌};
 
-use pc_join::{Join, OutOfMemory};
+use pc_join::{ByName, Join, OutOfMemory};
 use pc_messages::{Kind, Level, Mask, Message, Phase, Reported, Tid};
-use pc_thread_view::ThreadView;
+use pc_thread_view::{FoldedPrefix, OneMessage, ThreadView};
 use std::alloc::Global;
 use std::process::Abort;
 use std::test::Fail;
@@ -350,4 +350,116 @@ fn a_far_message_waits_while_gaps_close(rt: HostRuntime) -> Result<(), Fail> {
     let mut view = with_a_far_message(rt.alloc())?;
     assert_eq!(rt; first_open(&mut view)?, None);
     each_holds(&rt, rt.alloc(), view, &[Step::Has(9_000, true)])
+}
+
+/// What is put under a thread's name as a piece, or told of the thread.
+#[derive(Clone, Copy)]
+enum Put<'a> {
+    One(u32, u32, Kind),
+    /// The four messages as a prefix.
+    Four(u32),
+    Tells(u32, u32, &'a [u32]),
+    /// The first early message of the thread.
+    Begins(u32, u32, Kind),
+    /// The ticks that its first messages report.
+    Ran(u32, u64),
+}
+
+fn puts_one(
+    threads: &mut ByName<ThreadView>,
+    thread: u32,
+    number: u32,
+    kind: Kind,
+) -> Result<(), Fail> {
+    let message = Message {
+        thread: Tid(thread),
+        number,
+        kind,
+    };
+    if !message.is_well_formed() {
+        return Err("not well formed".into());
+    }
+    let one = OneMessage {
+        number: message.number,
+        kind: message.kind,
+    };
+    threads.put_piece(message.thread, one)?;
+    Ok(())
+}
+
+fn puts_four(threads: &mut ByName<ThreadView>, thread: u32) -> Result<(), Fail> {
+    let reported = state(Mask::new(3, 2)?);
+    threads.put_piece(Tid(thread), FoldedPrefix { upto: 4, reported })?;
+    Ok(())
+}
+
+fn tells_thread(threads: &ByName<ThreadView>, thread: u32, upto: u32, early: &[u32]) -> bool {
+    match threads.get(Tid(thread)) {
+        Some(view) => tells(view, upto, early),
+        None => false,
+    }
+}
+
+fn begins_with(threads: &ByName<ThreadView>, thread: u32, number: u32, kind: Kind) -> bool {
+    match threads.get(Tid(thread)) {
+        Some(view) => first_early(view) == Some((number, kind)),
+        None => false,
+    }
+}
+
+fn has_run(threads: &ByName<ThreadView>, thread: u32, ran: u64) -> bool {
+    match threads.get(Tid(thread)) {
+        Some(view) => view.reported().map(|reported| reported.ran) == Some(ran),
+        None => false,
+    }
+}
+
+fn put_holds(threads: &mut ByName<ThreadView>, step: &Put<'_>) -> Result<bool, Fail> {
+    match *step {
+        Put::One(thread, number, kind) => puts_one(threads, thread, number, kind)?,
+        Put::Four(thread) => puts_four(threads, thread)?,
+        Put::Tells(thread, upto, early) => return Ok(tells_thread(threads, thread, upto, early)),
+        Put::Begins(thread, number, kind) => {
+            return Ok(begins_with(threads, thread, number, kind));
+        }
+        Put::Ran(thread, ran) => return Ok(has_run(threads, thread, ran)),
+    }
+    Ok(true)
+}
+
+// A known message changes nothing, a prefix takes along what follows it, and one that is known changes nothing.
+#[test]
+fn pieces_are_joined_under_near_and_far_names(rt: HostRuntime) -> Result<(), Fail> {
+    let mask = Mask::new(3, 2)?;
+    let steps = [
+        Put::One(2, 3, Kind::Wakeup),
+        Put::One(2, 6, Kind::Wakeup),
+        Put::One(70_000, 1, Kind::Created { mask, ready: true }),
+        Put::One(70_000, 5, Kind::Wakeup),
+        Put::Tells(2, 0, &[3, 6]),
+        Put::Tells(70_000, 1, &[5]),
+        Put::One(2, 3, Kind::Yield { ran: 1 }),
+        Put::Tells(2, 0, &[3, 6]),
+        Put::Begins(2, 3, Kind::Wakeup),
+        Put::Four(70_000),
+        Put::Four(2),
+        Put::Four(9),
+        Put::Tells(70_000, 5, &[]),
+        Put::Tells(2, 4, &[6]),
+        Put::Tells(9, 4, &[]),
+        Put::Ran(9, 2),
+        Put::Ran(70_000, 2),
+        Put::One(9, 5, Kind::Yield { ran: 7 }),
+        Put::Ran(9, 9),
+        Put::Four(9),
+        Put::Ran(9, 9),
+        Put::Four(70_000),
+        Put::One(70_000, 5, Kind::Wakeup),
+        Put::Tells(70_000, 5, &[]),
+    ];
+    let mut threads = ByName::new(rt.alloc());
+    for (place, step) in steps.iter().enumerate() {
+        assert!(rt; put_holds(&mut threads, step)?, "step {place}");
+    }
+    Ok(())
 }

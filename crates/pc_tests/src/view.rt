@@ -447,6 +447,32 @@ fn walked(alloc: Global, view: &View) -> Result<Vec<(Tid, u32)>, OutOfMemory> {
     Ok(walked)
 }
 
+/// The names of the two walks.
+fn walked_in_two(alloc: Global, view: &View) -> Result<(Vec<Tid>, Vec<Tid>), OutOfMemory> {
+    let mut near = Vec::new(alloc);
+    let mut behind = Vec::new(alloc);
+    let walks = view.walks();
+    for (name, _) in walks.near {
+        near.push(name)?;
+    }
+    for (name, _) in walks.far {
+        behind.push(name)?;
+    }
+    Ok((near, behind))
+}
+
+#[test]
+fn threads_of_near_names_are_walked_before_the_others(rt: HostRuntime) -> Result<(), Fail> {
+    let mask = Mask::new(3, 2)?;
+    let created = Kind::Created { mask, ready: false };
+    let far = view_of(rt.alloc(), 70_000, 1, created)?;
+    let view = join_both(&two_threads(rt.alloc(), mask)?, &far)?;
+    let (near, behind) = walked_in_two(rt.alloc(), &view)?;
+    assert_eq!(rt; near.as_slice(), [Tid(0), Tid(2)].as_slice());
+    assert_eq!(rt; behind.as_slice(), [Tid(70_000)].as_slice());
+    Ok(())
+}
+
 #[test]
 fn threads_are_walked_in_order(rt: HostRuntime) -> Result<(), Fail> {
     let view = two_threads(rt.alloc(), Mask::new(3, 2)?)?;
