@@ -115,6 +115,7 @@ fn join_piece_at<V: Join, P: Piece<V>>(
 }
 
 /// Makes the index reach the name, and those just behind it, which mostly come next.
+#[inline(always)]
 fn reach(places: &mut Vec<u32>, name: u32) -> Result<(), OutOfMemory>
     requires near { length places.old.items ≤ NEAR }
     requires name { name < NEAR }
@@ -122,14 +123,15 @@ fn reach(places: &mut Vec<u32>, name: u32) -> Result<(), OutOfMemory>
     ensures near { length places.new.items ≤ NEAR }
     ensures reached { OnOk result (name < length places.new.items) }
 {
-    let wanted = (name as usize / STEP + 1) * STEP;
-    if places.len() < wanted {
-        places.resize(wanted, 0)?;
+    if (name as usize) < places.len() {
+        return Ok(());
     }
+    places.resize((name as usize / STEP + 1) * STEP, 0)?;
     Ok(())
 }
 
-/// Puts a value under a name that has no place yet.
+/// Puts a value under a name that has no place yet. The room comes first, so that the entry is made where it stays.
+#[inline(always)]
 fn start_at<V: Join>(
     places: &mut Vec<u32>,
     entries: &mut Vec<(u32, V)>,
@@ -151,7 +153,8 @@ fn start_at<V: Join>(
         return Err(OutOfMemory);
     }
     reach(places, name)?;
-    entries.push((name, value))?;
+    entries.reserve(1)?;
+    entries.push_reserved((name, value));
     places[name as usize] = entries.len() as u32;
     Ok(())
 }
