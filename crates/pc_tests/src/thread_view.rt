@@ -227,6 +227,60 @@ const BATCHES: [u32; 12] = [10, 11, 12, 7, 8, 9, 4, 5, 6, 2, 3, 1];
 
 const GAPS: [u32; 12] = [2, 4, 6, 8, 10, 12, 1, 3, 5, 7, 9, 11];
 
+/// The numbers from 2 to 49 in batches of eight that ascend, the last batch first.
+const LATE_BATCHES: [u32; 48] = [
+    42, 43, 44, 45, 46, 47, 48, 49, 34, 35, 36, 37, 38, 39, 40, 41, 26, 27, 28, 29, 30, 31, 32, 33,
+    18, 19, 20, 21, 22, 23, 24, 25, 10, 11, 12, 13, 14, 15, 16, 17, 2, 3, 4, 5, 6, 7, 8, 9,
+];
+
+/// The numbers from 2 to 50 in ascending order.
+const TWO_TO_50: [u32; 49] = [
+    2, 3, 4, 5, 6, 7, 8, 9, 10, 11, 12, 13, 14, 15, 16, 17, 18, 19, 20, 21, 22, 23, 24, 25, 26, 27,
+    28, 29, 30, 31, 32, 33, 34, 35, 36, 37, 38, 39, 40, 41, 42, 43, 44, 45, 46, 47, 48, 49, 50,
+];
+
+// The view that took in the fiftieth message, and then these.
+fn late(alloc: Global, numbers: &[u32]) -> Result<ThreadView, Fail> {
+    let mut view = ThreadView::of(alloc, 50, Kind::Preempted { ran: 1 });
+    for number in numbers {
+        puts(&mut view, *number, Kind::Preempted { ran: 1 })?;
+    }
+    Ok(view)
+}
+
+// Each batch comes before those that are held, and the numbers of it stand close behind the first; what is held already, near
+// the front or not, changes nothing.
+#[test]
+fn late_batches_stand_in_ascending_order(rt: HostRuntime) -> Result<(), Fail> {
+    let view = late(rt.alloc(), &LATE_BATCHES[..40])?;
+    let steps = [
+        Step::Tells(0, &TWO_TO_50[8..]),
+        Step::Has(25, true),
+        Step::Has(26, true),
+        Step::Has(9, false),
+        Step::Has(51, false),
+    ];
+    each_holds(&rt, rt.alloc(), view, &steps)?;
+    let whole = [
+        Step::Puts(12, Kind::Preempted { ran: 1 }),
+        Step::Puts(40, Kind::Preempted { ran: 1 }),
+        Step::Has(50, true),
+        Step::Puts(
+            1,
+            Kind::Created {
+                mask: Mask::new(3, 2)?,
+                ready: true,
+            },
+        ),
+        Step::Tells(50, &[]),
+    ];
+    each_holds(&rt, rt.alloc(), late(rt.alloc(), &LATE_BATCHES)?, &whole)?;
+    let turned = late(rt.alloc(), &TWO_TO_50[..48])?;
+    let same = is_same(&turned, &late(rt.alloc(), &LATE_BATCHES)?);
+    assert!(rt; same);
+    Ok(())
+}
+
 // Takes in one of thirteen messages: Created, and then twelve that tell of one tick each.
 fn take_in(view: &mut ThreadView, number: u32) -> Result<(), Fail> {
     if number == 1 {

@@ -2,6 +2,7 @@
 use Rattle.std.proofs.Common.{ℕ, suc, zero, ◌+◌, ◌<◌, ◌≤◌, ◌≡◌, ◌==◌, ◌||◌, Bool, true, false, IsFalse, List, [], ◌∷◌, ◌++◌, length, take, drop, get_or, take-append-drop, Option, Some, None, MatchOption, is_some, not, refl, sym, ap, ◌∙◌, subst, arith, ltb, ltb-true, ltb-false}
 use Rattle.std.specs.List.{insert}
 use Rattle.std.specs.List.Sorted.{IsNonDecreasingBy, IsPartitionPoint}
+use Rattle.std.proofs.lemmas.List.{take-append-le, drop-append-le, length-append}
 use Rattle.std.proofs.lemmas.Bool.{false≢true}
 use Rattle.std.proofs.lemmas.Bool.Decides.{nat_tests}
 use Rattle.std.proofs.lemmas.List.Folds.{list_any-append}
@@ -38,7 +39,7 @@ below_take number (x ∷ xs) (suc p) le h = (
   below_take number xs p (omega arith) (λ k d lt. h (suc k) d (omega arith)),
 )
 
-rise_drop : (n : ℕ) (xs : List (ℕ × Kind)) (p : ℕ) → RiseAbove n xs → RiseAbove n (drop p xs)
+pub rise_drop : (n : ℕ) (xs : List (ℕ × Kind)) (p : ℕ) → RiseAbove n xs → RiseAbove n (drop p xs)
 rise_drop n [] zero h = tt
 rise_drop n [] (suc p) h = tt
 rise_drop n (x ∷ xs) zero h = h
@@ -168,3 +169,24 @@ module _ (upto : ℕ) (state : Option Reported) (early : List (ℕ × Kind)) (nu
       early = each_insert s (take p early) (drop p early) (number, kind) (subst (HasEach s) (sym joined) a.early) g;
     };
   }
+
+-- the first of the messages, where the others come after the number
+pub rise_take : (n : ℕ) (front rest : List (ℕ × Kind)) → RiseAbove n (front ++ rest) → RiseAbove n front
+rise_take n [] rest h = tt
+rise_take n (x ∷ front) rest h = (h.0, rise_take x.0 front rest h.1)
+
+rise_more : (number n : ℕ) (front rest : List (ℕ × Kind)) → RiseAbove n (front ++ rest) → RiseAbove number front → RiseAbove number rest → RiseAbove number (front ++ rest)
+rise_more number n [] rest up h k = k
+rise_more number n (x ∷ front) rest up h k = (h.0, up.1)
+
+place_more : (front rest : List (ℕ × Kind)) (number p : ℕ) → RiseAbove 0 (front ++ rest) → RiseAbove number rest → IsPlace front number p → IsPlace (front ++ rest) number p
+place_more front rest number p up k h = record {
+  fits = omega (arith, h.fits, length-append front rest);
+  before = subst (AreBelow number) (sym (take-append-le p front rest h.fits)) h.before;
+  after = subst (RiseAbove number) (sym (drop-append-le p front rest h.fits))
+      (rise_more number 0 (drop p front) rest (subst (RiseAbove 0) (drop-append-le p front rest h.fits) (rise_drop 0 (front ++ rest) p up)) h.after k);
+}
+
+pub among_first : (early front rest : List (ℕ × Kind)) (number : ℕ) (r : Option ℕ) → early ≡ front ++ rest → RiseAbove 0 early → RiseAbove number rest → MatchOption r (is_early front number ≡ true) (IsPlace front number) → MatchOption r (is_early early number ≡ true) (IsPlace early number)
+among_first early front rest number None e up k h = ap (λ es. is_early es number) e ∙ list_any-append (λ x. x.0 == number) front rest ∙ ap (λ b. b || is_early rest number) h
+among_first early front rest number (Some p) e up k h = subst (λ es. IsPlace es number p) (sym e) (place_more front rest number p (subst (RiseAbove 0) e up) k h)

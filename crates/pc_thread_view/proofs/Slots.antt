@@ -1,9 +1,9 @@
 -- Slots in front of a list.
-use Rattle.std.proofs.Common.{ℕ, suc, zero, ◌+◌, ◌-◌, ◌≤◌, ◌≡◌, List, [], ◌∷◌, ◌++◌, length, take, drop, set, refl, sym, ap, ◌∙◌, subst, arith}
+use Rattle.std.proofs.Common.{ℕ, suc, zero, ◌+◌, ◌-◌, ◌≤◌, ◌<◌, ◌≡◌, List, [], ◌∷◌, ◌++◌, length, take, drop, set, get_or, refl, sym, ap, ◌∙◌, subst, arith}
 use Rattle.std.specs.List.{insert, copy_within}
-use Rattle.std.proofs.lemmas.List.{drop-drop, set_split, length-take-le, length-drop, append_assoc}
+use Rattle.std.proofs.lemmas.List.{drop-drop, set_split, length-take-le, length-drop, length-append, take-append-le, drop-append-le, append_assoc}
 use Rattle.std.proofs.lemmas.List.Edits.{take-paste, drop-paste, length-paste}
-use Rattle.std.proofs.Math.Seq.{paste, drop-append_seam}
+use Rattle.std.proofs.Math.Seq.{paste, drop-append_seam, take-append_seam, take-length, get_or-append_seam}
 
 pub drop_one : {X : Type 0} (n : ℕ) (xs : List X) → drop (n + 1) xs ≡ drop 1 (drop n xs)
 drop_one n xs = sym (drop-drop 1 n xs)
@@ -50,3 +50,42 @@ module _ {X : Type 0} (front place : ℕ) (xs : List X) (x : X) (h : front + 1 +
     where
       many : (a b : ℕ) → a + 1 + b - (a + 1) ≡ b
       many a b = omega arith
+
+-- one more message at its place, and the later ones one slot up
+more_than : (n : ℕ) → suc n ≡ n + 1
+more_than n = omega arith
+
+left_of : {X : Type 0} (n last : ℕ) (xs : List X) → last ≡ length xs → last - n ≡ length (drop n xs)
+left_of n last xs e = omega (arith, e, length-drop n xs)
+
+fewer : {X : Type 0} (n : ℕ) (all : List X) → take n (take (suc n) all) ≡ take n all
+fewer zero all = refl
+fewer (suc n) [] = refl
+fewer (suc n) (y ∷ all) = ap (λ l. y ∷ l) (fewer n all)
+
+pub raised : {X : Type 0} (n last : ℕ) (xs : List X) (y x : X) → n ≤ length xs → last ≡ length xs → set (copy_within (xs ++ y ∷ []) n last (n + 1)) n x ≡ insert xs n x
+raised n last xs y x h e =
+    let all = xs ++ y ∷ [] in
+    let k = last - n in
+    let p = paste all (n + 1) (drop n all) k in
+    let len : length all ≡ length xs + 1 = length-append xs (y ∷ []) in
+    let high : drop n all ≡ drop n xs ++ y ∷ [] = drop-append-le n xs (y ∷ []) h in
+    let whole : p ≡ take (n + 1) all ++ take k (drop n all) =
+    sym (subst (λ m. take m p ≡ p) (omega (arith, e, len, length-paste all (n + 1) (drop n all) k (omega (arith, e, len)) (omega (arith, e, len, length-drop n all)))) (take-length p))
+    ∙ take-paste all (n + 1) (drop n all) k (omega (arith, len)) (omega (arith, e, len, length-drop n all)) in
+    let front : take n p ≡ take n xs = ap (take n) whole ∙ take-append-le n (take (n + 1) all) (take k (drop n all)) (omega (arith, len, length-take-le (n + 1) all (omega (arith, len)))) ∙ ap (λ m. take n (take m all)) (sym (more_than n)) ∙ fewer n all ∙ take-append-le n xs (y ∷ []) h in
+    let behind : drop (suc n) p ≡ drop n xs =
+    ap (λ m. drop m p) (more_than n) ∙ ap (drop (n + 1)) whole ∙ seam (n + 1) all (take k (drop n all)) (omega (arith, len))
+    ∙ ap (take k) high ∙ ap (λ m. take m (drop n xs ++ y ∷ [])) (left_of n last xs e) ∙ take-append_seam (drop n xs) (y ∷ []) in
+    set_split p n x (omega (arith, e, len, length-paste all (n + 1) (drop n all) k (omega (arith, e, len)) (omega (arith, e, len, length-drop n all)))) ∙ (λ i. front i ++ x ∷ behind i)
+
+pub written : {X : Type 0} (n : ℕ) (new old : List X) → length new ≡ length old → n ≡ length old → take n (new ++ drop (length new) old) ≡ new
+written n new old e f = ap (λ m. take m (new ++ drop (length new) old)) (f ∙ sym e) ∙ take-append_seam new (drop (length new) old)
+
+-- the last one at its place
+pub raised_last : {X : Type 0} (n last : ℕ) (old others : List X) (y x : X) → old ≡ others ++ y ∷ [] → last ≡ length old - 1 → n < length old → x ≡ get_or old last x → set (copy_within old n last (n + 1)) n x ≡ insert others n y
+raised_last n last old others y x e l h i =
+    let len : length old ≡ length others + 1 = ap length e ∙ length-append others (y ∷ []) in
+    let at : last ≡ length others = omega (arith, len, l) in
+    let same : x ≡ y = i ∙ (λ j. get_or (e j) (at j) x) ∙ get_or-append_seam others y [] x in
+    ap (λ xs. set (copy_within xs n last (n + 1)) n x) e ∙ raised n last others y x (omega (arith, len, h)) at ∙ ap (insert others n) same

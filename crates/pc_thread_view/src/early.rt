@@ -3,7 +3,7 @@
 //! Messages may arrive in ascending or in descending order, and the first ones leave the list when the prefix
 //! reaches them. None of that moves the others: unused slots stand in front of the list.
 
-ghost use Rattle.std.specs.Prelude.{◌+◌, ◌≡◌, ◌≤◌, ◌<◌, [], ◌∷◌, ◌++◌, length, drop, insert, IsOk, IfOk, OnOk, OnErr};
+ghost use Rattle.std.specs.Prelude.{◌+◌, ◌≡◌, ◌≤◌, ◌<◌, List, [], ◌∷◌, ◌++◌, length, drop, insert, IsOk, IfOk, OnOk, OnErr};
 ghost use Rattle.pc_thread_view.specs.Inner.Early.{early_of, IsFront, HasFront};
 
 use pc_join::OutOfMemory;
@@ -24,13 +24,19 @@ pub struct Early {
     alloc: Global,
 }
 
-/// Where the messages are. The front is narrow and stands before the slots, so that it lies beside the mark of the
-/// variant and makes the list no larger.
+/// Where the messages are. More than one stand in a box, so that the others take no room for the list's header.
 #[derive(Drop)]
 enum Form {
     Empty,
     One((u32, Kind)),
-    Many { front: u32, slots: Vec<(u32, Kind)> },
+    Many(Box<Slots>),
+}
+
+/// Messages behind so many slots that are not in use.
+#[derive(Drop)]
+struct Slots {
+    front: u32,
+    slots: Vec<(u32, Kind)>,
 }
 
 impl Model for Early {
@@ -52,7 +58,7 @@ fn many(alloc: Global, list: &[(u32, Kind)]) -> Result<Form, OutOfMemory>
         return Err(OutOfMemory);
     }
     let slots = Vec::from_slice(alloc, list)?;
-    Ok(Form::Many { front: 0, slots })
+    Ok(Form::Many(Box::new(alloc, Slots { front: 0, slots })?))
 }
 
 /// Moves so many messages one slot down, into the last unused one, and writes one more behind them.
@@ -65,23 +71,38 @@ fn lower(slots: &mut [(u32, Kind)], front: usize, place: usize, entry: (u32, Kin
     slots[front + place] = entry;
 }
 
-/// Makes as many unused slots as there are messages.
+/// Puts the last message at a place, and moves those that stood from there on one slot up.
+fn raise(slots: &mut [(u32, Kind)], place: usize)
+    requires { place < length slots.old }
+    ensures len { length slots.new ≡ length slots.old }
+    ensures raised { (others : List _) (last : _) → slots.old ≡ others ++ last ∷ [] → slots.new ≡ insert others place last }
+{
+    let behind = slots.len() - 1;
+    let last = slots[behind];
+    slots.copy_within(place..behind, place + 1);
+    slots[place] = last;
+}
+
+/// Makes unused slots in front, half as many as there are messages, where the messages are if the memory behind them
+/// is free.
 fn spread(front: &mut u32, slots: &mut Vec<(u32, Kind)>) -> Result<(), OutOfMemory>
     requires none { front.old ≡ 0 }
     requires front { IsFront front.old slots.old.items }
     ensures items { drop front.new slots.new.items ≡ drop front.old slots.old.items }
     ensures front { IsFront front.new slots.new.items }
-    ensures unused { OnOk result (front.new ≡ length slots.old.items) }
+    ensures unused { OnOk result (1 ≤ length slots.old.items → 1 ≤ front.new) }
 {
     let live = slots.len();
     if live > MOST_SLOTS / 2 {
         return Err(OutOfMemory);
     }
-    let mut wide = Vec::with_capacity(*slots.allocator(), live + live)?;
-    wide.extend_from_slice(slots.as_slice())?;
-    wide.extend_from_slice(slots.as_slice())?;
-    *slots = wide;
-    *front = live as u32;
+    let Some(first) = slots.first().copied() else {
+        return Ok(());
+    };
+    let unused = live.div_ceil(2);
+    slots.resize(live + unused, first)?;
+    slots.as_mut_slice().copy_within(0..live, unused);
+    *front = unused as u32;
     Ok(())
 }
 
@@ -138,7 +159,8 @@ fn insert_behind(
     if slots.len() >= MOST_SLOTS {
         return Err(OutOfMemory);
     }
-    slots.insert(*front as usize + place, entry)?;
+    slots.push(entry)?;
+    raise(slots.as_mut_slice(), *front as usize + place);
     Ok(())
 }
 
@@ -229,7 +251,7 @@ impl Early {
         match &self.form {
             Form::Empty => &[],
             Form::One(entry) => from_ref(entry),
-            Form::Many { front, slots } => &slots[*front as usize..],
+            Form::Many(held) => &held.slots[held.front as usize..],
         }
     }
 
@@ -242,7 +264,10 @@ impl Early {
         match &mut self.form {
             Form::Empty => self.form = Form::One(entry),
             Form::One(first) => self.form = many(self.alloc, &[*first, entry])?,
-            Form::Many { front, slots } => push_behind(front, slots, entry)?,
+            Form::Many(held) => {
+                let Slots { front, slots } = &mut **held;
+                push_behind(front, slots, entry)?;
+            }
         }
         Ok(())
     }
@@ -263,7 +288,10 @@ impl Early {
                 };
                 self.form = many(self.alloc, &pair)?;
             }
-            Form::Many { front, slots } => insert_among(front, slots, place, entry)?,
+            Form::Many(held) => {
+                let Slots { front, slots } = &mut **held;
+                insert_among(front, slots, place, entry)?;
+            }
         }
         Ok(())
     }
@@ -274,7 +302,7 @@ impl Early {
         ensures { self.new.items ≡ drop 1 self.old.items }
     {
         match &mut self.form {
-            Form::Many { front, slots } if (*front as usize) + 1 < slots.len() => *front += 1,
+            Form::Many(held) if (held.front as usize) + 1 < held.slots.len() => held.front += 1,
             _ => self.form = Form::Empty,
         }
     }

@@ -1,7 +1,7 @@
 //! What a thread view holds, built up in the order of the numbers: nothing is put into a gap, and nothing is taken
 //! out again.
 
-ghost use Rattle.std.specs.Prelude.{ℕ, ◌+◌, ◌≡◌, ◌≤◌, ◌<◌, ◌↔◌, ◌==◌, ◌||◌, true, false, [], Some, None, MatchOption, IsTrue, IsFalse, IsOk, OnOk, OnErr};
+ghost use Rattle.std.specs.Prelude.{ℕ, ◌+◌, ◌≡◌, ◌≤◌, ◌<◌, ◌↔◌, ◌==◌, ◌||◌, ◌++◌, true, false, List, [], Some, None, MatchOption, IsTrue, IsFalse, IsOk, OnOk, OnErr};
 ghost use Rattle.pc_messages.specs.Run.{IsWellFormed};
 ghost use Rattle.pc_messages.specs.declared.kind.Kind.{Kind};
 ghost use Rattle.pc_join.specs.Sets.{Source};
@@ -16,6 +16,9 @@ use crate::prefix::Prefix;
 use pc_join::{OutOfMemory, next_turn};
 use pc_messages::{Kind, Reported, is_same_kind, is_same_state};
 use std::alloc::Global;
+
+/// So many messages at the front are looked at before the others.
+const FEW: usize = 16;
 
 /// A folded prefix, and messages past the first that is missing, ascending.
 #[derive(Drop)]
@@ -212,6 +215,22 @@ fn place_by_halves(early: &[(u32, Kind)], number: u32) -> Option<usize>
     Some(place)
 }
 
+/// The messages among which the number belongs: the first few, where it comes before the next of them. Late messages
+/// mostly come before those that are held, and a delta of several tells them in ascending order.
+fn front_of(early: &[(u32, Kind)], number: u32) -> &[(u32, Kind)]
+    requires { RiseAbove 0 early.now }
+    ensures { (rest : List (ℕ × Kind)) × (early.now ≡ result.now ++ rest) × RiseAbove number rest }
+{
+    if early.len() <= FEW {
+        return early;
+    }
+    let (front, behind) = early.split_at(FEW);
+    if is_before_all(behind, number) {
+        return front;
+    }
+    early
+}
+
 /// How many of the messages come before the number; nothing where one of them has it. Numbers mostly arrive in
 /// ascending or in descending order, so both ends are looked at before a search by halves.
 fn place_of(early: &[(u32, Kind)], number: u32) -> Option<usize>
@@ -224,7 +243,7 @@ fn place_of(early: &[(u32, Kind)], number: u32) -> Option<usize>
     if is_before_all(early, number) {
         return Some(0);
     }
-    place_by_halves(early, number)
+    place_by_halves(front_of(early, number), number)
 }
 
 /// Whether the number is that of the first message.

@@ -13,7 +13,7 @@ pub record Early : Type 0 where
 abbrev pub early_of : Form → Early
 early_of Empty = record { items = []; room = 1 }
 early_of (One entry) = record { items = entry ∷ []; room = 0 }
-early_of (Many front slots) = record { items = drop front slots.items; room = 0 }
+early_of (Many held) = record { items = drop held.value.front held.value.slots.items; room = 0 }
 
 -- the unused slots are some of the slots, and all slots are counted in 32 bits
 abbrev pub IsFront : ℕ → List (ℕ × Kind) → Type 0
@@ -22,4 +22,4 @@ IsFront front slots = (front ≤ length slots) × (length slots < 2 ^ 32)
 abbrev pub HasFront : Form → Type 0
 HasFront Empty = Unit {0}
 HasFront (One entry) = Unit {0}
-HasFront (Many front slots) = IsFront front slots.items
+HasFront (Many held) = IsFront held.value.front held.value.slots.items
