@@ -129,6 +129,7 @@ impl ThreadEntry {
 
     /// Tells of one more message: posts it to the home queue, and adds it to the history. Both growths come before
     /// any change.
+    #[inline(always)]
     pub(crate) fn tell(
         &mut self,
         thread: Tid,

@@ -21,6 +21,7 @@ impl Tables {
 
     /// Takes the thread on the CPU off it, with a message of this kind. The message comes first, since only it can
     /// fail.
+    #[inline(always)]
     pub(crate) fn leave(&mut self, cpu: Cpu, kind: Kind) -> Result<Posted, CallFault>
         requires not_first { IsFalse (is_created kind) }
         requires ran { ran_given kind ≤ MOST_TICKS }
@@ -76,6 +77,7 @@ impl Tables {
     }
 
     /// Posts a thread's next message to its home queue, and adds it to the thread's history.
+    #[inline(always)]
     pub(crate) fn tell(&mut self, thread: Tid, kind: Kind) -> Result<Posted, AllocError>
         requires known { thread < length self.old.threads }
         requires numbers { number_read (seen self.old) thread < self.old.limits.numbers }
