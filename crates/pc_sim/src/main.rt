@@ -216,7 +216,18 @@ fn run_settings<R: Threads + Wait + Sync, S: Write + Copy + Sync, W: Write + Dro
     }
 }
 
+/// The size in bytes of a block that is large.
+const LARGE: usize = 1 << 18;
+
+/// Takes a large block and gives it back. The heap of the C library gives each large block pages of its own until one was
+/// given back: from then on blocks up to that size stand side by side, as the deltas do that a wire keeps. Where there is
+/// no memory for it nothing is lost.
+fn settle_heap(alloc: Global) {
+    let _ = Vec::<u8>::with_capacity(alloc, LARGE);
+}
+
 fn main(rt: HostRuntime) -> ExitCode {
+    settle_heap(rt.alloc());
     let ending = match begin(&rt) {
         Rest::Ended(ending) => ending,
         Rest::Run { text, form } => {
