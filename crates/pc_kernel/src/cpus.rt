@@ -47,6 +47,7 @@ pub(crate) fn fresh(alloc: Global, limits: Limits) -> Result<Vec<CpuEntry>, Allo
 }
 
 /// Wakes an agent. Answers it where it slept.
+#[inline(always)]
 pub(crate) fn rouse(cpus: &mut Vec<CpuEntry>, agent: Option<Cpu>) -> Option<Cpu>
     requires { ForSome agent (λ c. c < length cpus.old.items) }
     ensures each { (c : ℕ) → slice_get cpus.new.items c ≡ option_map (roused_entry agent c) (slice_get cpus.old.items c) }
@@ -68,6 +69,7 @@ pub(crate) fn rouse(cpus: &mut Vec<CpuEntry>, agent: Option<Cpu>) -> Option<Cpu>
 }
 
 /// Puts an item at the end of a queue, and wakes the agent that the queue wakes. Its one growth comes first.
+#[inline(always)]
 pub(crate) fn post(cpus: &mut Vec<CpuEntry>, queue: Cpu, item: Item) -> Result<Landing, AllocError>
     requires there { queue < length cpus.old.items }
     requires targets { AreTargets cpus.old.items }
