@@ -6,3 +6,4 @@ pub mod Places
 pub mod Slots
 pub mod Alone
 pub mod Histories
+mod Moved

@@ -6,6 +6,7 @@
 ghost use Rattle.std.specs.Prelude.{◌+◌, ◌≡◌, ◌≤◌, ◌<◌, List, [], ◌∷◌, ◌++◌, length, drop, insert, IsOk, IfOk, OnOk, OnErr};
 ghost use Rattle.pc_thread_view.specs.Inner.Early.{early_of, IsFront, HasFront};
 
+use crate::moves::{move_down, move_up};
 use pc_join::OutOfMemory;
 use pc_messages::Kind;
 use std::alloc::Global;
@@ -67,7 +68,7 @@ fn lower(slots: &mut [(u32, Kind)], front: usize, place: usize, entry: (u32, Kin
     ensures len { length slots.new ≡ length slots.old }
     ensures lowered { drop front slots.new ≡ insert (drop (front + 1) slots.old) place entry }
 {
-    slots.copy_within(front + 1..front + 1 + place, front);
+    move_down(slots, front + 1, front, place);
     slots[front + place] = entry;
 }
 
@@ -79,7 +80,7 @@ fn raise(slots: &mut [(u32, Kind)], place: usize)
 {
     let behind = slots.len() - 1;
     let last = slots[behind];
-    slots.copy_within(place..behind, place + 1);
+    move_up(slots, place, place + 1, behind - place);
     slots[place] = last;
 }
 
@@ -101,7 +102,7 @@ fn spread(front: &mut u32, slots: &mut Vec<(u32, Kind)>) -> Result<(), OutOfMemo
     };
     let unused = live.div_ceil(2);
     slots.resize(live + unused, first)?;
-    slots.as_mut_slice().copy_within(0..live, unused);
+    move_up(slots.as_mut_slice(), 0, unused, live);
     *front = unused as u32;
     Ok(())
 }

@@ -6,6 +6,7 @@
 
 mod early;
 mod held;
+mod moves;
 mod pieces;
 mod prefix;
 mod view;
