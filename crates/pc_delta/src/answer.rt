@@ -76,25 +76,30 @@ fn add_thread<K: Known>(
         return Ok(());
     }
     append(parts, folded_part(thread, held, known))?;
+    let mut place = 0;
     for entry in held.early() {
-        add_early(parts, thread, *entry, known)?;
+        place = add_early(parts, thread, *entry, known, place)?;
     }
     Ok(())
 }
 
-/// Adds an early message, where it is not known.
+/// Adds an early message, where it is not known. It is looked for near a place, and the next one is to be looked for near that which is
+/// answered.
 #[inline(never)]
 fn add_early<K: Known>(
     parts: &mut Vec<Part>,
     thread: Tid,
     entry: (u32, Kind),
     known: Option<&K>,
-) -> Result<(), OutOfMemory>
+    place: usize,
+) -> Result<usize, OutOfMemory>
     ensures { OnOk result ((part : Option Part) × (parts.new.items ≡ parts.old.items ++ listed part)
         × MatchOption part (known_in K.known (option_copied known.entry) (entry.0 ∷ []) ≡ true)
         (IsOneOf thread entry (known_in K.known (option_copied known.entry)))) }
 {
-    append(parts, early_part(thread, entry, known))
+    let (part, next) = early_part(thread, entry, known, place);
+    append(parts, part)?;
+    Ok(next)
 }
 
 /// Adds an item, where there is one.
@@ -108,20 +113,27 @@ fn append<T: Copy>(items: &mut Vec<T>, item: Option<T>) -> Result<(), OutOfMemor
     Ok(())
 }
 
-/// The part that tells an early message, where it is not known.
-fn early_part<K: Known>(thread: Tid, entry: (u32, Kind), known: Option<&K>) -> Option<Part>
-    ensures { MatchOption result (known_in K.known (option_copied known.entry) (entry.0 ∷ []) ≡ true)
+/// The part that tells an early message, where it is not known, and where to look for the next one.
+fn early_part<K: Known>(
+    thread: Tid,
+    entry: (u32, Kind),
+    known: Option<&K>,
+    place: usize,
+) -> (Option<Part>, usize)
+    ensures { MatchOption result.0 (known_in K.known (option_copied known.entry) (entry.0 ∷ []) ≡ true)
         (IsOneOf thread entry (known_in K.known (option_copied known.entry))) }
 {
     let (number, kind) = entry;
-    if knows(known, number) {
-        return None;
+    let (is_known, next) = knows_from(known, number, place);
+    if is_known {
+        return (None, next);
     }
-    Some(Part::One(Message {
+    let message = Message {
         thread,
         number,
         kind,
-    }))
+    };
+    (Some(Part::One(message)), next)
 }
 
 /// The part that tells a thread's first messages, where one of them is not known.
@@ -155,12 +167,12 @@ fn lacks<K: Known>(known: Option<&K>, upto: u32) -> bool
     }
 }
 
-/// Whether the number is known.
-fn knows<K: Known>(known: Option<&K>, number: u32) -> bool
-    ensures { result ≡ known_in K.known (option_copied known.entry) (number ∷ []) }
+/// Whether the number is known, and where to look for a later one.
+fn knows_from<K: Known>(known: Option<&K>, number: u32, place: usize) -> (bool, usize)
+    ensures { result.0 ≡ known_in K.known (option_copied known.entry) (number ∷ []) }
 {
     match known {
-        Some(held) => held.knows(number),
-        None => false,
+        Some(held) => held.knows_from(number, place),
+        None => (false, place),
     }
 }

@@ -33,9 +33,9 @@ pub trait Known {
     /// The numbers that are known.
     ghost known: { Self → Members };
 
-    /// Whether the number is known.
-    fn knows(&self, number: u32) -> bool
-        ensures { result ≡ known self.now (number ∷ []) };
+    /// Whether the number is known, and where to look for a later one; of several that ascend each is looked for where the last one was.
+    fn knows_from(&self, number: u32, place: usize) -> (bool, usize)
+        ensures { result.0 ≡ known self.now (number ∷ []) };
 
     /// Whether one of the numbers from 1 to this one is not known.
     fn lacks(&self, upto: u32) -> bool
@@ -46,8 +46,8 @@ pub trait Known {
 impl Known for Numbers {
     ghost known = { numbers_in };
 
-    fn knows(&self, number: u32) -> bool {
-        self.has(number)
+    fn knows_from(&self, number: u32, place: usize) -> (bool, usize) {
+        (self.has(number), place)
     }
 
     fn lacks(&self, upto: u32) -> bool {
@@ -58,8 +58,8 @@ impl Known for Numbers {
 impl Known for ThreadView {
     ghost known = { numbers_of };
 
-    fn knows(&self, number: u32) -> bool {
-        self.has(number)
+    fn knows_from(&self, number: u32, place: usize) -> (bool, usize) {
+        self.has_from(number, place)
     }
 
     fn lacks(&self, upto: u32) -> bool {

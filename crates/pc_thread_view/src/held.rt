@@ -1,7 +1,7 @@
 //! What a thread view holds, built up in the order of the numbers: nothing is put into a gap, and nothing is taken
 //! out again.
 
-ghost use Rattle.std.specs.Prelude.{ℕ, ◌+◌, ◌≡◌, ◌≤◌, ◌<◌, ◌↔◌, ◌==◌, ◌||◌, ◌++◌, true, false, List, [], Some, None, MatchOption, IsTrue, IsFalse, IsOk, OnOk, OnErr};
+ghost use Rattle.std.specs.Prelude.{ℕ, ◌+◌, ◌≡◌, ◌≤◌, ◌<◌, ◌↔◌, ◌==◌, ◌||◌, ◌++◌, true, false, List, [], Some, None, MatchOption, length, IsTrue, IsFalse, IsOk, OnOk, OnErr};
 ghost use Rattle.pc_messages.specs.Run.{IsWellFormed};
 ghost use Rattle.pc_messages.specs.declared.kind.Kind.{Kind};
 ghost use Rattle.pc_join.specs.Sets.{Source};
@@ -361,6 +361,48 @@ pub fn has_held(held: &Held, number: u32) -> bool
         return true;
     }
     is_among(held.early.as_slice(), number)
+}
+
+/// A place where the number may belong: few steps from this one, past messages that come before it.
+fn near_place(early: &[(u32, Kind)], number: u32, place: usize) -> usize
+    ensures { result ≤ length early.now }
+{
+    let mut near = place.min(early.len());
+    for _ in 0..FEW {
+        match early.get(near) {
+            Some(entry) if entry.0 < number => near += 1,
+            _ => return near,
+        }
+    }
+    near
+}
+
+/// Whether one of the messages has the number, and a place behind it or where it is lacking. The number is looked for near a place first, as
+/// one looks for several in ascending order.
+fn is_among_from(early: &[(u32, Kind)], number: u32, place: usize) -> (bool, usize)
+    requires { RiseAbove 0 early.now }
+    ensures { result.0 ≡ is_early early.now number }
+{
+    let near = near_place(early, number, place);
+    let (front, behind) = early.split_at(near);
+    if begins_with(behind, number) {
+        return (true, near + 1);
+    }
+    if is_after_all(front, number) && is_before_all(behind, number) {
+        return (false, near);
+    }
+    (is_among(early, number), near)
+}
+
+/// Whether the message with the number is held, and where to look for a later one. Early messages are looked for near a place first.
+pub fn has_from(held: &Held, number: u32, place: usize) -> (bool, usize)
+    requires { IsSound (told held.now) }
+    ensures { result.0 ≡ tells (told held.now) number }
+{
+    if 1 <= number && number <= held.prefix.upto() {
+        return (true, place);
+    }
+    is_among_from(held.early.as_slice(), number, place)
 }
 
 /// Whether each of the others' numbers is one of the prefix or of mine, by one walk over both.

@@ -14,7 +14,7 @@ ghost use Rattle.pc_thread_view.specs.Inner.SameLaws.{told_partial, told_equival
 
 use crate::early::Early;
 use crate::held::{
-    Held, covers_held, has_held, is_same_held, join_held, one, take_one, take_prefix,
+    Held, covers_held, has_from, has_held, is_same_held, join_held, one, take_one, take_prefix,
 };
 use crate::prefix::Prefix;
 use pc_join::{Join, OutOfMemory};
@@ -127,6 +127,14 @@ impl ThreadView {
         ensures { result ≡ tells self.now number }
     {
         has_held(&self.held, number)
+    }
+
+    /// Whether the message with this number is known, and where to look for a later one: of several in ascending order each is looked for
+    /// where the last one was, from place 0 on. Any place gives the same answer.
+    pub fn has_from(&self, number: u32, place: usize) -> (bool, usize)
+        ensures { result.0 ≡ tells self.now number }
+    {
+        has_from(&self.held, number, place)
     }
 }
 

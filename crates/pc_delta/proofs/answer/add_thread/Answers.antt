@@ -10,7 +10,7 @@ loop-entry-init g c = tell_start c.args.thread c.args.held.now (known_in g.K.Kno
 
 pub loop-entry-preserved : goal.loop-entry-preserved
 loop-entry-preserved g c =
-    let added = c.in_ok-add_early.ensures in
+    let added = c.in_ok-place.ensures in
     tell_on c.args.thread c.args.held.now (known_in g.K.Known.known (option_copied c.args.known)) c.args.parts.now.items c.early-entry-items.result.now
     c.loop-entry.entry-index c.entry-item.result c.loop-entry.parts.items c.add_early.new.parts.items added.0 c.entry-item.is c.loop-entry-test.true c.loop-entry.invariant added.2 added.1
 
