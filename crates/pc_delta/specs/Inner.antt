@@ -2,3 +2,4 @@
 pub mod Places
 pub mod DigestLaws
 pub mod Answering
+pub mod Kept

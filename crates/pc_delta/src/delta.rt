@@ -8,7 +8,8 @@ ghost use Rattle.pc_delta.specs.Parts.{AreOfRun, parts_in, set_of};
 ghost use Rattle.pc_delta.specs.Faults.{first_fault, IsLeastConflict, HasNoConflict};
 
 use crate::fault::DeltaFault;
-use crate::part::{Part, parts_of};
+use crate::part::Part;
+use crate::parts::Parts;
 use crate::places::{first_fault_of, least_conflict};
 use pc_join::OutOfMemory;
 use pc_messages::{Item, Tid};
@@ -19,7 +20,7 @@ use std::marker::Model;
 /// contradicts itself; what comes from elsewhere may contradict a view that takes it in, and is safe all the same.
 #[derive(Debug, Drop)]
 pub struct Delta {
-    parts: Vec<Part>,
+    parts: Parts,
 }
 
 impl Model for Delta {
@@ -29,10 +30,11 @@ impl Model for Delta {
     ghost Value = { List Part };
 
     ghost use Rattle.pc_delta.specs.Faults.{first_fault};
+    ghost use Rattle.pc_delta.specs.Inner.Kept.{kept};
 
-    ghost view = { λ delta. delta.parts.items };
+    ghost view = { λ delta. kept delta.parts };
 
-    ghost invariant = { λ delta. first_fault delta.parts.items ≡ None };
+    ghost invariant = { λ delta. first_fault (kept delta.parts) ≡ None };
 }
 
 impl Delta {
@@ -55,7 +57,9 @@ impl Delta {
             return Err(fault);
         }
         match least_conflict(*parts.allocator(), parts.as_slice()) {
-            Ok(None) => Ok(Delta { parts }),
+            Ok(None) => Ok(Delta {
+                parts: Parts::of(parts),
+            }),
             Ok(Some((thread, number))) => Err(DeltaFault::Conflict {
                 thread: Tid(thread),
                 number,
@@ -73,7 +77,7 @@ impl Delta {
         ensures no_conflict { IfOk result (λ delta. HasNoConflict delta) }
         ensures of_run { IfOk result (λ delta. (run : Run) → AreItemsOf run items.now → AreOfRun run delta) }
     {
-        let parts = parts_of(alloc, items)?;
+        let parts = Parts::of_items(alloc, items)?;
         Ok(Delta { parts })
     }
 
@@ -92,14 +96,16 @@ impl Delta {
     {
         let mut parts = parts;
         parts.shrink_to_fit();
-        Delta { parts }
+        Delta {
+            parts: Parts::of(parts),
+        }
     }
 
     /// A delta of the same parts.
     pub fn try_copy(&self) -> Result<Delta, OutOfMemory>
         ensures { IfOk result (λ copy. copy ≡ self.now) }
     {
-        let parts = self.parts.as_slice().to_vec(*self.parts.allocator())?;
+        let parts = self.parts.try_copy()?;
         Ok(Delta { parts })
     }
 }

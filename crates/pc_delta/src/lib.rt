@@ -11,6 +11,7 @@ mod fault;
 mod known;
 pub mod laws;
 mod part;
+mod parts;
 mod places;
 mod taking;
 
