@@ -1,9 +1,10 @@
 //! What the threads of a run tell each other.
 
-use crate::place::Place;
+use crate::place::{Mailbox, Place};
 use crossbeam_channel::{Receiver, SendError, Sender};
 use pc_delta::{Delta, Digest};
-use pc_messages::Cpu;
+use pc_messages::{Cpu, Phase};
+use pc_view::View;
 use std::alloc::{AllocError, AllocFailed, Global};
 use std::sync::{Arc, Wait};
 
@@ -12,7 +13,9 @@ use std::sync::{Arc, Wait};
 enum Note {
     /// Its queue was posted to while it slept.
     Wake,
-    /// What another agent has learnt.
+    /// What others have learnt waits in the mailbox.
+    News,
+    /// What another agent answered to one that has started again since.
     Delta(Arc<Delta, Global>),
     /// What the agent of the CPU with this index answers waits in its place.
     Answered(u8),
@@ -55,10 +58,15 @@ struct Waiting {
 /// digest has all that an earlier one had, and since an agent knows no less than before, a later answer tells all that an earlier
 /// one told but for what the asker knew by then. So what waits stays below a bound, however often agents ask. An agent that
 /// starts again knows less, so what it then asks waits behind all that it told, and what it answered before is kept.
+///
+/// What others have learnt waits in a mailbox, and all of it is taken at once, ahead of each note. It wakes the owner only where it may tell of a
+/// thread to take, or where much waits: a note for each would have each agent do a turn for each message of the run.
 #[derive(Drop)]
 pub(crate) struct Inbox {
     to: Sender<Note>,
     at: Receiver<Note>,
+    /// What others have learnt.
+    news: Mailbox<Arc<Delta, Global>>,
     /// By the CPUs of those that ask and answer.
     waiting: Vec<Waiting>,
 }
@@ -74,7 +82,12 @@ impl Inbox {
                 digest: Place::new(),
             })?;
         }
-        Ok(Inbox { to, at, waiting })
+        Ok(Inbox {
+            to,
+            at,
+            news: Mailbox::new(alloc),
+            waiting,
+        })
     }
 
     /// What the agent of this CPU has for the owner.
@@ -89,6 +102,14 @@ impl Inbox {
             Err(SendError::OutOfMemory(_)) => Err(Quit::OutOfMemory),
             Err(SendError::Disconnected(_)) => Err(Quit::GaveUp),
         }
+    }
+
+    /// Leaves what another agent has learnt, and wakes the owner where that is urgent.
+    fn inform<R: Wait>(&self, rt: &R, delta: Arc<Delta, Global>, urgent: bool) -> Result<(), Quit> {
+        if self.news.put(rt, delta, urgent)? {
+            return self.tell(rt, Note::News);
+        }
+        Ok(())
     }
 
     /// Asks the owner for what the agent of this CPU lacks.
@@ -125,13 +146,19 @@ impl Inbox {
         self.tell(rt, Note::Digest(cpu.index(), digest))
     }
 
+    /// What others have learnt and the owner has not taken yet. It is taken ahead of each thing that the owner is told, so that one who has
+    /// started again is answered all that it told before.
+    pub(crate) fn news<R: Wait>(&self, rt: &R) -> Vec<Arc<Delta, Global>> {
+        self.news.take(rt)
+    }
+
     /// Waits for the next thing that the owner is told.
     pub(crate) fn take<R: Wait>(&self, rt: &R) -> Result<Told, Quit> {
         let Ok(note) = self.at.recv(rt) else {
             return Err(Quit::GaveUp);
         };
         Ok(match note {
-            Note::Wake => Told::Nothing,
+            Note::Wake | Note::News => Told::Nothing,
             Note::Delta(delta) => Told::Delta(delta),
             Note::Answered(cpu) => match self.from(Cpu(cpu))?.answer.take(rt) {
                 Some(delta) => Told::Delta(delta),
@@ -152,12 +179,23 @@ impl Inbox {
 pub(crate) enum Told {
     /// Nothing but that something happened.
     Nothing,
-    /// What another agent has learnt, or answers.
+    /// What another agent answers.
     Delta(Arc<Delta, Global>),
     /// What the CPU's agent knows, which asks for the rest.
     Digest(Cpu, Arc<Digest, Global>),
     /// That the run ends.
     End,
+}
+
+/// Whether a thread that the delta tells of may be one for the CPU to take: the view reports it ready and allowed there, or does not know.
+fn offers(delta: &Delta, view: &View, cpu: Cpu) -> bool {
+    delta.parts().iter().any(|part| match view.thread(part.thread()) {
+        Some(known) => match known.reported() {
+            Some(state) => state.phase == Phase::Ready && state.mask.allows(cpu),
+            None => true,
+        },
+        None => true,
+    })
 }
 
 /// The channels of a run. All their ends are kept until every thread has ended.
@@ -194,16 +232,22 @@ impl Lines {
         self.of(cpu)?.tell(rt, Note::Wake)
     }
 
-    /// Tells every agent but the CPU's what that one has learnt.
+    /// Leaves every agent but the CPU's what that one has learnt, by which its view is this, and wakes those that may have a thread to
+    /// take.
     pub(crate) fn tell_peers<R: Wait>(
         &self,
         rt: &R,
         cpu: Cpu,
         delta: &Arc<Delta, Global>,
+        view: &View,
     ) -> Result<(), Quit> {
         for place in 0..self.inboxes.len() {
             if place != cpu.index() as usize {
-                self.inboxes[place].tell(rt, Note::Delta(Arc::try_clone(delta)?))?;
+                let urgent = match u8::try_from(place) {
+                    Ok(index) => offers(delta, view, Cpu(index)),
+                    Err(_) => true,
+                };
+                self.inboxes[place].inform(rt, Arc::try_clone(delta)?, urgent)?;
             }
         }
         Ok(())

@@ -102,21 +102,25 @@ fn publish<N: Names, R: Wait, G: Gate>(
     let delta = worker.copied(items.as_slice())?;
     pass(gate, cpu, Point::Copied)?;
     if !delta.parts().is_empty() {
-        desk.lines
-            .tell_peers(rt, cpu, &Arc::new(desk.alloc, delta)?)?;
+        desk.lines.tell_peers(rt, cpu, &Arc::new(desk.alloc, delta)?, worker.agent.view())?;
     }
     worker.sent(items.len() as u32);
     Ok(aseq)
 }
 
-/// Takes one note, and answers whether it was the last one.
+/// Takes one note, behind all news, and answers whether it was the last one.
 fn take_note<N: Names, R: Wait>(
     rt: &R,
     desk: &Desk<N>,
     worker: &mut Worker<N>,
 ) -> Result<bool, Quit> {
     let cpu = worker.agent.cpu();
-    match desk.lines.of(cpu)?.take(rt)? {
+    let inbox = desk.lines.of(cpu)?;
+    let told = inbox.take(rt)?;
+    for delta in inbox.news(rt) {
+        worker.deliver(&delta)?;
+    }
+    match told {
         Told::Nothing => Ok(false),
         Told::Delta(delta) => {
             worker.deliver(&delta)?;
