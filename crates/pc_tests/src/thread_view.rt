@@ -406,6 +406,60 @@ fn a_far_message_waits_while_gaps_close(rt: HostRuntime) -> Result<(), Fail> {
     each_holds(&rt, rt.alloc(), view, &[Step::Has(9_000, true)])
 }
 
+/// So many messages arrive in a scattered order, behind one that is lacking.
+const FAR_APART: u32 = 400;
+
+/// A view of the messages from 2 on, each of which tells as many ticks as its number. Of two that arrive one after another the
+/// numbers are 149 apart, so that most stand among the others, with hundreds before and behind.
+fn scattered(alloc: Global) -> Result<ThreadView, Fail> {
+    let mut view = ThreadView::of(alloc, 2, Kind::Preempted { ran: 2 });
+    for turn in 1..FAR_APART {
+        let number = 2 + turn * 149 % FAR_APART;
+        puts(&mut view, number, Kind::Preempted { ran: number })?;
+    }
+    Ok(view)
+}
+
+/// Whether the view tells each scattered message in its place, with its own ticks.
+fn ascends(view: &ThreadView) -> bool {
+    view.early().len() == FAR_APART as usize
+        && view.early().iter().zip(2..FAR_APART + 2).all(|(message, number)| *message
+            == (number, Kind::Preempted { ran: number }))
+}
+
+/// Whether the view has just these of the numbers, wherever one looks first.
+fn has_these(view: &ThreadView, numbers: &[(u32, bool)]) -> bool {
+    for place in [0, 7, 148, 399, 400, 5_000] {
+        for (number, known) in numbers {
+            let (has, _) = view.has_from(*number, place);
+            if has != *known {
+                return false;
+            }
+        }
+    }
+    true
+}
+
+#[test]
+fn scattered_messages_stand_in_ascending_order(rt: HostRuntime) -> Result<(), Fail> {
+    let mut view = scattered(rt.alloc())?;
+    assert!(rt; ascends(&view));
+    let numbers = [
+        (1, false),
+        (2, true),
+        (9, true),
+        (150, true),
+        (401, true),
+        (402, false),
+    ];
+    assert!(rt; has_these(&view, &numbers));
+    let mask = Mask::new(3, 2)?;
+    puts(&mut view, 1, Kind::Created { mask, ready: true })?;
+    let ran = view.reported().map(|reported| reported.ran);
+    assert_eq!(rt; ran, Some(80_600));
+    each_holds(&rt, rt.alloc(), view, &[Step::Tells(401, &[])])
+}
+
 /// What is put under a thread's name as a piece, or told of the thread.
 #[derive(Clone, Copy)]
 enum Put<'a> {
