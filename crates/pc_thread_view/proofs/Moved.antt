@@ -1,5 +1,5 @@
 -- Moves of a part of a list, run after run.
-use Rattle.std.proofs.Common.{ℕ, ◌+◌, ◌-◌, ◌≤◌, ◌≡◌, List, ◌++◌, length, take, drop, refl, sym, ap, ◌∙◌, subst, arith}
+use Rattle.std.proofs.Common.{ℕ, ◌+◌, ◌-◌, ◌≤◌, ◌≡◌, List, ◌++◌, length, take, drop, sym, ap, ◌∙◌, subst, arith}
 use Rattle.std.specs.List.{copy_within}
 use Rattle.std.proofs.lemmas.List.{drop-drop, drop-take, length-take-le, length-drop, take-append-le, take-take, append_assoc}
 use Rattle.std.proofs.lemmas.List.Edits.{take-paste, drop-paste}
