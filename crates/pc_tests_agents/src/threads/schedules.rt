@@ -185,10 +185,11 @@ const TWO: [Plan<'static>; 2] = [
 
 /// The first agent has a delta to take when its first turn ends, and a wake when its second one does; what it asked in that
 /// one was answered before it is told the wake.
-const ASKED: [Hold; 3] = [(0, 1, 1, 3), (0, 4, DRIVER, 1), (0, 5, 1, 7)];
+const ASKED: [Hold; 3] = [(0, 1, 1, 3), (0, 4, DRIVER, 1), (0, 5, 1, 4)];
 
-/// Where its third turn ends it was answered again.
-const ASKED_AGAIN: Hold = (0, 9, 1, 13);
+/// Where its third turn ends it was answered again: in between, the other agent was woken by the yield that this one told of, since
+/// one that has started again does not know whether the thread is ready.
+const ASKED_AGAIN: Hold = (0, 9, 1, 10);
 
 #[test]
 fn an_answer_takes_the_place_of_what_waits(rt: HostRuntime) -> Result<(), Fail> {
@@ -202,9 +203,9 @@ fn an_answer_takes_the_place_of_what_waits(rt: HostRuntime) -> Result<(), Fail> 
 
 #[test]
 fn what_was_answered_before_a_restart_is_kept(rt: HostRuntime) -> Result<(), Fail> {
-    // The other agent restarts behind its answer, and before the first one's third turn.
-    let holds = [ASKED[0], ASKED[1], ASKED[2], (0, 7, 1, 8), ASKED_AGAIN];
-    let turns = [(0, 2), (0, 3), (1, 3)];
+    // The other agent restarts behind its answer, and before it is told of the yield, which no agent would know if both forgot it.
+    let holds = [ASKED[0], ASKED[1], (0, 5, 1, 5), ASKED_AGAIN];
+    let turns = [(0, 2), (0, 3), (1, 2)];
     let report = forced_run(&rt, rt.alloc(), 2, &TWO, &turns, &holds)?;
     assert_eq!(rt; totals(&report), [2, 5, 3, 3]);
     Ok(())
@@ -212,12 +213,14 @@ fn what_was_answered_before_a_restart_is_kept(rt: HostRuntime) -> Result<(), Fai
 
 #[test]
 fn all_others_are_asked(rt: HostRuntime) -> Result<(), Fail> {
-    // Two agents forget the thread, before either asks; the third one knows it.
+    // Two agents forget the thread, before either asks; the third one knows it. The second one is woken by the first, since the
+    // thread may run on its CPU too.
+    let plan: Plan<'_> = (0, 3, &[Step::Yield(1), Step::Die(1)]);
     let report = forced_run(
         &rt,
         rt.alloc(),
         3,
-        &TWO[..1],
+        &[plan],
         &[(0, 2), (1, 2)],
         &[(0, 4, 1, 4)],
     )?;
