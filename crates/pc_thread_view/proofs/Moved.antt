@@ -1,17 +1,15 @@
 -- Moves of a part of a list, run after run.
-use Rattle.std.proofs.Common.{ℕ, ◌+◌, ◌-◌, ◌≤◌, ◌≡◌, List, ◌++◌, length, take, drop, sym, ap, ◌∙◌, subst, arith}
+use Rattle.std.proofs.Common.{ℕ, ◌+◌, ◌-◌, ◌≤◌, ◌≡◌, List, ◌++◌, length, take, drop, sym, ap, ◌∙◌, arith}
 use Rattle.std.specs.List.{copy_within}
 use Rattle.std.proofs.lemmas.List.{drop-drop, drop-take, length-take-le, length-drop, take-append-le, take-take, append_assoc}
 use Rattle.std.proofs.lemmas.List.Edits.{take-paste, drop-paste}
-use Rattle.std.proofs.Math.Seq.{paste, take-add, drop-append_seam}
+use Rattle.std.proofs.Math.Seq.{paste, take-add}
+use Rattle.pc_thread_view.proofs.Slots.{seam}
 
 -- what stands in front of a place, and behind it
 module _ {X : Type 0} (d rest : List X) (m : ℕ) (within : m ≤ length d) where
   head : (n : ℕ) → n ≤ m → take n (take m d ++ rest) ≡ take n d
   head n le = take-append-le n (take m d) rest (omega (arith, length-take-le m d within)) ∙ take-take n m d le
-
-  seam : drop m (take m d ++ rest) ≡ rest
-  seam = subst (λ n. drop n (take m d ++ rest) ≡ rest) (length-take-le m d within) (drop-append_seam (take m d) rest)
 
   inside : (n r : ℕ) → n + r ≤ m → take r (drop n (take m d ++ rest)) ≡ take r (drop n d)
   inside n r le = sym (drop-take n r (take m d ++ rest)) ∙ ap (drop n) (head (n + r) le) ∙ drop-take n r d
@@ -52,7 +50,7 @@ module _ {X : Type 0} (d : List X) (from to : ℕ) where
       let whole : u ≡ take (to + j) d ++ rest = append_assoc (take (to + j) d) moved (drop (to + j + (count - j)) d) in
       let front : take (to + i) u ≡ take (to + i) d = ap (take (to + i)) whole ∙ head d rest (to + j) (omega arith) (to + i) (omega arith) in
       let middle : take r (drop (from + i) u) ≡ take r (drop (from + i) d) = ap (λ l. take r (drop (from + i) l)) whole ∙ inside d rest (to + j) (omega arith) (from + i) r (omega arith) in
-      let back : drop (to + i + r) u ≡ rest = (λ k. drop (written k) (whole k)) ∙ seam d rest (to + j) (omega arith) in
+      let back : drop (to + i + r) u ≡ rest = (λ k. drop (written k) (whole k)) ∙ seam (to + j) d rest (omega arith) in
       let next : take r (drop (from + i) d) ++ moved ≡ take (count - i) (drop (from + i) d) =
       ap (λ l. take r (drop (from + i) d) ++ take (count - j) l) (ap (λ k. drop k d) (sym read) ∙ sym (drop-drop r (from + i) d)) ∙ sym (take-add r (count - j) (drop (from + i) d)) ∙ ap (λ k. take k (drop (from + i) d)) all in
       ap (λ n. paste u (to + i) (drop (from + i) u) n) many

@@ -21,7 +21,8 @@ pub insert_dropped : {X : Type 0} (front place : ℕ) (xs : List X) (x : X) → 
 insert_dropped front place xs x h = insert_at front place (front + place) xs x refl h
 
 -- messages one slot down, and one more behind them
-seam : {X : Type 0} (front : ℕ) (xs ys : List X) → front ≤ length xs → drop front (take front xs ++ ys) ≡ ys
+-- what stands behind the first of a list
+pub seam : {X : Type 0} (front : ℕ) (xs ys : List X) → front ≤ length xs → drop front (take front xs ++ ys) ≡ ys
 seam front xs ys h = subst (λ n. drop n (take front xs ++ ys) ≡ ys) (length-take-le front xs h) (drop-append_seam (take front xs) ys)
 
 rest_of : {X : Type 0} (front place : ℕ) (xs : List X) → drop 1 (drop (front + place) xs) ≡ drop place (drop (front + 1) xs)
