@@ -130,6 +130,10 @@ impl Agent {
         views_tell_what_their_sets_tell();
         parts_of_items_are_of_the_run();
         parts_stay_as_the_run_goes_on();
+        // Items that stand side by side, as they most often do, need no copy.
+        if let Some((items, [])) = kernel.queued(self.cpu) {
+            return self.publish_items(items, wire);
+        }
         match kernel.peek(self.cpu) {
             Ok((_, items)) => self.publish_items(items.as_slice(), wire),
             Err(CallFault::OutOfMemory) => Err(SendFault::OutOfMemory),

@@ -22,9 +22,14 @@ row_holds k row sound h =
     let room = h.room in
     record { of_run = h.of_run; tellable = h.tellable; few = omega arith }
 
+-- what a CPU's queue holds
+pub all_held : (k : KernelRows) (c : ℕ) (e : CpuEntry) (items : List Item) → IsSound k → Some (row_of e) ≡ slice_get k.cpus c → items ≡ e.queue.items → AreHeld k items
+all_held k c e items sound there all =
+    let F : List Item → Type 0 = AreHeld k in
+    subst F (sym all) (row_holds k (row_of e) sound (sound.cpu c (row_of e) (sym there)))
+
 -- what is read of a CPU's queue as far as its length
 pub read_held : (k : KernelRows) (c n : ℕ) (e : CpuEntry) (items : List Item) → IsSound k → Some (row_of e) ≡ slice_get k.cpus c → n ≡ length e.queue.items → items ≡ take n e.queue.items → AreHeld k items
 read_held k c n e items sound there count read =
-    let all : e.queue.items ≡ items = sym (read ∙ ap (λ n. take n e.queue.items) count ∙ take_all (length e.queue.items) e.queue.items (omega arith)) in
-    let F : List Item → Type 0 = AreHeld k in
-    subst F all (row_holds k (row_of e) sound (sound.cpu c (row_of e) (sym there)))
+    let all : items ≡ e.queue.items = read ∙ ap (λ n. take n e.queue.items) count ∙ take_all (length e.queue.items) e.queue.items (omega arith) in
+    all_held k c e items sound there all

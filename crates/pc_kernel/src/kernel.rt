@@ -1,6 +1,6 @@
 //! The kernel model.
 
-ghost use Rattle.std.specs.Prelude.{◌≡◌, ◌≤◌, ◌↔◌, ℕ, nat_lt, Some, None, length, IfOk, IfErr, IsFalse, ◌⊎◌};
+ghost use Rattle.std.specs.Prelude.{◌≡◌, ◌≤◌, ◌↔◌, ℕ, nat_lt, Some, None, ◌++◌, is_some, length, IfOk, IfSome, IfErr, IsFalse, ◌⊎◌};
 ghost use Rattle.std.specs.Option.{option_copied};
 ghost use Rattle.pc_calls.specs.Limits.{bad_field};
 ghost use Rattle.pc_calls.specs.declared.limits.TheConstants.{MOST_CPUS, MOST_ROOM};
@@ -184,6 +184,20 @@ impl Kernel {
             Ok(items) => Ok((entry.queue.aseq(), items)),
             Err(_) => Err(CallFault::OutOfMemory),
         }
+    }
+
+    /// All that the CPU's queue holds, the oldest first, where it stands: the items of the first slice, then those of the second;
+    /// none of a CPU that is not there. It takes no memory.
+    pub fn queued(&self, cpu: Cpu) -> Option<(&[Item], &[Item])>
+        ensures content { IfSome result (λ held. held.0.now ++ held.1.now ≡ content_read (seen self.now) cpu) }
+        ensures of_run { IfSome result (λ held. AreItemsOf (kinds_read (seen self.now)) (held.0.now ++ held.1.now)) }
+        ensures tellable { IfSome result (λ held. AreTellable (held.0.now ++ held.1.now)) }
+        ensures few { IfSome result (λ held. length (held.0.now ++ held.1.now) ≤ MOST_ROOM) }
+        ensures there { is_some result ≡ is_cpu (seen self.now) cpu }
+    {
+        self.tables.is_sound();
+        let entry = self.tables.cpu(cpu)?;
+        Some(entry.queue.as_slices())
     }
 
     /// The thread that runs on the CPU.

@@ -146,6 +146,13 @@ impl ItemQueue {
         first(alloc, &self.items, self.items.len().min(n as usize))
     }
 
+    /// The items where they stand: those of the first slice, then those of the second. They stay in the queue. It takes no memory.
+    pub fn as_slices(&self) -> (&[Item], &[Item])
+        ensures { result.0.now ++ result.1.now ≡ self.now.items }
+    {
+        self.items.as_slices()
+    }
+
     /// Removes the first `n` items. It takes no memory, so it succeeds where the queue holds as many.
     pub fn consume(&mut self, n: u32) -> Result<(), TooMany>
         ensures too_many { IsErr result ↔ (length self.old.items < n) }

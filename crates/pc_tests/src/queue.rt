@@ -22,6 +22,7 @@ enum Step<'a> {
     Posts(Item, Result<(), QueueFault>),
     Consumes(u32, Result<(), TooMany>),
     Peeks(u32, &'a [Item]),
+    Stands(&'a [Item]),
     Empty(bool),
     Refuses(Option<QueueFault>),
     Holds(u32),
@@ -49,7 +50,7 @@ fn tells(queue: &CpuQueue, step: &Step<'_>) -> bool {
         Step::Held(wanted) => queue.held().get(&Tid(0)).copied() == wanted,
         Step::Pending(thread, wanted) => queue.pending(thread) == wanted,
         Step::Posted(wanted) => queue.aseq() == wanted,
-        Step::Posts(..) | Step::Consumes(..) => false,
+        Step::Posts(..) | Step::Consumes(..) | Step::Stands(_) => false,
     }
 }
 
@@ -83,9 +84,16 @@ fn items_peeked(queue: &ItemQueue, count: u32, wanted: &[Item]) -> bool {
     }
 }
 
+// Whether the items of the first slice and then those of the second are these.
+fn items_stand(queue: &ItemQueue, wanted: &[Item]) -> bool {
+    let (front, back) = queue.as_slices();
+    front.len() + back.len() == wanted.len() && wanted.starts_with(front) && wanted.ends_with(back)
+}
+
 fn tells_items(queue: &ItemQueue, step: &Step<'_>) -> bool {
     match *step {
         Step::Peeks(count, wanted) => items_peeked(queue, count, wanted),
+        Step::Stands(wanted) => items_stand(queue, wanted),
         Step::Empty(wanted) => queue.is_empty() == wanted,
         Step::Refuses(wanted) => queue.refusal() == wanted,
         Step::Holds(wanted) => queue.len() == wanted,
@@ -198,6 +206,7 @@ fn room_and_posts_without_counts(rt: HostRuntime) -> Result<(), Fail> {
     let one = [first_message()?];
     let steps = [
         Step::Empty(true),
+        Step::Stands(&[]),
         Step::Refuses(None),
         Step::Posts(first_message()?, TAKEN),
         Step::Posts(TICK, TAKEN),
@@ -207,6 +216,7 @@ fn room_and_posts_without_counts(rt: HostRuntime) -> Result<(), Fail> {
         Step::Posts(TICK, FULL),
         Step::Peeks(5, &both),
         Step::Peeks(1, &one),
+        Step::Stands(&both),
         Step::Consumes(3, Err(TooMany)),
         Step::Consumes(0, Ok(())),
         Step::Consumes(1, Ok(())),
@@ -240,8 +250,10 @@ fn items_round_the_ring(rt: HostRuntime) -> Result<(), Fail> {
         Step::Posts(OTHER, TAKEN),
         Step::Posts(TICK, TAKEN),
         Step::Peeks(9, &mixed),
+        Step::Stands(&mixed),
         Step::Consumes(2, Ok(())),
         Step::Peeks(9, &rest),
+        Step::Stands(&rest),
         Step::Posted(7),
     ];
     assert_eq!(rt; first_wrong_of_items(rt.alloc(), 4, 9, &steps), None);

@@ -63,6 +63,18 @@ fn is_content(kernel: &Kernel, aseq: u32, wanted: &[Item]) -> bool {
     }
 }
 
+/// Whether the items of the CPU's queue, where they stand, are these.
+fn is_queued(kernel: &Kernel, cpu: u8, wanted: &[Item]) -> bool {
+    match kernel.queued(Cpu(cpu)) {
+        Some((front, back)) => {
+            front.len() + back.len() == wanted.len()
+                && wanted.starts_with(front)
+                && wanted.ends_with(back)
+        }
+        None => false,
+    }
+}
+
 #[test]
 fn of_cpus_and_threads(rt: HostRuntime) -> Result<(), Fail> {
     let mut kernel = new_kernel(rt.alloc())?;
@@ -97,6 +109,8 @@ fn of_a_history_and_a_queue(rt: HostRuntime) -> Result<(), Fail> {
     assert_eq!(rt; creates(&mut kernel, 0, false), Ok(posted(0, 1, 0, 1)));
     assert!(rt; falls_asleep(&mut kernel, 1));
     assert!(rt; is_content(&kernel, 1, &[message]));
+    assert!(rt; is_queued(&kernel, 0, &[message]) && is_queued(&kernel, 1, &[]));
+    assert!(rt; kernel.queued(Cpu(2)).is_none());
     assert!(rt; history(&kernel, 0) == Some([kind].as_slice()));
     assert!(rt; history(&kernel, 1).is_none());
     Ok(())

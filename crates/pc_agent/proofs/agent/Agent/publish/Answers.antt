@@ -1,4 +1,5 @@
-use Rattle.std.proofs.Common.{◌≡◌, true, ap, sym, subst, ◌∙◌}
+use Rattle.std.proofs.Common.{◌≡◌, ◌++◌, true, ap, sym, subst, ◌∙◌, arith}
+use Rattle.std.proofs.lemmas.List.{append-nil, drop_all}
 use Rattle.pc_messages.specs.Items.{AreItemsOf}
 use Rattle.pc_kernel.specs.PlainKernel as plain
 use Rattle.pc_kernel.specs.Reads.{content_read, is_cpu, kinds_read, seen, shown}
@@ -15,6 +16,22 @@ returns-in-Ok-clause-publishes g c P run p shows extends h =
     let holds : items ≡ plain.content P cpu =
     c.as_slice.ensures.value ∙ c.in-Ok.ensures.content ∙ ap (λ r. content_read r cpu) shows.reads ∙ (c.reads_are_plain.ensures P).content cpu there in
     let of_kernel : AreItemsOf (kinds_read (seen c.args.kernel.now)) items = subst (AreItemsOf _) (sym c.as_slice.ensures.value) c.in-Ok.ensures.of_run in
+    let of_plain : AreItemsOf (plain.kinds P) items = same_run (kinds_read (seen c.args.kernel.now)) (plain.kinds P) items (λ t. ap (λ r. kinds_read r t) shows.reads ∙ (c.reads_are_plain.ensures P).kinds t) of_kernel in
+    let of_run : AreItemsOf run items = items_stay c.parts_stay_as_the_run_goes_on.ensures run (plain.kinds P) extends items of_plain in
+    subst (λ l. IsPublished g.W.Wire.Sends l run p c.publish_items-in-Ok.result cpu c.publish_items-in-Ok.new.self c.args.wire.now c.publish_items-in-Ok.new.wire) holds
+    (published c.views_tell_what_their_sets_tell.ensures.reported c.parts_of_items_are_of_the_run.ensures.set c.parts_of_items_are_of_the_run.ensures.of_run run p items c.args.self.now c.publish_items-in-Ok.new.self of_run h
+    g.W.Wire.Sends c.publish_items-in-Ok.result c.args.wire.now c.publish_items-in-Ok.new.wire c.publish_items-in-Ok.ensures.own)
+
+pub returns-in-Some-default-empty-clause-publishes : goal.returns-in-Some-default-empty-clause-publishes
+returns-in-Some-default-empty-clause-publishes g c P run p shows extends h =
+    let cpu = c.args.self.now.cpu in
+    let there : is_cpu (shown P) cpu ≡ true = ap (λ r. is_cpu r cpu) (sym shows.reads) ∙ c.requires.there in
+    let items = c.in-Some-default-empty.items.now in
+    let rest = c.in-Some-default-empty.field-0-1.now in
+    let alone : items ++ rest ≡ items = ap (λ l. items ++ l) (drop_all 0 rest (search arith)) ∙ append-nil items in
+    let holds : items ≡ plain.content P cpu =
+    sym alone ∙ c.in-Some-default-empty.ensures.content ∙ ap (λ r. content_read r cpu) shows.reads ∙ (c.reads_are_plain.ensures P).content cpu there in
+    let of_kernel : AreItemsOf (kinds_read (seen c.args.kernel.now)) items = subst (AreItemsOf _) alone c.in-Some-default-empty.ensures.of_run in
     let of_plain : AreItemsOf (plain.kinds P) items = same_run (kinds_read (seen c.args.kernel.now)) (plain.kinds P) items (λ t. ap (λ r. kinds_read r t) shows.reads ∙ (c.reads_are_plain.ensures P).kinds t) of_kernel in
     let of_run : AreItemsOf run items = items_stay c.parts_stay_as_the_run_goes_on.ensures run (plain.kinds P) extends items of_plain in
     subst (λ l. IsPublished g.W.Wire.Sends l run p c.publish_items.result cpu c.publish_items.new.self c.args.wire.now c.publish_items.new.wire) holds
