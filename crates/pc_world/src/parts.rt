@@ -7,7 +7,7 @@ ghost use Rattle.pc_world.specs.Inner.Agents.{AreOwn};
 ghost use Rattle.pc_world.specs.Inner.Laws.{RunsGoOn};
 
 use pc_agent::{Agent, KeptWire, SendFault, agents_stay_as_the_run_goes_on};
-use pc_calls::{Call, CallFault, Event, Refusal, Reply};
+use pc_calls::{Call, CallFault, EnvCall, Event, Refusal, Reply};
 use pc_delta::Delta;
 use pc_delta::laws::{parts_stay_as_the_run_goes_on, sets_are_pairs};
 use pc_join::OutOfMemory;
@@ -68,8 +68,8 @@ impl Parts {
             Event::Pick { cpu, aseq } => self.pick(cpu, aseq),
             Event::Steal { cpu } => self.steal(cpu),
             Event::Crash { cpu } => self.crash(cpu),
-            Event::Env(_)
-            | Event::Associate { .. }
+            Event::Env(call) => self.post(call),
+            Event::Associate { .. }
             | Event::Commit { .. }
             | Event::Sleep { .. }
             | Event::Rouse { .. }
@@ -88,6 +88,18 @@ impl Parts {
             Some(cpu.index() as usize)
         } else {
             None
+        }
+    }
+
+    /// The environment makes this call.
+    fn post(&mut self, call: EnvCall) -> Result<Reply, OutOfMemory>
+        ensures { Handles (Event.Env call) result self.old self.new }
+    {
+        runs_go_on();
+        match self.kernel.apply_env(call) {
+            Ok(posted) => Ok(Reply::Posted(posted)),
+            Err(CallFault::Refused(refusal)) => Ok(Reply::Refused(refusal)),
+            Err(CallFault::OutOfMemory) => Err(OutOfMemory),
         }
     }
 

@@ -37,8 +37,8 @@ impl Kernel {
         }
     }
 
-    /// Makes the environment's call.
-    fn apply_env(&mut self, call: EnvCall) -> Result<Posted, CallFault>
+    /// Makes the environment's call. Its answer is what was posted.
+    pub fn apply_env(&mut self, call: EnvCall) -> Result<Posted, CallFault>
         ensures step { StepsInMemory Answer.Posted (Call.Env call) result self.old self.new }
         ensures fault { (refusal : Refusal) → (result ≡ Err (CallFault.Refused refusal))
             ↔ (refused (seen self.old) (Call.Env call) ≡ Some refusal) }

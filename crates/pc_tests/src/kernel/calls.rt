@@ -18,8 +18,15 @@ enum Step {
     Reports(Phase, u64, u64, u8),
 }
 
+/// How a call of the environment is made.
+#[derive(Clone, Copy)]
+enum Way {
+    ByName,
+    AsValue,
+}
+
 // Without contracts, as the functions below, so that a test's proof does not carry those of the kernel.
-fn posts(kernel: &mut Kernel, call: EnvCall) -> Result<Posted, CallFault> {
+fn posts_by_name(kernel: &mut Kernel, call: EnvCall) -> Result<Posted, CallFault> {
     match call {
         EnvCall::Create { queue, mask, ready } => kernel.create(queue, mask, ready),
         EnvCall::Wake { thread } => kernel.wake(thread),
@@ -30,6 +37,13 @@ fn posts(kernel: &mut Kernel, call: EnvCall) -> Result<Posted, CallFault> {
         EnvCall::SetAffinity { thread, mask } => kernel.set_affinity(thread, mask),
         EnvCall::SetPriority { thread, level } => kernel.set_priority(thread, level),
         EnvCall::Tick { cpu } => kernel.tick(cpu),
+    }
+}
+
+fn posts(kernel: &mut Kernel, way: Way, call: EnvCall) -> Result<Posted, CallFault> {
+    match way {
+        Way::ByName => posts_by_name(kernel, call),
+        Way::AsValue => kernel.apply_env(call),
     }
 }
 
@@ -58,9 +72,9 @@ fn reports(kernel: &Kernel, phase: Phase, mask: u64, ran: u64, level: u8) -> boo
     }
 }
 
-fn holds(kernel: &mut Kernel, step: Step) -> bool {
+fn holds(kernel: &mut Kernel, way: Way, step: Step) -> bool {
     match step {
-        Step::Posts(call, wanted) => posts(kernel, call) == wanted,
+        Step::Posts(call, wanted) => posts(kernel, way, call) == wanted,
         Step::Does(call, wanted) => does(kernel, call) == wanted,
         Step::Runs(wanted) => kernel.running(Cpu(0)) == wanted,
         Step::Sleeps(cpu, wanted) => kernel.is_asleep(cpu) == wanted,
@@ -70,10 +84,10 @@ fn holds(kernel: &mut Kernel, step: Step) -> bool {
 }
 
 /// The place of the first step that does not hold of a new kernel and the steps before it.
-fn first_wrong(alloc: Global, steps: &[Step]) -> Result<Option<usize>, Fail> {
+fn first_wrong(alloc: Global, way: Way, steps: &[Step]) -> Result<Option<usize>, Fail> {
     let mut kernel = Kernel::new(alloc, SMALL)?;
     for (place, step) in steps.iter().enumerate() {
-        if !holds(&mut kernel, *step) {
+        if !holds(&mut kernel, way, *step) {
             return Ok(Some(place));
         }
     }
@@ -81,7 +95,9 @@ fn first_wrong(alloc: Global, steps: &[Step]) -> Result<Option<usize>, Fail> {
 }
 
 fn gives(rt: &impl Abort, alloc: Global, steps: &[Step]) -> Result<(), Fail> {
-    assert_eq!(rt; first_wrong(alloc, steps)?, None);
+    for way in [Way::ByName, Way::AsValue] {
+        assert_eq!(rt; first_wrong(alloc, way, steps)?, None);
+    }
     Ok(())
 }
 
