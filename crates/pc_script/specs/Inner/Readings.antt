@@ -1,7 +1,7 @@
 -- Reading the words of a command.
 use Rattle.std.specs.Prelude.{◌≡◌, ℕ, Bool, true, false, List, [], ◌∷◌, map, Option, Some, None}
 use Rattle.pc_script.specs.Grammar.{Field, Processors, Processor, Queue, Level, Count, Mask, Index, Thread, State, Target, Failure}
-use Rattle.pc_script.specs.Grammar.{field_words, IsInRange, words_of, AreInRange, row_of, Spells}
+use Rattle.pc_script.specs.Grammar.{field_words, IsInRange, words_of, AreInRange, Spells}
 use Rattle.pc_script.specs.declared.command.Command.{Command}
 
 -- a command was read exactly where the words spell one
