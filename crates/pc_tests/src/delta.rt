@@ -101,3 +101,20 @@ fn delta(alloc: Global, shapes: &[Shape]) -> Result<Delta, Fail> {
 fn refusal(alloc: Global, shapes: &[Shape]) -> Result<Option<DeltaFault>, Fail> {
     Ok(Delta::from_parts(parts(alloc, shapes)?).err())
 }
+
+#[test]
+fn a_part_tells_of_its_thread(rt: HostRuntime) -> Result<(), Fail> {
+    let folded = Part::Folded {
+        thread: Tid(9),
+        upto: 2,
+        reported: Reported {
+            phase: Phase::Ready,
+            mask: Mask::new(3, 2)?,
+            ran: 0,
+            level: Level::LOWEST,
+        },
+    };
+    assert_eq!(rt; one(7, 2, Kind::Wakeup).thread(), Tid(7));
+    assert_eq!(rt; folded.thread(), Tid(9));
+    Ok(())
+}
