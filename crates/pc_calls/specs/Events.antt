@@ -30,8 +30,8 @@ call_of (Crash cpu) = None
 abbrev pub done_told : Call → Reply
 done_told (call.Env c) = reply.Done
 done_told (call.Consume cpu count) = reply.Done
-done_told (call.Associate thread queue number) = reply.Associated thread queue
-done_told (call.Commit cpu thread aseq) = reply.Committed thread cpu
+done_told (call.Associate thread queue number) = reply.Associated queue thread
+done_told (call.Commit cpu thread aseq) = reply.Committed cpu thread
 done_told (call.Sleep cpu aseq) = reply.Done
 done_told (call.Rouse cpu) = reply.Done
 done_told (call.Config queue target) = reply.Done

@@ -81,9 +81,9 @@ pub enum Reply {
     /// An item was posted.
     Posted(Posted),
     /// The thread's messages go to this queue from now on.
-    Associated { thread: Tid, queue: Cpu },
+    Associated { queue: Cpu, thread: Tid },
     /// The thread runs on this CPU from now on.
-    Committed { thread: Tid, cpu: Cpu },
+    Committed { cpu: Cpu, thread: Tid },
     /// The delta with this index was sent; the queue held so many items, ticks among them.
     Published { delta: u64, items: u32 },
     /// So many items were removed.

@@ -144,10 +144,10 @@ shown_annotated (shown ∷ threads) rest h =
 reply_annotated : (r : Reply) → IsAnnotated (text_line (reply_text r)) (text_line (reply_text r))
 reply_annotated reply.Done = one_line (codes "ok") refl refl
 reply_annotated (reply.Posted posted) = one_line (codes "ok " ++ posted_text posted) (posted_without posted) refl
-reply_annotated (reply.Associated thread queue) =
-    one_line (reply_text (reply.Associated thread queue)) (then_more thread (codes " q" ++ decimal queue) (decimal_without queue)) refl
-reply_annotated (reply.Committed thread cpu) =
-    one_line (reply_text (reply.Committed thread cpu)) (then_more thread (codes " c" ++ decimal cpu) (decimal_without cpu)) refl
+reply_annotated (reply.Associated queue thread) =
+    one_line (reply_text (reply.Associated queue thread)) (then_more thread (codes " q" ++ decimal queue) (decimal_without queue)) refl
+reply_annotated (reply.Committed cpu thread) =
+    one_line (reply_text (reply.Committed cpu thread)) (then_more thread (codes " c" ++ decimal cpu) (decimal_without cpu)) refl
 reply_annotated (reply.Published delta items) =
     one_line (reply_text (reply.Published delta items)) (then_more delta (codes " items " ++ decimal items) (decimal_without items)) refl
 reply_annotated (reply.Consumed items) = one_line (reply_text (reply.Consumed items)) (decimal_without items) refl
@@ -160,7 +160,7 @@ response_annotated response.NoEnclave = one_line (codes "refused NoEnclave") ref
 response_annotated response.HaveEnclave = one_line (codes "refused HaveEnclave") refl refl
 response_annotated (response.BadLimits limit) = one_line (response_text (response.BadLimits limit)) (limit_without limit) refl
 response_annotated (response.Event reply) = reply_annotated reply
-response_annotated (response.Status thread status phase) =
+response_annotated (response.Status phase thread status) =
     one_line (status_text thread status phase) (status_without thread status phase) refl
 response_annotated (response.Truth true) = one_line (codes "yes") refl refl
 response_annotated (response.Truth false) = one_line (codes "no") refl refl

@@ -26,9 +26,9 @@ pub enum Response {
     Event(Reply),
     /// `T nN PHASE`, and ` cC` where the thread runs: the thread's status word, and its phase.
     Status {
+        phase: Phase,
         thread: Tid,
         status: Status,
-        phase: Phase,
     },
     /// `yes` or `no`.
     Truth(bool),

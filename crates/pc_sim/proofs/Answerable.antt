@@ -44,7 +44,7 @@ status_by : (P : PlainKernel) (t : ℕ) → IsBegun (kinds P t) → (b : Bool) �
 status_by P t begun false e = (response.Refused refusal.UnknownThread, refl)
 status_by P t begun true e =
     let phase = value_of (phase_of (kinds P t)) (phase_some (kinds P t) begun (some_number (number P t) e)) in
-    (response.Status t (record { number = length (kinds P t); running_on = (thread_row P t).on }) phase.0, (phase.0, phase.1, refl))
+    (response.Status phase.0 t (record { number = length (kinds P t); running_on = (thread_row P t).on }), (phase.0, phase.1, refl))
 
 status_has : (w : PlainWorld) (t : ℕ) → IsBegun (kinds w.kernel t) → (told : Response) × IsStatus t ((shown w.kernel).thread t) told
 status_has w t begun = status_by w.kernel t begun (is_known w.kernel t) refl

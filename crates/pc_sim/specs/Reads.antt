@@ -27,7 +27,7 @@ abbrev pub IsStatus : ℕ → Option ThreadRow → Response → Type 0
 IsStatus t None told = told ≡ response.Refused refusal.UnknownThread
 IsStatus t (Some row) told =
     (phase : Phase) × (phase_of row.kinds ≡ Some phase)
-    × (told ≡ response.Status t (record { number = length row.kinds; running_on = row.on }) phase)
+    × (told ≡ response.Status phase t (record { number = length row.kinds; running_on = row.on }))
 
 -- whether the CPU's agent sleeps
 abbrev pub IsAsleep : PlainWorld → ℕ → Response → Type 0

@@ -38,16 +38,16 @@ use Rattle.pc_world.proofs.Reaching.{shown_short}
 not_below : (a b : ℕ) → b ≤ a → nat_lt a b ≡ false
 not_below a b e = grind (arith, nat_tests)
 
-no_refusal_associated : (t c : ℕ) (why : Refusal) → ◌≡◌ {A = Reply} (replies.Associated t c) (replies.Refused why) → ⊥
+no_refusal_associated : (t c : ℕ) (why : Refusal) → ◌≡◌ {A = Reply} (replies.Associated c t) (replies.Refused why) → ⊥
 no_refusal_associated t c why e = cc
 
-no_refusal_committed : (t c : ℕ) (why : Refusal) → ◌≡◌ {A = Reply} (replies.Committed t c) (replies.Refused why) → ⊥
+no_refusal_committed : (t c : ℕ) (why : Refusal) → ◌≡◌ {A = Reply} (replies.Committed c t) (replies.Refused why) → ⊥
 no_refusal_committed t c why e = cc
 
-same_associated : (t u c : ℕ) → ◌≡◌ {A = Reply} (replies.Associated t c) (replies.Associated u c) → u ≡ t
+same_associated : (t u c : ℕ) → ◌≡◌ {A = Reply} (replies.Associated c t) (replies.Associated c u) → u ≡ t
 same_associated t u c e = cc
 
-same_committed : (t u c : ℕ) → ◌≡◌ {A = Reply} (replies.Committed t c) (replies.Committed u c) → u ≡ t
+same_committed : (t u c : ℕ) → ◌≡◌ {A = Reply} (replies.Committed c t) (replies.Committed c u) → u ≡ t
 same_committed t u c e = cc
 
 -- of two conditions neither holds
@@ -73,7 +73,7 @@ module _ (laws : KernelLaws) (limits : Limits) (w : PlainWorld) (h : IsGood limi
 -- a steal
 module _ (w new : PlainWorld) (c t : ℕ) where
   abbrev told : Reply
-  told = replies.Associated t c
+  told = replies.Associated c t
 
   abbrev Accepts : ℕ → Type 0
   Accepts u = refused (shown w.kernel) (takes_over c (w.agents c) u) ≡ None
@@ -127,7 +127,7 @@ module _ (laws : KernelLaws) (limits : Limits) (w : PlainWorld) (h : IsGood limi
         | inr o ↦ home.elsewhere q o
       ]
 
-  pub exact_steal : (new : PlainWorld) (c t : ℕ) → Step w (event.Steal c) (replies.Associated t c) new → IsExactSteal w c t
+  pub exact_steal : (new : PlainWorld) (c t : ℕ) → Step w (event.Steal c) (replies.Associated c t) new → IsExactSteal w c t
   exact_steal new c t s =
       let exact = laws.associates w.kernel t c (upto (w.agents c).seen t) (accepted_steal w new c t s) in
       record {
@@ -150,7 +150,7 @@ none_is (Some why) e = cc
 
 module _ (laws : KernelLaws) (w new : PlainWorld) (c t n : ℕ) where
   abbrev committed : Reply
-  committed = replies.Committed t c
+  committed = replies.Committed c t
 
   accepted_commit : (o : Option Refusal) → committed ≡ told_of (call.Commit c t n) (reply_of o Done) → o ≡ None
   accepted_commit None e = refl

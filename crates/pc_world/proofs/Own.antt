@@ -191,15 +191,15 @@ module _ (goes : RunsGoOn) (old new : Parts) (c place : ℕ) (agent more : Agent
         )
 
   pub pick_done : (n t : ℕ) → WhateverShown old.kernel agent (λ P run p. IsPicked n P run p (Ok t) (cpu_of agent) more new.kernel) → deltas_of new ≡ deltas_of old
-      → Handles (event.Pick c n) (Ok (replies.Committed t c)) old new
+      → Handles (event.Pick c n) (Ok (replies.Committed c t)) old new
   pick_done n t says sent w h =
       let p = w.agents c in
       let P = w.kernel in
       let said = subst (λ m. IsPicked n P (kinds P) p (Ok t) m more new.kernel) is_own (of_world _ says w h) in
       let w' : PlainWorld = record (with_agent w c (record p { list = said.1.rest })) { kernel = after P (call.Commit c t n) } in (
         w',
-        on_cpu w (replies.Committed t c) w' _ h
-            (subst (λ o. steps.IsPicked w c n o (replies.Committed t c) w') (sym said.0) (subst (λ l. steps.IsCommitted w c n l (replies.Committed t c) w') (sym said.1.first) (refl, refl))),
+        on_cpu w (replies.Committed c t) w' _ h
+            (subst (λ o. steps.IsPicked w c n o (replies.Committed c t) w') (sym said.0) (subst (λ l. steps.IsCommitted w c n l (replies.Committed c t) w') (sym said.1.first) (refl, refl))),
         after_call w (after P (call.Commit c t n)) (record p { list = said.1.rest }) h said.1.after (goes.calls P (call.Commit c t n)) said.1.agent sent,
         kept_same old new sent,
       )
@@ -226,20 +226,20 @@ module _ (goes : RunsGoOn) (old new : Parts) (c place : ℕ) (agent more : Agent
   said_stolen result says w h = subst (λ n. Steals w.kernel (kinds w.kernel) (w.agents c) result n more new.kernel) is_own (of_world _ says w h)
 
   pub steal_done : (t : ℕ) → WhateverShown old.kernel agent (λ P run p. Steals P run p (Ok t) (cpu_of agent) more new.kernel) → deltas_of new ≡ deltas_of old
-      → Handles (event.Steal c) (Ok (replies.Associated t c)) old new
+      → Handles (event.Steal c) (Ok (replies.Associated c t)) old new
   steal_done t says sent w h = by_test (is_some (on (shown w.kernel) c)) refl (said_stolen (Ok t) says w h)
     where
       w' : PlainWorld
       w' = record (with_agent w c (record (w.agents c) { list = (w.agents c).list ++ t ∷ [] })) { kernel = after w.kernel (takes_over c (w.agents c) t) }
 
       by_test : (b : Bool) → is_some (on (shown w.kernel) c) ≡ b → MatchBool b (◌≡◌ {A = Result ℕ faults.the_data} (Ok t) (Err (faults.Refused refusals.Busy))) (is_stolen w (Ok t))
-          → (w'' : PlainWorld) × steps.IsStealing c w (replies.Associated t c) w'' × ShowsWorld new w'' × KeepsSent old new
+          → (w'' : PlainWorld) × steps.IsStealing c w (replies.Associated c t) w'' × ShowsWorld new w'' × KeepsSent old new
       by_test true e said = absurd (let none : ⊥ = cc in none)
       by_test false e said = (
         w',
-        on_cpu w (replies.Associated t c) w' _ h
-            (subst (λ b. steps.IsStolen w c b (replies.Associated t c) w') (sym e)
-            (Some t, said.0, subst (λ o. steps.IsTakenOver w c t o (replies.Associated t c) w') (sym said.1) (refl, refl))),
+        on_cpu w (replies.Associated c t) w' _ h
+            (subst (λ b. steps.IsStolen w c b (replies.Associated c t) w') (sym e)
+            (Some t, said.0, subst (λ o. steps.IsTakenOver w c t o (replies.Associated c t) w') (sym said.1) (refl, refl))),
         after_call w (after w.kernel (takes_over c (w.agents c) t)) (record (w.agents c) { list = (w.agents c).list ++ t ∷ [] }) h said.2.after (goes.calls w.kernel (takes_over c (w.agents c) t)) said.2.agent sent,
         kept_same old new sent,
       )

@@ -169,7 +169,7 @@ module _ (laws : KernelLaws) (limits : Limits) (w : PlainWorld) (h : IsGood limi
   commit_step : (c n : ℕ) (names : List ℕ) → is_empty_list names ≡ false → Can (IsCommitted w c n names)
   commit_step c n [] some = cc
   commit_step c n (t ∷ rest) some =
-      (replies.Committed t c, record (with_agent w c (record (w.agents c) { list = rest })) { kernel = after w.kernel (call.Commit c t n) }, (refl, refl))
+      (replies.Committed c t, record (with_agent w c (record (w.agents c) { list = rest })) { kernel = after w.kernel (call.Commit c t n) }, (refl, refl))
 
   pick_step : (c n : ℕ) (o : Option Refusal) → pick_refused (shown w.kernel) c n (w.agents c).list ≡ o → Can (IsPicked w c n o)
   pick_step c n None e =
@@ -181,7 +181,7 @@ module _ (laws : KernelLaws) (limits : Limits) (w : PlainWorld) (h : IsGood limi
   take_step : (c t : ℕ) (o : Option Refusal) → Can (IsTakenOver w c t o)
   take_step c t None =
       let p = w.agents c in
-      (replies.Associated t c, record (with_agent w c (record p { list = p.list ++ t ∷ [] })) { kernel = after w.kernel (takes_over c p t) }, (refl, refl))
+      (replies.Associated c t, record (with_agent w c (record p { list = p.list ++ t ∷ [] })) { kernel = after w.kernel (takes_over c p t) }, (refl, refl))
   take_step c t (Some why) = (replies.Refused why, w, record { refused = refl; same = refl })
 
   try_step : (c : ℕ) (o : Option ℕ) → Can (IsTried w c o)

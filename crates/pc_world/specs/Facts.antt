@@ -101,14 +101,14 @@ pub record IsExactSteal (w : PlainWorld) (c t : ℕ) : Type 0 where
 
 abbrev pub StealsAreExact : Type 0
 StealsAreExact =
-    (limits : Limits) (w new : PlainWorld) (c t : ℕ) → Reached limits w → Step w (Steal c) (Associated t c) new → IsExactSteal w c t
+    (limits : Limits) (w new : PlainWorld) (c t : ℕ) → Reached limits w → Step w (Steal c) (Associated c t) new → IsExactSteal w c t
 
 -- whatever world it is done in
 abbrev pub CommitsAreExact : Type 0
-CommitsAreExact = (w new : PlainWorld) (c t n : ℕ) → Step w (Commit c t n) (Committed t c) new → IsExactCommit w.kernel c t n
+CommitsAreExact = (w new : PlainWorld) (c t n : ℕ) → Step w (Commit c t n) (Committed c t) new → IsExactCommit w.kernel c t n
 
 abbrev pub PicksAreExact : Type 0
-PicksAreExact = (w new : PlainWorld) (c t n : ℕ) → Step w (Pick c n) (Committed t c) new → IsExactCommit w.kernel c t n
+PicksAreExact = (w new : PlainWorld) (c t n : ℕ) → Step w (Pick c n) (Committed c t) new → IsExactCommit w.kernel c t n
 
 -- every event can be done
 abbrev pub EveryEventHasAStep : Type 0

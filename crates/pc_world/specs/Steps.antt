@@ -98,7 +98,7 @@ IsAnswering c asker w told new = MatchBool (are_cpus w c asker) (IsAnswered w c 
 abbrev pub IsCommitted : PlainWorld → ℕ → ℕ → List ℕ → Reply → PlainWorld → Type 0
 IsCommitted w c n [] told new = ⊥
 IsCommitted w c n (t ∷ rest) told new =
-    (told ≡ reply.Committed t c)
+    (told ≡ reply.Committed c t)
     × (new ≡ record (with_agent w c (record (w.agents c) { list = rest })) { kernel = kernel.after w.kernel (call.Commit c t n) })
 
 -- a pick, refused or not; where no name could be committed, the run list is empty
@@ -114,7 +114,7 @@ IsPicking c n w told new = OnCpu w c told new (IsPicked w c n (pick_refused (sho
 abbrev pub IsTakenOver : PlainWorld → ℕ → ℕ → Option Refusal → Reply → PlainWorld → Type 0
 IsTakenOver w c t None told new =
     let p = w.agents c in
-    (told ≡ reply.Associated t c)
+    (told ≡ reply.Associated c t)
     × (new ≡ record (with_agent w c (record p { list = p.list ++ t ∷ [] })) { kernel = kernel.after w.kernel (takes_over c p t) })
 IsTakenOver w c t (Some r) told new = IsRefused w r told new
 
