@@ -49,7 +49,11 @@ impl LineEnd {
         ensures start { (self.old.start ≤ self.new.start + 20) × (self.new.start ≤ self.old.start) }
         ensures written { drop self.new.start self.new.bytes ≡ decimal number ++ drop self.old.start self.old.bytes }
     {
-        self.start = write_digits(number, &mut self.bytes, self.start);
+        if number < 10 {
+            self.text(&[b'0' + number as u8]);
+        } else {
+            self.start = write_digits(number, &mut self.bytes, self.start);
+        }
     }
 
     /// What is written.
