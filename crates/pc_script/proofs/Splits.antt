@@ -20,14 +20,14 @@ untrue : (b : Bool) → (b ≡ true → ⊥) → b ≡ false
 untrue true none = absurd (none refl)
 untrue false none = refl
 
--- a byte of a text that is found to be a line feed, and bytes that are found to be others
-pub line_feed_at : (text : List ℕ) (place : ℕ) → place < length text → IsLineFeed (get_or text place 0) → HoldsAt IsLineFeed text place
-line_feed_at text place within is = λ d. subst IsLineFeed (sym (get_or_default_zero text place d within)) is
+-- a place of a text where this byte is found, and places where it is not
+pub byte_at : (byte : ℕ) (text : List ℕ) (place : ℕ) → place < length text → eqb (get_or text place 0) byte ≡ true → HoldsAt (λ b. eqb b byte ≡ true) text place
+byte_at byte text place within is = λ d. subst (λ b. eqb b byte ≡ true) (sym (get_or_default_zero text place d within)) is
 
-pub no_line_feed : (text : List ℕ) (end : ℕ) → end ≤ length text → ((k : ℕ) → 0 ≤ k → k < end → IsLineFeed (get_or text k 0) → ⊥)
-    → AllWithin IsNoLineFeed text 0 end
-no_line_feed text end within none = λ k d low high.
-    subst IsNoLineFeed (sym (get_or_default_zero text k d (omega (arith, within, high)))) (untrue (eqb (get_or text k 0) 10) (none k low high))
+pub no_byte : (byte : ℕ) (text : List ℕ) (end : ℕ) → end ≤ length text → ((k : ℕ) → 0 ≤ k → k < end → eqb (get_or text k 0) byte ≡ true → ⊥)
+    → AllWithin (λ b. eqb b byte ≡ false) text 0 end
+no_byte byte text end within none = λ k d low high.
+    subst (λ b. eqb b byte ≡ false) (sym (get_or_default_zero text k d (omega (arith, within, high)))) (untrue (eqb (get_or text k 0) byte) (none k low high))
 
 -- a text without a line feed is one line
 pub lines-last : (text : List ℕ) → AllWithin IsNoLineFeed text 0 (length text) → lines text ≡ strip_carriage_return text ∷ []

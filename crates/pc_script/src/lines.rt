@@ -1,12 +1,17 @@
 //! The lines of a text, and the words of a line.
 
-ghost use Rattle.std.specs.Prelude.{◌≡◌, [], ◌∷◌, MatchOption};
+ghost use Rattle.std.specs.Prelude.{◌≡◌, ◌≤◌, [], ◌∷◌, MatchOption, length};
+ghost use Rattle.memchr.specs.Find.{IsFirst, IsFirstByte, Passes, is_byte};
 ghost use Rattle.std.specs.Iterator.{YieldsFirstBy, item_count};
 ghost use Rattle.std.specs.Str.Lines.{strip_carriage_return};
 ghost use Rattle.pc_script.specs.Text.{lines, words};
 ghost use Rattle.pc_script.specs.Left.{lines_left, lines_of_rest};
 
 use memchr::memchr;
+use std::simd::prelude::*;
+
+/// How many bytes are looked at together.
+const LANES: usize = 8;
 
 /// The lines of a text that are left, or none after the last.
 #[derive(Drop)]
@@ -59,13 +64,38 @@ fn without_carriage_return(line: &[u8]) -> &[u8]
     }
 }
 
+/// Where the first space is from a place on.
+fn first_space_from(text: &[u8], from: usize) -> Option<usize>
+    requires { from ≤ length text.now }
+    ensures { IsFirst (Passes (is_byte 32) text.now) from (length text.now) result }
+{
+    let place = text[from..].iter().position(|b| *b == b' ')?;
+    Some(from + place)
+}
+
+/// Where the first space is. The first eight bytes are looked at together: few verbs are longer.
+fn first_space(text: &[u8]) -> Option<usize>
+    ensures { IsFirstByte (is_byte 32) text.now result }
+{
+    if text.len() < LANES {
+        return first_space_from(text, 0);
+    }
+    let spaces = u8x8::from_slice(text)
+        .simd_eq(u8x8::splat(b' '))
+        .to_bitmask();
+    if spaces == 0 {
+        return first_space_from(text, LANES);
+    }
+    Some(spaces.trailing_zeros() as usize)
+}
+
 /// The first word of a text, and the text after it: words are the parts between spaces that aren't empty.
 pub fn first_word(text: &[u8]) -> Option<(&[u8], &[u8])>
     ensures { MatchOption result (words text.now ≡ []) (λ cut. words text.now ≡ cut.0.now ∷ words cut.1.now) }
 {
     let start = text.iter().position(|b| *b != b' ')?;
     let text = &text[start..];
-    match text.iter().position(|b| *b == b' ') {
+    match first_space(text) {
         Some(end) => Some((&text[..end], &text[end + 1..])),
         None => Some((text, &text[text.len()..])),
     }

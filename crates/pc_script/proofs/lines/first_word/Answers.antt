@@ -1,7 +1,7 @@
 use Rattle.std.proofs.Common.{rules, tests, arith, ◌-◌, length, drop, take, length-drop}
 use Rattle.std.proofs.lemmas.List.{take_all}
 use Rattle.std.proofs.lemmas.Iterator.{IsFirst-from_position, YieldsList-from_slice}
-use Rattle.pc_script.proofs.Splits.{IsSpace, IsNoSpace, words-none, words-cut, words-cut-last}
+use Rattle.pc_script.proofs.Splits.{byte_at, no_byte, IsSpace, IsNoSpace, words-none, words-cut, words-cut-last}
 use Rattle.pc_script.proofs.lines.first_word.Goals as goal
 
 pub returns-in_err-start : goal.returns-in_err-start
@@ -18,8 +18,8 @@ returns-in-Some c =
     let rest = take (length text - start) (drop start text) in
     let whole = take_all (length text - start) (drop start text) (omega (arith, length-drop start text)) in
     let begun = IsFirst-from_position _ _ _ IsNoSpace IsSpace c.in_ok-start.ensures.ran (YieldsList-from_slice text cc) (λ x q k. search (rules, tests)) (λ x q k. search (rules, tests)) in
-    let ended = IsFirst-from_position _ _ _ IsSpace IsNoSpace c.in-Some.ensures.ran (YieldsList-from_slice rest cc) (λ x q k. search (rules, tests)) (λ x q k. search (rules, tests)) in
-    words-cut text rest start end whole begun.0 begun.1 begun.2 ended.0 ended.1 ended.2
+    let found = c.in-Some.ensures in
+    words-cut text rest start end whole begun.0 begun.1 begun.2 found.0.high (byte_at 32 rest end found.0.high found.1) (no_byte 32 rest end (omega (arith, found.0.high)) found.0.before)
 
 pub returns-in-None : goal.returns-in-None
 returns-in-None c =
@@ -28,5 +28,4 @@ returns-in-None c =
     let rest = take (length text - start) (drop start text) in
     let whole = take_all (length text - start) (drop start text) (omega (arith, length-drop start text)) in
     let begun = IsFirst-from_position _ _ _ IsNoSpace IsSpace c.in_ok-start.ensures.ran (YieldsList-from_slice text cc) (λ x q k. search (rules, tests)) (λ x q k. search (rules, tests)) in
-    let ended = IsFirst-from_position _ _ _ IsSpace IsNoSpace c.in-None.ensures.ran (YieldsList-from_slice rest cc) (λ x q k. search (rules, tests)) (λ x q k. search (rules, tests)) in
-    words-cut-last text rest start whole begun.0 begun.2 ended
+    words-cut-last text rest start whole begun.0 begun.2 (no_byte 32 rest (length rest) (omega arith) c.in-None.ensures)
