@@ -3,6 +3,7 @@
 ghost use Rattle.std.specs.Prelude.{OnOk};
 ghost use Rattle.std.specs.Io.KnownBytes.{Appends};
 ghost use Rattle.pc_script.specs.Responses.{response_text, text_line};
+ghost use Rattle.pc_script.specs.declared.response.Response.{Response};
 
 use crate::lists::ShownThreads;
 use crate::short::write_line;
@@ -49,7 +50,16 @@ impl Response {
         let mut line = LineEnd::new();
         match write_line(&mut line, self) {
             None => writer.write_all(line.as_slice()),
-            Some(threads) => writeln!(writer, "{threads}end"),
+            Some(threads) => write_view(threads, writer),
         }
     }
+}
+
+/// Writes a line for each thread of a view, then `end`. It stands apart, so that what it needs is not made ready for every
+/// response.
+#[inline(never)]
+fn write_view<W: Write>(threads: &ShownThreads, writer: &mut W) -> io::Result<()>
+    ensures { OnOk result (Appends (W.contents writer.old) (W.contents writer.new) (text_line (response_text (Response.View threads.now)))) }
+{
+    writeln!(writer, "{threads}end")
 }
