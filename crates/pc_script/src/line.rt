@@ -69,12 +69,13 @@ fn answer<M: Machine, W: Write>(
         → M.RanOut profile commands responses command) }
     ensures read_all { (result ≢ Err ScriptFault.Read) × (result ≢ Err ScriptFault.TooLong) }
 {
-    let Ok(response) = machine.answer(command) else {
-        return Err(ScriptFault::OutOfMemory);
-    };
-    match response.write_to(writer) {
-        Ok(()) => Ok(()),
-        Err(_) => Err(ScriptFault::Write),
+    // The response is written from where it was answered: to move it first would be to copy it.
+    match &machine.answer(command) {
+        Ok(response) => match response.write_to(writer) {
+            Ok(()) => Ok(()),
+            Err(_) => Err(ScriptFault::Write),
+        },
+        Err(_) => Err(ScriptFault::OutOfMemory),
     }
 }
 
