@@ -68,11 +68,11 @@ pub enum Call {
 /// (the ghOSt paper's Aseq), and the agent that it woke.
 #[derive(Clone, Copy, Debug, PartialEq, Eq)]
 pub struct Posted {
+    pub queue: Cpu,
+    pub woken: Option<Cpu>,
+    pub aseq: u32,
     pub thread: Option<Tid>,
     pub number: Option<u32>,
-    pub queue: Cpu,
-    pub aseq: u32,
-    pub woken: Option<Cpu>,
 }
 
 /// The answer of an accepted call.
