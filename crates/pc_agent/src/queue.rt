@@ -112,7 +112,7 @@ impl Agent {
         self.shown = items;
     }
 
-    /// Copies all that its queue holds and sends it, and answers how many items that were. The items stay in the queue
+    /// Takes in all that its queue holds and sends it, and answers how many items that were. The items stay in the queue
     /// until [`Agent::consume`].
     ///
     /// Where the wire refuses, or has no memory for the send, the view and the run list have changed all the same.
@@ -141,7 +141,7 @@ impl Agent {
         }
     }
 
-    /// Copies the items, which are all that its queue holds, and sends them.
+    /// Takes in the items, which are all that its queue holds, and sends them.
     fn publish_items<W: Wire>(&mut self, items: &[Item], wire: &mut W) -> Result<u32, SendFault>
         requires few { length items.now < 2 ^ 32 }
         requires tellable { AreTellable items.now }

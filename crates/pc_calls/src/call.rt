@@ -64,8 +64,8 @@ pub enum Call {
     },
 }
 
-/// What was posted: the thread's name and number (none for a tick), the queue, the queue's count of posts after it
-/// (the ghOSt paper's Aseq), and the agent that it woke.
+/// What was posted: the queue, the agent that the post woke, the queue's count of posts after it (the ghOSt paper's
+/// Aseq), and the thread's name and number (none for a tick). What is short stands in front, as in [`crate::Reply`].
 #[derive(Clone, Copy, Debug, PartialEq, Eq)]
 pub struct Posted {
     pub queue: Cpu,

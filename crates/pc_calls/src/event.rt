@@ -74,6 +74,9 @@ pub enum Event {
 }
 
 /// What an event is answered.
+///
+/// In each variant what is short stands in front of what is wide. A reply is copied in the pieces that the fields of all
+/// variants cut it into, and a lone byte amid wide fields leaves pieces of odd sizes, which are slow to copy.
 #[derive(Clone, Copy, Debug, PartialEq, Eq)]
 pub enum Reply {
     /// It is done, and there is nothing more to say.

@@ -1,6 +1,6 @@
 //! The kernel model.
 
-ghost use Rattle.std.specs.Prelude.{◌≡◌, ◌≤◌, ◌↔◌, ℕ, nat_lt, Some, None, ◌++◌, is_some, length, IfOk, IfSome, IfErr, IsFalse, ◌⊎◌};
+ghost use Rattle.std.specs.Prelude.{◌≡◌, ◌<◌, ◌≤◌, ◌↔◌, ℕ, nat_lt, Some, None, ◌++◌, is_some, length, IfOk, IfSome, IfErr, IsFalse, ◌⊎◌};
 ghost use Rattle.std.specs.Option.{option_copied};
 ghost use Rattle.pc_calls.specs.Limits.{bad_field};
 ghost use Rattle.pc_calls.specs.declared.limits.TheConstants.{MOST_CPUS, MOST_ROOM};
@@ -193,6 +193,7 @@ impl Kernel {
         ensures of_run { IfSome result (λ held. AreItemsOf (kinds_read (seen self.now)) (held.0.now ++ held.1.now)) }
         ensures tellable { IfSome result (λ held. AreTellable (held.0.now ++ held.1.now)) }
         ensures few { IfSome result (λ held. length (held.0.now ++ held.1.now) ≤ MOST_ROOM) }
+        ensures front { IfSome result (λ held. (0 < length held.0.now) ↔ (0 < length (content_read (seen self.now) cpu))) }
         ensures there { is_some result ≡ is_cpu (seen self.now) cpu }
     {
         self.tables.is_sound();

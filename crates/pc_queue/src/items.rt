@@ -148,7 +148,8 @@ impl ItemQueue {
 
     /// The items where they stand: those of the first slice, then those of the second. They stay in the queue. It takes no memory.
     pub fn as_slices(&self) -> (&[Item], &[Item])
-        ensures { result.0.now ++ result.1.now ≡ self.now.items }
+        ensures items { result.0.now ++ result.1.now ≡ self.now.items }
+        ensures front { (0 < length result.0.now) ↔ (0 < length self.now.items) }
     {
         self.items.as_slices()
     }

@@ -25,6 +25,7 @@ fn digit(byte: u8) -> Option<u64>
 pub fn number(word: &[u8]) -> Option<u64>
     ensures { MatchOption result ((n : ℕ) → n < 2 ^ 64 → word.now ≡ decimal n → ⊥) (λ n. (n < 2 ^ 64) × (word.now ≡ decimal n)) }
 {
+    // Most numbers of scripts are of CPUs, and have one digit.
     if let [byte] = word {
         return digit(*byte);
     }

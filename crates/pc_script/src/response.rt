@@ -25,7 +25,8 @@ pub enum Response {
     BadLimits(LimitField),
     /// What the event is replied: `ok` and what there is to say, or `refused` and the refusal.
     Event(Reply),
-    /// `T nN PHASE`, and ` cC` where the thread runs: the thread's status word, and its phase.
+    /// `T nN PHASE`, and ` cC` where the thread runs: the thread's status word, and its phase, which stands in front as what is
+    /// short does in [`Reply`].
     Status {
         phase: Phase,
         thread: Tid,

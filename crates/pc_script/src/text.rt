@@ -49,6 +49,7 @@ impl LineEnd {
         ensures start { (self.old.start ≤ self.new.start + 20) × (self.new.start ≤ self.old.start) }
         ensures written { drop self.new.start self.new.bytes ≡ decimal number ++ drop self.old.start self.old.bytes }
     {
+        // Most numbers of replies that have one digit are of CPUs or counts of items, and there are many.
         if number < 10 {
             self.text(&[b'0' + number as u8]);
         } else {
