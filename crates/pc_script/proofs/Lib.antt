@@ -3,3 +3,4 @@ pub mod Openings
 pub mod Progress
 pub mod Splits
 pub mod Spellings
+pub mod Taking

@@ -4,8 +4,9 @@ use Rattle.std.specs.Int.{IsInRange}
 use Rattle.std.specs.Result.{result_ok, OkIff}
 use Rattle.std.specs.Str.Parse.{digits_value, AllDigits}
 use Rattle.std.proofs.lemmas.Str.Parse.{numerals_by_value, tells_digits, IsNumeralModel, digit_at, digits_value-take-le}
-use Rattle.std.proofs.lemmas.Int.Digits.{digits_value_more, digits_more}
-use Rattle.std.proofs.lemmas.List.{take_all}
+use Rattle.std.proofs.lemmas.Int.Digits.{digits_value_more, digits_more, digits_value-lt}
+use Rattle.std.proofs.lemmas.List.{take_all, length-take-le}
+use Rattle.std.proofs.Math.Nat.{pow-le-pow_right}
 use Rattle.std.proofs.lemmas.Str.{digit_value_digit}
 use Rattle.std.proofs.lemmas.Fmt.{decimal_digit, first_decimal, decimal-digits_value, decimal_nonempty, digits_decimal, digits_value-decimal, decimal_injective}
 
@@ -58,6 +59,14 @@ read_more word count value read within digit small =
       number = sym (value_more word count value read within digit);
       small = small;
     }
+
+-- a number of less than nineteen digits has room for one more
+pub room_for_digit : (word : List ℕ) (count value : ℕ) → HasRead word count value → count < length word → count < 19 → value * 10 + 9 < 2 ^ 64
+room_for_digit word count value read within short =
+    let size : length (take count word) ≡ count = length-take-le count word (omega (arith, within)) in
+    let below : value < 10 ^ count = subst (λ n. value < 10 ^ n) size (omega (arith, digits_value-lt 10 (take count word) read.digits, read.number)) in
+    let most : 10 ^ count ≤ 10 ^ 18 = pow-le-pow_right {n = 10} (omega arith) {i = count} {j = 18} (omega (arith, short)) in
+    omega (arith, below, most)
 
 -- a number has no larger one in front
 pub at_most : (word : List ℕ) (n count value : ℕ) → HasRead word count value → count < length word → n < 2 ^ 64 → word ≡ decimal n

@@ -87,9 +87,9 @@ same_field one other e h k is = cc
 
 -- ---- fields that cannot be read
 
-pub no_fields : (word : List ℕ) (rest : List (List ℕ)) (any : List Field) → kinds_of any ≡ [] → word ∷ rest ≡ words_of any → ⊥
-no_fields word rest [] e is = cc
-no_fields word rest (field ∷ fields) e is = cc
+pub no_fields : (before : List (List ℕ)) → (before ≡ [] → ⊥) → (any : List Field) → kinds_of any ≡ [] → before ≡ words_of any → ⊥
+no_fields before some [] e is = some is
+no_fields before some (field ∷ fields) e is = cc
 
 -- a failure is the word `fail` alone
 pub fail_alone : (word : List ℕ) (rest : List (List ℕ)) (any : List Field) → kinds_of any ≡ failure ∷ [] → word ∷ rest ≡ words_of any
@@ -100,30 +100,22 @@ fail_alone word rest (Failure false ∷ []) e is = cc
 fail_alone word rest (field ∷ second ∷ fields) e is = cc
 fail_alone word rest (field ∷ []) e is = cc
 
-pub no_pair-empty : (kind : Kind) (others : List Kind) → is_word kind ≡ true
-    → (any : List Field) → kinds_of any ≡ kind ∷ others → [] ≡ words_of any → ⊥
-no_pair-empty kind others alone [] e is = cc
-no_pair-empty kind others alone (field ∷ fields) e is =
-    let kinded : kind_of field ≡ kind = cc in
-    let one = one_word field (ap is_word kinded ∙ alone) in
-    let all : [] ≡ one.0 ∷ words_of fields = is ∙ ap (λ words. words ++ words_of fields) one.1 in
-    cc
+pub no_pair-first : (kind : Kind) (kinds : List Kind) (before : List (List ℕ))
+    → ((any : Field) → kind_of any ≡ kind → IsInRange any → (others : List (List ℕ)) → before ≡ field_words any ++ others → ⊥)
+    → (any : List Field) → kinds_of any ≡ kind ∷ kinds → AreInRange any → before ≡ words_of any → ⊥
+no_pair-first kind kinds before none [] e h is = cc
+no_pair-first kind kinds before none (field ∷ fields) e h is = none field (cc) h.0 (words_of fields) is
 
-pub no_pair-first : (kind : Kind) (others : List Kind) (word : List ℕ) (rest : List (List ℕ)) → is_word kind ≡ true
-    → ((any : Field) → kind_of any ≡ kind → IsInRange any → field_words any ≡ word ∷ [] → ⊥)
-    → (any : List Field) → kinds_of any ≡ kind ∷ others → AreInRange any → word ∷ rest ≡ words_of any → ⊥
-no_pair-first kind others word rest alone none [] e h is = cc
-no_pair-first kind others word rest alone none (field ∷ fields) e h is =
+pub no_pair-others : (kind : Kind) (kinds : List Kind) (first : Field) (before after : List (List ℕ)) → is_word kind ≡ true
+    → kind_of first ≡ kind → before ≡ field_words first ++ after
+    → ((any : List Field) → kinds_of any ≡ kinds → AreInRange any → after ≡ words_of any → ⊥)
+    → (any : List Field) → kinds_of any ≡ kind ∷ kinds → AreInRange any → before ≡ words_of any → ⊥
+no_pair-others kind kinds first before after alone same begins none [] e h is = cc
+no_pair-others kind kinds first before after alone same begins none (field ∷ fields) e h is =
+    let one = one_word first (ap is_word same ∙ alone) in
     let kinded : kind_of field ≡ kind = cc in
-    none field kinded h.0 (parts field fields word rest (ap is_word kinded ∙ alone) is).0
-
-pub no_pair-others : (kind : Kind) (others : List Kind) (word : List ℕ) (rest : List (List ℕ)) → is_word kind ≡ true
-    → ((any : List Field) → kinds_of any ≡ others → AreInRange any → rest ≡ words_of any → ⊥)
-    → (any : List Field) → kinds_of any ≡ kind ∷ others → AreInRange any → word ∷ rest ≡ words_of any → ⊥
-no_pair-others kind others word rest alone none [] e h is = cc
-no_pair-others kind others word rest alone none (field ∷ fields) e h is =
-    let kinded : kind_of field ≡ kind = cc in
-    none fields (cc) h.1 (parts field fields word rest (ap is_word kinded ∙ alone) is).1
+    let front : one.0 ∷ after ≡ words_of (field ∷ fields) = sym (ap (λ words. words ++ after) one.1) ∙ sym begins ∙ is in
+    none fields (cc) h.1 (parts field fields one.0 after (ap is_word kinded ∙ alone) front).1
 
 -- ---- many fields
 

@@ -3,10 +3,11 @@ use Rattle.std.proofs.Common.{◌≡◌, ℕ, zero, suc, ◌+◌, ◌-◌, lengt
 use Rattle.std.specs.List.{slice_split, AllWithin, HoldsAt, position_or_len}
 use Rattle.std.specs.Str.Lines.{strip_carriage_return}
 use Rattle.std.proofs.lemmas.List.Splits.{slice_split-cons_yes, slice_split_none, slice_split_first, length-slice_split}
-use Rattle.std.proofs.lemmas.List.Sums.{prefix_len_is, count_by-le-length}
+use Rattle.std.proofs.lemmas.List.Sums.{prefix_len_is, count_by-le-length, position_or_len_is, passes_at_first, fails_before_first}
 use Rattle.std.proofs.lemmas.Grind.{get_or_default_zero}
-use Rattle.std.proofs.lemmas.List.{length-map, length-take-le, take_all}
+use Rattle.std.proofs.lemmas.List.{length-map, length-take-le, take_all, drop_all}
 use Rattle.std.proofs.lemmas.Bool.{ne_eqb, true≢false}
+use Rattle.pc_script.specs.Inner.Taking.{StartsWithNoSpace, word_end}
 use Rattle.pc_script.specs.Text.{lines, words}
 
 -- a byte is a line feed, or isn't
@@ -152,3 +153,44 @@ words-cut-last text rest start is within spaces none =
     words-skip text start (omega (arith, within)) spaces
     ∙ ap words (sym is)
     ∙ rw (empty, words-none [] (λ k d low high. absurd (omega (arith, high)))) (words-last rest some none)
+
+-- ---- words that are taken one after another
+
+pub below_or_not : (k n : ℕ) → (k < n) ⊎ (n ≤ k)
+below_or_not k zero = inr (omega arith)
+below_or_not zero (suc n) = inl (omega arith)
+below_or_not (suc k) (suc n) = elim (below_or_not k n) [ inl h ↦ inl (omega (arith, h)) | inr h ↦ inr (omega (arith, h)) ]
+
+-- a space in front is passed over
+pub words-after_space : (text : List ℕ) → 0 < length text → get_or text 0 0 ≡ 32 → words (take (length text - 1) (drop 1 text)) ≡ words text
+words-after_space text some is =
+    let rest = take_all (length text - 1) (drop 1 text) (omega (arith, length-drop 1 text)) in
+    let space : AllWithin IsSpace text 0 1 = λ k d low high.
+    let first : k ≡ 0 = omega (arith, high) in
+    let at : get_or text k d ≡ 32 = get_or_default_zero text k d (omega (arith, high, some)) ∙ ap (λ j. get_or text j 0) first ∙ is in
+    subst IsSpace (sym at) refl in
+    rw rest (sym (words-skip text 1 (omega (arith, some)) space))
+
+-- the first space is where none stands before it, or the end
+pub word_end-is : (text : List ℕ) (end : ℕ) → end ≤ length text → ((k : ℕ) → k < end → eqb (get_or text k 0) 32 ≡ true → ⊥)
+    → (end < length text → eqb (get_or text end 0) 32 ≡ true) → word_end text ≡ end
+word_end-is text end within none at = position_or_len_is (λ b. eqb b 32) text end 0 within (λ k below. untrue (eqb (get_or text k 0) 32) (none k below)) at
+
+-- what does not start with a space starts with a word
+pub words-start : (text : List ℕ) → 0 < length text → StartsWithNoSpace text → words text ≡ take (word_end text) text ∷ words (drop (word_end text) text)
+words-start text some begins =
+    let end = word_end text in
+    let before : AllWithin IsNoSpace text 0 end = λ k d low high. fails_before_first (λ b. eqb b 32) text k d high in
+    let first : HoldsAt IsNoSpace text 0 = λ d. subst IsNoSpace (sym (get_or_default_zero text 0 d some)) (ne_eqb (get_or text 0 0) 32 (begins some)) in
+    elim (below_or_not end (length text)) [
+      | inl within ↦
+          let at : HoldsAt IsSpace text end = λ d. passes_at_first (λ b. eqb b 32) text d within in
+          let here : drop end text ≡ get_or text end 0 ∷ drop (end + 1) text = rw add-one (drop-cons text end 0 within) in
+          words-first text end first within at before
+          ∙ ap (λ parts. take end text ∷ parts) (sym (ap words here ∙ words-space (get_or text end 0) (drop (end + 1) text) (at 0)))
+      | inr past ↦
+          let all : take end text ≡ text = take_all end text past in
+          let none : drop end text ≡ [] = drop_all end text past in
+          rw (all, none, words-none [] (λ k d low high. absurd (omega (arith, high))))
+          (words-last text some (λ k d low high. before k d low (omega (arith, past, high))))
+    ]

@@ -1,34 +1,19 @@
 //! Numbers of a script's words.
 
-ghost use Rattle.std.specs.Prelude.{◌≡◌, ℕ, ◌<◌, ◌^◌, ◌↔◌, IsTrue, MatchOption, [], ◌∷◌, decimal, length, slice_index};
+ghost use Rattle.std.specs.Prelude.{◌≡◌, ℕ, ◌<◌, ◌^◌, ◌↔◌, IsTrue, MatchOption, decimal, length, slice_index};
 
 /// Whether a word is not empty, and has no needless zero in front.
-fn is_plain(word: &[u8]) -> bool
+#[inline(always)]
+pub(crate) fn is_plain(word: &[u8]) -> bool
     ensures { IsTrue result ↔ ((0 < length word.now) × (slice_index word.now 0 ≡ 48 → length word.now ≡ 1)) }
 {
     !word.is_empty() && (word[0] != b'0' || word.len() == 1)
-}
-
-/// The number that this byte is alone.
-#[inline(always)]
-fn digit(byte: u8) -> Option<u64>
-    ensures { MatchOption result ((n : ℕ) → n < 2 ^ 64 → byte ∷ [] ≡ decimal n → ⊥) (λ n. (n < 2 ^ 64) × (byte ∷ [] ≡ decimal n)) }
-{
-    if byte.is_ascii_digit() {
-        Some(u64::from(byte - b'0'))
-    } else {
-        None
-    }
 }
 
 /// The number that this word is in decimal, with neither a sign nor a zero in front.
 pub fn number(word: &[u8]) -> Option<u64>
     ensures { MatchOption result ((n : ℕ) → n < 2 ^ 64 → word.now ≡ decimal n → ⊥) (λ n. (n < 2 ^ 64) × (word.now ≡ decimal n)) }
 {
-    // Most numbers of scripts are of CPUs, and have one digit.
-    if let [byte] = word {
-        return digit(*byte);
-    }
     if !is_plain(word) {
         return None;
     }

@@ -1,14 +1,14 @@
-//! The fields of commands: a type for each, whose values are read from words.
+//! The fields of commands: a type for each, whose values are taken from the words of a line.
 
 ghost use Rattle.std.specs.Prelude.{◌≡◌, ◌∷◌, [], ℕ, List, Bool, true, refl};
 ghost use Rattle.pc_script.specs.Grammar.{Field};
 ghost use Rattle.pc_script.specs.Grammar as grammar;
 ghost use Rattle.pc_script.specs.Inner.Readings.{Kind, IsFieldReading, IsFieldsReading, is_word};
 ghost use Rattle.pc_script.specs.Inner.Readings as reading;
-ghost use Rattle.pc_script.specs.Text.{words};
+ghost use Rattle.pc_script.specs.Inner.Taking.{words_left};
 
-use crate::digits::{byte, count, number};
-use crate::lines::first_word;
+use crate::digits::byte;
+use crate::words::Words;
 use pc_messages::{Cpu, Tid};
 
 /// A field that is one word.
@@ -17,11 +17,11 @@ pub(crate) trait Argument: Copy {
 
     ghost field: { Self → Field };
 
-    /// The field that this word is.
-    fn read(word: &[u8]) -> Option<Self>
+    /// Takes the next word, where it is such a field.
+    fn read(words: &mut Words<'_>) -> Option<Self>
     where
         Self: Sized,
-        ensures { IsFieldReading kind field word.now result };
+        ensures { IsFieldReading kind field (words_left words.old) (words_left words.new) result };
 
     ghost is_one_word: { is_word kind ≡ true };
 }
@@ -32,11 +32,11 @@ pub(crate) trait Arguments: Copy {
 
     ghost fields: { Self → List Field };
 
-    /// The fields that the words of this text are.
-    fn read(text: &[u8]) -> Option<Self>
+    /// The fields that all words are that are left.
+    fn read(words: &mut Words<'_>) -> Option<Self>
     where
         Self: Sized,
-        ensures { IsFieldsReading kinds fields (words text.now) result };
+        ensures { IsFieldsReading kinds fields (words_left words.old) result };
 }
 
 /// How many CPUs there are.
@@ -90,8 +90,9 @@ impl Argument for Processors {
 
     ghost is_one_word = { refl };
 
-    fn read(word: &[u8]) -> Option<Self> {
-        Some(Processors(byte(word)?))
+    #[inline(always)]
+    fn read(words: &mut Words<'_>) -> Option<Self> {
+        Some(Processors(words.byte()?))
     }
 }
 
@@ -102,8 +103,9 @@ impl Argument for Processor {
 
     ghost is_one_word = { refl };
 
-    fn read(word: &[u8]) -> Option<Self> {
-        Some(Processor(Cpu(byte(word)?)))
+    #[inline(always)]
+    fn read(words: &mut Words<'_>) -> Option<Self> {
+        Some(Processor(Cpu(words.byte()?)))
     }
 }
 
@@ -114,8 +116,9 @@ impl Argument for Queue {
 
     ghost is_one_word = { refl };
 
-    fn read(word: &[u8]) -> Option<Self> {
-        Some(Queue(Cpu(byte(word)?)))
+    #[inline(always)]
+    fn read(words: &mut Words<'_>) -> Option<Self> {
+        Some(Queue(Cpu(words.byte()?)))
     }
 }
 
@@ -126,8 +129,9 @@ impl Argument for Level {
 
     ghost is_one_word = { refl };
 
-    fn read(word: &[u8]) -> Option<Self> {
-        Some(Level(byte(word)?))
+    #[inline(always)]
+    fn read(words: &mut Words<'_>) -> Option<Self> {
+        Some(Level(words.byte()?))
     }
 }
 
@@ -138,8 +142,9 @@ impl Argument for Count {
 
     ghost is_one_word = { refl };
 
-    fn read(word: &[u8]) -> Option<Self> {
-        Some(Count(count(word)?))
+    #[inline(always)]
+    fn read(words: &mut Words<'_>) -> Option<Self> {
+        Some(Count(words.count()?))
     }
 }
 
@@ -150,8 +155,9 @@ impl Argument for Mask {
 
     ghost is_one_word = { refl };
 
-    fn read(word: &[u8]) -> Option<Self> {
-        Some(Mask(number(word)?))
+    #[inline(always)]
+    fn read(words: &mut Words<'_>) -> Option<Self> {
+        Some(Mask(words.number()?))
     }
 }
 
@@ -162,8 +168,9 @@ impl Argument for Index {
 
     ghost is_one_word = { refl };
 
-    fn read(word: &[u8]) -> Option<Self> {
-        Some(Index(number(word)?))
+    #[inline(always)]
+    fn read(words: &mut Words<'_>) -> Option<Self> {
+        Some(Index(words.number()?))
     }
 }
 
@@ -174,12 +181,9 @@ impl Argument for Thread {
 
     ghost is_one_word = { refl };
 
-    fn read(word: &[u8]) -> Option<Self> {
-        let (first, digits) = word.split_first()?;
-        if *first != b't' {
-            return None;
-        }
-        Some(Thread(Tid(count(digits)?)))
+    #[inline(always)]
+    fn read(words: &mut Words<'_>) -> Option<Self> {
+        Some(Thread(Tid(words.thread()?)))
     }
 }
 
@@ -190,7 +194,9 @@ impl Argument for State {
 
     ghost is_one_word = { refl };
 
-    fn read(word: &[u8]) -> Option<Self> {
+    #[inline(always)]
+    fn read(words: &mut Words<'_>) -> Option<Self> {
+        let word = words.next()?;
         if word == b"ready".as_slice() {
             return Some(State(true));
         }
@@ -208,7 +214,9 @@ impl Argument for Target {
 
     ghost is_one_word = { refl };
 
-    fn read(word: &[u8]) -> Option<Self> {
+    #[inline(always)]
+    fn read(words: &mut Words<'_>) -> Option<Self> {
+        let word = words.next()?;
         if word == b"-".as_slice() {
             return Some(Target(None));
         }
@@ -221,11 +229,9 @@ impl Arguments for () {
 
     ghost fields = { λ read. [] };
 
-    fn read(text: &[u8]) -> Option<Self> {
-        match first_word(text) {
-            None => Some(()),
-            Some(_) => None,
-        }
+    #[inline(always)]
+    fn read(words: &mut Words<'_>) -> Option<Self> {
+        if words.is_over() { Some(()) } else { None }
     }
 }
 
@@ -234,17 +240,19 @@ impl Arguments for Failure {
 
     ghost fields = { λ read. grammar.Failure read.0 ∷ [] };
 
-    fn read(text: &[u8]) -> Option<Self> {
-        let Some((word, rest)) = first_word(text) else {
+    #[inline(always)]
+    fn read(words: &mut Words<'_>) -> Option<Self> {
+        let Some(word) = words.next() else {
             return Some(Failure(false));
         };
         if word != b"fail".as_slice() {
             return None;
         }
-        let None = first_word(rest) else {
-            return None;
-        };
-        Some(Failure(true))
+        if words.is_over() {
+            Some(Failure(true))
+        } else {
+            None
+        }
     }
 }
 
@@ -253,10 +261,10 @@ impl<First: Argument, Others: Arguments> Arguments for (First, Others) {
 
     ghost fields = { λ read. First.field read.0 ∷ Others.fields read.1 };
 
-    fn read(text: &[u8]) -> Option<Self> {
-        let (word, rest) = first_word(text)?;
-        let first = First::read(word)?;
-        let others = Others::read(rest)?;
+    #[inline(always)]
+    fn read(words: &mut Words<'_>) -> Option<Self> {
+        let first = First::read(words)?;
+        let others = Others::read(words)?;
         Some((first, others))
     }
 }

@@ -4,7 +4,7 @@ ghost use Rattle.std.specs.Prelude.{◌≡◌, ◌∷◌, List, IsTrue, ◌↔�
 ghost use Rattle.pc_script.specs.Grammar.{Field, AreInRange, Spells, words_of};
 ghost use Rattle.pc_script.specs.Inner.Readings.{IsReading, kinds_of};
 ghost use Rattle.pc_script.specs.Inner.Verbs.{kinds, name_of};
-ghost use Rattle.pc_script.specs.Text.{words};
+ghost use Rattle.pc_script.specs.Inner.Taking.{words_left};
 ghost use Rattle.pc_script.specs.declared.grammar.Verb.{Verb};
 
 use crate::command::{Command, Read};
@@ -12,6 +12,7 @@ use crate::fields::{
     Arguments, Count, Failure, Index, Level, Mask, Processor, Processors, Queue, State, Target,
     Thread,
 };
+use crate::words::Words;
 use pc_calls::{EnvCall, Event, Limits};
 
 /// The first word of a command.
@@ -90,26 +91,26 @@ macro_rules! pairs {
     ($first:pat, $($others:tt)+) => { ($first, pairs!($($others)+)) };
 }
 
-/// The command of a verb whose fields are the words of a text, from a table.
+/// The command of a verb whose fields are the words that are left, from a table.
 macro_rules! read {
-    ($verb:expr, $text:expr, $($name:ident($($fields:tt)+) => $command:expr),+) => {
+    ($verb:expr, $words:expr, $($name:ident($($fields:tt)+) => $command:expr),+) => {
         match $verb {
             $(Verb::$name => {
-                let pairs!($($fields)+) = Arguments::read($text)?;
+                let pairs!($($fields)+) = Arguments::read($words)?;
                 Some($command)
             })+
         }
     };
 }
 
-/// The command of this verb whose fields are the words of this text.
+/// The command of this verb whose fields are the words that are left.
 #[inline(always)]
-fn read_as(verb: Verb, text: &[u8]) -> Option<Command>
+fn read_as(verb: Verb, words: &mut Words<'_>) -> Option<Command>
     ensures { MatchOption result
-        ((any : List Field) → kinds_of any ≡ kinds verb → AreInRange any → words text.now ≡ words_of any → ⊥)
-        (Spells (name_of verb ∷ words text.now)) }
+        ((any : List Field) → kinds_of any ≡ kinds verb → AreInRange any → words_left words.old ≡ words_of any → ⊥)
+        (Spells (name_of verb ∷ words_left words.old)) }
 {
-    read!(verb, text,
+    read!(verb, words,
         Enclave(Processors(cpus), Count(threads), Count(numbers), Count(room), Count(posts)) =>
             Command::Enclave(Limits { cpus, threads, numbers, room, posts }),
         Create(Queue(queue), Mask(mask), State(ready)) => Command::Event(Event::Env(EnvCall::Create { queue, mask, ready })),
@@ -141,11 +142,11 @@ fn read_as(verb: Verb, text: &[u8]) -> Option<Command>
     )
 }
 
-/// The command that a line with this first word spells, and with the words of this text after it.
+/// The command that a line with this first word spells, and with the words that are left after it.
 #[inline(always)]
-pub(crate) fn command_of(name: &[u8], rest: &[u8]) -> Option<Command>
-    ensures { IsReading (name.now ∷ words rest.now) result }
+pub(crate) fn command_of(name: &[u8], words: &mut Words<'_>) -> Option<Command>
+    ensures { IsReading (name.now ∷ words_left words.old) result }
 {
     let verb = verb_of(name)?;
-    read_as(verb, rest)
+    read_as(verb, words)
 }

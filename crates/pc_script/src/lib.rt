@@ -26,6 +26,7 @@ mod response;
 mod run;
 mod short;
 mod text;
+mod words;
 
 pub use command::{Command, Read};
 pub use digits::{count, number};

@@ -15,6 +15,7 @@ use crate::grammar::command_of;
 use crate::lines::first_word;
 use crate::machine::Machine;
 use crate::outcome::ScriptFault;
+use crate::words::Words;
 use std::io::Write;
 
 /// What a line asks for.
@@ -44,10 +45,11 @@ pub fn asked(line: &[u8]) -> Wish
     if line.first().copied() == Some(b'#') {
         return Wish::Nothing;
     }
-    let Some((name, rest)) = first_word(line) else {
+    let mut words = Words::of(line);
+    let Some(name) = words.next() else {
         return Wish::Nothing;
     };
-    match command_of(name, rest) {
+    match command_of(name, &mut words) {
         Some(command) => Wish::Answer(command),
         None => Wish::Stop,
     }

@@ -1,5 +1,5 @@
 -- Reading the words of a command.
-use Rattle.std.specs.Prelude.{◌≡◌, ℕ, Bool, true, false, List, [], ◌∷◌, map, Option, Some, None}
+use Rattle.std.specs.Prelude.{◌≡◌, ℕ, Bool, true, false, List, ◌++◌, map, Option, Some, None}
 use Rattle.pc_script.specs.Grammar.{Field, Processors, Processor, Queue, Level, Count, Mask, Index, Thread, State, Target, Failure}
 use Rattle.pc_script.specs.Grammar.{field_words, IsInRange, words_of, AreInRange, Spells}
 use Rattle.pc_script.specs.declared.command.Command.{Command}
@@ -44,11 +44,12 @@ is_word _ = true
 abbrev pub kinds_of : List Field → List Kind
 kinds_of fields = map kind_of fields
 
--- a word was read exactly where it is a field of this kind
-abbrev pub IsFieldReading : {Value : Type 0} → Kind → (Value → Field) → List ℕ → Option Value → Type 0
-IsFieldReading kind field word None = (any : Field) → kind_of any ≡ kind → IsInRange any → field_words any ≡ word ∷ [] → ⊥
-IsFieldReading kind field word (Some read) =
-    (kind_of (field read) ≡ kind) × IsInRange (field read) × (field_words (field read) ≡ word ∷ [])
+-- a field of this kind was taken exactly where it is what the words begin with
+abbrev pub IsFieldReading : {Value : Type 0} → Kind → (Value → Field) → List (List ℕ) → List (List ℕ) → Option Value → Type 0
+IsFieldReading kind field before after None =
+    (any : Field) → kind_of any ≡ kind → IsInRange any → (others : List (List ℕ)) → before ≡ field_words any ++ others → ⊥
+IsFieldReading kind field before after (Some read) =
+    (kind_of (field read) ≡ kind) × IsInRange (field read) × (before ≡ field_words (field read) ++ after)
 
 -- words were read exactly where they are fields of these kinds
 abbrev pub IsFieldsReading : {Values : Type 0} → List Kind → (Values → List Field) → List (List ℕ) → Option Values → Type 0

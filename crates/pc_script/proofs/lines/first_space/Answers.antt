@@ -1,4 +1,4 @@
-use Rattle.std.proofs.Common.{◌≡◌, ◌∙◌, ◌≤◌, ◌<◌, ◌^◌, ◌⊎◌, ℕ, zero, suc, eqb, cond, Bool, false, Option, Some, None, List, [], ◌∷◌, take, map, get_or, length, inl, inr, w8, w64, sym, subst, arith, zero-add}
+use Rattle.std.proofs.Common.{◌≡◌, ◌∙◌, ◌≤◌, ◌<◌, ◌^◌, ℕ, zero, suc, eqb, cond, Bool, false, Option, Some, None, List, [], ◌∷◌, take, map, get_or, length, inl, inr, w8, w64, sym, subst, arith, zero-add}
 use Rattle.std.proofs.lemmas.List.{length-map, length-take-le}
 use Rattle.std.proofs.lemmas.Nat.Bits.{bit_at-trailing_zeros}
 use Rattle.std.proofs.lemmas.Simd.{bit_mask_l, bitmask_splat, mask_l-lt, none_from_empty_mask, run_in_chunk_fails, run_in_chunk_stops, trailing_mask_l}
@@ -6,12 +6,8 @@ use Rattle.std.proofs.lemmas.Bool.{true≢false}
 use Rattle.std.specs.Simd.Lanes.{mask_l}
 use Rattle.std.specs.Int.Count.{count_trailing_zeros}
 use Rattle.memchr.specs.Find.{IsFirst, Nowhere, Passes, is_byte}
+use Rattle.pc_script.proofs.Splits.{below_or_not}
 use Rattle.pc_script.proofs.lines.first_space.Goals as goal
-
-below_or_not : (k n : ℕ) → (k < n) ⊎ (n ≤ k)
-below_or_not k zero = inr (omega arith)
-below_or_not zero (suc n) = inl (omega arith)
-below_or_not (suc k) (suc n) = elim (below_or_not k n) [ inl h ↦ inl (omega (arith, h)) | inr h ↦ inr (omega (arith, h)) ]
 
 joined : (P : ℕ → Type 0) (n m : ℕ) → Nowhere P 0 n → Nowhere P n m → Nowhere P 0 m
 joined P n m before after k low high is = elim (below_or_not k n) [ inl h ↦ before k low h is | inr h ↦ after k h high is ]

@@ -10,8 +10,5 @@ returns-then-ne c = λ any kinds ranges is.
     let other = rw c.as_slice.ensures at c.ne.ensures in
     true≢false (sym c.if-ne.true ∙ other ∙ ap (λ word. not (bytes_eq word (codes "fail"))) alone.0)
 
-pub returns-in_default-first_word : goal.returns-in_default-first_word
-returns-in_default-first_word c = λ any kinds ranges is.
-    let alone = fail_alone _ _ any kinds (sym c.in-Some.ensures ∙ is) in
-    let further = c.in_default-first_word.ensures in
-    cc
+pub returns-else-is_over : goal.returns-else-is_over
+returns-else-is_over c = λ any kinds ranges is. c.if-is_over.ensures (fail_alone _ _ any kinds (sym c.in-Some.ensures ∙ is)).1

@@ -1,0 +1,148 @@
+-- Numbers that are taken from a text where they stand.
+use Rattle.std.proofs.Common.{◌≡◌, ◌∙◌, ℕ, suc, ◌<◌, ◌≤◌, ◌^◌, eqb, not, true, List, [], ◌∷◌, Option, Some, None, Result, Ok, Err, MatchOption, get_or, length, take, drop, decimal, sym, subst, ap, arith, inl, inr}
+use Rattle.std.specs.Bool.{MatchBool}
+use Rattle.std.specs.Int.{IsInRange}
+use Rattle.std.specs.Result.{result_ok, OkIff}
+use Rattle.std.specs.Str.Parse.{digits_value, AllDigits}
+use Rattle.std.proofs.lemmas.Str.Parse.{digit_at}
+use Rattle.std.proofs.lemmas.Int.Digits.{digits_value-lt}
+use Rattle.std.proofs.lemmas.List.{get_or-take, length-take-le}
+use Rattle.std.proofs.lemmas.List.Sums.{prefix_len-le-length, passes_at_first}
+use Rattle.std.proofs.lemmas.Bool.{eqb-true, eq-eqb, ne_eqb}
+use Rattle.std.proofs.lemmas.Fmt.{decimal-digits_value, decimal_injective}
+use Rattle.std.proofs.Math.Nat.{pow-le-pow_right}
+use Rattle.pc_script.specs.Grammar.{thread_name}
+use Rattle.pc_script.specs.Inner.Taking.{StartsWithNoSpace, TakesNumber, word_end}
+use Rattle.pc_script.specs.Text.{words}
+use Rattle.pc_script.proofs.Numerals.{own, IsPlain, IsPlain-decimal, is_digit_at}
+use Rattle.pc_script.proofs.Splits.{below_or_not, word_end-is, words-none, words-start}
+
+-- the digits in front are no spaces
+digit_there : (text : List ℕ) (count place : ℕ) → AllDigits 10 (take count text) → count ≤ length text → place < count → IsInRange 48 57 (get_or text place 0)
+digit_there text count place digits within below =
+    let size : length (take count text) ≡ count = length-take-le count text within in
+    subst (IsInRange 48 57) (get_or-take count text place 0 below) (digit_at (take count text) place digits (omega (arith, size, below)))
+
+no_space_there : (text : List ℕ) (count place : ℕ) → AllDigits 10 (take count text) → count ≤ length text → place < count → eqb (get_or text place 0) 32 ≡ true → ⊥
+no_space_there text count place digits within below is =
+    let space : get_or text place 0 ≡ 32 = eqb-true (get_or text place 0) 32 is in
+    omega (arith, space, digit_there text count place digits within below)
+
+-- digits before a space or the end are the first word
+pub ends_at : (text : List ℕ) (count : ℕ) → AllDigits 10 (take count text) → count ≤ length text → (count < length text → get_or text count 0 ≡ 32) → word_end text ≡ count
+ends_at text count digits within at =
+    word_end-is text count within (λ k below. no_space_there text count k digits within below) (λ more. eq-eqb (get_or text count 0) 32 (at more))
+
+-- a few digits are the number that they make
+pub names_value : (text : List ℕ) (count : ℕ) → AllDigits 10 (take count text) → count ≤ length text → count ≤ 19 → IsPlain (take count text)
+    → (digits_value 10 (take count text) < 2 ^ 64) × (take count text ≡ decimal (digits_value 10 (take count text)))
+names_value text count digits within few plain =
+    let word = take count text in
+    let size : length word ≡ count = length-take-le count text within in
+    let below : digits_value 10 word < 10 ^ count = subst (λ n. digits_value 10 word < 10 ^ n) size (digits_value-lt 10 word digits) in
+    let most : 10 ^ count ≤ 10 ^ 19 = pow-le-pow_right {n = 10} (omega arith) {i = count} {j = 19} few in
+    let small : digits_value 10 word < 2 ^ 64 = omega (arith, below, most) in
+    (small, sym (decimal-digits_value own word digits plain.0 plain.1 small))
+
+-- the first word is no number where a byte of it is no digit
+pub no_digit_there : (text : List ℕ) (count : ℕ) → AllDigits 10 (take count text) → count < length text → (get_or text count 0 ≡ 32 → ⊥)
+    → (IsInRange 48 57 (get_or text count 0) → ⊥) → (n : ℕ) → n < 2 ^ 64 → take (word_end text) text ≡ decimal n → ⊥
+no_digit_there text count digits within no_space no_digit n small is =
+    let end = word_end text in
+    let most : end ≤ length text = prefix_len-le-length (λ b. not (eqb b 32)) text in
+    let size : length (take end text) ≡ end = length-take-le end text most in
+    elim (below_or_not count end) [
+      | inl below ↦
+          no_digit (subst (IsInRange 48 57) (get_or-take end text count 0 below) (is_digit_at (take end text) n count small is (omega (arith, size, below))))
+      | inr early ↦
+          let at : eqb (get_or text end 0) 32 ≡ true = passes_at_first (λ b. eqb b 32) text 0 (omega (arith, early, within)) in
+          elim (below_or_not end count) [
+            | inl below ↦ no_space_there text count end digits (omega (arith, within)) below at
+            | inr late ↦
+                let same : end ≡ count = omega (arith, early, late) in
+                no_space (eqb-true (get_or text count 0) 32 (subst (λ k. eqb (get_or text k 0) 32 ≡ true) same at))
+          ]
+    ]
+
+-- what was taken of the text from its first word on
+abbrev pub IsTaken : List ℕ → List ℕ → Option ℕ → Type 0
+IsTaken text after r = MatchOption r
+    ((n : ℕ) → n < 2 ^ 64 → take (word_end text) text ≡ decimal n → ⊥)
+    (λ n. (n < 2 ^ 64) × (take (word_end text) text ≡ decimal n) × (after ≡ drop (word_end text) text))
+
+some_text : (text : List ℕ) (n : ℕ) → n < 2 ^ 64 → take (word_end text) text ≡ decimal n → 0 < length text
+some_text [] n small is = let some = (IsPlain-decimal n small).0 in omega (arith, some, ap length is)
+some_text (x ∷ xs) n small is = omega arith
+
+no_words_left : words [] ≡ []
+no_words_left = words-none [] (λ k d low high. absurd (omega (arith, high)))
+
+-- a number that the text starts with is the next word
+pub takes_number : (before text after : List ℕ) (r : Option ℕ) → words text ≡ words before → StartsWithNoSpace text → IsTaken text after r
+    → TakesNumber (2 ^ 64) decimal (words before) (words after) r
+takes_number before [] after None same begins taken = λ n small others is. let none = no_words_left in cc
+takes_number before (x ∷ xs) after None same begins taken = λ n small others is.
+    let first = words-start (x ∷ xs) (omega arith) begins in
+    taken n small (cc)
+takes_number before text after (Some n) same begins taken =
+    let first = words-start text (some_text text n taken.0 taken.1) begins in
+    (taken.0, (cc))
+
+-- a word that starts with `t`
+after_t : (digits : List ℕ) → StartsWithNoSpace (116 ∷ digits) → words (116 ∷ digits) ≡ (116 ∷ take (word_end digits) digits) ∷ words (drop (word_end digits) digits)
+after_t digits begins =
+    let one_more : word_end (116 ∷ digits) ≡ suc (word_end digits) = omega arith in
+    let first : words (116 ∷ digits) ≡ take (suc (word_end digits)) (116 ∷ digits) ∷ words (drop (suc (word_end digits)) (116 ∷ digits)) =
+    rw one_more at (words-start (116 ∷ digits) (omega arith) begins) in
+    first
+
+-- `t` and a number that the rest starts with are the next word
+pub takes_thread : (before text digits after : List ℕ) (r : Option ℕ) → words text ≡ words before → StartsWithNoSpace text → text ≡ 116 ∷ digits → IsTaken digits after r
+    → TakesNumber (2 ^ 64) thread_name (words before) (words after) r
+takes_thread before text digits after None same begins is taken = λ n small others named.
+    let first = after_t digits (subst StartsWithNoSpace is begins) in
+    taken n small (cc)
+takes_thread before text digits after (Some n) same begins is taken =
+    let first = after_t digits (subst StartsWithNoSpace is begins) in
+    (taken.0, (cc))
+
+-- the next word is the name of no thread
+pub no_thread : (before text : List ℕ) → words text ≡ words before → StartsWithNoSpace text → (0 < length text → get_or text 0 0 ≡ 116 → ⊥)
+    → (n : ℕ) (others : List (List ℕ)) → words before ≡ thread_name n ∷ others → ⊥
+no_thread before [] same begins none n others named = let left = no_words_left in cc
+no_thread before (x ∷ xs) same begins none n others named =
+    let first = words-start (x ∷ xs) (omega arith) begins in
+    let text = x ∷ xs in
+    let end = word_end text in
+    let word : take end text ≡ thread_name n = cc in
+    let size = length-take-le end text (prefix_len-le-length (λ b. not (eqb b 32)) text) in
+    let front = get_or-take end text 0 0 (omega (arith, size, ap length word)) in
+    none (omega arith) (sym front ∙ ap (λ w. get_or w 0 0) word)
+
+-- a number below a bound that is not there is none below a smaller one
+pub no_narrow : (bound : ℕ) (name : ℕ → List ℕ) (before after : List (List ℕ)) → bound ≤ 2 ^ 64 → TakesNumber (2 ^ 64) name before after None
+    → TakesNumber bound name before after None
+no_narrow bound name before after low none = λ n below others named. none n (omega (arith, low, below)) others named
+
+-- a number that is put into a smaller type
+pub narrow : {E : Type 0} (bound wide : ℕ) (name : ℕ → List ℕ) (before after : List (List ℕ)) (r : Result ℕ E) → bound ≤ 2 ^ 64
+    → ((one other : ℕ) → one < 2 ^ 64 → other < 2 ^ 64 → name one ≡ name other → one ≡ other)
+    → TakesNumber (2 ^ 64) name before after (Some wide) → OkIff r (wide < bound) wide → TakesNumber bound name before after (result_ok r)
+narrow bound wide name before after (Ok n) low apart taken h = let same = h.1 in (omega (arith, h.0, h.1), cc)
+narrow bound wide name before after (Err e) low apart taken h = λ n below others named.
+    let same : n ≡ wide = apart n wide (omega (arith, low, below)) taken.0 (cc) in
+    h (omega (arith, same, below))
+
+pub one_decimal : (one other : ℕ) → one < 2 ^ 64 → other < 2 ^ 64 → decimal one ≡ decimal other → one ≡ other
+one_decimal one other h k same = decimal_injective one other h k same
+
+pub one_thread : (one other : ℕ) → one < 2 ^ 64 → other < 2 ^ 64 → thread_name one ≡ thread_name other → one ≡ other
+one_thread one other h k same = decimal_injective one other h k (cc)
+
+-- whether a word is left
+pub over_or_not : (before text : List ℕ) → words text ≡ words before → StartsWithNoSpace text
+    → MatchBool (eqb (length text) 0) (words before ≡ []) (words before ≡ [] → ⊥)
+over_or_not before [] same begins = sym same ∙ no_words_left
+over_or_not before (x ∷ xs) same begins =
+    let some = ne_eqb (length (x ∷ xs)) 0 (λ none. omega (arith, none)) in
+    rw some (λ none. let first = words-start (x ∷ xs) (omega arith) begins in cc)

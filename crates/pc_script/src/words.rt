@@ -1,0 +1,185 @@
+//! The words of a line, taken one after another.
+//!
+//! A number is read where it stands, so that its bytes are looked at once.
+
+ghost use Rattle.std.specs.Prelude.{◌≡◌, ◌<◌, ◌≤◌, ◌+◌, ◌^◌, ◌⊎◌, ℕ, MatchOption, [], ◌∷◌, decimal, drop, get_or, length, take};
+ghost use Rattle.std.specs.Bool.{MatchBool};
+ghost use Rattle.std.specs.Int.{IsInRange};
+ghost use Rattle.std.specs.Str.Parse.{AllDigits, digits_value};
+ghost use Rattle.pc_script.specs.Grammar.{thread_name};
+ghost use Rattle.pc_script.specs.Inner.Taking.{StartsWithNoSpace, TakesNumber, word_end, words_left};
+ghost use Rattle.pc_script.specs.Text.{words};
+
+use crate::digits::{is_plain, number};
+use crate::lines::{first_space, first_word};
+
+/// Every number of so many digits is below 2 ^ 64.
+const SHORT: usize = 19;
+
+/// The words of a line that are left.
+#[derive(Drop)]
+pub(crate) struct Words<'a> {
+    rest: &'a [u8],
+}
+
+/// The text after the spaces in front.
+#[inline(always)]
+fn after_spaces(text: &[u8]) -> &[u8]
+    ensures same { words result.now ≡ words text.now }
+    ensures starts { StartsWithNoSpace result.now }
+{
+    let mut rest = text;
+    while let [b' ', others @ ..] = rest {
+        rest = others;
+    }
+    rest
+}
+
+/// The number that the digits in front make, of no more than [`SHORT`], and how many they are.
+#[inline(always)]
+fn short_number(text: &[u8]) -> (u64, usize)
+    ensures digits { (result.1 ≤ SHORT) × (result.1 ≤ length text.now) × AllDigits 10 (take result.1 text.now) }
+    ensures value { result.0 ≡ digits_value 10 (take result.1 text.now) }
+    ensures all { result.1 < SHORT → result.1 < length text.now → IsInRange 48 57 (get_or text.now result.1 0) → ⊥ }
+{
+    let most = text.len().min(SHORT);
+    let mut value = 0u64;
+    let mut count = 0;
+    while count < most && text[count].is_ascii_digit() {
+        value = value * 10 + u64::from(text[count] - b'0');
+        count += 1;
+    }
+    (value, count)
+}
+
+/// Whether a space stands at a place of a text, or its end.
+#[inline(always)]
+fn is_end(text: &[u8], place: usize) -> bool
+    requires { place ≤ length text.now }
+    ensures { MatchBool result (place < length text.now → get_or text.now place 0 ≡ 32) ((place < length text.now) × (get_or text.now place 0 ≡ 32 → ⊥)) }
+{
+    place == text.len() || text[place] == b' '
+}
+
+/// Where the first space of a text is, or its end.
+fn end_of_word(text: &[u8]) -> usize
+    ensures place { result ≡ word_end text.now }
+    ensures within { result ≤ length text.now }
+{
+    match first_space(text) {
+        Some(place) => place,
+        None => text.len(),
+    }
+}
+
+impl<'a> Words<'a> {
+    /// The words of a text.
+    #[inline(always)]
+    pub(crate) fn of(text: &'a [u8]) -> Words<'a>
+        ensures { words_left result ≡ words text.now }
+    {
+        Words { rest: text }
+    }
+
+    /// Takes the next word.
+    #[inline(always)]
+    pub(crate) fn next(&mut self) -> Option<&'a [u8]>
+        ensures { MatchOption result (words_left self.old ≡ []) (λ word. words_left self.old ≡ word.now ∷ words_left self.new) }
+    {
+        let (word, rest) = first_word(self.rest)?;
+        self.rest = rest;
+        Some(word)
+    }
+
+    /// Whether no word is left.
+    #[inline(always)]
+    pub(crate) fn is_over(&self) -> bool
+        ensures { MatchBool result (words_left self.now ≡ []) (words_left self.now ≡ [] → ⊥) }
+    {
+        after_spaces(self.rest).is_empty()
+    }
+
+    /// Takes the number that the rest starts with, up to its first space, however long it is.
+    #[inline(never)]
+    fn take_long_number(&mut self) -> Option<u64>
+        ensures { MatchOption result
+            ((n : ℕ) → n < 2 ^ 64 → take (word_end self.old.rest.now) self.old.rest.now ≡ decimal n → ⊥)
+            (λ n. (n < 2 ^ 64) × (take (word_end self.old.rest.now) self.old.rest.now ≡ decimal n)
+            × (self.new.rest.now ≡ drop (word_end self.old.rest.now) self.old.rest.now)) }
+    {
+        let text = self.rest;
+        let end = end_of_word(text);
+        self.rest = &text[end..];
+        number(&text[..end])
+    }
+
+    /// Takes the number that the rest starts with, up to its first space.
+    #[inline(always)]
+    fn take_number(&mut self) -> Option<u64>
+        ensures { MatchOption result
+            ((n : ℕ) → n < 2 ^ 64 → take (word_end self.old.rest.now) self.old.rest.now ≡ decimal n → ⊥)
+            (λ n. (n < 2 ^ 64) × (take (word_end self.old.rest.now) self.old.rest.now ≡ decimal n)
+            × (self.new.rest.now ≡ drop (word_end self.old.rest.now) self.old.rest.now)) }
+    {
+        let text = self.rest;
+        let (value, end) = short_number(text);
+        if is_end(text, end) {
+            if !is_plain(&text[..end]) {
+                return None;
+            }
+            self.rest = &text[end..];
+            return Some(value);
+        }
+        if end < SHORT {
+            return None;
+        }
+        self.take_long_number()
+    }
+
+    /// Takes the next word, where it is a number.
+    pub(crate) fn number(&mut self) -> Option<u64>
+        ensures { TakesNumber (2 ^ 64) decimal (words_left self.old) (words_left self.new) result }
+    {
+        self.rest = after_spaces(self.rest);
+        self.take_number()
+    }
+
+    /// Takes the next word, where it is a number below 2 ^ 32.
+    #[inline(always)]
+    pub(crate) fn count(&mut self) -> Option<u32>
+        ensures { TakesNumber (2 ^ 32) decimal (words_left self.old) (words_left self.new) result }
+    {
+        let wide = self.number()?;
+        u32::try_from(wide).ok()
+    }
+
+    /// Takes the next word, where it is a number below 2 ^ 8.
+    #[inline(always)]
+    pub(crate) fn byte(&mut self) -> Option<u8>
+        ensures { TakesNumber (2 ^ 8) decimal (words_left self.old) (words_left self.new) result }
+    {
+        let wide = self.number()?;
+        u8::try_from(wide).ok()
+    }
+
+    /// Takes the next word, where it is `t` and a number.
+    #[inline(always)]
+    fn number_of_thread(&mut self) -> Option<u64>
+        ensures { TakesNumber (2 ^ 64) thread_name (words_left self.old) (words_left self.new) result }
+    {
+        let (first, digits) = after_spaces(self.rest).split_first()?;
+        if *first != b't' {
+            return None;
+        }
+        self.rest = digits;
+        self.take_number()
+    }
+
+    /// Takes the next word, where it is the name of a thread.
+    pub(crate) fn thread(&mut self) -> Option<u32>
+        ensures { TakesNumber (2 ^ 32) thread_name (words_left self.old) (words_left self.new) result }
+    {
+        let wide = self.number_of_thread()?;
+        u32::try_from(wide).ok()
+    }
+}
