@@ -43,7 +43,7 @@ is_digit_at word n place small is within =
     digit_at word place (subst (AllDigits 10) (sym is) (digits_decimal own n small)) within
 
 -- with one digit more
-value_more : (word : List ℕ) (count value : ℕ) → HasRead word count value → count < length word → IsInRange 48 57 (get_or word count 0)
+pub value_more : (word : List ℕ) (count value : ℕ) → HasRead word count value → count < length word → IsInRange 48 57 (get_or word count 0)
     → digits_value 10 (take (count + 1) word) ≡ value * 10 + (get_or word count 0 - 48)
 value_more word count value read within digit =
     let more = digits_value_more 10 word count within in

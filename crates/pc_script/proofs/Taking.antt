@@ -1,20 +1,21 @@
 -- Numbers that are taken from a text where they stand.
-use Rattle.std.proofs.Common.{◌≡◌, ◌∙◌, ℕ, suc, ◌<◌, ◌≤◌, ◌^◌, eqb, not, true, List, [], ◌∷◌, Option, Some, None, Result, Ok, Err, MatchOption, get_or, length, take, drop, decimal, sym, subst, ap, arith, inl, inr}
+use Rattle.std.proofs.Common.{◌≡◌, ◌∙◌, ℕ, suc, ◌<◌, ◌≤◌, ◌+◌, ◌*◌, ◌-◌, ◌^◌, eqb, not, true, List, [], ◌∷◌, Option, Some, None, Result, Ok, Err, MatchOption, get_or, length, take, drop, decimal, refl, sym, subst, ap, arith, inl, inr}
 use Rattle.std.specs.Bool.{MatchBool}
 use Rattle.std.specs.Int.{IsInRange}
 use Rattle.std.specs.Result.{result_ok, OkIff}
 use Rattle.std.specs.Str.Parse.{digits_value, AllDigits}
 use Rattle.std.proofs.lemmas.Str.Parse.{digit_at}
-use Rattle.std.proofs.lemmas.Int.Digits.{digits_value-lt}
+use Rattle.std.proofs.lemmas.Int.Digits.{digits_value-lt, digits_more}
 use Rattle.std.proofs.lemmas.List.{get_or-take, length-take-le}
 use Rattle.std.proofs.lemmas.List.Sums.{prefix_len-le-length, passes_at_first}
 use Rattle.std.proofs.lemmas.Bool.{eqb-true, eq-eqb, ne_eqb}
-use Rattle.std.proofs.lemmas.Fmt.{decimal-digits_value, decimal_injective}
+use Rattle.std.proofs.lemmas.Fmt.{decimal-digits_value, decimal_injective, digits_value-decimal, length-decimal-le}
+use Rattle.std.proofs.lemmas.Str.{digit_value_digit}
 use Rattle.std.proofs.Math.Nat.{pow-le-pow_right}
 use Rattle.pc_script.specs.Grammar.{thread_name}
 use Rattle.pc_script.specs.Inner.Taking.{StartsWithNoSpace, TakesNumber, word_end}
 use Rattle.pc_script.specs.Text.{words}
-use Rattle.pc_script.proofs.Numerals.{own, IsPlain, IsPlain-decimal, is_digit_at}
+use Rattle.pc_script.proofs.Numerals.{own, IsPlain, IsPlain-decimal, is_digit_at, value_more}
 use Rattle.pc_script.proofs.Splits.{below_or_not, word_end-is, words-none, words-start}
 
 -- the digits in front are no spaces
@@ -33,36 +34,67 @@ pub ends_at : (text : List ℕ) (count : ℕ) → AllDigits 10 (take count text)
 ends_at text count digits within at =
     word_end-is text count within (λ k below. no_space_there text count k digits within below) (λ more. eq-eqb (get_or text count 0) 32 (at more))
 
--- a few digits are the number that they make
-pub names_value : (text : List ℕ) (count : ℕ) → AllDigits 10 (take count text) → count ≤ length text → count ≤ 19 → IsPlain (take count text)
-    → (digits_value 10 (take count text) < 2 ^ 64) × (take count text ≡ decimal (digits_value 10 (take count text)))
-names_value text count digits within few plain =
+-- nineteen digits make a small number
+pub small_value : (text : List ℕ) (count : ℕ) → AllDigits 10 (take count text) → count ≤ length text → count ≤ 19 → digits_value 10 (take count text) < 2 ^ 64
+small_value text count digits within few =
     let word = take count text in
     let size : length word ≡ count = length-take-le count text within in
     let below : digits_value 10 word < 10 ^ count = subst (λ n. digits_value 10 word < 10 ^ n) size (digits_value-lt 10 word digits) in
     let most : 10 ^ count ≤ 10 ^ 19 = pow-le-pow_right {n = 10} (omega arith) {i = count} {j = 19} few in
-    let small : digits_value 10 word < 2 ^ 64 = omega (arith, below, most) in
-    (small, sym (decimal-digits_value own word digits plain.0 plain.1 small))
+    omega (arith, below, most)
+
+-- digits without a needless zero are the number that they make
+pub names_value : (text : List ℕ) (count : ℕ) → AllDigits 10 (take count text) → digits_value 10 (take count text) < 2 ^ 64 → IsPlain (take count text)
+    → take count text ≡ decimal (digits_value 10 (take count text))
+names_value text count digits small plain = sym (decimal-digits_value own (take count text) digits plain.0 plain.1 small)
+
+-- the first word goes on where neither a space nor the end stands behind its digits
+beyond : (text : List ℕ) (count : ℕ) → AllDigits 10 (take count text) → count < length text → (get_or text count 0 ≡ 32 → ⊥) → count < word_end text
+beyond text count digits within no_space =
+    let end = word_end text in
+    elim (below_or_not count end) [
+      | inl below ↦ below
+      | inr early ↦
+          let at : eqb (get_or text end 0) 32 ≡ true = passes_at_first (λ b. eqb b 32) text 0 (omega (arith, early, within)) in
+          elim (below_or_not end count) [
+            | inl below ↦ absurd (no_space_there text count end digits (omega (arith, within)) below at)
+            | inr late ↦
+                let same : end ≡ count = omega (arith, early, late) in
+                absurd (no_space (eqb-true (get_or text count 0) 32 (subst (λ k. eqb (get_or text k 0) 32 ≡ true) same at)))
+          ]
+    ]
+
+length-word : (text : List ℕ) → length (take (word_end text) text) ≡ word_end text
+length-word text = length-take-le (word_end text) text (prefix_len-le-length (λ b. not (eqb b 32)) text)
 
 -- the first word is no number where a byte of it is no digit
 pub no_digit_there : (text : List ℕ) (count : ℕ) → AllDigits 10 (take count text) → count < length text → (get_or text count 0 ≡ 32 → ⊥)
     → (IsInRange 48 57 (get_or text count 0) → ⊥) → (n : ℕ) → n < 2 ^ 64 → take (word_end text) text ≡ decimal n → ⊥
 no_digit_there text count digits within no_space no_digit n small is =
     let end = word_end text in
-    let most : end ≤ length text = prefix_len-le-length (λ b. not (eqb b 32)) text in
-    let size : length (take end text) ≡ end = length-take-le end text most in
-    elim (below_or_not count end) [
-      | inl below ↦
-          no_digit (subst (IsInRange 48 57) (get_or-take end text count 0 below) (is_digit_at (take end text) n count small is (omega (arith, size, below))))
-      | inr early ↦
-          let at : eqb (get_or text end 0) 32 ≡ true = passes_at_first (λ b. eqb b 32) text 0 (omega (arith, early, within)) in
-          elim (below_or_not end count) [
-            | inl below ↦ no_space_there text count end digits (omega (arith, within)) below at
-            | inr late ↦
-                let same : end ≡ count = omega (arith, early, late) in
-                no_space (eqb-true (get_or text count 0) 32 (subst (λ k. eqb (get_or text k 0) 32 ≡ true) same at))
-          ]
-    ]
+    let below = beyond text count digits within no_space in
+    let digit = is_digit_at (take end text) n count small is (omega (arith, length-word text, below)) in
+    no_digit (subst (IsInRange 48 57) (get_or-take end text count 0 below) digit)
+
+-- nor where it is longer than any number
+pub too_long : (text : List ℕ) (count : ℕ) → AllDigits 10 (take count text) → 20 ≤ count → count < length text → (get_or text count 0 ≡ 32 → ⊥)
+    → (n : ℕ) → n < 2 ^ 64 → take (word_end text) text ≡ decimal n → ⊥
+too_long text count digits many within no_space n small is =
+    let short : length (decimal n) ≤ 20 = length-decimal-le 20 n (omega arith) (omega arith) (omega (arith, small)) in
+    omega (arith, beyond text count digits within no_space, many, length-word text, ap length is, short)
+
+-- a digit more than nineteen
+pub digits_with_last : (text : List ℕ) → AllDigits 10 (take 19 text) → 19 < length text → IsInRange 48 57 (get_or text 19 0) → AllDigits 10 (take 20 text)
+digits_with_last text digits within last = digits_more 10 text 19 within digits (omega (arith, digit_value_digit (get_or text 19 0) last, last))
+
+pub value_with_last : (text : List ℕ) → AllDigits 10 (take 19 text) → 19 < length text → IsInRange 48 57 (get_or text 19 0)
+    → digits_value 10 (take 20 text) ≡ digits_value 10 (take 19 text) * 10 + (get_or text 19 0 - 48)
+value_with_last text digits within last =
+    value_more text 19 (digits_value 10 (take 19 text)) (record { digits = digits; number = refl; small = small_value text 19 digits (omega (arith, within)) (omega arith) }) within last
+
+-- a number is what its digits make
+pub value_of_named : (word : List ℕ) (n : ℕ) → n < 2 ^ 64 → word ≡ decimal n → digits_value 10 word ≡ n
+value_of_named word n small is = subst (λ w. digits_value 10 w ≡ n) (sym is) (digits_value-decimal own n small)
 
 -- what was taken of the text from its first word on
 abbrev pub IsTaken : List ℕ → List ℕ → Option ℕ → Type 0
@@ -115,7 +147,7 @@ no_thread before (x ∷ xs) same begins none n others named =
     let text = x ∷ xs in
     let end = word_end text in
     let word : take end text ≡ thread_name n = cc in
-    let size = length-take-le end text (prefix_len-le-length (λ b. not (eqb b 32)) text) in
+    let size = length-word text in
     let front = get_or-take end text 0 0 (omega (arith, size, ap length word)) in
     none (omega arith) (sym front ∙ ap (λ w. get_or w 0 0) word)
 

@@ -74,7 +74,7 @@ fn first_space_from(text: &[u8], from: usize) -> Option<usize>
 }
 
 /// Where the first space is. The first eight bytes are looked at together: few words are longer.
-pub(crate) fn first_space(text: &[u8]) -> Option<usize>
+fn first_space(text: &[u8]) -> Option<usize>
     ensures { IsFirstByte (is_byte 32) text.now result }
 {
     if text.len() < LANES {

@@ -2,7 +2,7 @@
 //!
 //! A number is read where it stands, so that its bytes are looked at once.
 
-ghost use Rattle.std.specs.Prelude.{◌≡◌, ◌<◌, ◌≤◌, ◌+◌, ◌^◌, ◌⊎◌, ℕ, MatchOption, [], ◌∷◌, decimal, drop, get_or, length, take};
+ghost use Rattle.std.specs.Prelude.{◌≡◌, ◌<◌, ◌≤◌, ◌+◌, ◌-◌, ◌*◌, ◌^◌, ◌⊎◌, ℕ, MatchOption, [], ◌∷◌, decimal, drop, get_or, length, take};
 ghost use Rattle.std.specs.Bool.{MatchBool};
 ghost use Rattle.std.specs.Int.{IsInRange};
 ghost use Rattle.std.specs.Str.Parse.{AllDigits, digits_value};
@@ -10,10 +10,10 @@ ghost use Rattle.pc_script.specs.Grammar.{thread_name};
 ghost use Rattle.pc_script.specs.Inner.Taking.{StartsWithNoSpace, TakesNumber, word_end, words_left};
 ghost use Rattle.pc_script.specs.Text.{words};
 
-use crate::digits::{is_plain, number};
-use crate::lines::{first_space, first_word};
+use crate::digits::is_plain;
+use crate::lines::first_word;
 
-/// Every number of so many digits is below 2 ^ 64.
+/// Every number of so many digits is below 2 ^ 64, and none of more than one digit more.
 const SHORT: usize = 19;
 
 /// The words of a line that are left.
@@ -61,15 +61,12 @@ fn is_end(text: &[u8], place: usize) -> bool
     place == text.len() || text[place] == b' '
 }
 
-/// Where the first space of a text is, or its end.
-fn end_of_word(text: &[u8]) -> usize
-    ensures place { result ≡ word_end text.now }
-    ensures within { result ≤ length text.now }
+/// The number that this one is with a digit more, where it is below 2 ^ 64.
+fn with_digit(front: u64, digit: u8) -> Option<u64>
+    requires { IsInRange 48 57 digit }
+    ensures { MatchOption result (2 ^ 64 ≤ front * 10 + (digit - 48)) (λ n. (n < 2 ^ 64) × (n ≡ front * 10 + (digit - 48))) }
 {
-    match first_space(text) {
-        Some(place) => place,
-        None => text.len(),
-    }
+    front.checked_mul(10)?.checked_add(u64::from(digit - b'0'))
 }
 
 impl<'a> Words<'a> {
@@ -99,18 +96,29 @@ impl<'a> Words<'a> {
         after_spaces(self.rest).is_empty()
     }
 
-    /// Takes the number that the rest starts with, up to its first space, however long it is.
-    #[inline(never)]
-    fn take_long_number(&mut self) -> Option<u64>
+    /// Takes the number of twenty digits that the rest starts with, up to its first space. The first nineteen make `front`.
+    fn take_longest(&mut self, front: u64) -> Option<u64>
+        requires longer { (SHORT < length self.old.rest.now) × (get_or self.old.rest.now SHORT 0 ≡ 32 → ⊥) }
+        requires digits { AllDigits 10 (take SHORT self.old.rest.now) × (front ≡ digits_value 10 (take SHORT self.old.rest.now)) }
         ensures { MatchOption result
             ((n : ℕ) → n < 2 ^ 64 → take (word_end self.old.rest.now) self.old.rest.now ≡ decimal n → ⊥)
             (λ n. (n < 2 ^ 64) × (take (word_end self.old.rest.now) self.old.rest.now ≡ decimal n)
             × (self.new.rest.now ≡ drop (word_end self.old.rest.now) self.old.rest.now)) }
     {
         let text = self.rest;
-        let end = end_of_word(text);
-        self.rest = &text[end..];
-        number(&text[..end])
+        let last = text[SHORT];
+        if !last.is_ascii_digit() {
+            return None;
+        }
+        if !is_end(text, SHORT + 1) {
+            return None;
+        }
+        if !is_plain(&text[..SHORT + 1]) {
+            return None;
+        }
+        let value = with_digit(front, last)?;
+        self.rest = &text[SHORT + 1..];
+        Some(value)
     }
 
     /// Takes the number that the rest starts with, up to its first space.
@@ -133,7 +141,7 @@ impl<'a> Words<'a> {
         if end < SHORT {
             return None;
         }
-        self.take_long_number()
+        self.take_longest(value)
     }
 
     /// Takes the next word, where it is a number.
