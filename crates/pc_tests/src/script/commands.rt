@@ -187,6 +187,22 @@ fn what_agents_do_is_read_with_spaces_anywhere(rt: HostRuntime) {
             deliver(LAST, 18_446_744_073_709_551_615),
         ),
         (b"answer 0 255", event(answer)),
+        (
+            b"deliver 0 10000000000000000000",
+            deliver(Cpu(0), 10_000_000_000_000_000_000),
+        ),
+        (
+            b"deliver 0 9999999999999999999 ",
+            deliver(Cpu(0), 9_999_999_999_999_999_999),
+        ),
+        (
+            b"deliver 0 999999999999999999",
+            deliver(Cpu(0), 999_999_999_999_999_999),
+        ),
+        (
+            b"deliver 0 18446744073709551609  ",
+            deliver(Cpu(0), 18_446_744_073_709_551_609),
+        ),
         (b"deliver 1 20", deliver(Cpu(1), 20)),
         (b" deliver  1   20 ", deliver(Cpu(1), 20)),
         (b"deliver 1 20    ", deliver(Cpu(1), 20)),
