@@ -90,7 +90,6 @@ impl Argument for Processors {
 
     ghost is_one_word = { refl };
 
-    #[inline(always)]
     fn read(words: &mut Words<'_>) -> Option<Self> {
         Some(Processors(words.byte()?))
     }
@@ -103,7 +102,6 @@ impl Argument for Processor {
 
     ghost is_one_word = { refl };
 
-    #[inline(always)]
     fn read(words: &mut Words<'_>) -> Option<Self> {
         Some(Processor(Cpu(words.byte()?)))
     }
@@ -116,7 +114,6 @@ impl Argument for Queue {
 
     ghost is_one_word = { refl };
 
-    #[inline(always)]
     fn read(words: &mut Words<'_>) -> Option<Self> {
         Some(Queue(Cpu(words.byte()?)))
     }
@@ -129,7 +126,6 @@ impl Argument for Level {
 
     ghost is_one_word = { refl };
 
-    #[inline(always)]
     fn read(words: &mut Words<'_>) -> Option<Self> {
         Some(Level(words.byte()?))
     }
@@ -142,7 +138,6 @@ impl Argument for Count {
 
     ghost is_one_word = { refl };
 
-    #[inline(always)]
     fn read(words: &mut Words<'_>) -> Option<Self> {
         Some(Count(words.count()?))
     }
@@ -155,7 +150,6 @@ impl Argument for Mask {
 
     ghost is_one_word = { refl };
 
-    #[inline(always)]
     fn read(words: &mut Words<'_>) -> Option<Self> {
         Some(Mask(words.number()?))
     }
@@ -168,7 +162,6 @@ impl Argument for Index {
 
     ghost is_one_word = { refl };
 
-    #[inline(always)]
     fn read(words: &mut Words<'_>) -> Option<Self> {
         Some(Index(words.number()?))
     }
@@ -181,7 +174,6 @@ impl Argument for Thread {
 
     ghost is_one_word = { refl };
 
-    #[inline(always)]
     fn read(words: &mut Words<'_>) -> Option<Self> {
         Some(Thread(Tid(words.thread()?)))
     }
@@ -194,7 +186,6 @@ impl Argument for State {
 
     ghost is_one_word = { refl };
 
-    #[inline(always)]
     fn read(words: &mut Words<'_>) -> Option<Self> {
         let word = words.next()?;
         if word == b"ready".as_slice() {
@@ -214,7 +205,6 @@ impl Argument for Target {
 
     ghost is_one_word = { refl };
 
-    #[inline(always)]
     fn read(words: &mut Words<'_>) -> Option<Self> {
         let word = words.next()?;
         if word == b"-".as_slice() {
@@ -229,7 +219,6 @@ impl Arguments for () {
 
     ghost fields = { λ read. [] };
 
-    #[inline(always)]
     fn read(words: &mut Words<'_>) -> Option<Self> {
         if words.is_over() { Some(()) } else { None }
     }
@@ -240,7 +229,6 @@ impl Arguments for Failure {
 
     ghost fields = { λ read. grammar.Failure read.0 ∷ [] };
 
-    #[inline(always)]
     fn read(words: &mut Words<'_>) -> Option<Self> {
         let Some(word) = words.next() else {
             return Some(Failure(false));
@@ -263,8 +251,12 @@ impl<First: Argument, Others: Arguments> Arguments for (First, Others) {
 
     #[inline(always)]
     fn read(words: &mut Words<'_>) -> Option<Self> {
-        let first = First::read(words)?;
-        let others = Others::read(words)?;
-        Some((first, others))
+        match First::read(words) {
+            Some(first) => match Others::read(words) {
+                Some(others) => Some((first, others)),
+                None => None,
+            },
+            None => None,
+        }
     }
 }

@@ -48,7 +48,6 @@ enum Verb {
 }
 
 /// The verb that this word is.
-#[inline(always)]
 fn verb_of(word: &[u8]) -> Option<Verb>
     ensures { MatchOption result ((any : Verb) → word.now ≡ name_of any → ⊥) (λ verb. word.now ≡ name_of verb) }
 {
@@ -95,15 +94,16 @@ macro_rules! pairs {
 macro_rules! read {
     ($verb:expr, $words:expr, $($name:ident($($fields:tt)+) => $command:expr),+) => {
         match $verb {
-            $(Verb::$name => {
-                let pairs!($($fields)+) = Arguments::read($words)?;
-                Some($command)
+            $(Verb::$name => match Arguments::read($words) {
+                Some(pairs!($($fields)+)) => Some($command),
+                None => None,
             })+
         }
     };
 }
 
-/// The command of this verb whose fields are the words that are left.
+/// The command of this verb whose fields are the words that are left. It is put into its caller, which then needs no copy of
+/// the command; a hint that the compiler drops where a function would grow large, so what it calls is kept small.
 #[inline(always)]
 fn read_as(verb: Verb, words: &mut Words<'_>) -> Option<Command>
     ensures { MatchOption result

@@ -79,7 +79,6 @@ impl<'a> Words<'a> {
     }
 
     /// Takes the next word.
-    #[inline(always)]
     pub(crate) fn next(&mut self) -> Option<&'a [u8]>
         ensures { MatchOption result (words_left self.old ≡ []) (λ word. words_left self.old ≡ word.now ∷ words_left self.new) }
     {
@@ -89,7 +88,6 @@ impl<'a> Words<'a> {
     }
 
     /// Whether no word is left.
-    #[inline(always)]
     pub(crate) fn is_over(&self) -> bool
         ensures { MatchBool result (words_left self.now ≡ []) (words_left self.now ≡ [] → ⊥) }
     {
@@ -153,7 +151,6 @@ impl<'a> Words<'a> {
     }
 
     /// Takes the next word, where it is a number below 2 ^ 32.
-    #[inline(always)]
     pub(crate) fn count(&mut self) -> Option<u32>
         ensures { TakesNumber (2 ^ 32) decimal (words_left self.old) (words_left self.new) result }
     {
@@ -162,7 +159,6 @@ impl<'a> Words<'a> {
     }
 
     /// Takes the next word, where it is a number below 2 ^ 8.
-    #[inline(always)]
     pub(crate) fn byte(&mut self) -> Option<u8>
         ensures { TakesNumber (2 ^ 8) decimal (words_left self.old) (words_left self.new) result }
     {
