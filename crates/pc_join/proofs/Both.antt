@@ -1,8 +1,8 @@
 -- Values of near names, and behind them those of others.
-use Rattle.std.proofs.Common.{ℕ, ◌+◌, ◌<◌, ◌≤◌, ◌≡◌, ◌⊎◌, List, [], ◌∷◌, ◌++◌, Option, Some, None, IsSome, true, false, cond, refl, sym, ap, subst, ◌∙◌, arith, inl, inr}
+use Rattle.std.proofs.Common.{ℕ, ◌+◌, ◌<◌, ◌≤◌, ◌≡◌, List, [], ◌∷◌, ◌++◌, Option, Some, None, IsSome, true, false, cond, refl, sym, ap, subst, ◌∙◌, arith, inl, inr}
 use Rattle.std.specs.Option.{MatchOption}
 use Rattle.std.specs.Ordering.{nat_cmp, is_eq}
-use Rattle.std.proofs.lemmas.Bool.{false≢true}
+use Rattle.std.proofs.lemmas.Bool.{cases_lt, false≢true}
 use Rattle.std.proofs.lemmas.Bool.Decides.{nat_tests}
 use Rattle.pc_join.specs.Sets.{Members, Source}
 use Rattle.pc_join.specs.ByName.{AscendFrom, IsLeastFrom, value_at}
@@ -12,9 +12,6 @@ use Rattle.pc_join.specs.Inner.Near.{AreNear}
 use Rattle.pc_join.specs.Inner.Puts.{IsPut, IsWholeAt, IsJoinedAt}
 use Rattle.pc_join.proofs.Entries.{at_first, at_later, none_before}
 use Rattle.pc_join.proofs.Standing.{left_none, right_none, set_of}
-
-below_or : (a b : ℕ) → (a < b) ⊎ (b ≤ a)
-below_or a b = grind arith
 
 tied : (a : ℕ) → is_eq (nat_cmp a a) ≡ true
 tied a = grind (arith, nat_tests)
@@ -39,7 +36,7 @@ module _ {V : Type 0} where
 
   pub from_bound : (n : ℕ) (es : List (ℕ × V)) → AscendFrom 0 es → ((q : ℕ) → q < n → value_at es q ≡ None) → AscendFrom n es
   from_bound n [] h none = tt
-  from_bound n (e ∷ es) h none = elim (below_or e.0 n) [
+  from_bound n (e ∷ es) h none = elim (cases_lt e.0 n) [
     | inl lt ↦ some_none (sym (at_first e es) ∙ none e.0 lt)
     | inr le ↦ (le, h.1)
   ]
@@ -81,7 +78,7 @@ module _ {V : Type 0} where
 
       pub fresh_near : IsSetAt (value_at near) name value (value_at new) → IsSetAt (value_at now) name value (value_at (new ++ far))
       fresh_near h = set_of (value_at now) (value_at (new ++ far)) name value (new_near name lt ∙ set_here (value_at near) (value_at new) name value h)
-          (λ q ne. elim (below_or q NEAR) [
+          (λ q ne. elim (cases_lt q NEAR) [
             | inl l ↦ new_near q l ∙ set_others (value_at near) (value_at new) name value h q ne ∙ sym (now_near q l)
             | inr le ↦ same_far q le
           ])
@@ -89,7 +86,7 @@ module _ {V : Type 0} where
       module _ (known : V → Members) (is_of : V → Source → Type 0) where
         pub put_near : IsPut known is_of (value_at near) name value (value_at new) → IsPut known is_of (value_at now) name value (value_at (new ++ far))
         put_near h = record {
-          others = λ q ne. elim (below_or q NEAR) [
+          others = λ q ne. elim (cases_lt q NEAR) [
             | inl l ↦ new_near q l ∙ h.others q ne ∙ sym (now_near q l)
             | inr le ↦ same_far q le
           ];
@@ -115,14 +112,14 @@ module _ {V : Type 0} where
 
       pub fresh_far : IsSetAt (value_at far) name value (value_at new) → IsSetAt (value_at now) name value (value_at (near ++ new))
       fresh_far h = set_of (value_at now) (value_at (near ++ new)) name value (new_far name le ∙ set_here (value_at far) (value_at new) name value h)
-          (λ q ne. elim (below_or q NEAR) [
+          (λ q ne. elim (cases_lt q NEAR) [
             | inl l ↦ same_near q l
             | inr up ↦ new_far q up ∙ set_others (value_at far) (value_at new) name value h q ne ∙ sym (now_far q up)
           ])
 
       pub put_far : IsPut known is_of (value_at now) name value (value_at (near ++ new))
       put_far = record {
-        others = λ q ne. elim (below_or q NEAR) [
+        others = λ q ne. elim (cases_lt q NEAR) [
           | inl l ↦ same_near q l
           | inr up ↦ new_far q up ∙ put.others q ne ∙ sym (now_far q up)
         ];
@@ -136,13 +133,13 @@ module _ {V : Type 0} where
 
     -- the least name from one on
     some_in : (q : ℕ) → IsSome (value_at near q) → q < NEAR
-    some_in q some = elim (below_or q NEAR) [
+    some_in q some = elim (cases_lt q NEAR) [
       | inl lt ↦ lt
       | inr le ↦ absurd (false≢true (subst (λ o. IsSome o) (lacks_above NEAR near q fits.0.near le) some))
     ]
 
     some_out : (q : ℕ) → IsSome (value_at far q) → NEAR ≤ q
-    some_out q some = elim (below_or q NEAR) [
+    some_out q some = elim (cases_lt q NEAR) [
       | inl lt ↦ absurd (false≢true (subst (λ o. IsSome o) (none_before NEAR far q fits.1 lt) some))
       | inr le ↦ le
     ]
@@ -151,7 +148,7 @@ module _ {V : Type 0} where
     next_near from name h = let lt : name < NEAR = some_in name h.held in record {
       held = subst (λ o. IsSome o) (sym (now_near name lt)) h.held;
       reached = h.reached;
-      least = λ q some le. elim (below_or q NEAR) [
+      least = λ q some le. elim (cases_lt q NEAR) [
         | inl l ↦ h.least q (subst (λ o. IsSome o) (now_near q l) some) le
         | inr up ↦ omega arith
       ];
@@ -159,14 +156,14 @@ module _ {V : Type 0} where
 
     pub next_far : (from : ℕ) (r : Option ℕ) → ((q : ℕ) → IsSome (value_at near q) → q < from) → MatchOption r ((q : ℕ) → IsSome (value_at far q) → q < from) (IsLeastFrom (value_at far) from)
         → MatchOption r ((q : ℕ) → IsSome (value_at now q) → q < from) (IsLeastFrom (value_at now) from)
-    next_far from None none h = λ q some. elim (below_or q NEAR) [
+    next_far from None none h = λ q some. elim (cases_lt q NEAR) [
       | inl l ↦ none q (subst (λ o. IsSome o) (now_near q l) some)
       | inr up ↦ h q (subst (λ o. IsSome o) (now_far q up) some)
     ]
     next_far from (Some name) none h = let up : NEAR ≤ name = some_out name h.held in record {
       held = subst (λ o. IsSome o) (sym (now_far name up)) h.held;
       reached = h.reached;
-      least = λ q some le. elim (below_or q NEAR) [
+      least = λ q some le. elim (cases_lt q NEAR) [
         | inl l ↦ (let lt = none q (subst (λ o. IsSome o) (now_near q l) some) in absurd (omega (arith, lt, le)))
         | inr above ↦ h.least q (subst (λ o. IsSome o) (now_far q above) some) le
       ];

@@ -5,7 +5,7 @@ use Rattle.std.specs.Iterator.{YieldsFirstBy}
 use Rattle.std.specs.Ordering.{nat_cmp}
 use Rattle.std.specs.Cmp.{nat_cmp_total}
 use Rattle.std.specs.FinMap as map
-use Rattle.std.proofs.lemmas.Bool.{and_parts, false≢true}
+use Rattle.std.proofs.lemmas.Bool.{and_parts, cases_lt, eq-eqb, eqb-true, false≢true}
 use Rattle.std.proofs.lemmas.Bool.Decides.{nat_tests}
 use Rattle.std.proofs.lemmas.List.{get_or_past}
 use Rattle.pc_join.specs.ByName.{AscendFrom, is_same_by_name, named, value_at}
@@ -15,15 +15,6 @@ use Rattle.pc_join.specs.Inner.Near.{AreNear, FindsPlace, IsIndex, IsPlaceOf, en
 use Rattle.pc_join.proofs.Entries.{at_first, at_later, entries_ascend, none_before, same_or_other}
 use Rattle.pc_join.proofs.Both.{lacks_above, now_far, now_near}
 use Rattle.pc_join.proofs.Indexed.{entry_there}
-
-below_or : (a b : ℕ) → (a < b) ⊎ (b ≤ a)
-below_or a b = grind arith
-
-same_number : (a b : ℕ) → (a == b) ≡ true → a ≡ b
-same_number a b h = grind (arith, nat_tests)
-
-number_same : (a b : ℕ) → a ≡ b → (a == b) ≡ true
-number_same a b h = grind (arith, nat_tests)
 
 unequal : (a b : ℕ) → ¬ (a ≡ b) → nat_eq a b ≡ false
 unequal a b h = grind (arith, nat_tests)
@@ -52,7 +43,7 @@ module _ {V : Type 0} (same : V → V → Bool) where
   same_each (e ∷ es) (f ∷ fs) h q =
       let parts = and_parts (is_same_entry same e f) (are_same same es fs) h in
       let here = and_parts (e.0 == f.0) (same e.1 f.1) parts.0 in
-      let name : e.0 ≡ f.0 = same_number e.0 f.0 here.0 in
+      let name : e.0 ≡ f.0 = eqb-true e.0 f.0 here.0 in
       elim (same_or_other q e.0) [
         | inl is ↦ same_as (Some e.1) (Some f.1) (value_at (e ∷ es) q) (value_at (f ∷ fs) q)
             (sym (ap (value_at (e ∷ es)) is ∙ at_first e es)) (sym (ap (value_at (f ∷ fs)) (is ∙ name) ∙ at_first f fs)) here.1
@@ -67,9 +58,9 @@ module _ {V : Type 0} (same : V → V → Bool) where
   no_second f es fs none h = false≢true (same_as (value_at es f.0) (value_at (f ∷ fs) f.0) None (Some f.1) none (at_first f fs) (h f.0))
 
   same_first : (n m : ℕ) (e f : ℕ × V) (es fs : List (ℕ × V)) → AscendFrom n (e ∷ es) → AscendFrom m (f ∷ fs) → HasSame same (value_at (e ∷ es)) (value_at (f ∷ fs)) → e.0 ≡ f.0
-  same_first n m e f es fs a b h = elim (below_or e.0 f.0) [
+  same_first n m e f es fs a b h = elim (cases_lt e.0 f.0) [
     | inl lt ↦ absurd (no_first e es (f ∷ fs) (none_before f.0 (f ∷ fs) e.0 (omega arith, b.1) lt) h)
-    | inr le ↦ elim (below_or f.0 e.0) [
+    | inr le ↦ elim (cases_lt f.0 e.0) [
       | inl lt ↦ absurd (no_second f (e ∷ es) fs (none_before e.0 (e ∷ es) f.0 (omega arith, a.1) lt) h)
       | inr up ↦ omega arith
     ]
@@ -84,7 +75,7 @@ module _ {V : Type 0} (same : V → V → Bool) where
       let name : e.0 ≡ f.0 = same_first n m e f es fs a b h in
       let value = same_as (value_at (e ∷ es) e.0) (value_at (f ∷ fs) e.0) (Some e.1) (Some f.1) (at_first e es) (ap (value_at (f ∷ fs)) name ∙ at_first f fs) (h e.0) in
       both_true (is_same_entry same e f) (are_same same es fs)
-      (both_true (e.0 == f.0) (same e.1 f.1) (number_same e.0 f.0 name) value)
+      (both_true (e.0 == f.0) (same e.1 f.1) (eq-eqb e.0 f.0 name) value)
       (each_same (e.0 + 1) (f.0 + 1) es fs a.1 b.1 (λ q. elim (same_or_other q e.0) [
         | inl is ↦ same_as None None (value_at es q) (value_at fs q)
             (sym (none_before (e.0 + 1) es q a.1 (omega arith))) (sym (none_before (f.0 + 1) fs q b.1 (omega arith))) refl
@@ -130,7 +121,7 @@ module _ {V : Type 0} (same : V → V → Bool) where
     found_none ps es q e = ap (λ k. first_value (entry_at es k)) e
 
     pub by_places : ((q : ℕ) → q < n → SameAt (found_by ps es q) (found_by qs fs q)) → FindsPlace ps n None → FindsPlace qs n None → HasSame same (found_by ps es) (found_by qs fs)
-    by_places all left right q = elim (below_or q n) [
+    by_places all left right q = elim (cases_lt q n) [
       | inl lt ↦ all q lt
       | inr le ↦ same_as None None (found_by ps es q) (found_by qs fs q) (sym (found_none ps es q (left q le))) (sym (found_none qs fs q (right q le))) refl
     ]
@@ -194,7 +185,7 @@ module _ {V : Type 0} (same : V → V → Bool) where
         other_first other all = by_test (p.0 == q.0) refl
           where
             by_test : (b : Bool) → (p.0 == q.0) ≡ b → ⊥
-            by_test true e = other (same_number p.0 q.0 e)
+            by_test true e = other (eqb-true p.0 q.0 e)
             by_test false e = false≢true ((in_step_tells false (sym (ahead ∙ λ i. (e i && same p.1 q.1) && are_same same more rest))).1 all)
 
         pub other_value : same p.1 q.1 ≡ false → HasSame same (value_at es) (value_at fs) → ⊥
@@ -224,7 +215,7 @@ module _ {V : Type 0} (same : V → V → Bool) where
     none_near near low q le = lacks_above NEAR near q low.near le
 
     pub both_parts : HasSame same (value_at near) (value_at others_near) → HasSame same (value_at far) (value_at others_far) → HasSame same (value_at now) (value_at others)
-    both_parts low high q = elim (below_or q NEAR) [
+    both_parts low high q = elim (cases_lt q NEAR) [
       | inl lt ↦ same_as (value_at near q) (value_at others_near q) (value_at now q) (value_at others q)
           (sym (now_near near far now is fits q lt)) (sym (now_near others_near others_far others others_is others_fits q lt)) (low q)
       | inr le ↦ same_as (value_at far q) (value_at others_far q) (value_at now q) (value_at others q)
@@ -232,14 +223,14 @@ module _ {V : Type 0} (same : V → V → Bool) where
     ]
 
     pub near_part : HasSame same (value_at now) (value_at others) → HasSame same (value_at near) (value_at others_near)
-    near_part all q = elim (below_or q NEAR) [
+    near_part all q = elim (cases_lt q NEAR) [
       | inl lt ↦ same_as (value_at now q) (value_at others q) (value_at near q) (value_at others_near q)
           (now_near near far now is fits q lt) (now_near others_near others_far others others_is others_fits q lt) (all q)
       | inr le ↦ same_as None None (value_at near q) (value_at others_near q) (sym (none_near near fits.0 q le)) (sym (none_near others_near others_fits.0 q le)) refl
     ]
 
     pub far_part : HasSame same (value_at now) (value_at others) → HasSame same (value_at far) (value_at others_far)
-    far_part all q = elim (below_or q NEAR) [
+    far_part all q = elim (cases_lt q NEAR) [
       | inl lt ↦ same_as None None (value_at far q) (value_at others_far q) (sym (none_far far fits.1 q lt)) (sym (none_far others_far others_fits.1 q lt)) refl
       | inr le ↦ same_as (value_at now q) (value_at others q) (value_at far q) (value_at others_far q)
           (now_far near far now is fits q le) (now_far others_near others_far others others_is others_fits q le) (all q)

@@ -1,7 +1,7 @@
 -- Values found by an index.
-use Rattle.std.proofs.Common.{ℕ, suc, zero, ◌+◌, ◌<◌, ◌≤◌, ◌≡◌, ◌⊎◌, List, [], ◌∷◌, ◌++◌, length, set, get_or, Option, Some, None, IsSome, refl, sym, ap, subst, ◌∙◌, arith, inl, inr}
+use Rattle.std.proofs.Common.{ℕ, suc, zero, ◌+◌, ◌<◌, ◌≤◌, ◌≡◌, List, [], ◌∷◌, ◌++◌, length, set, get_or, Option, Some, None, IsSome, refl, sym, ap, subst, ◌∙◌, arith, inl, inr}
 use Rattle.std.specs.Option.{MatchOption}
-use Rattle.std.proofs.lemmas.Bool.{false≢true}
+use Rattle.std.proofs.lemmas.Bool.{cases_lt, false≢true}
 use Rattle.std.proofs.lemmas.List.{get_or_append_left, get_or-set_other, get_or-set_same}
 use Rattle.pc_join.specs.ByName.{AscendFrom, IsLeastFrom, value_at}
 use Rattle.pc_join.specs.declared.near.TheConstants.{NEAR}
@@ -9,9 +9,6 @@ use Rattle.pc_join.specs.Inner.Leaves.{AreBefore, IsSetAt}
 use Rattle.pc_join.specs.Inner.Near.{AreNear, AreWithin, FindsPlace, IsIndex, IsPlaceOf, entries_at, entry_at, first_value, found_by, place_in}
 use Rattle.pc_join.proofs.Entries.{same_or_other, at_first, at_later, none_before}
 use Rattle.pc_join.proofs.Standing.{set_of}
-
-below_or : (a b : ℕ) → (a < b) ⊎ (b ≤ a)
-below_or a b = grind arith
 
 module _ {V : Type 0} where
   -- the entry at a place
@@ -255,14 +252,14 @@ module _ {V : Type 0} where
 
   next_by : (ps : List ℕ) (es : List (ℕ × V)) (h : IsIndex ps es) (from : ℕ) (r : Option ℕ) → FindsPlace ps from r
       → MatchOption r ((q : ℕ) → IsSome (value_at (entries_at ps es) q) → q < from) (IsLeastFrom (value_at (entries_at ps es)) from)
-  next_by ps es h from None finds = λ q some. elim (below_or q from) [
+  next_by ps es h from None finds = λ q some. elim (cases_lt q from) [
     | inl lt ↦ lt
     | inr le ↦ not_some (value_at (entries_at ps es) q) (shown_by ps es h q ∙ none_zero (place_in ps q) es (finds q le)) some
   ]
   next_by ps es h from (Some name) finds = record {
     held = subst (λ o. IsSome o) (sym (shown_by ps es h name)) (some_at name (place_in ps name) es (h.each name) finds.2);
     reached = finds.0;
-    least = λ q some le. elim (below_or q name) [
+    least = λ q some le. elim (cases_lt q name) [
       | inl lt ↦ not_some (value_at (entries_at ps es) q) (shown_by ps es h q ∙ none_zero (place_in ps q) es (finds.3 q le lt)) some
       | inr up ↦ up
     ];

@@ -1,21 +1,15 @@
 -- Entries by ascending names, and the place of one among them.
-use Rattle.std.proofs.Common.{ℕ, suc, zero, ◌+◌, ◌/◌, ◌<◌, ◌≤◌, ◌≡◌, ◌==◌, ◌⊎◌, true, false, cond, List, [], ◌∷◌, ◌++◌, length, take, drop, set, get_or, take-append-drop, Option, Some, None, IsSome, ltb, ltb-true, ltb-false, refl, sym, ap, subst, ◌∙◌, arith, inl, inr}
+use Rattle.std.proofs.Common.{ℕ, suc, zero, ◌+◌, ◌/◌, ◌<◌, ◌≤◌, ◌≡◌, ◌==◌, true, false, cond, List, [], ◌∷◌, ◌++◌, length, take, drop, set, get_or, take-append-drop, Option, Some, None, IsSome, ltb, ltb-true, ltb-false, refl, sym, ap, subst, ◌∙◌, arith, inl, inr}
 use Rattle.std.specs.Ordering.{nat_cmp, is_eq}
 use Rattle.std.specs.List.Sorted.{IsNonDecreasingBy}
-use Rattle.std.proofs.lemmas.Bool.{false≢true}
+use Rattle.std.proofs.lemmas.Bool.{cases_lt, eqb-true, false≢true}
 use Rattle.std.proofs.lemmas.Bool.Decides.{nat_tests}
 use Rattle.pc_join.specs.ByName.{AscendFrom, IsLeastFrom, value_at}
 use Rattle.pc_join.specs.Inner.Leaves.{AreOf, IsLeaf, AreBefore, IsPlaceIn, IsSetAt, begins_with}
 use Rattle.pc_join.proofs.Entries.{same_or_other, at_first, at_later, none_before}
 
-equal_of : (a b : ℕ) → (a == b) ≡ true → a ≡ b
-equal_of a b e = grind (arith, nat_tests)
-
 above_of : (n a : ℕ) → n ≤ a → (a == n) ≡ false → n + 1 ≤ a
 above_of n a le e = grind (arith, nat_tests)
-
-below_or : (a b : ℕ) → (a < b) ⊎ (b ≤ a)
-below_or a b = grind arith
 
 module _ {V : Type 0} where
   some_none : {Q : Type 0} {v : V} → ◌≡◌ {A = Option V} (Some v) None → Q
@@ -41,7 +35,7 @@ module _ {V : Type 0} where
   pub begins_there : (xs : List (ℕ × V)) (p name : ℕ) (d : ℕ × V) → begins_with (drop p xs) name ≡ true → (p < length xs) × ((get_or xs p d).0 ≡ name)
   begins_there [] zero name d e = absurd (false≢true e)
   begins_there [] (suc p) name d e = absurd (false≢true e)
-  begins_there (x ∷ xs) zero name d e = (omega arith, equal_of x.0 name e)
+  begins_there (x ∷ xs) zero name d e = (omega arith, eqb-true x.0 name e)
   begins_there (x ∷ xs) (suc p) name d e = let k = begins_there xs p name d e in let lt = k.0 in (omega arith, k.1)
 
   drop_at : (xs : List (ℕ × V)) (p : ℕ) (d : ℕ × V) → p < length xs → drop p xs ≡ get_or xs p d ∷ drop (suc p) xs
@@ -58,7 +52,7 @@ module _ {V : Type 0} where
   name_from : (a : ℕ) (xs : List (ℕ × V)) (p name : ℕ) → AscendFrom a xs → begins_with (drop p xs) name ≡ true → a ≤ name
   name_from a [] zero name h e = absurd (false≢true e)
   name_from a [] (suc p) name h e = absurd (false≢true e)
-  name_from a (x ∷ xs) zero name h e = let same = equal_of x.0 name e in let le = h.0 in omega arith
+  name_from a (x ∷ xs) zero name h e = let same = eqb-true x.0 name e in let le = h.0 in omega arith
   name_from a (x ∷ xs) (suc p) name h e = let k = name_from (x.0 + 1) xs p name h.1 e in let le = h.0 in omega arith
 
   guessed_before : (a : ℕ) (xs : List (ℕ × V)) (p name : ℕ) → AscendFrom a xs → begins_with (drop p xs) name ≡ true → AreBefore name (take p xs)
@@ -70,7 +64,7 @@ module _ {V : Type 0} where
   guessed_after : (a : ℕ) (xs : List (ℕ × V)) (p name : ℕ) → AscendFrom a xs → begins_with (drop p xs) name ≡ true → AscendFrom name (drop p xs)
   guessed_after a [] zero name h e = tt
   guessed_after a [] (suc p) name h e = tt
-  guessed_after a (x ∷ xs) zero name h e = (let same = equal_of x.0 name e in omega arith, h.1)
+  guessed_after a (x ∷ xs) zero name h e = (let same = eqb-true x.0 name e in omega arith, h.1)
   guessed_after a (x ∷ xs) (suc p) name h e = guessed_after (x.0 + 1) xs p name h.1 e
 
   fits_there : (xs : List (ℕ × V)) (p name : ℕ) → begins_with (drop p xs) name ≡ true → p ≤ length xs
@@ -138,14 +132,14 @@ module _ {V : Type 0} where
       record {
         held = subst (λ o. IsSome o) (sym (beyond xs n p e.0 h rise.0 ∙ ap (λ es. value_at es e.0) there ∙ at_first e (drop (suc p) xs))) refl;
         reached = rise.0;
-        least = λ q some le. elim (below_or q e.0) [
+        least = λ q some le. elim (cases_lt q e.0) [
           | inl lt ↦ not_some (value_at xs q) (beyond xs n p q h le ∙ ap (λ es. value_at es q) there ∙ none_before e.0 (e ∷ drop (suc p) xs) q (omega arith, rise.1) lt) some
           | inr le ↦ le
         ];
       }
 
   pub none_at : (xs : List (ℕ × V)) (n p : ℕ) → IsPlaceIn xs n p → length xs ≤ p → (q : ℕ) → IsSome (value_at xs q) → q < n
-  none_at xs n p h is q some = elim (below_or q n) [
+  none_at xs n p h is q some = elim (cases_lt q n) [
     | inl lt ↦ lt
     | inr le ↦ not_some (value_at xs q) (beyond xs n p q h le ∙ ap (λ es. value_at es q) (past xs p is)) some
   ]

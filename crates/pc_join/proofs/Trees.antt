@@ -1,10 +1,10 @@
 -- Leaves by their numbers, and what they have under a name.
-use Rattle.std.proofs.Common.{ℕ, ◌+◌, ◌*◌, ◌/◌, ◌<◌, ◌≤◌, ◌≡◌, ◌⊎◌, cond, List, [], ◌∷◌, ◌++◌, length, true, false, Option, Some, None, Bool, IsSome, IsTrue, MatchOption, ◌↔◌, refl, sym, ap, subst, ◌∙◌, arith, inl, inr}
+use Rattle.std.proofs.Common.{ℕ, ◌+◌, ◌*◌, ◌/◌, ◌<◌, ◌≤◌, ◌≡◌, cond, List, [], ◌∷◌, ◌++◌, length, true, false, Option, Some, None, Bool, IsSome, IsTrue, MatchOption, ◌↔◌, refl, sym, ap, subst, ◌∙◌, arith, inl, inr}
 use Rattle.std.specs.Global.{Vec}
 use Rattle.std.specs.Ordering.{nat_cmp, is_eq}
 use Rattle.std.specs.BTreeMap as tree
 use Rattle.std.specs.BTreeMap.{BTreeMap}
-use Rattle.std.proofs.lemmas.Bool.{false≢true}
+use Rattle.std.proofs.lemmas.Bool.{cases_lt, false≢true}
 use Rattle.std.proofs.lemmas.Bool.Decides.{nat_tests}
 use Rattle.pc_join.specs.Sets.{Members, Source}
 use Rattle.pc_join.specs.ByName.{AscendFrom, IsLeastFrom, value_at}
@@ -21,9 +21,6 @@ clash e = cc
 
 inside : {X : Type 0} {x y : X} → ◌≡◌ {A = Option X} (Some x) (Some y) → x ≡ y
 inside e = cc
-
-below_or : (a b : ℕ) → (a < b) ⊎ (b ≤ a)
-below_or a b = grind arith
 
 -- the same functions, shown in another way
 module _ {V : Type 0} (old new old_shown new_shown : ℕ → Option V) (f : (q : ℕ) → old_shown q ≡ old q) (g : (q : ℕ) → new_shown q ≡ new q) (name : ℕ) (value : V) where
@@ -193,7 +190,7 @@ module _ {V : Type 0} where
       ]
 
       pub none_here : ((k : ℕ) → IsSome (tree.get nat_cmp leaves k) → k < from / 64 + 1) → (q : ℕ) → IsSome (held_in leaves q) → q < from
-      none_here h q some = elim (below_or q from) [
+      none_here h q some = elim (cases_lt q from) [
         | inl lt ↦ lt
         | inr le ↦ (let up = later_leaf q some le in let low = h (q / 64) (there_leaf (tree.get nat_cmp leaves (q / 64)) q some) in absurd (omega arith))
       ]

@@ -1,7 +1,7 @@
 -- Every read of a world that events lead to has an answer.
 use Rattle.std.proofs.Common.{◌≡◌, ℕ, zero, suc, length, ◌+◌, ◌≤◌, ◌<◌, ◌==◌, ◌&&◌, ◌||◌, ◌↔◌, Bool, true, false, IsTrue, List, [], ◌∷◌, Option, Some, None, MatchBool, is_some, nat_lt, if◌then◌else◌, refl, sym, ◌∙◌, ap, subst, inl, inr, arith}
 use Rattle.std.specs.List.{list_all}
-use Rattle.std.proofs.lemmas.Bool.{cases_lt, eq-eqb, false≢true}
+use Rattle.std.proofs.lemmas.Bool.{cases_lt, eq-eqb, eqb-true, false≢true}
 use Rattle.std.proofs.lemmas.Bool.Decides.{eqb_tells, nat_tests}
 use Rattle.pc_messages.specs.Run.{IsBegun}
 use Rattle.pc_messages.specs.State.{phase_of}
@@ -21,7 +21,7 @@ use Rattle.pc_world.specs.PlainWorld.{PlainWorld}
 use Rattle.pc_world.specs.Steps.{are_cpus}
 use Rattle.pc_sim.specs.Reads.{HasAll, IsAsleep, IsComparing, IsCompleting, IsCompleteness, IsNowhere, IsRead, IsSameness, IsShow, IsShowing, IsStatus}
 use Rattle.pc_messages.proofs.Bools.{both, first_true, or_cases, or_left, or_right, second_true}
-use Rattle.pc_sim.proofs.Rows.{rows_of, same_number}
+use Rattle.pc_sim.proofs.Rows.{rows_of}
 use Rattle.pc_sim.proofs.Statuses.{phase_some}
 
 -- an answer where the CPU is there; else the refusal
@@ -60,8 +60,8 @@ within_has : (a b : Set) → within a b ≡ true → (t n : ℕ) → has a t n �
 within_has [] b h t n e = absurd (false≢true e)
 within_has (p ∷ a) b h t n e = elim (or_cases ((p.0 == t) && (p.1 == n)) (has a t n) e) [
   | inl here ↦
-      subst (λ k. has b t k ≡ true) (same_number p.1 n (second_true (p.0 == t) (p.1 == n) here))
-      (subst (λ k. has b k p.1 ≡ true) (same_number p.0 t (first_true (p.0 == t) (p.1 == n) here))
+      subst (λ k. has b t k ≡ true) (eqb-true p.1 n (second_true (p.0 == t) (p.1 == n) here))
+      (subst (λ k. has b k p.1 ≡ true) (eqb-true p.0 t (first_true (p.0 == t) (p.1 == n) here))
       (first_true (has b p.0 p.1) (within a b) h))
   | inr later ↦ within_has a b (second_true (has b p.0 p.1) (within a b) h) t n later
 ]

@@ -3,7 +3,7 @@ use Rattle.std.proofs.Common.{◌≡◌, ℕ, zero, suc, add-one, length, ◌+�
 use Rattle.std.specs.List.{list_any, range_with_len, slice_index}
 use Rattle.std.specs.List.Sorted.{IsStrictlyIncreasing}
 use Rattle.std.proofs.Math.Nat.{le-max_left, le-max_right}
-use Rattle.std.proofs.lemmas.Bool.{cases_lt, eq-eqb, false≢true}
+use Rattle.std.proofs.lemmas.Bool.{cases_lt, eq-eqb, eqb-true, false≢true}
 use Rattle.std.proofs.lemmas.Bool.Decides.{eqb_tells}
 use Rattle.std.proofs.lemmas.List.Elements.{All-weaker, All-nil, All-cons, All-map, All-filter}
 use Rattle.std.proofs.lemmas.List.Kept.{IsStrictlyIncreasing-filter}
@@ -38,15 +38,9 @@ in_range a (suc n) x low high = elim (eqb_tells a x) [
   | inr other ↦ let differ = other.1 in or_right (a == x) (list_any (λ y. y == x) (range_with_len (a + 1) n)) (in_range (a + 1) n x (omega (arith, differ)) (omega arith))
 ]
 
-pub same_number : (a b : ℕ) → (a == b) ≡ true → a ≡ b
-same_number a b e = elim (eqb_tells a b) [
-  | inl same ↦ same.1
-  | inr other ↦ absurd (false≢true (sym other.0 ∙ e))
-]
-
 -- what a filter leaves of a list has the numbers of the list that pass it
 kept : (p : ℕ → Bool) (x : ℕ) (xs : List ℕ) → list_any (λ y. y == x) (filter p xs) ≡ (p x && list_any (λ y. y == x) xs)
-kept p x xs = any-filter_same (λ y. y == x) p (p x) (λ k e. ap p (same_number k x e)) xs
+kept p x xs = any-filter_same (λ y. y == x) p (p x) (λ k e. ap p (eqb-true k x e)) xs
 
 and_true : (a b : Bool) → b ≡ true → (a && b) ≡ a
 and_true true b e = e
@@ -82,7 +76,7 @@ name_below (p ∷ set) t e =
     let left : p.0 ≤ max p.0 (greatest set) = le-max_left p.0 (greatest set) in
     let right : greatest set ≤ max p.0 (greatest set) = le-max_right p.0 (greatest set) in
     elim (or_cases (p.0 == t) (is_told set t) e) [
-      | inl here ↦ let same = same_number p.0 t here in omega (arith, left, same)
+      | inl here ↦ let same = eqb-true p.0 t here in omega (arith, left, same)
       | inr later ↦ let low = name_below set t later in omega (arith, right, low)
     ]
 
@@ -92,7 +86,7 @@ number_below (p ∷ set) t n e =
     let left : p.1 ≤ max p.1 (top set) = le-max_left p.1 (top set) in
     let right : top set ≤ max p.1 (top set) = le-max_right p.1 (top set) in
     elim (or_cases ((p.0 == t) && (p.1 == n)) (has set t n) e) [
-      | inl here ↦ let same = same_number p.1 n (second_true (p.0 == t) (p.1 == n) here) in omega (arith, left, same)
+      | inl here ↦ let same = eqb-true p.1 n (second_true (p.0 == t) (p.1 == n) here) in omega (arith, left, same)
       | inr later ↦ let low = number_below set t n later in omega (arith, right, low)
     ]
 

@@ -1,7 +1,7 @@
 -- How far views and sets of pairs know a thread without a gap.
 use Rattle.std.proofs.Common.{ℕ, suc, zero, ◌+◌, ◌<◌, ◌≤◌, ◌≡◌, ◌==◌, ◌⊎◌, if◌then◌else◌, max, nat_le, Bool, true, false, IsTrue, ◌↔◌, List, [], ◌∷◌, ◌||◌, ◌&&◌, length, take, Option, Some, None, All, refl, sym, ap, ◌∙◌, subst, arith, inl, inr}
 use Rattle.std.specs.List.{slice_get}
-use Rattle.std.proofs.lemmas.Bool.{and_parts, cases_lt, false≢true}
+use Rattle.std.proofs.lemmas.Bool.{and_parts, cases_lt, eqb-true, false≢true}
 use Rattle.std.specs.Cmp.Derive.{both_true}
 use Rattle.std.proofs.lemmas.Bool.Decides.{nat_tests}
 use Rattle.pc_messages.specs.State.{state_of}
@@ -67,9 +67,6 @@ here_or_later : (a b : Bool) → (a || b) ≡ true → (a ≡ true) ⊎ (b ≡ t
 here_or_later true b h = inl refl
 here_or_later false b h = inr h
 
-same_number : (a b : ℕ) → (a == b) ≡ true → a ≡ b
-same_number a b h = grind (arith, nat_tests)
-
 max_left : (a b m : ℕ) → m ≤ a → m ≤ max a b
 max_left a b m h = grind arith
 
@@ -81,7 +78,7 @@ at_most_top [] t m h = absurd (false≢true h)
 at_most_top (p ∷ ps) t m h =
     elim (here_or_later ((p.0 == t) && (p.1 == m)) (has ps t m) h) [
       | inl here ↦
-          let number : p.1 ≡ m = same_number p.1 m (and_parts (p.0 == t) (p.1 == m) here).1 in
+          let number : p.1 ≡ m = eqb-true p.1 m (and_parts (p.0 == t) (p.1 == m) here).1 in
           max_left p.1 (top ps) m (omega (arith, number))
       | inr later ↦ max_right p.1 (top ps) m (at_most_top ps t m later)
     ]
@@ -127,7 +124,7 @@ early_in : (kinds : List Kind) (early : List (ℕ × Kind)) (n : ℕ) → All (H
 early_in kinds [] n all h = absurd (false≢true h)
 early_in kinds (e ∷ es) n all h =
     elim (here_or_later (e.0 == n) (is_early es n) h) [
-      | inl here ↦ subst (λ m. (nat_le 1 m && nat_le m (length kinds)) ≡ true) (same_number e.0 n here) (in_history kinds e.0 e.1 (all 0 e (omega arith)))
+      | inl here ↦ subst (λ m. (nat_le 1 m && nat_le m (length kinds)) ≡ true) (eqb-true e.0 n here) (in_history kinds e.0 e.1 (all 0 e (omega arith)))
       | inr later ↦ early_in kinds es n (λ k d less. all (suc k) d (omega arith)) later
     ]
 
