@@ -1,3 +1,4 @@
+pub mod Outputs
 pub mod Readings
 pub mod Steps
 pub mod Taking

@@ -22,6 +22,7 @@ mod lists;
 mod machine;
 mod opening;
 mod outcome;
+mod output;
 mod response;
 mod run;
 mod short;

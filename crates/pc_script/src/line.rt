@@ -6,6 +6,7 @@ ghost use Rattle.std.specs.Io.KnownBytes.{Appends};
 ghost use Rattle.pc_calls.specs.declared.limits.Profile.{Profile};
 ghost use Rattle.pc_script.specs.Grammar.{HasNoReply, IsAsked, IsFault};
 ghost use Rattle.pc_script.specs.Responses.{response_text, text_line};
+ghost use Rattle.pc_script.specs.Inner.Outputs.{output_held};
 ghost use Rattle.pc_script.specs.Inner.Steps.{FoundNoMemory, TakesLine};
 ghost use Rattle.pc_script.specs.declared.command.Command.{Command};
 ghost use Rattle.pc_script.specs.declared.response.Response.{Response};
@@ -15,6 +16,7 @@ use crate::grammar::command_of;
 use crate::lines::first_word;
 use crate::machine::Machine;
 use crate::outcome::ScriptFault;
+use crate::output::Output;
 use crate::words::Words;
 use std::io::Write;
 
@@ -55,50 +57,52 @@ pub fn asked(line: &[u8]) -> Wish
     }
 }
 
-/// Has the machine answer a command, and writes the response.
+/// Has the machine answer a command, and puts the response into the output.
 #[inline(always)]
 fn answer<M: Machine, W: Write>(
     machine: &mut M,
     command: Command,
+    output: &mut Output,
     writer: &mut W,
 ) -> Result<(), ScriptFault>
     ensures ok { OnOk result ((response : Response)
         × ((profile : Profile) (commands : List Command) (responses : List Response) → M.StandsAfter profile machine.old commands responses
         → M.StandsAfter profile machine.new (commands ++ command ∷ []) (responses ++ response ∷ []))
-        × Appends (W.contents writer.old) (W.contents writer.new) (text_line (response_text response))) }
-    ensures no_memory { result ≡ Err ScriptFault.OutOfMemory → (writer.new ≡ writer.old)
+        × Appends (output_held (W.contents writer.old) output.old) (output_held (W.contents writer.new) output.new)
+            (text_line (response_text response))) }
+    ensures no_memory { result ≡ Err ScriptFault.OutOfMemory → (writer.new ≡ writer.old) × (output.new ≡ output.old)
         × ((profile : Profile) (commands : List Command) (responses : List Response) → M.StandsAfter profile machine.old commands responses
         → M.RanOut profile commands responses command) }
     ensures read_all { (result ≢ Err ScriptFault.Read) × (result ≢ Err ScriptFault.TooLong) }
 {
-    // The response is written from where it was answered: to move it first would be to copy it.
+    // The response is read where it was answered: to move it first would be to copy it.
     match &machine.answer(command) {
-        Ok(response) => match response.write_to(writer) {
-            Ok(()) => Ok(()),
-            Err(_) => Err(ScriptFault::Write),
-        },
+        Ok(response) if output.is_taken(response, writer) => Ok(()),
+        Ok(_) => Err(ScriptFault::Write),
         Err(_) => Err(ScriptFault::OutOfMemory),
     }
 }
 
-/// Has the machine take what a line asks for, and writes the response. Answers false where the line is a fault.
+/// Has the machine take what a line asks for, and puts the response into the output. Answers false where the line is a fault.
 #[inline(always)]
 pub(crate) fn take_line<M: Machine, W: Write>(
     line: &[u8],
     machine: &mut M,
+    output: &mut Output,
     writer: &mut W,
 ) -> Result<bool, ScriptFault>
     ensures ok { IfOk result (λ goes. MatchBool goes
-        (TakesLine M.StandsAfter line.now machine.old machine.new (W.contents writer.old) (W.contents writer.new))
-        (IsFault line.now × (machine.new ≡ machine.old) × (writer.new ≡ writer.old))) }
-    ensures no_memory { result ≡ Err ScriptFault.OutOfMemory → (writer.new ≡ writer.old)
+        (TakesLine M.StandsAfter line.now machine.old machine.new
+            (output_held (W.contents writer.old) output.old) (output_held (W.contents writer.new) output.new))
+        (IsFault line.now × (machine.new ≡ machine.old) × (writer.new ≡ writer.old) × (output.new ≡ output.old))) }
+    ensures no_memory { result ≡ Err ScriptFault.OutOfMemory → (writer.new ≡ writer.old) × (output.new ≡ output.old)
         × FoundNoMemory M.StandsAfter M.RanOut machine.old line.now }
     ensures read_all { (result ≢ Err ScriptFault.Read) × (result ≢ Err ScriptFault.TooLong) }
 {
     match asked(line) {
         Wish::Nothing => Ok(true),
         Wish::Answer(command) => {
-            answer(machine, command, writer)?;
+            answer(machine, command, output, writer)?;
             Ok(true)
         }
         Wish::Stop => Ok(false),

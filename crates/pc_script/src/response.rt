@@ -59,7 +59,7 @@ impl Response {
 /// Writes a line for each thread of a view, then `end`. It stands apart, so that what it needs is not made ready for every
 /// response.
 #[inline(never)]
-fn write_view<W: Write>(threads: &ShownThreads, writer: &mut W) -> io::Result<()>
+pub(crate) fn write_view<W: Write>(threads: &ShownThreads, writer: &mut W) -> io::Result<()>
     ensures { OnOk result (Appends (W.contents writer.old) (W.contents writer.new) (text_line (response_text (Response.View threads.now)))) }
 {
     writeln!(writer, "{threads}end")

@@ -2,6 +2,7 @@
 
 ghost use Rattle.std.specs.Prelude.{◌≡◌, ◌≢◌, ◌⊎◌, ◌+◌, ℕ, suc, List, [], ◌<◌, ◌≤◌, length, IfOk, IfSome, OnOk};
 ghost use Rattle.std.specs.Io.KnownBytes.{Appends, Consumes};
+ghost use Rattle.pc_script.specs.Inner.Outputs.{output_held};
 ghost use Rattle.pc_script.specs.Left.{lines_of_rest};
 ghost use Rattle.pc_script.specs.Scripts.{IsOutput, IsOutputUntil, IsTold, IsToldUntil, outcome_text};
 ghost use Rattle.pc_script.specs.Versions.{opening_text};
@@ -12,16 +13,25 @@ use crate::lines::lines_of;
 use crate::machine::Machine;
 use crate::opening::{Opening, opening_of};
 use crate::outcome::{Outcome, ScriptFault};
+use crate::output::Output;
 use pc_calls::Profile;
 use std::alloc::Global;
 use std::io::{Read, Write};
 
-/// Writes that the line with this number is a fault.
-fn write_fault<W: Write>(number: u32, writer: &mut W) -> Result<Outcome, ScriptFault>
+/// Writes what waits, and that the line with this number is a fault.
+fn write_fault<W: Write>(
+    number: u32,
+    output: &mut Output,
+    writer: &mut W,
+) -> Result<Outcome, ScriptFault>
     ensures ok { IfOk result (λ outcome. (outcome ≡ Outcome.FaultLine number)
-        × Appends (W.contents writer.old) (W.contents writer.new) (outcome_text (Outcome.FaultLine number))) }
+        × Appends (output_held (W.contents writer.old) output.old) (output_held (W.contents writer.new) output.new)
+            (outcome_text (Outcome.FaultLine number))) }
     ensures err { (result ≢ Err ScriptFault.OutOfMemory) × (result ≢ Err ScriptFault.Read) × (result ≢ Err ScriptFault.TooLong) }
 {
+    if !output.is_written(writer) {
+        return Err(ScriptFault::Write);
+    }
     match writeln!(writer, "fault line {number}") {
         Ok(()) => Ok(Outcome::FaultLine(number)),
         Err(_) => Err(ScriptFault::Write),
@@ -44,7 +54,34 @@ fn write_opening<W: Write>(profile: Profile, writer: &mut W) -> Result<(), Scrip
     }
 }
 
-/// Runs the lines that are left of a text, up to the end or the first fault.
+/// Takes the lines that are left of a text, up to the end or the first fault. What is replied may wait in the output.
+fn take_lines<M: Machine, W: Write>(
+    opening: &Opening<'_>,
+    machine: &mut M,
+    output: &mut Output,
+    writer: &mut W,
+) -> Result<Outcome, ScriptFault>
+    requires short { opening.now.passed + length (lines_of_rest opening.now.rest) ≤ MOST_BYTES + 1 }
+    requires fresh { M.StandsAfter opening.now.profile machine.old [] [] }
+    ensures ok { IfOk result (λ outcome. (told : List ℕ)
+        × IsTold (M.IsRun opening.now.profile) (suc opening.now.passed) (lines_of_rest opening.now.rest) outcome told
+        × Appends (output_held (W.contents writer.old) output.old) (output_held (W.contents writer.new) output.new) told) }
+    ensures no_memory { result ≡ Err ScriptFault.OutOfMemory → (told : List ℕ)
+        × IsToldUntil (M.IsRun opening.now.profile) (M.RanOut opening.now.profile) (suc opening.now.passed) (lines_of_rest opening.now.rest) told
+        × Appends (output_held (W.contents writer.old) output.old) (output_held (W.contents writer.new) output.new) told }
+    ensures read_all { (result ≢ Err ScriptFault.Read) × (result ≢ Err ScriptFault.TooLong) }
+{
+    let mut number = opening.passed;
+    for line in lines_of(opening.rest) {
+        number += 1;
+        if !take_line(line, machine, output, writer)? {
+            return write_fault(number, output, writer);
+        }
+    }
+    Ok(Outcome::Finished)
+}
+
+/// Runs the lines that are left of a text, up to the end or the first fault, and writes all that is replied.
 fn run_lines<M: Machine, W: Write>(
     opening: &Opening<'_>,
     machine: &mut M,
@@ -60,22 +97,25 @@ fn run_lines<M: Machine, W: Write>(
         × Appends (W.contents writer.old) (W.contents writer.new) told }
     ensures read_all { (result ≢ Err ScriptFault.Read) × (result ≢ Err ScriptFault.TooLong) }
 {
-    let mut number = opening.passed;
-    for line in lines_of(opening.rest) {
-        number += 1;
-        if !take_line(line, machine, writer)? {
-            return write_fault(number, writer);
-        }
+    let mut output = Output::new();
+    let ended = take_lines(opening, machine, &mut output, writer);
+    // Behind a write that failed nothing more is written.
+    if let Err(ScriptFault::Write) = ended {
+        return ended;
     }
-    Ok(Outcome::Finished)
+    if output.is_written(writer) {
+        ended
+    } else {
+        Err(ScriptFault::Write)
+    }
 }
 
 /// Reads a script, has the machine answer its commands one after another, and writes the responses.
 ///
 /// The whole text is read first, and the machine is started in the profile that it names. Reading ends at the
 /// first read that fails (`Read`) or gives nothing, and no more than [`MOST_BYTES`] and one more are read (`TooLong`); after
-/// either fault nothing was written. Responses are written line by line, so a writer without a buffer is slow;
-/// nothing is flushed. `Write` comes from the first write that fails.
+/// either fault nothing was written. Responses are written many at a time, without a buffer of the
+/// writer's own; nothing is flushed. `Write` comes from the first write that fails.
 pub fn run_script<M: Machine, R: Read, W: Write>(
     alloc: Global,
     reader: &mut R,

@@ -30,6 +30,15 @@ impl LineEnd {
         }
     }
 
+    /// Takes back what is written.
+    #[inline(always)]
+    pub(crate) fn clear(&mut self)
+        ensures start { self.new.start ≡ ROOM }
+        ensures empty { drop self.new.start self.new.bytes ≡ [] }
+    {
+        self.start = ROOM;
+    }
+
     /// Writes a text in front of what is written.
     #[inline(always)]
     pub(crate) fn text(&mut self, text: &[u8])
@@ -61,7 +70,8 @@ impl LineEnd {
     #[inline(always)]
     pub(crate) fn as_slice(&self) -> &[u8]
         requires within { self.now.start ≤ ROOM }
-        ensures { result.now ≡ drop self.now.start self.now.bytes }
+        ensures value { result.now ≡ drop self.now.start self.now.bytes }
+        ensures short { length result.now ≤ ROOM }
     {
         &self.bytes[self.start..]
     }

@@ -2,11 +2,12 @@ use Rattle.std.proofs.Common.{ℕ, ◌+◌, List, Bor, length, drop, sym, arith}
 use Rattle.std.proofs.lemmas.Iterator.Consumers.{YieldsList-from_first, YieldsList-turn, YieldsList-so_far}
 use Rattle.std.proofs.lemmas.List.{length_push, map-append, length-map}
 use Rattle.std.proofs.lemmas.Result.{err_from_is_err_and}
+use Rattle.pc_script.specs.Inner.Outputs.{output_held}
 use Rattle.pc_script.specs.Left.{lines_left, lines_of_rest}
 use Rattle.pc_script.proofs.Progress.{HasRun-none, HasRun-more, told_until, told_at_fault, passed_fault}
 use Rattle.pc_script.specs.declared.outcome.ScriptFault.TheVariants.{OutOfMemory}
 use Rattle.pc_script.proofs.Splits.{list_at}
-use Rattle.pc_script.proofs.run.run_lines.Goals as goal
+use Rattle.pc_script.proofs.run.take_lines.Goals as goal
 
 pub loop-line-init : goal.loop-line-init
 loop-line-init g c = record { counted = omega arith; ran = HasRun-none _ _ _ _ c.requires.fresh }
@@ -28,8 +29,8 @@ returns-in_err-take_line-clause-no_memory g c = λ is.
     let front = YieldsList-so_far road c.loop-line.yielded _ c.loop-line.yielded_by in
     let whole = list_at all _ c.in-Some.line.now (length c.loop-line.yielded) front turn.0 turn.1 in
     let none = c.take_line.ensures.no_memory memory in
-    let told = told_until c.args.opening.now.profile (g.M.Machine.IsRun c.args.opening.now.profile) g.M.Machine.RanOut all c.in-Some.line.now (drop (length c.loop-line.yielded + 1) all) (g.met.M.Machine.is_run_after c.args.opening.now.profile) whole c.loop-line.invariant.ran none.1 in
-    rw none.0 told
+    let told = told_until c.args.opening.now.profile (g.M.Machine.IsRun c.args.opening.now.profile) g.M.Machine.RanOut all c.in-Some.line.now (drop (length c.loop-line.yielded + 1) all) (g.met.M.Machine.is_run_after c.args.opening.now.profile) whole c.loop-line.invariant.ran none.2 in
+    rw (none.0, none.1) told
 
 pub returns-then-not-branch-clause-ok : goal.returns-then-not-branch-clause-ok
 returns-then-not-branch-clause-ok g c =
@@ -39,10 +40,10 @@ returns-then-not-branch-clause-ok g c =
     let front = YieldsList-so_far road c.loop-line.yielded _ c.loop-line.yielded_by in
     let whole = list_at all _ c.in-Some.line.now (length c.loop-line.yielded) front turn.0 turn.1 in
     let stops = rw c.if-not-branch.true at c.in_ok-take_line.ensures.ok in
-    told_at_fault (g.M.Machine.IsRun c.args.opening.now.profile) all (g.W.Write.contents c.write_fault.new.writer) c.in-Some.line.now (drop (length c.loop-line.yielded + 1) all) (c.loop-line.number + 1) c.write_fault.result
+    told_at_fault (g.M.Machine.IsRun c.args.opening.now.profile) all (output_held (g.W.Write.contents c.write_fault.new.writer) c.write_fault.new.output) c.in-Some.line.now (drop (length c.loop-line.yielded + 1) all) (c.loop-line.number + 1) c.write_fault.result
     (g.met.M.Machine.is_run_after c.args.opening.now.profile) whole c.loop-line.invariant.ran stops.0
     (omega (arith, length-map c.loop-line.yielded (λ (line : Bor (List ℕ)). line.now), c.loop-line.invariant.counted))
-    (rw (sym stops.2) c.write_fault.ensures.ok)
+    (rw (sym stops.2, sym stops.3) c.write_fault.ensures.ok)
 
 pub loop-line-preserved : goal.loop-line-preserved
 loop-line-preserved g c =

@@ -1,0 +1,17 @@
+-- What a script has written, and what waits to be written.
+use Rattle.std.specs.Prelude.{ℕ, List, Option, take}
+use Rattle.std.specs.Io.KnownBytes.{append_known}
+use Rattle.pc_script.specs.declared.output.Output.{Output}
+use Rattle.pc_script.specs.declared.output.Waiting.{Waiting}
+
+-- the bytes that wait
+abbrev pub waiting : Waiting → List ℕ
+waiting replies = take replies.len replies.bytes
+
+-- what a writer holds, and behind it what waits
+abbrev pub held : Option (List ℕ) → Waiting → Option (List ℕ)
+held known replies = append_known known (waiting replies)
+
+-- the same of an output
+abbrev pub output_held : Option (List ℕ) → Output → Option (List ℕ)
+output_held known output = held known output.waiting

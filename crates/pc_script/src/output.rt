@@ -1,0 +1,134 @@
+//! The output of a script: replies wait here until there are enough of them for a write.
+//!
+//! A script has a reply for most of its lines, and what is done for each of them counts. So a reply is put behind those that
+//! wait, in room that is made once for all, and what a writer answers is met once for many.
+
+ghost use Rattle.std.specs.Prelude.{◌≡◌, ◌≤◌, ◌+◌, ◌++◌, [], IsTrue, length};
+ghost use Rattle.pc_script.specs.declared.output.TheConstants.{MOST_WAITING};
+ghost use Rattle.std.specs.Io.KnownBytes.{Appends};
+ghost use Rattle.pc_script.specs.Responses.{response_text, text_line};
+ghost use Rattle.pc_script.specs.declared.response.Response.{Response};
+
+use crate::lists::ShownThreads;
+use crate::response::{Response, write_view};
+use crate::short::write_line;
+use crate::text::{LineEnd, ROOM};
+use std::io::Write;
+
+/// At most so many bytes wait.
+const MOST_WAITING: usize = 1 << 13;
+
+/// Replies that wait to be written.
+#[derive(Drop)]
+struct Waiting {
+    bytes: [u8; MOST_WAITING],
+    len: usize,
+    ghost within: { len ≤ MOST_WAITING },
+}
+
+impl Waiting {
+    ghost use Rattle.pc_script.specs.Inner.Outputs.{held, waiting};
+
+    /// Writes what waits. Answers false where the write fails.
+    ///
+    /// This and `push_behind_a_write` stand apart, so that no room for what a writer answers is made ready for every reply.
+    #[inline(never)]
+    fn is_written<W: Write>(&mut self, writer: &mut W) -> bool
+        ensures empty { self.new.len ≡ 0 }
+        ensures written { IsTrue result → Appends (W.contents writer.old) (W.contents writer.new) (waiting self.old) }
+    {
+        let is_written = writer.write_all(&self.bytes[..self.len]).is_ok();
+        self.len = 0;
+        is_written
+    }
+
+    /// Puts a text behind what waits, where there is room for it.
+    #[inline(always)]
+    fn append(&mut self, text: &[u8])
+        requires room { self.old.len + length text.now ≤ MOST_WAITING }
+        ensures { waiting self.new ≡ waiting self.old ++ text.now }
+    {
+        let end = self.len + text.len();
+        self.bytes[self.len..end].copy_from_slice(text);
+        self.len = end;
+    }
+
+    /// Puts a line's text behind what waits, and writes this first where there is no room for both. Answers false where that fails.
+    #[inline(always)]
+    fn is_taken<W: Write>(&mut self, text: &[u8], writer: &mut W) -> bool
+        requires short { length text.now ≤ ROOM }
+        ensures { IsTrue result → Appends (held (W.contents writer.old) self.old) (held (W.contents writer.new) self.new) text.now }
+    {
+        if text.len() <= MOST_WAITING - self.len {
+            self.append(text);
+            return true;
+        }
+        self.is_taken_after_a_write(text, writer)
+    }
+
+    #[inline(never)]
+    fn is_taken_after_a_write<W: Write>(&mut self, text: &[u8], writer: &mut W) -> bool
+        requires short { length text.now ≤ ROOM }
+        ensures { IsTrue result → Appends (held (W.contents writer.old) self.old) (held (W.contents writer.new) self.new) text.now }
+    {
+        if !self.is_written(writer) {
+            return false;
+        }
+        self.append(text);
+        true
+    }
+}
+
+/// Replies that wait to be written, and room in which the next is made.
+#[derive(Drop)]
+pub(crate) struct Output {
+    line: LineEnd,
+    waiting: Waiting,
+}
+
+impl Output {
+    ghost use Rattle.pc_script.specs.Inner.Outputs.{output_held, waiting};
+
+    /// An output of which nothing waits.
+    pub(crate) fn new() -> Output
+        ensures { waiting result.waiting ≡ [] }
+    {
+        Output {
+            line: LineEnd::new(),
+            waiting: Waiting {
+                bytes: [0; MOST_WAITING],
+                len: 0,
+            },
+        }
+    }
+
+    /// Writes what waits. Answers false where the write fails.
+    pub(crate) fn is_written<W: Write>(&mut self, writer: &mut W) -> bool
+        ensures empty { self.new.waiting.len ≡ 0 }
+        ensures written { IsTrue result → Appends (W.contents writer.old) (W.contents writer.new) (waiting self.old.waiting) }
+    {
+        self.waiting.is_written(writer)
+    }
+
+    /// Puts a response's text and a line feed behind what waits. Answers false where a write was needed, and failed.
+    #[inline(always)]
+    pub(crate) fn is_taken<W: Write>(&mut self, response: &Response, writer: &mut W) -> bool
+        ensures { IsTrue result → Appends (output_held (W.contents writer.old) self.old) (output_held (W.contents writer.new) self.new)
+            (text_line (response_text response.now)) }
+    {
+        self.line.clear();
+        match write_line(&mut self.line, response) {
+            None => self.waiting.is_taken(self.line.as_slice(), writer),
+            Some(threads) => self.is_view_taken(threads, writer),
+        }
+    }
+
+    /// Writes what waits and a view, which has no end that is known beforehand.
+    #[inline(never)]
+    fn is_view_taken<W: Write>(&mut self, threads: &ShownThreads, writer: &mut W) -> bool
+        ensures { IsTrue result → Appends (output_held (W.contents writer.old) self.old) (output_held (W.contents writer.new) self.new)
+            (text_line (response_text (Response.View threads.now))) }
+    {
+        self.waiting.is_written(writer) && write_view(threads, writer).is_ok()
+    }
+}
