@@ -6,7 +6,7 @@ use Rattle.std.proofs.lemmas.List.Splits.{slice_split-cons_yes, slice_split_none
 use Rattle.std.proofs.lemmas.List.Sums.{prefix_len_is, count_by-le-length, position_or_len_is, passes_at_first, fails_before_first}
 use Rattle.std.proofs.lemmas.Grind.{get_or_default_zero}
 use Rattle.std.proofs.lemmas.List.{length-map, length-take-le, take_all, drop_all}
-use Rattle.std.proofs.lemmas.Bool.{ne_eqb, true≢false}
+use Rattle.std.proofs.lemmas.Bool.{cases_lt, ne_eqb, true≢false}
 use Rattle.pc_script.specs.Inner.Taking.{StartsWithNoSpace, word_end}
 use Rattle.pc_script.specs.Text.{lines, words}
 
@@ -156,11 +156,6 @@ words-cut-last text rest start is within spaces none =
 
 -- ---- words that are taken one after another
 
-pub below_or_not : (k n : ℕ) → (k < n) ⊎ (n ≤ k)
-below_or_not k zero = inr (omega arith)
-below_or_not zero (suc n) = inl (omega arith)
-below_or_not (suc k) (suc n) = elim (below_or_not k n) [ inl h ↦ inl (omega (arith, h)) | inr h ↦ inr (omega (arith, h)) ]
-
 -- a space in front is passed over
 pub words-after_space : (text : List ℕ) → 0 < length text → get_or text 0 0 ≡ 32 → words (take (length text - 1) (drop 1 text)) ≡ words text
 words-after_space text some is =
@@ -182,7 +177,7 @@ words-start text some begins =
     let end = word_end text in
     let before : AllWithin IsNoSpace text 0 end = λ k d low high. fails_before_first (λ b. eqb b 32) text k d high in
     let first : HoldsAt IsNoSpace text 0 = λ d. subst IsNoSpace (sym (get_or_default_zero text 0 d some)) (ne_eqb (get_or text 0 0) 32 (begins some)) in
-    elim (below_or_not end (length text)) [
+    elim (cases_lt end (length text)) [
       | inl within ↦
           let at : HoldsAt IsSpace text end = λ d. passes_at_first (λ b. eqb b 32) text d within in
           let here : drop end text ≡ get_or text end 0 ∷ drop (end + 1) text = rw add-one (drop-cons text end 0 within) in

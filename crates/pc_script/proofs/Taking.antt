@@ -1,5 +1,5 @@
 -- Numbers that are taken from a text where they stand.
-use Rattle.std.proofs.Common.{◌≡◌, ◌∙◌, ℕ, suc, ◌<◌, ◌≤◌, ◌+◌, ◌*◌, ◌-◌, ◌^◌, eqb, not, true, List, [], ◌∷◌, Option, Some, None, Result, Ok, Err, MatchOption, get_or, length, take, drop, decimal, refl, sym, subst, ap, arith, inl, inr}
+use Rattle.std.proofs.Common.{◌≡◌, ◌∙◌, ℕ, suc, ◌<◌, ◌≤◌, ◌+◌, ◌*◌, ◌-◌, ◌^◌, eqb, not, true, List, [], ◌∷◌, Option, Some, None, Result, Ok, Err, get_or, length, take, drop, decimal, refl, sym, subst, ap, arith, inl, inr}
 use Rattle.std.specs.Bool.{MatchBool}
 use Rattle.std.specs.Int.{IsInRange}
 use Rattle.std.specs.Result.{result_ok, OkIff}
@@ -8,15 +8,15 @@ use Rattle.std.proofs.lemmas.Str.Parse.{digit_at}
 use Rattle.std.proofs.lemmas.Int.Digits.{digits_value-lt, digits_more}
 use Rattle.std.proofs.lemmas.List.{get_or-take, length-take-le}
 use Rattle.std.proofs.lemmas.List.Sums.{prefix_len-le-length, passes_at_first}
-use Rattle.std.proofs.lemmas.Bool.{eqb-true, eq-eqb, ne_eqb}
+use Rattle.std.proofs.lemmas.Bool.{cases_lt, eq-eqb, eqb-true, ne_eqb}
 use Rattle.std.proofs.lemmas.Fmt.{decimal-digits_value, decimal_injective, digits_value-decimal, length-decimal-le}
 use Rattle.std.proofs.lemmas.Str.{digit_value_digit}
 use Rattle.std.proofs.Math.Nat.{pow-le-pow_right}
 use Rattle.pc_script.specs.Grammar.{thread_name}
-use Rattle.pc_script.specs.Inner.Taking.{StartsWithNoSpace, TakesNumber, word_end}
+use Rattle.pc_script.specs.Inner.Taking.{IsTaken, StartsWithNoSpace, TakesNumber, word_end}
 use Rattle.pc_script.specs.Text.{words}
 use Rattle.pc_script.proofs.Numerals.{own, IsPlain, IsPlain-decimal, is_digit_at, value_more}
-use Rattle.pc_script.proofs.Splits.{below_or_not, word_end-is, words-none, words-start}
+use Rattle.pc_script.proofs.Splits.{word_end-is, words-none, words-start}
 
 -- the digits in front are no spaces
 digit_there : (text : List ℕ) (count place : ℕ) → AllDigits 10 (take count text) → count ≤ length text → place < count → IsInRange 48 57 (get_or text place 0)
@@ -52,11 +52,11 @@ names_value text count digits small plain = sym (decimal-digits_value own (take 
 beyond : (text : List ℕ) (count : ℕ) → AllDigits 10 (take count text) → count < length text → (get_or text count 0 ≡ 32 → ⊥) → count < word_end text
 beyond text count digits within no_space =
     let end = word_end text in
-    elim (below_or_not count end) [
+    elim (cases_lt count end) [
       | inl below ↦ below
       | inr early ↦
           let at : eqb (get_or text end 0) 32 ≡ true = passes_at_first (λ b. eqb b 32) text 0 (omega (arith, early, within)) in
-          elim (below_or_not end count) [
+          elim (cases_lt end count) [
             | inl below ↦ absurd (no_space_there text count end digits (omega (arith, within)) below at)
             | inr late ↦
                 let same : end ≡ count = omega (arith, early, late) in
@@ -95,12 +95,6 @@ value_with_last text digits within last =
 -- a number is what its digits make
 pub value_of_named : (word : List ℕ) (n : ℕ) → n < 2 ^ 64 → word ≡ decimal n → digits_value 10 word ≡ n
 value_of_named word n small is = subst (λ w. digits_value 10 w ≡ n) (sym is) (digits_value-decimal own n small)
-
--- what was taken of the text from its first word on
-abbrev pub IsTaken : List ℕ → List ℕ → Option ℕ → Type 0
-IsTaken text after r = MatchOption r
-    ((n : ℕ) → n < 2 ^ 64 → take (word_end text) text ≡ decimal n → ⊥)
-    (λ n. (n < 2 ^ 64) × (take (word_end text) text ≡ decimal n) × (after ≡ drop (word_end text) text))
 
 some_text : (text : List ℕ) (n : ℕ) → n < 2 ^ 64 → take (word_end text) text ≡ decimal n → 0 < length text
 some_text [] n small is = let some = (IsPlain-decimal n small).0 in omega (arith, some, ap length is)

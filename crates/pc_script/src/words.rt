@@ -1,19 +1,19 @@
 //! The words of a line, taken one after another.
 //!
-//! A number is read where it stands, so that its bytes are looked at once.
+//! A number is read where it stands, so that each of its bytes is read once.
 
-ghost use Rattle.std.specs.Prelude.{◌≡◌, ◌<◌, ◌≤◌, ◌+◌, ◌-◌, ◌*◌, ◌^◌, ◌⊎◌, ℕ, MatchOption, [], ◌∷◌, decimal, drop, get_or, length, take};
+ghost use Rattle.std.specs.Prelude.{◌≡◌, ◌<◌, ◌≤◌, ◌+◌, ◌-◌, ◌*◌, ◌^◌, MatchOption, [], ◌∷◌, decimal, get_or, length, take};
 ghost use Rattle.std.specs.Bool.{MatchBool};
 ghost use Rattle.std.specs.Int.{IsInRange};
 ghost use Rattle.std.specs.Str.Parse.{AllDigits, digits_value};
 ghost use Rattle.pc_script.specs.Grammar.{thread_name};
-ghost use Rattle.pc_script.specs.Inner.Taking.{StartsWithNoSpace, TakesNumber, word_end, words_left};
+ghost use Rattle.pc_script.specs.Inner.Taking.{IsTaken, StartsWithNoSpace, TakesNumber, words_left};
 ghost use Rattle.pc_script.specs.Text.{words};
 
 use crate::digits::is_plain;
 use crate::lines::first_word;
 
-/// Every number of so many digits is below 2 ^ 64, and none of more than one digit more.
+/// Every number of so many digits is below 2 ^ 64, and no number below that has more than one digit more.
 const SHORT: usize = 19;
 
 /// The words of a line that are left.
@@ -98,10 +98,7 @@ impl<'a> Words<'a> {
     fn take_longest(&mut self, front: u64) -> Option<u64>
         requires longer { (SHORT < length self.old.rest.now) × (get_or self.old.rest.now SHORT 0 ≡ 32 → ⊥) }
         requires digits { AllDigits 10 (take SHORT self.old.rest.now) × (front ≡ digits_value 10 (take SHORT self.old.rest.now)) }
-        ensures { MatchOption result
-            ((n : ℕ) → n < 2 ^ 64 → take (word_end self.old.rest.now) self.old.rest.now ≡ decimal n → ⊥)
-            (λ n. (n < 2 ^ 64) × (take (word_end self.old.rest.now) self.old.rest.now ≡ decimal n)
-            × (self.new.rest.now ≡ drop (word_end self.old.rest.now) self.old.rest.now)) }
+        ensures { IsTaken self.old.rest.now self.new.rest.now result }
     {
         let text = self.rest;
         let last = text[SHORT];
@@ -122,10 +119,7 @@ impl<'a> Words<'a> {
     /// Takes the number that the rest starts with, up to its first space.
     #[inline(always)]
     fn take_number(&mut self) -> Option<u64>
-        ensures { MatchOption result
-            ((n : ℕ) → n < 2 ^ 64 → take (word_end self.old.rest.now) self.old.rest.now ≡ decimal n → ⊥)
-            (λ n. (n < 2 ^ 64) × (take (word_end self.old.rest.now) self.old.rest.now ≡ decimal n)
-            × (self.new.rest.now ≡ drop (word_end self.old.rest.now) self.old.rest.now)) }
+        ensures { IsTaken self.old.rest.now self.new.rest.now result }
     {
         let text = self.rest;
         let (value, end) = short_number(text);
@@ -142,7 +136,7 @@ impl<'a> Words<'a> {
         self.take_longest(value)
     }
 
-    /// Takes the next word, where it is a number.
+    /// Takes the next word, where it is a number below 2 ^ 64.
     pub(crate) fn number(&mut self) -> Option<u64>
         ensures { TakesNumber (2 ^ 64) decimal (words_left self.old) (words_left self.new) result }
     {
@@ -166,7 +160,7 @@ impl<'a> Words<'a> {
         u8::try_from(wide).ok()
     }
 
-    /// Takes the next word, where it is `t` and a number.
+    /// Takes the next word, where it is `t` and a number below 2 ^ 64.
     #[inline(always)]
     fn number_of_thread(&mut self) -> Option<u64>
         ensures { TakesNumber (2 ^ 64) thread_name (words_left self.old) (words_left self.new) result }

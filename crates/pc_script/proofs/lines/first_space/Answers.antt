@@ -2,15 +2,14 @@ use Rattle.std.proofs.Common.{◌≡◌, ◌∙◌, ◌≤◌, ◌<◌, ◌^◌,
 use Rattle.std.proofs.lemmas.List.{length-map, length-take-le}
 use Rattle.std.proofs.lemmas.Nat.Bits.{bit_at-trailing_zeros}
 use Rattle.std.proofs.lemmas.Simd.{bit_mask_l, bitmask_splat, mask_l-lt, none_from_empty_mask, run_in_chunk_fails, run_in_chunk_stops, trailing_mask_l}
-use Rattle.std.proofs.lemmas.Bool.{true≢false}
+use Rattle.std.proofs.lemmas.Bool.{cases_lt, true≢false}
 use Rattle.std.specs.Simd.Lanes.{mask_l}
 use Rattle.std.specs.Int.Count.{count_trailing_zeros}
 use Rattle.memchr.specs.Find.{IsFirst, Nowhere, Passes, is_byte}
-use Rattle.pc_script.proofs.Splits.{below_or_not}
 use Rattle.pc_script.proofs.lines.first_space.Goals as goal
 
 joined : (P : ℕ → Type 0) (n m : ℕ) → Nowhere P 0 n → Nowhere P n m → Nowhere P 0 m
-joined P n m before after k low high is = elim (below_or_not k n) [ inl h ↦ before k low h is | inr h ↦ after k h high is ]
+joined P n m before after k low high is = elim (cases_lt k n) [ inl h ↦ before k low h is | inr h ↦ after k h high is ]
 
 -- the first place from a place on is the first one, where there is none before that place
 first_of_all : (P : ℕ → Type 0) (n m : ℕ) (found : Option ℕ) → Nowhere P 0 n → IsFirst P n m found → IsFirst P 0 m found

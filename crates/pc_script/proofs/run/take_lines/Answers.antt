@@ -29,7 +29,7 @@ returns-in_err-take_line-clause-no_memory g c = λ is.
     let front = YieldsList-so_far road c.loop-line.yielded _ c.loop-line.yielded_by in
     let whole = list_at all _ c.in-Some.line.now (length c.loop-line.yielded) front turn.0 turn.1 in
     let none = c.take_line.ensures.no_memory memory in
-    let told = told_until c.args.opening.now.profile (g.M.Machine.IsRun c.args.opening.now.profile) g.M.Machine.RanOut all c.in-Some.line.now (drop (length c.loop-line.yielded + 1) all) (g.met.M.Machine.is_run_after c.args.opening.now.profile) whole c.loop-line.invariant.ran none.2 in
+    let told = told_until c.args.opening.now.profile (g.M.Machine.IsRun c.args.opening.now.profile) g.M.Machine.RanOut all {before = output_held (g.W.Write.contents c.args.writer.now) c.args.output.now} {now = output_held (g.W.Write.contents c.loop-line.writer) c.loop-line.output} c.in-Some.line.now (drop (length c.loop-line.yielded + 1) all) (g.met.M.Machine.is_run_after c.args.opening.now.profile) whole c.loop-line.invariant.ran none.2 in
     rw (none.0, none.1) told
 
 pub returns-then-not-branch-clause-ok : goal.returns-then-not-branch-clause-ok
@@ -40,7 +40,7 @@ returns-then-not-branch-clause-ok g c =
     let front = YieldsList-so_far road c.loop-line.yielded _ c.loop-line.yielded_by in
     let whole = list_at all _ c.in-Some.line.now (length c.loop-line.yielded) front turn.0 turn.1 in
     let stops = rw c.if-not-branch.true at c.in_ok-take_line.ensures.ok in
-    told_at_fault (g.M.Machine.IsRun c.args.opening.now.profile) all (output_held (g.W.Write.contents c.write_fault.new.writer) c.write_fault.new.output) c.in-Some.line.now (drop (length c.loop-line.yielded + 1) all) (c.loop-line.number + 1) c.write_fault.result
+    told_at_fault (g.M.Machine.IsRun c.args.opening.now.profile) all {before = output_held (g.W.Write.contents c.args.writer.now) c.args.output.now} {now = output_held (g.W.Write.contents c.loop-line.writer) c.loop-line.output} (output_held (g.W.Write.contents c.write_fault.new.writer) c.write_fault.new.output) c.in-Some.line.now (drop (length c.loop-line.yielded + 1) all) (c.loop-line.number + 1) c.write_fault.result
     (g.met.M.Machine.is_run_after c.args.opening.now.profile) whole c.loop-line.invariant.ran stops.0
     (omega (arith, length-map c.loop-line.yielded (λ (line : Bor (List ℕ)). line.now), c.loop-line.invariant.counted))
     (rw (sym stops.2, sym stops.3) c.write_fault.ensures.ok)
@@ -50,5 +50,5 @@ loop-line-preserved g c =
     let taken = rw c.if-not-branch.false at c.in_ok-take_line.ensures.ok in
     record {
       counted = omega (arith, length_push c.loop-line.yielded c.in-Some.line, c.loop-line.invariant.counted);
-      ran = rw map-append (HasRun-more _ c.loop-line.invariant.ran taken);
+      ran = rw map-append (HasRun-more _ {before = output_held (g.W.Write.contents c.args.writer.now) c.args.output.now} {now = output_held (g.W.Write.contents c.loop-line.writer) c.loop-line.output} {after = output_held (g.W.Write.contents c.take_line.new.writer) c.take_line.new.output} c.loop-line.invariant.ran taken);
     }
