@@ -69,7 +69,7 @@ fn answer<M: Machine, W: Write>(
         × ((profile : Profile) (commands : List Command) (responses : List Response) → M.StandsAfter profile machine.old commands responses
         → M.StandsAfter profile machine.new (commands ++ command ∷ []) (responses ++ response ∷ []))
         × Appends (output_held (W.contents writer.old) output.old) (output_held (W.contents writer.new) output.new)
-            (text_line (response_text response))) }
+        (text_line (response_text response))) }
     ensures no_memory { result ≡ Err ScriptFault.OutOfMemory → (writer.new ≡ writer.old) × (output.new ≡ output.old)
         × ((profile : Profile) (commands : List Command) (responses : List Response) → M.StandsAfter profile machine.old commands responses
         → M.RanOut profile commands responses command) }
@@ -93,7 +93,7 @@ pub(crate) fn take_line<M: Machine, W: Write>(
 ) -> Result<bool, ScriptFault>
     ensures ok { IfOk result (λ goes. MatchBool goes
         (TakesLine M.StandsAfter line.now machine.old machine.new
-            (output_held (W.contents writer.old) output.old) (output_held (W.contents writer.new) output.new))
+        (output_held (W.contents writer.old) output.old) (output_held (W.contents writer.new) output.new))
         (IsFault line.now × (machine.new ≡ machine.old) × (writer.new ≡ writer.old) × (output.new ≡ output.old))) }
     ensures no_memory { result ≡ Err ScriptFault.OutOfMemory → (writer.new ≡ writer.old) × (output.new ≡ output.old)
         × FoundNoMemory M.StandsAfter M.RanOut machine.old line.now }

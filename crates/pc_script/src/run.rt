@@ -26,7 +26,7 @@ fn write_fault<W: Write>(
 ) -> Result<Outcome, ScriptFault>
     ensures ok { IfOk result (λ outcome. (outcome ≡ Outcome.FaultLine number)
         × Appends (output_held (W.contents writer.old) output.old) (output_held (W.contents writer.new) output.new)
-            (outcome_text (Outcome.FaultLine number))) }
+        (outcome_text (Outcome.FaultLine number))) }
     ensures err { (result ≢ Err ScriptFault.OutOfMemory) × (result ≢ Err ScriptFault.Read) × (result ≢ Err ScriptFault.TooLong) }
 {
     if !output.is_written(writer) {

@@ -5,6 +5,7 @@ mod ends;
 mod faults;
 mod reading;
 mod responses;
+mod waiting;
 
 use pc_calls::{EnvCall, Event, LimitField, Posted, Profile, Refusal, Reply, Status};
 use pc_messages::{Cpu, Level, Mask, Phase, Reported, Tid};

@@ -54,9 +54,9 @@ impl Read for Counted {
 
 /// Takes so many bytes, one at a time, and then fails.
 #[derive(Drop)]
-struct Filling {
+pub(super) struct Filling {
     room: usize,
-    taken: Vec<u8>,
+    pub(super) taken: Vec<u8>,
 }
 
 impl Write for Filling {
@@ -154,7 +154,11 @@ fn nothing_is_read_after_the_end_a_failed_read_or_the_greatest_length(rt: HostRu
 }
 
 /// A writer that took what a script writes, with room for so many bytes, and how the script ended.
-fn filled(alloc: Global, script: &[u8], room: usize) -> (Filling, Result<Outcome, ScriptFault>) {
+pub(super) fn filled(
+    alloc: Global,
+    script: &[u8],
+    room: usize,
+) -> (Filling, Result<Outcome, ScriptFault>) {
     let mut reader = script;
     let mut writer = Filling {
         room,

@@ -52,6 +52,8 @@ fn malformed_calls_of_the_environment_are_faults(rt: HostRuntime) {
         b"enclave 1 1 1 1",
         b"enclave 1 1 1 1 1 1",
         b"create 0 18446744073709551616 ready",
+        b"tick 18446744073709551616",
+        b"block 0 18446744073709551617",
         b"create 0 +3 ready",
         b"create 0",
         b"wake t01",
