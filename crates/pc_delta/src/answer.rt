@@ -1,6 +1,6 @@
 //! Deltas that answer an asker.
 
-ghost use Rattle.std.specs.Prelude.{ℕ, ◌≡◌, ◌<◌, ◌≤◌, true, List, [], ◌∷◌, ◌++◌, None, Some, Option, All, IfOk, OnOk, MatchOption, IsTrue, IsFalse, option_copied};
+ghost use Rattle.std.specs.Prelude.{ℕ, ◌≡◌, ◌<◌, ◌≤◌, true, List, [], ◌∷◌, ◌++◌, None, Some, Option, All, IfOk, OnOk, MatchOption, IsTrue, IsFalse, option_copied, vec_capacity, vec_len};
 ghost use Rattle.pc_join.specs.ByName.{AscendFrom, known_in};
 ghost use Rattle.pc_thread_view.specs.Told.{tells};
 ghost use Rattle.pc_view.specs.Views.{pairs_of};
@@ -102,13 +102,34 @@ fn add_early<K: Known>(
     Ok(next)
 }
 
+/// A list of fewer items gets room for three times as many more; one of more items grows as `Vec` has it.
+const MANY: usize = 4_096;
+
+/// Makes room for more items. An agent that has started again is told of all threads, and a list that grows is mostly copied.
+#[inline(never)]
+fn make_room<T>(items: &mut Vec<T>) -> Result<(), OutOfMemory>
+    ensures same { items.new.items ≡ items.old.items }
+    ensures room { OnOk result (vec_len items.new < vec_capacity items.new) }
+{
+    let more = if items.len() < MANY {
+        items.len().saturating_mul(3).max(1)
+    } else {
+        1
+    };
+    items.reserve(more)?;
+    Ok(())
+}
+
 /// Adds an item, where there is one.
 #[inline(always)]
 fn append<T: Copy>(items: &mut Vec<T>, item: Option<T>) -> Result<(), OutOfMemory>
     ensures { OnOk result (items.new.items ≡ items.old.items ++ listed item) }
 {
     if let Some(item) = item {
-        items.push(item)?;
+        if items.len() == items.capacity() {
+            make_room(items)?;
+        }
+        items.push_reserved(item);
     }
     Ok(())
 }

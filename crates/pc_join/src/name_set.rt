@@ -1,6 +1,6 @@
 //! Sets of names.
 
-ghost use Rattle.std.specs.Prelude.{ℕ, ◌≡◌, ◌≢◌, ◌==◌, ◌<◌, ◌≤◌, ◌^◌, ◌*◌, ◌&&◌, not, max, if◌then◌else◌, Bool, true, false, MatchOption, IsSome, OnOk, OnErr, length, slice_index};
+ghost use Rattle.std.specs.Prelude.{ℕ, ◌≡◌, ◌≢◌, ◌==◌, ◌<◌, ◌≤◌, ◌^◌, ◌*◌, ◌&&◌, not, max, if◌then◌else◌, Bool, true, false, MatchBool, MatchOption, IsSome, IsTrue, OnOk, OnErr, length, slice_index};
 ghost use Rattle.std.specs.BTreeMap.{get};
 ghost use Rattle.std.specs.Int.{bit_at};
 ghost use Rattle.std.specs.Ordering.{nat_cmp};
@@ -102,6 +102,21 @@ fn insert_word(words: &mut Vec<u64>, name: u32) -> Result<(), OutOfMemory>
     Ok(())
 }
 
+/// Adds a name whose word is there. Answers whether it is.
+#[inline(always)]
+fn insert_held(words: &mut [u64], name: u32) -> bool
+    ensures added { MatchBool result ((t : ℕ) → is_in_words words.new t ≡ (if name == t then true else is_in_words words.old t))
+        (words.new ≡ words.old) }
+    ensures near { IsTrue result → name < 64 * length words.old }
+{
+    let place = (name / 64) as usize;
+    if place < words.len() {
+        words[place] = with_bit(words[place], name % 64);
+        return true;
+    }
+    false
+}
+
 /// Takes a name out of the words.
 fn remove_word(words: &mut [u64], name: u32)
     ensures { (t : ℕ) → is_in_words words.new t ≡ (if name == t then false else is_in_words words.old t) }
@@ -186,7 +201,20 @@ impl NameSet {
 
     /// Adds the name; one that is there changes nothing. Where memory runs out, nothing changes; a name whose word was there
     /// before takes none.
+    #[inline(always)]
     pub fn insert(&mut self, name: Tid) -> Result<(), OutOfMemory>
+        ensures ok { OnOk result ((t : ℕ) → is_in self.new t ≡ (if name == t then true else is_in self.old t)) }
+        ensures err { OnErr result ((t : ℕ) → is_in self.new t ≡ is_in self.old t) }
+    {
+        if insert_held(self.words.as_mut_slice(), name.index()) {
+            return Ok(());
+        }
+        self.insert_anew(name)
+    }
+
+    /// Adds the name, whose word may have to be made. It stands apart, so that a name whose word is there is added in place.
+    #[inline(never)]
+    fn insert_anew(&mut self, name: Tid) -> Result<(), OutOfMemory>
         ensures ok { OnOk result ((t : ℕ) → is_in self.new t ≡ (if name == t then true else is_in self.old t)) }
         ensures err { OnErr result ((t : ℕ) → is_in self.new t ≡ is_in self.old t) }
     {
