@@ -77,8 +77,13 @@ fn answer<M: Machine, W: Write>(
 {
     // The response is read where it was answered: to move it first would be to copy it.
     match &machine.answer(command) {
-        Ok(response) if output.is_taken(response, writer) => Ok(()),
-        Ok(_) => Err(ScriptFault::Write),
+        Ok(response) => {
+            if output.put(response, writer) {
+                Ok(())
+            } else {
+                Err(ScriptFault::Write)
+            }
+        }
         Err(_) => Err(ScriptFault::OutOfMemory),
     }
 }

@@ -1,7 +1,7 @@
 //! The output of a script: replies wait here until there are enough of them for a write.
 //!
 //! A script has a reply for most of its lines, and what is done for each of them counts. So a reply is put behind those that
-//! wait, in room that is made once for all, and what a writer answers is met once for many.
+//! wait, in room that is made once for all, and what the writer answers is looked at once for many of them.
 
 ghost use Rattle.std.specs.Prelude.{◌≡◌, ◌≤◌, ◌+◌, ◌++◌, [], IsTrue, length};
 ghost use Rattle.pc_script.specs.declared.output.TheConstants.{MOST_WAITING};
@@ -31,9 +31,9 @@ impl Waiting {
 
     /// Writes what waits. Answers false where the write fails.
     ///
-    /// This and `push_behind_a_write` stand apart, so that no room for what a writer answers is made ready for every reply.
+    /// This and `put_after_a_write` stand apart, so that no room for what a writer answers is made ready for every reply.
     #[inline(never)]
-    fn is_written<W: Write>(&mut self, writer: &mut W) -> bool
+    fn write_out<W: Write>(&mut self, writer: &mut W) -> bool
         ensures empty { self.new.len ≡ 0 }
         ensures written { IsTrue result → Appends (W.contents writer.old) (W.contents writer.new) (waiting self.old) }
     {
@@ -53,9 +53,9 @@ impl Waiting {
         self.len = end;
     }
 
-    /// Puts a line's text behind what waits, and writes this first where there is no room for both. Answers false where that fails.
+    /// Puts a line's text behind what waits, and first writes what waits, where there is no room for both. Answers false where that fails.
     #[inline(always)]
-    fn is_taken<W: Write>(&mut self, text: &[u8], writer: &mut W) -> bool
+    fn put<W: Write>(&mut self, text: &[u8], writer: &mut W) -> bool
         requires short { length text.now ≤ ROOM }
         ensures { IsTrue result → Appends (held (W.contents writer.old) self.old) (held (W.contents writer.new) self.new) text.now }
     {
@@ -63,15 +63,16 @@ impl Waiting {
             self.append(text);
             return true;
         }
-        self.is_taken_after_a_write(text, writer)
+        self.put_after_a_write(text, writer)
     }
 
+    /// Writes what waits, and puts the text into the room that this leaves. Answers false where the write fails.
     #[inline(never)]
-    fn is_taken_after_a_write<W: Write>(&mut self, text: &[u8], writer: &mut W) -> bool
+    fn put_after_a_write<W: Write>(&mut self, text: &[u8], writer: &mut W) -> bool
         requires short { length text.now ≤ ROOM }
         ensures { IsTrue result → Appends (held (W.contents writer.old) self.old) (held (W.contents writer.new) self.new) text.now }
     {
-        if !self.is_written(writer) {
+        if !self.write_out(writer) {
             return false;
         }
         self.append(text);
@@ -103,32 +104,32 @@ impl Output {
     }
 
     /// Writes what waits. Answers false where the write fails.
-    pub(crate) fn is_written<W: Write>(&mut self, writer: &mut W) -> bool
+    pub(crate) fn write_out<W: Write>(&mut self, writer: &mut W) -> bool
         ensures empty { self.new.waiting.len ≡ 0 }
         ensures written { IsTrue result → Appends (W.contents writer.old) (W.contents writer.new) (waiting self.old.waiting) }
     {
-        self.waiting.is_written(writer)
+        self.waiting.write_out(writer)
     }
 
     /// Puts a response's text and a line feed behind what waits. Answers false where a write was needed, and failed.
     #[inline(always)]
-    pub(crate) fn is_taken<W: Write>(&mut self, response: &Response, writer: &mut W) -> bool
+    pub(crate) fn put<W: Write>(&mut self, response: &Response, writer: &mut W) -> bool
         ensures { IsTrue result → Appends (output_held (W.contents writer.old) self.old) (output_held (W.contents writer.new) self.new)
             (text_line (response_text response.now)) }
     {
         self.line.clear();
         match write_line(&mut self.line, response) {
-            None => self.waiting.is_taken(self.line.as_slice(), writer),
-            Some(threads) => self.is_view_taken(threads, writer),
+            None => self.waiting.put(self.line.as_slice(), writer),
+            Some(threads) => self.put_view(threads, writer),
         }
     }
 
-    /// Writes what waits and a view, which has no end that is known beforehand.
+    /// Writes what waits and a view, which may have any length. Answers false where a write fails.
     #[inline(never)]
-    fn is_view_taken<W: Write>(&mut self, threads: &ShownThreads, writer: &mut W) -> bool
+    fn put_view<W: Write>(&mut self, threads: &ShownThreads, writer: &mut W) -> bool
         ensures { IsTrue result → Appends (output_held (W.contents writer.old) self.old) (output_held (W.contents writer.new) self.new)
             (text_line (response_text (Response.View threads.now))) }
     {
-        self.waiting.is_written(writer) && write_view(threads, writer).is_ok()
+        self.waiting.write_out(writer) && write_view(threads, writer).is_ok()
     }
 }

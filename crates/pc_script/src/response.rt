@@ -43,7 +43,7 @@ pub enum Response {
 }
 
 impl Response {
-    /// Writes the response's text and a line feed: a view line by line, every other response in one piece.
+    /// Writes the response's text and a line feed: a view piece by piece, every other response at once.
     #[inline(always)]
     pub fn write_to<W: Write>(&self, writer: &mut W) -> io::Result<()>
         ensures { OnOk result (Appends (W.contents writer.old) (W.contents writer.new) (text_line (response_text self.now))) }

@@ -29,7 +29,7 @@ fn write_fault<W: Write>(
         (outcome_text (Outcome.FaultLine number))) }
     ensures err { (result ≢ Err ScriptFault.OutOfMemory) × (result ≢ Err ScriptFault.Read) × (result ≢ Err ScriptFault.TooLong) }
 {
-    if !output.is_written(writer) {
+    if !output.write_out(writer) {
         return Err(ScriptFault::Write);
     }
     match writeln!(writer, "fault line {number}") {
@@ -99,11 +99,11 @@ fn run_lines<M: Machine, W: Write>(
 {
     let mut output = Output::new();
     let ended = take_lines(opening, machine, &mut output, writer);
-    // Behind a write that failed nothing more is written.
+    // After a write that failed nothing more is written.
     if let Err(ScriptFault::Write) = ended {
         return ended;
     }
-    if output.is_written(writer) {
+    if output.write_out(writer) {
         ended
     } else {
         Err(ScriptFault::Write)
@@ -114,8 +114,9 @@ fn run_lines<M: Machine, W: Write>(
 ///
 /// The whole text is read first, and the machine is started in the profile that it names. Reading ends at the
 /// first read that fails (`Read`) or gives nothing, and no more than [`MOST_BYTES`] and one more are read (`TooLong`); after
-/// either fault nothing was written. Responses are written many at a time, without a buffer of the
-/// writer's own; nothing is flushed. `Write` comes from the first write that fails.
+/// either fault nothing was written. Responses of one line are gathered and written many at a time, so a writer needs no buffer
+/// for them; a view is written piece by piece, so a writer without a buffer is slow there. Nothing is flushed. `Write` comes from
+/// the first write that fails, also where memory had run out before it.
 pub fn run_script<M: Machine, R: Read, W: Write>(
     alloc: Global,
     reader: &mut R,

@@ -1,6 +1,6 @@
 //! The words of a line, taken one after another.
 //!
-//! A number is read where it stands, so that each of its bytes is read once.
+//! A number is read where it stands, so that its digits are gone over once.
 
 ghost use Rattle.std.specs.Prelude.{◌≡◌, ◌<◌, ◌≤◌, ◌+◌, ◌-◌, ◌*◌, ◌^◌, MatchOption, [], ◌∷◌, decimal, get_or, length, take};
 ghost use Rattle.std.specs.Bool.{MatchBool};

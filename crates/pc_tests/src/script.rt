@@ -112,6 +112,14 @@ fn happened(event: Event) -> Reply {
     }
 }
 
+/// Whether an agent sleeps; of one CPU no memory is found to tell it.
+fn sleeps(cpu: Cpu) -> Result<Response, AllocError> {
+    if cpu.index() == 63 {
+        return Err(AllocError);
+    }
+    Ok(Response::Truth(cpu.index() == 0))
+}
+
 /// What is answered to a question.
 fn told(alloc: Global, question: Question) -> Result<Response, AllocError> {
     match question {
@@ -123,7 +131,7 @@ fn told(alloc: Global, question: Question) -> Result<Response, AllocError> {
             },
             phase: Phase::Ready,
         }),
-        Question::Asleep { cpu } => Ok(Response::Truth(cpu.index() == 0)),
+        Question::Asleep { cpu } => sleeps(cpu),
         Question::Show { .. } => Ok(Response::View(shown(alloc)?)),
         Question::Same { cpu, other } => Ok(Response::Sameness(cpu == other)),
         Question::Complete { thread, .. } => Ok(Response::Truth(thread.index() == 0)),
