@@ -102,17 +102,18 @@ fn add_early<K: Known>(
     Ok(next)
 }
 
-/// A list of fewer items gets room for three times as many more; one of more items grows as `Vec` has it.
+/// A full list of fewer items than these becomes four times as long; a longer one grows as `Vec` has it.
 const MANY: usize = 4_096;
 
-/// Makes room for more items. An agent that has started again is told of all threads, and a list that grows is mostly copied.
+/// Makes room for at least one more item. An agent that has started again is told of all threads, and to grow a list step by
+/// step is mostly to copy it.
 #[inline(never)]
 fn make_room<T>(items: &mut Vec<T>) -> Result<(), OutOfMemory>
     ensures same { items.new.items ≡ items.old.items }
     ensures room { OnOk result (vec_len items.new < vec_capacity items.new) }
 {
     let more = if items.len() < MANY {
-        items.len().saturating_mul(3).max(1)
+        (items.len() * 3).max(1)
     } else {
         1
     };
