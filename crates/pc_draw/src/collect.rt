@@ -61,9 +61,10 @@ fn answer<'a, M: Machine>(
     ensures outcome { story.new.outcome ≡ story.old.outcome }
     ensures err { (result ≢ Err ScriptFault.Read) × (result ≢ Err ScriptFault.TooLong) × (result ≢ Err ScriptFault.Write) }
 {
-    let Ok(response) = machine.answer(*command) else {
+    let mut response = Response::Opened;
+    if machine.answer(*command, &mut response).is_err() {
         return Err(ScriptFault::OutOfMemory);
-    };
+    }
     add(number, line, command, &response, story)
 }
 

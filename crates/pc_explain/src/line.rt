@@ -69,9 +69,10 @@ fn answer<M: Watched, W: Write>(
     ensures read_all { (result ≢ Err ScriptFault.Read) × (result ≢ Err ScriptFault.TooLong) }
 {
     let before = remembered(machine, command);
-    let Ok(response) = machine.answer(*command) else {
+    let mut response = Response::Opened;
+    if machine.answer(*command, &mut response).is_err() {
         return Err(ScriptFault::OutOfMemory);
-    };
+    }
     let sentences = sentences_on(machine, command, &response, &before);
     write_told(number, line, &response, &sentences, writer)
 }

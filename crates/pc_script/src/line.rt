@@ -17,6 +17,7 @@ use crate::lines::first_word;
 use crate::machine::Machine;
 use crate::outcome::ScriptFault;
 use crate::output::Output;
+use crate::response::Response;
 use crate::words::Words;
 use std::io::Write;
 
@@ -57,42 +58,41 @@ pub fn asked(line: &[u8]) -> Wish
     }
 }
 
-/// Has the machine answer a command, and puts the response into the output.
+/// Has the machine answer a command, in the place of a response, and puts that into the output.
 #[inline(always)]
 fn answer<M: Machine, W: Write>(
     machine: &mut M,
     command: Command,
+    response: &mut Response,
     output: &mut Output,
     writer: &mut W,
 ) -> Result<(), ScriptFault>
-    ensures ok { OnOk result ((response : Response)
+    ensures ok { OnOk result ((told : Response)
         × ((profile : Profile) (commands : List Command) (responses : List Response) → M.StandsAfter profile machine.old commands responses
-        → M.StandsAfter profile machine.new (commands ++ command ∷ []) (responses ++ response ∷ []))
+        → M.StandsAfter profile machine.new (commands ++ command ∷ []) (responses ++ told ∷ []))
         × Appends (output_held (W.contents writer.old) output.old) (output_held (W.contents writer.new) output.new)
-        (text_line (response_text response))) }
+        (text_line (response_text told))) }
     ensures no_memory { result ≡ Err ScriptFault.OutOfMemory → (writer.new ≡ writer.old) × (output.new ≡ output.old)
         × ((profile : Profile) (commands : List Command) (responses : List Response) → M.StandsAfter profile machine.old commands responses
         → M.RanOut profile commands responses command) }
     ensures read_all { (result ≢ Err ScriptFault.Read) × (result ≢ Err ScriptFault.TooLong) }
 {
-    // The response is read where it was answered: to move it first would be to copy it.
-    match &machine.answer(command) {
-        Ok(response) => {
-            if output.put(response, writer) {
-                Ok(())
-            } else {
-                Err(ScriptFault::Write)
-            }
-        }
-        Err(_) => Err(ScriptFault::OutOfMemory),
+    if machine.answer(command, response).is_err() {
+        return Err(ScriptFault::OutOfMemory);
+    }
+    if output.put(response, writer) {
+        Ok(())
+    } else {
+        Err(ScriptFault::Write)
     }
 }
 
-/// Has the machine take what a line asks for, and puts the response into the output. Answers false where the line is a fault.
+/// Has the machine take what a line asks for, in the place of a response, and puts that into the output. Answers false where the line is a fault.
 #[inline(always)]
 pub(crate) fn take_line<M: Machine, W: Write>(
     line: &[u8],
     machine: &mut M,
+    response: &mut Response,
     output: &mut Output,
     writer: &mut W,
 ) -> Result<bool, ScriptFault>
@@ -107,7 +107,7 @@ pub(crate) fn take_line<M: Machine, W: Write>(
     match asked(line) {
         Wish::Nothing => Ok(true),
         Wish::Answer(command) => {
-            answer(machine, command, output, writer)?;
+            answer(machine, command, response, output, writer)?;
             Ok(true)
         }
         Wish::Stop => Ok(false),

@@ -1,6 +1,6 @@
 //! What answers a script's commands.
 
-ghost use Rattle.std.specs.Prelude.{List, [], ◌∷◌, ◌++◌, IfOk, OnErr};
+ghost use Rattle.std.specs.Prelude.{◌≡◌, List, [], ◌∷◌, ◌++◌, OnOk, OnErr};
 ghost use Rattle.pc_calls.specs.declared.limits.Profile.{Profile};
 ghost use Rattle.pc_script.specs.declared.command.Command.{Command};
 ghost use Rattle.pc_script.specs.declared.response.Response.{Response};
@@ -28,13 +28,15 @@ pub trait Machine: Drop {
         Self: Sized,
         ensures { StandsAfter profile result [] [] };
 
-    /// Takes a command. After an error the machine isn't used again.
-    fn answer(&mut self, command: Command) -> Result<Response, AllocError>
-        ensures ok { IfOk result (λ response. (profile : Profile) (commands : List Command) (responses : List Response)
+    /// Takes a command, and puts what it is answered in the place of the response, whatever that was: a response is as long as
+    /// five words, and one that is handed on is copied. After an error the machine isn't used again.
+    fn answer(&mut self, command: Command, response: &mut Response) -> Result<(), AllocError>
+        ensures ok { OnOk result ((profile : Profile) (commands : List Command) (responses : List Response)
             → StandsAfter profile self.old commands responses
-            → StandsAfter profile self.new (commands ++ command ∷ []) (responses ++ response ∷ [])) }
+            → StandsAfter profile self.new (commands ++ command ∷ []) (responses ++ response.new ∷ [])) }
         ensures no_memory { OnErr result ((profile : Profile) (commands : List Command) (responses : List Response)
-            → StandsAfter profile self.old commands responses → RanOut profile commands responses command) };
+            → StandsAfter profile self.old commands responses → RanOut profile commands responses command) }
+        ensures kept { OnErr result (response.new ≡ response.old) };
 
     ghost is_run_after: { (profile : Profile) (machine : Self) (commands : List Command) (responses : List Response)
         → StandsAfter profile machine commands responses → IsRun profile commands responses };

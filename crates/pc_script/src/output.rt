@@ -111,16 +111,21 @@ impl Output {
         self.waiting.write_out(writer)
     }
 
-    /// Puts a response's text and a line feed behind what waits. Answers false where a write was needed, and failed.
+    /// Puts a response's text and a line feed behind what waits. Answers false where a write was needed, and failed. A view is let
+    /// go of: the next one would be made beside it.
     #[inline(always)]
-    pub(crate) fn put<W: Write>(&mut self, response: &Response, writer: &mut W) -> bool
+    pub(crate) fn put<W: Write>(&mut self, response: &mut Response, writer: &mut W) -> bool
         ensures { IsTrue result → Appends (output_held (W.contents writer.old) self.old) (output_held (W.contents writer.new) self.new)
-            (text_line (response_text response.now)) }
+            (text_line (response_text response.old)) }
     {
         self.line.clear();
         match write_line(&mut self.line, response) {
             None => self.waiting.put(self.line.as_slice(), writer),
-            Some(threads) => self.put_view(threads, writer),
+            Some(threads) => {
+                let is_put = self.put_view(threads, writer);
+                *response = Response::Opened;
+                is_put
+            }
         }
     }
 

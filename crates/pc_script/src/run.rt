@@ -14,6 +14,7 @@ use crate::machine::Machine;
 use crate::opening::{Opening, opening_of};
 use crate::outcome::{Outcome, ScriptFault};
 use crate::output::Output;
+use crate::response::Response;
 use pc_calls::Profile;
 use std::alloc::Global;
 use std::io::{Read, Write};
@@ -72,9 +73,11 @@ fn take_lines<M: Machine, W: Write>(
     ensures read_all { (result ≢ Err ScriptFault.Read) × (result ≢ Err ScriptFault.TooLong) }
 {
     let mut number = opening.passed;
+    // Each response stands where the one before it stood.
+    let mut response = Response::Opened;
     for line in lines_of(opening.rest) {
         number += 1;
-        if !take_line(line, machine, output, writer)? {
+        if !take_line(line, machine, &mut response, output, writer)? {
             return write_fault(number, output, writer);
         }
     }

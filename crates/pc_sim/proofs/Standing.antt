@@ -33,8 +33,3 @@ pub opens : (profile : Profile) (world : World) (limits : Limits) → bad_field 
 opens profile world limits within shows None before =
     (Some (opened limits), subst (λ o. IsLimited o limits response.Opened (Some (opened limits))) (sym within) (refl, refl), shows)
 opens profile world limits within shows (Some w) before = absurd before
-
--- what holds of each value holds of the value of an Ok
-pub if_told : {A E : Type 0} (result : Result A E) (P Q : A → Type 0) → IfOk result P → ((a : A) → P a → Q a) → IfOk result Q
-if_told (Ok a) P Q h f = f a h
-if_told (Err e) P Q h f = tt

@@ -1,6 +1,6 @@
 //! The machine that answers a script's commands: no world before an accepted `enclave`, and one from then on.
 
-ghost use Rattle.std.specs.Prelude.{◌≡◌, List, [], ◌∷◌, ◌++◌, None, IfOk};
+ghost use Rattle.std.specs.Prelude.{◌≡◌, List, [], ◌∷◌, ◌++◌, None, OnOk, OnErr};
 ghost use Rattle.pc_script.specs.declared.command.Command.{Command};
 ghost use Rattle.pc_script.specs.declared.response.Response.{Response};
 ghost use Rattle.pc_sim.specs.Session.{IsSession, RanOut};
@@ -28,35 +28,46 @@ fn open(
     profile: Profile,
     world: &mut Option<World>,
     command: Command,
-) -> Result<Response, AllocError>
+    response: &mut Response,
+) -> Result<(), AllocError>
     requires { world.old ≡ None }
-    ensures { IfOk result (Steps profile command world.old world.new) }
+    ensures ok { OnOk result (Steps profile command world.old world.new response.new) }
+    ensures kept { OnErr result (response.new ≡ response.old) }
 {
     let Command::Enclave(limits) = command else {
-        return Ok(Response::NoEnclave);
+        *response = Response::NoEnclave;
+        return Ok(());
     };
     match World::new_in(alloc, profile, limits) {
         Ok(opened) => {
             *world = Some(opened);
-            Ok(Response::Opened)
+            *response = Response::Opened;
         }
-        Err(LimitsFault::BadLimits(field)) => Ok(Response::BadLimits(field)),
-        Err(LimitsFault::OutOfMemory) => Err(AllocError),
+        Err(LimitsFault::BadLimits(field)) => *response = Response::BadLimits(field),
+        Err(LimitsFault::OutOfMemory) => return Err(AllocError),
     }
+    Ok(())
 }
 
 /// Answers a command that meets a world.
-fn act(alloc: Global, world: &mut World, command: Command) -> Result<Response, AllocError>
-    ensures { IfOk result (Answers command world.old world.new) }
+fn act(
+    alloc: Global,
+    world: &mut World,
+    command: Command,
+    response: &mut Response,
+) -> Result<(), AllocError>
+    ensures ok { OnOk result (Answers command world.old world.new response.new) }
+    ensures kept { OnErr result (response.new ≡ response.old) }
 {
     match command {
-        Command::Enclave(_) => Ok(Response::HaveEnclave),
+        Command::Enclave(_) => *response = Response::HaveEnclave,
         Command::Event(event) => match world.step(event) {
-            Ok(reply) => Ok(Response::Event(reply)),
-            Err(_) => Err(AllocError),
+            Ok(reply) => *response = Response::Event(reply),
+            Err(_) => return Err(AllocError),
         },
-        Command::Read(read) => answer_of(alloc, world, read),
+        Command::Read(read) => *response = answer_of(alloc, world, read)?,
     }
+    Ok(())
 }
 
 impl Machine for Session {
@@ -74,10 +85,10 @@ impl Machine for Session {
         }
     }
 
-    fn answer(&mut self, command: Command) -> Result<Response, AllocError> {
+    fn answer(&mut self, command: Command, response: &mut Response) -> Result<(), AllocError> {
         match &mut self.world {
-            None => open(self.alloc, self.profile, &mut self.world, command),
-            Some(world) => act(self.alloc, world, command),
+            None => open(self.alloc, self.profile, &mut self.world, command, response),
+            Some(world) => act(self.alloc, world, command, response),
         }
     }
 

@@ -151,12 +151,13 @@ impl Machine for Echo {
         Echo { alloc, profile }
     }
 
-    fn answer(&mut self, command: Command) -> Result<Response, AllocError> {
-        match command {
-            Command::Enclave(limits) => Ok(enclave(self.profile, limits.threads)),
-            Command::Event(event) => Ok(Response::Event(happened(event))),
-            Command::Read(question) => told(self.alloc, question),
-        }
+    fn answer(&mut self, command: Command, response: &mut Response) -> Result<(), AllocError> {
+        *response = match command {
+            Command::Enclave(limits) => enclave(self.profile, limits.threads),
+            Command::Event(event) => Response::Event(happened(event)),
+            Command::Read(question) => told(self.alloc, question)?,
+        };
+        Ok(())
     }
 
     ghost is_run_after = { λ _ _ _ _ h. h };

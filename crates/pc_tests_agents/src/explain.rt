@@ -119,14 +119,16 @@ impl Machine for Small {
         }
     }
 
-    fn answer(&mut self, command: Command) -> Result<Response, AllocError> {
+    fn answer(&mut self, command: Command, response: &mut Response) -> Result<(), AllocError> {
         if let Command::Enclave(limits) = command {
-            return opened(self.alloc, self.profile, limits, &mut self.world);
+            *response = opened(self.alloc, self.profile, limits, &mut self.world)?;
+            return Ok(());
         }
-        match &mut self.world {
-            None => Ok(Response::NoEnclave),
-            Some(world) => acted(self.alloc, world, &command),
-        }
+        *response = match &mut self.world {
+            None => Response::NoEnclave,
+            Some(world) => acted(self.alloc, world, &command)?,
+        };
+        Ok(())
     }
 
     ghost is_run_after = { λ _ _ _ _ h. h };

@@ -120,12 +120,13 @@ impl Machine for Spent {
         Spent { left: ANSWERED }
     }
 
-    fn answer(&mut self, _command: Command) -> Result<Response, AllocError> {
+    fn answer(&mut self, _command: Command, response: &mut Response) -> Result<(), AllocError> {
         if self.left == 0 {
             return Err(AllocError);
         }
         self.left -= 1;
-        Ok(Response::Event(Reply::Refused(Refusal::Stale(1))))
+        *response = Response::Event(Reply::Refused(Refusal::Stale(1)));
+        Ok(())
     }
 
     ghost is_run_after = { λ _ _ _ _ h. h };
