@@ -58,7 +58,7 @@ pub fn asked(line: &[u8]) -> Wish
     }
 }
 
-/// Has the machine answer a command, in the place of a response, and puts that into the output.
+/// Has the machine answer a command into the response, and puts that into the output.
 #[inline(always)]
 fn answer<M: Machine, W: Write>(
     machine: &mut M,
@@ -87,7 +87,8 @@ fn answer<M: Machine, W: Write>(
     }
 }
 
-/// Has the machine take what a line asks for, in the place of a response, and puts that into the output. Answers false where the line is a fault.
+/// Has the machine take what a line asks for, with its answer in the response, and puts that into the output. Answers false
+/// where the line is a fault.
 #[inline(always)]
 pub(crate) fn take_line<M: Machine, W: Write>(
     line: &[u8],

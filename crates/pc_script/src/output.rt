@@ -111,8 +111,9 @@ impl Output {
         self.waiting.write_out(writer)
     }
 
-    /// Puts a response's text and a line feed behind what waits. Answers false where a write was needed, and failed. A view is let
-    /// go of: the next one would be made beside it.
+    /// Puts a response's text and a line feed behind what waits. Answers false where a write was needed, and failed.
+    ///
+    /// A view is let go of here, or it would still stand while the next one is made. No clause says so: it is a matter of memory.
     #[inline(always)]
     pub(crate) fn put<W: Write>(&mut self, response: &mut Response, writer: &mut W) -> bool
         ensures { IsTrue result → Appends (output_held (W.contents writer.old) self.old) (output_held (W.contents writer.new) self.new)

@@ -170,16 +170,18 @@ pub(super) fn filled(
 
 #[test]
 fn what_was_written_before_a_failed_write_is_a_front_of_the_output(rt: HostRuntime) {
-    let script = b"version 2\nwake t1\n# x\nshow 0\nx\nwake t2\n".as_slice();
+    let script = b"version 2\nwake t1\n# x\nshow 0\nshow 0\nx\nwake t2\n".as_slice();
     let output =
-        b"ok\nrefused Stale 1\nt0 upto 2 blocked mask 3 ran 5 early -\nt12 upto 0 - early 2 1000000\nend\nfault line 5\n".as_slice();
+        b"ok\nrefused Stale 1\nt0 upto 2 blocked mask 3 ran 5 early -\nt12 upto 0 - early 2 1000000\nend\n\
+t0 upto 2 blocked mask 3 ran 5 early -\nt12 upto 0 - early 2 1000000\nend\nfault line 6\n"
+            .as_slice();
     for room in 0..=output.len() {
         let (writer, ended) = filled(rt.alloc(), script, room);
         assert_eq!(rt; writer.taken.as_slice(), &output[..room]);
         let wanted = if room < output.len() {
             UNWRITTEN
         } else {
-            fault_at(5)
+            fault_at(6)
         };
         assert_eq!(rt; ended, wanted);
     }

@@ -37,12 +37,16 @@ const NO_MEMORY: Result<Outcome, ScriptFault> = Err(ScriptFault::OutOfMemory);
 
 const VIEW: &[u8] = b"t0 upto 2 blocked mask 3 ran 5 early -\nt12 upto 0 - early 2 1000000\nend\n";
 
+const TWO_VIEWS_AND_WAKE: &[u8] =
+    b"t0 upto 2 blocked mask 3 ran 5 early -\nt12 upto 0 - early 2 1000000\nend\n\
+t0 upto 2 blocked mask 3 ran 5 early -\nt12 upto 0 - early 2 1000000\nend\nrefused Stale 1\n";
+
 const VIEW_AND_WAKE: &[u8] =
     b"t0 upto 2 blocked mask 3 ran 5 early -\nt12 upto 0 - early 2 1000000\nend\nrefused Stale 1\n";
 
 #[test]
 fn replies_of_more_than_one_write_are_all_written(rt: HostRuntime) -> Result<(), Fail> {
-    let rows: [Row<'_>; 14] = [
+    let rows: [Row<'_>; 15] = [
         (511, b"", b"", FINISHED),
         (512, b"", b"", FINISHED),
         (513, b"", b"", FINISHED),
@@ -62,6 +66,12 @@ fn replies_of_more_than_one_write_are_all_written(rt: HostRuntime) -> Result<(),
         (512, b"asleep 63\n", b"", NO_MEMORY),
         (513, b"asleep 63\n", b"", NO_MEMORY),
         (600, b"show 0\nasleep 63\nx\n", VIEW, NO_MEMORY),
+        (
+            600,
+            b"show 0\nshow 0\nwake t1\nasleep 63\nwake t1\n",
+            TWO_VIEWS_AND_WAKE,
+            NO_MEMORY,
+        ),
     ];
     for (times, end, answers, wanted) in rows {
         let script = wakes(rt.alloc(), times, end)?;
