@@ -102,7 +102,7 @@ fn add_early<K: Known>(
     Ok(next)
 }
 
-/// A full list of fewer items than these becomes four times as long; a longer one grows as `Vec` has it.
+/// A full list of fewer items than these gets room for four times as many, an empty one for one; a longer one grows as `Vec` has it.
 const MANY: usize = 4_096;
 
 /// Makes room for at least one more item. An agent that has started again is told of all threads, and to grow a list step by

@@ -13,7 +13,7 @@ impl Kernel {
     ghost use Rattle.pc_kernel.specs.Steps.{refused};
 
     /// Makes the call.
-    // Inlined, so that who makes a call of one kind chooses among the kinds once, and its answer is not handed on through memory.
+    // Inlined: a caller with calls of one kind then chooses among the kinds once, and the answer is not handed on through memory.
     #[inline(always)]
     pub fn apply(&mut self, call: Call) -> Result<Answer, CallFault>
         ensures step { StepsInMemory itself call result self.old self.new }
@@ -40,6 +40,7 @@ impl Kernel {
     }
 
     /// Makes the environment's call. Its answer is what was posted.
+    // Inlined as `apply` is.
     #[inline(always)]
     pub fn apply_env(&mut self, call: EnvCall) -> Result<Posted, CallFault>
         ensures step { StepsInMemory Answer.Posted (Call.Env call) result self.old self.new }
