@@ -22,7 +22,7 @@ fn read_more<R: Read>(reader: &mut R, text: &mut Vec<u8>) -> Result<bool, Script
         (IsAtEnd (R.remaining reader.new) × (text.new.items ≡ text.old.items))) }
     ensures not_long { (result ≢ Err ScriptFault.TooLong) × (result ≢ Err ScriptFault.Write) }
 {
-    let mut buffer = [0u8; 65_536];
+    let mut buffer = [0u8; 8_192];
     let room = buffer.len().min(MOST_BYTES + 1 - text.len());
     let Ok(count) = reader.read(&mut buffer[..room]) else {
         return Err(ScriptFault::Read);

@@ -7,17 +7,20 @@ use std::alloc::{AllocError, Global};
 use std::marker::Model;
 
 /// Message numbers, in the order in which they are shown.
+// Most threads have none: the list stands in a place of its own, so that the rows of all threads are short.
 #[derive(Debug, Drop)]
 pub struct EarlyNumbers {
-    numbers: Vec<u32>,
+    alloc: Global,
+    numbers: Option<Box<Vec<u32>>>,
 }
 
 impl Model for EarlyNumbers {
     ghost use Rattle.std.specs.Prelude.{List, ℕ};
+    ghost use Rattle.pc_script.specs.Inner.Lists.{items_in};
 
     ghost Value = { List ℕ };
 
-    ghost view = { λ list. list.numbers.items };
+    ghost view = { λ list. items_in list.numbers };
 }
 
 impl EarlyNumbers {
@@ -26,7 +29,8 @@ impl EarlyNumbers {
         ensures { result ≡ [] }
     {
         EarlyNumbers {
-            numbers: Vec::new(alloc),
+            alloc,
+            numbers: None,
         }
     }
 
@@ -35,7 +39,14 @@ impl EarlyNumbers {
         ensures ok { OnOk result (self.new ≡ self.old ++ number ∷ []) }
         ensures err { OnErr result (self.new ≡ self.old) }
     {
-        self.numbers.push(number)?;
+        match &mut self.numbers {
+            Some(numbers) => numbers.push(number)?,
+            None => {
+                let mut numbers = Vec::new(self.alloc);
+                numbers.push(number)?;
+                self.numbers = Some(Box::new(self.alloc, numbers)?);
+            }
+        }
         Ok(())
     }
 
@@ -43,7 +54,10 @@ impl EarlyNumbers {
     pub fn as_slice(&self) -> &[u32]
         ensures { result.now ≡ self.now }
     {
-        self.numbers.as_slice()
+        match &self.numbers {
+            Some(numbers) => numbers.as_slice(),
+            None => &[],
+        }
     }
 }
 
