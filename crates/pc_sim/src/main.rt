@@ -1,36 +1,11 @@
 //! `pc-sim`: replays scripts of events on the kernel model and its agents, explains or draws them, or runs agents in threads.
+//! What it does is the library's, `pc_program`; here are the words, files and streams of the machine that it runs on.
 #![tactic(auto)]
 
-ghost use Rattle.std.specs.Prelude.{◌≡◌, ◌+◌, ◌⊎◌, ◌<◌, ◌≤◌, List, [], ℕ, length, IfOk, IfSome, OnOk, Err};
-ghost use Rattle.std.specs.Io.Buffered.{writer_buffer, writer_contents};
-ghost use Rattle.std.specs.Io.KnownBytes.{Appends, Consumes, Keeps};
-ghost use Rattle.pc_script.specs.Scripts.{IsOutput, IsOutputUntil};
-ghost use Rattle.pc_script.specs.declared.input.TheConstants.{MOST_BYTES};
-ghost use Rattle.toml.specs.Parse.{parse_document};
-ghost use Rattle.pc_sim.specs.Programs.{IsMade, IsReported};
-ghost use Rattle.pc_sim.specs.Session.{IsSession, RanOut};
-
-mod command_line;
-mod ending;
-mod forms;
-mod input;
-mod laws;
-mod progress;
-mod reads;
-mod report;
-mod run_text;
-mod session;
-mod settings;
-mod show;
-
-use command_line::{Command, CommandFault, read_command};
-use ending::Ending;
-use forms::{Form, make};
-use input::read_settings;
-use pc_script::{Outcome, ScriptFault};
-use report::ReportForm;
-use run_text::run_config;
-use session::Session;
+use pc_program::{
+    Command, CommandFault, Ending, Form, ReportForm, make_flushed, read_command, read_settings,
+    run_flushed,
+};
 use std::alloc::Global;
 use std::env;
 use std::fs::File;
@@ -38,49 +13,6 @@ use std::io::{self, BufWriter, ErrorKind, IsTerminal, Read, Stderr, Write};
 use std::process::ExitCode;
 use std::sync::Wait;
 use std::thread::Threads;
-
-/// Reads a script, answers its commands one after another on a world of its own, and writes the replies.
-pub fn run_script<R: Read, W: Write>(
-    alloc: Global,
-    reader: &mut R,
-    writer: &mut W,
-) -> Result<Outcome, ScriptFault>
-    ensures ok { IfOk result (λ outcome. IfSome (R.remaining reader.old) (λ text. (output : List ℕ) × IsOutput IsSession text outcome output
-        × Appends (W.contents writer.old) (W.contents writer.new) output)) }
-    ensures no_memory { result ≡ Err ScriptFault.OutOfMemory → (writer.new ≡ writer.old) ⊎ IfSome (R.remaining reader.old) (λ text. (output : List ℕ)
-        × IsOutputUntil IsSession RanOut text output × Appends (W.contents writer.old) (W.contents writer.new) output) }
-    ensures unread { (result ≡ Err ScriptFault.Read) ⊎ (result ≡ Err ScriptFault.TooLong) → writer.new ≡ writer.old }
-    ensures too_long { result ≡ Err ScriptFault.TooLong → IfSome (R.remaining reader.old) (λ text. MOST_BYTES < length text) }
-    ensures short { OnOk result (IfSome (R.remaining reader.old) (λ text. length text ≤ MOST_BYTES)) }
-    ensures reads { (bytes : List ℕ) × (length bytes ≤ MOST_BYTES + 1) × Consumes (R.remaining reader.old) (R.remaining reader.new) bytes }
-{
-    pc_script::run_script::<Session, R, W>(alloc, reader, writer)
-}
-
-/// Flushes what was written before it ended so. That this fails is told before all else.
-fn flushed<W: Write + Drop>(writer: &mut BufWriter<W>, ending: Ending) -> Ending
-    ensures kept { Keeps (writer_contents W.contents writer.old) (writer_contents W.contents writer.new) }
-    ensures flushed { (result ≡ Ending.CannotRead) ⊎ ((result ≡ ending) × (writer_buffer writer.new ≡ [])) }
-{
-    match writer.flush() {
-        Ok(()) => ending,
-        Err(_) => Ending::CannotRead,
-    }
-}
-
-/// Makes what is asked for of the text that a reader gives, writes it, and flushes it, whatever the ending.
-fn make_flushed<R: Read, W: Write + Drop>(
-    alloc: Global,
-    form: Form,
-    reader: &mut R,
-    writer: &mut BufWriter<W>,
-) -> Ending
-    ensures told { IfSome (R.remaining reader.old) (λ text. IsMade form text (writer_contents W.contents writer.old) (writer_contents W.contents writer.new) result) }
-    ensures flushed { (result ≡ Ending.CannotRead) ⊎ (writer_buffer writer.new ≡ []) }
-{
-    let ending = make(alloc, form, reader, writer);
-    flushed(writer, ending)
-}
 
 /// Makes what is asked for of the text that a reader gives, through a buffer of its own.
 fn make_buffered<R: Read, W: Write + Drop>(
@@ -180,24 +112,6 @@ fn screen_of(rt: &HostRuntime) -> Option<Stderr> {
         Some(stderr)
     } else {
         None
-    }
-}
-
-/// Runs agents by a settings text, writes the report, and flushes it, whatever the ending.
-fn run_flushed<R: Threads + Wait + Sync, S: Write + Copy + Sync, W: Write + Drop>(
-    rt: &R,
-    alloc: Global,
-    text: &str,
-    form: ReportForm,
-    screen: Option<S>,
-    writer: &mut BufWriter<W>,
-) -> Ending
-    ensures told { IsReported (parse_document text.now) form (writer_contents W.contents writer.old) (writer_contents W.contents writer.new) result }
-    ensures flushed { (result ≡ Ending.CannotRead) ⊎ (writer_buffer writer.new ≡ []) }
-{
-    match run_config(rt, alloc, text, form, screen, writer) {
-        Ok(_report) => flushed(writer, Ending::Finished),
-        Err(fault) => flushed(writer, Ending::from(fault)),
     }
 }
 

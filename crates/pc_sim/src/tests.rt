@@ -2,11 +2,9 @@
 
 mod settings;
 
-use crate::command_line::{Command, CommandFault, read_command};
-use crate::ending::Ending;
-use crate::forms::{Form, make};
-use crate::report::ReportForm;
-use crate::run_script;
+use pc_program::{
+    Command, CommandFault, Ending, Form, ReportForm, make, read_command, run_script,
+};
 use pc_script::{Outcome, ScriptFault, lines_of};
 use std::alloc::Global;
 use std::test::Fail;

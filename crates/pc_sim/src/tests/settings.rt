@@ -1,6 +1,6 @@
 //! Settings: what a text spells, each fault, and each fault beside the next one.
 
-use crate::settings::{Field, SettingsFault, read_config};
+use pc_program::{Field, SettingsFault, read_config};
 use pc_threads::{ConfigFault, Restart, Step};
 use std::test::Fail;
 

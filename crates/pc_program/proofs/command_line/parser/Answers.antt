@@ -1,0 +1,45 @@
+use Rattle.std.proofs.Common.{rules, ap, ap₂, codes, true, ◌≡◌, ◌∙◌}
+use Rattle.std.proofs.lemmas.Result.{IfOk-weaker}
+use Rattle.clap.specs.Simple.{App, Shape, app_of, app_of_fields, new_app, on_top, with_subcommand}
+use Rattle.clap.proofs.SimpleLemmas.{plain_fields}
+use Rattle.pc_program.specs.CommandLine.{of_file, run}
+use Rattle.pc_program.proofs.command_line.parser.Goals as goal
+
+-- what the settings change
+abbrev versioned : Shape → Shape
+versioned s = record s { has_version = true }
+
+abbrev demanding : Shape → Shape
+demanding s = record s { subcommand_required = true }
+
+abbrev helpless : Shape → Shape
+helpless s = record s { disable_help_subcommand = true }
+
+pub returns : goal.returns
+returns c =
+    let named : app_of c.version.result ≡ on_top versioned (new_app (codes "pc-sim")) = ap app_of_fields c.version.ensures ∙ ap (on_top versioned) c.new.ensures.app in
+    let told : app_of c.after_help.result ≡ app_of c.version.result = ap app_of_fields c.after_help.ensures ∙ ap app_of_fields c.about.ensures in
+    let needs : app_of c.subcommand_required.result ≡ on_top demanding (app_of c.after_help.result) = ap app_of_fields c.subcommand_required.ensures in
+    let helps : app_of c.disable_help_subcommand.result ≡ on_top helpless (app_of c.subcommand_required.result) = ap app_of_fields c.disable_help_subcommand.ensures in
+    let top : app_of c.disable_help_subcommand.result ≡ on_top helpless (on_top demanding (on_top versioned (new_app (codes "pc-sim")))) =
+    helps ∙ ap (on_top helpless) (needs ∙ ap (on_top demanding) (told ∙ named)) in
+    let replays : app_of c.in_ok-replay.replay ≡ of_file (codes "replay") = search rules in
+    let explains : app_of c.in_ok-explain.explain ≡ of_file (codes "explain") = search rules in
+    let draws : app_of c.in_ok-draw.draw ≡ of_file (codes "draw") = search rules in
+    let runs : app_of c.in_ok-run.run' ≡ run = search rules in
+    let first : app_of c.in_ok-subcommand.field-0 ≡ with_subcommand (app_of c.disable_help_subcommand.result) (of_file (codes "replay")).top =
+    c.in_ok-subcommand.ensures.shape (plain_fields c.in_ok-replay.replay (ap (λ (a : App). a.top.is_plain) replays)).globals
+    ∙ ap (λ (a : App). with_subcommand (app_of c.disable_help_subcommand.result) a.top) replays in
+    let second : app_of c.in_ok-subcommand-2.field-0 ≡ with_subcommand (app_of c.in_ok-subcommand.field-0) (of_file (codes "explain")).top =
+    c.in_ok-subcommand-2.ensures.shape (plain_fields c.in_ok-explain.explain (ap (λ (a : App). a.top.is_plain) explains)).globals
+    ∙ ap (λ (a : App). with_subcommand (app_of c.in_ok-subcommand.field-0) a.top) explains in
+    let third : app_of c.in_ok-subcommand-3.field-0 ≡ with_subcommand (app_of c.in_ok-subcommand-2.field-0) (of_file (codes "draw")).top =
+    c.in_ok-subcommand-3.ensures.shape (plain_fields c.in_ok-draw.draw (ap (λ (a : App). a.top.is_plain) draws)).globals
+    ∙ ap (λ (a : App). with_subcommand (app_of c.in_ok-subcommand-2.field-0) a.top) draws in
+    let one : app_of c.in_ok-subcommand.field-0 ≡ with_subcommand (on_top helpless (on_top demanding (on_top versioned (new_app (codes "pc-sim"))))) (of_file (codes "replay")).top =
+    first ∙ ap (λ (a : App). with_subcommand a (of_file (codes "replay")).top) top in
+    let two = second ∙ ap (λ (a : App). with_subcommand a (of_file (codes "explain")).top) one in
+    let three = third ∙ ap (λ (a : App). with_subcommand a (of_file (codes "draw")).top) two in
+    IfOk-weaker c.subcommand-4.result _ _ (λ parser h.
+    h.shape (plain_fields c.in_ok-run.run' (ap (λ (a : App). a.top.is_plain) runs)).globals
+    ∙ ap₂ (λ (a b : App). with_subcommand a b.top) three runs) c.subcommand-4.ensures

@@ -1,0 +1,98 @@
+-- How the program ends, and what it says then.
+use Rattle.std.specs.Prelude.{ℕ, List, Option, Some, None, Result, Ok, Err, codes}
+use Rattle.pc_script.specs.declared.outcome.Outcome.{Outcome}
+use Rattle.pc_script.specs.declared.outcome.Outcome.TheVariants as outcome
+use Rattle.pc_script.specs.declared.outcome.ScriptFault.{ScriptFault}
+use Rattle.pc_script.specs.declared.outcome.ScriptFault.TheVariants as fault
+use Rattle.pc_threads.specs.declared.config.ConfigFault.TheVariants as config
+use Rattle.pc_threads.specs.declared.settling.RunFault.{RunFault}
+use Rattle.pc_threads.specs.declared.settling.RunFault.TheVariants as run
+use Rattle.pc_program.specs.declared.ending.BadSettings.{BadSettings}
+use Rattle.pc_program.specs.declared.ending.BadSettings.TheVariants as bad
+use Rattle.pc_program.specs.declared.ending.Unsettled.{Unsettled}
+use Rattle.pc_program.specs.declared.ending.Unsettled.TheVariants as why
+use Rattle.pc_program.specs.declared.ending.Ending.{Ending}
+use Rattle.pc_program.specs.declared.ending.Ending.TheVariants.{Finished, FaultLine, DrawnToFault, CannotRead, BadCommandLine, OutOfMemory, Settings, Run, CannotStart}
+use Rattle.pc_program.specs.declared.run_text.RunTextFault.{RunTextFault}
+use Rattle.pc_program.specs.declared.run_text.RunTextFault.TheVariants as text
+use Rattle.pc_program.specs.declared.settings.SettingsFault.{SettingsFault}
+use Rattle.pc_program.specs.declared.settings.SettingsFault.TheVariants as settings
+
+-- how the program ends after the run of a script
+abbrev pub ending_of : Result Outcome ScriptFault → Ending
+ending_of (Ok outcome.Finished) = Finished
+ending_of (Ok (outcome.FaultLine line)) = FaultLine
+ending_of (Err fault.Read) = CannotRead
+ending_of (Err fault.TooLong) = CannotRead
+ending_of (Err fault.Write) = CannotRead
+ending_of (Err fault.OutOfMemory) = OutOfMemory
+
+-- how it ends after the drawing of a script
+abbrev pub ending_of_picture : Result Outcome ScriptFault → Ending
+ending_of_picture (Ok outcome.Finished) = Finished
+ending_of_picture (Ok (outcome.FaultLine line)) = DrawnToFault
+ending_of_picture (Err why) = ending_of (Err why)
+
+-- how it ends where settings have a fault, where a run met one, and where either did
+abbrev pub ending_of_settings : SettingsFault → Ending
+ending_of_settings settings.NotToml = Settings bad.NotToml
+ending_of_settings (settings.BadField key) = Settings bad.BadField
+ending_of_settings (settings.BadStep thread step) = Settings bad.BadStep
+ending_of_settings (settings.BadConfig config.BadCpus) = Settings bad.BadCpus
+ending_of_settings (settings.BadConfig config.TooManyThreads) = Settings bad.TooManyThreads
+ending_of_settings (settings.BadConfig (config.BadThread place)) = Settings bad.BadThread
+ending_of_settings (settings.BadConfig (config.BadRestart place)) = Settings bad.BadRestart
+ending_of_settings settings.OutOfMemory = OutOfMemory
+
+abbrev pub ending_of_run : RunFault → Ending
+ending_of_run (run.Audit cpu) = Run why.Audit
+ending_of_run (run.Incomplete thread) = Run why.Incomplete
+ending_of_run (run.Driver refusal) = Run why.Driver
+ending_of_run (run.GaveUp cpu) = Run why.GaveUp
+ending_of_run run.StartFailed = CannotStart
+ending_of_run run.OutOfMemory = OutOfMemory
+
+abbrev pub ending_of_run_text : RunTextFault → Ending
+ending_of_run_text (text.Settings fault) = ending_of_settings fault
+ending_of_run_text (text.Run fault) = ending_of_run fault
+ending_of_run_text text.Write = CannotRead
+
+-- its exit status
+abbrev pub status_of : Ending → ℕ
+status_of Finished = 0
+status_of FaultLine = 1
+status_of DrawnToFault = 1
+status_of CannotRead = 1
+status_of BadCommandLine = 2
+status_of OutOfMemory = 4
+status_of (Settings fault) = 1
+status_of (Run fault) = 3
+status_of CannotStart = 4
+
+-- what it says of settings, and of a run
+abbrev pub settings_message : BadSettings → List ℕ
+settings_message bad.NotToml = codes "pc-sim: settings NotToml"
+settings_message bad.BadField = codes "pc-sim: settings BadField"
+settings_message bad.BadStep = codes "pc-sim: settings BadStep"
+settings_message bad.BadCpus = codes "pc-sim: settings BadCpus"
+settings_message bad.TooManyThreads = codes "pc-sim: settings TooManyThreads"
+settings_message bad.BadThread = codes "pc-sim: settings BadThread"
+settings_message bad.BadRestart = codes "pc-sim: settings BadRestart"
+
+abbrev pub unsettled_message : Unsettled → List ℕ
+unsettled_message why.Audit = codes "pc-sim: run Audit"
+unsettled_message why.Incomplete = codes "pc-sim: run Incomplete"
+unsettled_message why.Driver = codes "pc-sim: run Driver"
+unsettled_message why.GaveUp = codes "pc-sim: run GaveUp"
+
+-- what it says on standard error
+abbrev pub message_of : Ending → Option (List ℕ)
+message_of Finished = None
+message_of FaultLine = None
+message_of DrawnToFault = Some (codes "pc-sim: a line of the script is no command, and the picture ends there")
+message_of CannotRead = Some (codes "pc-sim: cannot read")
+message_of BadCommandLine = Some (codes "pc-sim: bad command line")
+message_of OutOfMemory = Some (codes "pc-sim: out of memory")
+message_of (Settings fault) = Some (settings_message fault)
+message_of (Run fault) = Some (unsettled_message fault)
+message_of CannotStart = Some (codes "pc-sim: cannot start")

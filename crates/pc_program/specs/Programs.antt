@@ -1,0 +1,70 @@
+-- What the program wrote, by how it ended.
+use Rattle.std.specs.Prelude.{ℕ, ◌≡◌, ◌⊎◌, List, Option, Err}
+use Rattle.std.specs.Io.KnownBytes.{Appends, Keeps}
+use Rattle.toml.specs.Data.{Members}
+use Rattle.pc_draw.specs.Pictures.{IsPictureOf}
+use Rattle.pc_explain.specs.Comments.{without_comments}
+use Rattle.pc_script.specs.Scripts.{IsOutput, IsOutputUntil}
+use Rattle.pc_script.specs.declared.outcome.Outcome.TheVariants as outcome
+use Rattle.pc_threads.specs.Reports.{AddsUp, TellsItsBook}
+use Rattle.pc_threads.specs.declared.report.LoadReport.{LoadReport}
+use Rattle.pc_program.specs.Endings.{ending_of_settings}
+use Rattle.pc_program.specs.ReportText.{IsReport}
+use Rattle.pc_program.specs.Runs.{DoesWhatIsSpelled, SpellsSettings}
+use Rattle.pc_program.specs.Session.{IsSession, RanOut}
+use Rattle.pc_program.specs.SettingsText.{Reads}
+use Rattle.pc_program.specs.declared.ending.Ending.{Ending}
+use Rattle.pc_program.specs.declared.ending.Ending.TheVariants.{Finished, FaultLine, DrawnToFault, CannotRead, BadCommandLine, OutOfMemory, Settings, Run, CannotStart}
+use Rattle.pc_program.specs.declared.forms.Form.{Form}
+use Rattle.pc_program.specs.declared.forms.Form.TheVariants.{Replies, Explained, Picture}
+use Rattle.pc_program.specs.declared.report.ReportForm.{ReportForm}
+use Rattle.pc_program.specs.declared.settings.SettingsFault.{SettingsFault}
+
+-- after a script of this text: what was written is plainly its output, or what comes before the command at which memory ran out
+abbrev pub IsAnswered : (plain : List ℕ → List ℕ) (text : List ℕ) (old new : Option (List ℕ)) → Ending → Type 0
+IsAnswered plain text old new Finished =
+    (written : List ℕ) × IsOutput IsSession text outcome.Finished (plain written) × Appends old new written
+IsAnswered plain text old new FaultLine =
+    (line : ℕ) × (written : List ℕ) × IsOutput IsSession text (outcome.FaultLine line) (plain written) × Appends old new written
+IsAnswered plain text old new OutOfMemory =
+    Keeps old new ⊎ ((written : List ℕ) × IsOutputUntil IsSession RanOut text (plain written) × Appends old new written)
+IsAnswered plain text old new CannotRead = Unit {0}
+IsAnswered plain text old new DrawnToFault = ⊥
+IsAnswered plain text old new BadCommandLine = ⊥
+IsAnswered plain text old new (Settings bad) = ⊥
+IsAnswered plain text old new (Run why) = ⊥
+IsAnswered plain text old new CannotStart = ⊥
+
+-- after a script of this text was drawn: what was written is its picture, or nothing
+abbrev pub IsDrawn : (text : List ℕ) (old new : Option (List ℕ)) → Ending → Type 0
+IsDrawn text old new Finished = (written : List ℕ) × IsPictureOf IsSession text outcome.Finished written × Appends old new written
+IsDrawn text old new DrawnToFault =
+    (line : ℕ) × (written : List ℕ) × IsPictureOf IsSession text (outcome.FaultLine line) written × Appends old new written
+IsDrawn text old new OutOfMemory = Keeps old new
+IsDrawn text old new CannotRead = Unit {0}
+IsDrawn text old new FaultLine = ⊥
+IsDrawn text old new BadCommandLine = ⊥
+IsDrawn text old new (Settings bad) = ⊥
+IsDrawn text old new (Run why) = ⊥
+IsDrawn text old new CannotStart = ⊥
+
+-- after this was made of the text
+abbrev pub IsMade : Form → (text : List ℕ) (old new : Option (List ℕ)) → Ending → Type 0
+IsMade Replies text old new ending = IsAnswered (λ written. written) text old new ending
+IsMade Explained text old new ending = IsAnswered without_comments text old new ending
+IsMade Picture text old new ending = IsDrawn text old new ending
+
+-- after a run by settings: the report of a run that did what they ask for, or nothing
+abbrev pub IsReported : (settings : Option Members) (form : ReportForm) (old new : Option (List ℕ)) → Ending → Type 0
+IsReported settings form old new Finished =
+    (report : LoadReport) × TellsItsBook report × AddsUp report × DoesWhatIsSpelled settings report
+    × IsReport form report old new
+IsReported settings form old new (Settings bad) =
+    (fault : SettingsFault) × Reads settings (Err fault) × (ending_of_settings fault ≡ Settings bad) × Keeps old new
+IsReported settings form old new (Run why) = SpellsSettings settings × Keeps old new
+IsReported settings form old new CannotStart = SpellsSettings settings × Keeps old new
+IsReported settings form old new OutOfMemory = Keeps old new
+IsReported settings form old new CannotRead = Unit {0}
+IsReported settings form old new FaultLine = ⊥
+IsReported settings form old new DrawnToFault = ⊥
+IsReported settings form old new BadCommandLine = ⊥

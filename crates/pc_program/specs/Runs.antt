@@ -1,0 +1,25 @@
+-- A run by a settings text.
+use Rattle.std.specs.Prelude.{◌≡◌, Option, Some, None, Err}
+use Rattle.toml.specs.Data.{Members}
+use Rattle.pc_threads.specs.Reports.{DoesAll}
+use Rattle.pc_threads.specs.Settings.{first_fault}
+use Rattle.pc_threads.specs.declared.report.LoadReport.{LoadReport}
+use Rattle.pc_program.specs.SettingsText.{Reads, faults_in, settings_in}
+use Rattle.pc_program.specs.declared.run_text.RunTextFault.{RunTextFault}
+use Rattle.pc_program.specs.declared.run_text.RunTextFault.TheVariants.{Run, Settings, Write}
+
+-- the text spells settings without fault, and all was done that they ask for
+abbrev pub DoesWhatIsSpelled : Option Members → LoadReport → Type 0
+DoesWhatIsSpelled (Some table) report = (first_fault (faults_in table) ≡ None) × DoesAll (settings_in table) report
+DoesWhatIsSpelled None report = ⊥
+
+-- the text spells settings without fault
+abbrev pub SpellsSettings : Option Members → Type 0
+SpellsSettings (Some table) = first_fault (faults_in table) ≡ None
+SpellsSettings None = ⊥
+
+-- what is said to be wrong with the settings is wrong with the text; a run, and the writing of its report, fail only where nothing is
+abbrev pub IsTextsFault : Option Members → RunTextFault → Type 0
+IsTextsFault text (Settings fault) = Reads text (Err fault)
+IsTextsFault text (Run fault) = SpellsSettings text
+IsTextsFault text Write = SpellsSettings text

@@ -1,0 +1,131 @@
+-- The settings that a TOML text spells, and what is wrong with a text that spells none.
+use Rattle.std.specs.Prelude.{ℕ, ℤ, pos, ◌≡◌, ◌+◌, ◌⊎◌, List, [], ◌∷◌, ◌++◌, map, flat_map, filter_map, Option, Some, None, Result, Ok, Err, unwrap_or, option_map, option_and_then, codes}
+use Rattle.std.specs.Option.{option_map_or}
+use Rattle.toml.specs.Data.{Data, Items, no_items, item, Members, get_member, as_integer, as_str, as_array, as_table}
+use Rattle.pc_threads.specs.Settings.{Settings, Plan, faults_of, first_fault}
+use Rattle.pc_threads.specs.declared.config.Config.{Config}
+use Rattle.pc_threads.specs.declared.config.Restart.{Restart}
+use Rattle.pc_program.specs.StepTexts.{read_step}
+use Rattle.pc_program.specs.declared.settings.Field.{Field}
+use Rattle.pc_program.specs.declared.settings.Field.TheVariants as field
+use Rattle.pc_program.specs.declared.settings.SettingsFault.{SettingsFault}
+use Rattle.pc_program.specs.declared.settings.SettingsFault.TheVariants.{NotToml, BadField, BadStep, BadConfig, OutOfMemory}
+
+-- What stands at a key.
+
+abbrev pub elements : Items → List Data
+elements no_items = []
+elements (item value items) = value ∷ elements items
+
+-- all of them, where each is there
+abbrev pub all_some : {A : Type 0} → List (Option A) → Option (List A)
+all_some [] = Some []
+all_some (None ∷ rest) = None
+all_some (Some a ∷ rest) = option_map (λ others. a ∷ others) (all_some rest)
+
+-- a list each of whose elements is of one kind
+abbrev pub list_of : {A : Type 0} → (Data → Option A) → Data → Option (List A)
+list_of kind value = option_and_then (λ items. all_some (map kind (elements items))) (as_array value)
+
+abbrev pub integer_at : List ℕ → Members → Option ℤ
+integer_at key table = option_and_then as_integer (get_member key table)
+
+abbrev pub texts_at : List ℕ → Members → Option (List (List ℕ))
+texts_at key table = option_and_then (list_of as_str) (get_member key table)
+
+-- a list of tables, which may be absent
+abbrev pub tables_at : List ℕ → Members → Option (List Members)
+tables_at key table = option_map_or (list_of as_table) (get_member key table) (Some [])
+
+-- how a key is written in what the program says
+abbrev pub key_text : Field → List ℕ
+key_text field.Cpus = codes "cpus"
+key_text field.Threads = codes "thread"
+key_text field.Queue = codes "thread.queue"
+key_text field.Mask = codes "thread.mask"
+key_text field.Steps = codes "thread.steps"
+key_text field.Restarts = codes "restart"
+key_text field.Cpu = codes "restart.cpu"
+key_text field.Turn = codes "restart.turn"
+
+-- What the keys of a text tell; what is said of a key that tells nothing plays no part, since it is a fault.
+
+abbrev pub threads_in : Members → List Members
+threads_in table = unwrap_or (tables_at (codes "thread") table) []
+
+abbrev pub restarts_in : Members → List Members
+restarts_in table = unwrap_or (tables_at (codes "restart") table) []
+
+abbrev pub texts_in : Members → List (List ℕ)
+texts_in thread = unwrap_or (texts_at (codes "steps") thread) []
+
+abbrev pub integer_in : List ℕ → Members → ℤ
+integer_in key table = unwrap_or (integer_at key table) (pos 0)
+
+abbrev pub plan_in : Members → Plan
+plan_in thread = record {
+  queue = integer_in (codes "queue") thread;
+  mask = integer_in (codes "mask") thread;
+  steps = filter_map read_step (texts_in thread);
+}
+
+abbrev pub restart_in : Members → Restart
+restart_in restart = record {
+  cpu = integer_in (codes "cpu") restart;
+  turn = integer_in (codes "turn") restart;
+}
+
+abbrev pub settings_in : Members → Settings
+settings_in table = record {
+  cpus = integer_in (codes "cpus") table;
+  threads = map plan_in (threads_in table);
+  restarts = map restart_in (restarts_in table);
+}
+
+-- The faults of a text, in the order in which they are told.
+
+abbrev pub unless : {A F : Type 0} → Option A → F → Option F
+unless None fault = Some fault
+unless (Some a) fault = None
+
+-- the keys of a thread and of a restart that are absent or of another type
+abbrev pub thread_faults : Members → List (Option SettingsFault)
+thread_faults thread =
+    unless (integer_at (codes "queue") thread) (BadField field.Queue)
+    ∷ unless (integer_at (codes "mask") thread) (BadField field.Mask)
+    ∷ unless (texts_at (codes "steps") thread) (BadField field.Steps)
+    ∷ []
+
+abbrev pub restart_faults : Members → List (Option SettingsFault)
+restart_faults restart =
+    unless (integer_at (codes "cpu") restart) (BadField field.Cpu)
+    ∷ unless (integer_at (codes "turn") restart) (BadField field.Turn)
+    ∷ []
+
+-- the texts that are no step, of the steps of a thread from one place on, and of all threads from one place on
+abbrev pub text_faults : ℕ → ℕ → List (List ℕ) → List (Option SettingsFault)
+text_faults thread step [] = []
+text_faults thread step (text ∷ texts) = unless (read_step text) (BadStep thread step) ∷ text_faults thread (step + 1) texts
+
+abbrev pub step_faults : ℕ → List Members → List (Option SettingsFault)
+step_faults thread [] = []
+step_faults thread (table ∷ tables) = text_faults thread 0 (texts_in table) ++ step_faults (thread + 1) tables
+
+-- the keys, then the steps, then the settings that are spelled
+abbrev pub faults_in : Members → List (Option SettingsFault)
+faults_in table = flat_map (λ stage. stage)
+    ((unless (integer_at (codes "cpus") table) (BadField field.Cpus) ∷ [])
+    ∷ (unless (tables_at (codes "thread") table) (BadField field.Threads) ∷ [])
+    ∷ flat_map thread_faults (threads_in table)
+    ∷ (unless (tables_at (codes "restart") table) (BadField field.Restarts) ∷ [])
+    ∷ flat_map restart_faults (restarts_in table)
+    ∷ step_faults 0 (threads_in table)
+    ∷ map (option_map BadConfig) (faults_of (settings_in table))
+    ∷ [])
+
+-- the settings that the table of a text spells, or its first fault; or memory was wanting
+abbrev pub Reads : Option Members → Result Config SettingsFault → Type 0
+Reads (Some table) (Ok config) = (first_fault (faults_in table) ≡ None) × (config ≡ settings_in table)
+Reads (Some table) (Err fault) = (first_fault (faults_in table) ≡ Some fault) ⊎ (fault ≡ OutOfMemory)
+Reads None (Ok config) = ⊥
+Reads None (Err fault) = (fault ≡ NotToml) ⊎ (fault ≡ OutOfMemory)

@@ -1,0 +1,284 @@
+//! The command line.
+
+ghost use Rattle.std.specs.Prelude.{◌≡◌, ◌≢◌, ◌↔◌, ◌⊎◌, [], Some, IfOk, IfErr, IsTrue, false, map, option_map, string_bytes, codes};
+ghost use Rattle.clap.specs.Walk.{first_of, rows_of, rule_of};
+ghost use Rattle.clap.specs.Simple.{app_of, subcommand_of, subcommand_rows_of};
+ghost use Rattle.clap.specs.Faults.{fault_of};
+ghost use Rattle.clap.specs.Matches.{found_of};
+ghost use Rattle.pc_program.specs.CommandLine.{IsAsked, IsCommandMet, IsInput, IsRefusal, IsReportForm, flag, of_file, pc_sim, run};
+
+use crate::report::ReportForm;
+use clap::error::ErrorKind;
+use clap::{Arg, ArgAction, ArgMatches, Command as Parser, Error};
+use std::alloc::{AllocError, Global};
+use std::convert::AsStr;
+use thiserror::Error as Fault;
+
+/// What the program is asked to do. Where there is no file the standard input is read.
+#[derive(Debug, Drop)]
+pub enum Command {
+    /// Replay a script.
+    Replay {
+        file: Option<String>,
+    },
+    /// Replay a script, and explain each line.
+    Explain {
+        file: Option<String>,
+    },
+    /// Replay a script, and draw what happened.
+    Draw {
+        file: Option<String>,
+    },
+    /// Run agents in threads by settings.
+    Run {
+        file: Option<String>,
+        /// How the report is told.
+        form: ReportForm,
+    },
+}
+
+/// Why there is no command.
+#[derive(Debug, Drop, Fault)]
+pub enum CommandFault {
+    /// A growth was refused.
+    #[error("out of memory")]
+    OutOfMemory,
+    /// The words are no command, or they ask for help or the version, which is the error's text.
+    #[error(transparent)]
+    Clap(Error),
+}
+
+impl From<AllocError> for CommandFault {
+    ghost use Rattle.std.specs.Prelude.{◌≡◌};
+    ghost use Rattle.pc_program.specs.declared.command_line.CommandFault.TheVariants.{OutOfMemory};
+
+    ghost from_gives = { λ _ fault. fault ≡ OutOfMemory };
+
+    fn from(_error: AllocError) -> CommandFault {
+        CommandFault::OutOfMemory
+    }
+}
+
+/// The version of the program, and the kit that proved and built it.
+const VERSION: &str = "0.9.0 (rattle-kit-13f logic dac8208d650f15bf)";
+
+const ABOUT: &str =
+    "A model of per-CPU ghOSt scheduling: a kernel, agents, and what each agent knows";
+
+const AFTER: &str = "\
+Examples:
+  pc-sim replay examples/commits-and-sleepers.script
+  pc-sim explain examples/commits-and-sleepers.script
+  pc-sim draw examples/crash-and-steal.script >picture.svg
+  pc-sim run settings.toml --per-cpu
+
+FILE may be `-`, the standard input.
+Exit status: 0 finished; 1 a file or a text has a fault; 2 the command line has one; 3 a run did not
+settle; 4 memory or a thread is wanting.
+Scripts, settings and answers are described in docs/FORMATS.md.";
+
+const ABOUT_REPLAY: &str = "Answers each command of a script on standard output";
+
+const AFTER_REPLAY: &str = "\
+Example:
+  printf 'enclave 2 8 100 16 1000\\ncreate 0 3 ready\\n' | pc-sim replay
+
+Exit status: 0 finished; 1 a line is no command, or a read or a write failed; 4 memory is wanting.
+Scripts are described in docs/FORMATS.md.";
+
+const ABOUT_EXPLAIN: &str =
+    "Answers each command of a script, and says in comments what happened and why";
+
+const AFTER_EXPLAIN: &str = "\
+Example:
+  pc-sim explain examples/commits-and-sleepers.script
+
+The lines that begin with `#` are comments; the others are what `pc-sim replay` writes.
+Exit status: 0 finished; 1 a line is no command, or a read or a write failed; 4 memory is wanting.
+What is written is described in docs/FORMATS.md.";
+
+const ABOUT_DRAW: &str = "Draws what happens in a script, as SVG on standard output";
+
+const AFTER_DRAW: &str = "\
+Example:
+  pc-sim draw examples/crash-and-steal.script >picture.svg
+
+Time goes to the right, a step for each command; each CPU has a lane. A browser shows the picture.
+Exit status: 0 finished; 1 a line is no command, or a read or a write failed; 4 memory is wanting.
+What is drawn is described in docs/FORMATS.md.";
+
+const ABOUT_RUN: &str = "Runs agents in threads by settings, and reports what they did";
+
+const AFTER_RUN: &str = "\
+Example:
+  printf 'cpus = 2\\n[[thread]]\\nqueue = 0\\nmask = 3\\nsteps = [\"yield 2\", \"die 1\"]\\n' | pc-sim run
+
+With --draw the report is a picture, and --per-cpu changes nothing.
+Exit status: 0 finished; 1 the settings have a fault, or a read or a write failed; 3 the run did not
+settle; 4 memory or a thread is wanting.
+Settings and the report are described in docs/FORMATS.md.";
+
+const SCRIPT: &str = "the script; without it, and where it is `-`, the standard input is read";
+
+const SETTINGS: &str = "the settings; without it, and where it is `-`, the standard input is read";
+
+/// Reads the words of the command line, of which the first is the program's name.
+pub fn read_command<'a, S: AsStr>(alloc: Global, words: &'a [S]) -> Result<Command, CommandFault>
+    ensures asked { IfOk result (IsAsked (subcommand_of pc_sim (map S.text words.entry.now))) }
+    ensures taken { IfOk result (λ _. fault_of pc_sim (map S.text words.entry.now) ≡ []) }
+    ensures refused { IfErr result (IsRefusal (fault_of pc_sim (map S.text words.entry.now))) }
+{
+    let parser: Parser<'a> = parser(alloc)?;
+    match parser.try_get_matches_from(words) {
+        Ok(matches) => command_of(alloc, &matches),
+        Err(error) if error.kind() == ErrorKind::OutOfMemory => Err(CommandFault::OutOfMemory),
+        Err(error) => Err(CommandFault::Clap(error)),
+    }
+}
+
+/// The parser of `NAME [FILE]`; `file` tells what FILE is.
+fn parser_of_file<'a>(
+    alloc: Global,
+    name: &'static str,
+    file: &'static str,
+) -> Result<Parser<'a>, AllocError>
+    ensures { IfOk result (λ parser. app_of parser ≡ of_file name.now) }
+{
+    let file = Arg::new(alloc, "FILE").help(file);
+    Parser::new(alloc, name).arg(file)
+}
+
+/// The flag `--NAME`.
+fn flag_of<'a>(alloc: Global, name: &'static str, help: &'static str) -> Arg<'a>
+    ensures rule { rule_of result ≡ flag name.now }
+    ensures local { result.global ≡ false }
+{
+    Arg::new(alloc, name)
+        .long(name)
+        .action(ArgAction::SetTrue)
+        .help(help)
+}
+
+/// `replay [FILE]`
+fn replay_parser<'a>(alloc: Global) -> Result<Parser<'a>, AllocError>
+    ensures { IfOk result (λ parser. app_of parser ≡ of_file (codes "replay")) }
+{
+    Ok(
+        parser_of_file(alloc, "replay", SCRIPT)?
+            .about(ABOUT_REPLAY)
+            .after_help(AFTER_REPLAY),
+    )
+}
+
+/// `explain [FILE]`
+fn explain_parser<'a>(alloc: Global) -> Result<Parser<'a>, AllocError>
+    ensures { IfOk result (λ parser. app_of parser ≡ of_file (codes "explain")) }
+{
+    Ok(
+        parser_of_file(alloc, "explain", SCRIPT)?
+            .about(ABOUT_EXPLAIN)
+            .after_help(AFTER_EXPLAIN),
+    )
+}
+
+/// `draw [FILE]`
+fn draw_parser<'a>(alloc: Global) -> Result<Parser<'a>, AllocError>
+    ensures { IfOk result (λ parser. app_of parser ≡ of_file (codes "draw")) }
+{
+    Ok(
+        parser_of_file(alloc, "draw", SCRIPT)?
+            .about(ABOUT_DRAW)
+            .after_help(AFTER_DRAW),
+    )
+}
+
+/// `run [FILE] [--per-cpu] [--draw]`
+fn run_parser<'a>(alloc: Global) -> Result<Parser<'a>, AllocError>
+    ensures { IfOk result (λ parser. app_of parser ≡ run) }
+{
+    let per_cpu = flag_of(alloc, "per-cpu", "also reports a line for each CPU");
+    let draw = flag_of(alloc, "draw", "draws the report, as SVG");
+    parser_of_file(alloc, "run", SETTINGS)?
+        .about(ABOUT_RUN)
+        .after_help(AFTER_RUN)
+        .arg(per_cpu)?
+        .arg(draw)
+}
+
+/// The program's parser.
+fn parser<'a>(alloc: Global) -> Result<Parser<'a>, AllocError>
+    ensures { IfOk result (λ parser. app_of parser ≡ pc_sim) }
+{
+    let replay = replay_parser(alloc)?;
+    let explain = explain_parser(alloc)?;
+    let draw = draw_parser(alloc)?;
+    let run = run_parser(alloc)?;
+    Parser::new(alloc, "pc-sim")
+        .version(VERSION)
+        .about(ABOUT)
+        .after_help(AFTER)
+        .subcommand_required(true)
+        .disable_help_subcommand(true)
+        .subcommand(replay)?
+        .subcommand(explain)?
+        .subcommand(draw)?
+        .subcommand(run)
+}
+
+/// What the matches of a command ask for.
+fn command_of(alloc: Global, matches: &ArgMatches<'_>) -> Result<Command, CommandFault>
+    requires { IsCommandMet (subcommand_rows_of matches.now) }
+    ensures asked { IfOk result (IsAsked (subcommand_rows_of matches.now)) }
+    ensures memory { IfErr result (λ fault. fault ≡ CommandFault.OutOfMemory) }
+{
+    let Some((name, met)) = matches.subcommand() else {
+        unreachable!()
+    };
+    let file = file_of(alloc, met)?;
+    if name == "run" {
+        Ok(Command::Run {
+            file,
+            form: form_of(met),
+        })
+    } else if name == "explain" {
+        Ok(Command::Explain { file })
+    } else if name == "draw" {
+        Ok(Command::Draw { file })
+    } else {
+        Ok(Command::Replay { file })
+    }
+}
+
+/// The named file; none of the standard input, which `-` names too.
+fn file_of(alloc: Global, matches: &ArgMatches<'_>) -> Result<Option<String>, AllocError>
+    ensures { IfOk result (λ file. IsInput (first_of (codes "FILE") (rows_of (found_of matches.now))) (option_map string_bytes file)) }
+{
+    match matches.get_str("FILE") {
+        None => Ok(None),
+        Some(name) if name == "-" => Ok(None),
+        Some(name) => Ok(Some(String::from_str(alloc, name)?)),
+    }
+}
+
+/// How the report is told.
+fn form_of(matches: &ArgMatches<'_>) -> ReportForm
+    ensures { IsReportForm result (rows_of (found_of matches.now)) }
+{
+    if is_set(matches, "draw") {
+        ReportForm::Picture
+    } else if is_set(matches, "per-cpu") {
+        ReportForm::EachCpu
+    } else {
+        ReportForm::Totals
+    }
+}
+
+/// Whether the flag of this name stands there.
+fn is_set(matches: &ArgMatches<'_>, name: &str) -> bool
+    ensures { IsTrue result ↔ (first_of name.now (rows_of (found_of matches.now)) ≡ Some (codes "true")) }
+{
+    match matches.get_str(name) {
+        Some(word) => word == "true",
+        None => false,
+    }
+}

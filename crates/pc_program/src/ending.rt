@@ -1,0 +1,208 @@
+//! How the program ends.
+
+ghost use Rattle.std.specs.Prelude.{◌≡◌, option_map};
+ghost use Rattle.pc_program.specs.Endings.{ending_of_picture, message_of, settings_message, status_of, unsettled_message};
+
+use crate::run_text::RunTextFault;
+use crate::settings::SettingsFault;
+use pc_script::{Outcome, ScriptFault};
+use pc_threads::{ConfigFault, RunFault};
+
+/// How a run of the program ended.
+#[derive(Clone, Copy, Debug, PartialEq, Eq)]
+pub enum Ending {
+    /// All was done.
+    Finished,
+    /// The script has a line that is no command; its output says which.
+    FaultLine,
+    /// The same of a script that was drawn: the picture says which, and goes up to it.
+    DrawnToFault,
+    /// A file, a read or a write failed, or the text is too long.
+    CannotRead,
+    /// The words of the command line are no command.
+    BadCommandLine,
+    /// A growth was refused.
+    OutOfMemory,
+    /// The settings have this fault.
+    Settings(BadSettings),
+    /// The run of agents met this fault.
+    Run(Unsettled),
+    /// A thread could not be started.
+    CannotStart,
+}
+
+/// What is wrong with settings, by name.
+#[derive(Clone, Copy, Debug, PartialEq, Eq)]
+pub enum BadSettings {
+    NotToml,
+    BadField,
+    BadStep,
+    BadCpus,
+    TooManyThreads,
+    BadThread,
+    BadRestart,
+}
+
+/// Why a run of agents did not settle, by name.
+#[derive(Clone, Copy, Debug, PartialEq, Eq)]
+pub enum Unsettled {
+    Audit,
+    Incomplete,
+    Driver,
+    GaveUp,
+}
+
+impl Ending {
+    /// The exit status.
+    pub fn status(self) -> u8
+        ensures { result ≡ status_of self }
+    {
+        match self {
+            Ending::Finished => 0,
+            Ending::FaultLine | Ending::DrawnToFault | Ending::CannotRead | Ending::Settings(_) =>
+                1,
+            Ending::BadCommandLine => 2,
+            Ending::Run(_) => 3,
+            Ending::OutOfMemory | Ending::CannotStart => 4,
+        }
+    }
+
+    /// What is said on standard error.
+    pub fn message(self) -> Option<&'static str>
+        ensures { option_map (λ text. text.now) result ≡ message_of self }
+    {
+        match self {
+            Ending::Finished | Ending::FaultLine => None,
+            Ending::DrawnToFault => {
+                Some("pc-sim: a line of the script is no command, and the picture ends there")
+            }
+            Ending::CannotRead => Some("pc-sim: cannot read"),
+            Ending::BadCommandLine => Some("pc-sim: bad command line"),
+            Ending::OutOfMemory => Some("pc-sim: out of memory"),
+            Ending::CannotStart => Some("pc-sim: cannot start"),
+            Ending::Settings(bad) => Some(bad.message()),
+            Ending::Run(why) => Some(why.message()),
+        }
+    }
+}
+
+impl Ending {
+    /// How the program ends after it drew a script.
+    pub fn of_picture(drawn: Result<Outcome, ScriptFault>) -> Ending
+        ensures { result ≡ ending_of_picture drawn }
+    {
+        match drawn {
+            Ok(Outcome::FaultLine(_)) => Ending::DrawnToFault,
+            ended => Ending::from(ended),
+        }
+    }
+}
+
+impl BadSettings {
+    /// What is said on standard error.
+    fn message(self) -> &'static str
+        ensures { result.now ≡ settings_message self }
+    {
+        match self {
+            BadSettings::NotToml => "pc-sim: settings NotToml",
+            BadSettings::BadField => "pc-sim: settings BadField",
+            BadSettings::BadStep => "pc-sim: settings BadStep",
+            BadSettings::BadCpus => "pc-sim: settings BadCpus",
+            BadSettings::TooManyThreads => "pc-sim: settings TooManyThreads",
+            BadSettings::BadThread => "pc-sim: settings BadThread",
+            BadSettings::BadRestart => "pc-sim: settings BadRestart",
+        }
+    }
+}
+
+impl Unsettled {
+    /// What is said on standard error.
+    fn message(self) -> &'static str
+        ensures { result.now ≡ unsettled_message self }
+    {
+        match self {
+            Unsettled::Audit => "pc-sim: run Audit",
+            Unsettled::Incomplete => "pc-sim: run Incomplete",
+            Unsettled::Driver => "pc-sim: run Driver",
+            Unsettled::GaveUp => "pc-sim: run GaveUp",
+        }
+    }
+}
+
+impl From<SettingsFault> for Ending {
+    ghost use Rattle.std.specs.Prelude.{◌≡◌};
+    ghost use Rattle.pc_program.specs.Endings.{ending_of_settings};
+
+    ghost from_gives = { λ fault ending. ending ≡ ending_of_settings fault };
+
+    fn from(fault: SettingsFault) -> Ending {
+        match fault {
+            SettingsFault::NotToml => Ending::Settings(BadSettings::NotToml),
+            SettingsFault::BadField(_) => Ending::Settings(BadSettings::BadField),
+            SettingsFault::BadStep { .. } => Ending::Settings(BadSettings::BadStep),
+            SettingsFault::BadConfig(ConfigFault::BadCpus) => Ending::Settings(
+                BadSettings::BadCpus,
+            ),
+            SettingsFault::BadConfig(ConfigFault::TooManyThreads) => {
+                Ending::Settings(BadSettings::TooManyThreads)
+            }
+            SettingsFault::BadConfig(ConfigFault::BadThread(_)) => {
+                Ending::Settings(BadSettings::BadThread)
+            }
+            SettingsFault::BadConfig(ConfigFault::BadRestart(_)) => {
+                Ending::Settings(BadSettings::BadRestart)
+            }
+            SettingsFault::OutOfMemory => Ending::OutOfMemory,
+        }
+    }
+}
+
+impl From<RunFault> for Ending {
+    ghost use Rattle.std.specs.Prelude.{◌≡◌};
+    ghost use Rattle.pc_program.specs.Endings.{ending_of_run};
+
+    ghost from_gives = { λ fault ending. ending ≡ ending_of_run fault };
+
+    fn from(fault: RunFault) -> Ending {
+        match fault {
+            RunFault::Audit(_) => Ending::Run(Unsettled::Audit),
+            RunFault::Incomplete(_) => Ending::Run(Unsettled::Incomplete),
+            RunFault::Driver(_) => Ending::Run(Unsettled::Driver),
+            RunFault::GaveUp(_) => Ending::Run(Unsettled::GaveUp),
+            RunFault::StartFailed => Ending::CannotStart,
+            RunFault::OutOfMemory => Ending::OutOfMemory,
+        }
+    }
+}
+
+impl From<RunTextFault> for Ending {
+    ghost use Rattle.std.specs.Prelude.{◌≡◌};
+    ghost use Rattle.pc_program.specs.Endings.{ending_of_run_text};
+
+    ghost from_gives = { λ fault ending. ending ≡ ending_of_run_text fault };
+
+    fn from(fault: RunTextFault) -> Ending {
+        match fault {
+            RunTextFault::Settings(fault) => Ending::from(fault),
+            RunTextFault::Run(fault) => Ending::from(fault),
+            RunTextFault::Write => Ending::CannotRead,
+        }
+    }
+}
+
+impl From<Result<Outcome, ScriptFault>> for Ending {
+    ghost use Rattle.std.specs.Prelude.{◌≡◌};
+    ghost use Rattle.pc_program.specs.Endings.{ending_of};
+
+    ghost from_gives = { λ run ending. ending ≡ ending_of run };
+
+    fn from(run: Result<Outcome, ScriptFault>) -> Ending {
+        match run {
+            Ok(Outcome::Finished) => Ending::Finished,
+            Ok(Outcome::FaultLine(_)) => Ending::FaultLine,
+            Err(ScriptFault::OutOfMemory) => Ending::OutOfMemory,
+            Err(ScriptFault::Read | ScriptFault::TooLong | ScriptFault::Write) =>
+                Ending::CannotRead,
+        }
+    }
+}

@@ -1,0 +1,75 @@
+//! What is made of a script: its replies, these with an explanation, or a picture.
+
+ghost use Rattle.std.specs.Prelude.{◌≡◌, ◌+◌, ◌⊎◌, ◌<◌, ◌≤◌, List, ℕ, length, IfOk, IfSome, OnOk, Err};
+ghost use Rattle.std.specs.Io.KnownBytes.{Appends, Consumes};
+ghost use Rattle.pc_script.specs.Scripts.{IsOutput, IsOutputUntil};
+ghost use Rattle.pc_script.specs.declared.input.TheConstants.{MOST_BYTES};
+ghost use Rattle.pc_explain.specs.Comments.{without_comments};
+ghost use Rattle.pc_program.specs.Programs.{IsAnswered, IsDrawn, IsMade};
+ghost use Rattle.pc_program.specs.Session.{IsSession, RanOut};
+
+use crate::ending::Ending;
+use crate::session::Session;
+use pc_draw::draw_script;
+use pc_explain::explain_script;
+use pc_script::{Outcome, ScriptFault};
+use std::alloc::Global;
+use std::io::{Read, Write};
+
+/// What is made of a script.
+#[derive(Clone, Copy, Debug, PartialEq, Eq)]
+pub enum Form {
+    /// The replies of a script.
+    Replies,
+    /// These, with comments between that explain them.
+    Explained,
+    /// A picture of what happened.
+    Picture,
+}
+
+/// Reads a script, answers its commands one after another on a world of its own, and writes the replies.
+pub fn run_script<R: Read, W: Write>(
+    alloc: Global,
+    reader: &mut R,
+    writer: &mut W,
+) -> Result<Outcome, ScriptFault>
+    ensures ok { IfOk result (λ outcome. IfSome (R.remaining reader.old) (λ text. (output : List ℕ) × IsOutput IsSession text outcome output
+        × Appends (W.contents writer.old) (W.contents writer.new) output)) }
+    ensures no_memory { result ≡ Err ScriptFault.OutOfMemory → (writer.new ≡ writer.old) ⊎ IfSome (R.remaining reader.old) (λ text. (output : List ℕ)
+        × IsOutputUntil IsSession RanOut text output × Appends (W.contents writer.old) (W.contents writer.new) output) }
+    ensures unread { (result ≡ Err ScriptFault.Read) ⊎ (result ≡ Err ScriptFault.TooLong) → writer.new ≡ writer.old }
+    ensures too_long { result ≡ Err ScriptFault.TooLong → IfSome (R.remaining reader.old) (λ text. MOST_BYTES < length text) }
+    ensures short { OnOk result (IfSome (R.remaining reader.old) (λ text. length text ≤ MOST_BYTES)) }
+    ensures reads { (bytes : List ℕ) × (length bytes ≤ MOST_BYTES + 1) × Consumes (R.remaining reader.old) (R.remaining reader.new) bytes }
+{
+    pc_script::run_script::<Session, R, W>(alloc, reader, writer)
+}
+
+fn replies<R: Read, W: Write>(alloc: Global, reader: &mut R, writer: &mut W) -> Ending
+    ensures { IfSome (R.remaining reader.old) (λ text. IsAnswered (λ written. written) text (W.contents writer.old) (W.contents writer.new) result) }
+{
+    Ending::from(run_script(alloc, reader, writer))
+}
+
+fn explained<R: Read, W: Write>(alloc: Global, reader: &mut R, writer: &mut W) -> Ending
+    ensures { IfSome (R.remaining reader.old) (λ text. IsAnswered without_comments text (W.contents writer.old) (W.contents writer.new) result) }
+{
+    Ending::from(explain_script::<Session, R, W>(alloc, reader, writer))
+}
+
+fn picture<R: Read, W: Write>(alloc: Global, reader: &mut R, writer: &mut W) -> Ending
+    ensures { IfSome (R.remaining reader.old) (λ text. IsDrawn text (W.contents writer.old) (W.contents writer.new) result) }
+{
+    Ending::of_picture(draw_script::<Session, R, W>(alloc, reader, writer))
+}
+
+/// Reads a script, makes this of it, writes it, and tells how it ended. Nothing is flushed.
+pub fn make<R: Read, W: Write>(alloc: Global, form: Form, reader: &mut R, writer: &mut W) -> Ending
+    ensures { IfSome (R.remaining reader.old) (λ text. IsMade form text (W.contents writer.old) (W.contents writer.new) result) }
+{
+    match form {
+        Form::Replies => replies(alloc, reader, writer),
+        Form::Explained => explained(alloc, reader, writer),
+        Form::Picture => picture(alloc, reader, writer),
+    }
+}

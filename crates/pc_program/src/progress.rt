@@ -1,0 +1,104 @@
+//! The line by which a person at a terminal sees that a run goes on.
+
+ghost use Rattle.std.specs.Prelude.{Some, [], ◌↔◌, IsTrue, OnOk};
+ghost use Rattle.std.specs.Io.KnownBytes.{Appends};
+ghost use Rattle.pc_program.specs.Progress.{IsDue, in_place, progress_text};
+
+use pc_messages::Cpu;
+use pc_threads::{Driven, Gate, Point};
+use std::fmt;
+use std::io::{self, Write};
+use std::sync::atomic::{AtomicU64, Ordering};
+
+/// How many messages there are between two lines, at least.
+const MESSAGES_BETWEEN: u64 = 1_000;
+
+/// How far a run of so many threads is.
+#[derive(Clone, Copy)]
+struct SoFar {
+    all: u64,
+    driven: Driven,
+}
+
+impl fmt::Display for SoFar {
+    ghost output = { λ so_far. Some (progress_text so_far.all so_far.driven) };
+
+    fn fmt<W: fmt::Write>(&self, f: &mut fmt::Formatter<W>) -> fmt::Result {
+        let dead = self.driven.threads;
+        let all = self.all;
+        let messages = self.driven.messages;
+        write!(f, "{dead} of {all} threads dead, {messages} messages")
+    }
+}
+
+/// Whether the next line is due, where the last one was written at so many messages.
+fn is_due(told: u64, so_far: &Driven) -> bool
+    ensures { IsTrue result ↔ IsDue told so_far.now }
+{
+    so_far.messages >= MESSAGES_BETWEEN && so_far.messages - MESSAGES_BETWEEN >= told
+}
+
+/// Writes how far the run is in the place of what the line has.
+fn write_so_far<W: Write>(screen: &mut W, so_far: &SoFar) -> io::Result<()>
+    ensures { OnOk result (Appends (W.contents screen.old) (W.contents screen.new) (in_place (progress_text so_far.now.all so_far.now.driven))) }
+{
+    write!(screen, "\r{so_far}\x1b[K")
+}
+
+/// Leaves the line empty.
+fn write_nothing<W: Write>(screen: &mut W) -> io::Result<()>
+    ensures { OnOk result (Appends (W.contents screen.old) (W.contents screen.new) (in_place [])) }
+{
+    write!(screen, "\r\x1b[K")
+}
+
+/// A gate that lets everyone pass, and tells whoever looks at the screen, where there is one, how far the run is.
+///
+/// What cannot be written is passed over: the run is not about it.
+#[derive(Drop)]
+pub(crate) struct Progress<S> {
+    screen: Option<S>,
+    /// All threads of the run.
+    all: u64,
+    /// The messages that the last line told, 0 before the first one. The driver alone writes it.
+    told: AtomicU64,
+}
+
+impl<S: Write + Copy> Progress<S> {
+    /// Nothing was told yet of a run of so many threads.
+    pub(crate) fn new(screen: Option<S>, all: usize) -> Progress<S> {
+        Progress {
+            screen,
+            all: all as u64,
+            told: AtomicU64::new(0),
+        }
+    }
+
+    /// The run has ended: where a line was written, nothing is left of it.
+    pub(crate) fn end(&self) {
+        if let Some(mut screen) = self.screen {
+            if self.told.load(Ordering::SeqCst) > 0 {
+                let _ = write_nothing(&mut screen);
+            }
+        }
+    }
+}
+
+impl<S: Write + Copy> Gate for Progress<S> {
+    fn pass(&self, _cpu: Cpu, _point: Point) -> bool {
+        true
+    }
+
+    fn driven(&self, so_far: Driven) {
+        if let Some(mut screen) = self.screen {
+            if is_due(self.told.load(Ordering::SeqCst), &so_far) {
+                self.told.store(so_far.messages, Ordering::SeqCst);
+                let so_far = SoFar {
+                    all: self.all,
+                    driven: so_far,
+                };
+                let _ = write_so_far(&mut screen, &so_far);
+            }
+        }
+    }
+}

@@ -1,0 +1,65 @@
+//! A run of agents in threads, from a settings text to the text of its report.
+
+ghost use Rattle.std.specs.Prelude.{◌≡◌, ◌≢◌, IfErr, IfOk};
+ghost use Rattle.toml.specs.Parse.{parse_document};
+ghost use Rattle.pc_threads.specs.Reports.{AddsUp, TellsItsBook};
+ghost use Rattle.pc_program.specs.ReportText.{IsReport};
+ghost use Rattle.pc_program.specs.Runs.{DoesWhatIsSpelled, IsTextsFault};
+
+use crate::progress::Progress;
+use crate::report::{ReportForm, write_report};
+use crate::settings::{SettingsFault, read_config};
+use pc_threads::{LoadReport, RunFault, run_agents};
+use std::alloc::Global;
+use std::io::Write;
+use std::sync::Wait;
+use std::thread::Threads;
+use thiserror::Error;
+
+/// Why a settings text led to no written report.
+#[derive(Clone, Copy, Debug, PartialEq, Eq, Error)]
+pub enum RunTextFault {
+    /// The text spells no settings.
+    #[error(transparent)]
+    Settings(SettingsFault),
+    /// The run met a fault.
+    #[error(transparent)]
+    Run(RunFault),
+    /// The report could not be written.
+    #[error("the report cannot be written")]
+    Write,
+}
+
+/// Reads the settings, runs agents in threads as they ask, and writes the report. Whoever looks at the screen, where there is one,
+/// is told meanwhile how far the run is.
+pub fn run_config<R: Threads + Wait + Sync, S: Write + Copy + Sync, W: Write>(
+    rt: &R,
+    alloc: Global,
+    text: &str,
+    form: ReportForm,
+    screen: Option<S>,
+    writer: &mut W,
+) -> Result<LoadReport, RunTextFault>
+    ensures tells { IfOk result TellsItsBook }
+    ensures adds_up { IfOk result AddsUp }
+    ensures all { IfOk result (DoesWhatIsSpelled (parse_document text.now)) }
+    ensures writes { IfOk result (λ report. IsReport form report (W.contents writer.old) (W.contents writer.new)) }
+    ensures settings { IfErr result (IsTextsFault (parse_document text.now)) }
+    ensures unwritten { IfErr result (λ fault. fault ≢ RunTextFault.Write → writer.new ≡ writer.old) }
+{
+    let config = match read_config(alloc, text) {
+        Ok(config) => config,
+        Err(fault) => return Err(RunTextFault::Settings(fault)),
+    };
+    let progress = Progress::new(screen, config.threads().len());
+    let ended = run_agents(rt, alloc, &config, &progress);
+    progress.end();
+    let report = match ended {
+        Ok(report) => report,
+        Err(fault) => return Err(RunTextFault::Run(fault)),
+    };
+    match write_report(writer, &report, form) {
+        Ok(()) => Ok(report),
+        Err(_) => Err(RunTextFault::Write),
+    }
+}

@@ -1,9 +1,0 @@
-use Rattle.std.proofs.Common.{rules, ap, ◌≡◌, ◌∙◌}
-use Rattle.clap.specs.Walk.{rule_of}
-use Rattle.pc_sim.specs.CommandLine.{flag}
-use Rattle.pc_sim.proofs.command_line.flag_of.Goals as goal
-
-pub returns-clause-rule : goal.returns-clause-rule
-returns-clause-rule c =
-    let set : rule_of c.action.result ≡ flag c.args.name.now = search rules in
-    ap rule_of c.help.ensures ∙ set
