@@ -33,6 +33,8 @@ FOREIGN = {"Err", "Ok", "IsStrictlyIncreasing"}
 # Errors that may be want of memory.
 WANTING = re.compile(
     r"->.*Result<.*\b(?:OutOfMemory|AllocError|(?:Limits|Queue|Call|Send|Delta|Run|Script|Settings|Command|RunText)Fault)\b", re.S)
+# An ending of the program may be one too, where the call may allocate.
+ENDING = re.compile(r"\balloc: Global\b.*->.*\bEnding\b", re.S)
 # What the papers are cited by: numbers of their theorems, definitions, requests and rows, and their names.
 CITATIONS = re.compile(
     r"\bT[1-5]\.\d+|\bD(?:1[0-5]|[1-9])\b|\bR(?:1[0-6]|[1-9])\b|\bW\d+\b|\brows? \d+\b"
@@ -53,7 +55,7 @@ class Function:
     head: str = ""  # its parameters and what it answers
 
     def may_want_memory(self):
-        return bool(WANTING.search(self.head)) and "succeeds" not in self.clauses
+        return bool(WANTING.search(self.head) or ENDING.search(self.head)) and "succeeds" not in self.clauses
 
     def __str__(self):
         return f"{self.crate} {self.owner + '::' if self.owner else ''}{self.name}"

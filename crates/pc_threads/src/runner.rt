@@ -1,6 +1,6 @@
 //! A run of agents in threads.
 
-ghost use Rattle.std.specs.Prelude.{pos, ◌≡◌, ◌+◌, ◌<◌, ◌≤◌, [], ◌∷◌, IfOk, OnOk, length, vec_len};
+ghost use Rattle.std.specs.Prelude.{pos, ◌≡◌, ◌+◌, ◌^◌, ◌<◌, ◌≤◌, [], ◌∷◌, IfOk, OnOk, length, vec_len};
 ghost use Rattle.pc_calls.specs.declared.limits.TheConstants.{MOST_CPUS};
 ghost use Rattle.pc_kernel.specs.Reads.{seen};
 ghost use Rattle.pc_agent.specs.Shows.{cpu_of};
@@ -9,7 +9,7 @@ ghost use Rattle.pc_threads.specs.Inner.Ends.{HasEnded};
 ghost use Rattle.pc_threads.specs.Inner.Shares.{HasDone, HasPosted, idle};
 ghost use Rattle.pc_threads.specs.Reports.{AddsUp, DoesAll, TellsItsBook};
 ghost use Rattle.pc_threads.specs.Settings.{plan_of, steps_in, ticks};
-ghost use Rattle.pc_threads.specs.Totals.{created_by, in_all, limits_on};
+ghost use Rattle.pc_threads.specs.Totals.{created_by, in_all, limits_on, told_by};
 
 use crate::book::Book;
 use crate::config::Config;
@@ -377,6 +377,18 @@ fn open<N: Names>(book: Book, cpus: u8, blanks: Blanks) -> Opened<N>
     }
 }
 
+/// The report of a run that ended with this book, of agents that knew this and counted that.
+fn report_of(alloc: Global, book: Book, joined: Joined) -> Result<LoadReport, RunFault>
+    requires few { vec_len joined.views ≤ MOST_CPUS }
+    requires counted { in_all told_by book.calls < 2 ^ 32 }
+    ensures tells { IfOk result TellsItsBook }
+    ensures book { IfOk result (λ report. report.book ≡ book) }
+    ensures rows { IfOk result (λ report. report.rows ≡ joined.rows) }
+{
+    let view = settle(alloc, &book, joined.views.as_slice())?;
+    Ok(LoadReport::new(book, view, joined.rows))
+}
+
 /// A run by these ledgers.
 fn run_named<N: Names + Send + Sync, R: Threads + Wait + Sync, G: Gate + Sync>(
     rt: &R,
@@ -431,8 +443,8 @@ where
     let Desk { tallied, .. } = desk;
     let book = tallied.into_inner().close(purse, pool);
     known_are_created(&book);
-    let view = settle(alloc, &book, joined.views.as_slice())?;
-    Ok(LoadReport::new(book, view, joined.rows))
+    let report = report_of(alloc, book, joined)?;
+    Ok(report)
 }
 
 /// A run by ledgers that this call picks.
