@@ -1,15 +1,19 @@
 -- What a script's commands are answered: by steps and reads of the plain world, or of a session that has none yet.
-use Rattle.std.specs.Prelude.{◌≡◌, List, [], ◌∷◌, ◌++◌, Option, Some, None}
+use Rattle.std.specs.Prelude.{◌≡◌, IsTrue, List, [], ◌∷◌, ◌++◌, Option, Some, None}
 use Rattle.pc_calls.specs.declared.event.Reply.{Reply}
 use Rattle.pc_calls.specs.declared.limits.Limits.{Limits}
 use Rattle.pc_calls.specs.declared.limits.LimitField.{LimitField}
 use Rattle.pc_calls.specs.declared.limits.Profile.{Profile}
 use Rattle.pc_calls.specs.Limits.{bad_field}
+use Rattle.pc_kernel.specs.Reads.{shown, is_cpu}
 use Rattle.pc_script.specs.declared.command.Command.{Command}
 use Rattle.pc_script.specs.declared.command.Command.TheVariants.{Enclave, Event, Read}
+use Rattle.pc_script.specs.declared.command.Read as reading
+use Rattle.pc_script.specs.declared.command.Read.TheVariants.{Show}
 use Rattle.pc_script.specs.declared.response.Response.{Response}
 use Rattle.pc_script.specs.declared.response.Response.TheVariants as response
 use Rattle.pc_world.specs.PlainWorld.{PlainWorld, opened}
+use Rattle.pc_world.specs.RanOut as world
 use Rattle.pc_world.specs.Steps.{Step}
 use Rattle.pc_program.specs.Reads.{IsRead}
 
@@ -49,6 +53,23 @@ pub data IsRun (profile : Profile) : Session → List Command → List Response 
 abbrev pub IsSession : Profile → List Command → List Response → Type 0
 IsSession profile commands told = (end' : Session) × IsRun profile None commands told end'
 
--- memory ran out at the next command of a session
+-- a read that takes memory: what an agent knows, where there is one
+abbrev pub TakesMemoryToRead : PlainWorld → reading.Read → Type 0
+TakesMemoryToRead w (Show cpu) = IsTrue (is_cpu (shown w.kernel) cpu)
+TakesMemoryToRead w read = ⊥
+
+-- a command that takes memory in a world: such a read, or an event that may find none
+abbrev pub TakesMemoryIn : PlainWorld → Command → Type 0
+TakesMemoryIn w (Enclave limits) = ⊥
+TakesMemoryIn w (Event event) = (new : PlainWorld) × world.RanOut w event new
+TakesMemoryIn w (Read read) = TakesMemoryToRead w read
+
+-- a command that takes memory in a session: before there is a world, an `enclave` whose limits are within their ranges
+abbrev pub TakesMemory : Profile → Session → Command → Type 0
+TakesMemory profile None (Enclave limits) = bad_field profile limits ≡ None
+TakesMemory profile None command = ⊥
+TakesMemory profile (Some w) command = TakesMemoryIn w command
+
+-- memory ran out at the next command of a session, which is one that takes memory
 abbrev pub RanOut : Profile → List Command → List Response → Command → Type 0
-RanOut profile commands told next = IsSession profile commands told
+RanOut profile commands told next = (s : Session) × IsRun profile None commands told s × TakesMemory profile s next

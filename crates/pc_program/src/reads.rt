@@ -1,10 +1,11 @@
 //! What a script's reads of a world are answered.
 
-ghost use Rattle.std.specs.Prelude.{IfOk};
-ghost use Rattle.pc_kernel.specs.Reads.{seen};
+ghost use Rattle.std.specs.Prelude.{IfOk, IsTrue, OnErr};
+ghost use Rattle.pc_kernel.specs.Reads.{is_cpu, seen, shown};
 ghost use Rattle.pc_world.specs.PlainWorld.{PlainWorld};
 ghost use Rattle.pc_world.specs.Shows.{ShowsWorld};
 ghost use Rattle.pc_program.specs.Reads.{IsAsleep, IsComparing, IsCompleting, IsRead, IsShowing, IsStatus};
+ghost use Rattle.pc_program.specs.Session.{TakesMemoryToRead};
 
 use crate::show::shown_threads;
 use pc_calls::Refusal;
@@ -19,7 +20,8 @@ use std::alloc::{AllocError, Global};
 
 /// What the read is answered.
 pub fn answer_of(alloc: Global, world: &World, read: Read) -> Result<Response, AllocError>
-    ensures { IfOk result (λ told. (w : PlainWorld) → ShowsWorld world.now w → IsRead w read told) }
+    ensures read { IfOk result (λ told. (w : PlainWorld) → ShowsWorld world.now w → IsRead w read told) }
+    ensures no_memory { OnErr result ((w : PlainWorld) → ShowsWorld world.now w → TakesMemoryToRead w read) }
 {
     match read {
         Read::Status { thread } => Ok(status(world.kernel(), thread)),
@@ -59,7 +61,8 @@ fn asleep(world: &World, cpu: Cpu) -> Response
 
 /// What the agent knows.
 fn show(alloc: Global, world: &World, cpu: Cpu) -> Result<Response, AllocError>
-    ensures { IfOk result (λ told. (w : PlainWorld) → ShowsWorld world.now w → IsShowing w cpu told) }
+    ensures shows { IfOk result (λ told. (w : PlainWorld) → ShowsWorld world.now w → IsShowing w cpu told) }
+    ensures no_memory { OnErr result ((w : PlainWorld) → ShowsWorld world.now w → IsTrue (is_cpu (shown w.kernel) cpu)) }
 {
     reads_are_those_of_the_run();
     match world.view(cpu) {

@@ -3,7 +3,9 @@
 ghost use Rattle.std.specs.Prelude.{◌≡◌, List, [], ◌∷◌, ◌++◌, None, OnOk, OnErr};
 ghost use Rattle.pc_script.specs.declared.command.Command.{Command};
 ghost use Rattle.pc_script.specs.declared.response.Response.{Response};
-ghost use Rattle.pc_program.specs.Session.{IsSession, RanOut};
+ghost use Rattle.pc_world.specs.PlainWorld.{PlainWorld};
+ghost use Rattle.pc_world.specs.Shows.{ShowsWorld};
+ghost use Rattle.pc_program.specs.Session.{IsSession, RanOut, TakesMemory, TakesMemoryIn};
 ghost use Rattle.pc_program.specs.Inner.Sessions.{Answers, StandsAfter, Steps, is_session};
 
 use crate::reads::answer_of;
@@ -32,6 +34,7 @@ fn open(
 ) -> Result<(), AllocError>
     requires { world.old ≡ None }
     ensures ok { OnOk result (Steps profile command world.old world.new response.new) }
+    ensures no_memory { OnErr result (TakesMemory profile None command) }
     ensures kept { OnErr result (response.new ≡ response.old) }
 {
     let Command::Enclave(limits) = command else {
@@ -57,6 +60,7 @@ fn act(
     response: &mut Response,
 ) -> Result<(), AllocError>
     ensures ok { OnOk result (Answers command world.old world.new response.new) }
+    ensures no_memory { OnErr result ((w : PlainWorld) → ShowsWorld world.old w → TakesMemoryIn w command) }
     ensures kept { OnErr result (response.new ≡ response.old) }
 {
     match command {
