@@ -7,9 +7,9 @@ use Rattle.pc_script.specs.declared.command.Command.{Command}
 use Rattle.pc_script.specs.declared.command.Command.TheVariants.{Enclave}
 use Rattle.pc_script.specs.declared.response.Response.{Response}
 use Rattle.pc_script.specs.declared.response.Response.TheVariants as response
-use Rattle.pc_world.specs.PlainWorld.{PlainWorld, opened}
+use Rattle.pc_world.specs.PlainWorld.{opened}
 use Rattle.pc_world.specs.Shows.{ShowsWorld, World}
-use Rattle.pc_program.specs.Session.{IsLimited, IsStep, RanOut, TakesMemory, TakesMemoryIn, one_more, none}
+use Rattle.pc_program.specs.Session.{IsLimited, IsStep, one_more, none}
 use Rattle.pc_program.specs.Inner.Sessions.{Answers, Steps, StandsAfter}
 
 pub stands_at_start : (profile : Profile) → StandsAfter profile profile None [] []
@@ -33,15 +33,3 @@ pub opens : (profile : Profile) (world : World) (limits : Limits) → bad_field 
 opens profile world limits within shows None before =
     (Some (opened limits), subst (λ o. IsLimited o limits response.Opened (Some (opened limits))) (sym within) (refl, refl), shows)
 opens profile world limits within shows (Some w) before = absurd before
-
--- where memory ran out before there is a world
-pub ran_out_before : (judged : Profile) (command : Command) → TakesMemory judged None command
-    → (profile : Profile) (commands : List Command) (told : List Response) → StandsAfter profile judged None commands told → RanOut profile commands told command
-ran_out_before judged command takes profile commands told (same, (None, run, shows)) = (None, run, subst (λ p. TakesMemory p None command) same takes)
-ran_out_before judged command takes profile commands told (same, (Some w, run, shows)) = absurd shows
-
--- where it ran out in a world
-pub ran_out_in : (judged : Profile) (world : World) (command : Command) → ((w : PlainWorld) → ShowsWorld world w → TakesMemoryIn w command)
-    → (profile : Profile) (commands : List Command) (told : List Response) → StandsAfter profile judged (Some world) commands told → RanOut profile commands told command
-ran_out_in judged world command takes profile commands told (same, (None, run, shows)) = absurd shows
-ran_out_in judged world command takes profile commands told (same, (Some w, run, shows)) = (Some w, run, takes w shows)

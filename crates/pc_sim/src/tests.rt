@@ -2,9 +2,7 @@
 
 mod settings;
 
-use pc_program::{
-    Command, CommandFault, Ending, Form, ReportForm, make, read_command, run_script,
-};
+use pc_program::{Command, CommandFault, Ending, Form, ReportForm, make, read_command, run_script};
 use pc_script::{Outcome, ScriptFault, lines_of};
 use std::alloc::Global;
 use std::test::Fail;
