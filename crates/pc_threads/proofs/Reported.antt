@@ -13,7 +13,7 @@ use Rattle.pc_threads.specs.Inner.Driving.{sum_in, told_in}
 use Rattle.pc_threads.specs.Inner.Shares.{HasPosted, Spent}
 use Rattle.pc_threads.specs.declared.report.LoadReport.{LoadReport}
 use Rattle.pc_threads.specs.Pages.{IsReplay, Pages}
-use Rattle.pc_threads.specs.Reports.{DoesAll}
+use Rattle.pc_threads.specs.Reports.{DoesAll, TellsItsBook}
 use Rattle.pc_threads.specs.Settings.{Plan, Settings, messages_in, ran_in, ticks}
 use Rattle.pc_threads.specs.Totals.{created_by, in_all, limits_on, ran_by, told_by}
 use Rattle.pc_threads.proofs.Counted.{threads_counted}
@@ -66,13 +66,12 @@ no_bad r fault field bad is e f none =
 -- a report of a book whose shares have all come back
 pub does_all : (settings : Settings) (report : LoadReport) (book : Pages) (cpus : ℕ) (spent : Spent) → pos cpus ≡ settings.cpus → IsAllPosted cpus settings.threads spent
     → book.kernel.limits ≡ limits_on spent.cpus → in_all created_by book.calls ≡ spent.created → in_all told_by book.calls ≡ spent.told → in_all ran_by book.calls ≡ spent.ran
-    → (seen book.kernel).threads ≡ in_all created_by book.calls → report.book ≡ book → report.threads ≡ (seen book.kernel).threads → report.messages ≡ in_all told_by book.calls
-    → report.ran ≡ in_all ran_by book.calls → DoesAll settings report
-does_all settings report book cpus spent named all limits created told ran known same threads messages ticks =
+    → (seen book.kernel).threads ≡ in_all created_by book.calls → report.book ≡ book → TellsItsBook report → DoesAll settings report
+does_all settings report book cpus spent named all limits created told ran known same tells =
     let count : nat_abs settings.cpus ≡ cpus = ap nat_abs (sym named) in
     record {
       limits = ap (λ (b : Pages). b.kernel.limits) same ∙ limits ∙ ap limits_on (all.cpus_are ∙ sym count);
-      threads = omega (arith, threads, known, created, all.created_all);
-      messages = omega (arith, messages, told, all.told_all);
-      ran = omega (arith, ticks, ran, all.ran_all);
+      threads = omega (arith, tells.threads, ap (λ (b : Pages). (seen b.kernel).threads) same, known, created, all.created_all);
+      messages = omega (arith, tells.messages, ap (λ (b : Pages). in_all told_by b.calls) same, told, all.told_all);
+      ran = omega (arith, tells.ran, ap (λ (b : Pages). in_all ran_by b.calls) same, ran, all.ran_all);
     }

@@ -11,8 +11,8 @@ create_all-requires g c =
     let sound = c.is_sound.ensures in
     (sound.cpus, omega (arith, sound.cpus_few), subst (λ plans. All (IsPlan sound.cpus) plans) (sym c.threads.ensures) sound.threads)
 
-pub new-requires-3 : goal.new-requires-3
-new-requires-3 g c =
+pub report_of-requires-clause-counted : goal.report_of-requires-clause-counted
+report_of-requires-clause-counted g c =
     let threads = c.args.config.now.threads in
     let count : length c.threads.result.now ≡ length threads = sym (length-map c.threads.result.now plan_of) ∙ ap (λ (plans : List Plan). length plans) c.threads.ensures in
     let all = all_posted c.cpus-cpus.result (length c.threads.result.now) threads c.open-tallied.result.purse c.create_all.new.purse c.in_ok-purse.field-0.purse count c.open-tallied.ensures.none
@@ -26,7 +26,6 @@ returns-clause-all g c =
     let count : length c.threads.result.now ≡ length threads = sym (length-map c.threads.result.now plan_of) ∙ ap (λ (plans : List Plan). length plans) c.threads.ensures in
     let all = all_posted c.cpus-cpus.result (length c.threads.result.now) threads c.open-tallied.result.purse c.create_all.new.purse spent count c.open-tallied.ensures.none
     c.in_ok-create_all.ensures c.in_ok-purse.ensures.ends.posted in
-    does_all c.args.config.now c.new-3.result c.close-book.result c.cpus-cpus.result spent c.cpus-cpus.ensures all c.close-book.ensures.limits
+    does_all c.args.config.now c.in_ok-report.report c.close-book.result c.cpus-cpus.result spent c.cpus-cpus.ensures all c.close-book.ensures.limits
     (omega (arith, c.close-book.ensures.created, ap (λ (s : Spent). s.created) c.in_ok-purse.purse-is)) (omega (arith, c.close-book.ensures.told, ap (λ (s : Spent). s.told) c.in_ok-purse.purse-is))
-    (omega (arith, c.close-book.ensures.ran, ap (λ (s : Spent). s.ran) c.in_ok-purse.purse-is)) c.known_are_created.ensures c.new-3.ensures.book c.new-3.ensures.threads c.new-3.ensures.messages
-    c.new-3.ensures.ran
+    (omega (arith, c.close-book.ensures.ran, ap (λ (s : Spent). s.ran) c.in_ok-purse.purse-is)) c.known_are_created.ensures c.in_ok-report.ensures.book c.in_ok-report.ensures.tells
