@@ -383,7 +383,7 @@ class Checker:
             self.expect(lines == told, where, f"`{name}` has {lines} lines of {pattern}, not {told}")
 
     def check_names(self):
-        for path in [ROOT / "README.md", ROOT / "CHANGELOG.md", *sorted((ROOT / "docs").glob("*.md"))]:
+        for path in [ROOT / "README.md", ROOT / "CHANGELOG.md", ROOT / "CONTRIBUTING.md", *sorted((ROOT / "docs").glob("*.md"))]:
             if not path.is_file():
                 continue
             for number, line in enumerate(path.read_text().splitlines(), 1):

@@ -51,7 +51,7 @@ def crate_of_calls(folder):
         shutil.copy(path, source / path.name.removesuffix(".in"))
     lines = (ROOT / "crates.txt").read_text().splitlines()
     names = [re.match(r"\w+", line)[0] for line in lines if re.match(r"pc_\w+.*:", line)]
-    libraries = [name for name in names if name not in ("pc_sim", "pc_tests", "pc_tests_agents")]
+    libraries = [name for name in names if name not in ("pc_explain", "pc_draw", "pc_program", "pc_sim", "pc_tests", "pc_tests_agents")]
     (folder / "crates.txt").write_text("\n".join([*lines, f"{NAME}: {' '.join(libraries)} thiserror", ""]))
     return folder / "crates" / NAME
 

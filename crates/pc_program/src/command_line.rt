@@ -123,6 +123,8 @@ const SCRIPT: &str = "the script; without it, and where it is `-`, the standard 
 const SETTINGS: &str = "the settings; without it, and where it is `-`, the standard input is read";
 
 /// Reads the words of the command line, of which the first is the program's name.
+///
+/// The fault is `Clap` where the words are no command, and where they ask for help or the version; or `OutOfMemory`.
 pub fn read_command<'a, S: AsStr>(alloc: Global, words: &'a [S]) -> Result<Command, CommandFault>
     ensures asked { IfOk result (IsAsked (subcommand_of pc_sim (map S.text words.entry.now))) }
     ensures taken { IfOk result (λ _. fault_of pc_sim (map S.text words.entry.now) ≡ []) }

@@ -34,21 +34,32 @@ pub enum Ending {
 /// What is wrong with settings, by name.
 #[derive(Clone, Copy, Debug, PartialEq, Eq)]
 pub enum BadSettings {
+    /// The text is no TOML.
     NotToml,
+    /// A key is absent, or has another type.
     BadField,
+    /// A text is no step.
     BadStep,
+    /// There are no CPUs, or more than there may be.
     BadCpus,
+    /// There are more threads than there may be.
     TooManyThreads,
+    /// A thread cannot be asked for.
     BadThread,
+    /// A restart cannot be asked for.
     BadRestart,
 }
 
 /// Why a run of agents did not settle, by name.
 #[derive(Clone, Copy, Debug, PartialEq, Eq)]
 pub enum Unsettled {
+    /// A view tells what is not of the run.
     Audit,
+    /// A message is in no view.
     Incomplete,
+    /// The kernel refused a call of the driver.
     Driver,
+    /// An agent gave the run up.
     GaveUp,
 }
 

@@ -27,6 +27,8 @@ fn flushed<W: Write + Drop>(writer: &mut BufWriter<W>, ending: Ending) -> Ending
 }
 
 /// Makes what is asked for of the text that a reader gives, writes it, and flushes it, whatever the ending.
+///
+/// Endings are those of [`make`]; where the flush fails it is `CannotRead`, whatever else there was.
 pub fn make_flushed<R: Read, W: Write + Drop>(
     alloc: Global,
     form: Form,
@@ -41,6 +43,9 @@ pub fn make_flushed<R: Read, W: Write + Drop>(
 }
 
 /// Runs agents by a settings text, writes the report, and flushes it, whatever the ending.
+///
+/// Endings are those of the faults of [`run_config`]; where the flush fails it is `CannotRead`, whatever else there was. It may
+/// wait without end, as a run may.
 pub fn run_flushed<R: Threads + Wait + Sync, S: Write + Copy + Sync, W: Write + Drop>(
     rt: &R,
     alloc: Global,

@@ -28,6 +28,9 @@ pub enum Form {
 }
 
 /// Reads a script, answers its commands one after another on a world of its own, and writes the replies.
+///
+/// Faults, what was written then, and how little is flushed are as `pc_script::run_script` has them: `Read` or `TooLong` before
+/// anything is written, `OutOfMemory` behind the replies of the commands before, and `Write`.
 pub fn run_script<R: Read, W: Write>(
     alloc: Global,
     reader: &mut R,
@@ -64,6 +67,9 @@ fn picture<R: Read, W: Write>(alloc: Global, reader: &mut R, writer: &mut W) -> 
 }
 
 /// Reads a script, makes this of it, writes it, and tells how it ended. Nothing is flushed.
+///
+/// A text that cannot be read, or is too long, and a write that fails are `CannotRead`; want of memory is `OutOfMemory`, behind
+/// what was made so far, and of a picture nothing was written.
 pub fn make<R: Read, W: Write>(alloc: Global, form: Form, reader: &mut R, writer: &mut W) -> Ending
     ensures { IfSome (R.remaining reader.old) (λ text. IsMade form text (W.contents writer.old) (W.contents writer.new) result) }
 {

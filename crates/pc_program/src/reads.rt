@@ -1,7 +1,7 @@
 //! What a script's reads of a world are answered.
 
-ghost use Rattle.std.specs.Prelude.{IfOk, IsTrue, OnErr};
-ghost use Rattle.pc_kernel.specs.Reads.{is_cpu, seen, shown};
+ghost use Rattle.std.specs.Prelude.{IfOk, OnErr};
+ghost use Rattle.pc_kernel.specs.Reads.{seen};
 ghost use Rattle.pc_world.specs.PlainWorld.{PlainWorld};
 ghost use Rattle.pc_world.specs.Shows.{ShowsWorld};
 ghost use Rattle.pc_program.specs.Reads.{IsAsleep, IsComparing, IsCompleting, IsRead, IsShowing, IsStatus};
@@ -62,7 +62,7 @@ fn asleep(world: &World, cpu: Cpu) -> Response
 /// What the agent knows.
 fn show(alloc: Global, world: &World, cpu: Cpu) -> Result<Response, AllocError>
     ensures shows { IfOk result (λ told. (w : PlainWorld) → ShowsWorld world.now w → IsShowing w cpu told) }
-    ensures no_memory { OnErr result ((w : PlainWorld) → ShowsWorld world.now w → IsTrue (is_cpu (shown w.kernel) cpu)) }
+    ensures no_memory { OnErr result ((w : PlainWorld) → ShowsWorld world.now w → TakesMemoryToRead w (Read.Show cpu)) }
 {
     reads_are_those_of_the_run();
     match world.view(cpu) {

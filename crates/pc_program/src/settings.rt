@@ -26,15 +26,21 @@ use toml::{Table, Value};
 /// A key of the settings.
 #[derive(Clone, Copy, Debug, PartialEq, Eq)]
 pub enum Field {
+    /// How many CPUs there are.
     Cpus,
     /// The list of threads.
     Threads,
+    /// The CPU on whose queue a thread begins.
     Queue,
+    /// The CPUs on which a thread may run.
     Mask,
+    /// The list of a thread's steps.
     Steps,
     /// The list of restarts.
     Restarts,
+    /// The CPU whose agent restarts.
     Cpu,
+    /// The turn before which it does.
     Turn,
 }
 
@@ -100,9 +106,10 @@ impl<T: Drop> From<AllocFailed<T>> for SettingsFault {
     }
 }
 
-/// Reads the settings that a TOML text spells.
+/// Reads the settings that a TOML text spells. Other keys are passed over.
 ///
-/// Other keys are passed over.
+/// The fault is the first in this order: `NotToml`; `BadField`, of `cpus`, of the threads, then of the restarts; `BadStep`; and
+/// `BadConfig`, as `Config::new` has them. Want of memory is told where it comes.
 pub fn read_config(alloc: Global, text: &str) -> Result<Config, SettingsFault>
     ensures { Reads (parse_document text.now) result }
 {
