@@ -602,7 +602,7 @@ fn names_that_were_cleared_are_gone_and_can_come_again(rt: HostRuntime) -> Resul
 }
 
 fn ascending(alloc: Global) -> Result<ByName<Upto>, OutOfMemory> {
-    let entries = Vec::from_array(alloc, [(2, upto(4)), (5, upto(3))])?;
+    let entries = Vec::from_array(alloc, [(2, Upto::new(4)), (5, Upto::new(3))])?;
     ByName::of_ascending(alloc, entries)
 }
 
