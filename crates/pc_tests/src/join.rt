@@ -297,15 +297,19 @@ fn turns_are_taken_in_order(rt: HostRuntime) {
 fn known(alloc: Global, entries: &[(u32, u32)]) -> Result<ByName<Upto>, OutOfMemory> {
     let mut names = ByName::new(alloc);
     for (name, last) in entries {
-        names.put(Tid(*name), Upto::new(*last))?;
+        put(&mut names, *name, *last)?;
     }
     Ok(names)
 }
 
-fn walked(alloc: Global, names: &ByName<Upto>) -> Result<Vec<(Tid, u32)>, OutOfMemory> {
+fn put(names: &mut ByName<Upto>, name: u32, last: u32) -> Result<(), OutOfMemory> {
+    names.put(Tid(name), Upto::new(last))
+}
+
+fn walked(alloc: Global, names: &ByName<Upto>) -> Result<Vec<(u32, u32)>, OutOfMemory> {
     let mut walked = Vec::new(alloc);
     for (name, value) in names.iter() {
-        walked.push((name, value.get()))?;
+        walked.push((name.index(), value.get()))?;
     }
     Ok(walked)
 }
@@ -314,15 +318,15 @@ fn walked(alloc: Global, names: &ByName<Upto>) -> Result<Vec<(Tid, u32)>, OutOfM
 fn walked_in_two(
     alloc: Global,
     names: &ByName<Upto>,
-) -> Result<(usize, Vec<(Tid, u32)>), OutOfMemory> {
+) -> Result<(usize, Vec<(u32, u32)>), OutOfMemory> {
     let mut walked = Vec::new(alloc);
     let walks = names.walks();
     for (name, value) in walks.near {
-        walked.push((name, value.get()))?;
+        walked.push((name.index(), value.get()))?;
     }
     let near = walked.len();
     for (name, value) in walks.far {
-        walked.push((name, value.get()))?;
+        walked.push((name.index(), value.get()))?;
     }
     Ok((near, walked))
 }
@@ -335,39 +339,163 @@ fn known_of(names: &ByName<Upto>, name: u32) -> Option<u32> {
     names.get(Tid(name)).map(|value| value.get())
 }
 
-fn next(names: &ByName<Upto>, from: u32) -> Option<Tid> {
-    names.next(Tid(from))
+fn next(names: &ByName<Upto>, from: u32) -> Option<u32> {
+    Some(names.next(Tid(from))?.index())
+}
+
+/// What is done to how far names are known, or told of it.
+#[derive(Clone, Copy)]
+enum Far<'a> {
+    Puts(u32, u32),
+    /// All names below this one are put, the greatest first, each known up to one more than its half.
+    PutsDown(u32),
+    Clears,
+    /// Their copy takes their place.
+    Copies,
+    /// They are joined with these, and whether they cover these then, and these them.
+    Joins(&'a [(u32, u32)], bool, bool),
+    Holds(u32, Option<u32>),
+    Next(u32, Option<u32>),
+    Walks(&'a [(u32, u32)]),
+    /// How many are walked in the first part, and all of them.
+    WalksInTwo(usize, &'a [(u32, u32)]),
+    /// They are walked, and each is found, as `PutsDown` put them.
+    Halves(u32),
+    /// Whether they are equal to these.
+    Equals(&'a [(u32, u32)], bool),
+}
+
+fn puts_down(names: &mut ByName<Upto>, end: u32) -> Result<bool, OutOfMemory> {
+    for name in (0..end).rev() {
+        put(names, name, name / 2 + 1)?;
+    }
+    Ok(true)
+}
+
+fn copies(names: &mut ByName<Upto>) -> Result<bool, OutOfMemory> {
+    *names = names.try_copy()?;
+    Ok(true)
+}
+
+/// Joins names, and tells whether each of both covers the other then.
+fn joins_names(
+    alloc: Global,
+    names: &mut ByName<Upto>,
+    others: &[(u32, u32)],
+) -> Result<(bool, bool), OutOfMemory> {
+    let other = known(alloc, others)?;
+    names.join_from(&other)?;
+    Ok((covers(names, &other), covers(&other, names)))
+}
+
+fn walks(alloc: Global, names: &ByName<Upto>, wanted: &[(u32, u32)]) -> Result<bool, OutOfMemory> {
+    Ok(walked(alloc, names)?.as_slice() == wanted)
+}
+
+fn walks_in_two(
+    alloc: Global,
+    names: &ByName<Upto>,
+    near: usize,
+    wanted: &[(u32, u32)],
+) -> Result<bool, OutOfMemory> {
+    let (first, all) = walked_in_two(alloc, names)?;
+    Ok(first == near && all.as_slice() == wanted)
+}
+
+fn halves(alloc: Global, end: u32) -> Result<Vec<(u32, u32)>, OutOfMemory> {
+    let mut all = Vec::new(alloc);
+    for name in 0..end {
+        all.push((name, name / 2 + 1))?;
+    }
+    Ok(all)
+}
+
+fn are_halves(alloc: Global, names: &ByName<Upto>, end: u32) -> Result<bool, OutOfMemory> {
+    for name in 0..end {
+        if known_of(names, name) != Some(name / 2 + 1) {
+            return Ok(false);
+        }
+    }
+    walks(alloc, names, halves(alloc, end)?.as_slice())
+}
+
+fn equals(alloc: Global, names: &ByName<Upto>, others: &[(u32, u32)]) -> Result<bool, OutOfMemory> {
+    Ok(are_equal(names, &known(alloc, others)?))
+}
+
+fn clears(names: &mut ByName<Upto>) -> Result<bool, OutOfMemory> {
+    names.clear();
+    Ok(true)
+}
+
+fn puts_far(names: &mut ByName<Upto>, name: u32, last: u32) -> Result<bool, OutOfMemory> {
+    put(names, name, last)?;
+    Ok(true)
+}
+
+/// Whether that is told of the names.
+fn is_told(alloc: Global, names: &ByName<Upto>, step: &Far<'_>) -> Result<bool, OutOfMemory> {
+    match *step {
+        Far::Holds(name, wanted) => Ok(known_of(names, name) == wanted),
+        Far::Next(from, wanted) => Ok(next(names, from) == wanted),
+        Far::Walks(wanted) => walks(alloc, names, wanted),
+        Far::WalksInTwo(near, wanted) => walks_in_two(alloc, names, near, wanted),
+        Far::Halves(end) => are_halves(alloc, names, end),
+        Far::Equals(others, wanted) => Ok(equals(alloc, names, others)? == wanted),
+        _ => Ok(false),
+    }
+}
+
+fn is_done(alloc: Global, names: &mut ByName<Upto>, step: &Far<'_>) -> Result<bool, OutOfMemory> {
+    match *step {
+        Far::Puts(name, last) => puts_far(names, name, last),
+        Far::PutsDown(end) => puts_down(names, end),
+        Far::Clears => clears(names),
+        Far::Copies => copies(names),
+        Far::Joins(others, first, other) => {
+            Ok(joins_names(alloc, names, others)? == (first, other))
+        }
+        _ => is_told(alloc, names, step),
+    }
+}
+
+/// The place of the first step that does not hold of the names and the steps before it.
+fn first_wrong_of_names(
+    alloc: Global,
+    names: &mut ByName<Upto>,
+    steps: &[Far<'_>],
+) -> Result<Option<usize>, OutOfMemory> {
+    for (place, step) in steps.iter().enumerate() {
+        if !is_done(alloc, names, step)? {
+            return Ok(Some(place));
+        }
+    }
+    Ok(None)
+}
+
+/// The steps hold of names that are known so far.
+fn each_is(
+    rt: &impl Abort,
+    alloc: Global,
+    entries: &[(u32, u32)],
+    steps: &[Far<'_>],
+) -> Result<(), Fail> {
+    let mut names = known(alloc, entries)?;
+    assert_eq!(rt; first_wrong_of_names(alloc, &mut names, steps)?, None);
+    Ok(())
 }
 
 #[test]
 fn names_are_walked_in_order(rt: HostRuntime) -> Result<(), Fail> {
-    let names = known(rt.alloc(), &[(9, 1), (2, 4), (5, 3)])?;
-    assert_eq!(rt;
-        walked(rt.alloc(), &names)?.as_slice(),
-        [(Tid(2), 4), (Tid(5), 3), (Tid(9), 1)].as_slice()
-    );
-    Ok(())
+    let steps = [Far::Walks(&[(2, 4), (5, 3), (9, 1)])];
+    each_is(&rt, rt.alloc(), &[(9, 1), (2, 4), (5, 3)], &steps)
 }
 
 #[test]
 fn near_names_are_walked_before_the_others(rt: HostRuntime) -> Result<(), Fail> {
-    let names = known(
-        rt.alloc(),
-        &[(65_536, 3), (9, 1), (1_000_000, 4), (65_535, 2)],
-    )?;
-    let (near, all) = walked_in_two(rt.alloc(), &names)?;
-    assert_eq!(rt; near, 2);
-    assert_eq!(rt;
-        all.as_slice(),
-        [
-            (Tid(9), 1),
-            (Tid(65_535), 2),
-            (Tid(65_536), 3),
-            (Tid(1_000_000), 4),
-        ]
-        .as_slice()
-    );
-    Ok(())
+    let names = [(65_536, 3), (9, 1), (1_000_000, 4), (65_535, 2)];
+    let steps = [Far::WalksInTwo(2, &[(9, 1), (65_535, 2), (65_536, 3), (1_000_000, 4)])];
+    each_is(&rt, rt.alloc(), &names, &steps)
 }
 
 /// Names with values, others with values, and whether they are equal.
@@ -387,10 +515,8 @@ const EQUAL: [(&[(u32, u32)], &[(u32, u32)], bool); 11] = [
 
 #[test]
 fn names_are_equal_where_they_hold_the_same(rt: HostRuntime) -> Result<(), Fail> {
-    for (place, (first, other, wanted)) in EQUAL.iter().enumerate() {
-        let names = known(rt.alloc(), first)?;
-        let others = known(rt.alloc(), other)?;
-        assert!(rt; are_equal(&names, &others) == *wanted, "row {place}");
+    for (first, other, wanted) in EQUAL.iter() {
+        each_is(&rt, rt.alloc(), first, &[Far::Equals(other, *wanted)])?;
     }
     Ok(())
 }
@@ -409,114 +535,86 @@ fn names_far_apart_are_found_and_walked(rt: HostRuntime) -> Result<(), Fail> {
         (65_536, 10),
         (65_535, 9),
     ];
-    let names = known(rt.alloc(), far.as_slice())?;
-    assert_eq!(rt;
-        walked(rt.alloc(), &names)?.as_slice(),
-        [
-            (Tid(0), 1),
-            (Tid(63), 2),
-            (Tid(64), 3),
-            (Tid(65), 4),
-            (Tid(127), 5),
-            (Tid(128), 6),
-            (Tid(65_535), 9),
-            (Tid(65_536), 10),
-            (Tid(1_000_000), 7),
-            (Tid(4_294_967_295), 8),
-        ]
-        .as_slice()
-    );
-    for (name, wanted) in [
-        (63, Some(2)),
-        (64, Some(3)),
-        (66, None),
-        (126, None),
-        (192, None),
-        (65_534, None),
-        (65_535, Some(9)),
-        (65_536, Some(10)),
-        (65_537, None),
-        (4_294_967_295, Some(8)),
-    ] {
-        assert_eq!(rt; known_of(&names, name), wanted);
-    }
-    for (from, wanted) in [
-        (1, Tid(63)),
-        (64, Tid(64)),
-        (66, Tid(127)),
-        (129, Tid(65_535)),
-        (65_536, Tid(65_536)),
-        (65_537, Tid(1_000_000)),
-        (1_000_001, Tid(4_294_967_295)),
-    ] {
-        assert_eq!(rt; next(&names, from), Some(wanted));
-    }
-    Ok(())
+    let steps = [
+        Far::Walks(&[
+            (0, 1),
+            (63, 2),
+            (64, 3),
+            (65, 4),
+            (127, 5),
+            (128, 6),
+            (65_535, 9),
+            (65_536, 10),
+            (1_000_000, 7),
+            (4_294_967_295, 8),
+        ]),
+        Far::Holds(63, Some(2)),
+        Far::Holds(64, Some(3)),
+        Far::Holds(66, None),
+        Far::Holds(126, None),
+        Far::Holds(192, None),
+        Far::Holds(65_534, None),
+        Far::Holds(65_535, Some(9)),
+        Far::Holds(65_536, Some(10)),
+        Far::Holds(65_537, None),
+        Far::Holds(4_294_967_295, Some(8)),
+        Far::Next(1, Some(63)),
+        Far::Next(64, Some(64)),
+        Far::Next(66, Some(127)),
+        Far::Next(129, Some(65_535)),
+        Far::Next(65_536, Some(65_536)),
+        Far::Next(65_537, Some(1_000_000)),
+        Far::Next(1_000_001, Some(4_294_967_295)),
+    ];
+    each_is(&rt, rt.alloc(), &far, &steps)
 }
 
 #[test]
 fn names_put_in_descending_order_are_walked_in_ascending_order(
     rt: HostRuntime,
 ) -> Result<(), Fail> {
-    let mut names = ByName::new(rt.alloc());
-    for name in (0..200_u32).rev() {
-        names.put(Tid(name), Upto::new(name / 2 + 1))?;
-    }
-    let copy = names.try_copy()?;
-    let all = walked(rt.alloc(), &copy)?;
-    assert_eq!(rt; all.len(), 200);
-    for name in 0..200_u32 {
-        assert_eq!(rt;
-            all.get(name as usize).copied(),
-            Some((Tid(name), name / 2 + 1))
-        );
-        assert_eq!(rt; known_of(&names, name), Some(name / 2 + 1));
-    }
-    Ok(())
-}
-
-/// Joins names, and tells whether each of both covers the other then.
-fn joins_names(names: &mut ByName<Upto>, other: &ByName<Upto>) -> Result<[bool; 2], OutOfMemory> {
-    names.join_from(other)?;
-    Ok([names.covers(other), other.covers(names)])
+    let steps = [Far::PutsDown(200), Far::Copies, Far::Halves(200)];
+    each_is(&rt, rt.alloc(), &[], &steps)
 }
 
 #[test]
 fn near_and_far_names_are_joined(rt: HostRuntime) -> Result<(), Fail> {
-    let mut names = known(rt.alloc(), &[(65_535, 1), (65_536, 2)])?;
-    let other = known(rt.alloc(), &[(65_536, 3), (4_294_967_295, 4)])?;
-    assert_eq!(rt; joins_names(&mut names, &other)?, [true, false]);
-    assert_eq!(rt;
-        walked(rt.alloc(), &names)?.as_slice(),
-        [(Tid(65_535), 1), (Tid(65_536), 3), (Tid(4_294_967_295), 4)].as_slice()
-    );
-    Ok(())
+    let steps = [
+        Far::Joins(&[(65_536, 3), (4_294_967_295, 4)], true, false),
+        Far::Walks(&[(65_535, 1), (65_536, 3), (4_294_967_295, 4)]),
+    ];
+    each_is(&rt, rt.alloc(), &[(65_535, 1), (65_536, 2)], &steps)
 }
 
 #[test]
 fn names_that_were_cleared_are_gone_and_can_come_again(rt: HostRuntime) -> Result<(), Fail> {
-    let mut names = known(rt.alloc(), &[(0, 1), (70, 2), (65_536, 3)])?;
-    names.clear();
-    for name in [0, 70, 65_536] {
-        assert_eq!(rt; known_of(&names, name), None);
-    }
-    assert_eq!(rt; next(&names, 0), None);
-    names.put(Tid(70), Upto::new(5))?;
-    names.put(Tid(65_536), Upto::new(6))?;
-    assert_eq!(rt;
-        walked(rt.alloc(), &names)?.as_slice(),
-        [(Tid(70), 5), (Tid(65_536), 6)].as_slice()
-    );
-    Ok(())
+    let steps = [
+        Far::Clears,
+        Far::Holds(0, None),
+        Far::Holds(70, None),
+        Far::Holds(65_536, None),
+        Far::Next(0, None),
+        Far::Puts(70, 5),
+        Far::Puts(65_536, 6),
+        Far::Walks(&[(70, 5), (65_536, 6)]),
+    ];
+    each_is(&rt, rt.alloc(), &[(0, 1), (70, 2), (65_536, 3)], &steps)
+}
+
+fn ascending(alloc: Global) -> Result<ByName<Upto>, OutOfMemory> {
+    let entries = Vec::from_array(alloc, [(2, Upto::new(4)), (5, Upto::new(3))])?;
+    ByName::of_ascending(alloc, entries)
 }
 
 #[test]
 fn a_list_of_names_is_held(rt: HostRuntime) -> Result<(), Fail> {
-    let entries = Vec::from_array(rt.alloc(), [(2, Upto::new(4)), (5, Upto::new(3))])?;
-    let names = ByName::of_ascending(rt.alloc(), entries)?;
-    for (name, wanted) in [(2, Some(4)), (5, Some(3)), (3, None)] {
-        assert_eq!(rt; known_of(&names, name), wanted);
-    }
-    assert_eq!(rt; next(&names, 6), None);
+    let steps = [
+        Far::Holds(2, Some(4)),
+        Far::Holds(5, Some(3)),
+        Far::Holds(3, None),
+        Far::Next(6, None),
+    ];
+    let mut names = ascending(rt.alloc())?;
+    assert_eq!(rt; first_wrong_of_names(rt.alloc(), &mut names, &steps)?, None);
     Ok(())
 }

@@ -93,41 +93,92 @@ fn answer(alloc: Global, view: &View, asker: &View) -> Result<Delta, OutOfMemory
     delta_since(alloc, view, &Digest::of(alloc, asker)?)
 }
 
+fn digest(alloc: Global, view: &View) -> Result<Digest, OutOfMemory> {
+    Digest::of(alloc, view)
+}
+
+fn is_same_digest(first: &Digest, other: &Digest) -> bool {
+    first == other
+}
+
+fn copy_of_digest(digest: &Digest) -> Result<Digest, OutOfMemory> {
+    digest.try_copy()
+}
+
 fn is_copied(alloc: Global, view: &View) -> Result<bool, OutOfMemory> {
-    let digest = Digest::of(alloc, view)?;
-    Ok(digest.try_copy()? == digest)
+    let digest = digest(alloc, view)?;
+    Ok(is_same_digest(&copy_of_digest(&digest)?, &digest))
+}
+
+fn has(alloc: Global, view: &View, thread: u32, number: u32) -> Result<bool, OutOfMemory> {
+    Ok(digest(alloc, view)?.has(Tid(thread), number))
+}
+
+fn is_digest_empty(alloc: Global, view: &View) -> Result<bool, OutOfMemory> {
+    Ok(digest(alloc, view)?.is_empty())
+}
+
+/// The answer to an empty digest.
+fn all_told(alloc: Global, view: &View) -> Result<Delta, OutOfMemory> {
+    delta_since(alloc, view, &Digest::new(alloc))
+}
+
+fn answer_beyond(alloc: Global, view: &View, asker: &View) -> Result<Delta, OutOfMemory> {
+    delta_beyond(alloc, view, asker)
+}
+
+fn have_same_parts(first: &Delta, other: &Delta) -> bool {
+    first.parts() == other.parts()
+}
+
+fn copy_of_delta(told: &Delta) -> Result<Delta, OutOfMemory> {
+    told.try_copy()
+}
+
+fn copy_of_view(view: &View) -> Result<View, OutOfMemory> {
+    view.try_copy()
+}
+
+fn is_same_view(first: &View, other: &View) -> bool {
+    first == other
 }
 
 fn is_answered_alike(alloc: Global, view: &View, asker: &View) -> Result<bool, OutOfMemory> {
-    let beyond = delta_beyond(alloc, view, asker)?;
-    Ok(beyond.parts() == answer(alloc, view, asker)?.parts())
+    let beyond = answer_beyond(alloc, view, asker)?;
+    Ok(have_same_parts(&beyond, &answer(alloc, view, asker)?))
+}
+
+/// The view that asks, once it took in the answer.
+fn filled(alloc: Global, view: &View, asker: &View) -> Result<View, OutOfMemory> {
+    let told = answer(alloc, view, asker)?;
+    let mut other = copy_of_view(asker)?;
+    take_in(&mut other, &told)?;
+    Ok(other)
+}
+
+fn have_same_digest(alloc: Global, first: &View, other: &View) -> Result<bool, OutOfMemory> {
+    Ok(is_same_digest(&digest(alloc, first)?, &digest(alloc, other)?))
+}
+
+fn is_answer_copied(alloc: Global, view: &View, asker: &View) -> Result<bool, OutOfMemory> {
+    let told = answer(alloc, view, asker)?;
+    Ok(have_same_parts(&copy_of_delta(&told)?, &told))
 }
 
 fn fills(alloc: Global, view: &View, asker: &View) -> Result<(bool, bool, bool), OutOfMemory> {
-    let told = answer(alloc, view, asker)?;
-    let mut other = asker.try_copy()?;
-    take_in(&mut other, &told)?;
-    let copy = told.try_copy()?;
-    Ok((
-        other == *view,
-        Digest::of(alloc, &other)? == Digest::of(alloc, view)?,
-        copy.parts() == told.parts(),
-    ))
+    let other = filled(alloc, view, asker)?;
+    let has_same_digest = have_same_digest(alloc, &other, view)?;
+    let is_copied = is_answer_copied(alloc, view, asker)?;
+    Ok((is_same_view(&other, view), has_same_digest, is_copied))
 }
 
 /// Whether that is told of the view's digest.
 fn digest_tells(alloc: Global, view: &View, step: &Step) -> Result<bool, Fail> {
     match *step {
-        Step::Has(thread, number, wanted) => {
-            Ok(Digest::of(alloc, view)?.has(Tid(thread), number) == wanted)
-        }
-        Step::DigestEmpty(wanted) => Ok(Digest::of(alloc, view)?.is_empty() == wanted),
+        Step::Has(thread, number, wanted) => Ok(has(alloc, view, thread, number)? == wanted),
+        Step::DigestEmpty(wanted) => Ok(is_digest_empty(alloc, view)? == wanted),
         Step::DigestCopied => Ok(is_copied(alloc, view)?),
-        Step::TellsAll(count, first) => tells(
-            &delta_since(alloc, view, &Digest::new(alloc))?,
-            count,
-            first,
-        ),
+        Step::TellsAll(count, first) => tells(&all_told(alloc, view)?, count, first),
         Step::TellsItself(count) => tells(&answer(alloc, view, view)?, count, None),
         _ => Ok(false),
     }
@@ -136,12 +187,12 @@ fn digest_tells(alloc: Global, view: &View, step: &Step) -> Result<bool, Fail> {
 fn holds(alloc: Global, view: &mut View, asker: &View, step: &Step) -> Result<bool, Fail> {
     match *step {
         Step::Takes(first, then) => takes(alloc, view, first, then),
-        Step::Three => Ok(*view == view_of_three(alloc)?),
+        Step::Three => Ok(is_same_view(view, &view_of_three(alloc)?)),
         Step::Held(upto, early) => Ok(held(view) == Some((upto, early))),
         Step::Reports(phase, mask, ran) => Ok(reports(view) == Some((phase, mask, ran))),
         Step::Answers(count, first) => tells(&answer(alloc, view, asker)?, count, first),
         Step::AnswersBeyond(count, first) => {
-            tells(&delta_beyond(alloc, view, asker)?, count, first)
+            tells(&answer_beyond(alloc, view, asker)?, count, first)
         }
         Step::AnswersAlike => Ok(is_answered_alike(alloc, view, asker)?),
         Step::Fills(equal, digest, copy) => {
@@ -160,7 +211,22 @@ fn first_view(alloc: Global, three: bool) -> Result<View, Fail> {
     }
 }
 
-/// The place of the first step that does not hold of such a view, and one that asks, after the steps before it.
+/// The place of the first step that does not hold of the view, and the one that asks, after the steps before it.
+fn first_wrong_of(
+    alloc: Global,
+    view: &mut View,
+    asker: &View,
+    steps: &[Step],
+) -> Result<Option<usize>, Fail> {
+    for (place, step) in steps.iter().enumerate() {
+        if !holds(alloc, view, asker, step)? {
+            return Ok(Some(place));
+        }
+    }
+    Ok(None)
+}
+
+/// The same of such a view, and one that asks.
 fn first_wrong(
     alloc: Global,
     three: bool,
@@ -169,12 +235,7 @@ fn first_wrong(
 ) -> Result<Option<usize>, Fail> {
     let mut view = first_view(alloc, three)?;
     let asker = first_view(alloc, asks)?;
-    for (place, step) in steps.iter().enumerate() {
-        if !holds(alloc, &mut view, &asker, step)? {
-            return Ok(Some(place));
-        }
-    }
-    Ok(None)
+    first_wrong_of(alloc, &mut view, &asker, steps)
 }
 
 /// The steps hold of such a view, and one that asks.
