@@ -27,16 +27,20 @@ fn make_buffered<R: Read, W: Write + Drop>(
     }
 }
 
-/// The words of the command line, with the program's own name in front.
-fn words_of<R: env::Env + Alloc>(rt: &R) -> io::Result<Vec<String<R::A>, R::A>> {
+/// The words of the command line.
+fn given_words<R: env::Env + Alloc>(rt: &R) -> io::Result<Vec<String<R::A>, R::A>> {
     let mut words = Vec::new(rt.alloc());
-    for (place, word) in env::args(rt)?.enumerate() {
-        let word = if place == 0 {
-            String::from_str(rt.alloc(), "pc-sim")?
-        } else {
-            word
-        };
+    for word in env::args(rt)? {
         words.push(word)?;
+    }
+    Ok(words)
+}
+
+/// The same, with the program's own name in front in place of its file's.
+fn words_of<R: env::Env + Alloc>(rt: &R) -> io::Result<Vec<String<R::A>, R::A>> {
+    let mut words = given_words(rt)?;
+    if let Some(name) = words.first_mut() {
+        *name = String::from_str(rt.alloc(), "pc-sim")?;
     }
     Ok(words)
 }

@@ -27,79 +27,24 @@ fn has_line(text: &[u8], wanted: &'static [u8]) -> bool {
     false
 }
 
-#[test]
-fn a_script_is_drawn_over_memory(rt: HostRuntime) {
-    let alloc = rt.alloc();
-    for (script, ending, title) in [
-        (
-            b"enclave 2 8 100 16 1000\ntick 5\ntick 0\n".as_slice(),
-            Ending::Finished,
-            b"<title>commands 3, refused 1</title>".as_slice(),
-        ),
-        (
-            b"wake t0\n\nwalk\n".as_slice(),
-            Ending::DrawnToFault,
-            b"<title>commands 1, refused 1, fault line 3</title>".as_slice(),
-        ),
-    ] {
-        let mut reader = script;
-        let mut writer = Vec::new(alloc);
-        let ended = make(alloc, Form::Picture, &mut reader, &mut writer);
-        assert_eq!(rt; ended, ending);
-        assert!(rt; has_line(writer.as_slice(), title));
-        assert!(rt; has_line(writer.as_slice(), b"</svg>"));
-    }
+/// Whether the script is drawn to this ending, with this title, as a whole picture.
+fn is_drawn(alloc: Global, script: &'static [u8], ending: Ending, title: &'static [u8]) -> bool {
+    let mut reader = script;
+    let mut writer = Vec::new(alloc);
+    make(alloc, Form::Picture, &mut reader, &mut writer) == ending
+        && has_line(writer.as_slice(), title)
+        && has_line(writer.as_slice(), b"</svg>")
 }
 
-static REPLAY: [&str; 2] = ["pc-sim", "replay"];
-
-static REPLAY_FILE: [&str; 3] = ["pc-sim", "replay", "a.script"];
-
-static RUN: [&str; 2] = ["pc-sim", "run"];
-
-static RUN_FILE: [&str; 4] = ["pc-sim", "run", "s.toml", "--per-cpu"];
-
-static RUN_FLAG_FIRST: [&str; 4] = ["pc-sim", "run", "--per-cpu", "s.toml"];
-
-static EXPLAIN_FILE: [&str; 3] = ["pc-sim", "explain", "a.script"];
-
-static EXPLAIN_DASH: [&str; 3] = ["pc-sim", "explain", "-"];
-
-static DRAW_FILE: [&str; 3] = ["pc-sim", "draw", "a.script"];
-
-static DRAW_DASH: [&str; 3] = ["pc-sim", "draw", "-"];
-
-static RUN_DRAW: [&str; 4] = ["pc-sim", "run", "--draw", "s.toml"];
-
-static RUN_BOTH: [&str; 4] = ["pc-sim", "run", "--per-cpu", "--draw"];
-
-static RUN_DASH: [&str; 3] = ["pc-sim", "run", "-"];
-
-static NOTHING: [&str; 1] = ["pc-sim"];
-
-static HELP_AS_COMMAND: [&str; 2] = ["pc-sim", "help"];
-
-static ANOTHER_COMMAND: [&str; 2] = ["pc-sim", "walk"];
-
-static TWO_FILES: [&str; 4] = ["pc-sim", "run", "a", "b"];
-
-static FLAG_OF_ANOTHER: [&str; 3] = ["pc-sim", "replay", "--per-cpu"];
-
-static FLAG_WITH_VALUE: [&str; 3] = ["pc-sim", "run", "--per-cpu=true"];
-
-static FLAG_TWICE: [&str; 4] = ["pc-sim", "run", "--per-cpu", "--per-cpu"];
-
-static HELP: [&str; 2] = ["pc-sim", "--help"];
-
-static HELP_OF_RUN: [&str; 3] = ["pc-sim", "run", "--help"];
-
-static HELP_OF_EXPLAIN: [&str; 3] = ["pc-sim", "explain", "--help"];
-
-static HELP_OF_DRAW: [&str; 3] = ["pc-sim", "draw", "--help"];
-
-static DRAW_FLAG: [&str; 3] = ["pc-sim", "draw", "--draw"];
-
-static VERSION: [&str; 2] = ["pc-sim", "--version"];
+#[test]
+fn a_script_is_drawn_over_memory(rt: HostRuntime) {
+    let whole = b"enclave 2 8 100 16 1000\ntick 5\ntick 0\n";
+    let title = b"<title>commands 3, refused 1</title>";
+    assert!(rt; is_drawn(rt.alloc(), whole, Ending::Finished, title));
+    let cut = b"wake t0\n\nwalk\n";
+    let title = b"<title>commands 1, refused 1, fault line 3</title>";
+    assert!(rt; is_drawn(rt.alloc(), cut, Ending::DrawnToFault, title));
+}
 
 /// What a command line asks for: which command, of which file, and how a report is told.
 #[derive(Clone, Copy, Debug, PartialEq, Eq)]
@@ -130,39 +75,74 @@ fn is_named(file: &Option<String>, wanted: Option<&'static str>) -> bool {
     }
 }
 
-// `-` is the standard input, as no file is.
+/// Whether the words ask for this, of this file (`-` is the standard input, as no file is).
+fn asks_for(
+    alloc: Global,
+    words: &'static [&'static str],
+    wanted: Asked,
+    named: Option<&'static str>,
+) -> Result<bool, CommandFault> {
+    let (asked, file) = read_off(alloc, words)?;
+    Ok(asked == wanted && is_named(&file, named))
+}
+
+/// The place of the first words that ask for something else.
+fn first_other(
+    alloc: Global,
+    rows: &[(&'static [&'static str], Asked, Option<&'static str>)],
+) -> Result<Option<usize>, CommandFault> {
+    for (place, (words, asked, file)) in rows.iter().enumerate() {
+        if !asks_for(alloc, words, *asked, *file)? {
+            return Ok(Some(place));
+        }
+    }
+    Ok(None)
+}
+
 #[test]
 fn commands_are_read_off_the_command_line(rt: HostRuntime) -> Result<(), Fail> {
-    for (words, command, wanted) in [
-        (REPLAY.as_slice(), Asked::Replay, None),
-        (REPLAY_FILE.as_slice(), Asked::Replay, Some("a.script")),
-        (EXPLAIN_FILE.as_slice(), Asked::Explain, Some("a.script")),
-        (EXPLAIN_DASH.as_slice(), Asked::Explain, None),
-        (DRAW_FILE.as_slice(), Asked::Draw, Some("a.script")),
-        (DRAW_DASH.as_slice(), Asked::Draw, None),
-        (RUN.as_slice(), Asked::Run(ReportForm::Totals), None),
-        (RUN_DASH.as_slice(), Asked::Run(ReportForm::Totals), None),
-        (RUN_BOTH.as_slice(), Asked::Run(ReportForm::Picture), None),
+    const TOTALS: Asked = Asked::Run(ReportForm::Totals);
+    const EACH_CPU: Asked = Asked::Run(ReportForm::EachCpu);
+    const PICTURE: Asked = Asked::Run(ReportForm::Picture);
+    const ROWS: [(&[&str], Asked, Option<&str>); 12] = [
+        (&["pc-sim", "replay"], Asked::Replay, None),
         (
-            RUN_FILE.as_slice(),
-            Asked::Run(ReportForm::EachCpu),
+            &["pc-sim", "replay", "a.script"],
+            Asked::Replay,
+            Some("a.script"),
+        ),
+        (
+            &["pc-sim", "explain", "a.script"],
+            Asked::Explain,
+            Some("a.script"),
+        ),
+        (&["pc-sim", "explain", "-"], Asked::Explain, None),
+        (
+            &["pc-sim", "draw", "a.script"],
+            Asked::Draw,
+            Some("a.script"),
+        ),
+        (&["pc-sim", "draw", "-"], Asked::Draw, None),
+        (&["pc-sim", "run"], TOTALS, None),
+        (&["pc-sim", "run", "-"], TOTALS, None),
+        (&["pc-sim", "run", "--per-cpu", "--draw"], PICTURE, None),
+        (
+            &["pc-sim", "run", "s.toml", "--per-cpu"],
+            EACH_CPU,
             Some("s.toml"),
         ),
         (
-            RUN_FLAG_FIRST.as_slice(),
-            Asked::Run(ReportForm::EachCpu),
+            &["pc-sim", "run", "--per-cpu", "s.toml"],
+            EACH_CPU,
             Some("s.toml"),
         ),
         (
-            RUN_DRAW.as_slice(),
-            Asked::Run(ReportForm::Picture),
+            &["pc-sim", "run", "--draw", "s.toml"],
+            PICTURE,
             Some("s.toml"),
         ),
-    ] {
-        let (told, file) = read_off(rt.alloc(), words)?;
-        assert_eq!(rt; told, command);
-        assert!(rt; is_named(&file, wanted));
-    }
+    ];
+    assert_eq!(rt; first_other(rt.alloc(), &ROWS)?, None);
     Ok(())
 }
 
@@ -174,38 +154,56 @@ fn is_wrong(alloc: Global, words: &'static [&'static str]) -> Option<bool> {
     }
 }
 
+/// The place of the first words of which something else is told.
+fn first_not(alloc: Global, rows: &[&'static [&'static str]], wrong: bool) -> Option<usize> {
+    for (place, words) in rows.iter().enumerate() {
+        if is_wrong(alloc, words) != Some(wrong) {
+            return Some(place);
+        }
+    }
+    None
+}
+
 #[test]
 fn other_words_are_no_command(rt: HostRuntime) {
-    for words in [
-        NOTHING.as_slice(),
-        HELP_AS_COMMAND.as_slice(),
-        ANOTHER_COMMAND.as_slice(),
-        TWO_FILES.as_slice(),
-        FLAG_OF_ANOTHER.as_slice(),
-        DRAW_FLAG.as_slice(),
-        FLAG_WITH_VALUE.as_slice(),
-        FLAG_TWICE.as_slice(),
-    ] {
-        assert_eq!(rt; is_wrong(rt.alloc(), words), Some(true));
-    }
+    const ROWS: [&[&str]; 8] = [
+        &["pc-sim"],
+        &["pc-sim", "help"],
+        &["pc-sim", "walk"],
+        &["pc-sim", "run", "a", "b"],
+        &["pc-sim", "replay", "--per-cpu"],
+        &["pc-sim", "draw", "--draw"],
+        &["pc-sim", "run", "--per-cpu=true"],
+        &["pc-sim", "run", "--per-cpu", "--per-cpu"],
+    ];
+    assert_eq!(rt; first_not(rt.alloc(), &ROWS, true), None);
 }
 
 #[test]
 fn help_and_the_version_are_told(rt: HostRuntime) {
-    for words in [
-        HELP.as_slice(),
-        HELP_OF_RUN.as_slice(),
-        HELP_OF_EXPLAIN.as_slice(),
-        HELP_OF_DRAW.as_slice(),
-        VERSION.as_slice(),
-    ] {
-        assert_eq!(rt; is_wrong(rt.alloc(), words), Some(false));
+    const ROWS: [&[&str]; 5] = [
+        &["pc-sim", "--help"],
+        &["pc-sim", "run", "--help"],
+        &["pc-sim", "explain", "--help"],
+        &["pc-sim", "draw", "--help"],
+        &["pc-sim", "--version"],
+    ];
+    assert_eq!(rt; first_not(rt.alloc(), &ROWS, false), None);
+}
+
+/// The place of the first ending with another status or message.
+fn first_ends_otherwise(rows: &[(Ending, u8, Option<&'static str>)]) -> Option<usize> {
+    for (place, (ending, status, message)) in rows.iter().enumerate() {
+        if ending.status() != *status || ending.message() != *message {
+            return Some(place);
+        }
     }
+    None
 }
 
 #[test]
 fn endings_have_their_status_and_text(rt: HostRuntime) {
-    for (ending, status, message) in [
+    let rows = [
         (Ending::Finished, 0, None),
         (Ending::from(Ok(Outcome::FaultLine(3))), 1, None),
         (
@@ -224,8 +222,6 @@ fn endings_have_their_status_and_text(rt: HostRuntime) {
             4,
             Some("pc-sim: out of memory"),
         ),
-    ] {
-        assert_eq!(rt; ending.status(), status);
-        assert!(rt; ending.message() == message);
-    }
+    ];
+    assert_eq!(rt; first_ends_otherwise(&rows), None);
 }
