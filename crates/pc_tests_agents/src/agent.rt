@@ -8,7 +8,6 @@ use pc_messages::{Cpu, Kind, Mask, Message, Tid};
 use pc_view::View;
 use std::alloc::Global;
 use std::process::Abort;
-use std::test::Fail;
 
 /// Two CPUs, eight threads.
 fn two_cpus(alloc: Global) -> Option<Kernel> {
@@ -74,7 +73,10 @@ fn delivers(agent: &mut Agent, wire: &KeptWire, place: usize) -> bool {
 
 /// How many parts the delta has that was sent at this place.
 fn parts_of(wire: &KeptWire, place: usize) -> Option<usize> {
-    Some(wire.sent().get(place)?.parts().len())
+    match wire.sent().get(place) {
+        Some(delta) => Some(delta.parts().len()),
+        None => None,
+    }
 }
 
 /// The agent answers the other's digest.
@@ -105,28 +107,39 @@ fn answered_beyond(
     Some(agent.answer_beyond(other.view(), wire))
 }
 
-/// A delta that tells that t5 was created, ready, with a mask of both CPUs; the kernels here have no such thread.
-fn tells_of_t5(alloc: Global) -> Option<Delta> {
-    let message = Message {
-        thread: Tid(5),
-        number: 1,
-        kind: Kind::Created {
-            mask: Mask::new(3, 2).ok()?,
-            ready: true,
-        },
-    };
-    let mut parts = Vec::new(alloc);
-    parts.push(Part::One(message)).ok()?;
-    Delta::from_parts(parts).ok()
+/// A delta of this message alone.
+fn delta_of(alloc: Global, message: Message) -> Option<Delta> {
+    match Vec::from_array(alloc, [Part::One(message)]) {
+        Ok(parts) => Delta::from_parts(parts).ok(),
+        Err(_) => None,
+    }
 }
 
-/// An agent of CPU 0 that was told so.
-fn told_of_t5(alloc: Global) -> Option<Agent> {
-    let delta = tells_of_t5(alloc)?;
-    let mut agent = Agent::new(alloc, Cpu(0));
-    match agent.deliver(&delta) {
-        Ok(()) => Some(agent),
+/// A message that t5 was created, ready, with a mask of both CPUs; the kernels here have no such thread.
+fn tells_of_t5() -> Option<Message> {
+    match Mask::new(3, 2) {
+        Ok(mask) => Some(Message {
+            thread: Tid(5),
+            number: 1,
+            kind: Kind::Created { mask, ready: true },
+        }),
         Err(_) => None,
+    }
+}
+
+/// Whether the agent takes in a delta of this message.
+fn takes_in(alloc: Global, agent: &mut Agent, message: Message) -> bool {
+    match delta_of(alloc, message) {
+        Some(delta) => agent.deliver(&delta).is_ok(),
+        None => false,
+    }
+}
+
+/// Whether the agent takes in a delta that tells of t5.
+fn hears_of_t5(alloc: Global, agent: &mut Agent) -> bool {
+    match tells_of_t5() {
+        Some(message) => takes_in(alloc, agent, message),
+        None => false,
     }
 }
 
@@ -139,12 +152,14 @@ fn lists(agent: &Agent, wanted: Option<Tid>) -> bool {
     }
 }
 
+/// Whether the agent's view is as a new one.
+fn knows_nothing(alloc: Global, agent: &Agent) -> bool {
+    agent.view() == &View::new(alloc)
+}
+
 /// Whether the agent is as a new or a restarted one of its CPU, but for its counts.
 fn is_fresh(alloc: Global, agent: &Agent, cpu: Cpu) -> bool {
-    agent.cpu() == cpu
-        && agent.view() == &View::new(alloc)
-        && lists(agent, None)
-        && agent.shown() == 0
+    agent.cpu() == cpu && knows_nothing(alloc, agent) && lists(agent, None) && agent.shown() == 0
 }
 
 /// Whether nothing was counted.
@@ -160,68 +175,101 @@ fn waiting(kernel: &Kernel, cpu: Cpu) -> Option<usize> {
     }
 }
 
-/// The delta that the agent copies what its queue holds to.
-fn copied(kernel: &Kernel, agent: &mut Agent) -> Option<Delta> {
+/// How many parts the delta has that the agent copies its queue to.
+fn copied_parts(kernel: &Kernel, agent: &mut Agent) -> Option<usize> {
     match kernel.peek(agent.cpu()) {
         Ok((_, items)) => match agent.copied(items.as_slice()) {
-            Ok(delta) => Some(delta),
+            Ok(delta) => Some(delta.parts().len()),
             Err(_) => None,
         },
         Err(_) => None,
     }
 }
 
-/// How many parts the delta has that the agent copies its queue to.
-fn copied_parts(kernel: &Kernel, agent: &mut Agent) -> Option<usize> {
-    Some(copied(kernel, agent)?.parts().len())
-}
-
-/// The first agent, or the other one.
+/// What an agent does, with what comes of it, or what is told of it.
 #[derive(Clone, Copy)]
-enum Who {
-    First,
-    Other,
+enum Act {
+    Publishes(Result<u32, SendFault>),
+    /// How many parts the copy of the agent's queue has.
+    Copies(usize),
+    /// The agent counts so many items as sent.
+    Counts(u32),
+    Consumes(Result<u32, Refusal>),
+    Picks(u32, Result<Tid, Refusal>),
+    Steals(Result<Tid, CallFault>),
+    /// The agent takes in the delta that was sent at this place.
+    Delivers(usize),
+    Restarts,
+    Shows(u32),
+    Lists(Option<Tid>),
+    /// Whether the agent knows the thread's first message.
+    Knows(Tid, bool),
+    Uncounted,
+    Tells(Counts),
 }
 
 /// What is done, with what comes of it, or what is told.
 #[derive(Clone, Copy)]
 enum Step {
+    First(Act),
+    Other(Act),
     /// A tick is posted to the queue.
     Ticks(Cpu),
     /// Somebody else removes the first item of queue 0.
     Removes,
-    Publishes(Who, Result<u32, SendFault>),
-    /// How many parts the copy of the agent's queue has.
-    Copies(Who, usize),
-    /// The agent counts so many items as sent.
-    Counts(Who, u32),
-    Consumes(Who, Result<u32, Refusal>),
-    Picks(Who, u32, Result<Tid, Refusal>),
-    Steals(Who, Result<Tid, CallFault>),
-    /// The agent takes in the delta that was sent at this place.
-    Delivers(Who, usize),
+    /// The first agent takes in a delta that tells of t5.
+    HearsOfT5,
     /// The first agent answers the other's digest.
     Answers(Result<(), SendFault>),
     /// The same with no digest.
     AnswersBeyond(Result<(), SendFault>),
-    Restarts(Who),
     /// From now on the wire refuses every send, or none.
     Refuses(bool),
     /// How many sends the wire refused, and how many deltas it took.
     Took(u64, usize),
     /// How many parts the delta has that was sent at this place.
     Parts(usize, usize),
-    Shows(Who, u32),
-    Lists(Who, Option<Tid>),
-    /// Whether the agent knows the thread's first message.
-    Knows(Who, Tid, bool),
-    Fresh(Who, Cpu),
-    Uncounted(Who),
+    FirstFresh,
+    OtherFresh,
     Alike,
-    Tells(Who, Counts),
     Waits(usize),
     Runs(Tid),
     Lives(Tid, Cpu),
+}
+
+/// Whether the call comes out as it should.
+fn acts(kernel: &mut Kernel, agent: &mut Agent, wire: &mut KeptWire, act: &Act) -> bool {
+    match *act {
+        Act::Publishes(wanted) => published(kernel, agent, wire) == Some(wanted),
+        Act::Copies(wanted) => copied_parts(kernel, agent) == Some(wanted),
+        Act::Consumes(wanted) => consumed(agent, kernel) == wanted,
+        Act::Picks(aseq, wanted) => picked(agent, kernel, aseq) == wanted,
+        Act::Steals(wanted) => stolen(agent, kernel) == wanted,
+        Act::Delivers(place) => delivers(agent, wire, place),
+        _ => changes(agent, act) || tells(agent, act),
+    }
+}
+
+/// Whether the act is one that has no outcome.
+fn changes(agent: &mut Agent, act: &Act) -> bool {
+    match *act {
+        Act::Counts(items) => agent.sent(items),
+        Act::Restarts => agent.restart(),
+        _ => return false,
+    }
+    true
+}
+
+/// Whether that is told of the agent.
+fn tells(agent: &Agent, act: &Act) -> bool {
+    match *act {
+        Act::Shows(wanted) => agent.shown() == wanted,
+        Act::Lists(wanted) => lists(agent, wanted),
+        Act::Knows(thread, wanted) => agent.view().knows(thread, 1) == wanted,
+        Act::Uncounted => is_uncounted(agent),
+        Act::Tells(wanted) => agent.counts() == wanted,
+        _ => false,
+    }
 }
 
 /// A kernel, two of its agents, and their wire.
@@ -235,115 +283,49 @@ struct Scene {
 }
 
 impl Scene {
-    fn agent(&self, who: Who) -> &Agent {
-        match who {
-            Who::First => &self.first,
-            Who::Other => &self.other,
-        }
-    }
-
-    fn publishes(&mut self, who: Who) -> Option<Result<u32, SendFault>> {
-        match who {
-            Who::First => published(&self.kernel, &mut self.first, &mut self.wire),
-            Who::Other => published(&self.kernel, &mut self.other, &mut self.wire),
-        }
-    }
-
-    fn copies(&mut self, who: Who) -> Option<usize> {
-        match who {
-            Who::First => copied_parts(&self.kernel, &mut self.first),
-            Who::Other => copied_parts(&self.kernel, &mut self.other),
-        }
-    }
-
-    fn counts(&mut self, who: Who, items: u32) {
-        match who {
-            Who::First => self.first.sent(items),
-            Who::Other => self.other.sent(items),
-        }
-    }
-
-    fn consumes(&mut self, who: Who) -> Result<u32, Refusal> {
-        match who {
-            Who::First => consumed(&mut self.first, &mut self.kernel),
-            Who::Other => consumed(&mut self.other, &mut self.kernel),
-        }
-    }
-
-    fn picks(&mut self, who: Who, aseq: u32) -> Result<Tid, Refusal> {
-        match who {
-            Who::First => picked(&mut self.first, &mut self.kernel, aseq),
-            Who::Other => picked(&mut self.other, &mut self.kernel, aseq),
-        }
-    }
-
-    fn steals(&mut self, who: Who) -> Result<Tid, CallFault> {
-        match who {
-            Who::First => stolen(&mut self.first, &mut self.kernel),
-            Who::Other => stolen(&mut self.other, &mut self.kernel),
-        }
-    }
-
-    fn takes_in(&mut self, who: Who, place: usize) -> bool {
-        match who {
-            Who::First => delivers(&mut self.first, &self.wire, place),
-            Who::Other => delivers(&mut self.other, &self.wire, place),
-        }
-    }
-
-    fn restarts(&mut self, who: Who) {
-        match who {
-            Who::First => self.first.restart(),
-            Who::Other => self.other.restart(),
-        }
-    }
-
     /// Whether the call comes out as it should.
     fn does(&mut self, step: &Step) -> bool {
-        match *step {
-            Step::Ticks(cpu) => self.kernel.tick(cpu).is_ok(),
+        match step {
+            Step::First(act) => acts(&mut self.kernel, &mut self.first, &mut self.wire, act),
+            Step::Other(act) => acts(&mut self.kernel, &mut self.other, &mut self.wire, act),
+            Step::Ticks(cpu) => self.kernel.tick(*cpu).is_ok(),
             Step::Removes => self.kernel.consume(Cpu(0), 1).is_ok(),
-            Step::Publishes(who, wanted) => self.publishes(who) == Some(wanted),
-            Step::Copies(who, wanted) => self.copies(who) == Some(wanted),
-            Step::Consumes(who, wanted) => self.consumes(who) == wanted,
-            Step::Picks(who, aseq, wanted) => self.picks(who, aseq) == wanted,
-            Step::Steals(who, wanted) => self.steals(who) == wanted,
-            Step::Delivers(who, place) => self.takes_in(who, place),
-            Step::Answers(wanted) => {
-                answered(self.alloc, &self.first, &self.other, &mut self.wire) == Some(wanted)
-            }
-            Step::AnswersBeyond(wanted) => {
-                answered_beyond(&self.first, &self.other, &mut self.wire) == Some(wanted)
-            }
-            _ => self.changes(step) || self.tells(step),
+            Step::HearsOfT5 => hears_of_t5(self.alloc, &mut self.first),
+            Step::Answers(wanted) => self.answers() == Some(*wanted),
+            Step::AnswersBeyond(wanted) => self.answers_beyond() == Some(*wanted),
+            _ => self.wire_does(step) || self.tells(step),
         }
     }
 
-    /// Whether the step is one that has no outcome.
-    fn changes(&mut self, step: &Step) -> bool {
+    fn answers(&mut self) -> Option<Result<(), SendFault>> {
+        answered(self.alloc, &self.first, &self.other, &mut self.wire)
+    }
+
+    fn answers_beyond(&mut self) -> Option<Result<(), SendFault>> {
+        answered_beyond(&self.first, &self.other, &mut self.wire)
+    }
+
+    /// Whether the step is one of the wire, and comes out as it should.
+    fn wire_does(&mut self, step: &Step) -> bool {
         match *step {
-            Step::Counts(who, items) => self.counts(who, items),
-            Step::Restarts(who) => self.restarts(who),
-            Step::Refuses(refuses) => self.wire.set_refuses(refuses),
-            _ => return false,
+            Step::Refuses(refuses) => {
+                self.wire.set_refuses(refuses);
+                true
+            }
+            Step::Took(faults, sent) => {
+                self.wire.faults() == faults && self.wire.sent().len() == sent
+            }
+            Step::Parts(place, wanted) => parts_of(&self.wire, place) == Some(wanted),
+            _ => false,
         }
-        true
     }
 
     /// Whether that is told.
     fn tells(&self, step: &Step) -> bool {
         match *step {
-            Step::Took(faults, sent) => {
-                self.wire.faults() == faults && self.wire.sent().len() == sent
-            }
-            Step::Parts(place, wanted) => parts_of(&self.wire, place) == Some(wanted),
-            Step::Shows(who, wanted) => self.agent(who).shown() == wanted,
-            Step::Lists(who, wanted) => lists(self.agent(who), wanted),
-            Step::Knows(who, thread, wanted) => self.agent(who).view().knows(thread, 1) == wanted,
-            Step::Fresh(who, cpu) => is_fresh(self.alloc, self.agent(who), cpu),
-            Step::Uncounted(who) => is_uncounted(self.agent(who)),
+            Step::FirstFresh => is_fresh(self.alloc, &self.first, Cpu(0)),
+            Step::OtherFresh => is_fresh(self.alloc, &self.other, Cpu(1)),
             Step::Alike => self.first.view() == self.other.view(),
-            Step::Tells(who, wanted) => self.agent(who).counts() == wanted,
             Step::Waits(wanted) => waiting(&self.kernel, Cpu(0)) == Some(wanted),
             Step::Runs(thread) => self.kernel.running(Cpu(0)) == Some(thread),
             Step::Lives(thread, cpu) => self.kernel.queue_of(thread) == Some(cpu),
@@ -364,38 +346,32 @@ impl Scene {
 
 /// So many ready threads of queue 0, and an agent of CPU 0 and one of this CPU.
 fn new_scene(alloc: Global, threads: u32, other: u8) -> Option<Scene> {
-    Some(Scene {
-        alloc,
-        kernel: ready(alloc, threads)?,
-        first: Agent::new(alloc, Cpu(0)),
-        other: Agent::new(alloc, Cpu(other)),
-        wire: KeptWire::new(alloc),
-    })
+    match ready(alloc, threads) {
+        Some(kernel) => Some(Scene {
+            alloc,
+            kernel,
+            first: Agent::new(alloc, Cpu(0)),
+            other: Agent::new(alloc, Cpu(other)),
+            wire: KeptWire::new(alloc),
+        }),
+        None => None,
+    }
 }
 
-/// The first agent was told of t5.
-fn told_scene(alloc: Global) -> Option<Scene> {
-    Some(Scene {
-        alloc,
-        kernel: two_cpus(alloc)?,
-        first: told_of_t5(alloc)?,
-        other: Agent::new(alloc, Cpu(1)),
-        wire: KeptWire::new(alloc),
-    })
+/// What comes of the steps in a new scene: the place of the first that is wrong, if any is.
+fn wrong_step(alloc: Global, threads: u32, other: u8, steps: &[Step]) -> Option<Option<usize>> {
+    match new_scene(alloc, threads, other) {
+        Some(mut scene) => Some(scene.first_wrong(steps)),
+        None => None,
+    }
 }
 
-/// The steps come out as they should.
-fn comes_out(rt: &impl Abort, scene: Option<Scene>, steps: &[Step]) -> Result<(), Fail> {
-    let mut scene = scene.ok_or("no scene")?;
-    assert_eq!(rt; scene.first_wrong(steps), None);
-    Ok(())
+/// The steps come out as they should, with so many ready threads and an agent of this CPU beside the first one.
+fn comes_out(rt: &impl Abort, alloc: Global, threads: u32, other: u8, steps: &[Step]) {
+    assert_eq!(rt; wrong_step(alloc, threads, other, steps), Some(None));
 }
 
 const T0: Tid = Tid(0);
-
-const FIRST: Who = Who::First;
-
-const OTHER: Who = Who::Other;
 
 /// Nothing was counted yet.
 const NONE: Counts = Counts {
@@ -407,164 +383,165 @@ const NONE: Counts = Counts {
     other: 0,
 };
 
-const fn refused(refusal: Refusal) -> Result<Tid, CallFault> {
-    Err(CallFault::Refused(refusal))
-}
+const PENDING: Result<Tid, CallFault> = Err(CallFault::Refused(Refusal::Pending));
+
+const NOTHING_TO_STEAL: Result<Tid, CallFault> = Err(CallFault::Refused(Refusal::NothingToSteal));
 
 #[test]
-fn what_was_sent_is_shown_and_consumed(rt: HostRuntime) -> Result<(), Fail> {
-    let steps = [
-        Step::Fresh(FIRST, Cpu(0)),
-        Step::Fresh(OTHER, Cpu(1)),
-        Step::Uncounted(OTHER),
-        Step::Tells(FIRST, NONE),
+fn what_was_sent_is_shown_and_consumed(rt: HostRuntime) {
+    const STEPS: [Step; 17] = [
+        Step::FirstFresh,
+        Step::OtherFresh,
+        Step::Other(Act::Uncounted),
+        Step::First(Act::Tells(NONE)),
         Step::Ticks(Cpu(0)),
-        Step::Publishes(FIRST, Ok(2)),
-        Step::Shows(FIRST, 2),
-        Step::Knows(FIRST, T0, true),
-        Step::Lists(FIRST, Some(T0)),
+        Step::First(Act::Publishes(Ok(2))),
+        Step::First(Act::Shows(2)),
+        Step::First(Act::Knows(T0, true)),
+        Step::First(Act::Lists(Some(T0))),
         Step::Took(0, 1),
         Step::Parts(0, 1),
         // What is posted after the publish stays.
         Step::Ticks(Cpu(0)),
-        Step::Consumes(FIRST, Ok(2)),
-        Step::Shows(FIRST, 0),
+        Step::First(Act::Consumes(Ok(2))),
+        Step::First(Act::Shows(0)),
         Step::Waits(1),
-        Step::Consumes(FIRST, Ok(0)),
-        Step::Tells(FIRST, Counts { taken: 2, ..NONE }),
+        Step::First(Act::Consumes(Ok(0))),
+        Step::First(Act::Tells(Counts { taken: 2, ..NONE })),
     ];
-    comes_out(&rt, new_scene(rt.alloc(), 1, 1), &steps)
+    comes_out(&rt, rt.alloc(), 1, 1, &STEPS);
 }
 
 #[test]
-fn a_refused_send_is_not_counted_as_sent(rt: HostRuntime) -> Result<(), Fail> {
-    let steps = [
+fn a_refused_send_is_not_counted_as_sent(rt: HostRuntime) {
+    const STEPS: [Step; 15] = [
         Step::Took(0, 0),
         Step::Refuses(true),
-        Step::Publishes(FIRST, Err(SendFault::WireFault)),
+        Step::First(Act::Publishes(Err(SendFault::WireFault))),
         Step::Took(1, 0),
-        Step::Shows(FIRST, 0),
-        Step::Knows(FIRST, T0, true),
-        Step::Lists(FIRST, Some(T0)),
-        Step::Consumes(FIRST, Ok(0)),
+        Step::First(Act::Shows(0)),
+        Step::First(Act::Knows(T0, true)),
+        Step::First(Act::Lists(Some(T0))),
+        Step::First(Act::Consumes(Ok(0))),
         Step::Refuses(false),
         Step::Took(0, 0),
-        Step::Publishes(FIRST, Ok(1)),
+        Step::First(Act::Publishes(Ok(1))),
         Step::Took(0, 1),
         // A queue that is empty is told as an empty delta.
-        Step::Publishes(OTHER, Ok(0)),
+        Step::Other(Act::Publishes(Ok(0))),
         Step::Took(0, 2),
         Step::Parts(1, 0),
     ];
-    comes_out(&rt, new_scene(rt.alloc(), 1, 1), &steps)
+    comes_out(&rt, rt.alloc(), 1, 1, &STEPS);
 }
 
 #[test]
-fn items_that_something_else_removed_are_too_many(rt: HostRuntime) -> Result<(), Fail> {
-    let steps = [
-        Step::Publishes(FIRST, Ok(2)),
+fn items_that_something_else_removed_are_too_many(rt: HostRuntime) {
+    const STEPS: [Step; 5] = [
+        Step::First(Act::Publishes(Ok(2))),
         Step::Removes,
-        Step::Consumes(FIRST, Err(Refusal::TooMany)),
-        Step::Shows(FIRST, 2),
-        Step::Tells(FIRST, NONE),
+        Step::First(Act::Consumes(Err(Refusal::TooMany))),
+        Step::First(Act::Shows(2)),
+        Step::First(Act::Tells(NONE)),
     ];
-    comes_out(&rt, new_scene(rt.alloc(), 2, 1), &steps)
+    comes_out(&rt, rt.alloc(), 2, 1, &STEPS);
 }
 
 #[test]
-fn items_are_copied_and_then_counted_as_sent(rt: HostRuntime) -> Result<(), Fail> {
-    let steps = [
+fn items_are_copied_and_then_counted_as_sent(rt: HostRuntime) {
+    const STEPS: [Step; 6] = [
         Step::Ticks(Cpu(0)),
-        Step::Copies(FIRST, 1),
-        Step::Lists(FIRST, Some(T0)),
-        Step::Shows(FIRST, 0),
-        Step::Counts(FIRST, 2),
-        Step::Shows(FIRST, 2),
+        Step::First(Act::Copies(1)),
+        Step::First(Act::Lists(Some(T0))),
+        Step::First(Act::Shows(0)),
+        Step::First(Act::Counts(2)),
+        Step::First(Act::Shows(2)),
     ];
-    comes_out(&rt, new_scene(rt.alloc(), 1, 1), &steps)
+    comes_out(&rt, rt.alloc(), 1, 1, &STEPS);
 }
 
 #[test]
-fn a_pick_commits_the_first_and_a_restart_forgets(rt: HostRuntime) -> Result<(), Fail> {
-    let counted = Counts {
+fn a_pick_commits_the_first_and_a_restart_forgets(rt: HostRuntime) {
+    const COUNTED: Counts = Counts {
         taken: 1,
         commits: 1,
         ..NONE
     };
-    let steps = [
-        Step::Publishes(FIRST, Ok(1)),
-        Step::Consumes(FIRST, Ok(1)),
-        Step::Picks(FIRST, 1, Ok(T0)),
+    const STEPS: [Step; 10] = [
+        Step::First(Act::Publishes(Ok(1))),
+        Step::First(Act::Consumes(Ok(1))),
+        Step::First(Act::Picks(1, Ok(T0))),
         Step::Runs(T0),
-        Step::Lists(FIRST, None),
+        Step::First(Act::Lists(None)),
         Step::Ticks(Cpu(0)),
-        Step::Publishes(FIRST, Ok(1)),
-        Step::Restarts(FIRST),
-        Step::Fresh(FIRST, Cpu(0)),
+        Step::First(Act::Publishes(Ok(1))),
+        Step::First(Act::Restarts),
+        Step::FirstFresh,
         // The counts outlive a restart.
-        Step::Tells(FIRST, counted),
+        Step::First(Act::Tells(COUNTED)),
     ];
-    comes_out(&rt, new_scene(rt.alloc(), 1, 1), &steps)
+    comes_out(&rt, rt.alloc(), 1, 1, &STEPS);
 }
 
 #[test]
-fn a_thread_is_stolen_once_nothing_of_it_waits(rt: HostRuntime) -> Result<(), Fail> {
-    let counted = Counts {
+fn a_thread_is_stolen_once_nothing_of_it_waits(rt: HostRuntime) {
+    const COUNTED: Counts = Counts {
         steals: 1,
         pending: 1,
         other: 1,
         ..NONE
     };
-    let steps = [
-        Step::Publishes(FIRST, Ok(2)),
-        Step::Steals(OTHER, refused(Refusal::NothingToSteal)),
-        Step::Delivers(OTHER, 0),
-        Step::Steals(OTHER, refused(Refusal::Pending)),
-        Step::Lists(OTHER, None),
-        Step::Consumes(FIRST, Ok(2)),
-        Step::Steals(OTHER, Ok(T0)),
+    const STEPS: [Step; 10] = [
+        Step::First(Act::Publishes(Ok(2))),
+        Step::Other(Act::Steals(NOTHING_TO_STEAL)),
+        Step::Other(Act::Delivers(0)),
+        Step::Other(Act::Steals(PENDING)),
+        Step::Other(Act::Lists(None)),
+        Step::First(Act::Consumes(Ok(2))),
+        Step::Other(Act::Steals(Ok(T0))),
         Step::Lives(T0, Cpu(1)),
-        Step::Lists(OTHER, Some(T0)),
-        Step::Tells(OTHER, counted),
+        Step::Other(Act::Lists(Some(T0))),
+        Step::Other(Act::Tells(COUNTED)),
     ];
-    comes_out(&rt, new_scene(rt.alloc(), 2, 1), &steps)
+    comes_out(&rt, rt.alloc(), 2, 1, &STEPS);
 }
 
 #[test]
-fn an_agent_of_a_cpu_that_is_not_there(rt: HostRuntime) -> Result<(), Fail> {
-    let steps = [
-        Step::Counts(OTHER, 1),
-        Step::Consumes(OTHER, Err(Refusal::BadCpu)),
-        Step::Picks(OTHER, 1, Err(Refusal::Stale(0))),
-        Step::Picks(OTHER, 0, Err(Refusal::NothingReady)),
-        Step::Steals(OTHER, refused(Refusal::NothingToSteal)),
+fn an_agent_of_a_cpu_that_is_not_there(rt: HostRuntime) {
+    const STEPS: [Step; 5] = [
+        Step::Other(Act::Counts(1)),
+        Step::Other(Act::Consumes(Err(Refusal::BadCpu))),
+        Step::Other(Act::Picks(1, Err(Refusal::Stale(0)))),
+        Step::Other(Act::Picks(0, Err(Refusal::NothingReady))),
+        Step::Other(Act::Steals(NOTHING_TO_STEAL)),
     ];
-    comes_out(&rt, new_scene(rt.alloc(), 1, 2), &steps)
+    comes_out(&rt, rt.alloc(), 1, 2, &STEPS);
 }
 
 #[test]
-fn an_answer_tells_what_is_lacking(rt: HostRuntime) -> Result<(), Fail> {
-    let steps = [
-        Step::Publishes(FIRST, Ok(2)),
+fn an_answer_tells_what_is_lacking(rt: HostRuntime) {
+    const STEPS: [Step; 10] = [
+        Step::First(Act::Publishes(Ok(2))),
         Step::Answers(Ok(())),
-        Step::Delivers(OTHER, 1),
+        Step::Other(Act::Delivers(1)),
         Step::Alike,
         Step::Answers(Ok(())),
         Step::Parts(2, 0),
-        Step::Restarts(OTHER),
+        Step::Other(Act::Restarts),
         Step::AnswersBeyond(Ok(())),
         Step::Parts(3, 2),
         Step::Took(0, 4),
     ];
-    comes_out(&rt, new_scene(rt.alloc(), 2, 1), &steps)
+    comes_out(&rt, rt.alloc(), 2, 1, &STEPS);
 }
 
 #[test]
-fn a_thread_that_the_kernel_does_not_know(rt: HostRuntime) -> Result<(), Fail> {
-    let steps = [
-        Step::Knows(FIRST, Tid(5), true),
-        Step::Steals(FIRST, refused(Refusal::NothingToSteal)),
-        Step::Lists(FIRST, None),
+fn a_thread_that_the_kernel_does_not_know(rt: HostRuntime) {
+    const STEPS: [Step; 9] = [
+        Step::HearsOfT5,
+        Step::First(Act::Knows(Tid(5), true)),
+        Step::First(Act::Steals(NOTHING_TO_STEAL)),
+        Step::First(Act::Lists(None)),
         // An answer is refused as a send is.
         Step::Refuses(true),
         Step::AnswersBeyond(Err(SendFault::WireFault)),
@@ -572,12 +549,12 @@ fn a_thread_that_the_kernel_does_not_know(rt: HostRuntime) -> Result<(), Fail> {
         Step::Answers(Err(SendFault::WireFault)),
         Step::Took(2, 0),
     ];
-    comes_out(&rt, told_scene(rt.alloc()), &steps)
+    comes_out(&rt, rt.alloc(), 0, 1, &STEPS);
 }
 
 #[test]
-fn each_count_is_raised(rt: HostRuntime) -> Result<(), Fail> {
-    let each_once = Counts {
+fn each_count_is_raised(rt: HostRuntime) {
+    const EACH_ONCE: Counts = Counts {
         taken: 1,
         commits: 1,
         steals: 1,
@@ -585,19 +562,19 @@ fn each_count_is_raised(rt: HostRuntime) -> Result<(), Fail> {
         pending: 1,
         other: 1,
     };
-    let steps = [
-        Step::Publishes(FIRST, Ok(1)),
-        Step::Delivers(OTHER, 0),
-        Step::Steals(OTHER, refused(Refusal::Pending)),
-        Step::Consumes(FIRST, Ok(1)),
-        Step::Steals(OTHER, Ok(T0)),
+    const STEPS: [Step; 12] = [
+        Step::First(Act::Publishes(Ok(1))),
+        Step::Other(Act::Delivers(0)),
+        Step::Other(Act::Steals(PENDING)),
+        Step::First(Act::Consumes(Ok(1))),
+        Step::Other(Act::Steals(Ok(T0))),
         Step::Ticks(Cpu(1)),
-        Step::Publishes(OTHER, Ok(1)),
-        Step::Consumes(OTHER, Ok(1)),
-        Step::Picks(OTHER, 0, Err(Refusal::Stale(1))),
-        Step::Picks(OTHER, 1, Ok(T0)),
-        Step::Picks(OTHER, 1, Err(Refusal::Busy)),
-        Step::Tells(OTHER, each_once),
+        Step::Other(Act::Publishes(Ok(1))),
+        Step::Other(Act::Consumes(Ok(1))),
+        Step::Other(Act::Picks(0, Err(Refusal::Stale(1)))),
+        Step::Other(Act::Picks(1, Ok(T0))),
+        Step::Other(Act::Picks(1, Err(Refusal::Busy))),
+        Step::Other(Act::Tells(EACH_ONCE)),
     ];
-    comes_out(&rt, new_scene(rt.alloc(), 1, 1), &steps)
+    comes_out(&rt, rt.alloc(), 1, 1, &STEPS);
 }
