@@ -3,130 +3,237 @@
 use super::{crash, publish_in_vain};
 use pc_calls::Limits;
 use pc_delta::{Delta, take_in};
+use pc_kernel::Kernel;
 use pc_messages::{Cpu, Tid};
 use pc_script::{Command, Wish, asked};
 use pc_view::{View, audit, complete};
 use pc_world::{Event, World};
 use std::alloc::Global;
 use std::process::Abort;
-use std::test::Fail;
 
-/// The limits and the events that a script asks for, whose lines are parted by semicolons. Its reads change nothing.
-fn events_of(alloc: Global, script: &[u8]) -> Result<(Limits, Vec<Event>), Fail> {
-    let mut limits = None;
-    let mut events = Vec::new(alloc);
+/// Takes what a line asks for. Its reads change nothing. Whether it is a command.
+fn add_line(line: &[u8], limits: &mut Option<Limits>, events: &mut Vec<Event>) -> bool {
+    match asked(line) {
+        Wish::Answer(Command::Enclave(all)) => *limits = Some(all),
+        Wish::Answer(Command::Event(event)) => return events.push(event).is_ok(),
+        Wish::Answer(Command::Read(_)) | Wish::Nothing => {}
+        Wish::Stop => return false,
+    }
+    true
+}
+
+/// Takes the limits and the events that a script asks for, whose lines are parted by semicolons. Whether each is a command.
+fn add_lines(script: &[u8], limits: &mut Option<Limits>, events: &mut Vec<Event>) -> bool {
     for line in script.split(|byte| *byte == b';') {
-        match asked(line) {
-            Wish::Answer(Command::Enclave(all)) => limits = Some(all),
-            Wish::Answer(Command::Event(event)) => events.push(event)?,
-            Wish::Answer(Command::Read(_)) | Wish::Nothing => {}
-            Wish::Stop => return Err("a line that is no command".into()),
+        if !add_line(line, limits, events) {
+            return false;
         }
     }
-    Ok((limits.ok_or("no limits")?, events))
+    true
 }
 
-/// What an agent knows who starts with nothing and takes in all that was sent and all that the queues hold.
-fn all_told(alloc: Global, world: &World) -> Result<View, Fail> {
-    let mut view = View::new(alloc);
+fn take_sent(view: &mut View, world: &World) -> bool {
     for delta in world.sent() {
-        take_in(&mut view, delta)?;
-    }
-    for cpu in 0..world.kernel().cpus() {
-        let (_, items) = world.kernel().peek(Cpu(cpu))?;
-        let delta = Delta::of_items(alloc, items.as_slice())?;
-        take_in(&mut view, &delta)?;
-    }
-    Ok(view)
-}
-
-/// Whether each view is of the kernel's run, and all that was sent and waits tells each known thread to its last message.
-fn is_whole(alloc: Global, world: &World) -> Result<bool, Fail> {
-    for cpu in 0..world.kernel().cpus() {
-        let view = world.view(Cpu(cpu)).ok_or("no view")?;
-        if audit(view, world.kernel()).is_err() {
-            return Ok(false);
+        if take_in(view, delta).is_err() {
+            return false;
         }
     }
-    let view = all_told(alloc, world)?;
-    for thread in 0..world.kernel().threads() {
-        if !complete(&view, world.kernel(), Tid(thread)) {
-            return Ok(false);
-        }
-    }
-    Ok(true)
+    true
 }
 
-/// The events with others in the place of one.
-fn with(
-    alloc: Global,
-    events: &[Event],
-    place: usize,
-    others: &[Event],
-) -> Result<Vec<Event>, Fail> {
-    let mut all = Vec::new(alloc);
+/// What the CPU's queue holds.
+fn held(alloc: Global, kernel: &Kernel, cpu: Cpu) -> Option<Delta> {
+    match kernel.peek(cpu) {
+        Ok((_, items)) => Delta::of_items(alloc, items.as_slice()).ok(),
+        Err(_) => None,
+    }
+}
+
+fn take_queue(alloc: Global, view: &mut View, kernel: &Kernel, cpu: Cpu) -> bool {
+    match held(alloc, kernel, cpu) {
+        Some(delta) => take_in(view, &delta).is_ok(),
+        None => false,
+    }
+}
+
+fn take_queues(alloc: Global, view: &mut View, kernel: &Kernel) -> bool {
+    for cpu in 0..kernel.cpus() {
+        if !take_queue(alloc, view, kernel, Cpu(cpu)) {
+            return false;
+        }
+    }
+    true
+}
+
+/// Whether the view of the CPU's agent is of the kernel's run.
+fn is_of_run(world: &World, cpu: Cpu) -> bool {
+    match world.view(cpu) {
+        Some(view) => audit(view, world.kernel()).is_ok(),
+        None => false,
+    }
+}
+
+fn are_of_run(world: &World) -> bool {
+    for cpu in 0..world.kernel().cpus() {
+        if !is_of_run(world, Cpu(cpu)) {
+            return false;
+        }
+    }
+    true
+}
+
+/// Whether the view tells each known thread to its last message.
+fn tells_all(view: &View, kernel: &Kernel) -> bool {
+    for thread in 0..kernel.threads() {
+        if !complete(view, kernel, Tid(thread)) {
+            return false;
+        }
+    }
+    true
+}
+
+/// Whether each view is of the kernel's run, and an agent who starts with nothing and takes in all that was sent and all that the
+/// queues hold knows each known thread to its last message.
+fn is_whole(alloc: Global, world: &World) -> bool {
+    let mut view = View::new(alloc);
+    are_of_run(world)
+        && take_sent(&mut view, world)
+        && take_queues(alloc, &mut view, world.kernel())
+        && tells_all(&view, world.kernel())
+}
+
+fn add_all(all: &mut Vec<Event>, events: &[Event]) -> bool {
+    for event in events {
+        if all.push(*event).is_err() {
+            return false;
+        }
+    }
+    true
+}
+
+/// Lists the events with others in the place of one.
+fn add_with(all: &mut Vec<Event>, events: &[Event], place: usize, others: &[Event]) -> bool {
     for (at, event) in events.iter().enumerate() {
-        if at == place {
-            for other in others {
-                all.push(*other)?;
-            }
+        let is_added = if at == place {
+            add_all(all, others)
         } else {
-            all.push(*event)?;
+            all.push(*event).is_ok()
+        };
+        if !is_added {
+            return false;
         }
     }
-    Ok(all)
+    true
 }
 
-/// Runs the events with others in the place of one, in a new world.
-fn runs_whole(
+/// Whether the world replies to each of the events.
+fn replies_to(world: &mut World, events: &[Event]) -> bool {
+    match world.run(events) {
+        Ok(replies) => replies.len() == events.len(),
+        Err(_) => false,
+    }
+}
+
+/// Whether a new world stays whole by these events.
+fn stays_whole(alloc: Global, limits: Limits, events: &[Event]) -> bool {
+    match World::new(alloc, limits) {
+        Ok(mut world) => replies_to(&mut world, events) && is_whole(alloc, &world),
+        Err(_) => false,
+    }
+}
+
+/// What is disturbed.
+#[derive(Drop)]
+struct Script {
     alloc: Global,
     limits: Limits,
-    events: &[Event],
-    place: usize,
-    others: &[Event],
-) -> Result<bool, Fail> {
-    let disturbed = with(alloc, events, place, others)?;
-    let mut world = World::new(alloc, limits)?;
-    let replies = world.run(disturbed.as_slice())?;
-    Ok(replies.len() == disturbed.len() && is_whole(alloc, &world)?)
+    events: Vec<Event>,
 }
 
-/// One run for each event and each CPU, whose agent crashes after the event, and one for each send, which is refused: of each,
-/// whether it stayed whole.
-fn disturb(alloc: Global, limits: Limits, events: &[Event]) -> Result<Vec<bool>, Fail> {
-    let mut whole = Vec::new(alloc);
-    for (place, event) in events.iter().enumerate() {
-        for cpu in 0..limits.cpus {
-            whole.push(runs_whole(alloc, limits, events, place, &[*event, crash(cpu)])?)?;
+impl Script {
+    /// Whether a new world stays whole by the events, with others in the place of one.
+    fn is_whole_with(&self, place: usize, others: &[Event]) -> bool {
+        let mut all = Vec::new(self.alloc);
+        add_with(&mut all, self.events.as_slice(), place, others)
+            && stays_whole(self.alloc, self.limits, all.as_slice())
+    }
+
+    /// How many runs disturb this event: one for each CPU, whose agent crashes after it, and one for a send, which is refused.
+    /// Nothing where one of them does not stay whole.
+    fn runs_at(&self, place: usize, event: &Event) -> Option<usize> {
+        let mut runs = 0_usize;
+        for cpu in 0..self.limits.cpus {
+            if !self.is_whole_with(place, &[*event, crash(cpu)]) {
+                return None;
+            }
+            runs = runs.saturating_add(1);
         }
-        if let Event::Publish { cpu, .. } = *event {
-            let others = [publish_in_vain(cpu.index())];
-            whole.push(runs_whole(alloc, limits, events, place, &others)?)?;
+        match *event {
+            Event::Publish { cpu, .. } => {
+                if !self.is_whole_with(place, &[publish_in_vain(cpu.index())]) {
+                    return None;
+                }
+                Some(runs.saturating_add(1))
+            }
+            _ => Some(runs),
         }
     }
-    Ok(whole)
+
+    /// How many runs disturb the events, each of which stays whole.
+    fn runs(&self) -> Option<usize> {
+        let mut runs = 0_usize;
+        for (place, event) in self.events.iter().enumerate() {
+            runs = runs.saturating_add(self.runs_at(place, event)?);
+        }
+        Some(runs)
+    }
+}
+
+/// What the script asks for.
+fn read(alloc: Global, script: &[u8]) -> Option<Script> {
+    let mut limits = None;
+    let mut events = Vec::new(alloc);
+    if !add_lines(script, &mut limits, &mut events) {
+        return None;
+    }
+    match limits {
+        Some(limits) => Some(Script {
+            alloc,
+            limits,
+            events,
+        }),
+        None => None,
+    }
+}
+
+/// How many runs disturb a script, each of which stays whole.
+fn runs_of(alloc: Global, script: &[u8]) -> Option<usize> {
+    match read(alloc, script) {
+        Some(script) => script.runs(),
+        None => None,
+    }
+}
+
+/// The place of the first script that is not disturbed by so many runs, each of which stays whole.
+fn first_wrong(alloc: Global, scripts: &[(&[u8], usize)]) -> Option<usize> {
+    for (place, (script, runs)) in scripts.iter().enumerate() {
+        if runs_of(alloc, script) != Some(*runs) {
+            return Some(place);
+        }
+    }
+    None
 }
 
 /// So many runs of each script, and each of them stays whole.
-fn each_stays_whole(
-    rt: &impl Abort,
-    alloc: Global,
-    scripts: &[(&[u8], usize)],
-) -> Result<(), Fail> {
-    for (script, runs) in scripts {
-        let (limits, events) = events_of(alloc, script)?;
-        let whole = disturb(alloc, limits, events.as_slice())?;
-        assert_eq!(rt; whole.len(), *runs);
-        assert!(rt; whole.iter().all(|stayed| *stayed));
-    }
-    Ok(())
+fn each_stays_whole(rt: &impl Abort, alloc: Global, scripts: &[(&[u8], usize)]) {
+    assert_eq!(rt; first_wrong(alloc, scripts), None);
 }
 
 #[test]
-fn what_was_sent_is_looked_at_and_delivered(rt: HostRuntime) -> Result<(), Fail> {
-    let scripts = [
+fn what_was_sent_is_looked_at_and_delivered(rt: HostRuntime) {
+    const SCRIPTS: [(&[u8], usize); 5] = [
         (
-            b"enclave 2 8 100 16 1000; create 0 3 ready; publish 0; show 0".as_slice(),
+            b"enclave 2 8 100 16 1000; create 0 3 ready; publish 0; show 0",
             5,
         ),
         (
@@ -146,14 +253,14 @@ fn what_was_sent_is_looked_at_and_delivered(rt: HostRuntime) -> Result<(), Fail>
         ),
         (b"enclave 2 8 100 16 1000; deliver 0 0; consume 0", 4),
     ];
-    each_stays_whole(&rt, rt.alloc(), &scripts)
+    each_stays_whole(&rt, rt.alloc(), &SCRIPTS);
 }
 
 #[test]
-fn a_thread_that_is_moved_stays_whole(rt: HostRuntime) -> Result<(), Fail> {
-    let scripts = [
+fn a_thread_that_is_moved_stays_whole(rt: HostRuntime) {
+    const SCRIPTS: [(&[u8], usize); 3] = [
         (
-            b"enclave 2 8 100 16 1000; create 0 3 ready; associate t0 1 2".as_slice(),
+            b"enclave 2 8 100 16 1000; create 0 3 ready; associate t0 1 2",
             4,
         ),
         (
@@ -166,16 +273,15 @@ fn a_thread_that_is_moved_stays_whole(rt: HostRuntime) -> Result<(), Fail> {
             8,
         ),
     ];
-    each_stays_whole(&rt, rt.alloc(), &scripts)
+    each_stays_whole(&rt, rt.alloc(), &SCRIPTS);
 }
 
 #[test]
-fn what_a_crash_left_is_taken_up_again(rt: HostRuntime) -> Result<(), Fail> {
-    let scripts = [
+fn what_a_crash_left_is_taken_up_again(rt: HostRuntime) {
+    const SCRIPTS: [(&[u8], usize); 2] = [
         (
             b"enclave 2 8 100 16 1000; create 0 3 ready; publish 0; show 0; crash 0; show 0; consume 0; \
-              publish 0; consume 0"
-                .as_slice(),
+              publish 0; consume 0",
             14,
         ),
         (
@@ -184,16 +290,15 @@ fn what_a_crash_left_is_taken_up_again(rt: HostRuntime) -> Result<(), Fail> {
             19,
         ),
     ];
-    each_stays_whole(&rt, rt.alloc(), &scripts)
+    each_stays_whole(&rt, rt.alloc(), &SCRIPTS);
 }
 
 #[test]
-fn a_thread_that_runs_and_one_that_is_stolen(rt: HostRuntime) -> Result<(), Fail> {
-    let scripts = [
+fn a_thread_that_runs_and_one_that_is_stolen(rt: HostRuntime) {
+    const SCRIPTS: [(&[u8], usize); 3] = [
         (
             b"enclave 2 8 100 16 1000; create 0 3 ready; publish 0; consume 0; pick 0 1; yield 0 2; \
-              publish 0; pick 0 1; pick 0 2; block 0 3; status t0; publish 0; pick 0 3; show 0"
-                .as_slice(),
+              publish 0; pick 0 1; pick 0 2; block 0 3; status t0; publish 0; pick 0 3; show 0",
             25,
         ),
         (
@@ -207,14 +312,14 @@ fn a_thread_that_runs_and_one_that_is_stolen(rt: HostRuntime) -> Result<(), Fail
             23,
         ),
     ];
-    each_stays_whole(&rt, rt.alloc(), &scripts)
+    each_stays_whole(&rt, rt.alloc(), &SCRIPTS);
 }
 
 #[test]
-fn limits_that_are_reached_and_agents_that_sleep(rt: HostRuntime) -> Result<(), Fail> {
-    let scripts = [
+fn limits_that_are_reached_and_agents_that_sleep(rt: HostRuntime) {
+    const SCRIPTS: [(&[u8], usize); 5] = [
         (
-            b"enclave 1 1 2 4 10; create 0 1 blocked; wake t0; affinity t0 1; create 0 1 ready".as_slice(),
+            b"enclave 1 1 2 4 10; create 0 1 blocked; wake t0; affinity t0 1; create 0 1 ready",
             4,
         ),
         (
@@ -235,5 +340,5 @@ fn limits_that_are_reached_and_agents_that_sleep(rt: HostRuntime) -> Result<(), 
             16,
         ),
     ];
-    each_stays_whole(&rt, rt.alloc(), &scripts)
+    each_stays_whole(&rt, rt.alloc(), &SCRIPTS);
 }
