@@ -1,9 +1,9 @@
 //! What agents do with a book, and what is listed.
 
-use super::{CREATE, PREEMPT, Scene, new_scene, posted};
+use super::{CREATE, PREEMPT, SMALL, Step, new_scene, posted, refused};
 use pc_messages::{Cpu, Tid};
-use pc_threads::{Answer, Call, CallFault, Refusal};
-use std::test::Fail;
+use pc_threads::{Answer, Call, Refusal};
+use std::alloc::Global;
 
 const CONSUME: Call = Call::Consume {
     cpu: Cpu(0),
@@ -29,14 +29,23 @@ const ASSOCIATE: Call = Call::Associate {
     number: 2,
 };
 
+/// Whether the steps come out as they should, and these calls are then the last ones listed, from this place on.
+fn lists_after(alloc: Global, steps: &[Step], from: usize, listed: &[(Call, Answer)]) -> bool {
+    match new_scene(alloc, SMALL, 1) {
+        Some(mut scene) => scene.lists_after(steps, from, listed),
+        None => false,
+    }
+}
+
 #[test]
-fn five_calls_are_listed(rt: HostRuntime) -> Result<(), Fail> {
-    let mut scene = new_scene(rt.alloc()).ok_or("no book")?;
-    assert!(rt; scene.runs_one());
-    assert_eq!(rt; scene.sleeps(0, 1), Ok(()));
-    assert!(rt; scene.book.kernel().is_asleep(Cpu(0)));
-    assert_eq!(rt; scene.rouses(0), Ok(()));
-    assert!(rt; !scene.book.kernel().is_asleep(Cpu(0)));
+fn five_calls_are_listed(rt: HostRuntime) {
+    const STEPS: [Step; 5] = [
+        Step::RunsOne,
+        Step::Sleeps(0, 1, Ok(())),
+        Step::Asleep(0, true),
+        Step::Rouses(0, Ok(())),
+        Step::Asleep(0, false),
+    ];
     let listed = [
         (Call::Env(CREATE), Answer::Posted(posted(1, 1))),
         (CONSUME, Answer::Done),
@@ -44,32 +53,26 @@ fn five_calls_are_listed(rt: HostRuntime) -> Result<(), Fail> {
         (SLEEP, Answer::Done),
         (ROUSE, Answer::Done),
     ];
-    assert!(rt; scene.lists(0, &listed));
-    Ok(())
+    assert!(rt; lists_after(rt.alloc(), &STEPS, 0, &listed));
 }
 
+// The first agent steals nothing while a thread runs on its CPU, and counts that.
 #[test]
-fn eight_calls_are_listed(rt: HostRuntime) -> Result<(), Fail> {
-    let mut scene = new_scene(rt.alloc()).ok_or("no book")?;
-    assert!(rt; scene.runs_one());
-    assert_eq!(rt; scene.sleeps(0, 1), Ok(()));
-    assert_eq!(rt; scene.rouses(0), Ok(()));
-    assert!(rt; first_is_busy(&mut scene));
-    let none = Err(CallFault::Refused(Refusal::NothingToSteal));
-    assert_eq!(rt; scene.steals(), none);
-    assert_eq!(rt; scene.listed(), 5);
-    assert!(rt; scene.moves_one());
+fn eight_calls_are_listed(rt: HostRuntime) {
+    let steps = [
+        Step::RunsOne,
+        Step::Sleeps(0, 1, Ok(())),
+        Step::Rouses(0, Ok(())),
+        Step::FirstSteals(Err(refused(Refusal::Busy))),
+        Step::Others(1),
+        Step::Steals(Err(refused(Refusal::NothingToSteal))),
+        Step::Listed(5),
+        Step::MovesOne,
+    ];
     let listed = [
         (Call::Env(PREEMPT), Answer::Posted(posted(2, 2))),
         (CONSUME, Answer::Done),
         (ASSOCIATE, Answer::Done),
     ];
-    assert!(rt; scene.lists(5, &listed));
-    Ok(())
-}
-
-/// Whether the first agent steals nothing while a thread runs on its CPU, and counts that.
-fn first_is_busy(scene: &mut Scene) -> bool {
-    scene.book.steal(&mut scene.first) == Err(CallFault::Refused(Refusal::Busy))
-        && scene.first.counts().other == 1
+    assert!(rt; lists_after(rt.alloc(), &steps, 5, &listed));
 }

@@ -3,10 +3,9 @@
 use super::{SMALL, Scene, copies, new_scene};
 use pc_agent::Agent;
 use pc_kernel::Kernel;
-use pc_messages::{Cpu, Tid};
+use pc_messages::{Cpu, Item, Tid};
 use pc_threads::{Book, CallFault, EnvCall};
 use std::alloc::Global;
-use std::test::Fail;
 
 /// How many lists are drawn.
 const LISTS: u64 = 1_000;
@@ -39,43 +38,52 @@ fn drawn_mask(seed: &mut u64) -> u64 {
     u64::from(drawn(seed) % 5)
 }
 
+fn drawn_create(seed: &mut u64) -> EnvCall {
+    EnvCall::Create {
+        queue: drawn_cpu(seed),
+        mask: drawn_mask(seed),
+        ready: drawn(seed) % 2 == 0,
+    }
+}
+
+/// The thread on a CPU leaves it, in one of four ways.
+fn drawn_exit(way: u32, seed: &mut u64) -> EnvCall {
+    let cpu = drawn_cpu(seed);
+    let ran = drawn(seed);
+    match way {
+        2 => EnvCall::Block { cpu, ran },
+        3 => EnvCall::YieldNow { cpu, ran },
+        4 => EnvCall::Preempt { cpu, ran },
+        _ => EnvCall::Die { cpu, ran },
+    }
+}
+
+fn drawn_affinity(seed: &mut u64) -> EnvCall {
+    EnvCall::SetAffinity {
+        thread: drawn_thread(seed),
+        mask: drawn_mask(seed),
+    }
+}
+
+fn drawn_priority(seed: &mut u64) -> EnvCall {
+    EnvCall::SetPriority {
+        thread: drawn_thread(seed),
+        level: u8::try_from(drawn(seed) % 9).unwrap_or(8),
+    }
+}
+
 fn drawn_call(seed: &mut u64) -> EnvCall {
     match drawn(seed) % 9 {
-        0 => EnvCall::Create {
-            queue: drawn_cpu(seed),
-            mask: drawn_mask(seed),
-            ready: drawn(seed) % 2 == 0,
-        },
+        0 => drawn_create(seed),
         1 => EnvCall::Wake {
             thread: drawn_thread(seed),
         },
-        2 => EnvCall::Block {
-            cpu: drawn_cpu(seed),
-            ran: drawn(seed),
-        },
-        3 => EnvCall::YieldNow {
-            cpu: drawn_cpu(seed),
-            ran: drawn(seed),
-        },
-        4 => EnvCall::Preempt {
-            cpu: drawn_cpu(seed),
-            ran: drawn(seed),
-        },
-        5 => EnvCall::Die {
-            cpu: drawn_cpu(seed),
-            ran: drawn(seed),
-        },
-        6 => EnvCall::SetAffinity {
-            thread: drawn_thread(seed),
-            mask: drawn_mask(seed),
-        },
-        7 => EnvCall::SetPriority {
-            thread: drawn_thread(seed),
-            level: u8::try_from(drawn(seed) % 9).unwrap_or(8),
-        },
-        _ => EnvCall::Tick {
+        6 => drawn_affinity(seed),
+        7 => drawn_priority(seed),
+        8 => EnvCall::Tick {
             cpu: drawn_cpu(seed),
         },
+        way => drawn_exit(way, seed),
     }
 }
 
@@ -148,46 +156,85 @@ fn is_cpu_alike(one: &Kernel, other: &Kernel, cpu: Cpu) -> bool {
         && one.is_asleep(cpu) == other.is_asleep(cpu)
 }
 
-/// Whether the same is held by a CPU's queue.
-fn is_content_alike(one: &Kernel, other: &Kernel, cpu: Cpu) -> bool {
-    match (one.peek(cpu), other.peek(cpu)) {
-        (Ok((_, mine)), Ok((_, theirs))) => mine.as_slice() == theirs.as_slice(),
-        _ => false,
+/// Whether the CPU's queue holds these items.
+fn holds(kernel: &Kernel, cpu: Cpu, wanted: &[Item]) -> bool {
+    match kernel.peek(cpu) {
+        Ok((_, items)) => items.as_slice() == wanted,
+        Err(_) => false,
     }
 }
 
-fn is_alike(one: &Kernel, other: &Kernel) -> bool {
+/// Whether the same is held by a CPU's queue.
+fn is_content_alike(one: &Kernel, other: &Kernel, cpu: Cpu) -> bool {
+    match one.peek(cpu) {
+        Ok((_, items)) => holds(other, cpu, items.as_slice()),
+        Err(_) => false,
+    }
+}
+
+fn are_threads_alike(one: &Kernel, other: &Kernel) -> bool {
+    for thread in 0..one.threads() {
+        if !is_thread_alike(one, other, Tid(thread)) {
+            return false;
+        }
+    }
     one.threads() == other.threads()
-        && (0..one.threads()).all(|thread| is_thread_alike(one, other, Tid(thread)))
-        && (0..one.cpus()).all(|cpu| is_cpu_alike(one, other, Cpu(cpu)))
-        && (0..one.cpus()).all(|cpu| is_content_alike(one, other, Cpu(cpu)))
+}
+
+fn are_cpus_alike(one: &Kernel, other: &Kernel) -> bool {
+    for cpu in 0..one.cpus() {
+        if !is_cpu_alike(one, other, Cpu(cpu)) || !is_content_alike(one, other, Cpu(cpu)) {
+            return false;
+        }
+    }
+    true
+}
+
+/// Whether the kernel answers each listed call as it is listed, and then reads the same.
+fn follows(book: &Book, kernel: &mut Kernel) -> bool {
+    answers_alike(book, kernel)
+        && are_threads_alike(book.kernel(), kernel)
+        && are_cpus_alike(book.kernel(), kernel)
 }
 
 /// Whether a new kernel, on which the listed calls are made, answers and reads the same.
 fn is_replayed(alloc: Global, book: &Book) -> bool {
     match Kernel::new(alloc, SMALL) {
-        Ok(mut kernel) => { answers_alike(book, &mut kernel) && is_alike(book.kernel(), &kernel) }
+        Ok(mut kernel) => follows(book, &mut kernel),
         Err(_) => false,
     }
 }
 
-/// Plays a list by the seed, and replays it. Answers how many calls were listed, where all is alike.
-fn replayed(alloc: Global, seed: u64) -> Option<usize> {
-    let mut scene = new_scene(alloc)?;
-    if plays(&mut scene, seed) && is_replayed(alloc, &scene.book) {
+/// How many calls are listed where the list of this seed was played, which is then replayed.
+fn listed_by(alloc: Global, scene: &mut Scene, seed: u64) -> Option<usize> {
+    if plays(scene, seed) && is_replayed(alloc, &scene.book) {
         Some(scene.listed())
     } else {
         None
     }
 }
 
-#[test]
-fn lists_are_replayed(rt: HostRuntime) -> Result<(), Fail> {
+/// Plays a list by the seed, and replays it. Answers how many calls were listed, where all is alike.
+fn replayed(alloc: Global, seed: u64) -> Option<usize> {
+    match new_scene(alloc, SMALL, 1) {
+        Some(mut scene) => listed_by(alloc, &mut scene, seed),
+        None => None,
+    }
+}
+
+/// How many calls all lists have, where each is alike.
+fn all_listed(alloc: Global) -> Option<usize> {
     let mut listed = 0_usize;
     for seed in 0..LISTS {
-        let calls = replayed(rt.alloc(), seed).ok_or("not alike")?;
-        listed = listed.saturating_add(calls);
+        match replayed(alloc, seed) {
+            Some(calls) => listed = listed.saturating_add(calls),
+            None => return None,
+        }
     }
-    assert!(rt; listed > 10_000);
-    Ok(())
+    Some(listed)
+}
+
+#[test]
+fn lists_are_replayed(rt: HostRuntime) {
+    assert!(rt; all_listed(rt.alloc()).unwrap_or(0) > 10_000);
 }

@@ -1,11 +1,10 @@
 //! Refused calls are not listed; each stands beside a neighbour that is.
 
-use super::{CREATE, PREEMPT, SMALL, copies, new_scene, posted};
-use pc_agent::Agent;
+use super::{CREATE, PREEMPT, SMALL, Step, comes_out, posted, refused};
 use pc_calls::LimitField;
 use pc_messages::{Cpu, Tid};
-use pc_threads::{Book, CallFault, EnvCall, Limits, LimitsFault, Refusal};
-use std::test::Fail;
+use pc_threads::{Book, EnvCall, Limits, LimitsFault, Refusal};
+use std::alloc::Global;
 
 /// Threads that only profile Two may have.
 const MANY: Limits = Limits {
@@ -29,136 +28,144 @@ const PRIORITY: EnvCall = EnvCall::SetPriority {
     level: 1,
 };
 
-const fn refused(refusal: Refusal) -> CallFault {
-    CallFault::Refused(refusal)
-}
-
-#[test]
-fn a_book_is_of_profile_one(rt: HostRuntime) {
-    assert!(rt;
-        matches!(
-            Book::new(rt.alloc(), MANY),
-            Err(LimitsFault::BadLimits(LimitField::Threads))
-        )
-    );
-}
-
-#[test]
-fn a_new_book_lists_nothing(rt: HostRuntime) -> Result<(), Fail> {
-    let book = Book::new(rt.alloc(), SMALL)?;
-    book.is_replay();
-    book.facts_hold();
-    assert_eq!(rt; book.calls().len(), 0);
-    assert_eq!(rt; book.kernel().limits(), SMALL);
-    Ok(())
-}
-
-#[test]
-fn of_the_environment(rt: HostRuntime) -> Result<(), Fail> {
-    let mut scene = new_scene(rt.alloc()).ok_or("no book")?;
-    assert_eq!(rt; scene.posts(WAKE), Err(refused(Refusal::UnknownThread)));
-    assert_eq!(rt; scene.listed(), 0);
-    assert_eq!(rt; scene.posts(CREATE), Ok(posted(1, 1)));
-    assert_eq!(rt; scene.posts(WAKE), Err(refused(Refusal::NotBlocked)));
-    assert_eq!(rt; scene.listed(), 1);
-    Ok(())
-}
-
-#[test]
-fn of_sleepers(rt: HostRuntime) -> Result<(), Fail> {
-    let mut scene = new_scene(rt.alloc()).ok_or("no book")?;
-    assert_eq!(rt; scene.sleeps(2, 0), Err(refused(Refusal::BadCpu)));
-    assert_eq!(rt; scene.sleeps(1, 1), Err(refused(Refusal::Stale(0))));
-    assert_eq!(rt; scene.rouses(2), Err(refused(Refusal::BadCpu)));
-    assert_eq!(rt; scene.listed(), 0);
-    assert_eq!(rt; scene.sleeps(1, 0), Ok(()));
-    assert_eq!(rt; scene.listed(), 1);
-    Ok(())
-}
-
-/// How many posts and items a peek at the CPU's queue tells of.
-fn peeked(book: &Book, cpu: Cpu) -> Result<(u32, usize), CallFault> {
-    match book.peek(cpu) {
-        Ok((posts, items)) => Ok((posts, items.len())),
-        Err(fault) => Err(fault),
+fn bad_field(alloc: Global, limits: Limits) -> Option<LimitField> {
+    match Book::new(alloc, limits) {
+        Err(LimitsFault::BadLimits(field)) => Some(field),
+        _ => None,
     }
 }
 
 #[test]
-fn of_a_peek(rt: HostRuntime) -> Result<(), Fail> {
-    let mut scene = new_scene(rt.alloc()).ok_or("no book")?;
-    assert_eq!(rt; scene.posts(CREATE), Ok(posted(1, 1)));
-    let bad = peeked(&scene.book, Cpu(2));
-    assert_eq!(rt; bad, Err(refused(Refusal::BadCpu)));
-    assert_eq!(rt; peeked(&scene.book, Cpu(0)), Ok((1, 1)));
-    assert_eq!(rt; scene.listed(), 1);
-    Ok(())
+fn a_book_is_of_profile_one(rt: HostRuntime) {
+    assert_eq!(rt; bad_field(rt.alloc(), MANY), Some(LimitField::Threads));
+}
+
+fn is_replayed(book: &Book) {
+    book.is_replay();
+    book.facts_hold();
+}
+
+fn is_new(book: &Book) -> bool {
+    book.calls().len() == 0 && book.kernel().limits() == SMALL
+}
+
+/// Whether a new book is as one that nothing was written into.
+fn begins_as_new(alloc: Global) -> bool {
+    match Book::new(alloc, SMALL) {
+        Ok(book) => {
+            is_replayed(&book);
+            is_new(&book)
+        }
+        Err(_) => false,
+    }
 }
 
 #[test]
-fn of_a_consume(rt: HostRuntime) -> Result<(), Fail> {
-    let mut scene = new_scene(rt.alloc()).ok_or("no book")?;
-    assert_eq!(rt; scene.posts(CREATE), Ok(posted(1, 1)));
-    scene.first.sent(2);
-    assert_eq!(rt; scene.consumes(), Err(refused(Refusal::TooMany)));
-    assert_eq!(rt; scene.listed(), 1);
-    scene.first.sent(1);
-    assert_eq!(rt; scene.consumes(), Ok(1));
-    assert_eq!(rt; scene.listed(), 2);
-    Ok(())
+fn a_new_book_lists_nothing(rt: HostRuntime) {
+    assert!(rt; begins_as_new(rt.alloc()));
 }
 
 #[test]
-fn of_a_pick(rt: HostRuntime) -> Result<(), Fail> {
-    let mut scene = new_scene(rt.alloc()).ok_or("no book")?;
-    assert_eq!(rt; scene.posts(CREATE), Ok(posted(1, 1)));
-    assert_eq!(rt; scene.picks(0), Err(refused(Refusal::Stale(1))));
-    assert_eq!(rt; scene.picks(1), Err(refused(Refusal::NothingReady)));
-    assert!(rt; scene.tells());
-    assert_eq!(rt; scene.listed(), 1);
-    assert_eq!(rt; scene.picks(1), Ok(Tid(0)));
-    assert_eq!(rt; scene.picks(1), Err(refused(Refusal::Busy)));
-    assert_eq!(rt; scene.listed(), 2);
-    Ok(())
+fn of_the_environment(rt: HostRuntime) {
+    let steps = [
+        Step::Posts(WAKE, Err(refused(Refusal::UnknownThread))),
+        Step::Listed(0),
+        Step::Posts(CREATE, Ok(posted(1, 1))),
+        Step::Posts(WAKE, Err(refused(Refusal::NotBlocked))),
+        Step::Listed(1),
+    ];
+    comes_out(&rt, rt.alloc(), SMALL, 1, &steps);
 }
 
 #[test]
-fn of_a_steal(rt: HostRuntime) -> Result<(), Fail> {
-    let mut scene = new_scene(rt.alloc()).ok_or("no book")?;
-    assert_eq!(rt; scene.posts(CREATE), Ok(posted(1, 1)));
-    assert!(rt; scene.tells());
-    assert_eq!(rt; scene.steals(), Err(refused(Refusal::Pending)));
-    assert_eq!(rt; scene.posts(PRIORITY), Ok(posted(2, 2)));
-    assert_eq!(rt; scene.steals(), Err(refused(Refusal::Stale(2))));
-    assert_eq!(rt; scene.listed(), 2);
-    assert!(rt; scene.tells());
-    assert_eq!(rt; scene.consumes(), Ok(2));
-    assert_eq!(rt; scene.steals(), Ok(Tid(0)));
-    assert_eq!(rt; scene.listed(), 4);
-    Ok(())
+fn of_sleepers(rt: HostRuntime) {
+    let steps = [
+        Step::Sleeps(2, 0, Err(refused(Refusal::BadCpu))),
+        Step::Sleeps(1, 1, Err(refused(Refusal::Stale(0)))),
+        Step::Rouses(2, Err(refused(Refusal::BadCpu))),
+        Step::Listed(0),
+        Step::Sleeps(1, 0, Ok(())),
+        Step::Listed(1),
+    ];
+    comes_out(&rt, rt.alloc(), SMALL, 1, &steps);
 }
 
 #[test]
-fn of_a_steal_of_what_ran(rt: HostRuntime) -> Result<(), Fail> {
-    let mut scene = new_scene(rt.alloc()).ok_or("no book")?;
-    assert!(rt; scene.runs_one());
-    assert_eq!(rt; scene.posts(DIE), Ok(posted(2, 2)));
-    assert_eq!(rt; scene.steals(), Err(refused(Refusal::Dead)));
-    assert_eq!(rt; scene.posts(PREEMPT), Err(refused(Refusal::IdleCpu)));
-    assert_eq!(rt; scene.listed(), 4);
-    Ok(())
+fn of_a_peek(rt: HostRuntime) {
+    let steps = [
+        Step::Posts(CREATE, Ok(posted(1, 1))),
+        Step::Peeks(2, Err(refused(Refusal::BadCpu))),
+        Step::Peeks(0, Ok((1, 1))),
+        Step::Listed(1),
+    ];
+    comes_out(&rt, rt.alloc(), SMALL, 1, &steps);
 }
 
 #[test]
-fn of_an_agent_whose_cpu_is_not_there(rt: HostRuntime) -> Result<(), Fail> {
-    let mut scene = new_scene(rt.alloc()).ok_or("no book")?;
-    let mut agent = Agent::new(rt.alloc(), Cpu(2));
-    assert_eq!(rt;
-        scene.book.consume(&mut agent),
-        Err(refused(Refusal::BadCpu))
-    );
-    assert_eq!(rt; scene.listed(), 0);
-    Ok(())
+fn of_a_consume(rt: HostRuntime) {
+    let steps = [
+        Step::Posts(CREATE, Ok(posted(1, 1))),
+        Step::Counts(2),
+        Step::Consumes(Err(refused(Refusal::TooMany))),
+        Step::Listed(1),
+        Step::Counts(1),
+        Step::Consumes(Ok(1)),
+        Step::Listed(2),
+    ];
+    comes_out(&rt, rt.alloc(), SMALL, 1, &steps);
+}
+
+#[test]
+fn of_a_pick(rt: HostRuntime) {
+    let steps = [
+        Step::Posts(CREATE, Ok(posted(1, 1))),
+        Step::Picks(0, Err(refused(Refusal::Stale(1)))),
+        Step::Picks(1, Err(refused(Refusal::NothingReady))),
+        Step::Tells,
+        Step::Listed(1),
+        Step::Picks(1, Ok(Tid(0))),
+        Step::Picks(1, Err(refused(Refusal::Busy))),
+        Step::Listed(2),
+    ];
+    comes_out(&rt, rt.alloc(), SMALL, 1, &steps);
+}
+
+#[test]
+fn of_a_steal(rt: HostRuntime) {
+    let steps = [
+        Step::Posts(CREATE, Ok(posted(1, 1))),
+        Step::Tells,
+        Step::Steals(Err(refused(Refusal::Pending))),
+        Step::Posts(PRIORITY, Ok(posted(2, 2))),
+        Step::Steals(Err(refused(Refusal::Stale(2)))),
+        Step::Listed(2),
+        Step::Tells,
+        Step::Consumes(Ok(2)),
+        Step::Steals(Ok(Tid(0))),
+        Step::Listed(4),
+    ];
+    comes_out(&rt, rt.alloc(), SMALL, 1, &steps);
+}
+
+#[test]
+fn of_a_steal_of_what_ran(rt: HostRuntime) {
+    let steps = [
+        Step::RunsOne,
+        Step::Posts(DIE, Ok(posted(2, 2))),
+        Step::Steals(Err(refused(Refusal::Dead))),
+        Step::Posts(PREEMPT, Err(refused(Refusal::IdleCpu))),
+        Step::Listed(4),
+    ];
+    comes_out(&rt, rt.alloc(), SMALL, 1, &steps);
+}
+
+#[test]
+fn of_an_agent_whose_cpu_is_not_there(rt: HostRuntime) {
+    let steps = [
+        Step::OtherConsumes(Err(refused(Refusal::BadCpu))),
+        Step::Listed(0),
+    ];
+    comes_out(&rt, rt.alloc(), SMALL, 2, &steps);
 }
 
 /// One CPU, one thread of two messages, a queue of two items and two posts.
@@ -187,57 +194,38 @@ const fn affinity(mask: u64) -> EnvCall {
     }
 }
 
-// Without contracts, as the scene's calls are.
-fn refusal(book: &mut Book, call: EnvCall) -> Option<Refusal> {
-    match book.post(call) {
-        Err(CallFault::Refused(refusal)) => Some(refusal),
-        Ok(_) | Err(CallFault::OutOfMemory) => None,
-    }
-}
-
-fn posts(book: &mut Book, call: EnvCall) -> bool {
-    book.post(call).is_ok()
+#[test]
+fn of_posts_that_reach_the_limits(rt: HostRuntime) {
+    let steps = [
+        Step::Posts(create(0), Err(refused(Refusal::EmptyMask))),
+        Step::Posts(create(2), Err(refused(Refusal::MaskTooWide))),
+        Step::Accepts(create(1)),
+        Step::Posts(create(1), Err(refused(Refusal::NamesSpent))),
+        Step::Accepts(WAKE),
+        Step::Posts(affinity(1), Err(refused(Refusal::NumbersSpent))),
+        Step::Posts(TICK, Err(refused(Refusal::QueueFull))),
+        Step::Copies,
+        Step::Consumes(Ok(2)),
+        Step::Posts(TICK, Err(refused(Refusal::PostsSpent))),
+        Step::Listed(3),
+    ];
+    comes_out(&rt, rt.alloc(), TINY, 1, &steps);
 }
 
 #[test]
-fn of_posts_that_reach_the_limits(rt: HostRuntime) -> Result<(), Fail> {
-    let mut book = Book::new(rt.alloc(), TINY)?;
-    let mut agent = Agent::new(rt.alloc(), Cpu(0));
-    assert_eq!(rt; refusal(&mut book, create(0)), Some(Refusal::EmptyMask));
-    assert_eq!(rt; refusal(&mut book, create(2)), Some(Refusal::MaskTooWide));
-    assert!(rt; posts(&mut book, create(1)));
-    assert_eq!(rt; refusal(&mut book, create(1)), Some(Refusal::NamesSpent));
-    assert!(rt; posts(&mut book, WAKE));
-    assert_eq!(rt;
-        refusal(&mut book, affinity(1)),
-        Some(Refusal::NumbersSpent)
-    );
-    assert_eq!(rt; refusal(&mut book, TICK), Some(Refusal::QueueFull));
-    assert!(rt; copies(&book, &mut agent).is_some());
-    assert_eq!(rt; book.consume(&mut agent), Ok(2));
-    assert_eq!(rt; refusal(&mut book, TICK), Some(Refusal::PostsSpent));
-    assert_eq!(rt; book.calls().len(), 3);
-    Ok(())
-}
-
-#[test]
-fn of_a_thread_that_runs(rt: HostRuntime) -> Result<(), Fail> {
-    let mut scene = new_scene(rt.alloc()).ok_or("no book")?;
-    assert!(rt; scene.runs_one());
-    let block = EnvCall::Block {
+fn of_a_thread_that_runs(rt: HostRuntime) {
+    const BLOCK: EnvCall = EnvCall::Block {
         cpu: Cpu(1),
         ran: 1,
     };
-    assert_eq!(rt; scene.posts(block), Err(refused(Refusal::IdleCpu)));
-    assert_eq!(rt;
-        scene.posts(EnvCall::Tick { cpu: Cpu(2) }),
-        Err(refused(Refusal::BadCpu))
-    );
-    assert_eq!(rt; scene.posts(WAKE), Err(refused(Refusal::NotBlocked)));
-    assert_eq!(rt;
-        scene.posts(affinity(2)),
-        Err(refused(Refusal::OnForbiddenCpu))
-    );
-    assert_eq!(rt; scene.listed(), 3);
-    Ok(())
+    const TICK_OF_NONE: EnvCall = EnvCall::Tick { cpu: Cpu(2) };
+    let steps = [
+        Step::RunsOne,
+        Step::Posts(BLOCK, Err(refused(Refusal::IdleCpu))),
+        Step::Posts(TICK_OF_NONE, Err(refused(Refusal::BadCpu))),
+        Step::Posts(WAKE, Err(refused(Refusal::NotBlocked))),
+        Step::Posts(affinity(2), Err(refused(Refusal::OnForbiddenCpu))),
+        Step::Listed(3),
+    ];
+    comes_out(&rt, rt.alloc(), SMALL, 1, &steps);
 }

@@ -1,55 +1,28 @@
 //! Runs of agents in threads, whatever the schedule.
 
-use pc_messages::Cpu;
+use super::settings::{Plan, config};
+use pc_messages::{Cpu, Tid};
 use pc_threads::{
-    Config, Gate, LoadReport, OpenGate, Point, Restart, Row, RunFault, Step, ThreadPlan, run_agents,
+    Answer, Call, Gate, LoadReport, OpenGate, Point, Row, RunFault, Step, run_agents,
 };
-use std::alloc::{AllocError, Global};
+use std::alloc::Global;
+use std::process::Abort;
 use std::sync::Wait;
 use std::sync::atomic::{AtomicU64, Ordering};
-use std::test::Fail;
 use std::thread;
 use std::thread::Threads;
 use std::time::{Clock, Duration};
 
-/// A thread by its queue, its mask and its steps.
-pub(crate) type Plan<'a> = (i64, i64, &'a [Step]);
-
 /// A thread that may run on two CPUs: it yields, blocks and dies.
 const LIFE: Plan<'static> = (0, 3, &[Step::Yield(2), Step::Block(3), Step::Die(1)]);
 
-/// What is asked of a run on so many CPUs, with these threads and restarts (their CPU and turn).
-pub(crate) fn config(
-    alloc: Global,
-    cpus: i64,
-    plans: &[Plan<'_>],
-    turns: &[(i64, i64)],
-) -> Result<Config, Fail> {
-    let mut threads = Vec::new(alloc);
-    for plan in plans {
-        threads.push(ThreadPlan {
-            queue: plan.0,
-            mask: plan.1,
-            steps: Vec::from_slice(alloc, plan.2)?,
-        })?;
-    }
-    let mut restarts = Vec::new(alloc);
-    for turn in turns {
-        restarts.push(Restart {
-            cpu: turn.0,
-            turn: turn.1,
-        })?;
-    }
-    Ok(Config::new(cpus, threads, restarts)?)
-}
-
 /// Threads, messages, commits and ticks.
-pub(crate) fn totals(report: &LoadReport) -> [u64; 4] {
+fn totals(report: &LoadReport) -> [u64; 4] {
     [report.threads, report.messages, report.commits, report.ran]
 }
 
 /// Items consumed, threads committed and taken over, and refusals: stale, pending, others.
-pub(crate) fn counts(row: &Row) -> [u64; 6] {
+fn counts(row: &Row) -> [u64; 6] {
     [
         row.taken,
         row.commits,
@@ -60,6 +33,113 @@ pub(crate) fn counts(row: &Row) -> [u64; 6] {
     ]
 }
 
+/// What is so after a run.
+#[derive(Clone, Copy)]
+pub(crate) enum Fact<'a> {
+    /// Threads, messages, commits and ticks.
+    Totals([u64; 4]),
+    /// How many threads the book's kernel has.
+    Threads(u32),
+    /// The thread's message of this number is known.
+    Knows(u32, u32),
+    /// How many agents counted.
+    Rows(usize),
+    FirstCpu(u8),
+    LastCpu(u8),
+    /// Items consumed, threads committed and taken over, and refusals: stale, pending, others.
+    FirstCounts([u64; 6]),
+    /// The same, of each agent.
+    EachCounts([u64; 6]),
+    /// Some agent took a thread over.
+    SomeSteal,
+    /// The calls that the book lists.
+    Calls(&'a [(Call, Answer)]),
+    /// The first calls that the book lists.
+    FirstCalls(&'a [(Call, Answer)]),
+}
+
+fn is_of(row: Option<&Row>, cpu: u8) -> bool {
+    match row {
+        Some(row) => row.cpu == Cpu(cpu),
+        None => false,
+    }
+}
+
+fn has_counted(row: Option<&Row>, wanted: [u64; 6]) -> bool {
+    match row {
+        Some(row) => counts(row) == wanted,
+        None => false,
+    }
+}
+
+fn each_counted(rows: &[Row], wanted: [u64; 6]) -> bool {
+    for row in rows {
+        if counts(row) != wanted {
+            return false;
+        }
+    }
+    true
+}
+
+fn is_so_of(rows: &[Row], fact: &Fact<'_>) -> bool {
+    match *fact {
+        Fact::Rows(wanted) => rows.len() == wanted,
+        Fact::FirstCpu(cpu) => is_of(rows.first(), cpu),
+        Fact::LastCpu(cpu) => is_of(rows.last(), cpu),
+        Fact::FirstCounts(wanted) => has_counted(rows.first(), wanted),
+        Fact::EachCounts(wanted) => each_counted(rows, wanted),
+        Fact::SomeSteal => rows.iter().any(|row| row.steals >= 1),
+        _ => false,
+    }
+}
+
+fn begins_with(calls: &[(Call, Answer)], wanted: &[(Call, Answer)]) -> bool {
+    calls.get(..wanted.len()) == Some(wanted)
+}
+
+fn is_so(report: &LoadReport, fact: &Fact<'_>) -> bool {
+    match *fact {
+        Fact::Totals(wanted) => totals(report) == wanted,
+        Fact::Threads(wanted) => report.book.kernel().threads() == wanted,
+        Fact::Knows(thread, number) => report.view.knows(Tid(thread), number),
+        Fact::Calls(wanted) => report.book.calls() == wanted,
+        Fact::FirstCalls(wanted) => begins_with(report.book.calls(), wanted),
+        _ => is_so_of(report.rows.as_slice(), fact),
+    }
+}
+
+/// The place of the first fact that is not so after the run, which comes to an end.
+pub(crate) fn first_wrong(report: Option<LoadReport>, facts: &[Fact<'_>]) -> Option<Option<usize>> {
+    match report {
+        Some(report) => Some(first_wrong_of(&report, facts)),
+        None => None,
+    }
+}
+
+fn first_wrong_of(report: &LoadReport, facts: &[Fact<'_>]) -> Option<usize> {
+    for (place, fact) in facts.iter().enumerate() {
+        if !is_so(report, fact) {
+            return Some(place);
+        }
+    }
+    None
+}
+
+/// What a run of these settings comes to, behind a gate.
+pub(crate) fn gated_run<R: Threads + Wait + Sync, G: Gate + Sync>(
+    rt: &R,
+    alloc: Global,
+    cpus: i64,
+    plans: &[Plan<'_>],
+    turns: &[(i64, i64)],
+    gate: &G,
+) -> Option<Result<LoadReport, RunFault>> {
+    match config(alloc, cpus, plans, turns) {
+        Some(config) => Some(run_agents(rt, alloc, &config, gate)),
+        None => None,
+    }
+}
+
 /// What a run of these settings comes to.
 fn run<R: Threads + Wait + Sync>(
     rt: &R,
@@ -67,83 +147,91 @@ fn run<R: Threads + Wait + Sync>(
     cpus: i64,
     plans: &[Plan<'_>],
     turns: &[(i64, i64)],
-) -> Result<LoadReport, Fail> {
-    let config = config(alloc, cpus, plans, turns)?;
-    Ok(run_agents(rt, alloc, &config, &OpenGate)?)
+) -> Option<LoadReport> {
+    gated_run(rt, alloc, cpus, plans, turns, &OpenGate)?.ok()
+}
+
+/// The facts are so after a run of these settings.
+pub(crate) fn comes_to<R: Abort + Threads + Wait + Sync>(
+    rt: &R,
+    alloc: Global,
+    cpus: i64,
+    plans: &[Plan<'_>],
+    turns: &[(i64, i64)],
+    facts: &[Fact<'_>],
+) {
+    let wrong = first_wrong(run(rt, alloc, cpus, plans, turns), facts);
+    assert_eq!(rt; wrong, Some(None));
 }
 
 #[test]
-fn a_thread_that_yields_blocks_and_dies(rt: HostRuntime) -> Result<(), Fail> {
-    let report = run(&rt, rt.alloc(), 2, &[LIFE], &[])?;
-    assert_eq!(rt; totals(&report), [1, 5, 3, 6]);
-    assert_eq!(rt; report.rows.len(), 2);
-    assert_eq!(rt; report.book.kernel().threads(), 1);
-    assert!(rt; report.view.knows(pc_messages::Tid(0), 5));
-    Ok(())
-}
-
-#[test]
-fn without_threads_each_agent_looks_once(rt: HostRuntime) -> Result<(), Fail> {
-    let report = run(&rt, rt.alloc(), 2, &[], &[])?;
-    assert_eq!(rt; totals(&report), [0, 0, 0, 0]);
-    assert_eq!(rt; report.rows.len(), 2);
-    assert_eq!(rt; report.rows.first().map(|row| row.cpu), Some(Cpu(0)));
-    assert_eq!(rt; report.rows.last().map(|row| row.cpu), Some(Cpu(1)));
-    for row in report.rows.iter() {
-        assert_eq!(rt; counts(row), [0, 0, 0, 0, 0, 2]);
-    }
-    Ok(())
-}
-
-#[test]
-fn one_thread_on_one_cpu(rt: HostRuntime) -> Result<(), Fail> {
-    let plan = (0, 1, [Step::Yield(1), Step::Die(2)].as_slice());
-    let report = run(&rt, rt.alloc(), 1, &[plan], &[])?;
-    assert_eq!(rt; totals(&report), [1, 3, 2, 3]);
-    assert_eq!(rt; report.rows.len(), 1);
-    assert_eq!(rt; report.rows.first().map(counts), Some([3, 2, 0, 0, 0, 2]));
-    Ok(())
-}
-
-#[test]
-fn three_threads_on_two_cpus(rt: HostRuntime) -> Result<(), Fail> {
-    let plans = [
-        (0, 1, [Step::Yield(1), Step::Die(1)].as_slice()),
-        (1, 2, [Step::Block(2), Step::Die(2)].as_slice()),
-        (0, 3, [Step::Preempt(4), Step::Die(5)].as_slice()),
+fn a_thread_that_yields_blocks_and_dies(rt: HostRuntime) {
+    const FACTS: [Fact<'static>; 4] = [
+        Fact::Totals([1, 5, 3, 6]),
+        Fact::Rows(2),
+        Fact::Threads(1),
+        Fact::Knows(0, 5),
     ];
-    let report = run(&rt, rt.alloc(), 2, &plans, &[])?;
-    assert_eq!(rt; totals(&report), [3, 10, 6, 15]);
-    Ok(())
+    comes_to(&rt, rt.alloc(), 2, &[LIFE], &[], &FACTS);
+}
+
+#[test]
+fn without_threads_each_agent_looks_once(rt: HostRuntime) {
+    const FACTS: [Fact<'static>; 5] = [
+        Fact::Totals([0, 0, 0, 0]),
+        Fact::Rows(2),
+        Fact::FirstCpu(0),
+        Fact::LastCpu(1),
+        Fact::EachCounts([0, 0, 0, 0, 0, 2]),
+    ];
+    comes_to(&rt, rt.alloc(), 2, &[], &[], &FACTS);
+}
+
+#[test]
+fn one_thread_on_one_cpu(rt: HostRuntime) {
+    const PLANS: [Plan<'static>; 1] = [(0, 1, &[Step::Yield(1), Step::Die(2)])];
+    const FACTS: [Fact<'static>; 3] = [
+        Fact::Totals([1, 3, 2, 3]),
+        Fact::Rows(1),
+        Fact::FirstCounts([3, 2, 0, 0, 0, 2]),
+    ];
+    comes_to(&rt, rt.alloc(), 1, &PLANS, &[], &FACTS);
+}
+
+#[test]
+fn three_threads_on_two_cpus(rt: HostRuntime) {
+    const PLANS: [Plan<'static>; 3] = [
+        (0, 1, &[Step::Yield(1), Step::Die(1)]),
+        (1, 2, &[Step::Block(2), Step::Die(2)]),
+        (0, 3, &[Step::Preempt(4), Step::Die(5)]),
+    ];
+    const FACTS: [Fact<'static>; 1] = [Fact::Totals([3, 10, 6, 15])];
+    comes_to(&rt, rt.alloc(), 2, &PLANS, &[], &FACTS);
 }
 
 // Each agent whose steal is refused asks 63 others, and each of these answers. Where all of that waited, one thread of three steps
 // was not done after 20 seconds.
 #[test]
-fn a_thread_that_sixty_four_agents_would_have(rt: HostRuntime) -> Result<(), Fail> {
-    let plan = (0, i64::MAX, LIFE.2);
-    let report = run(&rt, rt.alloc(), 64, &[plan], &[])?;
-    assert_eq!(rt; totals(&report), [1, 5, 3, 6]);
-    assert_eq!(rt; report.rows.len(), 64);
-    Ok(())
+fn a_thread_that_sixty_four_agents_would_have(rt: HostRuntime) {
+    const FACTS: [Fact<'static>; 2] = [Fact::Totals([1, 5, 3, 6]), Fact::Rows(64)];
+    comes_to(&rt, rt.alloc(), 64, &[(0, i64::MAX, LIFE.2)], &[], &FACTS);
 }
 
 #[test]
-fn agents_that_restart(rt: HostRuntime) -> Result<(), Fail> {
-    for turn in [(0, 2), (1, 1)] {
-        let report = run(&rt, rt.alloc(), 2, &[LIFE], &[turn])?;
-        assert_eq!(rt; totals(&report), [1, 5, 3, 6]);
-    }
-    Ok(())
+fn agents_that_restart(rt: HostRuntime) {
+    const FACTS: [Fact<'static>; 1] = [Fact::Totals([1, 5, 3, 6])];
+    comes_to(&rt, rt.alloc(), 2, &[LIFE], &[(0, 2)], &FACTS);
+    comes_to(&rt, rt.alloc(), 2, &[LIFE], &[(1, 1)], &FACTS);
 }
 
 #[test]
-fn a_restarted_agent_takes_its_thread_back(rt: HostRuntime) -> Result<(), Fail> {
-    let plan = (0, 1, [Step::Yield(2), Step::Die(1)].as_slice());
-    let report = run(&rt, rt.alloc(), 2, &[plan, plan], &[(0, 2)])?;
-    assert_eq!(rt; totals(&report), [2, 6, 4, 6]);
-    assert!(rt; report.rows.iter().any(|row| row.steals >= 1));
-    Ok(())
+fn a_restarted_agent_takes_its_thread_back(rt: HostRuntime) {
+    const PLANS: [Plan<'static>; 2] = [
+        (0, 1, &[Step::Yield(2), Step::Die(1)]),
+        (0, 1, &[Step::Yield(2), Step::Die(1)]),
+    ];
+    const FACTS: [Fact<'static>; 2] = [Fact::Totals([2, 6, 4, 6]), Fact::SomeSteal];
+    comes_to(&rt, rt.alloc(), 2, &PLANS, &[(0, 2)], &FACTS);
 }
 
 /// Gives every run up.
@@ -156,13 +244,22 @@ impl Gate for ShutGate {
     }
 }
 
+/// How a run of one agent is given up.
+fn given_up<R: Threads + Wait + Sync>(
+    rt: &R,
+    alloc: Global,
+    plans: &[Plan<'_>],
+) -> Option<RunFault> {
+    gated_run(rt, alloc, 1, plans, &[], &ShutGate)?.err()
+}
+
 #[test]
-fn a_gate_gives_the_run_up(rt: HostRuntime) -> Result<(), Fail> {
-    let plan = (0, 1, [Step::Yield(1), Step::Die(2)].as_slice());
-    let config = config(rt.alloc(), 1, &[plan], &[])?;
-    let ended = run_agents(&rt, rt.alloc(), &config, &ShutGate);
-    assert_eq!(rt; ended.err(), Some(RunFault::GaveUp(Cpu(0))));
-    Ok(())
+fn a_gate_gives_the_run_up(rt: HostRuntime) {
+    const PLANS: [Plan<'static>; 1] = [(0, 1, &[Step::Yield(1), Step::Die(2)])];
+    assert_eq!(rt;
+        given_up(&rt, rt.alloc(), &PLANS),
+        Some(RunFault::GaveUp(Cpu(0)))
+    );
 }
 
 /// Holds one agent at a point until the other one has decided, for 10,000 turns of a millisecond.
@@ -201,32 +298,36 @@ fn held_run<R: Threads + Wait + Clock + Sync>(
     alloc: Global,
     held: Cpu,
     at: Point,
-) -> Result<[u64; 4], Fail> {
-    let config = config(alloc, 2, &[LIFE], &[])?;
+) -> Option<LoadReport> {
     let gate = Holding {
         rt,
         held,
         at,
         decided: AtomicU64::new(0),
     };
-    Ok(totals(&run_agents(rt, alloc, &config, &gate)?))
+    gated_run(rt, alloc, 2, &[LIFE], &[], &gate)?.ok()
+}
+
+/// The run comes to its end, in which one agent waits at a point for the other one.
+fn comes_through<R: Abort + Threads + Wait + Clock + Sync>(
+    rt: &R,
+    alloc: Global,
+    held: Cpu,
+    at: Point,
+) {
+    const FACTS: [Fact<'static>; 1] = [Fact::Totals([1, 5, 3, 6])];
+    let wrong = first_wrong(held_run(rt, alloc, held, at), &FACTS);
+    assert_eq!(rt; wrong, Some(None));
 }
 
 #[test]
-fn agents_have_threads_of_their_own(rt: HostRuntime) -> Result<(), Fail> {
-    for held in [Cpu(0), Cpu(1)] {
-        assert_eq!(rt; held_run(&rt, rt.alloc(), held, Point::Turn)?, [1, 5, 3, 6]);
-    }
-    Ok(())
+fn agents_have_threads_of_their_own(rt: HostRuntime) {
+    comes_through(&rt, rt.alloc(), Cpu(0), Point::Turn);
+    comes_through(&rt, rt.alloc(), Cpu(1), Point::Turn);
 }
 
 #[test]
-fn no_lock_is_held_between_copying_and_deciding(rt: HostRuntime) -> Result<(), Fail> {
-    for held in [Cpu(0), Cpu(1)] {
-        assert_eq!(rt;
-            held_run(&rt, rt.alloc(), held, Point::Copied)?,
-            [1, 5, 3, 6]
-        );
-    }
-    Ok(())
+fn no_lock_is_held_between_copying_and_deciding(rt: HostRuntime) {
+    comes_through(&rt, rt.alloc(), Cpu(0), Point::Copied);
+    comes_through(&rt, rt.alloc(), Cpu(1), Point::Copied);
 }

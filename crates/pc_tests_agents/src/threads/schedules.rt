@@ -1,15 +1,14 @@
 //! Runs in an order that a gate forces: what is listed, and what is asked and answered around restarts.
 
 use crate::threads::posted;
-use crate::threads::runs::{Plan, config, counts, totals};
+use crate::threads::runs::{Fact, comes_to, first_wrong, gated_run};
+use crate::threads::settings::Plan;
 use pc_messages::{Cpu, Tid};
-use pc_threads::{
-    Answer, Call, Driven, EnvCall, Gate, LoadReport, OpenGate, Point, Posted, Step, run_agents,
-};
+use pc_threads::{Answer, Call, Driven, EnvCall, Gate, LoadReport, Point, Posted, Step};
 use std::alloc::Global;
+use std::process::Abort;
 use std::sync::Wait;
 use std::sync::atomic::{AtomicU64, Ordering};
-use std::test::Fail;
 use std::thread;
 use std::thread::Threads;
 use std::time::{Clock, Duration};
@@ -83,8 +82,7 @@ fn forced_run<R: Threads + Wait + Clock + Sync>(
     plans: &[Plan<'_>],
     turns: &[(i64, i64)],
     holds: &[Hold],
-) -> Result<LoadReport, Fail> {
-    let config = config(alloc, cpus, plans, turns)?;
+) -> Option<LoadReport> {
     let gate = Forced {
         rt,
         holds,
@@ -95,7 +93,21 @@ fn forced_run<R: Threads + Wait + Clock + Sync>(
             AtomicU64::new(0),
         ],
     };
-    Ok(run_agents(rt, alloc, &config, &gate)?)
+    gated_run(rt, alloc, cpus, plans, turns, &gate)?.ok()
+}
+
+/// The facts are so after a run of these settings in which agents are held so.
+fn comes_to_held<R: Abort + Threads + Wait + Clock + Sync>(
+    rt: &R,
+    alloc: Global,
+    cpus: i64,
+    plans: &[Plan<'_>],
+    turns: &[(i64, i64)],
+    holds: &[Hold],
+    facts: &[Fact<'_>],
+) {
+    let wrong = first_wrong(forced_run(rt, alloc, cpus, plans, turns, holds), facts);
+    assert_eq!(rt; wrong, Some(None));
 }
 
 const fn consume(count: u32) -> (Call, Answer) {
@@ -122,11 +134,25 @@ const fn leaves(call: EnvCall, number: u32) -> (Call, Answer) {
     (Call::Env(call), Answer::Posted(posted))
 }
 
+/// A thread is created ready, and is the first of its queue.
+const fn creates(thread: u32, queue: Cpu, mask: u64) -> (Call, Answer) {
+    let ready = true;
+    let posted = Posted {
+        thread: Some(Tid(thread)),
+        number: Some(1),
+        queue,
+        aseq: 1,
+        woken: None,
+    };
+    (
+        Call::Env(EnvCall::Create { queue, mask, ready }),
+        Answer::Posted(posted),
+    )
+}
+
 #[test]
-fn one_thread_on_one_cpu_is_listed_so(rt: HostRuntime) -> Result<(), Fail> {
-    let steps = [Step::Yield(1), Step::Preempt(2), Step::Die(4)];
-    let config = config(rt.alloc(), 1, &[(0, 1, &steps)], &[])?;
-    let report = run_agents(&rt, rt.alloc(), &config, &OpenGate)?;
+fn one_thread_on_one_cpu_is_listed_so(rt: HostRuntime) {
+    const PLANS: [Plan<'static>; 1] = [(0, 1, &[Step::Yield(1), Step::Preempt(2), Step::Die(4)])];
     let cpu = Cpu(0);
     let listed = [
         creates(0, cpu, 1),
@@ -146,35 +172,21 @@ fn one_thread_on_one_cpu_is_listed_so(rt: HostRuntime) -> Result<(), Fail> {
         sleep(4),
         consume(0),
     ];
-    assert_eq!(rt; report.book.calls(), listed.as_slice());
-    Ok(())
-}
-
-/// A thread is created ready, and is the first of its queue.
-const fn creates(thread: u32, queue: Cpu, mask: u64) -> (Call, Answer) {
-    let ready = true;
-    let posted = Posted {
-        thread: Some(Tid(thread)),
-        number: Some(1),
-        queue,
-        aseq: 1,
-        woken: None,
-    };
-    (
-        Call::Env(EnvCall::Create { queue, mask, ready }),
-        Answer::Posted(posted),
-    )
+    comes_to(&rt, rt.alloc(), 1, &PLANS, &[], &[Fact::Calls(&listed)]);
 }
 
 #[test]
-fn threads_are_created_as_planned(rt: HostRuntime) -> Result<(), Fail> {
-    let plans: [Plan<'_>; 2] = [(1, 2, &[Step::Die(1)]), (0, 3, &[Step::Die(1)])];
-    let config = config(rt.alloc(), 2, &plans, &[])?;
-    let report = run_agents(&rt, rt.alloc(), &config, &OpenGate)?;
+fn threads_are_created_as_planned(rt: HostRuntime) {
+    const PLANS: [Plan<'static>; 2] = [(1, 2, &[Step::Die(1)]), (0, 3, &[Step::Die(1)])];
     let created = [creates(0, Cpu(1), 2), creates(1, Cpu(0), 3)];
-    let first = report.book.calls().get(..2);
-    assert_eq!(rt; first, Some(created.as_slice()));
-    Ok(())
+    comes_to(
+        &rt,
+        rt.alloc(),
+        2,
+        &PLANS,
+        &[],
+        &[Fact::FirstCalls(&created)],
+    );
 }
 
 /// A thread of the first queue and one of the other, which run on the first CPU alone.
@@ -192,54 +204,41 @@ const ASKED: [Hold; 3] = [(0, 1, 1, 3), (0, 4, DRIVER, 1), (0, 5, 1, 4)];
 const ASKED_AGAIN: Hold = (0, 9, 1, 10);
 
 #[test]
-fn an_answer_takes_the_place_of_what_waits(rt: HostRuntime) -> Result<(), Fail> {
+fn an_answer_takes_the_place_of_what_waits(rt: HostRuntime) {
     let holds = [ASKED[0], ASKED[1], ASKED[2], ASKED_AGAIN];
-    let report = forced_run(&rt, rt.alloc(), 2, &TWO, &[(0, 2), (0, 3)], &holds)?;
-    assert_eq!(rt; totals(&report), [2, 5, 3, 3]);
-    // Nothing stale: the first agent takes its thread back by the later answer, which tells the yield.
-    assert_eq!(rt; report.rows.first().map(counts), Some([4, 3, 2, 0, 0, 8]));
-    Ok(())
+    const FACTS: [Fact<'static>; 2] = [
+        Fact::Totals([2, 5, 3, 3]),
+        // Nothing stale: the first agent takes its thread back by the later answer, which tells the yield.
+        Fact::FirstCounts([4, 3, 2, 0, 0, 8]),
+    ];
+    let turns = [(0, 2), (0, 3)];
+    comes_to_held(&rt, rt.alloc(), 2, &TWO, &turns, &holds, &FACTS);
 }
 
 #[test]
-fn what_was_answered_before_a_restart_is_kept(rt: HostRuntime) -> Result<(), Fail> {
+fn what_was_answered_before_a_restart_is_kept(rt: HostRuntime) {
     // The other agent restarts behind its answer, and before it is told of the yield, which no agent would know if both forgot it.
     let holds = [ASKED[0], ASKED[1], (0, 5, 1, 5), ASKED_AGAIN];
+    const FACTS: [Fact<'static>; 1] = [Fact::Totals([2, 5, 3, 3])];
     let turns = [(0, 2), (0, 3), (1, 2)];
-    let report = forced_run(&rt, rt.alloc(), 2, &TWO, &turns, &holds)?;
-    assert_eq!(rt; totals(&report), [2, 5, 3, 3]);
-    Ok(())
+    comes_to_held(&rt, rt.alloc(), 2, &TWO, &turns, &holds, &FACTS);
 }
 
 #[test]
-fn all_others_are_asked(rt: HostRuntime) -> Result<(), Fail> {
+fn all_others_are_asked(rt: HostRuntime) {
     // Two agents forget the thread, before either asks; the third one knows it. The second one is woken by the first, since the
     // thread may run on its CPU too.
-    let plan: Plan<'_> = (0, 3, &[Step::Yield(1), Step::Die(1)]);
-    let report = forced_run(
-        &rt,
-        rt.alloc(),
-        3,
-        &[plan],
-        &[(0, 2), (1, 2)],
-        &[(0, 4, 1, 4)],
-    )?;
-    assert_eq!(rt; totals(&report), [1, 3, 2, 2]);
-    Ok(())
+    const PLANS: [Plan<'static>; 1] = [(0, 3, &[Step::Yield(1), Step::Die(1)])];
+    const FACTS: [Fact<'static>; 1] = [Fact::Totals([1, 3, 2, 2])];
+    let turns = [(0, 2), (1, 2)];
+    comes_to_held(&rt, rt.alloc(), 3, &PLANS, &turns, &[(0, 4, 1, 4)], &FACTS);
 }
 
 #[test]
-fn an_agent_that_starts_again_asks_behind_what_it_told(rt: HostRuntime) -> Result<(), Fail> {
+fn an_agent_that_starts_again_asks_behind_what_it_told(rt: HostRuntime) {
     // The other agent takes nothing before this one has told of its thread, forgotten it, and asked a second time.
-    let plan: Plan<'_> = (1, 2, &[Step::Yield(1), Step::Die(1)]);
-    let report = forced_run(
-        &rt,
-        rt.alloc(),
-        2,
-        &[plan],
-        &[(1, 1), (1, 2)],
-        &[(0, 1, 1, 5)],
-    )?;
-    assert_eq!(rt; totals(&report), [1, 3, 2, 2]);
-    Ok(())
+    const PLANS: [Plan<'static>; 1] = [(1, 2, &[Step::Yield(1), Step::Die(1)])];
+    const FACTS: [Fact<'static>; 1] = [Fact::Totals([1, 3, 2, 2])];
+    let turns = [(1, 1), (1, 2)];
+    comes_to_held(&rt, rt.alloc(), 2, &PLANS, &turns, &[(0, 1, 1, 5)], &FACTS);
 }
