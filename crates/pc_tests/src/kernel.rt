@@ -5,9 +5,12 @@ mod caller;
 mod calls;
 mod reads;
 
-use pc_kernel::{CallFault, Kernel, LimitField, Limits, LimitsFault, Posted, Profile, Refusal};
-use pc_messages::{Cpu, Tid};
-use std::test::Fail;
+use pc_kernel::{
+    Call, CallFault, EnvCall, Kernel, LimitField, Limits, LimitsFault, Posted, Profile, Refusal,
+    Status,
+};
+use pc_messages::{Cpu, Phase, Tid};
+use std::alloc::Global;
 
 /// Two CPUs, and room for all that the tests do.
 const SMALL: Limits = Limits {
@@ -38,9 +41,64 @@ const fn posted(thread: u32, number: u32, queue: u8, aseq: u32) -> Posted {
     }
 }
 
-/// What a refused call of the environment answers.
-const fn refused(refusal: Refusal) -> Result<Posted, CallFault> {
-    Err(CallFault::Refused(refusal))
+/// A call and what it answers, or what is read.
+#[derive(Clone, Copy)]
+enum Step {
+    Posts(EnvCall, Result<Posted, CallFault>),
+    /// A call posts the thread's next message to queue 0, which had one message fewer.
+    PostsNext(EnvCall, u32),
+    /// t0 is created for the queue, ready or not, with a mask of both CPUs, by the queue's first post.
+    Creates(u8, bool),
+    Does(Call, Result<(), Refusal>),
+    /// t0 is put on CPU 0 after so many posts.
+    Commits(u32),
+    /// The CPU's agent falls asleep after so many posts.
+    FallsAsleep(u8, u32),
+    /// A ready thread is created for queue 0, the thread with this number put on CPU 0 after so many posts, and CPU 1 asked
+    /// for as the home of t0; whether it moves.
+    Moves(u32, u32, bool),
+    Runs(Option<Tid>),
+    Sleeps(Cpu, bool),
+    Tells(Status),
+    Reports(Phase, u64, u64, u8),
+    QueueOf(u32, Option<Cpu>),
+    /// The thread has a state, and the reported one is the same.
+    IsThere(u32),
+    /// The thread has no state, and none is reported.
+    IsNowhere(u32),
+    /// There are so many threads, and limits and CPUs are those asked for.
+    Counts(u32),
+    /// The CPU's queue has had so many posts.
+    Had(u8, Option<u32>),
+    /// The queue of CPU 0 has had one post, holds the first message alone, and its agent sleeps on.
+    Peeked,
+    /// The CPU's queue holds the first message alone, where it stands.
+    QueuesFirst(u8),
+    QueuesNothing(u8),
+    NoQueue(u8),
+    /// The history of t0 is its creation.
+    OneKind,
+    /// The history of t0 is its creation and a wakeup.
+    TwoKinds,
+    NoHistory(u32),
+}
+
+/// How a call of the environment is made.
+#[derive(Clone, Copy)]
+enum Way {
+    ByName,
+    AsValue,
+}
+
+/// The place of the first step that does not hold of a new kernel and the steps before it.
+fn first_wrong(alloc: Global, way: Way, steps: &[Step]) -> Result<Option<usize>, LimitsFault> {
+    let mut kernel = Kernel::new(alloc, SMALL)?;
+    for (place, step) in steps.iter().enumerate() {
+        if !calls::holds(&mut kernel, way, step) {
+            return Ok(Some(place));
+        }
+    }
+    Ok(None)
 }
 
 // A kernel that is made without a profile's name is one of profile One.
@@ -54,10 +112,13 @@ fn the_profile_of_new(rt: HostRuntime) {
     );
 }
 
+// Without contracts, so that a test's proof does not carry those of the kernel.
+fn limits_in_two(alloc: Global) -> Result<(Limits, u8), LimitsFault> {
+    let kernel = Kernel::new_in(alloc, Profile::Two, MANY)?;
+    Ok((kernel.limits(), kernel.cpus()))
+}
+
 #[test]
-fn the_profile_of_new_in(rt: HostRuntime) -> Result<(), Fail> {
-    let kernel = Kernel::new_in(rt.alloc(), Profile::Two, MANY)?;
-    assert_eq!(rt; kernel.limits(), MANY);
-    assert_eq!(rt; kernel.cpus(), 1);
-    Ok(())
+fn the_profile_of_new_in(rt: HostRuntime) {
+    assert_eq!(rt; limits_in_two(rt.alloc()), Ok((MANY, 1)));
 }

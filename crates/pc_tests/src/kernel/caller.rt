@@ -3,10 +3,10 @@
 ghost use Rattle.std.specs.Prelude.{[], ◌∷◌, IfOk, true};
 ghost use Rattle.pc_kernel.specs.Answers.{Replays};
 
-use super::{SMALL, posted};
-use pc_kernel::{Answer, Call, CallFault, EnvCall, Kernel};
+use super::{SMALL, Step, Way, first_wrong};
+use pc_kernel::{Answer, Call, CallFault, EnvCall, Kernel, LimitsFault};
 use pc_messages::{Cpu, Tid};
-use std::test::Fail;
+use std::alloc::Global;
 
 /// Makes three calls, each where the one before was accepted. Answers what the last one answers.
 fn three(kernel: &mut Kernel, first: Call, second: Call, third: Call) -> Result<Answer, CallFault>
@@ -47,43 +47,58 @@ fn run_and_move(
     }
 }
 
-#[test]
-fn a_running_thread_is_not_moved(rt: HostRuntime) -> Result<(), Fail> {
-    let mut kernel = Kernel::new(rt.alloc(), SMALL)?;
-    let moved = run_and_move(&mut kernel, Cpu(0), Tid(0), 1, Tid(0), Cpu(1), 1);
-    assert_eq!(rt; moved, Ok(false));
-    assert_eq!(rt; kernel.running(Cpu(0)), Some(Tid(0)));
-    assert_eq!(rt; kernel.queue_of(Tid(0)), Some(Cpu(0)));
-    Ok(())
+// Without contracts, as the functions below, so that a test's proof does not carry those of the kernel.
+pub(super) fn moves(kernel: &mut Kernel, runs: u32, aseq: u32, wanted: bool) -> bool {
+    run_and_move(kernel, Cpu(0), Tid(runs), aseq, Tid(0), Cpu(1), 1) == Ok(wanted)
 }
 
 #[test]
-fn a_thread_moves_beside_one_that_runs(rt: HostRuntime) -> Result<(), Fail> {
-    let mut kernel = Kernel::new(rt.alloc(), SMALL)?;
-    assert_eq!(rt; kernel.create(Cpu(0), 3, true), Ok(posted(0, 1, 0, 1)));
-    assert_eq!(rt; kernel.consume(Cpu(0), 1), Ok(()));
-    let moved = run_and_move(&mut kernel, Cpu(0), Tid(1), 2, Tid(0), Cpu(1), 1);
-    assert_eq!(rt; moved, Ok(true));
-    assert_eq!(rt; kernel.running(Cpu(0)), Some(Tid(1)));
-    assert_eq!(rt; kernel.queue_of(Tid(0)), Some(Cpu(1)));
-    Ok(())
+fn a_running_thread_is_not_moved(rt: HostRuntime) {
+    const STEPS: [Step; 3] = [
+        Step::Moves(0, 1, false),
+        Step::Runs(Some(Tid(0))),
+        Step::QueueOf(0, Some(Cpu(0))),
+    ];
+    assert_eq!(rt; first_wrong(rt.alloc(), Way::ByName, &STEPS), Ok(None));
 }
 
 #[test]
-fn three_calls_in_a_row(rt: HostRuntime) -> Result<(), Fail> {
-    let mut kernel = Kernel::new(rt.alloc(), SMALL)?;
-    let create = Call::Env(EnvCall::Create {
-        queue: Cpu(0),
-        mask: 3,
-        ready: true,
-    });
-    let tick = Call::Env(EnvCall::Tick { cpu: Cpu(0) });
-    let commit = Call::Commit {
+fn a_thread_moves_beside_one_that_runs(rt: HostRuntime) {
+    const CONSUME: Call = Call::Consume {
         cpu: Cpu(0),
-        thread: Tid(0),
-        aseq: 2,
+        count: 1,
     };
-    let last = three(&mut kernel, create, tick, commit);
-    assert_eq!(rt; last, Ok(Answer::Done));
-    Ok(())
+    const STEPS: [Step; 5] = [
+        Step::Creates(0, true),
+        Step::Does(CONSUME, Ok(())),
+        Step::Moves(1, 2, true),
+        Step::Runs(Some(Tid(1))),
+        Step::QueueOf(0, Some(Cpu(1))),
+    ];
+    assert_eq!(rt; first_wrong(rt.alloc(), Way::ByName, &STEPS), Ok(None));
+}
+
+const CREATE: Call = Call::Env(EnvCall::Create {
+    queue: Cpu(0),
+    mask: 3,
+    ready: true,
+});
+
+const TICK: Call = Call::Env(EnvCall::Tick { cpu: Cpu(0) });
+
+const COMMIT: Call = Call::Commit {
+    cpu: Cpu(0),
+    thread: Tid(0),
+    aseq: 2,
+};
+
+/// Whether the last of three calls is done.
+fn third_is_done(alloc: Global) -> Result<bool, LimitsFault> {
+    let mut kernel = Kernel::new(alloc, SMALL)?;
+    Ok(three(&mut kernel, CREATE, TICK, COMMIT) == Ok(Answer::Done))
+}
+
+#[test]
+fn three_calls_in_a_row(rt: HostRuntime) {
+    assert_eq!(rt; third_is_done(rt.alloc()), Ok(true));
 }

@@ -1,56 +1,48 @@
 //! What is read of a kernel.
 
-use super::{SMALL, posted};
-use pc_kernel::{CallFault, Kernel, Posted};
-use pc_messages::{Cpu, Item, Kind, Mask, Message, Reported, Tid};
-use std::alloc::Global;
-use std::test::Fail;
+use super::{SMALL, Step, Way, first_wrong};
+use pc_kernel::{EnvCall, Kernel};
+use pc_messages::{Cpu, Item, Kind, Mask, MaskFault, Message, Phase, Tid};
+
+/// The kind of a first message: blocked, and allowed on both CPUs.
+fn created() -> Result<Kind, MaskFault> {
+    let mask = Mask::new(3, 2)?;
+    Ok(Kind::Created { mask, ready: false })
+}
+
+fn first_message() -> Result<Item, MaskFault> {
+    Ok(Item::Thread(Message {
+        thread: Tid(0),
+        number: 1,
+        kind: created()?,
+    }))
+}
 
 // Without contracts, as the functions below, so that a test's proof does not carry those of the kernel.
-fn new_kernel(alloc: Global) -> Result<Kernel, Fail> {
-    Ok(Kernel::new(alloc, SMALL)?)
-}
-
-/// A thread is created for the queue.
-fn creates(kernel: &mut Kernel, queue: u8, ready: bool) -> Result<Posted, CallFault> {
-    kernel.create(Cpu(queue), 3, ready)
-}
-
-fn wakes(kernel: &mut Kernel) -> Result<Posted, CallFault> {
-    kernel.wake(Tid(0))
-}
-
-fn falls_asleep(kernel: &mut Kernel, aseq: u32) -> bool {
-    kernel.sleep(Cpu(0), aseq) == Ok(()) && kernel.is_asleep(Cpu(0))
-}
-
-fn aseq(kernel: &Kernel, cpu: u8) -> Option<u32> {
-    kernel.aseq(Cpu(cpu))
-}
-
-fn queue_of(kernel: &Kernel, thread: u32) -> Option<Cpu> {
-    kernel.queue_of(Tid(thread))
-}
-
-fn history(kernel: &Kernel, thread: u32) -> Option<&[Kind]> {
-    kernel.history(Tid(thread))
-}
-
-fn states(kernel: &Kernel, thread: u32) -> (Option<Reported>, Option<Reported>) {
-    (
-        kernel.state(Tid(thread)).copied(),
-        kernel.reported(Tid(thread)),
-    )
-}
-
-/// How many threads there are, and whether limits and CPUs are those asked for.
-fn counts(kernel: &Kernel) -> (u32, bool) {
+fn counts(kernel: &Kernel, threads: u32) -> bool {
     kernel.is_sound();
     kernel.is_reached();
-    (
-        kernel.threads(),
-        kernel.limits() == SMALL && kernel.cpus() == 2,
-    )
+    kernel.threads() == threads && kernel.limits() == SMALL && kernel.cpus() == 2
+}
+
+fn reports(kernel: &Kernel, phase: Phase, mask: u64, ran: u64, level: u8) -> bool {
+    match kernel.reported(Tid(0)) {
+        Some(it) => {
+            it.phase == phase && it.mask.bits() == mask && it.ran == ran && it.level.get() == level
+        }
+        None => false,
+    }
+}
+
+fn is_there(kernel: &Kernel, thread: u32) -> bool {
+    match kernel.state(Tid(thread)) {
+        Some(state) => kernel.reported(Tid(thread)) == Some(*state),
+        None => false,
+    }
+}
+
+fn is_nowhere(kernel: &Kernel, thread: u32) -> bool {
+    kernel.state(Tid(thread)).is_none() && kernel.reported(Tid(thread)).is_none()
 }
 
 /// Whether the CPU's queue has had so many posts, holds these items, and its agent sleeps on.
@@ -59,6 +51,13 @@ fn is_content(kernel: &Kernel, aseq: u32, wanted: &[Item]) -> bool {
         Ok((posts, items)) => {
             posts == aseq && items.as_slice() == wanted && kernel.is_asleep(Cpu(0))
         }
+        Err(_) => false,
+    }
+}
+
+fn is_content_with_first(kernel: &Kernel, aseq: u32) -> bool {
+    match first_message() {
+        Ok(message) => is_content(kernel, aseq, &[message]),
         Err(_) => false,
     }
 }
@@ -75,56 +74,106 @@ fn is_queued(kernel: &Kernel, cpu: u8, wanted: &[Item]) -> bool {
     }
 }
 
-#[test]
-fn of_cpus_and_threads(rt: HostRuntime) -> Result<(), Fail> {
-    let mut kernel = new_kernel(rt.alloc())?;
-    assert_eq!(rt; counts(&kernel), (0, true));
-    assert_eq!(rt; creates(&mut kernel, 1, true), Ok(posted(0, 1, 1, 1)));
-    assert_eq!(rt; counts(&kernel), (1, true));
-    for (cpu, wanted) in [(0, Some(0)), (1, Some(1)), (2, None)] {
-        assert_eq!(rt; aseq(&kernel, cpu), wanted);
+fn is_first_queued(kernel: &Kernel, cpu: u8) -> bool {
+    match first_message() {
+        Ok(message) => is_queued(kernel, cpu, &[message]),
+        Err(_) => false,
     }
-    assert_eq!(rt; queue_of(&kernel, 0), Some(Cpu(1)));
-    assert_eq!(rt; queue_of(&kernel, 1), None);
-    let (state, reported) = states(&kernel, 0);
-    assert!(rt; state.is_some());
-    assert!(rt; state == reported);
-    assert!(rt; states(&kernel, 1) == (None, None));
-    Ok(())
+}
+
+/// Whether these are the kinds of all messages of t0.
+fn is_history(kernel: &Kernel, wanted: &[Kind]) -> bool {
+    match kernel.history(Tid(0)) {
+        Some(kinds) => kinds == wanted,
+        None => false,
+    }
+}
+
+fn has_one_kind(kernel: &Kernel) -> bool {
+    match created() {
+        Ok(kind) => is_history(kernel, &[kind]),
+        Err(_) => false,
+    }
+}
+
+fn has_two_kinds(kernel: &Kernel) -> bool {
+    match created() {
+        Ok(kind) => is_history(kernel, &[kind, Kind::Wakeup]),
+        Err(_) => false,
+    }
+}
+
+/// What is read of queues and histories.
+fn tells_of_queues(kernel: &Kernel, step: &Step) -> bool {
+    match *step {
+        Step::Had(cpu, wanted) => kernel.aseq(Cpu(cpu)) == wanted,
+        Step::Peeked => is_content_with_first(kernel, 1),
+        Step::QueuesFirst(cpu) => is_first_queued(kernel, cpu),
+        Step::QueuesNothing(cpu) => is_queued(kernel, cpu, &[]),
+        Step::NoQueue(cpu) => kernel.queued(Cpu(cpu)).is_none(),
+        Step::OneKind => has_one_kind(kernel),
+        Step::TwoKinds => has_two_kinds(kernel),
+        Step::NoHistory(thread) => kernel.history(Tid(thread)).is_none(),
+        _ => false,
+    }
+}
+
+/// Whether that is read of the kernel.
+pub(super) fn tells(kernel: &Kernel, step: &Step) -> bool {
+    match *step {
+        Step::Runs(wanted) => kernel.running(Cpu(0)) == wanted,
+        Step::Sleeps(cpu, wanted) => kernel.is_asleep(cpu) == wanted,
+        Step::Tells(wanted) => kernel.status(Tid(0)) == Some(wanted),
+        Step::Reports(phase, mask, ran, level) => reports(kernel, phase, mask, ran, level),
+        Step::QueueOf(thread, wanted) => kernel.queue_of(Tid(thread)) == wanted,
+        Step::IsThere(thread) => is_there(kernel, thread),
+        Step::IsNowhere(thread) => is_nowhere(kernel, thread),
+        Step::Counts(threads) => counts(kernel, threads),
+        _ => tells_of_queues(kernel, step),
+    }
+}
+
+#[test]
+fn of_cpus_and_threads(rt: HostRuntime) {
+    const STEPS: [Step; 10] = [
+        Step::Counts(0),
+        Step::Creates(1, true),
+        Step::Counts(1),
+        Step::Had(0, Some(0)),
+        Step::Had(1, Some(1)),
+        Step::Had(2, None),
+        Step::QueueOf(0, Some(Cpu(1))),
+        Step::QueueOf(1, None),
+        Step::IsThere(0),
+        Step::IsNowhere(1),
+    ];
+    assert_eq!(rt; first_wrong(rt.alloc(), Way::ByName, &STEPS), Ok(None));
 }
 
 // The items stay in the queue, and its agent sleeps on.
 #[test]
-fn of_a_history_and_a_queue(rt: HostRuntime) -> Result<(), Fail> {
-    let kind = Kind::Created {
-        mask: Mask::new(3, 2)?,
-        ready: false,
-    };
-    let message = Item::Thread(Message {
-        thread: Tid(0),
-        number: 1,
-        kind,
-    });
-    let mut kernel = new_kernel(rt.alloc())?;
-    assert_eq!(rt; creates(&mut kernel, 0, false), Ok(posted(0, 1, 0, 1)));
-    assert!(rt; falls_asleep(&mut kernel, 1));
-    assert!(rt; is_content(&kernel, 1, &[message]));
-    assert!(rt; is_queued(&kernel, 0, &[message]) && is_queued(&kernel, 1, &[]));
-    assert!(rt; kernel.queued(Cpu(2)).is_none());
-    assert!(rt; history(&kernel, 0) == Some([kind].as_slice()));
-    assert!(rt; history(&kernel, 1).is_none());
-    Ok(())
+fn of_a_history_and_a_queue(rt: HostRuntime) {
+    const STEPS: [Step; 9] = [
+        Step::Creates(0, false),
+        Step::FallsAsleep(0, 1),
+        Step::Sleeps(Cpu(0), true),
+        Step::Peeked,
+        Step::QueuesFirst(0),
+        Step::QueuesNothing(1),
+        Step::NoQueue(2),
+        Step::OneKind,
+        Step::NoHistory(1),
+    ];
+    assert_eq!(rt; first_wrong(rt.alloc(), Way::ByName, &STEPS), Ok(None));
 }
 
 #[test]
-fn of_a_longer_history(rt: HostRuntime) -> Result<(), Fail> {
-    let created = Kind::Created {
-        mask: Mask::new(3, 2)?,
-        ready: false,
-    };
-    let mut kernel = new_kernel(rt.alloc())?;
-    assert_eq!(rt; creates(&mut kernel, 0, false), Ok(posted(0, 1, 0, 1)));
-    assert_eq!(rt; wakes(&mut kernel), Ok(posted(0, 2, 0, 2)));
-    assert!(rt; history(&kernel, 0) == Some([created, Kind::Wakeup].as_slice()));
-    Ok(())
+fn of_a_longer_history(rt: HostRuntime) {
+    const WAKE: EnvCall = EnvCall::Wake { thread: Tid(0) };
+    const STEPS: [Step; 3] = [
+        Step::Creates(0, false),
+        Step::PostsNext(WAKE, 2),
+        Step::TwoKinds,
+    ];
+    assert_eq!(rt; first_wrong(rt.alloc(), Way::ByName, &STEPS), Ok(None));
 }
