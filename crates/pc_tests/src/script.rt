@@ -199,16 +199,33 @@ fn runs<R: Read, W: Write>(
 }
 
 /// A script, what is written of it, and how it ends.
-type Ended<'a> = (&'a [u8], &'a [u8], Result<Outcome, ScriptFault>);
+type Ended = (&'static [u8], &'static [u8], Result<Outcome, ScriptFault>);
 
-/// Asserts of each script what it writes and how it ends.
-fn each_ends(rt: &impl Abort, alloc: Global, rows: &[Ended<'_>]) {
-    for (script, output, wanted) in rows {
-        let mut reader = *script;
-        let mut writer: Vec<u8> = Vec::new(alloc);
-        assert_eq!(rt; runs(alloc, &mut reader, &mut writer), *wanted);
-        assert_eq!(rt; writer.as_slice(), *output);
+/// Whether that is written of the script, and it ends so.
+fn ends_so(
+    alloc: Global,
+    script: &[u8],
+    output: &[u8],
+    wanted: Result<Outcome, ScriptFault>,
+) -> bool {
+    let mut reader = script;
+    let mut writer: Vec<u8> = Vec::new(alloc);
+    runs(alloc, &mut reader, &mut writer) == wanted && writer.as_slice() == output
+}
+
+/// The place of the first script that writes something else or ends otherwise.
+fn first_wrong(alloc: Global, rows: &[Ended]) -> Option<usize> {
+    for (place, (script, output, wanted)) in rows.iter().enumerate() {
+        if !ends_so(alloc, script, output, *wanted) {
+            return Some(place);
+        }
     }
+    None
+}
+
+/// Asserts of each script what is written of it and how it ends.
+fn each_ends(rt: &impl Abort, alloc: Global, rows: &[Ended]) {
+    assert_eq!(rt; first_wrong(alloc, rows), None);
 }
 
 /// The script was read to its end.
@@ -217,14 +234,17 @@ const FINISHED: Result<Outcome, ScriptFault> = Ok(Outcome::Finished);
 /// What is written where the first line is a fault.
 const FAULT: &[u8] = b"fault line 1\n";
 
-/// The script ended at the line with this number.
-const fn fault_at(line: u32) -> Result<Outcome, ScriptFault> {
-    Ok(Outcome::FaultLine(line))
+/// The place of the first line that is no fault.
+fn first_without_fault(alloc: Global, lines: &[&[u8]]) -> Option<usize> {
+    for (place, line) in lines.iter().enumerate() {
+        if !ends_so(alloc, line, FAULT, Ok(Outcome::FaultLine(1))) {
+            return Some(place);
+        }
+    }
+    None
 }
 
 /// Asserts that each line is a fault.
 fn each_is_fault(rt: &impl Abort, alloc: Global, lines: &[&[u8]]) {
-    for line in lines {
-        each_ends(rt, alloc, &[(*line, FAULT, fault_at(1))]);
-    }
+    assert_eq!(rt; first_without_fault(alloc, lines), None);
 }

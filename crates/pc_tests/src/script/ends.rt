@@ -1,10 +1,11 @@
 //! How the reading and the writing of a script end.
 
-use super::{FINISHED, fault_at, runs};
+use super::{FINISHED, runs};
 use pc_script::{Outcome, ScriptFault};
 use std::alloc::Global;
 use std::io;
 use std::io::{Error, ErrorKind, Read, Write};
+use std::process::Abort;
 
 /// Gives this byte so often, at most as many at a time as there is room for, and then fails or ends.
 #[derive(Drop)]
@@ -54,9 +55,9 @@ impl Read for Counted {
 
 /// Takes so many bytes, one at a time, and then fails.
 #[derive(Drop)]
-pub(super) struct Filling {
+struct Filling {
     room: usize,
-    pub(super) taken: Vec<u8>,
+    taken: Vec<u8>,
 }
 
 impl Write for Filling {
@@ -92,24 +93,7 @@ const TOO_LONG: Result<Outcome, ScriptFault> = Err(ScriptFault::TooLong);
 
 const UNREAD: Result<Outcome, ScriptFault> = Err(ScriptFault::Read);
 
-const UNWRITTEN: Result<Outcome, ScriptFault> = Err(ScriptFault::Write);
-
-#[test]
-fn a_long_text_or_a_read_that_fails_ends_the_reading(rt: HostRuntime) {
-    for (byte, length, fails, ended, left) in [
-        (b'#', 16_777_216, false, FINISHED, 0),
-        (b'#', 16_777_217, false, TOO_LONG, 0),
-        (b'#', 16_777_300, false, TOO_LONG, 83),
-        (b'\n', 0, true, UNREAD, 0),
-        (b'\n', 1, true, UNREAD, 0),
-        (b'\n', 5000, true, UNREAD, 0),
-    ] {
-        assert_eq!(rt;
-            read_over(rt.alloc(), byte, length, fails),
-            (ended, left, true)
-        );
-    }
-}
+pub(super) const UNWRITTEN: Result<Outcome, ScriptFault> = Err(ScriptFault::Write);
 
 /// What was read of line feeds: how the script ended, which reads gave nothing or failed and which came after one of these,
 /// whether any gave bytes, and how many bytes are left.
@@ -137,28 +121,8 @@ fn reads_of(alloc: Global, length: usize, fails: bool) -> Reads {
     )
 }
 
-// The last row reads one byte past the greatest length, and nothing after it.
-#[test]
-fn nothing_is_read_after_the_end_a_failed_read_or_the_greatest_length(rt: HostRuntime) {
-    for (length, fails, reads) in [
-        (0, false, (FINISHED, (1, 0), false, 0)),
-        (0, true, (UNREAD, (1, 0), false, 0)),
-        (1, false, (FINISHED, (1, 0), true, 0)),
-        (1, true, (UNREAD, (1, 0), true, 0)),
-        (200_000, false, (FINISHED, (1, 0), true, 0)),
-        (200_000, true, (UNREAD, (1, 0), true, 0)),
-        (16_777_217, true, (TOO_LONG, (0, 0), true, 0)),
-    ] {
-        assert_eq!(rt; reads_of(rt.alloc(), length, fails), reads);
-    }
-}
-
 /// A writer that took what a script writes, with room for so many bytes, and how the script ended.
-pub(super) fn filled(
-    alloc: Global,
-    script: &[u8],
-    room: usize,
-) -> (Filling, Result<Outcome, ScriptFault>) {
+fn filled(alloc: Global, script: &[u8], room: usize) -> (Filling, Result<Outcome, ScriptFault>) {
     let mut reader = script;
     let mut writer = Filling {
         room,
@@ -168,38 +132,127 @@ pub(super) fn filled(
     (writer, ended)
 }
 
+/// Whether the script ends so, after a front of the output that fills the room.
+pub(super) fn is_front(
+    alloc: Global,
+    script: &[u8],
+    output: &[u8],
+    room: usize,
+    wanted: Result<Outcome, ScriptFault>,
+) -> bool {
+    let (writer, ended) = filled(alloc, script, room);
+    ended == wanted && output.get(..room) == Some(writer.taken.as_slice())
+}
+
+/// Whether the script fills the room, and its next write fails.
+fn fills(alloc: Global, script: &[u8], room: usize) -> bool {
+    let (writer, ended) = filled(alloc, script, room);
+    ended == UNWRITTEN && writer.taken.len() == room
+}
+
+/// What a reader gives or a writer takes, and how the script ends.
+#[derive(Clone, Copy)]
+enum Row {
+    /// A byte so often, and whether the reader fails then; the end, and how often the reader would give it still.
+    /// Nothing is written.
+    Gives(u8, usize, bool, Result<Outcome, ScriptFault>, usize),
+    /// So many line feeds, and whether the reader fails then.
+    Counts(usize, bool, Reads),
+    /// The script fills a writer's room, and the next write fails.
+    Fills(&'static [u8], usize),
+}
+
+fn holds(alloc: Global, row: &Row) -> bool {
+    match *row {
+        Row::Gives(byte, length, fails, ended, left) => {
+            read_over(alloc, byte, length, fails) == (ended, left, true)
+        }
+        Row::Counts(length, fails, reads) => reads_of(alloc, length, fails) == reads,
+        Row::Fills(script, room) => fills(alloc, script, room),
+    }
+}
+
+/// The place of the first row that does not hold.
+fn first_wrong(alloc: Global, rows: &[Row]) -> Option<usize> {
+    for (place, row) in rows.iter().enumerate() {
+        if !holds(alloc, row) {
+            return Some(place);
+        }
+    }
+    None
+}
+
+fn each_holds(rt: &impl Abort, alloc: Global, rows: &[Row]) {
+    assert_eq!(rt; first_wrong(alloc, rows), None);
+}
+
+#[test]
+fn a_long_text_or_a_read_that_fails_ends_the_reading(rt: HostRuntime) {
+    static ROWS: [Row; 6] = [
+        Row::Gives(b'#', 16_777_216, false, FINISHED, 0),
+        Row::Gives(b'#', 16_777_217, false, TOO_LONG, 0),
+        Row::Gives(b'#', 16_777_300, false, TOO_LONG, 83),
+        Row::Gives(b'\n', 0, true, UNREAD, 0),
+        Row::Gives(b'\n', 1, true, UNREAD, 0),
+        Row::Gives(b'\n', 5000, true, UNREAD, 0),
+    ];
+    each_holds(&rt, rt.alloc(), &ROWS);
+}
+
+// The last row reads one byte past the greatest length, and nothing after it.
+#[test]
+fn nothing_is_read_after_the_end_a_failed_read_or_the_greatest_length(rt: HostRuntime) {
+    static ROWS: [Row; 7] = [
+        Row::Counts(0, false, (FINISHED, (1, 0), false, 0)),
+        Row::Counts(0, true, (UNREAD, (1, 0), false, 0)),
+        Row::Counts(1, false, (FINISHED, (1, 0), true, 0)),
+        Row::Counts(1, true, (UNREAD, (1, 0), true, 0)),
+        Row::Counts(200_000, false, (FINISHED, (1, 0), true, 0)),
+        Row::Counts(200_000, true, (UNREAD, (1, 0), true, 0)),
+        Row::Counts(16_777_217, true, (TOO_LONG, (0, 0), true, 0)),
+    ];
+    each_holds(&rt, rt.alloc(), &ROWS);
+}
+
+/// The first room with another output than the front of this that fills it, or another end than a failed write or, where
+/// all has room, a fault at line 6.
+fn first_other_front(alloc: Global, script: &[u8], output: &[u8]) -> Option<usize> {
+    for room in 0..output.len() {
+        if !is_front(alloc, script, output, room, UNWRITTEN) {
+            return Some(room);
+        }
+    }
+    if is_front(
+        alloc,
+        script,
+        output,
+        output.len(),
+        Ok(Outcome::FaultLine(6)),
+    ) {
+        return None;
+    }
+    Some(output.len())
+}
+
 #[test]
 fn what_was_written_before_a_failed_write_is_a_front_of_the_output(rt: HostRuntime) {
-    let script = b"version 2\nwake t1\n# x\nshow 0\nshow 0\nx\nwake t2\n".as_slice();
-    let output =
+    const SCRIPT: &[u8] = b"version 2\nwake t1\n# x\nshow 0\nshow 0\nx\nwake t2\n";
+    const OUTPUT: &[u8] =
         b"ok\nrefused Stale 1\nt0 upto 2 blocked mask 3 ran 5 early -\nt12 upto 0 - early 2 1000000\nend\n\
-t0 upto 2 blocked mask 3 ran 5 early -\nt12 upto 0 - early 2 1000000\nend\nfault line 6\n"
-            .as_slice();
-    for room in 0..=output.len() {
-        let (writer, ended) = filled(rt.alloc(), script, room);
-        assert_eq!(rt; writer.taken.as_slice(), &output[..room]);
-        let wanted = if room < output.len() {
-            UNWRITTEN
-        } else {
-            fault_at(6)
-        };
-        assert_eq!(rt; ended, wanted);
-    }
+t0 upto 2 blocked mask 3 ran 5 early -\nt12 upto 0 - early 2 1000000\nend\nfault line 6\n";
+    assert_eq!(rt; first_other_front(rt.alloc(), SCRIPT, OUTPUT), None);
 }
 
 #[test]
 fn a_write_that_fails_ends_the_script(rt: HostRuntime) {
-    for (script, room) in [
-        (b"wake t1".as_slice(), 0),
-        (b"wake t1", 15),
-        (b"wake t1\nwake t1", 16),
-        (b"x", 3),
-        (b"version 2\nwake t1", 2),
-    ] {
-        let (writer, ended) = filled(rt.alloc(), script, room);
-        assert_eq!(rt; ended, UNWRITTEN);
-        assert_eq!(rt; writer.taken.len(), room);
-    }
+    static ROWS: [Row; 5] = [
+        Row::Fills(b"wake t1", 0),
+        Row::Fills(b"wake t1", 15),
+        Row::Fills(b"wake t1\nwake t1", 16),
+        Row::Fills(b"x", 3),
+        Row::Fills(b"version 2\nwake t1", 2),
+    ];
+    each_holds(&rt, rt.alloc(), &ROWS);
 }
 
 /// Gives so many bytes of the line `wake t1` and a line feed, over and over.
@@ -222,13 +275,18 @@ impl Read for WakeLines {
     }
 }
 
-#[test]
-fn a_script_of_the_greatest_length_is_answered_whole(rt: HostRuntime) {
+/// How a script of the greatest length ends, and how many bytes are written of it.
+fn greatest(alloc: Global) -> (Result<Outcome, ScriptFault>, usize) {
     let mut reader = WakeLines {
         at: 0,
         left: 16_777_216,
     };
-    let mut writer: Vec<u8> = Vec::new(rt.alloc());
-    assert_eq!(rt; runs(rt.alloc(), &mut reader, &mut writer), FINISHED);
-    assert_eq!(rt; writer.len(), 16 * 2_097_152);
+    let mut writer: Vec<u8> = Vec::new(alloc);
+    let ended = runs(alloc, &mut reader, &mut writer);
+    (ended, writer.len())
+}
+
+#[test]
+fn a_script_of_the_greatest_length_is_answered_whole(rt: HostRuntime) {
+    assert_eq!(rt; greatest(rt.alloc()), (FINISHED, 16 * 2_097_152));
 }

@@ -1,52 +1,77 @@
 //! Lines that are faults.
 
-use super::{FAULT, each_ends, each_is_fault, fault_at};
+use super::{Ended, FAULT, each_ends, each_is_fault};
+use pc_script::Outcome;
 
 #[test]
 fn a_fault_ends_the_script(rt: HostRuntime) {
-    let rows = [
+    static ROWS: [Ended; 13] = [
         (
-            b"enclave 2 8 100 16 1000\ncreate 0 3 Ready\nwake t0".as_slice(),
-            b"ok\nfault line 2\n".as_slice(),
-            fault_at(2),
+            b"enclave 2 8 100 16 1000\ncreate 0 3 Ready\nwake t0",
+            b"ok\nfault line 2\n",
+            Ok(Outcome::FaultLine(2)),
         ),
-        (b"# x\n\nwake t1\r\r", b"fault line 3\n", fault_at(3)),
+        (
+            b"# x\n\nwake t1\r\r",
+            b"fault line 3\n",
+            Ok(Outcome::FaultLine(3)),
+        ),
         (
             b"enclave 2 8 100 16 1000\ndeliver 0 18446744073709551615\ndeliver 0 18446744073709551616",
             b"ok\nrefused NoDelta\nfault line 3\n",
-            fault_at(3),
+            Ok(Outcome::FaultLine(3)),
         ),
         (
             b"enclave 2 8 100 16 1000\ntick 255\ntick 256",
             b"ok\nrefused BadCpu\nfault line 3\n",
-            fault_at(3),
+            Ok(Outcome::FaultLine(3)),
         ),
-        (b"\n# x\n   \nx", b"fault line 4\n", fault_at(4)),
-        (b"\r\n#\r\nx\r\nwake t1", b"fault line 3\n", fault_at(3)),
-        (b"\n\n\n\n\n\n\n\n\n x \n", b"fault line 10\n", fault_at(10)),
+        (
+            b"\n# x\n   \nx",
+            b"fault line 4\n",
+            Ok(Outcome::FaultLine(4)),
+        ),
+        (
+            b"\r\n#\r\nx\r\nwake t1",
+            b"fault line 3\n",
+            Ok(Outcome::FaultLine(3)),
+        ),
+        (
+            b"\n\n\n\n\n\n\n\n\n x \n",
+            b"fault line 10\n",
+            Ok(Outcome::FaultLine(10)),
+        ),
         // A line that names a version stands first, and alone.
         (
             b"enclave 2 8 100 16 1000\nversion 2",
             b"ok\nfault line 2\n",
-            fault_at(2),
+            Ok(Outcome::FaultLine(2)),
         ),
-        (b"version 2\nversion 2", b"ok\nfault line 2\n", fault_at(2)),
-        (b"# x\n\nversion 3", b"fault line 3\n", fault_at(3)),
+        (
+            b"version 2\nversion 2",
+            b"ok\nfault line 2\n",
+            Ok(Outcome::FaultLine(2)),
+        ),
+        (
+            b"# x\n\nversion 3",
+            b"fault line 3\n",
+            Ok(Outcome::FaultLine(3)),
+        ),
         (
             b"# x\nversion 2\n\nversion 2\ntick 0",
             b"ok\nfault line 4\n",
-            fault_at(4),
+            Ok(Outcome::FaultLine(4)),
         ),
-        (b"wake t\xff", FAULT, fault_at(1)),
-        (b"\xc2\xa0", FAULT, fault_at(1)),
+        (b"wake t\xff", FAULT, Ok(Outcome::FaultLine(1))),
+        (b"\xc2\xa0", FAULT, Ok(Outcome::FaultLine(1))),
     ];
-    each_ends(&rt, rt.alloc(), &rows);
+    each_ends(&rt, rt.alloc(), &ROWS);
 }
 
 #[test]
 fn malformed_calls_of_the_environment_are_faults(rt: HostRuntime) {
-    let lines = [
-        b"enclave 256 1 1 1 1".as_slice(),
+    static LINES: [&[u8]; 36] = [
+        b"enclave 256 1 1 1 1",
         b"enclave 02 8 100 16 1000",
         b"enclave 1 4294967296 1 1 1",
         b"enclave 1 1 1 1",
@@ -83,13 +108,13 @@ fn malformed_calls_of_the_environment_are_faults(rt: HostRuntime) {
         b"die 0 -",
         b"Die 0 0",
     ];
-    each_is_fault(&rt, rt.alloc(), &lines);
+    each_is_fault(&rt, rt.alloc(), &LINES);
 }
 
 #[test]
 fn malformed_steps_of_agents_are_faults(rt: HostRuntime) {
-    let lines = [
-        b"associate 0 0 1".as_slice(),
+    static LINES: [&[u8]; 25] = [
+        b"associate 0 0 1",
         b"associate t0 256 1",
         b"associate t0 0",
         b"commit t0 0 1",
@@ -115,13 +140,13 @@ fn malformed_steps_of_agents_are_faults(rt: HostRuntime) {
         b"publish 0 Fail",
         b"publish 0 fail fail",
     ];
-    each_is_fault(&rt, rt.alloc(), &lines);
+    each_is_fault(&rt, rt.alloc(), &LINES);
 }
 
 #[test]
 fn malformed_deliveries_comparisons_and_versions_are_faults(rt: HostRuntime) {
-    let lines = [
-        b"deliver 0".as_slice(),
+    static LINES: [&[u8]; 27] = [
+        b"deliver 0",
         b"deliver 256 0",
         b"deliver 0 d0",
         b"deliver 0 1x",
@@ -149,5 +174,5 @@ fn malformed_deliveries_comparisons_and_versions_are_faults(rt: HostRuntime) {
         b"version t2",
         b"Version 2",
     ];
-    each_is_fault(&rt, rt.alloc(), &lines);
+    each_is_fault(&rt, rt.alloc(), &LINES);
 }

@@ -1,15 +1,11 @@
 //! Lines that are read, and what is written of the answers.
 
-use super::{FINISHED, each_ends};
+use super::{Ended, FINISHED, each_ends};
 
 #[test]
 fn arguments_reach_the_machine_and_its_answers_are_written(rt: HostRuntime) {
-    let rows = [
-        (
-            b"enclave 2 8 100 16 1000".as_slice(),
-            b"ok\n".as_slice(),
-            FINISHED,
-        ),
+    static ROWS: [Ended; 20] = [
+        (b"enclave 2 8 100 16 1000", b"ok\n", FINISHED),
         (b"enclave 255 4294967295 0 4294967295 0", b"ok\n", FINISHED),
         (b"create 0 3 ready", b"ok t0 n1 q0 a1 wake -\n", FINISHED),
         (
@@ -46,14 +42,14 @@ fn arguments_reach_the_machine_and_its_answers_are_written(rt: HostRuntime) {
         (b"same 0 1\nsame 1 1", b"differ\nequal\n", FINISHED),
         (b"complete 1 t0\ncomplete 1 t1", b"yes\nno\n", FINISHED),
     ];
-    each_ends(&rt, rt.alloc(), &rows);
+    each_ends(&rt, rt.alloc(), &ROWS);
 }
 
 // The first line with words picks the version, and is answered.
 #[test]
 fn silent_lines_have_no_reply_and_a_version_line_has(rt: HostRuntime) {
-    let rows = [
-        (b"".as_slice(), b"".as_slice(), FINISHED),
+    static ROWS: [Ended; 11] = [
+        (b"", b"", FINISHED),
         (b"\n", b"", FINISHED),
         (
             b"\n# x\n#\n#wake t1\n   \n  wake   t1  \n",
@@ -93,5 +89,5 @@ fn silent_lines_have_no_reply_and_a_version_line_has(rt: HostRuntime) {
             FINISHED,
         ),
     ];
-    each_ends(&rt, rt.alloc(), &rows);
+    each_ends(&rt, rt.alloc(), &ROWS);
 }

@@ -5,79 +5,65 @@ use pc_calls::{LimitField, Posted, Refusal, Reply, Status};
 use pc_messages::{Cpu, Level, Mask, Phase, Reported, Tid};
 use pc_script::{EarlyNumbers, Response, ShownThread, ShownThreads};
 use std::alloc::{AllocError, Global};
-use std::test::Fail;
 
-/// What is written of a response, without the line feed at its end.
-fn text_of(alloc: Global, response: &Response) -> Result<String, Fail> {
-    let mut written: Vec<u8> = Vec::new(alloc);
-    response.write_to(&mut written)?;
-    let Some((b'\n', text)) = written.as_slice().split_last() else {
-        return Err(Fail::from("no line feed at the end"));
-    };
-    Ok(String::from_str(alloc, std::str::from_utf8(text)?)?)
+/// What is answered in a line. Threads, queues and CPUs are meant by their numbers.
+#[derive(Clone, Copy)]
+enum Line {
+    Opened,
+    NoEnclave,
+    HaveEnclave,
+    BadLimits(LimitField),
+    Done,
+    /// A thread's post to queue 0, its second: the thread, the number, and the agent that is woken.
+    Posted(u32, u32, u8),
+    /// A tick's post to queue 0, its second.
+    Ticked,
+    /// The thread and the queue.
+    Associated(u32, u8),
+    /// The thread and the CPU.
+    Committed(u32, u8),
+    /// The delta and the items.
+    Published(u64, u32),
+    Consumed(u32),
+    Answered(u64),
+    /// The status of t0 that runs nowhere: its number and its phase.
+    Status(u32, Phase),
+    /// The status of t0 that runs on the CPU: its number.
+    Running(u32, u8),
+    Truth(bool),
+    Sameness(bool),
 }
 
-/// What is written of an event's reply.
-fn reply_text(alloc: Global, reply: Reply) -> Result<String, Fail> {
-    text_of(alloc, &Response::Event(reply))
-}
-
-/// What is written of a refusal, to a question and to an event; nothing where the two differ.
-fn refusal_text(alloc: Global, refusal: Refusal) -> Result<String, Fail> {
-    let text = text_of(alloc, &Response::Refused(refusal))?;
-    if text.as_str() != reply_text(alloc, Reply::Refused(refusal))?.as_str() {
-        return Ok(String::new(alloc));
-    }
-    Ok(text)
-}
-
-#[test]
-fn each_refusal_has_its_name(rt: HostRuntime) -> Result<(), Fail> {
-    for (refusal, name) in [
-        (Refusal::BadCpu, "refused BadCpu"),
-        (Refusal::EmptyMask, "refused EmptyMask"),
-        (Refusal::MaskTooWide, "refused MaskTooWide"),
-        (Refusal::BadLevel, "refused BadLevel"),
-        (Refusal::UnknownThread, "refused UnknownThread"),
-        (Refusal::NoDelta, "refused NoDelta"),
-        (Refusal::NamesSpent, "refused NamesSpent"),
-        (Refusal::NumbersSpent, "refused NumbersSpent"),
-        (Refusal::QueueFull, "refused QueueFull"),
-        (Refusal::PostsSpent, "refused PostsSpent"),
-        (Refusal::Dead, "refused Dead"),
-        (Refusal::NotBlocked, "refused NotBlocked"),
-        (Refusal::NotReady, "refused NotReady"),
-        (Refusal::IdleCpu, "refused IdleCpu"),
-        (Refusal::OnForbiddenCpu, "refused OnForbiddenCpu"),
-        (Refusal::Forbidden, "refused Forbidden"),
-        (Refusal::Busy, "refused Busy"),
-        (Refusal::Running(Cpu(0)), "refused Running 0"),
-        (Refusal::NotYours(Cpu(1)), "refused NotYours 1"),
-        (Refusal::Stale(2), "refused Stale 2"),
-        (Refusal::Pending, "refused Pending"),
-        (Refusal::TooMany, "refused TooMany"),
-        (Refusal::NothingReady, "refused NothingReady"),
-        (Refusal::NothingToSteal, "refused NothingToSteal"),
-        (Refusal::WireFault, "refused WireFault"),
-    ] {
-        assert_eq!(rt; refusal_text(rt.alloc(), refusal)?.as_str(), name);
-    }
-    Ok(())
-}
-
-const fn bad_limits(field: LimitField) -> Response {
-    Response::BadLimits(field)
-}
-
-/// A post to queue 0, its second.
-const fn posted(thread: Option<Tid>, number: Option<u32>, woken: Option<Cpu>) -> Response {
-    Response::Event(Reply::Posted(Posted {
+/// The second post of queue 0.
+const fn posted(thread: Option<Tid>, number: Option<u32>, woken: Option<Cpu>) -> Reply {
+    Reply::Posted(Posted {
         thread,
         number,
         queue: Cpu(0),
         aseq: 2,
         woken,
-    }))
+    })
+}
+
+fn reply(line: &Line) -> Reply {
+    match *line {
+        Line::Posted(thread, number, woken) => {
+            posted(Some(Tid(thread)), Some(number), Some(Cpu(woken)))
+        }
+        Line::Ticked => posted(None, None, None),
+        Line::Associated(thread, queue) => Reply::Associated {
+            thread: Tid(thread),
+            queue: Cpu(queue),
+        },
+        Line::Committed(thread, cpu) => Reply::Committed {
+            thread: Tid(thread),
+            cpu: Cpu(cpu),
+        },
+        Line::Published(delta, items) => Reply::Published { delta, items },
+        Line::Consumed(items) => Reply::Consumed { items },
+        Line::Answered(delta) => Reply::Answered { delta },
+        _ => Reply::Done,
+    }
 }
 
 /// The status of t0.
@@ -89,75 +75,184 @@ const fn status(number: u32, running_on: Option<Cpu>, phase: Phase) -> Response 
     }
 }
 
-#[test]
-fn what_is_answered_in_a_line(rt: HostRuntime) -> Result<(), Fail> {
-    let (cpu, thread) = (Cpu(0), Tid(4_294_967_295));
-    let associated = Reply::Associated {
-        thread,
-        queue: Cpu(63),
-    };
-    let committed = Reply::Committed {
-        thread,
-        cpu: Cpu(9),
-    };
-    let published = Reply::Published {
-        delta: 18_446_744_073_709_551_615,
-        items: 10,
-    };
-    let consumed = Reply::Consumed {
-        items: 4_294_967_295,
-    };
-    let rows = [
-        (Response::Opened, "ok"),
-        (Response::NoEnclave, "refused NoEnclave"),
-        (Response::HaveEnclave, "refused HaveEnclave"),
-        (bad_limits(LimitField::Cpus), "refused BadLimits cpus"),
-        (bad_limits(LimitField::Threads), "refused BadLimits threads"),
-        (bad_limits(LimitField::Numbers), "refused BadLimits numbers"),
-        (bad_limits(LimitField::Room), "refused BadLimits room"),
-        (bad_limits(LimitField::Posts), "refused BadLimits posts"),
-        (
-            posted(Some(Tid(0)), Some(2), Some(cpu)),
-            "ok t0 n2 q0 a2 wake 0",
-        ),
-        (posted(None, None, None), "ok - q0 a2 wake -"),
-        (Response::Event(Reply::Done), "ok"),
-        (Response::Event(associated), "ok t4294967295 q63"),
-        (Response::Event(committed), "ok t4294967295 c9"),
-        (
-            Response::Event(published),
-            "ok d18446744073709551615 items 10",
-        ),
-        (Response::Event(consumed), "ok 4294967295"),
-        (Response::Event(Reply::Answered { delta: 100 }), "ok d100"),
-        (status(1, Some(cpu), Phase::Ready), "t0 n1 ready c0"),
-        (status(2, None, Phase::Dead), "t0 n2 dead"),
-        (status(2, None, Phase::Blocked), "t0 n2 blocked"),
-        (Response::Truth(true), "yes"),
-        (Response::Truth(false), "no"),
-        (Response::Sameness(true), "equal"),
-        (Response::Sameness(false), "differ"),
-    ];
-    for (response, text) in &rows {
-        assert_eq!(rt; text_of(rt.alloc(), response)?.as_str(), *text);
+fn response(line: &Line) -> Response {
+    match *line {
+        Line::Opened => Response::Opened,
+        Line::NoEnclave => Response::NoEnclave,
+        Line::HaveEnclave => Response::HaveEnclave,
+        Line::BadLimits(field) => Response::BadLimits(field),
+        Line::Status(number, phase) => status(number, None, phase),
+        Line::Running(number, cpu) => status(number, Some(Cpu(cpu)), Phase::Ready),
+        Line::Truth(truth) => Response::Truth(truth),
+        Line::Sameness(sameness) => Response::Sameness(sameness),
+        _ => Response::Event(reply(line)),
     }
-    Ok(())
 }
 
-/// The text of a thread of level 5.
-fn raised_text(alloc: Global) -> Result<String, Fail> {
+/// Whether this is the text, and a line feed.
+fn is_line(written: &[u8], text: &str) -> bool {
+    match written.split_last() {
+        Some((b'\n', front)) => front == text.as_bytes(),
+        _ => false,
+    }
+}
+
+/// Whether the text is written of the response, and a line feed.
+fn is_written(alloc: Global, response: Response, text: &str) -> bool {
+    let mut written: Vec<u8> = Vec::new(alloc);
+    match response.write_to(&mut written) {
+        Ok(()) => is_line(written.as_slice(), text),
+        Err(_) => false,
+    }
+}
+
+/// The place of the first line of which something else is written.
+fn first_wrong(alloc: Global, rows: &[(Line, &str)]) -> Option<usize> {
+    for (place, (line, text)) in rows.iter().enumerate() {
+        if !is_written(alloc, response(line), text) {
+            return Some(place);
+        }
+    }
+    None
+}
+
+fn is_event(alloc: Global, refusal: &Refusal, text: &str) -> bool {
+    is_written(alloc, Response::Event(Reply::Refused(*refusal)), text)
+}
+
+fn is_answer(alloc: Global, refusal: &Refusal, text: &str) -> bool {
+    is_written(alloc, Response::Refused(*refusal), text)
+}
+
+/// The place of the first refusal of which something else is written, to a question or to an event.
+fn first_misnamed(alloc: Global) -> Option<usize> {
+    for place in 0..REFUSALS {
+        match refusal(place) {
+            Some((refusal, text))
+                if is_answer(alloc, &refusal, text) && is_event(alloc, &refusal, text) => {}
+            _ => return Some(place),
+        }
+    }
+    None
+}
+
+/// So many refusals there are.
+const REFUSALS: usize = 25;
+
+/// The refusal with this place, and its name.
+const fn refusal(place: usize) -> Option<(Refusal, &'static str)> {
+    Some(match place {
+        0 => (Refusal::BadCpu, "refused BadCpu"),
+        1 => (Refusal::EmptyMask, "refused EmptyMask"),
+        2 => (Refusal::MaskTooWide, "refused MaskTooWide"),
+        3 => (Refusal::BadLevel, "refused BadLevel"),
+        4 => (Refusal::UnknownThread, "refused UnknownThread"),
+        5 => (Refusal::NoDelta, "refused NoDelta"),
+        6 => (Refusal::NamesSpent, "refused NamesSpent"),
+        7 => (Refusal::NumbersSpent, "refused NumbersSpent"),
+        8 => (Refusal::QueueFull, "refused QueueFull"),
+        9 => (Refusal::PostsSpent, "refused PostsSpent"),
+        10 => (Refusal::Dead, "refused Dead"),
+        11 => (Refusal::NotBlocked, "refused NotBlocked"),
+        12 => (Refusal::NotReady, "refused NotReady"),
+        13 => (Refusal::IdleCpu, "refused IdleCpu"),
+        14 => (Refusal::OnForbiddenCpu, "refused OnForbiddenCpu"),
+        15 => (Refusal::Forbidden, "refused Forbidden"),
+        16 => (Refusal::Busy, "refused Busy"),
+        17 => (Refusal::Running(Cpu(0)), "refused Running 0"),
+        18 => (Refusal::NotYours(Cpu(1)), "refused NotYours 1"),
+        19 => (Refusal::Stale(2), "refused Stale 2"),
+        20 => (Refusal::Pending, "refused Pending"),
+        21 => (Refusal::TooMany, "refused TooMany"),
+        22 => (Refusal::NothingReady, "refused NothingReady"),
+        23 => (Refusal::NothingToSteal, "refused NothingToSteal"),
+        24 => (Refusal::WireFault, "refused WireFault"),
+        _ => return None,
+    })
+}
+
+#[test]
+fn each_refusal_has_its_name(rt: HostRuntime) {
+    assert_eq!(rt; first_misnamed(rt.alloc()), None);
+}
+
+#[test]
+fn what_is_answered_in_a_line(rt: HostRuntime) {
+    static ROWS: [(Line, &str); 23] = [
+        (Line::Opened, "ok"),
+        (Line::NoEnclave, "refused NoEnclave"),
+        (Line::HaveEnclave, "refused HaveEnclave"),
+        (Line::BadLimits(LimitField::Cpus), "refused BadLimits cpus"),
+        (
+            Line::BadLimits(LimitField::Threads),
+            "refused BadLimits threads",
+        ),
+        (
+            Line::BadLimits(LimitField::Numbers),
+            "refused BadLimits numbers",
+        ),
+        (Line::BadLimits(LimitField::Room), "refused BadLimits room"),
+        (
+            Line::BadLimits(LimitField::Posts),
+            "refused BadLimits posts",
+        ),
+        (Line::Posted(0, 2, 0), "ok t0 n2 q0 a2 wake 0"),
+        (Line::Ticked, "ok - q0 a2 wake -"),
+        (Line::Done, "ok"),
+        (Line::Associated(4_294_967_295, 63), "ok t4294967295 q63"),
+        (Line::Committed(4_294_967_295, 9), "ok t4294967295 c9"),
+        (
+            Line::Published(18_446_744_073_709_551_615, 10),
+            "ok d18446744073709551615 items 10",
+        ),
+        (Line::Consumed(4_294_967_295), "ok 4294967295"),
+        (Line::Answered(100), "ok d100"),
+        (Line::Running(1, 0), "t0 n1 ready c0"),
+        (Line::Status(2, Phase::Dead), "t0 n2 dead"),
+        (Line::Status(2, Phase::Blocked), "t0 n2 blocked"),
+        (Line::Truth(true), "yes"),
+        (Line::Truth(false), "no"),
+        (Line::Sameness(true), "equal"),
+        (Line::Sameness(false), "differ"),
+    ];
+    assert_eq!(rt; first_wrong(rt.alloc(), &ROWS), None);
+}
+
+/// What is told of a ready thread of level 5.
+fn raised() -> Option<Reported> {
+    let mask = Mask::new(3, 2).ok()?;
+    let level = Level::new(5).ok()?;
+    Some(Reported {
+        phase: Phase::Ready,
+        mask,
+        ran: 0,
+        level,
+    })
+}
+
+fn raised_text(alloc: Global) -> Result<String, AllocError> {
     let shown = ShownThread {
         thread: Tid(1),
         upto: 2,
-        reported: Some(Reported {
-            phase: Phase::Ready,
-            mask: Mask::new(3, 2)?,
-            ran: 0,
-            level: Level::new(5)?,
-        }),
+        reported: raised(),
         early: EarlyNumbers::new(alloc),
     };
-    Ok(format!(in alloc; "{shown}")?)
+    format!(in alloc; "{shown}")
+}
+
+fn is_raised_shown(alloc: Global, text: &str) -> bool {
+    match raised_text(alloc) {
+        Ok(found) => found.as_str() == text,
+        Err(_) => false,
+    }
+}
+
+/// Whether the text is written of two threads.
+fn are_shown(alloc: Global, text: &str) -> bool {
+    match shown(alloc) {
+        Ok(threads) => is_written(alloc, Response::View(threads), text),
+        Err(_) => false,
+    }
 }
 
 // Without contracts, as the functions below, so that a test's proof does not carry those of lists.
@@ -168,30 +263,35 @@ fn numbers(alloc: Global) -> Result<EarlyNumbers, AllocError> {
     Ok(numbers)
 }
 
-fn kept(numbers: &EarlyNumbers) -> &[u32] {
-    numbers.as_slice()
+/// Whether numbers are kept in the order in which they were pushed.
+fn are_kept(alloc: Global, wanted: &[u32]) -> bool {
+    match numbers(alloc) {
+        Ok(numbers) => numbers.as_slice() == wanted,
+        Err(_) => false,
+    }
 }
 
-/// The names of two threads; none where there are fewer or more.
-fn names(threads: &ShownThreads) -> Option<(Tid, Tid)> {
+/// Whether these are the threads, and no others.
+fn are_names(threads: &ShownThreads, one: Tid, other: Tid) -> bool {
     match threads.as_slice() {
-        [first, second] => Some((first.thread, second.thread)),
-        _ => None,
+        [first, second] => first.thread == one && second.thread == other,
+        _ => false,
+    }
+}
+
+fn are_listed(alloc: Global, one: Tid, other: Tid) -> bool {
+    match shown(alloc) {
+        Ok(threads) => are_names(&threads, one, other),
+        Err(_) => false,
     }
 }
 
 #[test]
-fn threads_are_shown_in_their_order(rt: HostRuntime) -> Result<(), Fail> {
-    let alloc = rt.alloc();
-    assert_eq!(rt;
-        raised_text(alloc)?.as_str(),
-        "t1 upto 2 ready mask 3 ran 0 level 5 early -"
-    );
-    assert_eq!(rt;
-        text_of(alloc, &Response::View(shown(alloc)?))?.as_str(),
-        "t0 upto 2 blocked mask 3 ran 5 early -\nt12 upto 0 - early 2 1000000\nend"
-    );
-    assert_eq!(rt; kept(&numbers(alloc)?), [7, 3].as_slice());
-    assert_eq!(rt; names(&shown(alloc)?), Some((Tid(0), Tid(12))));
-    Ok(())
+fn threads_are_shown_in_their_order(rt: HostRuntime) {
+    const RAISED: &str = "t1 upto 2 ready mask 3 ran 0 level 5 early -";
+    const TWO: &str = "t0 upto 2 blocked mask 3 ran 5 early -\nt12 upto 0 - early 2 1000000\nend";
+    assert!(rt; is_raised_shown(rt.alloc(), RAISED));
+    assert!(rt; are_shown(rt.alloc(), TWO));
+    assert!(rt; are_kept(rt.alloc(), &[7, 3]));
+    assert!(rt; are_listed(rt.alloc(), Tid(0), Tid(12)));
 }

@@ -1,13 +1,13 @@
 //! Replies that wait until there are enough of them for a write: 8,192 bytes, which are 512 times `refused Stale 1` and its
 //! line feed.
 
-use super::ends::filled;
-use super::{FINISHED, fault_at, runs};
+use super::ends::{UNWRITTEN, is_front};
+use super::{FINISHED, ends_so, runs};
 use pc_calls::{Profile, Refusal, Reply};
 use pc_script::{Command, Machine, Outcome, Response, ScriptFault, run_script};
 use std::alloc::{AllocError, Global};
 use std::io::{self, Error, ErrorKind, Write};
-use std::test::Fail;
+use std::process::Abort;
 
 /// So many times a text, and then another.
 fn repeated(alloc: Global, text: &[u8], times: u32, end: &[u8]) -> Result<Vec<u8>, AllocError> {
@@ -29,9 +29,6 @@ fn refusals(alloc: Global, times: u32, end: &[u8]) -> Result<Vec<u8>, AllocError
     repeated(alloc, b"refused Stale 1\n", times, end)
 }
 
-/// Wakes, lines behind them, what is answered to these, and how the script ends.
-type Row<'a> = (u32, &'a [u8], &'a [u8], Result<Outcome, ScriptFault>);
-
 /// No memory was found for an answer.
 const NO_MEMORY: Result<Outcome, ScriptFault> = Err(ScriptFault::OutOfMemory);
 
@@ -43,70 +40,6 @@ t0 upto 2 blocked mask 3 ran 5 early -\nt12 upto 0 - early 2 1000000\nend\nrefus
 
 const VIEW_AND_WAKE: &[u8] =
     b"t0 upto 2 blocked mask 3 ran 5 early -\nt12 upto 0 - early 2 1000000\nend\nrefused Stale 1\n";
-
-#[test]
-fn replies_of_more_than_one_write_are_all_written(rt: HostRuntime) -> Result<(), Fail> {
-    let rows: [Row<'_>; 15] = [
-        (511, b"", b"", FINISHED),
-        (512, b"", b"", FINISHED),
-        (513, b"", b"", FINISHED),
-        (511, b"x", b"fault line 512\n", fault_at(512)),
-        (512, b"x", b"fault line 513\n", fault_at(513)),
-        (
-            511,
-            b"same 0 0\nsame 0 0\nsame 0 0\n",
-            b"equal\nequal\nequal\n",
-            FINISHED,
-        ),
-        (511, b"show 0\n", VIEW, FINISHED),
-        (512, b"show 0\nwake t1\n", VIEW_AND_WAKE, FINISHED),
-        (1600, b"show 0\nwake t1\n", VIEW_AND_WAKE, FINISHED),
-        (0, b"asleep 63\n", b"", NO_MEMORY),
-        (1, b"asleep 63\nwake t1\n", b"", NO_MEMORY),
-        (512, b"asleep 63\n", b"", NO_MEMORY),
-        (513, b"asleep 63\n", b"", NO_MEMORY),
-        (600, b"show 0\nasleep 63\nx\n", VIEW, NO_MEMORY),
-        (
-            600,
-            b"show 0\nshow 0\nwake t1\nasleep 63\nwake t1\n",
-            TWO_VIEWS_AND_WAKE,
-            NO_MEMORY,
-        ),
-    ];
-    for (times, end, answers, wanted) in rows {
-        let script = wakes(rt.alloc(), times, end)?;
-        let mut writer: Vec<u8> = Vec::new(rt.alloc());
-        let ended = runs(rt.alloc(), &mut script.as_slice(), &mut writer);
-        let output = refusals(rt.alloc(), times, answers)?;
-        assert_eq!(rt; ended, wanted);
-        assert_eq!(rt; writer.as_slice(), output.as_slice());
-    }
-    Ok(())
-}
-
-#[test]
-fn a_write_that_fails_among_several_leaves_a_front_of_the_output(
-    rt: HostRuntime,
-) -> Result<(), Fail> {
-    let script = wakes(rt.alloc(), 520, b"")?;
-    let output = refusals(rt.alloc(), 520, b"")?;
-    for (room, wanted) in [
-        (0, Err(ScriptFault::Write)),
-        (8191, Err(ScriptFault::Write)),
-        (8192, Err(ScriptFault::Write)),
-        (8193, Err(ScriptFault::Write)),
-        (8319, Err(ScriptFault::Write)),
-        (8320, FINISHED),
-    ] {
-        let (writer, ended) = filled(rt.alloc(), script.as_slice(), room);
-        assert_eq!(rt; ended, wanted);
-        assert_eq!(rt;
-            Some(writer.taken.as_slice()),
-            output.as_slice().get(..room)
-        );
-    }
-    Ok(())
-}
 
 /// Refuses so many commands as stale, and then finds no memory.
 #[derive(Drop)]
@@ -147,20 +80,14 @@ fn runs_out(alloc: Global, script: &[u8], writer: &mut Vec<u8>) -> Result<Outcom
     run_script::<Spent, _, _>(alloc, &mut reader, writer)
 }
 
-#[test]
-fn replies_that_wait_are_written_where_memory_runs_out(rt: HostRuntime) -> Result<(), Fail> {
-    for (times, ended, answered) in [
-        (513, FINISHED, 513),
-        (514, Err(ScriptFault::OutOfMemory), 513),
-        (600, Err(ScriptFault::OutOfMemory), 513),
-    ] {
-        let script = wakes(rt.alloc(), times, b"")?;
-        let output = refusals(rt.alloc(), answered, b"")?;
-        let mut writer: Vec<u8> = Vec::new(rt.alloc());
-        assert_eq!(rt; runs_out(rt.alloc(), script.as_slice(), &mut writer), ended);
-        assert_eq!(rt; writer.as_slice(), output.as_slice());
-    }
-    Ok(())
+fn ends_without_memory(
+    alloc: Global,
+    script: &[u8],
+    output: &[u8],
+    wanted: Result<Outcome, ScriptFault>,
+) -> bool {
+    let mut writer: Vec<u8> = Vec::new(alloc);
+    runs_out(alloc, script, &mut writer) == wanted && writer.as_slice() == output
 }
 
 /// Takes all that it is given, and counts how often; fails at one of the writes.
@@ -201,23 +128,153 @@ fn counted(
     (ended, writer.count, writer.taken)
 }
 
-#[test]
-fn many_replies_are_one_write_and_none_follows_one_that_failed(
-    rt: HostRuntime,
-) -> Result<(), Fail> {
-    const UNWRITTEN: Result<Outcome, ScriptFault> = Err(ScriptFault::Write);
-    for (times, fails_at, wanted) in [
-        (0, 0, (FINISHED, 0, 0)),
-        (1, 0, (FINISHED, 1, 16)),
-        (512, 0, (FINISHED, 1, 8192)),
-        (513, 0, (FINISHED, 2, 8208)),
-        (1536, 0, (FINISHED, 3, 24576)),
-        (1536, 1, (UNWRITTEN, 1, 0)),
-        (1536, 2, (UNWRITTEN, 2, 8192)),
-        (1536, 3, (UNWRITTEN, 3, 16384)),
-    ] {
-        let script = wakes(rt.alloc(), times, b"")?;
-        assert_eq!(rt; counted(rt.alloc(), script.as_slice(), fails_at), wanted);
+/// Wakes, and what comes of them.
+#[derive(Clone, Copy)]
+enum Row {
+    /// So many wakes, lines behind them, what is answered to these, and how the script ends.
+    Answers(u32, &'static [u8], &'static [u8], Result<Outcome, ScriptFault>),
+    /// Of 520 wakes a writer takes so many bytes and then fails, and how the script ends.
+    Fills(usize, Result<Outcome, ScriptFault>),
+    /// So many wakes of a machine whose memory runs out, how the script ends, and how many are answered.
+    RunsOut(u32, Result<Outcome, ScriptFault>, u32),
+    /// So many wakes, the write that fails, how the script ends, how many writes there are, and the bytes that are taken.
+    Writes(u32, u32, Result<Outcome, ScriptFault>, u32, usize),
+}
+
+fn answers(
+    alloc: Global,
+    times: u32,
+    end: &[u8],
+    answered: &[u8],
+    wanted: Result<Outcome, ScriptFault>,
+) -> Result<bool, AllocError> {
+    let script = wakes(alloc, times, end)?;
+    let output = refusals(alloc, times, answered)?;
+    Ok(ends_so(alloc, script.as_slice(), output.as_slice(), wanted))
+}
+
+fn fills(
+    alloc: Global,
+    room: usize,
+    wanted: Result<Outcome, ScriptFault>,
+) -> Result<bool, AllocError> {
+    let script = wakes(alloc, 520, b"")?;
+    let output = refusals(alloc, 520, b"")?;
+    Ok(is_front(alloc, script.as_slice(), output.as_slice(), room, wanted))
+}
+
+fn is_spent(
+    alloc: Global,
+    times: u32,
+    wanted: Result<Outcome, ScriptFault>,
+    answered: u32,
+) -> Result<bool, AllocError> {
+    let script = wakes(alloc, times, b"")?;
+    let output = refusals(alloc, answered, b"")?;
+    Ok(ends_without_memory(alloc, script.as_slice(), output.as_slice(), wanted))
+}
+
+fn makes_writes(
+    alloc: Global,
+    times: u32,
+    fails_at: u32,
+    wanted: (Result<Outcome, ScriptFault>, u32, usize),
+) -> Result<bool, AllocError> {
+    let script = wakes(alloc, times, b"")?;
+    Ok(counted(alloc, script.as_slice(), fails_at) == wanted)
+}
+
+fn holds(alloc: Global, row: &Row) -> Result<bool, AllocError> {
+    match *row {
+        Row::Answers(times, end, answered, wanted) => answers(alloc, times, end, answered, wanted),
+        Row::Fills(room, wanted) => fills(alloc, room, wanted),
+        Row::RunsOut(times, wanted, answered) => is_spent(alloc, times, wanted, answered),
+        Row::Writes(times, fails_at, ended, count, taken) => {
+            makes_writes(alloc, times, fails_at, (ended, count, taken))
+        }
     }
-    Ok(())
+}
+
+/// The place of the first row that does not hold.
+fn first_wrong(alloc: Global, rows: &[Row]) -> Result<Option<usize>, AllocError> {
+    for (place, row) in rows.iter().enumerate() {
+        if !holds(alloc, row)? {
+            return Ok(Some(place));
+        }
+    }
+    Ok(None)
+}
+
+fn each_holds(rt: &impl Abort, alloc: Global, rows: &[Row]) {
+    assert_eq!(rt; first_wrong(alloc, rows), Ok(None));
+}
+
+#[test]
+fn replies_of_more_than_one_write_are_all_written(rt: HostRuntime) {
+    static ROWS: [Row; 15] = [
+        Row::Answers(511, b"", b"", FINISHED),
+        Row::Answers(512, b"", b"", FINISHED),
+        Row::Answers(513, b"", b"", FINISHED),
+        Row::Answers(511, b"x", b"fault line 512\n", Ok(Outcome::FaultLine(512))),
+        Row::Answers(512, b"x", b"fault line 513\n", Ok(Outcome::FaultLine(513))),
+        Row::Answers(
+            511,
+            b"same 0 0\nsame 0 0\nsame 0 0\n",
+            b"equal\nequal\nequal\n",
+            FINISHED,
+        ),
+        Row::Answers(511, b"show 0\n", VIEW, FINISHED),
+        Row::Answers(512, b"show 0\nwake t1\n", VIEW_AND_WAKE, FINISHED),
+        Row::Answers(1600, b"show 0\nwake t1\n", VIEW_AND_WAKE, FINISHED),
+        Row::Answers(0, b"asleep 63\n", b"", NO_MEMORY),
+        Row::Answers(1, b"asleep 63\nwake t1\n", b"", NO_MEMORY),
+        Row::Answers(512, b"asleep 63\n", b"", NO_MEMORY),
+        Row::Answers(513, b"asleep 63\n", b"", NO_MEMORY),
+        Row::Answers(600, b"show 0\nasleep 63\nx\n", VIEW, NO_MEMORY),
+        Row::Answers(
+            600,
+            b"show 0\nshow 0\nwake t1\nasleep 63\nwake t1\n",
+            TWO_VIEWS_AND_WAKE,
+            NO_MEMORY,
+        ),
+    ];
+    each_holds(&rt, rt.alloc(), &ROWS);
+}
+
+#[test]
+fn a_write_that_fails_among_several_leaves_a_front_of_the_output(rt: HostRuntime) {
+    static ROWS: [Row; 6] = [
+        Row::Fills(0, UNWRITTEN),
+        Row::Fills(8191, UNWRITTEN),
+        Row::Fills(8192, UNWRITTEN),
+        Row::Fills(8193, UNWRITTEN),
+        Row::Fills(8319, UNWRITTEN),
+        Row::Fills(8320, FINISHED),
+    ];
+    each_holds(&rt, rt.alloc(), &ROWS);
+}
+
+#[test]
+fn replies_that_wait_are_written_where_memory_runs_out(rt: HostRuntime) {
+    static ROWS: [Row; 3] = [
+        Row::RunsOut(513, FINISHED, 513),
+        Row::RunsOut(514, NO_MEMORY, 513),
+        Row::RunsOut(600, NO_MEMORY, 513),
+    ];
+    each_holds(&rt, rt.alloc(), &ROWS);
+}
+
+#[test]
+fn many_replies_are_one_write_and_none_follows_one_that_failed(rt: HostRuntime) {
+    static ROWS: [Row; 8] = [
+        Row::Writes(0, 0, FINISHED, 0, 0),
+        Row::Writes(1, 0, FINISHED, 1, 16),
+        Row::Writes(512, 0, FINISHED, 1, 8192),
+        Row::Writes(513, 0, FINISHED, 2, 8208),
+        Row::Writes(1536, 0, FINISHED, 3, 24576),
+        Row::Writes(1536, 1, UNWRITTEN, 1, 0),
+        Row::Writes(1536, 2, UNWRITTEN, 2, 8192),
+        Row::Writes(1536, 3, UNWRITTEN, 3, 16384),
+    ];
+    each_holds(&rt, rt.alloc(), &ROWS);
 }
