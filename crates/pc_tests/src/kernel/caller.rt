@@ -3,7 +3,7 @@
 ghost use Rattle.std.specs.Prelude.{[], ◌∷◌, IfOk, true};
 ghost use Rattle.pc_kernel.specs.Answers.{Replays};
 
-use super::{SMALL, Step, Way, first_wrong};
+use super::{SMALL, Step, Way, each_holds};
 use pc_kernel::{Answer, Call, CallFault, EnvCall, Kernel, LimitsFault};
 use pc_messages::{Cpu, Tid};
 use std::alloc::Global;
@@ -59,7 +59,7 @@ fn a_running_thread_is_not_moved(rt: HostRuntime) {
         Step::Runs(Some(Tid(0))),
         Step::QueueOf(0, Some(Cpu(0))),
     ];
-    assert_eq!(rt; first_wrong(rt.alloc(), Way::ByName, &STEPS), Ok(None));
+    each_holds(&rt, rt.alloc(), Way::ByName, &STEPS);
 }
 
 #[test]
@@ -75,7 +75,7 @@ fn a_thread_moves_beside_one_that_runs(rt: HostRuntime) {
         Step::Runs(Some(Tid(1))),
         Step::QueueOf(0, Some(Cpu(1))),
     ];
-    assert_eq!(rt; first_wrong(rt.alloc(), Way::ByName, &STEPS), Ok(None));
+    each_holds(&rt, rt.alloc(), Way::ByName, &STEPS);
 }
 
 const CREATE: Call = Call::Env(EnvCall::Create {

@@ -1,6 +1,6 @@
 //! What is read of a kernel.
 
-use super::{SMALL, Step, Way, first_wrong};
+use super::{SMALL, Step, Way, each_holds};
 use pc_kernel::{EnvCall, Kernel};
 use pc_messages::{Cpu, Item, Kind, Mask, MaskFault, Message, Phase, Tid};
 
@@ -147,7 +147,7 @@ fn of_cpus_and_threads(rt: HostRuntime) {
         Step::IsThere(0),
         Step::IsNowhere(1),
     ];
-    assert_eq!(rt; first_wrong(rt.alloc(), Way::ByName, &STEPS), Ok(None));
+    each_holds(&rt, rt.alloc(), Way::ByName, &STEPS);
 }
 
 // The items stay in the queue, and its agent sleeps on.
@@ -164,7 +164,7 @@ fn of_a_history_and_a_queue(rt: HostRuntime) {
         Step::OneKind,
         Step::NoHistory(1),
     ];
-    assert_eq!(rt; first_wrong(rt.alloc(), Way::ByName, &STEPS), Ok(None));
+    each_holds(&rt, rt.alloc(), Way::ByName, &STEPS);
 }
 
 #[test]
@@ -175,5 +175,5 @@ fn of_a_longer_history(rt: HostRuntime) {
         Step::PostsNext(WAKE, 2),
         Step::TwoKinds,
     ];
-    assert_eq!(rt; first_wrong(rt.alloc(), Way::ByName, &STEPS), Ok(None));
+    each_holds(&rt, rt.alloc(), Way::ByName, &STEPS);
 }
