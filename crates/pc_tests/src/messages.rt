@@ -2,15 +2,139 @@ use pc_messages::{
     Cpu, GREATEST_NUMBER, Kind, Level, LevelFault, Mask, MaskFault, Message, Phase, Reported, Tid,
     is_same_kind, is_same_state,
 };
-use std::test::Fail;
+use std::process::Abort;
+
+/// A kind by its numbers: no constant holds a mask or a level.
+#[derive(Clone, Copy)]
+enum Part {
+    /// The mask's bits, of two CPUs, and whether the thread is ready.
+    Created(u64, bool),
+    Wakeup,
+    Preempted(u32),
+    Yield(u32),
+    Blocked(u32),
+    Dead(u32),
+    Affinity(u64),
+    Priority(u8),
+}
+
+// Without contracts, as the functions below, so that a test's proof does not carry those of messages.
+fn mask(bits: u64) -> Option<Mask> {
+    Mask::new(bits, 2).ok()
+}
+
+fn level(number: u8) -> Option<Level> {
+    Level::new(number).ok()
+}
+
+fn kind(part: &Part) -> Option<Kind> {
+    match *part {
+        Part::Created(bits, ready) => Some(Kind::Created {
+            mask: mask(bits)?,
+            ready,
+        }),
+        Part::Wakeup => Some(Kind::Wakeup),
+        Part::Preempted(ran) => Some(Kind::Preempted { ran }),
+        Part::Yield(ran) => Some(Kind::Yield { ran }),
+        Part::Blocked(ran) => Some(Kind::Blocked { ran }),
+        Part::Dead(ran) => Some(Kind::Dead { ran }),
+        Part::Affinity(bits) => Some(Kind::Affinity { mask: mask(bits)? }),
+        Part::Priority(number) => Some(Kind::Priority {
+            level: level(number)?,
+        }),
+    }
+}
+
+/// What is told of masks, levels, kinds and states.
+#[derive(Clone, Copy)]
+enum Step<'a> {
+    /// Why there is no such mask of two CPUs.
+    Fault(u64, Option<MaskFault>),
+    /// The bits of such a mask.
+    Bits(u64),
+    /// Whether a mask of so many CPUs allows the CPU.
+    Allows(u64, u8, u8, bool),
+    Level(u8, Result<u8, LevelFault>),
+    /// Whether a message with this number may have this kind.
+    WellFormed(u32, Part, bool),
+    IsCreated(Part, bool),
+    Ran(Part, u32),
+    Moves(Part, Option<Phase>),
+    HasNoMask(Part),
+    Raises(Part, Option<u8>),
+    /// The state after these kinds: phase, mask, ticks and level.
+    Folds(&'a [Part], Phase, u64, u64, u8),
+    FoldsToNothing(&'a [Part]),
+    BeginsNothing(Part),
+    Alike(Part, Part, bool),
+    /// Whether the states of two threads are the same, that were created ready or not, or are none.
+    StatesAlike(Option<bool>, Option<bool>, bool),
+}
+
+fn allows(bits: u64, cpus: u8, cpu: u8, wanted: bool) -> bool {
+    if cpus < 1 || cpus > 64 {
+        return false;
+    }
+    match Mask::new(bits, cpus) {
+        Ok(mask) => mask.allows(Cpu(cpu)) == wanted,
+        Err(_) => false,
+    }
+}
+
+fn has_bits(bits: u64) -> bool {
+    match mask(bits) {
+        Some(mask) => mask.bits() == bits,
+        None => false,
+    }
+}
+
+fn level_of(number: u8) -> Result<u8, LevelFault> {
+    Ok(Level::new(number)?.get())
+}
+
+fn is_well_formed(number: u32, part: &Part, wanted: bool) -> bool {
+    match kind(part) {
+        Some(kind) => {
+            let message = Message {
+                thread: Tid(0),
+                number,
+                kind,
+            };
+            message.is_well_formed() == wanted
+        }
+        None => false,
+    }
+}
+
+/// What a kind gives.
+fn gives(kind: &Kind, step: &Step<'_>) -> bool {
+    match *step {
+        Step::IsCreated(_, wanted) => kind.is_created() == wanted,
+        Step::Ran(_, wanted) => kind.ran() == wanted,
+        Step::Moves(_, wanted) => kind.phase() == wanted,
+        Step::HasNoMask(_) => kind.mask().is_none(),
+        Step::Raises(_, None) => kind.level().is_none(),
+        Step::Raises(_, Some(number)) => kind.level() == level(number),
+        Step::BeginsNothing(_) => Reported::first(*kind).is_none(),
+        _ => false,
+    }
+}
+
+fn part_gives(part: &Part, step: &Step<'_>) -> bool {
+    match kind(part) {
+        Some(kind) => gives(&kind, step),
+        None => false,
+    }
+}
 
 /// The state of a list of kinds by `first` and `apply`; none of an empty one.
-fn folded(kinds: &[Kind]) -> Option<Reported> {
+fn folded(parts: &[Part]) -> Option<Reported> {
     let mut state = None;
-    for kind in kinds {
+    for part in parts {
+        let kind = kind(part)?;
         state = match state {
-            None => Reported::first(*kind),
-            Some(before) => Some(applied(before, *kind)),
+            None => Reported::first(kind),
+            Some(before) => Some(applied(before, kind)),
         };
     }
     state
@@ -25,54 +149,87 @@ fn applied(before: Reported, kind: Kind) -> Reported {
     }
 }
 
-// Without contracts, as the functions below, so that a test's proof does not carry those of messages.
-fn mask_of(bits: u64, cpus: u8) -> Result<Mask, Fail> {
-    if cpus < 1 || cpus > 64 {
-        return Err("no number of CPUs".into());
+fn folds(parts: &[Part], phase: Phase, mask: u64, ran: u64, level: u8) -> bool {
+    match folded(parts) {
+        Some(it) => {
+            it.phase == phase && it.mask.bits() == mask && it.ran == ran && it.level.get() == level
+        }
+        None => false,
     }
-    Ok(Mask::new(bits, cpus)?)
 }
 
-fn mask_fault(bits: u64) -> Option<MaskFault> {
-    Mask::new(bits, 2).err()
+fn are_alike(part: &Part, other: &Part, wanted: bool) -> bool {
+    match (kind(part), kind(other)) {
+        (Some(kind), Some(other)) => is_same_kind(kind, other) == wanted,
+        _ => false,
+    }
 }
 
-fn bits_of(mask: Mask) -> u64 {
-    mask.bits()
+/// The state of a thread that was created, and is ready or not; none of nothing.
+fn state(created_ready: Option<bool>) -> Option<Reported> {
+    Reported::first(kind(&Part::Created(3, created_ready?))?)
 }
 
-fn allows(mask: Mask, cpu: u8) -> bool {
-    mask.allows(Cpu(cpu))
+fn are_states_alike(one: Option<bool>, other: Option<bool>, wanted: bool) -> bool {
+    is_same_state(state(one), state(other)) == wanted
+}
+
+fn is_told(step: &Step<'_>) -> bool {
+    match *step {
+        Step::WellFormed(number, part, wanted) => is_well_formed(number, &part, wanted),
+        Step::Folds(parts, phase, mask, ran, level) => folds(parts, phase, mask, ran, level),
+        Step::FoldsToNothing(parts) => folded(parts).is_none(),
+        Step::Alike(part, other, wanted) => are_alike(&part, &other, wanted),
+        Step::StatesAlike(one, other, wanted) => are_states_alike(one, other, wanted),
+        Step::IsCreated(part, _)
+        | Step::Ran(part, _)
+        | Step::Moves(part, _)
+        | Step::HasNoMask(part)
+        | Step::Raises(part, _)
+        | Step::BeginsNothing(part) => part_gives(&part, step),
+        _ => false,
+    }
+}
+
+fn holds(step: &Step<'_>) -> bool {
+    match *step {
+        Step::Fault(bits, wanted) => Mask::new(bits, 2).err() == wanted,
+        Step::Bits(bits) => has_bits(bits),
+        Step::Allows(bits, cpus, cpu, wanted) => allows(bits, cpus, cpu, wanted),
+        Step::Level(number, wanted) => level_of(number) == wanted,
+        _ => is_told(step),
+    }
+}
+
+/// The place of the first step that does not hold.
+fn first_wrong(steps: &[Step<'_>]) -> Option<usize> {
+    for (place, step) in steps.iter().enumerate() {
+        if !holds(step) {
+            return Some(place);
+        }
+    }
+    None
+}
+
+fn each_holds(rt: &impl Abort, steps: &[Step<'_>]) {
+    assert_eq!(rt; first_wrong(steps), None);
 }
 
 #[test]
-fn masks(rt: HostRuntime) -> Result<(), Fail> {
-    for (bits, fault) in [
-        (0, Some(MaskFault::EmptyMask)),
-        (4, Some(MaskFault::MaskTooWide)),
-        (3, None),
-    ] {
-        assert_eq!(rt; mask_fault(bits), fault);
-    }
-    assert_eq!(rt; bits_of(mask_of(3, 2)?), 3);
-    for (bits, cpus, cpu, wanted) in [
-        (3, 2, 0, true),
-        (3, 2, 1, true),
-        (3, 2, 2, false),
-        (3, 2, 64, false),
-        (9_223_372_036_854_775_808, 64, 63, true),
-        (9_223_372_036_854_775_808, 64, 0, false),
-    ] {
-        assert!(rt;
-            allows(mask_of(bits, cpus)?, cpu) == wanted,
-            "cpu {cpu} of {bits}"
-        );
-    }
-    Ok(())
-}
-
-fn level_of(number: u8) -> Result<u8, LevelFault> {
-    Ok(Level::new(number)?.get())
+fn masks(rt: HostRuntime) {
+    static STEPS: [Step<'static>; 10] = [
+        Step::Fault(0, Some(MaskFault::EmptyMask)),
+        Step::Fault(4, Some(MaskFault::MaskTooWide)),
+        Step::Fault(3, None),
+        Step::Bits(3),
+        Step::Allows(3, 2, 0, true),
+        Step::Allows(3, 2, 1, true),
+        Step::Allows(3, 2, 2, false),
+        Step::Allows(3, 2, 64, false),
+        Step::Allows(9_223_372_036_854_775_808, 64, 63, true),
+        Step::Allows(9_223_372_036_854_775_808, 64, 0, false),
+    ];
+    each_holds(&rt, &STEPS);
 }
 
 fn lowest() -> u8 {
@@ -85,167 +242,74 @@ fn indices(thread: Tid, cpu: Cpu) -> (u32, u8) {
 
 #[test]
 fn levels_and_names(rt: HostRuntime) {
-    for (number, wanted) in [(8, Err(LevelFault::BadLevel)), (7, Ok(7))] {
-        assert_eq!(rt; level_of(number), wanted);
-    }
+    static STEPS: [Step<'static>; 2] = [
+        Step::Level(8, Err(LevelFault::BadLevel)),
+        Step::Level(7, Ok(7)),
+    ];
+    each_holds(&rt, &STEPS);
     assert_eq!(rt; lowest(), 0);
     assert_eq!(rt; indices(Tid(7), Cpu(63)), (7, 63));
 }
 
-fn created(bits: u64, ready: bool) -> Result<Kind, MaskFault> {
-    let mask = Mask::new(bits, 2)?;
-    Ok(Kind::Created { mask, ready })
-}
-
-fn is_well_formed(number: u32, kind: Kind) -> bool {
-    let message = Message {
-        thread: Tid(0),
-        number,
-        kind,
-    };
-    message.is_well_formed()
-}
-
 #[test]
-fn well_formed(rt: HostRuntime) -> Result<(), Fail> {
-    for (number, kind, wanted) in [
-        (1, created(3, true)?, true),
-        (2, Kind::Wakeup, true),
-        (GREATEST_NUMBER, Kind::Wakeup, true),
-        (0, Kind::Wakeup, false),
-        (1, Kind::Wakeup, false),
-        (2, created(3, true)?, false),
-        (GREATEST_NUMBER + 1, Kind::Wakeup, false),
-    ] {
-        assert!(rt; is_well_formed(number, kind) == wanted, "number {number}");
-    }
-    Ok(())
-}
-
-fn affinity(bits: u64) -> Result<Kind, MaskFault> {
-    let mask = Mask::new(bits, 2)?;
-    Ok(Kind::Affinity { mask })
-}
-
-fn priority(number: u8) -> Result<Kind, LevelFault> {
-    let level = Level::new(number)?;
-    Ok(Kind::Priority { level })
-}
-
-/// What a kind gives.
-#[derive(Clone, Copy)]
-enum Given {
-    Created(bool),
-    Ran(u32),
-    Moves(Option<Phase>),
-    Allows(Option<Mask>),
-    Raises(Option<Level>),
-}
-
-fn gives(kind: &Kind, given: &Given) -> bool {
-    match *given {
-        Given::Created(wanted) => kind.is_created() == wanted,
-        Given::Ran(wanted) => kind.ran() == wanted,
-        Given::Moves(wanted) => kind.phase() == wanted,
-        Given::Allows(wanted) => kind.mask() == wanted,
-        Given::Raises(wanted) => kind.level() == wanted,
-    }
-}
-
-#[test]
-fn what_a_kind_gives(rt: HostRuntime) -> Result<(), Fail> {
-    let level = Level::new(5)?;
-    let rows = [
-        (Kind::Wakeup, Given::Created(false)),
-        (Kind::Yield { ran: 4 }, Given::Ran(4)),
-        (Kind::Dead { ran: 4 }, Given::Moves(Some(Phase::Dead))),
-        (priority(5)?, Given::Moves(None)),
-        (priority(5)?, Given::Raises(Some(level))),
-        (Kind::Blocked { ran: 1 }, Given::Allows(None)),
+fn well_formed(rt: HostRuntime) {
+    static STEPS: [Step<'static>; 7] = [
+        Step::WellFormed(1, Part::Created(3, true), true),
+        Step::WellFormed(2, Part::Wakeup, true),
+        Step::WellFormed(GREATEST_NUMBER, Part::Wakeup, true),
+        Step::WellFormed(0, Part::Wakeup, false),
+        Step::WellFormed(1, Part::Wakeup, false),
+        Step::WellFormed(2, Part::Created(3, true), false),
+        Step::WellFormed(GREATEST_NUMBER + 1, Part::Wakeup, false),
     ];
-    for (place, (kind, given)) in rows.iter().enumerate() {
-        assert!(rt; gives(kind, given), "row {place}");
-    }
-    Ok(())
+    each_holds(&rt, &STEPS);
+}
+
+#[test]
+fn what_a_kind_gives(rt: HostRuntime) {
+    static STEPS: [Step<'static>; 6] = [
+        Step::IsCreated(Part::Wakeup, false),
+        Step::Ran(Part::Yield(4), 4),
+        Step::Moves(Part::Dead(4), Some(Phase::Dead)),
+        Step::Moves(Part::Priority(5), None),
+        Step::Raises(Part::Priority(5), Some(5)),
+        Step::HasNoMask(Part::Blocked(1)),
+    ];
+    each_holds(&rt, &STEPS);
 }
 
 // A thread that is created blocked with mask 3, woken, put off its CPU after 4 ticks, given level 5 and then 2, and
 // allowed on CPU 1 alone is ready, with mask 2, ran 4 and level 2.
-fn six_kinds() -> Result<([Kind; 6], Reported), Fail> {
-    let kinds = [
-        created(3, false)?,
-        Kind::Wakeup,
-        Kind::Preempted { ran: 4 },
-        priority(5)?,
-        priority(2)?,
-        affinity(2)?,
+#[test]
+fn the_state_of_a_list(rt: HostRuntime) {
+    const SIX: &[Part] = &[
+        Part::Created(3, false),
+        Part::Wakeup,
+        Part::Preempted(4),
+        Part::Priority(5),
+        Part::Priority(2),
+        Part::Affinity(2),
     ];
-    let reported = Reported {
-        phase: Phase::Ready,
-        mask: Mask::new(2, 2)?,
-        ran: 4,
-        level: Level::new(2)?,
-    };
-    Ok((kinds, reported))
-}
-
-fn first(kind: Kind) -> Option<Reported> {
-    Reported::first(kind)
+    static STEPS: [Step<'static>; 3] = [
+        Step::Folds(SIX, Phase::Ready, 2, 4, 2),
+        Step::FoldsToNothing(&[]),
+        Step::BeginsNothing(Part::Wakeup),
+    ];
+    each_holds(&rt, &STEPS);
 }
 
 #[test]
-fn the_state_of_a_list(rt: HostRuntime) -> Result<(), Fail> {
-    let (kinds, wanted) = six_kinds()?;
-    for (found, wanted) in [
-        (folded(&kinds), Some(wanted)),
-        (folded(&[]), None),
-        (first(Kind::Wakeup), None),
-    ] {
-        assert_eq!(rt; found, wanted);
-    }
-    Ok(())
-}
-
-fn is_alike(kind: &Kind, other: &Kind) -> bool {
-    is_same_kind(*kind, *other)
-}
-
-/// The state of a thread that was created, and is ready or not; none of nothing.
-fn state(created_ready: Option<bool>) -> Result<Option<Reported>, MaskFault> {
-    match created_ready {
-        Some(ready) => Ok(Reported::first(created(3, ready)?)),
-        None => Ok(None),
-    }
-}
-
-fn is_state_alike(one: Option<bool>, other: Option<bool>) -> Result<bool, MaskFault> {
-    Ok(is_same_state(state(one)?, state(other)?))
-}
-
-#[test]
-fn kinds_and_states_are_compared(rt: HostRuntime) -> Result<(), Fail> {
-    let (both, one) = (affinity(3)?, affinity(2)?);
-    let (blocked, later) = (Kind::Blocked { ran: 1 }, Kind::Blocked { ran: 2 });
-    let rows = [
-        (Kind::Wakeup, Kind::Wakeup, true),
-        (both, one, false),
-        (blocked, later, false),
-        (blocked, Kind::Preempted { ran: 1 }, false),
+fn kinds_and_states_are_compared(rt: HostRuntime) {
+    static STEPS: [Step<'static>; 9] = [
+        Step::Alike(Part::Wakeup, Part::Wakeup, true),
+        Step::Alike(Part::Affinity(3), Part::Affinity(2), false),
+        Step::Alike(Part::Blocked(1), Part::Blocked(2), false),
+        Step::Alike(Part::Blocked(1), Part::Preempted(1), false),
+        Step::StatesAlike(Some(true), Some(true), true),
+        Step::StatesAlike(Some(false), Some(true), false),
+        Step::StatesAlike(None, None, true),
+        Step::StatesAlike(None, Some(true), false),
+        Step::StatesAlike(Some(true), None, false),
     ];
-    for (place, (kind, other, wanted)) in rows.iter().enumerate() {
-        assert!(rt; is_alike(kind, other) == *wanted, "row {place}");
-    }
-    for (place, (state, other, wanted)) in [
-        (Some(true), Some(true), true),
-        (Some(false), Some(true), false),
-        (None, None, true),
-        (None, Some(true), false),
-        (Some(true), None, false),
-    ]
-    .iter()
-    .enumerate()
-    {
-        assert!(rt; is_state_alike(*state, *other)? == *wanted, "row {place}");
-    }
-    Ok(())
+    each_holds(&rt, &STEPS);
 }

@@ -4,7 +4,6 @@ use pc_join::{NameSet, OutOfMemory};
 use pc_messages::Tid;
 use pc_run_queue::RunQueue;
 use std::alloc::Global;
-use std::test::Fail;
 
 /// The greatest name.
 const LAST: u32 = 4_294_967_295;
@@ -17,76 +16,129 @@ fn set_of(alloc: Global, names: &[u32]) -> Result<NameSet, OutOfMemory> {
     Ok(set)
 }
 
+fn put(list: &mut RunQueue, name: u32) -> Result<(), OutOfMemory> {
+    if list.has(Tid(name)) {
+        return Ok(());
+    }
+    list.push(Tid(name))
+}
+
 fn list_of(alloc: Global, names: &[u32]) -> Result<RunQueue, OutOfMemory> {
     let mut list = RunQueue::new(alloc);
     for name in names {
-        if !list.has(Tid(*name)) {
-            list.push(Tid(*name))?;
-        }
+        put(&mut list, *name)?;
     }
     Ok(list)
 }
 
-fn has(set: &NameSet, name: u32) -> bool {
-    set.has(Tid(name))
+fn has_all(set: &NameSet, names: &[u32]) -> bool {
+    for name in names {
+        if !set.has(Tid(*name)) {
+            return false;
+        }
+    }
+    true
+}
+
+fn has_none(set: &NameSet, names: &[u32]) -> bool {
+    for name in names {
+        if set.has(Tid(*name)) {
+            return false;
+        }
+    }
+    true
+}
+
+fn remove_all(set: &mut NameSet, names: &[u32]) {
+    for name in names {
+        set.remove(Tid(*name));
+    }
+}
+
+/// Whether the names are added and taken out alone.
+fn are_alone(alloc: Global, added: &[u32]) -> bool {
+    match set_of(alloc, added) {
+        Ok(set) => are_added(&set) && are_left(set),
+        Err(_) => false,
+    }
+}
+
+fn are_added(set: &NameSet) -> bool {
+    has_all(set, &[0, 63, 64, 4_095, 65_535, 65_536, LAST])
+        && has_none(
+            set,
+            &[1, 62, 65, 127, 128, 4_094, 4_096, 65_534, 65_537, LAST - 1],
+        )
+}
+
+fn are_left(mut set: NameSet) -> bool {
+    remove_all(&mut set, &[63, 7, 65_535, LAST]);
+    has_all(&set, &[0, 64, 4_095, 65_536]) && has_none(&set, &[63, 7, 65_535, LAST])
 }
 
 #[test]
-fn names_are_added_and_taken_out_alone(rt: HostRuntime) -> Result<(), Fail> {
-    let mut set = set_of(rt.alloc(), &[0, 63, 64, 63, 4_095, 65_535, 65_536, LAST])?;
-    for name in [0, 63, 64, 4_095, 65_535, 65_536, LAST] {
-        assert!(rt; has(&set, name));
-    }
-    for name in [1, 62, 65, 127, 128, 4_094, 4_096, 65_534, 65_537, LAST - 1] {
-        assert!(rt; !has(&set, name));
-    }
-    for name in [63, 7, 65_535, LAST] {
-        set.remove(Tid(name));
-    }
-    for name in [0, 64, 4_095, 65_536] {
-        assert!(rt; has(&set, name));
-    }
-    for name in [63, 7, 65_535, LAST] {
-        assert!(rt; !has(&set, name));
-    }
-    Ok(())
+fn names_are_added_and_taken_out_alone(rt: HostRuntime) {
+    const ADDED: &[u32] = &[0, 63, 64, 63, 4_095, 65_535, 65_536, LAST];
+    assert!(rt; are_alone(rt.alloc(), ADDED));
 }
 
 /// A walk: the names of a set, those of another one, where it begins, and the name that it finds.
-type Walk<'a> = (&'a [u32], &'a [u32], u32, Option<Tid>);
+type Walk<'a> = (&'a [u32], &'a [u32], u32, Option<u32>);
 
-/// What a set and a run list find of the first names outside of the others, from one on.
-fn found(alloc: Global, walk: &Walk<'_>) -> Result<[Option<Tid>; 2], OutOfMemory> {
-    let names = set_of(alloc, walk.0)?;
-    let others = set_of(alloc, walk.1)?;
-    let list = list_of(alloc, walk.1)?;
-    let from = Tid(walk.2);
-    Ok([
-        names.next_outside(&others, from),
-        list.next_outside(&names, from),
-    ])
+fn name(number: Option<u32>) -> Option<Tid> {
+    Some(Tid(number?))
+}
+
+/// Whether the set finds this of its first names outside of the others.
+fn set_finds(alloc: Global, set: &NameSet, walk: &Walk<'_>) -> bool {
+    match set_of(alloc, walk.1) {
+        Ok(others) => set.next_outside(&others, Tid(walk.2)) == name(walk.3),
+        Err(_) => false,
+    }
+}
+
+/// The same of a run list of the others.
+fn list_finds(alloc: Global, set: &NameSet, walk: &Walk<'_>) -> bool {
+    match list_of(alloc, walk.1) {
+        Ok(list) => list.next_outside(set, Tid(walk.2)) == name(walk.3),
+        Err(_) => false,
+    }
+}
+
+fn is_found(alloc: Global, walk: &Walk<'_>) -> bool {
+    match set_of(alloc, walk.0) {
+        Ok(set) => set_finds(alloc, &set, walk) && list_finds(alloc, &set, walk),
+        Err(_) => false,
+    }
+}
+
+/// The place of the first walk that finds another name.
+fn first_wrong(alloc: Global, walks: &[Walk<'_>]) -> Option<usize> {
+    for (place, walk) in walks.iter().enumerate() {
+        if !is_found(alloc, walk) {
+            return Some(place);
+        }
+    }
+    None
 }
 
 #[test]
-fn a_walk_finds_the_least_name_that_the_others_lack(rt: HostRuntime) -> Result<(), Fail> {
-    let walks: [Walk<'_>; 14] = [
+fn a_walk_finds_the_least_name_that_the_others_lack(rt: HostRuntime) {
+    static WALKS: [Walk<'static>; 14] = [
         (&[], &[], 0, None),
-        (&[0], &[], 0, Some(Tid(0))),
+        (&[0], &[], 0, Some(0)),
         (&[0], &[0], 0, None),
         (&[0], &[], 1, None),
-        (&[3, 2, 1], &[9], 2, Some(Tid(2))),
-        (&[63, 64], &[], 1, Some(Tid(63))),
-        (&[63, 64], &[63], 1, Some(Tid(64))),
+        (&[3, 2, 1], &[9], 2, Some(2)),
+        (&[63, 64], &[], 1, Some(63)),
+        (&[63, 64], &[63], 1, Some(64)),
         (&[63, 64], &[63], 65, None),
-        (&[5, 70, 200], &[70], 6, Some(Tid(200))),
-        (&[65_535, 65_536], &[63], 64, Some(Tid(65_535))),
-        (&[65_535, 65_536], &[65_535], 1, Some(Tid(65_536))),
-        (&[5, 70, LAST], &[5, 70], 0, Some(Tid(LAST))),
-        (&[LAST], &[LAST - 1], LAST, Some(Tid(LAST))),
+        (&[5, 70, 200], &[70], 6, Some(200)),
+        (&[65_535, 65_536], &[63], 64, Some(65_535)),
+        (&[65_535, 65_536], &[65_535], 1, Some(65_536)),
+        (&[5, 70, LAST], &[5, 70], 0, Some(LAST)),
+        (&[LAST], &[LAST - 1], LAST, Some(LAST)),
         (&[LAST], &[LAST], LAST, None),
     ];
-    for walk in walks.as_slice() {
-        assert_eq!(rt; found(rt.alloc(), walk)?, [walk.3, walk.3]);
-    }
-    Ok(())
+    assert_eq!(rt; first_wrong(rt.alloc(), &WALKS), None);
 }
