@@ -1,40 +1,79 @@
 use pc_messages::{Cpu, Item, Kind, Mask, Message, Tid};
 use pc_queue::{CpuQueue, ItemQueue, QueueFault, TooMany};
 use std::alloc::Global;
-use std::test::Fail;
+use std::process::Abort;
 
-const TICK: Item = Item::Tick(Cpu(0));
+/// An item by its name: the first one has a mask, which no constant can hold.
+#[derive(Clone, Copy)]
+enum Name {
+    /// The first message of t0.
+    First,
+    /// The second message of t0.
+    Second,
+    /// A tick of CPU 0.
+    Tick,
+    /// A tick of CPU 1.
+    OtherTick,
+}
 
-fn first_message() -> Result<Item, Fail> {
-    Ok(Item::Thread(Message {
+fn first_kind() -> Option<Kind> {
+    let mask = Mask::new(1, 1).ok()?;
+    Some(Kind::Created { mask, ready: true })
+}
+
+const fn message(number: u32, kind: Kind) -> Item {
+    Item::Thread(Message {
         thread: Tid(0),
-        number: 1,
-        kind: Kind::Created {
-            mask: Mask::new(1, 1)?,
-            ready: true,
-        },
-    }))
+        number,
+        kind,
+    })
+}
+
+fn item(name: Name) -> Option<Item> {
+    match name {
+        Name::First => Some(message(1, first_kind()?)),
+        Name::Second => Some(message(2, Kind::Wakeup)),
+        Name::Tick => Some(Item::Tick(Cpu(0))),
+        Name::OtherTick => Some(Item::Tick(Cpu(1))),
+    }
+}
+
+/// Whether these are the items with these names.
+fn are_items(items: &[Item], names: &[Name]) -> bool {
+    for (place, name) in names.iter().enumerate() {
+        if item(*name) != items.get(place).copied() {
+            return false;
+        }
+    }
+    items.len() == names.len()
 }
 
 /// What is done to a queue, and what it answers or is read of it.
 #[derive(Clone, Copy)]
 enum Step<'a> {
-    Posts(Item, Result<(), QueueFault>),
+    Posts(Name, Result<(), QueueFault>),
     Consumes(u32, Result<(), TooMany>),
-    Peeks(u32, &'a [Item]),
+    Peeks(u32, &'a [Name]),
     Empty(bool),
     Refuses(Option<QueueFault>),
     Holds(u32),
     HeldThreads(usize),
     Held(Option<u32>),
-    Pending(Tid, bool),
+    Pending(u32, bool),
     Posted(u32),
 }
 
 // Without contracts, as the functions below, so that a test's proof does not carry those of queues.
-fn peeks(queue: &CpuQueue, count: u32, wanted: &[Item]) -> bool {
+fn posts(queue: &mut CpuQueue, name: Name, wanted: Result<(), QueueFault>) -> bool {
+    match item(name) {
+        Some(item) => queue.post(item) == wanted,
+        None => false,
+    }
+}
+
+fn peeks(queue: &CpuQueue, count: u32, wanted: &[Name]) -> bool {
     match queue.peek(count) {
-        Ok(items) => items.as_slice() == wanted,
+        Ok(items) => are_items(items.as_slice(), wanted),
         Err(_) => false,
     }
 }
@@ -47,7 +86,7 @@ fn tells(queue: &CpuQueue, step: &Step<'_>) -> bool {
         Step::Holds(wanted) => queue.len() == wanted,
         Step::HeldThreads(wanted) => queue.held().len() == wanted,
         Step::Held(wanted) => queue.held().get(&Tid(0)).copied() == wanted,
-        Step::Pending(thread, wanted) => queue.pending(thread) == wanted,
+        Step::Pending(thread, wanted) => queue.pending(Tid(thread)) == wanted,
         Step::Posted(wanted) => queue.aseq() == wanted,
         Step::Posts(..) | Step::Consumes(..) => false,
     }
@@ -55,7 +94,7 @@ fn tells(queue: &CpuQueue, step: &Step<'_>) -> bool {
 
 fn holds(queue: &mut CpuQueue, step: &Step<'_>) -> bool {
     match *step {
-        Step::Posts(item, wanted) => queue.post(item) == wanted,
+        Step::Posts(name, wanted) => posts(queue, name, wanted),
         Step::Consumes(count, wanted) => queue.consume(count) == wanted,
         _ => tells(queue, step),
     }
@@ -76,25 +115,37 @@ fn first_wrong(alloc: Global, room: u32, posts: u32, steps: &[Step<'_>]) -> Opti
 }
 
 // The same of a queue without counts.
-fn items_peeked(queue: &ItemQueue, count: u32, wanted: &[Item]) -> bool {
+fn item_posted(queue: &mut ItemQueue, name: Name, wanted: Result<(), QueueFault>) -> bool {
+    match item(name) {
+        Some(item) => queue.post(item) == wanted,
+        None => false,
+    }
+}
+
+fn items_peeked(queue: &ItemQueue, count: u32, wanted: &[Name]) -> bool {
     match queue.peek(count) {
-        Ok(items) => items.as_slice() == wanted,
+        Ok(items) => are_items(items.as_slice(), wanted),
         Err(_) => false,
     }
 }
 
-// Whether the items of the first slice and then those of the second are these.
-fn items_stand(queue: &ItemQueue, wanted: &[Item]) -> bool {
+/// Whether the items of the first slice and then those of the second are these.
+fn items_stand(queue: &ItemQueue, wanted: &[Name]) -> bool {
     let (front, back) = queue.as_slices();
-    front.len() + back.len() == wanted.len() && wanted.starts_with(front) && wanted.ends_with(back)
+    match (wanted.get(..front.len()), wanted.get(front.len()..)) {
+        (Some(first), Some(second)) => are_items(front, first) && are_items(back, second),
+        _ => false,
+    }
+}
+
+/// Whether these items are peeked, and stand in the queue where they are all of it.
+fn items_are(queue: &ItemQueue, count: u32, wanted: &[Name]) -> bool {
+    items_peeked(queue, count, wanted) && (count < queue.len() || items_stand(queue, wanted))
 }
 
 fn tells_items(queue: &ItemQueue, step: &Step<'_>) -> bool {
     match *step {
-        Step::Peeks(count, wanted) => {
-            items_peeked(queue, count, wanted)
-                && (count < queue.len() || items_stand(queue, wanted))
-        }
+        Step::Peeks(count, wanted) => items_are(queue, count, wanted),
         Step::Empty(wanted) => queue.is_empty() == wanted,
         Step::Refuses(wanted) => queue.refusal() == wanted,
         Step::Holds(wanted) => queue.len() == wanted,
@@ -106,7 +157,7 @@ fn tells_items(queue: &ItemQueue, step: &Step<'_>) -> bool {
 
 fn holds_items(queue: &mut ItemQueue, step: &Step<'_>) -> bool {
     match *step {
-        Step::Posts(item, wanted) => queue.post(item) == wanted,
+        Step::Posts(name, wanted) => item_posted(queue, name, wanted),
         Step::Consumes(count, wanted) => queue.consume(count) == wanted,
         _ => tells_items(queue, step),
     }
@@ -125,6 +176,14 @@ fn first_wrong_of_items(alloc: Global, room: u32, posts: u32, steps: &[Step<'_>]
     None
 }
 
+fn each_holds(rt: &impl Abort, alloc: Global, room: u32, posts: u32, steps: &[Step<'_>]) {
+    assert_eq!(rt; first_wrong(alloc, room, posts, steps), None);
+}
+
+fn each_holds_of_items(rt: &impl Abort, alloc: Global, room: u32, posts: u32, steps: &[Step<'_>]) {
+    assert_eq!(rt; first_wrong_of_items(alloc, room, posts, steps), None);
+}
+
 const TAKEN: Result<(), QueueFault> = Ok(());
 
 const FULL: Result<(), QueueFault> = Err(QueueFault::QueueFull);
@@ -133,126 +192,108 @@ const SPENT: Result<(), QueueFault> = Err(QueueFault::PostsSpent);
 
 // Room for two items and three posts in all: the room is wanting at the third item, the posts at the fourth post.
 #[test]
-fn room_and_posts(rt: HostRuntime) -> Result<(), Fail> {
-    let both = [first_message()?, TICK];
-    let one = [first_message()?];
-    let steps = [
+fn room_and_posts(rt: HostRuntime) {
+    static STEPS: [Step<'static>; 23] = [
         Step::Empty(true),
         Step::Refuses(None),
-        Step::Posts(first_message()?, TAKEN),
-        Step::Posts(TICK, TAKEN),
+        Step::Posts(Name::First, TAKEN),
+        Step::Posts(Name::Tick, TAKEN),
         Step::Holds(2),
         Step::HeldThreads(1),
         Step::Held(Some(1)),
         Step::Refuses(Some(QueueFault::QueueFull)),
-        Step::Posts(TICK, FULL),
-        Step::Peeks(5, &both),
-        Step::Peeks(1, &one),
-        Step::Pending(Tid(0), true),
+        Step::Posts(Name::Tick, FULL),
+        Step::Peeks(5, &[Name::First, Name::Tick]),
+        Step::Peeks(1, &[Name::First]),
+        Step::Pending(0, true),
         Step::Consumes(3, Err(TooMany)),
         Step::Consumes(1, Ok(())),
-        Step::Pending(Tid(0), false),
+        Step::Pending(0, false),
         Step::HeldThreads(0),
-        Step::Peeks(5, &[TICK]),
-        Step::Posts(TICK, TAKEN),
+        Step::Peeks(5, &[Name::Tick]),
+        Step::Posts(Name::Tick, TAKEN),
         Step::Posted(3),
         Step::Consumes(2, Ok(())),
         Step::Empty(true),
-        Step::Posts(TICK, SPENT),
+        Step::Posts(Name::Tick, SPENT),
         Step::Posted(3),
     ];
-    assert_eq!(rt; first_wrong(rt.alloc(), 2, 3, &steps), None);
-    Ok(())
+    each_holds(&rt, rt.alloc(), 2, 3, &STEPS);
 }
 
 // A thread with several items held is pending until the last of them goes. Where room and posts are wanting together, the
 // room is told first.
 #[test]
-fn several_of_one_thread_and_a_full_queue_whose_posts_are_spent(
-    rt: HostRuntime,
-) -> Result<(), Fail> {
-    let second = Item::Thread(Message {
-        thread: Tid(0),
-        number: 2,
-        kind: Kind::Wakeup,
-    });
-    let several = [
-        Step::Posts(first_message()?, TAKEN),
-        Step::Posts(TICK, TAKEN),
-        Step::Posts(second, TAKEN),
+fn several_of_one_thread_and_a_full_queue_whose_posts_are_spent(rt: HostRuntime) {
+    static SEVERAL: [Step<'static>; 10] = [
+        Step::Posts(Name::First, TAKEN),
+        Step::Posts(Name::Tick, TAKEN),
+        Step::Posts(Name::Second, TAKEN),
         Step::Held(Some(2)),
-        Step::Pending(Tid(1), false),
+        Step::Pending(1, false),
         Step::Consumes(2, Ok(())),
-        Step::Pending(Tid(0), true),
+        Step::Pending(0, true),
         Step::Held(Some(1)),
         Step::Consumes(1, Ok(())),
-        Step::Pending(Tid(0), false),
+        Step::Pending(0, false),
     ];
-    let full = [
-        Step::Posts(TICK, TAKEN),
-        Step::Posts(TICK, FULL),
+    static FULL_AND_SPENT: [Step<'static>; 4] = [
+        Step::Posts(Name::Tick, TAKEN),
+        Step::Posts(Name::Tick, FULL),
         Step::Consumes(1, Ok(())),
-        Step::Posts(TICK, SPENT),
+        Step::Posts(Name::Tick, SPENT),
     ];
-    for (room, posts, steps) in [(4, 4, several.as_slice()), (1, 1, full.as_slice())] {
-        assert_eq!(rt; first_wrong(rt.alloc(), room, posts, steps), None);
-    }
-    Ok(())
+    each_holds(&rt, rt.alloc(), 4, 4, &SEVERAL);
+    each_holds(&rt, rt.alloc(), 1, 1, &FULL_AND_SPENT);
 }
 
 // A queue without counts, of room for two items and three posts in all.
 #[test]
-fn room_and_posts_without_counts(rt: HostRuntime) -> Result<(), Fail> {
-    let both = [first_message()?, TICK];
-    let one = [first_message()?];
-    let steps = [
+fn room_and_posts_without_counts(rt: HostRuntime) {
+    static STEPS: [Step<'static>; 22] = [
         Step::Empty(true),
         Step::Refuses(None),
-        Step::Posts(first_message()?, TAKEN),
-        Step::Posts(TICK, TAKEN),
+        Step::Posts(Name::First, TAKEN),
+        Step::Posts(Name::Tick, TAKEN),
         Step::Empty(false),
         Step::Holds(2),
         Step::Refuses(Some(QueueFault::QueueFull)),
-        Step::Posts(TICK, FULL),
-        Step::Peeks(5, &both),
-        Step::Peeks(1, &one),
+        Step::Posts(Name::Tick, FULL),
+        Step::Peeks(5, &[Name::First, Name::Tick]),
+        Step::Peeks(1, &[Name::First]),
         Step::Consumes(3, Err(TooMany)),
         Step::Consumes(0, Ok(())),
         Step::Consumes(1, Ok(())),
-        Step::Peeks(5, &[TICK]),
-        Step::Posts(TICK, TAKEN),
+        Step::Peeks(5, &[Name::Tick]),
+        Step::Posts(Name::Tick, TAKEN),
         Step::Posted(3),
         Step::Consumes(2, Ok(())),
         Step::Empty(true),
         Step::Holds(0),
         Step::Refuses(Some(QueueFault::PostsSpent)),
-        Step::Posts(TICK, SPENT),
+        Step::Posts(Name::Tick, SPENT),
         Step::Posted(3),
     ];
-    assert_eq!(rt; first_wrong_of_items(rt.alloc(), 2, 3, &steps), None);
-    Ok(())
+    each_holds_of_items(&rt, rt.alloc(), 2, 3, &STEPS);
 }
 
 // Items are removed across the end of the ring.
 #[test]
-fn items_round_the_ring(rt: HostRuntime) -> Result<(), Fail> {
-    const OTHER: Item = Item::Tick(Cpu(1));
-    let mixed = [TICK, OTHER, OTHER, TICK];
-    let rest = [OTHER, TICK];
-    let steps = [
-        Step::Posts(OTHER, TAKEN),
-        Step::Posts(OTHER, TAKEN),
-        Step::Posts(OTHER, TAKEN),
-        Step::Posts(TICK, TAKEN),
+fn items_round_the_ring(rt: HostRuntime) {
+    const MIXED: &[Name] = &[Name::Tick, Name::OtherTick, Name::OtherTick, Name::Tick];
+    static STEPS: [Step<'static>; 12] = [
+        Step::Posts(Name::OtherTick, TAKEN),
+        Step::Posts(Name::OtherTick, TAKEN),
+        Step::Posts(Name::OtherTick, TAKEN),
+        Step::Posts(Name::Tick, TAKEN),
         Step::Consumes(3, Ok(())),
-        Step::Posts(OTHER, TAKEN),
-        Step::Posts(OTHER, TAKEN),
-        Step::Posts(TICK, TAKEN),
-        Step::Peeks(9, &mixed),
+        Step::Posts(Name::OtherTick, TAKEN),
+        Step::Posts(Name::OtherTick, TAKEN),
+        Step::Posts(Name::Tick, TAKEN),
+        Step::Peeks(9, MIXED),
         Step::Consumes(2, Ok(())),
-        Step::Peeks(9, &rest),
+        Step::Peeks(9, &[Name::OtherTick, Name::Tick]),
         Step::Posted(7),
     ];
-    assert_eq!(rt; first_wrong_of_items(rt.alloc(), 4, 9, &steps), None);
-    Ok(())
+    each_holds_of_items(&rt, rt.alloc(), 4, 9, &STEPS);
 }
