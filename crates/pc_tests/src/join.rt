@@ -4,7 +4,6 @@ use pc_join::{ByName, Join, Numbers, OutOfMemory, Upto, next_turn};
 use pc_messages::Tid;
 use std::alloc::Global;
 use std::process::Abort;
-use std::test::Fail;
 
 // Without contracts, as the functions below, so that a test's proof does not carry those of joins.
 fn join_both<V: Join>(first: &V, other: &V) -> Result<V, OutOfMemory> {
@@ -44,26 +43,28 @@ fn last(value: &Upto) -> (u32, bool) {
     (value.get(), *value == Upto::new(5))
 }
 
-#[test]
-fn upto_takes_the_greater(rt: HostRuntime) -> Result<(), Fail> {
+/// Whether a value that knows 2 knows, joined with that of 5, what the latter knows, more than before and not nothing, as that
+/// of 0 is.
+fn takes_the_greater() -> Result<bool, OutOfMemory> {
     let joined = join_both(&upto(2), &upto(5))?;
-    assert_eq!(rt; last(&joined), (5, true));
-    for (place, holds) in [
-        !covers(&upto(2), &joined),
-        is_nothing(&upto(0)),
-        !is_nothing(&joined),
-    ]
-    .iter()
-    .enumerate()
-    {
-        assert!(rt; *holds, "row {place}");
-    }
-    Ok(())
+    Ok(
+        last(&joined) == (5, true)
+            && !covers(&upto(2), &joined)
+            && is_nothing(&upto(0))
+            && !is_nothing(&joined),
+    )
+}
+
+#[test]
+fn upto_takes_the_greater(rt: HostRuntime) {
+    assert_eq!(rt; takes_the_greater(), Ok(true));
 }
 
 /// What is done to a set of numbers, or told of it.
 #[derive(Clone, Copy)]
 enum Step<'a> {
+    /// The set is new.
+    Starts,
     Inserts(u32),
     Adds(u32, u32),
     /// The set is joined with that of these numbers.
@@ -78,6 +79,11 @@ enum Step<'a> {
     Covers(&'a [u32], bool),
     /// Whether that of these numbers covers the set.
     Within(&'a [u32], bool),
+}
+
+fn starts(alloc: Global, set: &mut Numbers) -> bool {
+    *set = Numbers::new(alloc);
+    set.is_empty()
 }
 
 fn inserts(set: &mut Numbers, n: u32) -> bool {
@@ -98,18 +104,48 @@ fn is_range(alloc: Global, set: &Numbers, from: u32, to: u32) -> bool {
     adds(&mut range, from, to) && is_same(&range, set) && range.ranges() == set.ranges()
 }
 
+/// Whether the set's covering of the numbers is as wanted.
+fn covers_numbers(
+    alloc: Global,
+    set: &Numbers,
+    others: &[u32],
+    wanted: bool,
+) -> Result<bool, OutOfMemory> {
+    let other = numbers(alloc, others)?;
+    Ok(covers(set, &other) == wanted)
+}
+
+/// Whether the numbers' covering of the set is as wanted.
+fn is_within(
+    alloc: Global,
+    set: &Numbers,
+    others: &[u32],
+    wanted: bool,
+) -> Result<bool, OutOfMemory> {
+    let other = numbers(alloc, others)?;
+    Ok(covers(&other, set) == wanted)
+}
+
+fn tells(set: &Numbers, step: &Step<'_>) -> bool {
+    match *step {
+        Step::Empty(wanted) => set.is_empty() == wanted,
+        Step::Has(n, wanted) => set.has(n) == wanted,
+        Step::FirstMissing(upto, wanted) => set.first_missing(upto) == wanted,
+        Step::Ranges(wanted) => set.ranges() == wanted,
+        _ => false,
+    }
+}
+
 fn does(alloc: Global, set: &mut Numbers, step: &Step<'_>) -> Result<bool, OutOfMemory> {
     match *step {
+        Step::Starts => Ok(starts(alloc, set)),
         Step::Inserts(n) => Ok(inserts(set, n)),
         Step::Adds(from, to) => Ok(adds(set, from, to)),
         Step::Joins(others) => joins(alloc, set, others),
-        Step::Empty(wanted) => Ok(set.is_empty() == wanted),
-        Step::Has(n, wanted) => Ok(set.has(n) == wanted),
-        Step::FirstMissing(upto, wanted) => Ok(set.first_missing(upto) == wanted),
-        Step::Ranges(wanted) => Ok(set.ranges() == wanted),
         Step::Same(from, to) => Ok(is_range(alloc, set, from, to)),
-        Step::Covers(others, wanted) => Ok(covers(set, &numbers(alloc, others)?) == wanted),
-        Step::Within(others, wanted) => Ok(covers(&numbers(alloc, others)?, set) == wanted),
+        Step::Covers(others, wanted) => covers_numbers(alloc, set, others, wanted),
+        Step::Within(others, wanted) => is_within(alloc, set, others, wanted),
+        _ => Ok(tells(set, step)),
     }
 }
 
@@ -124,9 +160,13 @@ fn first_wrong(alloc: Global, steps: &[Step<'_>]) -> Result<Option<usize>, OutOf
     Ok(None)
 }
 
+fn each_does(rt: &impl Abort, alloc: Global, steps: &[Step<'_>]) {
+    assert_eq!(rt; first_wrong(alloc, steps), Ok(None));
+}
+
 #[test]
-fn numbers_join_and_ranges_that_touch_are_one(rt: HostRuntime) -> Result<(), Fail> {
-    let joined = [
+fn numbers_join_and_ranges_that_touch_are_one(rt: HostRuntime) {
+    static STEPS: [Step<'static>; 28] = [
         Step::Empty(true),
         Step::Inserts(1),
         Step::Inserts(3),
@@ -135,8 +175,7 @@ fn numbers_join_and_ranges_that_touch_are_one(rt: HostRuntime) -> Result<(), Fai
         Step::Same(1, 3),
         Step::Within(&[1, 3], false),
         Step::Covers(&[1, 3], true),
-    ];
-    let touching = [
+        Step::Starts,
         Step::Adds(1, 3),
         Step::Adds(5, 9),
         Step::Ranges(&[(1, 3), (5, 9)]),
@@ -147,53 +186,71 @@ fn numbers_join_and_ranges_that_touch_are_one(rt: HostRuntime) -> Result<(), Fai
         Step::Inserts(4),
         Step::Ranges(&[(1, 9)]),
         Step::FirstMissing(9, None),
-    ];
-    let long = [
+        Step::Starts,
         Step::Adds(1, 1_000_000),
         Step::Joins(&[500]),
         Step::Ranges(&[(1, 1_000_000)]),
         Step::Has(1_000_000, true),
         Step::Has(1_000_001, false),
+        Step::Starts,
+        Step::Adds(1, 16_000_000),
+        Step::Ranges(&[(1, 16_000_000)]),
     ];
-    let longest = [Step::Adds(1, 16_000_000), Step::Ranges(&[(1, 16_000_000)])];
-    for steps in [
-        joined.as_slice(),
-        touching.as_slice(),
-        long.as_slice(),
-        longest.as_slice(),
-    ] {
-        assert_eq!(rt; first_wrong(rt.alloc(), steps)?, None);
-    }
-    Ok(())
+    each_does(&rt, rt.alloc(), &STEPS);
+}
+
+fn put_number(names: &mut ByName<Numbers>, name: u32, n: u32) -> Result<(), OutOfMemory> {
+    let value = numbers(names.allocator(), &[n])?;
+    names.put(Tid(name), value)
 }
 
 /// One number under each of the names.
 fn by_name_of(alloc: Global, entries: &[(u32, u32)]) -> Result<ByName<Numbers>, OutOfMemory> {
     let mut names = ByName::new(alloc);
     for (name, n) in entries {
-        names.put(Tid(*name), numbers(alloc, &[*n])?)?;
+        put_number(&mut names, *name, *n)?;
     }
     Ok(names)
 }
 
+fn joined_with(
+    alloc: Global,
+    names: &ByName<Numbers>,
+    others: &[(u32, u32)],
+) -> Result<ByName<Numbers>, OutOfMemory> {
+    let other = by_name_of(alloc, others)?;
+    join_both(names, &other)
+}
+
+fn joined_names(
+    alloc: Global,
+    entries: &[(u32, u32)],
+    others: &[(u32, u32)],
+) -> Result<ByName<Numbers>, OutOfMemory> {
+    let first = by_name_of(alloc, entries)?;
+    joined_with(alloc, &first, others)
+}
+
 /// `{t0: {1, 2}, t1: {5}}`, joined from two values, either way round.
 fn two_names(alloc: Global, turned: bool) -> Result<ByName<Numbers>, OutOfMemory> {
-    let first = by_name_of(alloc, &[(0, 1)])?;
-    let other = by_name_of(alloc, &[(0, 2), (1, 5)])?;
     if turned {
-        join_both(&other, &first)
+        joined_names(alloc, &[(0, 2), (1, 5)], &[(0, 1)])
     } else {
-        join_both(&first, &other)
+        joined_names(alloc, &[(0, 1)], &[(0, 2), (1, 5)])
     }
 }
 
 /// What is done to numbers under names, or told of them.
 #[derive(Clone, Copy)]
 enum Named<'a> {
+    /// There are no names.
+    Starts,
+    /// They are the two names, joined from two values.
+    StartsWithTwo,
     /// One number is put under the name, or an empty value.
     Puts(u32, Option<u32>),
     Empty(bool),
-    Next(u32, Option<Tid>),
+    Next(u32, Option<u32>),
     Holds(u32, Option<&'a [(u32, u32)]>),
     /// They are the two names, joined this way round.
     Same(bool),
@@ -203,13 +260,16 @@ enum Named<'a> {
     Exceeds,
 }
 
+fn put_nothing(names: &mut ByName<Numbers>, name: u32) -> Result<(), OutOfMemory> {
+    let nothing = Numbers::new(names.allocator());
+    names.put(Tid(name), nothing)
+}
+
 fn puts(names: &mut ByName<Numbers>, name: u32, n: Option<u32>) -> Result<bool, OutOfMemory> {
-    let alloc = names.allocator();
-    let value = match n {
-        Some(n) => numbers(alloc, &[n])?,
-        None => Numbers::new(alloc),
-    };
-    names.put(Tid(name), value)?;
+    match n {
+        Some(n) => put_number(names, name, n)?,
+        None => put_nothing(names, name)?,
+    }
     Ok(true)
 }
 
@@ -217,33 +277,79 @@ fn held(names: &ByName<Numbers>, name: u32) -> Option<&[(u32, u32)]> {
     Some(names.get(Tid(name))?.ranges())
 }
 
-fn holds(names: &mut ByName<Numbers>, step: &Named<'_>) -> Result<bool, OutOfMemory> {
-    let alloc = names.allocator();
+fn starts_empty(names: &mut ByName<Numbers>) -> Result<bool, OutOfMemory> {
+    *names = by_name_of(names.allocator(), &[])?;
+    Ok(names.is_empty())
+}
+
+fn starts_with_two(names: &mut ByName<Numbers>) -> Result<bool, OutOfMemory> {
+    *names = two_names(names.allocator(), false)?;
+    Ok(!names.is_empty())
+}
+
+fn are_two_names(names: &ByName<Numbers>, turned: bool) -> Result<bool, OutOfMemory> {
+    let two = two_names(names.allocator(), turned)?;
+    Ok(is_same(names, &two))
+}
+
+fn are_copied(names: &ByName<Numbers>) -> Result<bool, OutOfMemory> {
+    let copy = names.try_copy()?;
+    Ok(is_same(names, &copy))
+}
+
+fn exceed(names: &ByName<Numbers>) -> Result<bool, OutOfMemory> {
+    let first = by_name_of(names.allocator(), &[(0, 1)])?;
+    Ok(!covers(&first, names))
+}
+
+fn next_of(names: &ByName<Numbers>, from: u32) -> Option<u32> {
+    Some(names.next(Tid(from))?.index())
+}
+
+fn hold(names: &ByName<Numbers>, step: &Named<'_>) -> bool {
     match *step {
-        Named::Puts(name, n) => puts(names, name, n),
-        Named::Empty(wanted) => Ok(names.is_empty() == wanted),
-        Named::Next(from, wanted) => Ok(names.next(Tid(from)) == wanted),
-        Named::Holds(name, wanted) => Ok(held(names, name) == wanted),
-        Named::Same(turned) => Ok(is_same(names, &two_names(alloc, turned)?)),
-        Named::Copied => Ok(is_same(names, &names.try_copy()?)),
-        Named::Exceeds => Ok(!covers(&by_name_of(alloc, &[(0, 1)])?, names)),
+        Named::Empty(wanted) => names.is_empty() == wanted,
+        Named::Next(from, wanted) => next_of(names, from) == wanted,
+        Named::Holds(name, wanted) => held(names, name) == wanted,
+        _ => false,
     }
 }
 
-fn each_holds(
-    rt: &impl Abort,
-    mut names: ByName<Numbers>,
-    steps: &[Named<'_>],
-) -> Result<(), Fail> {
-    for (place, step) in steps.iter().enumerate() {
-        assert!(rt; holds(&mut names, step)?, "step {place}");
+fn holds(names: &mut ByName<Numbers>, step: &Named<'_>) -> Result<bool, OutOfMemory> {
+    match *step {
+        Named::Starts => starts_empty(names),
+        Named::StartsWithTwo => starts_with_two(names),
+        Named::Puts(name, n) => puts(names, name, n),
+        Named::Same(turned) => are_two_names(names, turned),
+        Named::Copied => are_copied(names),
+        Named::Exceeds => exceed(names),
+        _ => Ok(hold(names, step)),
     }
-    Ok(())
+}
+
+/// The place of the first step that does not hold of the names and the steps before it.
+fn first_wrong_of_named(
+    names: &mut ByName<Numbers>,
+    steps: &[Named<'_>],
+) -> Result<Option<usize>, OutOfMemory> {
+    for (place, step) in steps.iter().enumerate() {
+        if !holds(names, step)? {
+            return Ok(Some(place));
+        }
+    }
+    Ok(None)
+}
+
+/// The same of no names.
+fn first_wrong_of_new(alloc: Global, steps: &[Named<'_>]) -> Result<Option<usize>, OutOfMemory> {
+    let mut names = ByName::new(alloc);
+    first_wrong_of_named(&mut names, steps)
 }
 
 #[test]
-fn names_join_and_an_empty_value_changes_nothing(rt: HostRuntime) -> Result<(), Fail> {
-    let joined = [
+fn names_join_and_an_empty_value_changes_nothing(rt: HostRuntime) {
+    static STEPS: [Named<'static>; 26] = [
+        Named::StartsWithTwo,
         Named::Holds(0, Some(&[(1, 2)])),
         Named::Holds(1, Some(&[(5, 5)])),
         Named::Same(true),
@@ -253,44 +359,49 @@ fn names_join_and_an_empty_value_changes_nothing(rt: HostRuntime) -> Result<(), 
         Named::Puts(7, None),
         Named::Same(false),
         Named::Holds(7, None),
-        Named::Next(0, Some(Tid(0))),
-        Named::Next(1, Some(Tid(1))),
+        Named::Next(0, Some(0)),
+        Named::Next(1, Some(1)),
         Named::Next(2, None),
         Named::Holds(0, Some(&[(1, 2)])),
         Named::Holds(1, Some(&[(5, 5)])),
         // Other names stay.
         Named::Puts(0, Some(9)),
         Named::Holds(1, Some(&[(5, 5)])),
-    ];
-    each_holds(&rt, two_names(rt.alloc(), false)?, &joined)?;
-    let empty = [
+        Named::Starts,
         Named::Empty(true),
         Named::Puts(7, None),
         Named::Empty(true),
         Named::Holds(7, None),
         Named::Next(0, None),
         Named::Puts(3, Some(1)),
-        Named::Next(0, Some(Tid(3))),
-        Named::Next(3, Some(Tid(3))),
+        Named::Next(0, Some(3)),
+        Named::Next(3, Some(3)),
         Named::Next(4, None),
     ];
-    each_holds(&rt, by_name_of(rt.alloc(), &[])?, &empty)
+    assert_eq!(rt; first_wrong_of_new(rt.alloc(), &STEPS), Ok(None));
 }
 
-/// What `next_turn` tells: the entry, and what is left of both.
-type Told<'a> = ((u32, char), &'a [(u32, char)], &'a [(u32, char)]);
+/// Entries of a list.
+type Entries<'a> = &'a [(u32, char)];
 
-fn turn<'a>(first: &'a [(u32, char)], other: &'a [(u32, char)]) -> Option<Told<'a>> {
-    let turn = next_turn(first, other)?;
-    Some((turn.entry, turn.first, turn.other))
+/// Whether the next turn of two lists takes this entry, and leaves this of both.
+fn is_turn(lists: [Entries<'_>; 2], entry: (u32, char), left: [Entries<'_>; 2]) -> bool {
+    match next_turn(lists[0], lists[1]) {
+        Some(turn) => turn.entry == entry && turn.first == left[0] && turn.other == left[1],
+        None => false,
+    }
+}
+
+fn has_turn(first: Entries<'_>, other: Entries<'_>) -> bool {
+    next_turn(first, other).is_some()
 }
 
 #[test]
 fn turns_are_taken_in_order(rt: HostRuntime) {
-    let (first, other) = ([(2, 'b')], [(1, 'a'), (3, 'c')]);
-    let told = ((1, 'a'), first.as_slice(), [(3, 'c')].as_slice());
-    assert_eq!(rt; turn(&first, &other), Some(told));
-    assert_eq!(rt; turn(&[], &[]), None);
+    const FIRST: Entries<'_> = &[(2, 'b')];
+    const OTHER: Entries<'_> = &[(1, 'a'), (3, 'c')];
+    assert!(rt; is_turn([FIRST, OTHER], (1, 'a'), [FIRST, &[(3, 'c')]]));
+    assert!(rt; !has_turn(&[], &[]));
 }
 
 /// How far each of the names is known.
@@ -306,33 +417,47 @@ fn put(names: &mut ByName<Upto>, name: u32, last: u32) -> Result<(), OutOfMemory
     names.put(Tid(name), Upto::new(last))
 }
 
-fn walked(alloc: Global, names: &ByName<Upto>) -> Result<Vec<(u32, u32)>, OutOfMemory> {
-    let mut walked = Vec::new(alloc);
+/// The entries behind the first one, where that is this name with this value.
+fn behind<'a>(entries: &'a [(u32, u32)], name: Tid, value: &Upto) -> Option<&'a [(u32, u32)]> {
+    match entries.split_first() {
+        Some((first, others)) if *first == (name.index(), value.get()) => Some(others),
+        _ => None,
+    }
+}
+
+fn walks(names: &ByName<Upto>, wanted: &[(u32, u32)]) -> bool {
+    let mut left = wanted;
     for (name, value) in names.iter() {
-        walked.push((name.index(), value.get()))?;
+        match behind(left, name, value) {
+            Some(others) => left = others,
+            None => return false,
+        }
     }
-    Ok(walked)
+    left.is_empty()
 }
 
-/// How many of the names are walked in the first part, and all of them.
-fn walked_in_two(
-    alloc: Global,
-    names: &ByName<Upto>,
-) -> Result<(usize, Vec<(u32, u32)>), OutOfMemory> {
-    let mut walked = Vec::new(alloc);
+fn walks_near(names: &ByName<Upto>, wanted: &[(u32, u32)]) -> bool {
     let walks = names.walks();
+    let mut left = wanted;
     for (name, value) in walks.near {
-        walked.push((name.index(), value.get()))?;
+        match behind(left, name, value) {
+            Some(others) => left = others,
+            None => return false,
+        }
     }
-    let near = walked.len();
-    for (name, value) in walks.far {
-        walked.push((name.index(), value.get()))?;
-    }
-    Ok((near, walked))
+    left.is_empty()
 }
 
-fn are_equal(first: &ByName<Upto>, other: &ByName<Upto>) -> bool {
-    first == other
+fn walks_far(names: &ByName<Upto>, wanted: &[(u32, u32)]) -> bool {
+    let walks = names.walks();
+    let mut left = wanted;
+    for (name, value) in walks.far {
+        match behind(left, name, value) {
+            Some(others) => left = others,
+            None => return false,
+        }
+    }
+    left.is_empty()
 }
 
 fn known_of(names: &ByName<Upto>, name: u32) -> Option<u32> {
@@ -357,12 +482,10 @@ enum Far<'a> {
     Holds(u32, Option<u32>),
     Next(u32, Option<u32>),
     Walks(&'a [(u32, u32)]),
-    /// How many are walked in the first part, and all of them.
-    WalksInTwo(usize, &'a [(u32, u32)]),
+    /// Those that are walked in the first part, and those in the second.
+    WalksInTwo(&'a [(u32, u32)], &'a [(u32, u32)]),
     /// They are walked, and each is found, as `PutsDown` put them.
     Halves(u32),
-    /// Whether they are equal to these.
-    Equals(&'a [(u32, u32)], bool),
 }
 
 fn puts_down(names: &mut ByName<Upto>, end: u32) -> Result<bool, OutOfMemory> {
@@ -377,29 +500,30 @@ fn copies(names: &mut ByName<Upto>) -> Result<bool, OutOfMemory> {
     Ok(true)
 }
 
-/// Joins names, and tells whether each of both covers the other then.
+/// Joins names; whether they cover the others then, and the others them, are as wanted.
+fn joins_with(
+    names: &mut ByName<Upto>,
+    other: &ByName<Upto>,
+    first: bool,
+    second: bool,
+) -> Result<bool, OutOfMemory> {
+    names.join_from(other)?;
+    Ok(covers(names, other) == first && covers(other, names) == second)
+}
+
 fn joins_names(
     alloc: Global,
     names: &mut ByName<Upto>,
     others: &[(u32, u32)],
-) -> Result<(bool, bool), OutOfMemory> {
-    let other = known(alloc, others)?;
-    names.join_from(&other)?;
-    Ok((covers(names, &other), covers(&other, names)))
-}
-
-fn walks(alloc: Global, names: &ByName<Upto>, wanted: &[(u32, u32)]) -> Result<bool, OutOfMemory> {
-    Ok(walked(alloc, names)?.as_slice() == wanted)
-}
-
-fn walks_in_two(
-    alloc: Global,
-    names: &ByName<Upto>,
-    near: usize,
-    wanted: &[(u32, u32)],
+    first: bool,
+    second: bool,
 ) -> Result<bool, OutOfMemory> {
-    let (first, all) = walked_in_two(alloc, names)?;
-    Ok(first == near && all.as_slice() == wanted)
+    let other = known(alloc, others)?;
+    joins_with(names, &other, first, second)
+}
+
+fn walks_in_two(names: &ByName<Upto>, near: &[(u32, u32)], far: &[(u32, u32)]) -> bool {
+    walks_near(names, near) && walks_far(names, far)
 }
 
 fn halves(alloc: Global, end: u32) -> Result<Vec<(u32, u32)>, OutOfMemory> {
@@ -410,17 +534,18 @@ fn halves(alloc: Global, end: u32) -> Result<Vec<(u32, u32)>, OutOfMemory> {
     Ok(all)
 }
 
+fn walks_halves(alloc: Global, names: &ByName<Upto>, end: u32) -> Result<bool, OutOfMemory> {
+    let all = halves(alloc, end)?;
+    Ok(walks(names, all.as_slice()))
+}
+
 fn are_halves(alloc: Global, names: &ByName<Upto>, end: u32) -> Result<bool, OutOfMemory> {
     for name in 0..end {
         if known_of(names, name) != Some(name / 2 + 1) {
             return Ok(false);
         }
     }
-    walks(alloc, names, halves(alloc, end)?.as_slice())
-}
-
-fn equals(alloc: Global, names: &ByName<Upto>, others: &[(u32, u32)]) -> Result<bool, OutOfMemory> {
-    Ok(are_equal(names, &known(alloc, others)?))
+    walks_halves(alloc, names, end)
 }
 
 fn clears(names: &mut ByName<Upto>) -> Result<bool, OutOfMemory> {
@@ -434,15 +559,13 @@ fn puts_far(names: &mut ByName<Upto>, name: u32, last: u32) -> Result<bool, OutO
 }
 
 /// Whether that is told of the names.
-fn is_told(alloc: Global, names: &ByName<Upto>, step: &Far<'_>) -> Result<bool, OutOfMemory> {
+fn is_told(names: &ByName<Upto>, step: &Far<'_>) -> bool {
     match *step {
-        Far::Holds(name, wanted) => Ok(known_of(names, name) == wanted),
-        Far::Next(from, wanted) => Ok(next(names, from) == wanted),
-        Far::Walks(wanted) => walks(alloc, names, wanted),
-        Far::WalksInTwo(near, wanted) => walks_in_two(alloc, names, near, wanted),
-        Far::Halves(end) => are_halves(alloc, names, end),
-        Far::Equals(others, wanted) => Ok(equals(alloc, names, others)? == wanted),
-        _ => Ok(false),
+        Far::Holds(name, wanted) => known_of(names, name) == wanted,
+        Far::Next(from, wanted) => next(names, from) == wanted,
+        Far::Walks(wanted) => walks(names, wanted),
+        Far::WalksInTwo(near, far) => walks_in_two(names, near, far),
+        _ => false,
     }
 }
 
@@ -452,10 +575,9 @@ fn is_done(alloc: Global, names: &mut ByName<Upto>, step: &Far<'_>) -> Result<bo
         Far::PutsDown(end) => puts_down(names, end),
         Far::Clears => clears(names),
         Far::Copies => copies(names),
-        Far::Joins(others, first, other) => {
-            Ok(joins_names(alloc, names, others)? == (first, other))
-        }
-        _ => is_told(alloc, names, step),
+        Far::Joins(others, first, second) => joins_names(alloc, names, others, first, second),
+        Far::Halves(end) => are_halves(alloc, names, end),
+        _ => Ok(is_told(names, step)),
     }
 }
 
@@ -473,33 +595,41 @@ fn first_wrong_of_names(
     Ok(None)
 }
 
-/// The steps hold of names that are known so far.
-fn each_is(
-    rt: &impl Abort,
+/// The same of names that are known so far.
+fn first_wrong_of_known(
     alloc: Global,
     entries: &[(u32, u32)],
     steps: &[Far<'_>],
-) -> Result<(), Fail> {
+) -> Result<Option<usize>, OutOfMemory> {
     let mut names = known(alloc, entries)?;
-    assert_eq!(rt; first_wrong_of_names(alloc, &mut names, steps)?, None);
-    Ok(())
+    first_wrong_of_names(alloc, &mut names, steps)
+}
+
+fn each_is(rt: &impl Abort, alloc: Global, entries: &[(u32, u32)], steps: &[Far<'_>]) {
+    assert_eq!(rt; first_wrong_of_known(alloc, entries, steps), Ok(None));
 }
 
 #[test]
-fn names_are_walked_in_order(rt: HostRuntime) -> Result<(), Fail> {
-    let steps = [Far::Walks(&[(2, 4), (5, 3), (9, 1)])];
-    each_is(&rt, rt.alloc(), &[(9, 1), (2, 4), (5, 3)], &steps)
+fn names_are_walked_in_order(rt: HostRuntime) {
+    static NAMES: [(u32, u32); 3] = [(9, 1), (2, 4), (5, 3)];
+    static STEPS: [Far<'static>; 1] = [Far::Walks(&[(2, 4), (5, 3), (9, 1)])];
+    each_is(&rt, rt.alloc(), &NAMES, &STEPS);
 }
 
 #[test]
-fn near_names_are_walked_before_the_others(rt: HostRuntime) -> Result<(), Fail> {
-    let names = [(65_536, 3), (9, 1), (1_000_000, 4), (65_535, 2)];
-    let steps = [Far::WalksInTwo(2, &[(9, 1), (65_535, 2), (65_536, 3), (1_000_000, 4)])];
-    each_is(&rt, rt.alloc(), &names, &steps)
+fn near_names_are_walked_before_the_others(rt: HostRuntime) {
+    static NAMES: [(u32, u32); 4] = [(65_536, 3), (9, 1), (1_000_000, 4), (65_535, 2)];
+    static STEPS: [Far<'static>; 1] = [Far::WalksInTwo(
+        &[(9, 1), (65_535, 2)],
+        &[(65_536, 3), (1_000_000, 4)],
+    )];
+    each_is(&rt, rt.alloc(), &NAMES, &STEPS);
 }
 
 /// Names with values, others with values, and whether they are equal.
-const EQUAL: [(&[(u32, u32)], &[(u32, u32)], bool); 11] = [
+type Pair<'a> = (&'a [(u32, u32)], &'a [(u32, u32)], bool);
+
+static EQUAL: [Pair<'static>; 11] = [
     (&[], &[], true),
     (&[(3, 1), (5, 2)], &[(5, 2), (3, 1)], true),
     (&[(3, 1)], &[(3, 2)], false),
@@ -513,17 +643,38 @@ const EQUAL: [(&[(u32, u32)], &[(u32, u32)], bool); 11] = [
     (&[(3, 1), (70_000, 1)], &[(3, 1)], false),
 ];
 
-#[test]
-fn names_are_equal_where_they_hold_the_same(rt: HostRuntime) -> Result<(), Fail> {
-    for (first, other, wanted) in EQUAL.iter() {
-        each_is(&rt, rt.alloc(), first, &[Far::Equals(other, *wanted)])?;
+fn is_equal_to(
+    alloc: Global,
+    names: &ByName<Upto>,
+    others: &[(u32, u32)],
+) -> Result<bool, OutOfMemory> {
+    let other = known(alloc, others)?;
+    Ok(*names == other)
+}
+
+fn are_equal(alloc: Global, pair: &Pair<'_>) -> Result<bool, OutOfMemory> {
+    let first = known(alloc, pair.0)?;
+    is_equal_to(alloc, &first, pair.1)
+}
+
+/// The place of the first pair that is equal or not, other than it says.
+fn first_wrong_pair(alloc: Global, pairs: &[Pair<'_>]) -> Result<Option<usize>, OutOfMemory> {
+    for (place, pair) in pairs.iter().enumerate() {
+        if are_equal(alloc, pair)? != pair.2 {
+            return Ok(Some(place));
+        }
     }
-    Ok(())
+    Ok(None)
 }
 
 #[test]
-fn names_far_apart_are_found_and_walked(rt: HostRuntime) -> Result<(), Fail> {
-    let far = [
+fn names_are_equal_where_they_hold_the_same(rt: HostRuntime) {
+    assert_eq!(rt; first_wrong_pair(rt.alloc(), &EQUAL), Ok(None));
+}
+
+#[test]
+fn names_far_apart_are_found_and_walked(rt: HostRuntime) {
+    static NAMES: [(u32, u32); 10] = [
         (4_294_967_295, 8),
         (64, 3),
         (0, 1),
@@ -535,7 +686,7 @@ fn names_far_apart_are_found_and_walked(rt: HostRuntime) -> Result<(), Fail> {
         (65_536, 10),
         (65_535, 9),
     ];
-    let steps = [
+    static STEPS: [Far<'static>; 18] = [
         Far::Walks(&[
             (0, 1),
             (63, 2),
@@ -566,29 +717,27 @@ fn names_far_apart_are_found_and_walked(rt: HostRuntime) -> Result<(), Fail> {
         Far::Next(65_537, Some(1_000_000)),
         Far::Next(1_000_001, Some(4_294_967_295)),
     ];
-    each_is(&rt, rt.alloc(), &far, &steps)
+    each_is(&rt, rt.alloc(), &NAMES, &STEPS);
 }
 
 #[test]
-fn names_put_in_descending_order_are_walked_in_ascending_order(
-    rt: HostRuntime,
-) -> Result<(), Fail> {
-    let steps = [Far::PutsDown(200), Far::Copies, Far::Halves(200)];
-    each_is(&rt, rt.alloc(), &[], &steps)
+fn names_put_in_descending_order_are_walked_in_ascending_order(rt: HostRuntime) {
+    static STEPS: [Far<'static>; 3] = [Far::PutsDown(200), Far::Copies, Far::Halves(200)];
+    each_is(&rt, rt.alloc(), &[], &STEPS);
 }
 
 #[test]
-fn near_and_far_names_are_joined(rt: HostRuntime) -> Result<(), Fail> {
-    let steps = [
+fn near_and_far_names_are_joined(rt: HostRuntime) {
+    static STEPS: [Far<'static>; 2] = [
         Far::Joins(&[(65_536, 3), (4_294_967_295, 4)], true, false),
         Far::Walks(&[(65_535, 1), (65_536, 3), (4_294_967_295, 4)]),
     ];
-    each_is(&rt, rt.alloc(), &[(65_535, 1), (65_536, 2)], &steps)
+    each_is(&rt, rt.alloc(), &[(65_535, 1), (65_536, 2)], &STEPS);
 }
 
 #[test]
-fn names_that_were_cleared_are_gone_and_can_come_again(rt: HostRuntime) -> Result<(), Fail> {
-    let steps = [
+fn names_that_were_cleared_are_gone_and_can_come_again(rt: HostRuntime) {
+    static STEPS: [Far<'static>; 8] = [
         Far::Clears,
         Far::Holds(0, None),
         Far::Holds(70, None),
@@ -598,7 +747,7 @@ fn names_that_were_cleared_are_gone_and_can_come_again(rt: HostRuntime) -> Resul
         Far::Puts(65_536, 6),
         Far::Walks(&[(70, 5), (65_536, 6)]),
     ];
-    each_is(&rt, rt.alloc(), &[(0, 1), (70, 2), (65_536, 3)], &steps)
+    each_is(&rt, rt.alloc(), &[(0, 1), (70, 2), (65_536, 3)], &STEPS);
 }
 
 fn ascending(alloc: Global) -> Result<ByName<Upto>, OutOfMemory> {
@@ -606,15 +755,21 @@ fn ascending(alloc: Global) -> Result<ByName<Upto>, OutOfMemory> {
     ByName::of_ascending(alloc, entries)
 }
 
+fn first_wrong_of_ascending(
+    alloc: Global,
+    steps: &[Far<'_>],
+) -> Result<Option<usize>, OutOfMemory> {
+    let mut names = ascending(alloc)?;
+    first_wrong_of_names(alloc, &mut names, steps)
+}
+
 #[test]
-fn a_list_of_names_is_held(rt: HostRuntime) -> Result<(), Fail> {
-    let steps = [
+fn a_list_of_names_is_held(rt: HostRuntime) {
+    static STEPS: [Far<'static>; 4] = [
         Far::Holds(2, Some(4)),
         Far::Holds(5, Some(3)),
         Far::Holds(3, None),
         Far::Next(6, None),
     ];
-    let mut names = ascending(rt.alloc())?;
-    assert_eq!(rt; first_wrong_of_names(rt.alloc(), &mut names, &steps)?, None);
-    Ok(())
+    assert_eq!(rt; first_wrong_of_ascending(rt.alloc(), &STEPS), Ok(None));
 }
