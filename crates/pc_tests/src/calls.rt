@@ -25,8 +25,8 @@ fn the_greatest_limits(rt: HostRuntime) {
         MOST_ROOM,
         MOST_POSTS,
     ];
-    assert_eq!(rt; MOST_CPUS, 64);
-    assert_eq!(rt; MOST, [4_096, 65_535, 1_000_000, 65_536, 4_294_967_295]);
+    assert!(rt; MOST_CPUS == 64);
+    assert!(rt; MOST == [4_096, 65_535, 1_000_000, 65_536, 4_294_967_295]);
 }
 
 // Without contracts, as the functions below, so that a test's proof does not carry those of calls.
@@ -114,49 +114,87 @@ const COMMIT: Call = Call::Commit {
 
 const WAKE: EnvCall = EnvCall::Wake { thread: THREAD };
 
+const ASSOCIATES: Event = Event::Associate {
+    thread: THREAD,
+    queue: QUEUE,
+    number: 5,
+};
+
+const COMMITS: Event = Event::Commit {
+    cpu: CPU,
+    thread: THREAD,
+    aseq: 6,
+};
+
+const CONFIGURED: Event = Event::Config {
+    queue: QUEUE,
+    target: Some(CPU),
+};
+
+const CONFIGURES: Call = Call::Config {
+    queue: QUEUE,
+    target: Some(CPU),
+};
+
+/// So many events are looked at.
+const EVENTS: usize = 14;
+
+/// The event with this place, and the call that it is.
+const fn event(place: usize) -> Option<(Event, Option<Call>)> {
+    Some(match place {
+        0 => (ASSOCIATES, Some(ASSOCIATE)),
+        1 => (COMMITS, Some(COMMIT)),
+        2 => (
+            Event::Sleep { cpu: CPU, aseq: 7 },
+            Some(Call::Sleep { cpu: CPU, aseq: 7 }),
+        ),
+        3 => (Event::Rouse { cpu: CPU }, Some(Call::Rouse { cpu: CPU })),
+        4 => (CONFIGURED, Some(CONFIGURES)),
+        5 => (Event::Env(WAKE), Some(Call::Env(WAKE))),
+        6 => (
+            Event::Publish {
+                cpu: CPU,
+                fails: false,
+            },
+            None,
+        ),
+        7 => (
+            Event::Publish {
+                cpu: CPU,
+                fails: true,
+            },
+            None,
+        ),
+        8 => (Event::Consume { cpu: CPU }, None),
+        9 => (Event::Deliver { cpu: CPU, delta: 0 }, None),
+        10 => (
+            Event::Answer {
+                cpu: CPU,
+                asker: QUEUE,
+            },
+            None,
+        ),
+        11 => (Event::Pick { cpu: CPU, aseq: 1 }, None),
+        12 => (Event::Steal { cpu: CPU }, None),
+        13 => (Event::Crash { cpu: CPU }, None),
+        _ => return None,
+    })
+}
+
+/// The place of the first event that is another call.
+fn first_other_call() -> Option<usize> {
+    for place in 0..EVENTS {
+        match event(place) {
+            Some((event, wanted)) if call_of(&event) == wanted => {}
+            _ => return Some(place),
+        }
+    }
+    None
+}
+
 #[test]
 fn which_call_an_event_is(rt: HostRuntime) {
-    let cpu = CPU;
-    let associate = Event::Associate {
-        thread: THREAD,
-        queue: QUEUE,
-        number: 5,
-    };
-    let commit = Event::Commit {
-        cpu,
-        thread: THREAD,
-        aseq: 6,
-    };
-    let configured = Event::Config {
-        queue: QUEUE,
-        target: Some(cpu),
-    };
-    let configures = Call::Config {
-        queue: QUEUE,
-        target: Some(cpu),
-    };
-    let rows = [
-        (associate, Some(ASSOCIATE)),
-        (commit, Some(COMMIT)),
-        (
-            Event::Sleep { cpu, aseq: 7 },
-            Some(Call::Sleep { cpu, aseq: 7 }),
-        ),
-        (Event::Rouse { cpu }, Some(Call::Rouse { cpu })),
-        (configured, Some(configures)),
-        (Event::Env(WAKE), Some(Call::Env(WAKE))),
-        (Event::Publish { cpu, fails: false }, None),
-        (Event::Publish { cpu, fails: true }, None),
-        (Event::Consume { cpu }, None),
-        (Event::Deliver { cpu, delta: 0 }, None),
-        (Event::Answer { cpu, asker: QUEUE }, None),
-        (Event::Pick { cpu, aseq: 1 }, None),
-        (Event::Steal { cpu }, None),
-        (Event::Crash { cpu }, None),
-    ];
-    for (event, wanted) in &rows {
-        assert_eq!(rt; call_of(event), *wanted);
-    }
+    assert_eq!(rt; first_other_call(), None);
 }
 
 fn replied(call: &Call, answer: Answer) -> Reply {
@@ -172,50 +210,81 @@ const RECEIPT: Posted = Posted {
     woken: None,
 };
 
-#[test]
-fn what_calls_are_replied(rt: HostRuntime) {
-    let cpu = CPU;
-    let unset = Call::Config {
-        queue: QUEUE,
-        target: None,
-    };
-    let associated = Reply::Associated {
-        thread: THREAD,
-        queue: QUEUE,
-    };
-    let committed = Reply::Committed {
-        thread: THREAD,
-        cpu,
-    };
-    let rows = [
-        (ASSOCIATE, Answer::Done, associated),
-        (COMMIT, Answer::Done, committed),
-        (Call::Sleep { cpu, aseq: 7 }, Answer::Done, Reply::Done),
-        (Call::Rouse { cpu }, Answer::Done, Reply::Done),
-        (unset, Answer::Done, Reply::Done),
-        (Call::Consume { cpu, count: 1 }, Answer::Done, Reply::Done),
-        (
+const UNSET: Call = Call::Config {
+    queue: QUEUE,
+    target: None,
+};
+
+const ASSOCIATED: Reply = Reply::Associated {
+    thread: THREAD,
+    queue: QUEUE,
+};
+
+const COMMITTED: Reply = Reply::Committed {
+    thread: THREAD,
+    cpu: CPU,
+};
+
+/// So many calls are looked at.
+const CALLS: usize = 7;
+
+/// The call with this place, its answer, and what it is replied.
+const fn call(place: usize) -> Option<(Call, Answer, Reply)> {
+    Some(match place {
+        0 => (ASSOCIATE, Answer::Done, ASSOCIATED),
+        1 => (COMMIT, Answer::Done, COMMITTED),
+        2 => (Call::Sleep { cpu: CPU, aseq: 7 }, Answer::Done, Reply::Done),
+        3 => (Call::Rouse { cpu: CPU }, Answer::Done, Reply::Done),
+        4 => (UNSET, Answer::Done, Reply::Done),
+        5 => (
+            Call::Consume { cpu: CPU, count: 1 },
+            Answer::Done,
+            Reply::Done,
+        ),
+        6 => (
             Call::Env(WAKE),
             Answer::Posted(RECEIPT),
             Reply::Posted(RECEIPT),
         ),
-    ];
-    for (call, answer, wanted) in &rows {
-        assert_eq!(rt; replied(call, *answer), *wanted);
+        _ => return None,
+    })
+}
+
+fn is_replied(place: usize) -> bool {
+    match call(place) {
+        Some((call, answer, wanted)) => replied(&call, answer) == wanted,
+        None => false,
     }
 }
 
-fn fault_of(refusal: Refusal) -> CallFault {
-    CallFault::from(refusal)
+/// The place of the first call that is replied something else.
+fn first_other_reply() -> Option<usize> {
+    for place in 0..CALLS {
+        if !is_replied(place) {
+            return Some(place);
+        }
+    }
+    None
 }
 
-fn is_memory(fault: CallFault) -> bool {
-    fault == CallFault::OutOfMemory
+#[test]
+fn what_calls_are_replied(rt: HostRuntime) {
+    assert_eq!(rt; first_other_reply(), None);
+}
+
+/// A refusal as a fault.
+const STALE: CallFault = CallFault::Refused(Refusal::Stale(3));
+
+fn is_stale() -> bool {
+    CallFault::from(Refusal::Stale(3)) == STALE
+}
+
+fn is_memory() -> bool {
+    CallFault::from(Refusal::Stale(3)) == CallFault::OutOfMemory
 }
 
 #[test]
 fn a_refusal_is_a_fault(rt: HostRuntime) {
-    let fault = fault_of(Refusal::Stale(3));
-    assert_eq!(rt; fault, CallFault::Refused(Refusal::Stale(3)));
-    assert!(rt; !is_memory(fault));
+    assert!(rt; is_stale());
+    assert!(rt; !is_memory());
 }

@@ -55,6 +55,11 @@ enum Step<'a> {
     /// Whether a mask of so many CPUs allows the CPU.
     Allows(u64, u8, u8, bool),
     Level(u8, Result<u8, LevelFault>),
+    /// The number of the lowest level.
+    Lowest(u8),
+    /// The index of the thread or of the CPU with this number is the number.
+    Thread(u32),
+    Cpu(u8),
     /// Whether a message with this number may have this kind.
     WellFormed(u32, Part, bool),
     IsCreated(Part, bool),
@@ -197,6 +202,9 @@ fn holds(step: &Step<'_>) -> bool {
         Step::Bits(bits) => has_bits(bits),
         Step::Allows(bits, cpus, cpu, wanted) => allows(bits, cpus, cpu, wanted),
         Step::Level(number, wanted) => level_of(number) == wanted,
+        Step::Lowest(wanted) => Level::LOWEST.get() == wanted,
+        Step::Thread(number) => Tid(number).index() == number,
+        Step::Cpu(number) => Cpu(number).index() == number,
         _ => is_told(step),
     }
 }
@@ -232,23 +240,16 @@ fn masks(rt: HostRuntime) {
     each_holds(&rt, &STEPS);
 }
 
-fn lowest() -> u8 {
-    Level::LOWEST.get()
-}
-
-fn indices(thread: Tid, cpu: Cpu) -> (u32, u8) {
-    (thread.index(), cpu.index())
-}
-
 #[test]
 fn levels_and_names(rt: HostRuntime) {
-    static STEPS: [Step<'static>; 2] = [
+    static STEPS: [Step<'static>; 5] = [
         Step::Level(8, Err(LevelFault::BadLevel)),
         Step::Level(7, Ok(7)),
+        Step::Lowest(0),
+        Step::Thread(7),
+        Step::Cpu(63),
     ];
     each_holds(&rt, &STEPS);
-    assert_eq!(rt; lowest(), 0);
-    assert_eq!(rt; indices(Tid(7), Cpu(63)), (7, 63));
 }
 
 #[test]
