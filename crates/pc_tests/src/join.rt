@@ -43,8 +43,7 @@ fn last(value: &Upto) -> (u32, bool) {
     (value.get(), *value == Upto::new(5))
 }
 
-/// Whether a value that knows 2 knows, joined with that of 5, what the latter knows, more than before and not nothing, as that
-/// of 0 is.
+/// Whether the join of 2 and 5 is equal to 5, and 2 does not cover it; 0 is nothing, and the join is something.
 fn takes_the_greater() -> Result<bool, OutOfMemory> {
     let joined = join_both(&upto(2), &upto(5))?;
     Ok(
