@@ -91,15 +91,19 @@ enum Way {
     AsValue,
 }
 
+fn first_wrong_of(kernel: &mut Kernel, way: Way, steps: &[Step]) -> Option<usize> {
+    for (place, step) in steps.iter().enumerate() {
+        if !calls::holds(kernel, way, step) {
+            return Some(place);
+        }
+    }
+    None
+}
+
 /// The place of the first step that does not hold of a new kernel and the steps before it.
 fn first_wrong(alloc: Global, way: Way, steps: &[Step]) -> Result<Option<usize>, LimitsFault> {
     let mut kernel = Kernel::new(alloc, SMALL)?;
-    for (place, step) in steps.iter().enumerate() {
-        if !calls::holds(&mut kernel, way, step) {
-            return Ok(Some(place));
-        }
-    }
-    Ok(None)
+    Ok(first_wrong_of(&mut kernel, way, steps))
 }
 
 fn each_holds(rt: &impl Abort, alloc: Global, way: Way, steps: &[Step]) {
