@@ -66,7 +66,7 @@ enum Step<'a> {
     Ran(Part, u32),
     Moves(Part, Option<Phase>),
     HasNoMask(Part),
-    Raises(Part, Option<u8>),
+    Raises(Part, u8),
     /// The state after these kinds: phase, mask, ticks and level.
     Folds(&'a [Part], Phase, u64, u64, u8),
     FoldsToNothing(&'a [Part]),
@@ -118,8 +118,7 @@ fn gives(kind: &Kind, step: &Step<'_>) -> bool {
         Step::Ran(_, wanted) => kind.ran() == wanted,
         Step::Moves(_, wanted) => kind.phase() == wanted,
         Step::HasNoMask(_) => kind.mask().is_none(),
-        Step::Raises(_, None) => kind.level().is_none(),
-        Step::Raises(_, Some(number)) => kind.level() == level(number),
+        Step::Raises(_, number) => kind.level() == level(number),
         Step::BeginsNothing(_) => Reported::first(*kind).is_none(),
         _ => false,
     }
@@ -180,18 +179,18 @@ fn are_states_alike(one: Option<bool>, other: Option<bool>, wanted: bool) -> boo
 }
 
 fn is_told(step: &Step<'_>) -> bool {
-    match *step {
-        Step::WellFormed(number, part, wanted) => is_well_formed(number, &part, wanted),
-        Step::Folds(parts, phase, mask, ran, level) => folds(parts, phase, mask, ran, level),
+    match step {
+        Step::WellFormed(number, part, wanted) => is_well_formed(*number, part, *wanted),
+        Step::Folds(parts, phase, mask, ran, level) => folds(parts, *phase, *mask, *ran, *level),
         Step::FoldsToNothing(parts) => folded(parts).is_none(),
-        Step::Alike(part, other, wanted) => are_alike(&part, &other, wanted),
-        Step::StatesAlike(one, other, wanted) => are_states_alike(one, other, wanted),
+        Step::Alike(part, other, wanted) => are_alike(part, other, *wanted),
+        Step::StatesAlike(one, other, wanted) => are_states_alike(*one, *other, *wanted),
         Step::IsCreated(part, _)
         | Step::Ran(part, _)
         | Step::Moves(part, _)
         | Step::HasNoMask(part)
         | Step::Raises(part, _)
-        | Step::BeginsNothing(part) => part_gives(&part, step),
+        | Step::BeginsNothing(part) => part_gives(part, step),
         _ => false,
     }
 }
@@ -273,7 +272,7 @@ fn what_a_kind_gives(rt: HostRuntime) {
         Step::Ran(Part::Yield(4), 4),
         Step::Moves(Part::Dead(4), Some(Phase::Dead)),
         Step::Moves(Part::Priority(5), None),
-        Step::Raises(Part::Priority(5), Some(5)),
+        Step::Raises(Part::Priority(5), 5),
         Step::HasNoMask(Part::Blocked(1)),
     ];
     each_holds(&rt, &STEPS);
