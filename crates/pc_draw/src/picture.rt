@@ -134,7 +134,8 @@ pub(crate) fn write_picture<W: Write>(
     scene: &mut Scene,
     writer: &mut W,
 ) -> io::Result<()>
-    ensures { OnOk result (Pictures (script_title (vec_len story.now.steps) story.now.refused story.now.outcome) (W.contents writer.old) (W.contents writer.new)) }
+    ensures { OnOk result (Pictures (script_title (vec_len story.now.steps) story.now.refused story.now.outcome)
+        (W.contents writer.old) (W.contents writer.new)) }
 {
     let steps = u32::try_from(story.steps.len()).unwrap_or(u32::MAX);
     let layout = Layout::of(steps, cpus_of(story.steps.as_slice()));

@@ -35,7 +35,8 @@ pub fn make_flushed<R: Read, W: Write + Drop>(
     reader: &mut R,
     writer: &mut BufWriter<W>,
 ) -> Ending
-    ensures told { IfSome (R.remaining reader.old) (λ text. IsMade form text (writer_contents W.contents writer.old) (writer_contents W.contents writer.new) result) }
+    ensures told { IfSome (R.remaining reader.old) (λ text.
+        IsMade form text (writer_contents W.contents writer.old) (writer_contents W.contents writer.new) result) }
     ensures flushed { (result ≡ Ending.CannotRead) ⊎ (writer_buffer writer.new ≡ []) }
 {
     let ending = make(alloc, form, reader, writer);

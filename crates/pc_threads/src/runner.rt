@@ -443,6 +443,7 @@ where
     let Desk { tallied, .. } = desk;
     let book = tallied.into_inner().close(purse, pool);
     known_are_created(&book);
+    // The proof speaks of the report by its name.
     let report = report_of(alloc, book, joined)?;
     Ok(report)
 }

@@ -2,7 +2,7 @@
 use Rattle.std.specs.Prelude.{ℕ, List, [], Option, Some, None, Box, Vec}
 use Rattle.std.specs.Box.{box_value}
 
--- its items; none where there is no list
+-- its items; none where there is no list (Z and Y are the allocators of the list and of its place)
 module _ {Z Y : Type 0} where
   abbrev pub items_in : Option (Box (Vec ℕ Z) Y) → List ℕ
   items_in None = []
