@@ -8,70 +8,165 @@ use std::alloc::Global;
 use std::process::Abort;
 use std::test::Fail;
 
+/// What a message says.
+#[derive(Clone, Copy)]
+enum Says {
+    /// The thread is created, blocked, with a mask of both CPUs.
+    Blocked,
+    /// The thread is created, ready, with a mask of both CPUs.
+    Same,
+    /// The same with a mask of CPU 0 alone.
+    Other,
+    Wakes,
+    /// It leaves its CPU after one tick.
+    Yields,
+    /// It blocks after two ticks.
+    Blocks,
+}
+
+/// A message by its thread's name, its number and its kind.
+type Told = (u32, u32, Says);
+
+/// The first and the third message of t0.
+const ODD: [Told; 2] = [(0, 1, Says::Blocked), (0, 3, Says::Blocks)];
+
+/// The second and the fourth of t0, and the first of t1.
+const EVEN: [Told; 3] = [(0, 2, Says::Wakes), (0, 4, Says::Wakes), (1, 1, Says::Same)];
+
+fn created(bits: u64, ready: bool) -> Result<Kind, Fail> {
+    let mask = Mask::new(bits, 2)?;
+    Ok(Kind::Created { mask, ready })
+}
+
+fn kind_of(says: Says) -> Result<Kind, Fail> {
+    match says {
+        Says::Blocked => created(3, false),
+        Says::Same => created(3, true),
+        Says::Other => created(1, true),
+        Says::Wakes => Ok(Kind::Wakeup),
+        Says::Yields => Ok(Kind::Yield { ran: 1 }),
+        Says::Blocks => Ok(Kind::Blocked { ran: 2 }),
+    }
+}
+
+fn puts(view: &mut View, thread: u32, number: u32, kind: Kind) -> Result<(), Fail> {
+    let message = Message {
+        thread: Tid(thread),
+        number,
+        kind,
+    };
+    if !message.is_well_formed() {
+        return Err("not well formed".into());
+    }
+    view.insert(message)?;
+    Ok(())
+}
+
+fn puts_all(view: &mut View, messages: &[Told]) -> Result<(), Fail> {
+    for (thread, number, says) in messages {
+        puts(view, *thread, *number, kind_of(*says)?)?;
+    }
+    Ok(())
+}
+
+/// A view that took in these messages.
+fn view_of(alloc: Global, messages: &[Told]) -> Result<View, Fail> {
+    let mut view = View::new(alloc);
+    puts_all(&mut view, messages)?;
+    Ok(view)
+}
+
+fn merges_view(view: &mut View, other: &View) -> Result<(), Fail> {
+    view.merge(other)?;
+    Ok(())
+}
+
+/// Merges a view of these messages into the view.
+fn merges(alloc: Global, view: &mut View, messages: &[Told]) -> Result<(), Fail> {
+    let other = view_of(alloc, messages)?;
+    merges_view(view, &other)
+}
+
+/// A view that merged a view of each of the messages.
+fn view_of_each(alloc: Global, messages: &[Told]) -> Result<View, Fail> {
+    let mut view = View::new(alloc);
+    for told in messages {
+        merges(alloc, &mut view, &[*told])?;
+    }
+    Ok(view)
+}
+
+/// A view of the first messages, into which one of the others was merged.
+fn merged(alloc: Global, first: &[Told], others: &[Told]) -> Result<View, Fail> {
+    let mut view = view_of(alloc, first)?;
+    merges(alloc, &mut view, others)?;
+    Ok(view)
+}
+
 fn join_both<V: Join>(first: &V, other: &V) -> Result<V, OutOfMemory> {
     let mut joined = first.try_copy()?;
     joined.join_from(other)?;
     Ok(joined)
 }
 
-// The first and the third message of t0.
-fn odd(alloc: Global, mask: Mask) -> Result<View, OutOfMemory> {
+fn joined_views(first: &View, other: &View) -> Result<View, Fail> {
+    Ok(join_both(first, other)?)
+}
+
+fn joined_with(alloc: Global, view: &View, messages: &[Told]) -> Result<View, Fail> {
+    let other = view_of(alloc, messages)?;
+    joined_views(view, &other)
+}
+
+/// A view of the first messages, joined with one of the others.
+fn joined(alloc: Global, first: &[Told], others: &[Told]) -> Result<View, Fail> {
+    let view = view_of(alloc, first)?;
+    joined_with(alloc, &view, others)
+}
+
+/// Takes in t0's first four messages as a prefix with its state.
+fn folds(view: &mut View) -> Result<(), Fail> {
+    let mask = Mask::new(3, 2)?;
+    let reported = Reported {
+        phase: Phase::Ready,
+        mask,
+        ran: 2,
+        level: Level::LOWEST,
+    };
+    view.fold(Tid(0), 4, reported)?;
+    Ok(())
+}
+
+/// A view that has t0's first four messages as a prefix with its state, and these messages.
+fn folded(alloc: Global, messages: &[Told]) -> Result<View, Fail> {
     let mut view = View::new(alloc);
-    view.insert(Message {
-        thread: Tid(0),
-        number: 1,
-        kind: Kind::Created { mask, ready: false },
-    })?;
-    view.insert(Message {
-        thread: Tid(0),
-        number: 3,
-        kind: Kind::Blocked { ran: 2 },
-    })?;
+    folds(&mut view)?;
+    puts_all(&mut view, messages)?;
     Ok(view)
 }
 
-// The second and the fourth of t0, and the first of t1.
-fn even(alloc: Global, mask: Mask) -> Result<View, OutOfMemory> {
-    let mut view = View::new(alloc);
-    view.insert(Message {
-        thread: Tid(0),
-        number: 2,
-        kind: Kind::Wakeup,
-    })?;
-    view.insert(Message {
-        thread: Tid(0),
-        number: 4,
-        kind: Kind::Wakeup,
-    })?;
-    view.insert(Message {
-        thread: Tid(1),
-        number: 1,
-        kind: Kind::Created { mask, ready: true },
-    })?;
-    Ok(view)
+/// A view of some messages, that steps are of or that one is compared with.
+#[derive(Clone, Copy)]
+enum Start {
+    /// It took in these messages.
+    Of(&'static [Told]),
+    /// It merged a view of each of these messages.
+    Each(&'static [Told]),
+    /// Into a view of the first messages one of the others was merged.
+    Merged(&'static [Told], &'static [Told]),
+    /// The join of these views.
+    Joined(&'static [Told], &'static [Told]),
+    /// It has t0's first four messages as a prefix with its state, and these messages.
+    Folded(&'static [Told]),
 }
 
-/// What both know, by a merge into the first, or into the other.
-fn merged(alloc: Global, mask: Mask, turned: bool) -> Result<View, OutOfMemory> {
-    let mut first = odd(alloc, mask)?;
-    let mut other = even(alloc, mask)?;
-    if turned {
-        other.merge(&first)?;
-        Ok(other)
-    } else {
-        first.merge(&other)?;
-        Ok(first)
-    }
-}
-
-/// The same by a join into a copy.
-fn joined(alloc: Global, mask: Mask, turned: bool) -> Result<View, OutOfMemory> {
-    let first = odd(alloc, mask)?;
-    let other = even(alloc, mask)?;
-    if turned {
-        join_both(&other, &first)
-    } else {
-        join_both(&first, &other)
+fn start_of(alloc: Global, start: Start) -> Result<View, Fail> {
+    match start {
+        Start::Of(messages) => view_of(alloc, messages),
+        Start::Each(messages) => view_of_each(alloc, messages),
+        Start::Merged(first, others) => merged(alloc, first, others),
+        Start::Joined(first, others) => joined(alloc, first, others),
+        Start::Folded(messages) => folded(alloc, messages),
     }
 }
 
@@ -84,158 +179,75 @@ fn covers(view: &View, other: &View) -> bool {
     view.covers(other)
 }
 
-/// How far the thread is known without a gap, and its state, as what is held of the thread tells them; none where nothing is.
-fn held(view: &View, thread: u32) -> Option<(u32, Option<Reported>)> {
-    let held = view.thread(Tid(thread))?;
-    Some((held.upto(), held.reported()))
-}
+/// How far a thread is known without a gap, and its phase and ticks.
+type Known = (u32, Option<(Phase, u64)>);
 
-/// The same as the view tells them.
-fn known(view: &View, thread: u32) -> (u32, Option<Reported>) {
-    (view.upto(Tid(thread)), view.reported(Tid(thread)))
-}
-
-/// A state of the mask 3 and the lowest level.
-const fn state(phase: Phase, mask: Mask, ran: u64) -> Option<Reported> {
-    Some(Reported {
-        phase,
-        mask,
-        ran,
-        level: Level::LOWEST,
-    })
-}
-
-/// A view that has t0's first four messages as a prefix with its state, and t1's first message where that is asked for.
-fn folded(alloc: Global, mask: Mask, with_other: bool) -> Result<View, OutOfMemory> {
-    let reported = Reported {
-        phase: Phase::Ready,
-        mask,
-        ran: 2,
-        level: Level::LOWEST,
-    };
-    let mut view = View::new(alloc);
-    view.fold(Tid(0), 4, reported)?;
-    if with_other {
-        view.insert(Message {
-            thread: Tid(1),
-            number: 1,
-            kind: Kind::Created { mask, ready: true },
-        })?;
-    }
-    Ok(view)
-}
-
-/// What a view tells.
-#[derive(Clone, Copy)]
-enum Step {
-    /// It is as that of a merge, this way round.
-    Merged(bool),
-    /// It is as that of a join, this way round.
-    Joined(bool),
-    Copied,
-    Nothing(bool),
-    Knows(u32, u32, bool),
-    /// Whether it is as the first view that was merged, covers it, and is covered by it.
-    Odd(bool, bool, bool),
-    /// Whether it is as a prefix, alone or with t1's first message.
-    Folded(bool, bool),
-    /// What is held of the thread: how far it is known without a gap, and its state. None where nothing is.
-    Held(u32, Option<(u32, Option<Reported>)>),
-    /// The same as the view tells them.
-    Known(u32, (u32, Option<Reported>)),
-    Next(u32, Option<Tid>),
-}
-
-fn beside_odd(alloc: Global, view: &View, mask: Mask) -> Result<(bool, bool, bool), Fail> {
-    let part = odd(alloc, mask)?;
-    Ok((
-        is_same(view, &part),
-        covers(view, &part),
-        covers(&part, view),
-    ))
-}
-
-/// Whether the view is as another.
-fn is_as(alloc: Global, view: &View, step: &Step) -> Result<bool, Fail> {
-    let mask = Mask::new(3, 2)?;
-    match *step {
-        Step::Merged(turned) => Ok(is_same(view, &merged(alloc, mask, turned)?)),
-        Step::Joined(turned) => Ok(is_same(view, &joined(alloc, mask, turned)?)),
-        Step::Copied => Ok(is_same(view, &view.try_copy()?)),
-        Step::Odd(same, over, under) => {
-            Ok(beside_odd(alloc, view, mask)? == (same, over, under))
+/// Whether that is the state, with both CPUs and the lowest level; none where none is wanted.
+fn is_state(found: Option<Reported>, wanted: Option<(Phase, u64)>) -> bool {
+    match (found, wanted) {
+        (Some(it), Some((phase, ran))) => {
+            it.phase == phase && it.ran == ran && it.mask.bits() == 3 && it.level == Level::LOWEST
         }
-        Step::Folded(other, wanted) => { Ok(is_same(&folded(alloc, mask, other)?, view) == wanted) }
-        _ => Ok(false),
+        (None, None) => true,
+        _ => false,
     }
 }
 
-fn holds(alloc: Global, view: &View, step: &Step) -> Result<bool, Fail> {
-    match *step {
-        Step::Nothing(wanted) => Ok(view.is_empty() == wanted),
-        Step::Knows(thread, number, wanted) => Ok(view.knows(Tid(thread), number) == wanted),
-        Step::Held(thread, wanted) => Ok(held(view, thread) == wanted),
-        Step::Known(thread, wanted) => Ok(known(view, thread) == wanted),
-        Step::Next(from, wanted) => Ok(view.next(Tid(from)) == wanted),
-        _ => is_as(alloc, view, step),
+/// Whether what is held of the thread tells that; none where nothing is.
+fn is_held(view: &View, thread: u32, wanted: Option<Known>) -> bool {
+    match (view.thread(Tid(thread)), wanted) {
+        (Some(held), Some((upto, state))) => {
+            held.upto() == upto && is_state(held.reported(), state)
+        }
+        (None, None) => true,
+        _ => false,
     }
 }
 
-fn each_holds(rt: &impl Abort, alloc: Global, view: &View, steps: &[Step]) -> Result<(), Fail> {
-    for (place, step) in steps.iter().enumerate() {
-        assert!(rt; holds(alloc, view, step)?, "step {place}");
+/// The same as the view tells it.
+fn is_known(view: &View, thread: u32, wanted: Known) -> bool {
+    let (upto, state) = wanted;
+    view.upto(Tid(thread)) == upto && is_state(view.reported(Tid(thread)), state)
+}
+
+fn next_name(view: &View, from: u32) -> Option<u32> {
+    match view.next(Tid(from)) {
+        Some(thread) => Some(thread.0),
+        None => None,
     }
-    Ok(())
 }
 
-/// The first of t0 and the third; of t1 nothing; of t2 the third alone.
-fn with_gaps(alloc: Global) -> Result<View, Fail> {
-    let mut view = odd(alloc, Mask::new(3, 2)?)?;
-    view.merge(&view_of(alloc, 2, 3, Kind::Wakeup)?)?;
-    Ok(view)
+/// Whether the names of the near walk are these.
+fn is_walked_near(view: &View, names: &[u32]) -> bool {
+    let mut wanted = names.iter();
+    for (name, _) in view.walks().near {
+        if wanted.next() != Some(&name.0) {
+            return false;
+        }
+    }
+    wanted.next().is_none()
 }
 
-// What was merged is covered, and a folded prefix is as its messages.
-#[test]
-fn merges_and_joins_do_not_depend_on_the_order(rt: HostRuntime) -> Result<(), Fail> {
-    let mask = Mask::new(3, 2)?;
-    let steps = [
-        Step::Merged(true),
-        Step::Joined(false),
-        Step::Joined(true),
-        Step::Copied,
-        Step::Knows(1, 1, true),
-        Step::Odd(false, true, false),
-        Step::Folded(false, false),
-        Step::Folded(true, true),
-        Step::Held(0, Some((4, state(Phase::Ready, mask, 2)))),
-        Step::Held(2, None),
-        Step::Next(0, Some(Tid(0))),
-        Step::Next(1, Some(Tid(1))),
-        Step::Next(2, None),
-        Step::Nothing(false),
-    ];
-    let view = merged(rt.alloc(), mask, false)?;
-    each_holds(&rt, rt.alloc(), &view, &steps)
+/// The same of the far walk.
+fn is_walked_far(view: &View, names: &[u32]) -> bool {
+    let mut wanted = names.iter();
+    for (name, _) in view.walks().far {
+        if wanted.next() != Some(&name.0) {
+            return false;
+        }
+    }
+    wanted.next().is_none()
 }
 
-#[test]
-fn what_is_known_without_a_gap(rt: HostRuntime) -> Result<(), Fail> {
-    let mask = Mask::new(3, 2)?;
-    let first = odd(rt.alloc(), mask)?;
-    each_holds(&rt, rt.alloc(), &first, &[Step::Knows(1, 1, false)])?;
-    let steps = [
-        Step::Known(0, (1, state(Phase::Blocked, mask, 0))),
-        Step::Known(1, (0, None)),
-        Step::Known(2, (0, None)),
-    ];
-    each_holds(&rt, rt.alloc(), &with_gaps(rt.alloc())?, &steps)?;
-    each_holds(
-        &rt,
-        rt.alloc(),
-        &View::new(rt.alloc()),
-        &[Step::Nothing(true)],
-    )
+/// Whether all names are these, and how far each one's thread is known without a gap.
+fn is_walked(view: &View, threads: &[(u32, u32)]) -> bool {
+    let mut wanted = threads.iter();
+    for (name, held) in view.iter() {
+        if wanted.next() != Some(&(name.0, held.upto())) {
+            return false;
+        }
+    }
+    wanted.next().is_none()
 }
 
 // A kernel of two CPUs whose only message is the Created of t0, ready, with a mask of both.
@@ -270,213 +282,306 @@ fn woken(kernel: &mut Kernel, thread: Tid) -> Option<(Option<u32>, Cpu)> {
     }
 }
 
-// A view of one message.
-fn view_of(alloc: Global, thread: u32, number: u32, kind: Kind) -> Result<View, Fail> {
-    let mut view = View::new(alloc);
-    let message = Message {
-        thread: Tid(thread),
-        number,
-        kind,
-    };
-    if !message.is_well_formed() {
-        return Err("not well formed".into());
-    }
-    view.insert(message)?;
-    Ok(view)
-}
-
-fn stranger(thread: u32, number: u32) -> Result<(), Stranger> {
-    Err(Stranger {
-        thread: Tid(thread),
-        number,
-    })
-}
-
-/// What a message says.
-#[derive(Clone, Copy)]
-enum Says {
-    /// The thread is created, ready, with a mask of both CPUs, as in the kernel.
-    Same,
-    /// The same with a mask of CPU 0 alone.
-    Other,
-    Wakes,
-    Yields,
-}
-
-/// A message by its thread's name, its number and its kind.
-type Told = (u32, u32, Says);
-
-fn kind_of(says: Says) -> Result<Kind, Fail> {
-    let bits = match says {
-        Says::Wakes => return Ok(Kind::Wakeup),
-        Says::Yields => return Ok(Kind::Yield { ran: 1 }),
-        Says::Same => 3,
-        Says::Other => 1,
-    };
-    Ok(Kind::Created {
-        mask: Mask::new(bits, 2)?,
-        ready: true,
-    })
-}
-
-/// A view that merged a view of each of the messages.
-fn view_of_all(alloc: Global, messages: &[Told]) -> Result<View, Fail> {
-    let mut view = View::new(alloc);
-    for (thread, number, says) in messages {
-        view.merge(&view_of(alloc, *thread, *number, kind_of(*says)?)?)?;
-    }
-    Ok(view)
+/// Whether t1 is created, blocked, and then woken.
+fn adds_a_thread(kernel: &mut Kernel) -> bool {
+    created_thread(kernel, false) == Some(Tid(1))
+        && woken(kernel, Tid(1)) == Some((Some(2), Cpu(0)))
 }
 
 /// A kernel with t0, ready, and t1, which was created blocked and woken.
 fn kernel_of_three(alloc: Global) -> Result<Kernel, Fail> {
     let mut kernel = kernel_of_one(alloc)?;
-    if created_thread(&mut kernel, false) != Some(Tid(1)) {
-        return Err("not the second thread".into());
-    }
-    match woken(&mut kernel, Tid(1)) {
-        Some((Some(2), Cpu(0))) => Ok(kernel),
-        _ => Err("not the second message".into()),
-    }
-}
-
-/// The kernel that has so many messages: one or three.
-fn kernel_of(alloc: Global, messages: u32) -> Result<Kernel, Fail> {
-    if messages == 1 {
-        kernel_of_one(alloc)
+    if adds_a_thread(&mut kernel) {
+        Ok(kernel)
     } else {
-        kernel_of_three(alloc)
+        Err("not the second thread, or not its second message".into())
     }
 }
 
-type Audit = Result<(), Stranger>;
-
-fn audited(alloc: Global, kernel: u32, messages: &[Told]) -> Result<Audit, Fail> {
-    Ok(audit(&view_of_all(alloc, messages)?, &kernel_of(alloc, kernel)?))
+/// What is asked of a view and a kernel.
+#[derive(Clone, Copy)]
+enum Asks {
+    /// The view tells nothing else than the kernel.
+    NoStranger,
+    /// It does, and first this message, by its thread's name and its number.
+    Stranger(u32, u32),
+    /// Whether the view has all of the thread's messages.
+    Complete(u32, bool),
 }
 
-/// Whether a view of the messages has all of the thread's.
-fn is_complete(alloc: Global, kernel: u32, messages: &[Told], thread: u32) -> Result<bool, Fail> {
-    Ok(complete(
-        &view_of_all(alloc, messages)?,
-        &kernel_of(alloc, kernel)?,
-        Tid(thread),
-    ))
+fn is_stranger(view: &View, kernel: &Kernel, thread: u32, number: u32) -> bool {
+    let stranger = Stranger {
+        thread: Tid(thread),
+        number,
+    };
+    audit(view, kernel) == Err(stranger)
 }
+
+fn answers(view: &View, kernel: &Kernel, asks: Asks) -> bool {
+    match asks {
+        Asks::NoStranger => audit(view, kernel) == Ok(()),
+        Asks::Stranger(thread, number) => is_stranger(view, kernel, thread, number),
+        Asks::Complete(thread, wanted) => complete(view, kernel, Tid(thread)) == wanted,
+    }
+}
+
+fn kernel_answers(view: &View, kernel: Result<Kernel, Fail>, asks: Asks) -> Result<bool, Fail> {
+    Ok(answers(view, &kernel?, asks))
+}
+
+/// What a view tells.
+#[derive(Clone, Copy)]
+enum Step {
+    /// Whether it is as that view.
+    As(Start, bool),
+    Copied,
+    Nothing(bool),
+    Knows(u32, u32, bool),
+    /// Whether it is as a view of `ODD`, covers it, and is covered by it.
+    Odd(bool, bool, bool),
+    /// What is held of the thread. None where nothing is.
+    Held(u32, Option<Known>),
+    /// What the view tells of the thread.
+    Known(u32, Known),
+    /// The first name from that one on.
+    Next(u32, Option<u32>),
+    /// The names of the near walk.
+    Near(&'static [u32]),
+    /// The names of the far walk.
+    Far(&'static [u32]),
+    /// All names, each with how far its thread is known without a gap.
+    Walked(&'static [(u32, u32)]),
+    /// Beside a kernel of one message.
+    One(Asks),
+    /// Beside a kernel of three.
+    Three(Asks),
+}
+
+fn is_view(view: &View, other: Result<View, Fail>) -> Result<bool, Fail> {
+    Ok(is_same(view, &other?))
+}
+
+fn copied(view: &View) -> Result<View, Fail> {
+    Ok(view.try_copy()?)
+}
+
+/// Whether the view is as the part, covers it, and is covered by it.
+fn beside(view: &View, part: &View) -> (bool, bool, bool) {
+    (is_same(view, part), covers(view, part), covers(part, view))
+}
+
+fn beside_odd(alloc: Global, view: &View) -> Result<(bool, bool, bool), Fail> {
+    let part = view_of(alloc, &ODD)?;
+    Ok(beside(view, &part))
+}
+
+/// Whether that holds of the view and of another, or of a kernel.
+fn compares(alloc: Global, view: &View, step: &Step) -> Result<bool, Fail> {
+    match *step {
+        Step::As(start, wanted) => Ok(is_view(view, start_of(alloc, start))? == wanted),
+        Step::Copied => is_view(view, copied(view)),
+        Step::Odd(same, over, under) => Ok(beside_odd(alloc, view)? == (same, over, under)),
+        Step::One(asks) => kernel_answers(view, kernel_of_one(alloc), asks),
+        Step::Three(asks) => kernel_answers(view, kernel_of_three(alloc), asks),
+        _ => Ok(false),
+    }
+}
+
+fn tells(view: &View, step: &Step) -> bool {
+    match *step {
+        Step::Nothing(wanted) => view.is_empty() == wanted,
+        Step::Knows(thread, number, wanted) => view.knows(Tid(thread), number) == wanted,
+        Step::Held(thread, wanted) => is_held(view, thread, wanted),
+        Step::Known(thread, wanted) => is_known(view, thread, wanted),
+        Step::Next(from, wanted) => next_name(view, from) == wanted,
+        Step::Near(names) => is_walked_near(view, names),
+        Step::Far(names) => is_walked_far(view, names),
+        Step::Walked(threads) => is_walked(view, threads),
+        _ => false,
+    }
+}
+
+fn holds(alloc: Global, view: &View, step: &Step) -> Result<bool, Fail> {
+    Ok(tells(view, step) || compares(alloc, view, step)?)
+}
+
+/// The place of the first step that does not hold of the view.
+fn first_wrong_step(alloc: Global, view: &View, steps: &[Step]) -> Result<Option<usize>, Fail> {
+    for (place, step) in steps.iter().enumerate() {
+        if !holds(alloc, view, step)? {
+            return Ok(Some(place));
+        }
+    }
+    Ok(None)
+}
+
+/// A view, and what it tells.
+type Case = (Start, &'static [Step]);
+
+fn first_wrong_of(alloc: Global, case: &Case) -> Result<Option<usize>, Fail> {
+    let (start, steps) = *case;
+    let view = start_of(alloc, start)?;
+    first_wrong_step(alloc, &view, steps)
+}
+
+/// The places of the first case with a wrong step, and of that step.
+fn first_wrong(alloc: Global, cases: &[Case]) -> Result<Option<(usize, usize)>, Fail> {
+    for (place, case) in cases.iter().enumerate() {
+        if let Some(step) = first_wrong_of(alloc, case)? {
+            return Ok(Some((place, step)));
+        }
+    }
+    Ok(None)
+}
+
+fn each_holds(rt: &impl Abort, alloc: Global, cases: &[Case]) -> Result<(), Fail> {
+    assert_eq!(rt; first_wrong(alloc, cases)?, None);
+    Ok(())
+}
+
+// What was merged is covered, and a folded prefix is as its messages.
+#[test]
+fn merges_and_joins_do_not_depend_on_the_order(rt: HostRuntime) -> Result<(), Fail> {
+    const CASES: [Case; 1] = [(
+        Start::Merged(&ODD, &EVEN),
+        &[
+            Step::As(Start::Merged(&EVEN, &ODD), true),
+            Step::As(Start::Joined(&ODD, &EVEN), true),
+            Step::As(Start::Joined(&EVEN, &ODD), true),
+            Step::Copied,
+            Step::Knows(1, 1, true),
+            Step::Odd(false, true, false),
+            Step::As(Start::Folded(&[]), false),
+            Step::As(Start::Folded(&[(1, 1, Says::Same)]), true),
+            Step::Held(0, Some((4, Some((Phase::Ready, 2))))),
+            Step::Held(2, None),
+            Step::Next(0, Some(0)),
+            Step::Next(1, Some(1)),
+            Step::Next(2, None),
+            Step::Nothing(false),
+        ],
+    )];
+    each_holds(&rt, rt.alloc(), &CASES)
+}
+
+#[test]
+fn what_is_known_without_a_gap(rt: HostRuntime) -> Result<(), Fail> {
+    const CASES: [Case; 3] = [
+        (Start::Of(&ODD), &[Step::Knows(1, 1, false)]),
+        // The first of t0 and the third; of t1 nothing; of t2 the third alone.
+        (
+            Start::Merged(&ODD, &[(2, 3, Says::Wakes)]),
+            &[
+                Step::Known(0, (1, Some((Phase::Blocked, 0)))),
+                Step::Known(1, (0, None)),
+                Step::Known(2, (0, None)),
+            ],
+        ),
+        (Start::Of(&[]), &[Step::Nothing(true)]),
+    ];
+    each_holds(&rt, rt.alloc(), &CASES)
+}
+
+/// The first message of t2 and of t0.
+const TWO_THREADS: [Told; 2] = [(2, 1, Says::Blocked), (0, 1, Says::Blocked)];
+
+#[test]
+fn threads_of_near_names_are_walked_before_the_others(rt: HostRuntime) -> Result<(), Fail> {
+    const CASES: [Case; 1] = [(
+        Start::Joined(&TWO_THREADS, &[(70_000, 1, Says::Blocked)]),
+        &[Step::Near(&[0, 2]), Step::Far(&[70_000])],
+    )];
+    each_holds(&rt, rt.alloc(), &CASES)
+}
+
+#[test]
+fn threads_are_walked_in_order(rt: HostRuntime) -> Result<(), Fail> {
+    const CASES: [Case; 1] = [(Start::Of(&TWO_THREADS), &[Step::Walked(&[(0, 1), (2, 1)])])];
+    each_holds(&rt, rt.alloc(), &CASES)
+}
+
+/// Views beside kernels, and what is the first stranger.
+const STRANGERS: [Case; 13] = [
+    (
+        Start::Each(&[(0, 1, Says::Same)]),
+        &[Step::One(Asks::NoStranger)],
+    ),
+    (Start::Each(&[]), &[Step::One(Asks::NoStranger)]),
+    (
+        Start::Each(&[(0, 1, Says::Other)]),
+        &[Step::One(Asks::Stranger(0, 1))],
+    ),
+    (
+        Start::Each(&[(0, 1, Says::Same), (0, 2, Says::Wakes)]),
+        &[Step::One(Asks::Stranger(0, 2))],
+    ),
+    (
+        Start::Each(&[(0, 7, Says::Wakes)]),
+        &[Step::One(Asks::Stranger(0, 7))],
+    ),
+    (
+        Start::Each(&[(9, 1, Says::Same)]),
+        &[Step::One(Asks::Stranger(9, 1))],
+    ),
+    (
+        Start::Each(&[(9, 5, Says::Wakes)]),
+        &[Step::One(Asks::Stranger(9, 5))],
+    ),
+    (
+        Start::Each(&[(9, 1, Says::Same), (4, 3, Says::Wakes), (0, 1, Says::Same)]),
+        &[Step::One(Asks::Stranger(4, 3))],
+    ),
+    (
+        Start::Each(&[(0, 1, Says::Other), (0, 7, Says::Wakes)]),
+        &[Step::One(Asks::Stranger(0, 1))],
+    ),
+    (
+        Start::Each(&[(0, 1, Says::Other), (0, 2, Says::Wakes)]),
+        &[Step::One(Asks::Stranger(0, 2))],
+    ),
+    (
+        Start::Each(&[(9, 1, Says::Same), (9, 5, Says::Wakes)]),
+        &[Step::One(Asks::Stranger(9, 1))],
+    ),
+    (
+        Start::Each(&[(1, 2, Says::Wakes)]),
+        &[Step::Three(Asks::NoStranger)],
+    ),
+    (
+        Start::Each(&[(1, 2, Says::Yields)]),
+        &[Step::Three(Asks::Stranger(1, 2))],
+    ),
+];
 
 // The kernel has one message of t0. What is past it is looked at before what the prefix reports, and that before the
 // early messages; of a thread that the kernel does not know the first number that is told is strange. In the kernel of
 // three messages the second of t1 is a Wakeup.
 #[test]
 fn strangers_to_a_kernel(rt: HostRuntime) -> Result<(), Fail> {
-    for (kernel, messages, wanted) in [
-        (1, [(0, 1, Says::Same)].as_slice(), Ok(())),
-        (1, &[], Ok(())),
-        (1, &[(0, 1, Says::Other)], stranger(0, 1)),
-        (
-            1,
-            &[(0, 1, Says::Same), (0, 2, Says::Wakes)],
-            stranger(0, 2),
-        ),
-        (1, &[(0, 7, Says::Wakes)], stranger(0, 7)),
-        (1, &[(9, 1, Says::Same)], stranger(9, 1)),
-        (1, &[(9, 5, Says::Wakes)], stranger(9, 5)),
-        (
-            1,
-            &[(9, 1, Says::Same), (4, 3, Says::Wakes), (0, 1, Says::Same)],
-            stranger(4, 3),
-        ),
-        (
-            1,
-            &[(0, 1, Says::Other), (0, 7, Says::Wakes)],
-            stranger(0, 1),
-        ),
-        (
-            1,
-            &[(0, 1, Says::Other), (0, 2, Says::Wakes)],
-            stranger(0, 2),
-        ),
-        (
-            1,
-            &[(9, 1, Says::Same), (9, 5, Says::Wakes)],
-            stranger(9, 1),
-        ),
-        (3, &[(1, 2, Says::Wakes)], Ok(())),
-        (3, &[(1, 2, Says::Yields)], stranger(1, 2)),
-    ] {
-        assert_eq!(rt; audited(rt.alloc(), kernel, messages)?, wanted);
-    }
-    Ok(())
+    each_holds(&rt, rt.alloc(), &STRANGERS)
 }
 
 // A view that is not of the kernel's run may know more than the kernel has.
 #[test]
 fn a_view_is_complete_where_it_has_the_last_message(rt: HostRuntime) -> Result<(), Fail> {
-    let rows = [
-        (1, [(0, 1, Says::Same)].as_slice(), 0, true),
-        (1, &[(0, 1, Says::Same)], 1, false),
-        (1, &[], 0, false),
-        (1, &[(0, 1, Says::Same), (0, 2, Says::Wakes)], 0, true),
-        (3, &[(1, 2, Says::Wakes)], 1, false),
+    const CASES: [Case; 5] = [
+        (
+            Start::Each(&[(0, 1, Says::Same)]),
+            &[Step::One(Asks::Complete(0, true))],
+        ),
+        (
+            Start::Each(&[(0, 1, Says::Same)]),
+            &[Step::One(Asks::Complete(1, false))],
+        ),
+        (Start::Each(&[]), &[Step::One(Asks::Complete(0, false))]),
+        (
+            Start::Each(&[(0, 1, Says::Same), (0, 2, Says::Wakes)]),
+            &[Step::One(Asks::Complete(0, true))],
+        ),
+        (
+            Start::Each(&[(1, 2, Says::Wakes)]),
+            &[Step::Three(Asks::Complete(1, false))],
+        ),
     ];
-    for (place, (kernel, messages, thread, wanted)) in rows.iter().enumerate() {
-        let found = is_complete(rt.alloc(), *kernel, messages, *thread)?;
-        assert!(rt; found == *wanted, "row {place}");
-    }
-    Ok(())
-}
-
-// The first message of t2 and of t0.
-fn two_threads(alloc: Global, mask: Mask) -> Result<View, OutOfMemory> {
-    let mut view = View::new(alloc);
-    for name in [Tid(2), Tid(0)] {
-        view.insert(Message {
-            thread: name,
-            number: 1,
-            kind: Kind::Created { mask, ready: false },
-        })?;
-    }
-    Ok(view)
-}
-
-fn walked(alloc: Global, view: &View) -> Result<Vec<(Tid, u32)>, OutOfMemory> {
-    let mut walked = Vec::new(alloc);
-    for (name, held) in view.iter() {
-        walked.push((name, held.upto()))?;
-    }
-    Ok(walked)
-}
-
-/// The names of the two walks.
-fn walked_in_two(alloc: Global, view: &View) -> Result<(Vec<Tid>, Vec<Tid>), OutOfMemory> {
-    let mut near = Vec::new(alloc);
-    let mut behind = Vec::new(alloc);
-    let walks = view.walks();
-    for (name, _) in walks.near {
-        near.push(name)?;
-    }
-    for (name, _) in walks.far {
-        behind.push(name)?;
-    }
-    Ok((near, behind))
-}
-
-#[test]
-fn threads_of_near_names_are_walked_before_the_others(rt: HostRuntime) -> Result<(), Fail> {
-    let mask = Mask::new(3, 2)?;
-    let created = Kind::Created { mask, ready: false };
-    let far = view_of(rt.alloc(), 70_000, 1, created)?;
-    let view = join_both(&two_threads(rt.alloc(), mask)?, &far)?;
-    let (near, behind) = walked_in_two(rt.alloc(), &view)?;
-    assert_eq!(rt; near.as_slice(), [Tid(0), Tid(2)].as_slice());
-    assert_eq!(rt; behind.as_slice(), [Tid(70_000)].as_slice());
-    Ok(())
-}
-
-#[test]
-fn threads_are_walked_in_order(rt: HostRuntime) -> Result<(), Fail> {
-    let view = two_threads(rt.alloc(), Mask::new(3, 2)?)?;
-    let all = walked(rt.alloc(), &view)?;
-    assert_eq!(rt; all.as_slice(), [(Tid(0), 1), (Tid(2), 1)].as_slice());
-    Ok(())
+    each_holds(&rt, rt.alloc(), &CASES)
 }
