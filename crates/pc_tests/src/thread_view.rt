@@ -9,74 +9,109 @@ use std::alloc::Global;
 use std::process::Abort;
 use std::test::Fail;
 
-fn join_both<V: Join>(first: &V, other: &V) -> Result<V, OutOfMemory> {
-    let mut joined = first.try_copy()?;
-    joined.join_from(other)?;
-    Ok(joined)
+/// What a message says.
+#[derive(Clone, Copy)]
+enum Says {
+    /// The thread is created, blocked, with a mask of both CPUs.
+    Blocked,
+    /// The same, ready.
+    Ready,
+    Wakes,
+    /// The thread leaves its CPU after so many ticks.
+    Blocks(u32),
+    Preempts(u32),
+    Yields(u32),
 }
 
-// Created, Wakeup, Blocked 2, Wakeup: the first and the third.
-fn odd(alloc: Global, mask: Mask) -> Result<ThreadView, OutOfMemory> {
-    let ready = false;
-    let mut view = ThreadView::of(alloc, 1, Kind::Created { mask, ready });
-    view.insert(3, Kind::Blocked { ran: 2 })?;
-    Ok(view)
-}
+/// A message by its number.
+type Told = (u32, Says);
 
-// The second and the fourth.
-fn even(alloc: Global) -> Result<ThreadView, OutOfMemory> {
-    let mut view = ThreadView::of(alloc, 2, Kind::Wakeup);
-    view.insert(4, Kind::Wakeup)?;
-    Ok(view)
-}
-
-// Both views in one, taken together from the left or from the right.
-fn both(alloc: Global, turned: bool) -> Result<ThreadView, Fail> {
+fn created(ready: bool) -> Result<Kind, Fail> {
     let mask = Mask::new(3, 2)?;
-    let first = odd(alloc, mask)?;
-    let other = even(alloc)?;
-    let joined = if turned {
-        join_both(&other, &first)
-    } else {
-        join_both(&first, &other)
-    };
-    Ok(joined?)
+    Ok(Kind::Created { mask, ready })
 }
 
-// Without contracts, as the functions below, so that a test's proof does not carry those of thread views.
-fn tells(view: &ThreadView, upto: u32, early: &[u32]) -> bool {
-    view.upto() == upto
-        && view.early().len() == early.len()
-        && view
-            .early()
-            .iter()
-            .zip(early)
-            .all(|(message, number)| message.0 == *number)
+fn kind_of(says: Says) -> Result<Kind, Fail> {
+    match says {
+        Says::Blocked => created(false),
+        Says::Ready => created(true),
+        Says::Wakes => Ok(Kind::Wakeup),
+        Says::Blocks(ran) => Ok(Kind::Blocked { ran }),
+        Says::Preempts(ran) => Ok(Kind::Preempted { ran }),
+        Says::Yields(ran) => Ok(Kind::Yield { ran }),
+    }
 }
 
-fn first_early(view: &ThreadView) -> Option<(u32, Kind)> {
-    view.early().first().copied()
-}
-
-fn is_same(view: &ThreadView, other: &ThreadView) -> bool {
-    view == other
-}
-
-fn covers(view: &ThreadView, other: &ThreadView) -> bool {
-    view.covers(other)
-}
-
-fn puts(view: &mut ThreadView, number: u32, kind: Kind) -> Result<(), Fail> {
-    let message = Message {
-        thread: Tid(0),
+fn message_of(thread: u32, told: Told) -> Result<Message, Fail> {
+    let (number, says) = told;
+    Ok(Message {
+        thread: Tid(thread),
         number,
-        kind,
-    };
+        kind: kind_of(says)?,
+    })
+}
+
+// The view that took in one message.
+fn first_of(alloc: Global, told: Told) -> Result<ThreadView, Fail> {
+    let message = message_of(0, told)?;
+    if message.is_well_formed() {
+        Ok(ThreadView::of(alloc, message.number, message.kind))
+    } else {
+        Err("not well formed".into())
+    }
+}
+
+/// Takes in a message, as a step that always holds where it can be done.
+fn puts(view: &mut ThreadView, told: Told) -> Result<bool, Fail> {
+    let message = message_of(0, told)?;
     if !message.is_well_formed() {
         return Err("not well formed".into());
     }
     view.insert(message.number, message.kind)?;
+    Ok(true)
+}
+
+/// One of the messages that arrive in some order: Created, and then those that tell of one tick each.
+const fn arrival(number: u32) -> Told {
+    if number == 1 {
+        (1, Says::Ready)
+    } else {
+        (number, Says::Preempts(1))
+    }
+}
+
+// The view that took in this message, and then that one.
+fn pair(alloc: Global, first: Told, then: Told) -> Result<ThreadView, Fail> {
+    let mut view = first_of(alloc, first)?;
+    puts(&mut view, then)?;
+    Ok(view)
+}
+
+fn put_all(view: &mut ThreadView, numbers: &[u32]) -> Result<(), Fail> {
+    for number in numbers {
+        puts(view, arrival(*number))?;
+    }
     Ok(())
+}
+
+// The view that took in the message of this number, and then these.
+fn arrived(alloc: Global, first: u32, numbers: &[u32]) -> Result<ThreadView, Fail> {
+    let mut view = first_of(alloc, arrival(first))?;
+    put_all(&mut view, numbers)?;
+    Ok(view)
+}
+
+fn arrived_within(
+    alloc: Global,
+    first: u32,
+    numbers: &[u32],
+    from: usize,
+    to: usize,
+) -> Result<ThreadView, Fail> {
+    match numbers.get(from..to) {
+        Some(some) => arrived(alloc, first, some),
+        None => Err("no such places".into()),
+    }
 }
 
 /// The state of the four messages.
@@ -92,127 +127,376 @@ const fn state(mask: Mask) -> Reported
 }
 
 /// The four messages as a prefix with its state.
-fn folded(alloc: Global, mask: Mask) -> ThreadView {
-    ThreadView::folded(alloc, 4, state(mask))
+fn four(alloc: Global) -> Result<ThreadView, Fail> {
+    let mask = Mask::new(3, 2)?;
+    Ok(ThreadView::folded(alloc, 4, state(mask)))
+}
+
+/// The first nine messages that arrive as a prefix with its state.
+fn nine(alloc: Global) -> Result<ThreadView, Fail> {
+    let reported = Reported {
+        phase: Phase::Ready,
+        mask: Mask::new(3, 2)?,
+        ran: 8,
+        level: Level::LOWEST,
+    };
+    Ok(ThreadView::folded(alloc, 9, reported))
+}
+
+/// So many messages arrive in a scattered order, behind one that is lacking.
+const FAR_APART: u32 = 400;
+
+/// A view of the messages from 2 on, each of which tells as many ticks as its number. Of two that arrive one after another the
+/// numbers are 149 apart, so that most stand among the others, with hundreds before and behind.
+fn scattered(alloc: Global) -> Result<ThreadView, Fail> {
+    let mut view = ThreadView::of(alloc, 2, Kind::Preempted { ran: 2 });
+    for turn in 1..FAR_APART {
+        let number = 2 + turn * 149 % FAR_APART;
+        puts(&mut view, (number, Says::Preempts(number)))?;
+    }
+    Ok(view)
+}
+
+/// A view of some messages.
+#[derive(Clone, Copy)]
+enum Part {
+    /// Two messages arrived, in this order.
+    Pair(Told, Told),
+    /// The message of this number arrived, and then these.
+    Arrived(u32, &'static [u32]),
+    /// The same of those from one place to another.
+    Within(u32, &'static [u32], usize, usize),
+    /// The four messages of both pairs, as a prefix.
+    Four,
+    /// The first nine that arrive, as a prefix.
+    Nine,
+    Scattered,
+}
+
+/// Created, Wakeup, Blocked 2, Wakeup: the first and the third.
+const ODD: Part = Part::Pair((1, Says::Blocked), (3, Says::Blocks(2)));
+
+/// The second and the fourth.
+const EVEN: Part = Part::Pair((2, Says::Wakes), (4, Says::Wakes));
+
+fn part_of(alloc: Global, part: Part) -> Result<ThreadView, Fail> {
+    match part {
+        Part::Pair(first, then) => pair(alloc, first, then),
+        Part::Arrived(first, numbers) => arrived(alloc, first, numbers),
+        Part::Within(first, numbers, from, to) => arrived_within(alloc, first, numbers, from, to),
+        Part::Four => four(alloc),
+        Part::Nine => nine(alloc),
+        Part::Scattered => scattered(alloc),
+    }
+}
+
+fn join_both<V: Join>(first: &V, other: &V) -> Result<V, OutOfMemory> {
+    let mut joined = first.try_copy()?;
+    joined.join_from(other)?;
+    Ok(joined)
+}
+
+fn joined_with(alloc: Global, view: &ThreadView, part: Part) -> Result<ThreadView, Fail> {
+    let other = part_of(alloc, part)?;
+    Ok(join_both(view, &other)?)
+}
+
+/// The join of a view of the first messages and one of the others.
+fn joined(alloc: Global, first: Part, others: Part) -> Result<ThreadView, Fail> {
+    let view = part_of(alloc, first)?;
+    joined_with(alloc, &view, others)
+}
+
+/// A view that steps begin with, or that one is compared with.
+#[derive(Clone, Copy)]
+enum Start {
+    Of(Part),
+    Joined(Part, Part),
+}
+
+fn start_of(alloc: Global, start: Start) -> Result<ThreadView, Fail> {
+    match start {
+        Start::Of(part) => part_of(alloc, part),
+        Start::Joined(first, others) => joined(alloc, first, others),
+    }
+}
+
+// Without contracts, as the functions below, so that a test's proof does not carry those of thread views.
+fn are_early(view: &ThreadView, numbers: &[u32]) -> bool {
+    let mut wanted = numbers.iter();
+    for (number, _) in view.early() {
+        if wanted.next() != Some(number) {
+            return false;
+        }
+    }
+    wanted.next().is_none()
+}
+
+fn tells(view: &ThreadView, upto: u32, early: &[u32]) -> bool {
+    view.upto() == upto && are_early(view, early)
+}
+
+fn first_early(view: &ThreadView) -> Option<(u32, Kind)> {
+    view.early().first().copied()
+}
+
+fn begins_with(view: &ThreadView, told: Told) -> Result<bool, Fail> {
+    let (number, says) = told;
+    let kind = kind_of(says)?;
+    Ok(first_early(view) == Some((number, kind)))
+}
+
+fn is_same(view: &ThreadView, other: &ThreadView) -> bool {
+    view == other
+}
+
+fn covers(view: &ThreadView, other: &ThreadView) -> bool {
+    view.covers(other)
+}
+
+fn ran(view: &ThreadView) -> Option<u64> {
+    match view.reported() {
+        Some(reported) => Some(reported.ran),
+        None => None,
+    }
+}
+
+// Whether the view tells the state of all thirteen messages, and nothing else.
+fn is_whole(view: &ThreadView) -> bool {
+    view.upto() == 13 && view.early().is_empty() && ran(view) == Some(12)
+}
+
+/// Whether the view tells each scattered message in its place, with its own ticks.
+fn ascends(view: &ThreadView) -> bool {
+    view.early().len() == FAR_APART as usize
+        && view.early().iter().zip(2..FAR_APART + 2).all(|(message, number)| *message
+            == (number, Kind::Preempted { ran: number }))
+}
+
+/// Whether the view has just these of the numbers, wherever one looks first.
+fn has_these(view: &ThreadView, numbers: &[(u32, bool)]) -> bool {
+    for place in [0, 7, 148, 399, 400, 5_000] {
+        for (number, known) in numbers {
+            let (has, _) = view.has_from(*number, place);
+            if has != *known {
+                return false;
+            }
+        }
+    }
+    true
 }
 
 /// What is done to a thread's view, or told of it.
 #[derive(Clone, Copy)]
-enum Step<'a> {
+enum Step {
     /// Takes in a message.
-    Puts(u32, Kind),
-    /// Takes in one of the thirteen messages.
+    Puts(u32, Says),
+    /// Takes in one of the messages that arrive.
     Takes(u32),
+    /// Closes one gap after another, while a far message waits.
+    Closes,
     /// How far the view goes without a gap, and which numbers it has past it.
-    Tells(u32, &'a [u32]),
+    Tells(u32, &'static [u32]),
     Has(u32, bool),
-    Reports(Option<Reported>),
-    FirstEarly(u32, Kind),
+    /// It has just these of the numbers, wherever one looks first.
+    HasThese(&'static [(u32, bool)]),
+    /// It reports the state of the four messages.
+    ReportsFour,
+    ReportsNothing,
+    /// The ticks that its first messages report.
+    Ran(u64),
+    /// The first early message.
+    Begins(u32, Says),
     Nothing(bool),
     /// It is as its copy.
     Copied,
-    /// It is as both views in one, taken together this way round.
-    Joined(bool),
-    /// It is as the four messages as a prefix.
-    Folded,
-    /// Whether it is as the second of both views, covers it, and is covered by it.
-    Even(bool, bool, bool),
-    /// It is as the views that took in the last and the first of the messages in order of `GAPS`, joined.
-    Turned,
+    /// It is as that view.
+    As(Start),
+    /// Whether it is as that view, covers it, and is covered by it.
+    Beside(Part, bool, bool, bool),
     /// It tells the state of all thirteen messages, and nothing else.
     Whole,
+    /// It tells each scattered message in its place.
+    Ascends,
 }
 
-fn beside_even(alloc: Global, view: &ThreadView) -> Result<(bool, bool, bool), Fail> {
-    let part = even(alloc)?;
-    Ok((
-        is_same(view, &part),
-        covers(view, &part),
-        covers(&part, view),
-    ))
+fn is_view(view: &ThreadView, other: Result<ThreadView, Fail>) -> Result<bool, Fail> {
+    Ok(is_same(view, &other?))
 }
 
-fn tells_of(alloc: Global, view: &ThreadView, step: &Step<'_>) -> Result<bool, Fail> {
-    match *step {
-        Step::Tells(upto, early) => Ok(tells(view, upto, early)),
-        Step::Has(number, wanted) => Ok(view.has(number) == wanted),
-        Step::Reports(wanted) => Ok(view.reported() == wanted),
-        Step::FirstEarly(number, kind) => Ok(first_early(view) == Some((number, kind))),
-        Step::Nothing(wanted) => Ok(view.is_empty() == wanted),
-        Step::Copied => Ok(is_same(view, &view.try_copy()?)),
-        Step::Joined(turned) => Ok(is_same(view, &both(alloc, turned)?)),
-        Step::Folded => Ok(is_same(view, &folded(alloc, Mask::new(3, 2)?))),
-        Step::Even(same, over, under) => Ok(beside_even(alloc, view)? == (same, over, under)),
-        Step::Turned => {
-            let turned = arrived_apart(alloc, &GAPS[7..], &GAPS[..6])?;
-            Ok(is_same(view, &turned))
-        }
-        Step::Whole => Ok(is_whole(view)),
-        Step::Puts(..) | Step::Takes(_) => Ok(false),
-    }
+fn copied(view: &ThreadView) -> Result<ThreadView, Fail> {
+    Ok(view.try_copy()?)
 }
 
-fn holds(alloc: Global, view: &mut ThreadView, step: &Step<'_>) -> Result<bool, Fail> {
-    match *step {
-        Step::Puts(number, kind) => puts(view, number, kind)?,
-        Step::Takes(number) => take_in(view, number)?,
-        _ => return tells_of(alloc, view, step),
-    }
-    Ok(true)
+fn beside(view: &ThreadView, part: &ThreadView) -> (bool, bool, bool) {
+    (is_same(view, part), covers(view, part), covers(part, view))
 }
 
-/// Asserts each step of a view, after the steps before it.
-fn each_holds(
-    rt: &impl Abort,
+fn is_beside(
     alloc: Global,
-    mut view: ThreadView,
-    steps: &[Step<'_>],
-) -> Result<(), Fail> {
-    for (place, step) in steps.iter().enumerate() {
-        assert!(rt; holds(alloc, &mut view, step)?, "step {place}");
+    view: &ThreadView,
+    part: Part,
+    wanted: (bool, bool, bool),
+) -> Result<bool, Fail> {
+    let part = part_of(alloc, part)?;
+    Ok(beside(view, &part) == wanted)
+}
+
+fn reports_four(view: &ThreadView) -> bool {
+    match view.reported() {
+        Some(it) => {
+            it.phase == Phase::Ready
+                && it.mask.bits() == 3
+                && it.ran == 2
+                && it.level == Level::LOWEST
+        }
+        None => false,
     }
+}
+
+fn reads(view: &ThreadView, step: &Step) -> bool {
+    match *step {
+        Step::Tells(upto, early) => tells(view, upto, early),
+        Step::Has(number, wanted) => view.has(number) == wanted,
+        Step::HasThese(numbers) => has_these(view, numbers),
+        Step::ReportsFour => reports_four(view),
+        Step::ReportsNothing => view.reported().is_none(),
+        Step::Ran(wanted) => ran(view) == Some(wanted),
+        Step::Nothing(wanted) => view.is_empty() == wanted,
+        Step::Whole => is_whole(view),
+        Step::Ascends => ascends(view),
+        _ => false,
+    }
+}
+
+fn tells_of(alloc: Global, view: &ThreadView, step: &Step) -> Result<bool, Fail> {
+    match *step {
+        Step::Begins(number, says) => begins_with(view, (number, says)),
+        Step::Copied => is_view(view, copied(view)),
+        Step::As(start) => is_view(view, start_of(alloc, start)),
+        Step::Beside(part, same, over, under) => {
+            is_beside(alloc, view, part, (same, over, under))
+        }
+        _ => Ok(reads(view, step)),
+    }
+}
+
+/// Closes a gap of a view with a far message: the number after it, and then the one that is lacking. Whether the view tells
+/// nothing else.
+fn closes(view: &mut ThreadView, before: u32, lacking: u32, after: u32) -> Result<bool, Fail> {
+    puts(view, (after, Says::Preempts(1)))?;
+    let waits = tells(view, before, &[after, 9_000]);
+    puts(view, (lacking, Says::Preempts(1)))?;
+    Ok(waits && tells(view, after, &[9_000]))
+}
+
+/// Closes one gap after another of a view with a far message. The first pair of messages after which it tells anything else.
+fn first_open(view: &mut ThreadView) -> Result<Option<u32>, Fail> {
+    for pair in 1..500u32 {
+        if !closes(view, 2 * pair - 1, 2 * pair, 2 * pair + 1)? {
+            return Ok(Some(pair));
+        }
+    }
+    Ok(None)
+}
+
+fn holds(alloc: Global, view: &mut ThreadView, step: &Step) -> Result<bool, Fail> {
+    match *step {
+        Step::Puts(number, says) => puts(view, (number, says)),
+        Step::Takes(number) => puts(view, arrival(number)),
+        Step::Closes => Ok(first_open(view)? == None),
+        _ => tells_of(alloc, view, step),
+    }
+}
+
+/// The place of the first step that does not hold of the view, after the steps before it.
+fn first_wrong_step(
+    alloc: Global,
+    view: &mut ThreadView,
+    steps: &[Step],
+) -> Result<Option<usize>, Fail> {
+    for (place, step) in steps.iter().enumerate() {
+        if !holds(alloc, view, step)? {
+            return Ok(Some(place));
+        }
+    }
+    Ok(None)
+}
+
+/// A view, and steps of it.
+type Case = (Start, &'static [Step]);
+
+fn first_wrong_of(alloc: Global, case: &Case) -> Result<Option<usize>, Fail> {
+    let (start, steps) = *case;
+    let mut view = start_of(alloc, start)?;
+    first_wrong_step(alloc, &mut view, steps)
+}
+
+/// The places of the first case with a wrong step, and of that step.
+fn first_wrong(alloc: Global, cases: &[Case]) -> Result<Option<(usize, usize)>, Fail> {
+    for (place, case) in cases.iter().enumerate() {
+        if let Some(step) = first_wrong_of(alloc, case)? {
+            return Ok(Some((place, step)));
+        }
+    }
+    Ok(None)
+}
+
+/// Asserts each step of each view, after the steps before it.
+fn each_holds(rt: &impl Abort, alloc: Global, cases: &[Case]) -> Result<(), Fail> {
+    assert_eq!(rt; first_wrong(alloc, cases)?, None);
     Ok(())
 }
 
 #[test]
 fn messages_past_a_gap_are_early(rt: HostRuntime) -> Result<(), Fail> {
-    let of_odd = [
-        Step::Tells(1, &[3]),
-        Step::Has(1, true),
-        Step::Has(2, false),
-        Step::Has(3, true),
+    const CASES: &[Case] = &[
+        (
+            Start::Of(ODD),
+            &[
+                Step::Tells(1, &[3]),
+                Step::Has(1, true),
+                Step::Has(2, false),
+                Step::Has(3, true),
+            ],
+        ),
+        (
+            Start::Of(EVEN),
+            &[
+                Step::Tells(0, &[2, 4]),
+                Step::ReportsNothing,
+                Step::Has(1, false),
+                Step::Has(2, true),
+                Step::Has(3, false),
+                Step::Has(4, true),
+                Step::Nothing(false),
+                Step::Copied,
+            ],
+        ),
     ];
-    each_holds(&rt, rt.alloc(), odd(rt.alloc(), Mask::new(3, 2)?)?, &of_odd)?;
-    let of_even = [
-        Step::Tells(0, &[2, 4]),
-        Step::Reports(None),
-        Step::Has(1, false),
-        Step::Has(2, true),
-        Step::Has(3, false),
-        Step::Has(4, true),
-        Step::Nothing(false),
-        Step::Copied,
-    ];
-    each_holds(&rt, rt.alloc(), even(rt.alloc())?, &of_even)
+    each_holds(&rt, rt.alloc(), CASES)
 }
 
 // A known number changes nothing, and a far one is early.
 #[test]
 fn a_join_closes_the_gaps_and_covers_its_parts(rt: HostRuntime) -> Result<(), Fail> {
-    let steps = [
-        Step::Tells(4, &[]),
-        Step::Reports(Some(state(Mask::new(3, 2)?))),
-        Step::Joined(true),
-        Step::Folded,
-        Step::Even(false, true, false),
-        Step::Puts(3, Kind::Blocked { ran: 2 }),
-        Step::Joined(false),
-        Step::Puts(1_000_000, Kind::Wakeup),
-        Step::Tells(4, &[1_000_000]),
-        Step::FirstEarly(1_000_000, Kind::Wakeup),
-        Step::Copied,
-    ];
-    each_holds(&rt, rt.alloc(), both(rt.alloc(), false)?, &steps)
+    const CASES: &[Case] = &[(
+        Start::Joined(ODD, EVEN),
+        &[
+            Step::Tells(4, &[]),
+            Step::ReportsFour,
+            Step::As(Start::Joined(EVEN, ODD)),
+            Step::As(Start::Of(Part::Four)),
+            Step::Beside(EVEN, false, true, false),
+            Step::Puts(3, Says::Blocks(2)),
+            Step::As(Start::Joined(ODD, EVEN)),
+            Step::Puts(1_000_000, Says::Wakes),
+            Step::Tells(4, &[1_000_000]),
+            Step::Begins(1_000_000, Says::Wakes),
+            Step::Copied,
+        ],
+    )];
+    each_holds(&rt, rt.alloc(), CASES)
 }
 
 const ASCENDING: [u32; 12] = [1, 2, 3, 4, 5, 6, 7, 8, 9, 10, 11, 12];
@@ -239,251 +523,159 @@ const TWO_TO_50: [u32; 49] = [
     28, 29, 30, 31, 32, 33, 34, 35, 36, 37, 38, 39, 40, 41, 42, 43, 44, 45, 46, 47, 48, 49, 50,
 ];
 
-// The view that took in the fiftieth message, and then these.
-fn late(alloc: Global, numbers: &[u32]) -> Result<ThreadView, Fail> {
-    let mut view = ThreadView::of(alloc, 50, Kind::Preempted { ran: 1 });
-    for number in numbers {
-        puts(&mut view, *number, Kind::Preempted { ran: 1 })?;
-    }
-    Ok(view)
-}
+/// The numbers from 10 to 50 in ascending order.
+const TEN_TO_50: [u32; 41] = [
+    10, 11, 12, 13, 14, 15, 16, 17, 18, 19, 20, 21, 22, 23, 24, 25, 26, 27, 28, 29, 30, 31, 32, 33,
+    34, 35, 36, 37, 38, 39, 40, 41, 42, 43, 44, 45, 46, 47, 48, 49, 50,
+];
 
 // Each batch comes before those that are held, and the numbers of it stand close behind the first; what is held already, near
 // the front or not, changes nothing.
 #[test]
 fn late_batches_stand_in_ascending_order(rt: HostRuntime) -> Result<(), Fail> {
-    let view = late(rt.alloc(), &LATE_BATCHES[..40])?;
-    let steps = [
-        Step::Tells(0, &TWO_TO_50[8..]),
-        Step::Has(25, true),
-        Step::Has(26, true),
-        Step::Has(9, false),
-        Step::Has(51, false),
-    ];
-    each_holds(&rt, rt.alloc(), view, &steps)?;
-    let whole = [
-        Step::Puts(12, Kind::Preempted { ran: 1 }),
-        Step::Puts(40, Kind::Preempted { ran: 1 }),
-        Step::Has(50, true),
-        Step::Puts(
-            1,
-            Kind::Created {
-                mask: Mask::new(3, 2)?,
-                ready: true,
-            },
+    const CASES: &[Case] = &[
+        (
+            Start::Of(Part::Within(50, &LATE_BATCHES, 0, 40)),
+            &[
+                Step::Tells(0, &TEN_TO_50),
+                Step::Has(25, true),
+                Step::Has(26, true),
+                Step::Has(9, false),
+                Step::Has(51, false),
+            ],
         ),
-        Step::Tells(50, &[]),
+        (
+            Start::Of(Part::Arrived(50, &LATE_BATCHES)),
+            &[
+                Step::Puts(12, Says::Preempts(1)),
+                Step::Puts(40, Says::Preempts(1)),
+                Step::Has(50, true),
+                Step::Puts(1, Says::Ready),
+                Step::Tells(50, &[]),
+            ],
+        ),
+        (
+            Start::Of(Part::Within(50, &TWO_TO_50, 0, 48)),
+            &[Step::As(Start::Of(Part::Arrived(50, &LATE_BATCHES)))],
+        ),
     ];
-    each_holds(&rt, rt.alloc(), late(rt.alloc(), &LATE_BATCHES)?, &whole)?;
-    let turned = late(rt.alloc(), &TWO_TO_50[..48])?;
-    let same = is_same(&turned, &late(rt.alloc(), &LATE_BATCHES)?);
-    assert!(rt; same);
-    Ok(())
-}
-
-// Takes in one of thirteen messages: Created, and then twelve that tell of one tick each.
-fn take_in(view: &mut ThreadView, number: u32) -> Result<(), Fail> {
-    if number == 1 {
-        let mask = Mask::new(3, 2)?;
-        view.insert(1, Kind::Created { mask, ready: true })?;
-        return Ok(());
-    }
-    if number < 1 || number > 13 {
-        return Err(Fail::from("no number of these tests"));
-    }
-    view.insert(number, Kind::Preempted { ran: 1 })?;
-    Ok(())
-}
-
-// The view that took in the thirteenth message, and then these.
-fn arrived(alloc: Global, numbers: &[u32]) -> Result<ThreadView, Fail> {
-    let mut view = ThreadView::of(alloc, 13, Kind::Preempted { ran: 1 });
-    for number in numbers {
-        take_in(&mut view, *number)?;
-    }
-    Ok(view)
-}
-
-// Whether the view tells the state of all thirteen messages, and nothing else.
-fn is_whole(view: &ThreadView) -> bool {
-    let ran = view.reported().map(|reported| reported.ran);
-    view.upto() == 13 && view.early().is_empty() && ran == Some(12)
+    each_holds(&rt, rt.alloc(), CASES)
 }
 
 /// All thirteen but the first.
 const PAST_THE_FIRST: [u32; 12] = [2, 3, 4, 5, 6, 7, 8, 9, 10, 11, 12, 13];
 
-/// A view of the first nine messages as a prefix, which they report.
-fn nine(alloc: Global) -> Result<ThreadView, Fail> {
-    let ready = true;
-    let mask = Mask::new(3, 2)?;
-    let mut nine = ThreadView::of(alloc, 1, Kind::Created { mask, ready });
-    for number in &ASCENDING[1..9] {
-        take_in(&mut nine, *number)?;
-    }
-    let reported = nine.reported().ok_or("no state")?;
-    if reported.ran != 8 {
-        return Err("other ticks".into());
-    }
-    Ok(ThreadView::folded(alloc, 9, reported))
-}
-
-// The join of the views that took in these and those.
-fn arrived_apart(alloc: Global, these: &[u32], those: &[u32]) -> Result<ThreadView, Fail> {
-    let first = arrived(alloc, these)?;
-    let other = arrived(alloc, those)?;
-    Ok(join_both(&first, &other)?)
-}
-
-/// A view of which the prefix is less than that of the view that it is joined with.
-fn past_a_prefix(alloc: Global) -> Result<ThreadView, Fail> {
-    let view = arrived(alloc, &DESCENDING[..11])?;
-    Ok(join_both(&view, &nine(alloc)?)?)
-}
-
 #[test]
 fn messages_in_any_order_are_folded(rt: HostRuntime) -> Result<(), Fail> {
-    for order in [ASCENDING, DESCENDING, OUTWARDS, SCATTERED, BATCHES, GAPS] {
-        let view = arrived(rt.alloc(), &order)?;
-        each_holds(&rt, rt.alloc(), view, &[Step::Whole])?;
-    }
-    // A greater prefix leaves the messages past it.
-    each_holds(&rt, rt.alloc(), past_a_prefix(rt.alloc())?, &[Step::Whole])
+    const WHOLE: &[Step] = &[Step::Whole];
+    const CASES: &[Case] = &[
+        (
+            Start::Of(Part::Within(1, &ASCENDING, 1, 9)),
+            &[
+                Step::Tells(9, &[]),
+                Step::As(Start::Of(Part::Nine)),
+                Step::Ran(8),
+            ],
+        ),
+        (Start::Of(Part::Arrived(13, &ASCENDING)), WHOLE),
+        (Start::Of(Part::Arrived(13, &DESCENDING)), WHOLE),
+        (Start::Of(Part::Arrived(13, &OUTWARDS)), WHOLE),
+        (Start::Of(Part::Arrived(13, &SCATTERED)), WHOLE),
+        (Start::Of(Part::Arrived(13, &BATCHES)), WHOLE),
+        (Start::Of(Part::Arrived(13, &GAPS)), WHOLE),
+        // A view of which the prefix is less than that of the view that it is joined with: a greater prefix leaves the
+        // messages past it.
+        (
+            Start::Joined(Part::Within(13, &DESCENDING, 0, 11), Part::Nine),
+            WHOLE,
+        ),
+    ];
+    each_holds(&rt, rt.alloc(), CASES)
 }
 
 #[test]
 fn early_messages_ascend_whatever_their_order(rt: HostRuntime) -> Result<(), Fail> {
-    for order in [DESCENDING, OUTWARDS, SCATTERED, BATCHES] {
-        let view = arrived(rt.alloc(), &order[..11])?;
-        each_holds(&rt, rt.alloc(), view, &[Step::Tells(0, &PAST_THE_FIRST)])?;
-    }
-    // A gap that closes takes the next messages along.
-    let closes = [
-        Step::Tells(2, &[4, 6, 8, 10, 12, 13]),
-        Step::Takes(3),
-        Step::Tells(4, &[6, 8, 10, 12, 13]),
-        Step::Takes(7),
-        Step::Tells(4, &[6, 7, 8, 10, 12, 13]),
-        Step::Takes(5),
-        Step::Tells(8, &[10, 12, 13]),
+    const ASCEND: &[Step] = &[Step::Tells(0, &PAST_THE_FIRST)];
+    const CASES: &[Case] = &[
+        (Start::Of(Part::Within(13, &DESCENDING, 0, 11)), ASCEND),
+        (Start::Of(Part::Within(13, &OUTWARDS, 0, 11)), ASCEND),
+        (Start::Of(Part::Within(13, &SCATTERED, 0, 11)), ASCEND),
+        (Start::Of(Part::Within(13, &BATCHES, 0, 11)), ASCEND),
+        // A gap that closes takes the next messages along.
+        (
+            Start::Of(Part::Within(13, &GAPS, 0, 7)),
+            &[
+                Step::Tells(2, &[4, 6, 8, 10, 12, 13]),
+                Step::Takes(3),
+                Step::Tells(4, &[6, 8, 10, 12, 13]),
+                Step::Takes(7),
+                Step::Tells(4, &[6, 7, 8, 10, 12, 13]),
+                Step::Takes(5),
+                Step::Tells(8, &[10, 12, 13]),
+            ],
+        ),
+        (
+            Start::Joined(
+                Part::Within(13, &GAPS, 0, 6),
+                Part::Within(13, &GAPS, 7, 12),
+            ),
+            &[
+                Step::As(Start::Joined(
+                    Part::Within(13, &GAPS, 7, 12),
+                    Part::Within(13, &GAPS, 0, 6),
+                )),
+                Step::Tells(0, &PAST_THE_FIRST),
+                Step::Takes(1),
+                Step::Whole,
+            ],
+        ),
     ];
-    each_holds(&rt, rt.alloc(), arrived(rt.alloc(), &GAPS[..7])?, &closes)?;
-    let joined = [
-        Step::Turned,
-        Step::Tells(0, &PAST_THE_FIRST),
-        Step::Takes(1),
-        Step::Whole,
-    ];
-    let apart = arrived_apart(rt.alloc(), &GAPS[..6], &GAPS[7..])?;
-    each_holds(&rt, rt.alloc(), apart, &joined)
-}
-
-/// A view of the first message, and of one that is far.
-fn with_a_far_message(alloc: Global) -> Result<ThreadView, Fail> {
-    let mask = Mask::new(3, 2)?;
-    let mut view = ThreadView::of(alloc, 9_000, Kind::Preempted { ran: 1 });
-    view.insert(1, Kind::Created { mask, ready: true })?;
-    Ok(view)
-}
-
-/// Closes one gap after another of a view with a far message. The first pair of messages after which it tells anything else.
-fn first_open(view: &mut ThreadView) -> Result<Option<u32>, Fail> {
-    for pair in 1..500u32 {
-        puts(view, 2 * pair + 1, Kind::Preempted { ran: 1 })?;
-        let waits = tells(view, 2 * pair - 1, &[2 * pair + 1, 9_000]);
-        puts(view, 2 * pair, Kind::Preempted { ran: 1 })?;
-        if !waits || !tells(view, 2 * pair + 1, &[9_000]) {
-            return Ok(Some(pair));
-        }
-    }
-    Ok(None)
+    each_holds(&rt, rt.alloc(), CASES)
 }
 
 #[test]
 fn a_far_message_waits_while_gaps_close(rt: HostRuntime) -> Result<(), Fail> {
-    let mut view = with_a_far_message(rt.alloc())?;
-    assert_eq!(rt; first_open(&mut view)?, None);
-    each_holds(&rt, rt.alloc(), view, &[Step::Has(9_000, true)])
-}
-
-/// So many messages arrive in a scattered order, behind one that is lacking.
-const FAR_APART: u32 = 400;
-
-/// A view of the messages from 2 on, each of which tells as many ticks as its number. Of two that arrive one after another the
-/// numbers are 149 apart, so that most stand among the others, with hundreds before and behind.
-fn scattered(alloc: Global) -> Result<ThreadView, Fail> {
-    let mut view = ThreadView::of(alloc, 2, Kind::Preempted { ran: 2 });
-    for turn in 1..FAR_APART {
-        let number = 2 + turn * 149 % FAR_APART;
-        puts(&mut view, number, Kind::Preempted { ran: number })?;
-    }
-    Ok(view)
-}
-
-/// Whether the view tells each scattered message in its place, with its own ticks.
-fn ascends(view: &ThreadView) -> bool {
-    view.early().len() == FAR_APART as usize
-        && view.early().iter().zip(2..FAR_APART + 2).all(|(message, number)| *message
-            == (number, Kind::Preempted { ran: number }))
-}
-
-/// Whether the view has just these of the numbers, wherever one looks first.
-fn has_these(view: &ThreadView, numbers: &[(u32, bool)]) -> bool {
-    for place in [0, 7, 148, 399, 400, 5_000] {
-        for (number, known) in numbers {
-            let (has, _) = view.has_from(*number, place);
-            if has != *known {
-                return false;
-            }
-        }
-    }
-    true
+    const CASES: &[Case] = &[(
+        Start::Of(Part::Arrived(9_000, &[1])),
+        &[Step::Closes, Step::Has(9_000, true)],
+    )];
+    each_holds(&rt, rt.alloc(), CASES)
 }
 
 #[test]
 fn scattered_messages_stand_in_ascending_order(rt: HostRuntime) -> Result<(), Fail> {
-    let mut view = scattered(rt.alloc())?;
-    assert!(rt; ascends(&view));
-    let numbers = [
-        (1, false),
-        (2, true),
-        (9, true),
-        (150, true),
-        (401, true),
-        (402, false),
-    ];
-    assert!(rt; has_these(&view, &numbers));
-    let mask = Mask::new(3, 2)?;
-    puts(&mut view, 1, Kind::Created { mask, ready: true })?;
-    let ran = view.reported().map(|reported| reported.ran);
-    assert_eq!(rt; ran, Some(80_600));
-    each_holds(&rt, rt.alloc(), view, &[Step::Tells(401, &[])])
+    const CASES: &[Case] = &[(
+        Start::Of(Part::Scattered),
+        &[
+            Step::Ascends,
+            Step::HasThese(&[
+                (1, false),
+                (2, true),
+                (9, true),
+                (150, true),
+                (401, true),
+                (402, false),
+            ]),
+            Step::Puts(1, Says::Ready),
+            Step::Ran(80_600),
+            Step::Tells(401, &[]),
+        ],
+    )];
+    each_holds(&rt, rt.alloc(), CASES)
 }
 
 /// What is put under a thread's name as a piece, or told of the thread.
 #[derive(Clone, Copy)]
-enum Put<'a> {
-    One(u32, u32, Kind),
+enum Put {
+    One(u32, u32, Says),
     /// The four messages as a prefix.
     Four(u32),
-    Tells(u32, u32, &'a [u32]),
-    /// The first early message of the thread.
-    Begins(u32, u32, Kind),
-    /// The ticks that its first messages report.
-    Ran(u32, u64),
+    /// What the thread's view tells; nothing holds where there is none.
+    Of(u32, Step),
 }
 
-fn puts_one(
-    threads: &mut ByName<ThreadView>,
-    thread: u32,
-    number: u32,
-    kind: Kind,
-) -> Result<(), Fail> {
-    let message = Message {
-        thread: Tid(thread),
-        number,
-        kind,
-    };
+fn puts_one(threads: &mut ByName<ThreadView>, thread: u32, told: Told) -> Result<bool, Fail> {
+    let message = message_of(thread, told)?;
     if !message.is_well_formed() {
         return Err("not well formed".into());
     }
@@ -492,82 +684,83 @@ fn puts_one(
         kind: message.kind,
     };
     threads.put_piece(message.thread, one)?;
-    Ok(())
+    Ok(true)
 }
 
-fn puts_four(threads: &mut ByName<ThreadView>, thread: u32) -> Result<(), Fail> {
+fn puts_four(threads: &mut ByName<ThreadView>, thread: u32) -> Result<bool, Fail> {
     let reported = state(Mask::new(3, 2)?);
     threads.put_piece(Tid(thread), FoldedPrefix { upto: 4, reported })?;
-    Ok(())
-}
-
-fn tells_thread(threads: &ByName<ThreadView>, thread: u32, upto: u32, early: &[u32]) -> bool {
-    match threads.get(Tid(thread)) {
-        Some(view) => tells(view, upto, early),
-        None => false,
-    }
-}
-
-fn begins_with(threads: &ByName<ThreadView>, thread: u32, number: u32, kind: Kind) -> bool {
-    match threads.get(Tid(thread)) {
-        Some(view) => first_early(view) == Some((number, kind)),
-        None => false,
-    }
-}
-
-fn has_run(threads: &ByName<ThreadView>, thread: u32, ran: u64) -> bool {
-    match threads.get(Tid(thread)) {
-        Some(view) => view.reported().map(|reported| reported.ran) == Some(ran),
-        None => false,
-    }
-}
-
-fn put_holds(threads: &mut ByName<ThreadView>, step: &Put<'_>) -> Result<bool, Fail> {
-    match *step {
-        Put::One(thread, number, kind) => puts_one(threads, thread, number, kind)?,
-        Put::Four(thread) => puts_four(threads, thread)?,
-        Put::Tells(thread, upto, early) => return Ok(tells_thread(threads, thread, upto, early)),
-        Put::Begins(thread, number, kind) => {
-            return Ok(begins_with(threads, thread, number, kind));
-        }
-        Put::Ran(thread, ran) => return Ok(has_run(threads, thread, ran)),
-    }
     Ok(true)
+}
+
+fn thread_tells(
+    alloc: Global,
+    threads: &ByName<ThreadView>,
+    thread: u32,
+    step: &Step,
+) -> Result<bool, Fail> {
+    match threads.get(Tid(thread)) {
+        Some(view) => tells_of(alloc, view, step),
+        None => Ok(false),
+    }
+}
+
+fn put_holds(alloc: Global, threads: &mut ByName<ThreadView>, put: &Put) -> Result<bool, Fail> {
+    match put {
+        Put::One(thread, number, says) => puts_one(threads, *thread, (*number, *says)),
+        Put::Four(thread) => puts_four(threads, *thread),
+        Put::Of(thread, step) => thread_tells(alloc, threads, *thread, step),
+    }
+}
+
+/// The place of the first that does not hold, after those before it.
+fn first_wrong_of_puts(
+    alloc: Global,
+    threads: &mut ByName<ThreadView>,
+    puts: &[Put],
+) -> Result<Option<usize>, Fail> {
+    for (place, put) in puts.iter().enumerate() {
+        if !put_holds(alloc, threads, put)? {
+            return Ok(Some(place));
+        }
+    }
+    Ok(None)
+}
+
+fn first_wrong_put(alloc: Global, puts: &[Put]) -> Result<Option<usize>, Fail> {
+    let mut threads = ByName::new(alloc);
+    first_wrong_of_puts(alloc, &mut threads, puts)
 }
 
 // A known message changes nothing, a prefix takes along what follows it, and one that is known changes nothing.
 #[test]
 fn pieces_are_joined_under_near_and_far_names(rt: HostRuntime) -> Result<(), Fail> {
-    let mask = Mask::new(3, 2)?;
-    let steps = [
-        Put::One(2, 3, Kind::Wakeup),
-        Put::One(2, 6, Kind::Wakeup),
-        Put::One(70_000, 1, Kind::Created { mask, ready: true }),
-        Put::One(70_000, 5, Kind::Wakeup),
-        Put::Tells(2, 0, &[3, 6]),
-        Put::Tells(70_000, 1, &[5]),
-        Put::One(2, 3, Kind::Yield { ran: 1 }),
-        Put::Tells(2, 0, &[3, 6]),
-        Put::Begins(2, 3, Kind::Wakeup),
+    const PUTS: &[Put] = &[
+        Put::One(2, 3, Says::Wakes),
+        Put::One(2, 6, Says::Wakes),
+        Put::One(70_000, 1, Says::Ready),
+        Put::One(70_000, 5, Says::Wakes),
+        Put::Of(2, Step::Tells(0, &[3, 6])),
+        Put::Of(70_000, Step::Tells(1, &[5])),
+        Put::One(2, 3, Says::Yields(1)),
+        Put::Of(2, Step::Tells(0, &[3, 6])),
+        Put::Of(2, Step::Begins(3, Says::Wakes)),
         Put::Four(70_000),
         Put::Four(2),
         Put::Four(9),
-        Put::Tells(70_000, 5, &[]),
-        Put::Tells(2, 4, &[6]),
-        Put::Tells(9, 4, &[]),
-        Put::Ran(9, 2),
-        Put::Ran(70_000, 2),
-        Put::One(9, 5, Kind::Yield { ran: 7 }),
-        Put::Ran(9, 9),
+        Put::Of(70_000, Step::Tells(5, &[])),
+        Put::Of(2, Step::Tells(4, &[6])),
+        Put::Of(9, Step::Tells(4, &[])),
+        Put::Of(9, Step::Ran(2)),
+        Put::Of(70_000, Step::Ran(2)),
+        Put::One(9, 5, Says::Yields(7)),
+        Put::Of(9, Step::Ran(9)),
         Put::Four(9),
-        Put::Ran(9, 9),
+        Put::Of(9, Step::Ran(9)),
         Put::Four(70_000),
-        Put::One(70_000, 5, Kind::Wakeup),
-        Put::Tells(70_000, 5, &[]),
+        Put::One(70_000, 5, Says::Wakes),
+        Put::Of(70_000, Step::Tells(5, &[])),
     ];
-    let mut threads = ByName::new(rt.alloc());
-    for (place, step) in steps.iter().enumerate() {
-        assert!(rt; put_holds(&mut threads, step)?, "step {place}");
-    }
+    assert_eq!(rt; first_wrong_put(rt.alloc(), PUTS)?, None);
     Ok(())
 }
