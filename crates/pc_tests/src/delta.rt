@@ -19,16 +19,48 @@ fn one(thread: u32, number: u32, kind: Kind) -> Part {
     })
 }
 
+/// What a message says.
+#[derive(Clone, Copy)]
+enum Says {
+    /// The thread is created, blocked, with a mask of both CPUs.
+    Created,
+    Wakes,
+    /// The thread leaves its CPU after so many ticks.
+    Yields(u32),
+    Preempts(u32),
+    Blocks(u32),
+    Dies(u32),
+    /// The thread's mask is this one from now on.
+    Moves(u64),
+}
+
 fn created() -> Result<Kind, MaskFault> {
     let mask = Mask::new(3, 2)?;
     Ok(Kind::Created { mask, ready: false })
 }
 
+fn moved(bits: u64) -> Result<Kind, MaskFault> {
+    let mask = Mask::new(bits, 2)?;
+    Ok(Kind::Affinity { mask })
+}
+
+fn kind_of(says: Says) -> Result<Kind, MaskFault> {
+    match says {
+        Says::Created => created(),
+        Says::Wakes => Ok(Kind::Wakeup),
+        Says::Yields(ran) => Ok(Kind::Yield { ran }),
+        Says::Preempts(ran) => Ok(Kind::Preempted { ran }),
+        Says::Blocks(ran) => Ok(Kind::Blocked { ran }),
+        Says::Dies(ran) => Ok(Kind::Dead { ran }),
+        Says::Moves(bits) => moved(bits),
+    }
+}
+
 /// A part, with two CPUs and the lowest level.
 #[derive(Clone, Copy)]
 enum Shape {
-    /// A message that is no first one: its thread, its number and its kind.
-    One(u32, u32, Kind),
+    /// A message: its thread, its number and its kind.
+    One(u32, u32, Says),
     /// A wakeup of t0.
     Wakeup(u32),
     /// t0 leaves its CPU after one tick.
@@ -45,6 +77,12 @@ enum Shape {
     Ready(u32, u64),
 }
 
+fn told(thread: u32, number: u32, says: Says) -> Result<Part, MaskFault> {
+    let kind = kind_of(says)?;
+    Ok(one(thread, number, kind))
+}
+
+/// All of t0 up to a number.
 fn state(phase: Phase, upto: u32, ran: u64) -> Result<Part, MaskFault> {
     let mask = Mask::new(3, 2)?;
     Ok(Part::Folded {
@@ -61,12 +99,12 @@ fn state(phase: Phase, upto: u32, ran: u64) -> Result<Part, MaskFault> {
 
 fn part(shape: &Shape) -> Result<Part, MaskFault> {
     match *shape {
-        Shape::One(thread, number, kind) => Ok(one(thread, number, kind)),
-        Shape::Wakeup(number) => Ok(one(0, number, Kind::Wakeup)),
-        Shape::Yield(number) => Ok(one(0, number, Kind::Yield { ran: 1 })),
-        Shape::Dead(number, ran) => Ok(one(0, number, Kind::Dead { ran })),
-        Shape::Blocked(number, ran) => Ok(one(0, number, Kind::Blocked { ran })),
-        Shape::Created(thread, number) => Ok(one(thread, number, created()?)),
+        Shape::One(thread, number, says) => told(thread, number, says),
+        Shape::Wakeup(number) => told(0, number, Says::Wakes),
+        Shape::Yield(number) => told(0, number, Says::Yields(1)),
+        Shape::Dead(number, ran) => told(0, number, Says::Dies(ran)),
+        Shape::Blocked(number, ran) => told(0, number, Says::Blocks(ran)),
+        Shape::Created(thread, number) => told(thread, number, Says::Created),
         Shape::Folded(upto, ran) => state(Phase::Blocked, upto, ran),
         Shape::Ready(upto, ran) => state(Phase::Ready, upto, ran),
     }
@@ -77,19 +115,24 @@ fn add<T: Copy>(items: &mut Vec<T>, item: T) -> Result<(), AllocError> {
     Ok(())
 }
 
+fn adds_shape(parts: &mut Vec<Part>, shape: &Shape) -> Result<(), Fail> {
+    // A message stands here by its type's name, without which the checker has a bug at this function.
+    let told = match *shape {
+        Shape::One(thread, number, says) => Part::One(Message {
+            thread: Tid(thread),
+            number,
+            kind: kind_of(says)?,
+        }),
+        _ => part(shape)?,
+    };
+    add(parts, told)?;
+    Ok(())
+}
+
 fn parts(alloc: Global, shapes: &[Shape]) -> Result<Vec<Part>, Fail> {
     let mut parts = Vec::new(alloc);
     for shape in shapes {
-        // A message stands here by its type's name, without which the checker has a bug at this loop.
-        let told = match *shape {
-            Shape::One(thread, number, kind) => Part::One(Message {
-                thread: Tid(thread),
-                number,
-                kind,
-            }),
-            _ => part(shape)?,
-        };
-        add(&mut parts, told)?;
+        adds_shape(&mut parts, shape)?;
     }
     Ok(parts)
 }

@@ -442,7 +442,7 @@ fn each_holds(rt: &impl Abort, alloc: Global, cases: &[Case]) -> Result<(), Fail
 // What was merged is covered, and a folded prefix is as its messages.
 #[test]
 fn merges_and_joins_do_not_depend_on_the_order(rt: HostRuntime) -> Result<(), Fail> {
-    const CASES: [Case; 1] = [(
+    const CASES: &[Case] = &[(
         Start::Merged(&ODD, &EVEN),
         &[
             Step::As(Start::Merged(&EVEN, &ODD), true),
@@ -461,12 +461,12 @@ fn merges_and_joins_do_not_depend_on_the_order(rt: HostRuntime) -> Result<(), Fa
             Step::Nothing(false),
         ],
     )];
-    each_holds(&rt, rt.alloc(), &CASES)
+    each_holds(&rt, rt.alloc(), CASES)
 }
 
 #[test]
 fn what_is_known_without_a_gap(rt: HostRuntime) -> Result<(), Fail> {
-    const CASES: [Case; 3] = [
+    const CASES: &[Case] = &[
         (Start::Of(&ODD), &[Step::Knows(1, 1, false)]),
         // The first of t0 and the third; of t1 nothing; of t2 the third alone.
         (
@@ -479,7 +479,7 @@ fn what_is_known_without_a_gap(rt: HostRuntime) -> Result<(), Fail> {
         ),
         (Start::Of(&[]), &[Step::Nothing(true)]),
     ];
-    each_holds(&rt, rt.alloc(), &CASES)
+    each_holds(&rt, rt.alloc(), CASES)
 }
 
 /// The first message of t2 and of t0.
@@ -487,21 +487,21 @@ const TWO_THREADS: [Told; 2] = [(2, 1, Says::Blocked), (0, 1, Says::Blocked)];
 
 #[test]
 fn threads_of_near_names_are_walked_before_the_others(rt: HostRuntime) -> Result<(), Fail> {
-    const CASES: [Case; 1] = [(
+    const CASES: &[Case] = &[(
         Start::Joined(&TWO_THREADS, &[(70_000, 1, Says::Blocked)]),
         &[Step::Near(&[0, 2]), Step::Far(&[70_000])],
     )];
-    each_holds(&rt, rt.alloc(), &CASES)
+    each_holds(&rt, rt.alloc(), CASES)
 }
 
 #[test]
 fn threads_are_walked_in_order(rt: HostRuntime) -> Result<(), Fail> {
-    const CASES: [Case; 1] = [(Start::Of(&TWO_THREADS), &[Step::Walked(&[(0, 1), (2, 1)])])];
-    each_holds(&rt, rt.alloc(), &CASES)
+    const CASES: &[Case] = &[(Start::Of(&TWO_THREADS), &[Step::Walked(&[(0, 1), (2, 1)])])];
+    each_holds(&rt, rt.alloc(), CASES)
 }
 
 /// Views beside kernels, and what is the first stranger.
-const STRANGERS: [Case; 13] = [
+const STRANGERS: &[Case] = &[
     (
         Start::Each(&[(0, 1, Says::Same)]),
         &[Step::One(Asks::NoStranger)],
@@ -558,13 +558,13 @@ const STRANGERS: [Case; 13] = [
 // three messages the second of t1 is a Wakeup.
 #[test]
 fn strangers_to_a_kernel(rt: HostRuntime) -> Result<(), Fail> {
-    each_holds(&rt, rt.alloc(), &STRANGERS)
+    each_holds(&rt, rt.alloc(), STRANGERS)
 }
 
 // A view that is not of the kernel's run may know more than the kernel has.
 #[test]
 fn a_view_is_complete_where_it_has_the_last_message(rt: HostRuntime) -> Result<(), Fail> {
-    const CASES: [Case; 5] = [
+    const CASES: &[Case] = &[
         (
             Start::Each(&[(0, 1, Says::Same)]),
             &[Step::One(Asks::Complete(0, true))],
@@ -583,5 +583,5 @@ fn a_view_is_complete_where_it_has_the_last_message(rt: HostRuntime) -> Result<(
             &[Step::Three(Asks::Complete(1, false))],
         ),
     ];
-    each_holds(&rt, rt.alloc(), &CASES)
+    each_holds(&rt, rt.alloc(), CASES)
 }

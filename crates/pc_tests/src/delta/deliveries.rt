@@ -1,7 +1,7 @@
 //! Two hundred orders and divisions of the parts of one run.
 
-use super::{Delta, Global, Kind, Message, Part, Tid, View, add, created, take_in};
-use pc_messages::{Mask, MaskFault};
+use super::{Delta, Global, Part, Says, Shape, Tid, View, add, adds_shape, delta, take_in};
+use std::mem;
 use std::test::Fail;
 
 /// A fixed sequence of numbers that are hard to foresee.
@@ -21,32 +21,21 @@ impl Sequence {
     }
 }
 
-// Twelve messages of three threads.
-fn messages() -> Result<[(u32, u32, Kind); 12], MaskFault> {
-    let mask = Mask::new(2, 2)?;
-    Ok([
-        (0, 1, created()?),
-        (0, 2, Kind::Wakeup),
-        (0, 3, Kind::Preempted { ran: 4 }),
-        (0, 4, Kind::Affinity { mask }),
-        (0, 5, Kind::Blocked { ran: 3 }),
-        (1, 1, created()?),
-        (1, 2, Kind::Wakeup),
-        (1, 3, Kind::Yield { ran: 2 }),
-        (1, 4, Kind::Dead { ran: 1 }),
-        (2, 1, created()?),
-        (2, 2, Kind::Wakeup),
-        (2, 3, Kind::Blocked { ran: 8 }),
-    ])
-}
-
-fn message(thread: u32, number: u32, kind: Kind) -> Part {
-    Part::One(Message {
-        thread: Tid(thread),
-        number,
-        kind,
-    })
-}
+/// Twelve messages of three threads.
+const MESSAGES: [(u32, u32, Says); 12] = [
+    (0, 1, Says::Created),
+    (0, 2, Says::Wakes),
+    (0, 3, Says::Preempts(4)),
+    (0, 4, Says::Moves(2)),
+    (0, 5, Says::Blocks(3)),
+    (1, 1, Says::Created),
+    (1, 2, Says::Wakes),
+    (1, 3, Says::Yields(2)),
+    (1, 4, Says::Dies(1)),
+    (2, 1, Says::Created),
+    (2, 2, Says::Wakes),
+    (2, 3, Says::Blocks(8)),
+];
 
 // The state of a thread's first messages, as a part.
 fn prefix(view: &View, thread: Tid) -> Option<Part> {
@@ -59,25 +48,41 @@ fn prefix(view: &View, thread: Tid) -> Option<Part> {
     })
 }
 
+fn adds_prefix(parts: &mut Vec<Part>, view: &View, thread: Tid) -> Result<(), Fail> {
+    if let Some(folded) = prefix(view, thread) {
+        add(parts, folded)?;
+    }
+    Ok(())
+}
+
+fn takes_one(alloc: Global, view: &mut View, message: &Shape) -> Result<(), Fail> {
+    let told = delta(alloc, &[*message])?;
+    take_in(view, &told)?;
+    Ok(())
+}
+
+// Adds a message of the thread, and after it the state of the thread so far.
+fn adds_two(
+    alloc: Global,
+    parts: &mut Vec<Part>,
+    view: &mut View,
+    thread: u32,
+    message: &Shape,
+) -> Result<(), Fail> {
+    adds_shape(parts, message)?;
+    takes_one(alloc, view, message)?;
+    adds_prefix(parts, view, Tid(thread))
+}
+
 // The messages, and after each of them the state of its thread so far.
 fn all_parts(alloc: Global) -> Result<Vec<Part>, Fail> {
     let mut view = View::new(alloc);
     let mut parts = Vec::new(alloc);
-    for (thread, number, kind) in messages()? {
-        let part = message(thread, number, kind);
-        add(&mut parts, part)?;
-        take_in(&mut view, &single(alloc, part)?)?;
-        if let Some(folded) = prefix(&view, Tid(thread)) {
-            add(&mut parts, folded)?;
-        }
+    for (thread, number, says) in &MESSAGES {
+        let message = Shape::One(*thread, *number, *says);
+        adds_two(alloc, &mut parts, &mut view, *thread, &message)?;
     }
     Ok(parts)
-}
-
-fn single(alloc: Global, part: Part) -> Result<Delta, Fail> {
-    let mut parts = Vec::new(alloc);
-    add(&mut parts, part)?;
-    Ok(Delta::from_parts(parts)?)
 }
 
 fn shuffle(parts: &mut [Part], numbers: &mut Sequence) {
@@ -89,34 +94,86 @@ fn shuffle(parts: &mut [Part], numbers: &mut Sequence) {
     }
 }
 
+// Adds the part, or adds it twice.
+fn adds(chunk: &mut Vec<Part>, part: &Part, numbers: &mut Sequence) -> Result<(), Fail> {
+    add(chunk, *part)?;
+    if numbers.below(4) == 0 {
+        add(chunk, *part)?;
+    }
+    Ok(())
+}
+
+fn takes_chunk(view: &mut View, chunk: Vec<Part>) -> Result<(), Fail> {
+    let told = Delta::from_parts(chunk)?;
+    take_in(view, &told)?;
+    Ok(())
+}
+
+fn deliver_chunks(
+    alloc: Global,
+    view: &mut View,
+    parts: &[Part],
+    numbers: &mut Sequence,
+) -> Result<(), Fail> {
+    let mut chunk = Vec::new(alloc);
+    for part in parts {
+        adds(&mut chunk, part, numbers)?;
+        if numbers.below(3) == 0 {
+            takes_chunk(view, mem::replace(&mut chunk, Vec::new(alloc)))?;
+        }
+    }
+    takes_chunk(view, chunk)
+}
+
 // Delivers the parts in order, some of them twice, in deltas that end at random.
 fn deliver(alloc: Global, parts: &[Part], numbers: &mut Sequence) -> Result<View, Fail> {
     let mut view = View::new(alloc);
-    let mut chunk = Vec::new(alloc);
-    for part in parts {
-        add(&mut chunk, *part)?;
-        if numbers.below(4) == 0 {
-            add(&mut chunk, *part)?;
-        }
-        if numbers.below(3) == 0 {
-            take_in(&mut view, &Delta::from_parts(chunk)?)?;
-            chunk = Vec::new(alloc);
+    deliver_chunks(alloc, &mut view, parts, numbers)?;
+    Ok(view)
+}
+
+// Whether the parts give the view in another order, too.
+fn gives_the_same(
+    alloc: Global,
+    parts: &mut [Part],
+    wanted: &View,
+    numbers: &mut Sequence,
+) -> Result<bool, Fail> {
+    shuffle(parts, numbers);
+    let view = deliver(alloc, parts, numbers)?;
+    Ok(view == *wanted)
+}
+
+/// The first of two hundred rounds whose view is another.
+fn first_other(
+    alloc: Global,
+    parts: &mut [Part],
+    wanted: &View,
+    numbers: &mut Sequence,
+) -> Result<Option<u32>, Fail> {
+    for round in 0..200u32 {
+        if !gives_the_same(alloc, parts, wanted, numbers)? {
+            return Ok(Some(round));
         }
     }
-    take_in(&mut view, &Delta::from_parts(chunk)?)?;
-    Ok(view)
+    Ok(None)
+}
+
+/// That round of these parts, and whether the view knows the last message.
+fn rounds(alloc: Global, parts: &mut [Part]) -> Result<(Option<u32>, bool), Fail> {
+    let mut numbers = Sequence { state: 7 };
+    let wanted = deliver(alloc, parts, &mut numbers)?;
+    let other = first_other(alloc, parts, &wanted, &mut numbers)?;
+    Ok((other, wanted.knows(Tid(2), 3)))
+}
+
+fn rounds_of_all(alloc: Global) -> Result<(Option<u32>, bool), Fail> {
+    let mut parts = all_parts(alloc)?;
+    rounds(alloc, &mut parts)
 }
 
 #[test]
 fn orders_and_divisions_do_not_matter(rt: HostRuntime) -> Result<(), Fail> {
-    let mut parts = all_parts(rt.alloc())?;
-    let mut numbers = Sequence { state: 7 };
-    let wanted = deliver(rt.alloc(), &parts, &mut numbers)?;
-    for round in 0..200 {
-        shuffle(&mut parts, &mut numbers);
-        let view = deliver(rt.alloc(), &parts, &mut numbers)?;
-        assert!(rt; view == wanted, "in round {round}");
-    }
-    assert!(rt; wanted.knows(Tid(2), 3));
+    assert_eq!(rt; rounds_of_all(rt.alloc())?, (None, true));
     Ok(())
 }

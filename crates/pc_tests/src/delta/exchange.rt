@@ -17,30 +17,45 @@ fn joined<V: Join>(first: &V, other: &V) -> Result<V, OutOfMemory> {
     Ok(both)
 }
 
-// A wakeup, then the created thread as a folded part, then the wakeup again.
+/// A wakeup, then the created thread as a folded part, then the wakeup again.
+const THREE: [Shape; 3] = [Shape::Wakeup(2), Shape::Folded(1, 0), Shape::Wakeup(2)];
+
+fn adds_delta(alloc: Global, deltas: &mut Vec<Delta>, shape: &Shape) -> Result<(), Fail> {
+    deltas.push(delta(alloc, &[*shape])?)?;
+    Ok(())
+}
+
 fn three_deltas(alloc: Global) -> Result<Vec<Delta>, Fail> {
     let mut deltas = Vec::new(alloc);
-    deltas.push(delta(alloc, &[Shape::Wakeup(2)])?)?;
-    deltas.push(delta(alloc, &[Shape::Folded(1, 0)])?)?;
-    deltas.push(delta(alloc, &[Shape::Wakeup(2)])?)?;
+    for shape in &THREE {
+        adds_delta(alloc, &mut deltas, shape)?;
+    }
     Ok(deltas)
+}
+
+fn takes_three(alloc: Global, view: &mut View) -> Result<(), Fail> {
+    let deltas = three_deltas(alloc)?;
+    take_all(view, &deltas)?;
+    Ok(())
 }
 
 fn view_of_three(alloc: Global) -> Result<View, Fail> {
     let mut view = View::new(alloc);
-    take_all(&mut view, &three_deltas(alloc)?)?;
+    takes_three(alloc, &mut view)?;
     Ok(view)
 }
 
 /// What a view takes in, or is told of it, or of its answers to one that asks.
 #[derive(Clone, Copy)]
 enum Step {
-    /// A delta of one part, or two.
-    Takes(Shape, Option<Shape>),
+    /// A delta of these parts.
+    Takes(&'static [Shape]),
     /// It is equal to that of the three deltas.
     Three,
     /// How far t0 is known without a gap, and how many messages past one.
     Held(u32, usize),
+    /// How many early messages the thread has.
+    Early(u32, usize),
     /// The phase, the mask and the ticks of t0.
     Reports(Phase, u64, u64),
     /// Whether its digest has the thread's message.
@@ -48,6 +63,10 @@ enum Step {
     DigestEmpty(bool),
     /// Its digest is equal to its copy.
     DigestCopied,
+    /// Its digest is equal to that of the view of three deltas, and to the join with it.
+    DigestOfThree,
+    /// Whether its digest is equal to an empty one, that one is empty, and which of the two covers the other.
+    DigestBesideEmpty(bool, bool, bool, bool),
     /// The answer to an empty digest: how many parts it has, and its first.
     TellsAll(usize, Option<Shape>),
     /// The same of the answer to its own digest.
@@ -58,15 +77,12 @@ enum Step {
     /// Both answers have the same parts.
     AnswersAlike,
     /// The view that asks is equal to it once it took in the answer, has an equal digest, and the answer's copy the same parts.
-    Fills(bool, bool, bool),
+    Fills,
 }
 
 // Without contracts, as the functions below, so that a test's proof does not carry those of deltas.
-fn takes(alloc: Global, view: &mut View, first: Shape, then: Option<Shape>) -> Result<bool, Fail> {
-    let told = match then {
-        Some(other) => delta(alloc, &[first, other])?,
-        None => delta(alloc, &[first])?,
-    };
+fn takes(alloc: Global, view: &mut View, shapes: &[Shape]) -> Result<bool, Fail> {
+    let told = delta(alloc, shapes)?;
     take_in(view, &told)?;
     Ok(true)
 }
@@ -74,6 +90,13 @@ fn takes(alloc: Global, view: &mut View, first: Shape, then: Option<Shape>) -> R
 fn held(view: &View) -> Option<(u32, usize)> {
     let thread = view.thread(Tid(0))?;
     Some((thread.upto(), thread.early().len()))
+}
+
+fn early(view: &View, thread: u32) -> usize {
+    match view.thread(Tid(thread)) {
+        Some(held) => held.early().len(),
+        None => 0,
+    }
 }
 
 fn reports(view: &View) -> Option<(Phase, u64, u64)> {
@@ -86,28 +109,40 @@ fn tells(delta: &Delta, count: usize, first: Option<Shape>) -> Result<bool, Fail
     let Some(shape) = first else {
         return Ok(delta.parts().len() == count);
     };
-    Ok(delta.parts().len() == count && delta.parts().first() == Some(&part(&shape)?))
+    let wanted = part(&shape)?;
+    Ok(delta.parts().len() == count && delta.parts().first() == Some(&wanted))
 }
 
-fn answer(alloc: Global, view: &View, asker: &View) -> Result<Delta, OutOfMemory> {
-    delta_since(alloc, view, &Digest::of(alloc, asker)?)
+/// The same of the delta, where there is one.
+fn is_told(
+    told: Result<Delta, OutOfMemory>,
+    count: usize,
+    first: Option<Shape>,
+) -> Result<bool, Fail> {
+    tells(&told?, count, first)
 }
 
 fn digest(alloc: Global, view: &View) -> Result<Digest, OutOfMemory> {
     Digest::of(alloc, view)
 }
 
+fn answer(alloc: Global, view: &View, asker: &View) -> Result<Delta, OutOfMemory> {
+    let asked = digest(alloc, asker)?;
+    delta_since(alloc, view, &asked)
+}
+
 fn is_same_digest(first: &Digest, other: &Digest) -> bool {
     first == other
 }
 
-fn copy_of_digest(digest: &Digest) -> Result<Digest, OutOfMemory> {
-    digest.try_copy()
+fn is_as_its_copy(digest: &Digest) -> Result<bool, OutOfMemory> {
+    let copy = digest.try_copy()?;
+    Ok(is_same_digest(&copy, digest))
 }
 
 fn is_copied(alloc: Global, view: &View) -> Result<bool, OutOfMemory> {
     let digest = digest(alloc, view)?;
-    Ok(is_same_digest(&copy_of_digest(&digest)?, &digest))
+    is_as_its_copy(&digest)
 }
 
 fn has(alloc: Global, view: &View, thread: u32, number: u32) -> Result<bool, OutOfMemory> {
@@ -116,6 +151,41 @@ fn has(alloc: Global, view: &View, thread: u32, number: u32) -> Result<bool, Out
 
 fn is_digest_empty(alloc: Global, view: &View) -> Result<bool, OutOfMemory> {
     Ok(digest(alloc, view)?.is_empty())
+}
+
+/// Whether the first digest is equal to the other, and to their join.
+fn is_as_joined(first: &Digest, other: &Digest) -> Result<bool, OutOfMemory> {
+    let both = joined(first, other)?;
+    Ok(is_same_digest(first, other) && is_same_digest(&both, first))
+}
+
+fn is_as_joined_with(alloc: Global, first: &Digest, view: &View) -> Result<bool, OutOfMemory> {
+    let other = digest(alloc, view)?;
+    is_as_joined(first, &other)
+}
+
+fn has_digest_of(alloc: Global, view: &View, other: &View) -> Result<bool, OutOfMemory> {
+    let first = digest(alloc, view)?;
+    is_as_joined_with(alloc, &first, other)
+}
+
+fn has_digest_of_three(alloc: Global, view: &View) -> Result<bool, Fail> {
+    let other = view_of_three(alloc)?;
+    Ok(has_digest_of(alloc, view, &other)?)
+}
+
+fn beside_nothing(first: &Digest, nothing: &Digest) -> (bool, bool, bool, bool) {
+    (
+        is_same_digest(first, nothing),
+        nothing.is_empty(),
+        first.covers(nothing),
+        nothing.covers(first),
+    )
+}
+
+fn beside_empty(alloc: Global, view: &View) -> Result<(bool, bool, bool, bool), OutOfMemory> {
+    let first = digest(alloc, view)?;
+    Ok(beside_nothing(&first, &Digest::new(alloc)))
 }
 
 /// The answer to an empty digest.
@@ -131,10 +201,6 @@ fn have_same_parts(first: &Delta, other: &Delta) -> bool {
     first.parts() == other.parts()
 }
 
-fn copy_of_delta(told: &Delta) -> Result<Delta, OutOfMemory> {
-    told.try_copy()
-}
-
 fn copy_of_view(view: &View) -> Result<View, OutOfMemory> {
     view.try_copy()
 }
@@ -143,33 +209,61 @@ fn is_same_view(first: &View, other: &View) -> bool {
     first == other
 }
 
-fn is_answered_alike(alloc: Global, view: &View, asker: &View) -> Result<bool, OutOfMemory> {
-    let beyond = answer_beyond(alloc, view, asker)?;
-    Ok(have_same_parts(&beyond, &answer(alloc, view, asker)?))
+fn is_three(alloc: Global, view: &View) -> Result<bool, Fail> {
+    let three = view_of_three(alloc)?;
+    Ok(is_same_view(view, &three))
 }
 
-/// The view that asks, once it took in the answer.
-fn filled(alloc: Global, view: &View, asker: &View) -> Result<View, OutOfMemory> {
-    let told = answer(alloc, view, asker)?;
+fn is_answer(alloc: Global, told: &Delta, view: &View, asker: &View) -> Result<bool, Fail> {
+    let other = answer(alloc, view, asker)?;
+    Ok(have_same_parts(told, &other))
+}
+
+fn is_answered_alike(alloc: Global, view: &View, asker: &View) -> Result<bool, Fail> {
+    let beyond = answer_beyond(alloc, view, asker)?;
+    is_answer(alloc, &beyond, view, asker)
+}
+
+/// The view that asks, once it took in the delta.
+fn taken_in(asker: &View, told: &Delta) -> Result<View, OutOfMemory> {
     let mut other = copy_of_view(asker)?;
-    take_in(&mut other, &told)?;
+    take_in(&mut other, told)?;
     Ok(other)
 }
 
+fn filled(alloc: Global, view: &View, asker: &View) -> Result<View, OutOfMemory> {
+    let told = answer(alloc, view, asker)?;
+    taken_in(asker, &told)
+}
+
+fn has_digest(alloc: Global, view: &View, digest_of_other: &Digest) -> Result<bool, OutOfMemory> {
+    let own = digest(alloc, view)?;
+    Ok(is_same_digest(digest_of_other, &own))
+}
+
 fn have_same_digest(alloc: Global, first: &View, other: &View) -> Result<bool, OutOfMemory> {
-    Ok(is_same_digest(&digest(alloc, first)?, &digest(alloc, other)?))
+    let told = digest(alloc, first)?;
+    has_digest(alloc, other, &told)
+}
+
+/// Whether the view that asks is equal to it once it took in the answer, and has an equal digest.
+fn is_filled(alloc: Global, view: &View, asker: &View) -> Result<bool, OutOfMemory> {
+    let other = filled(alloc, view, asker)?;
+    Ok(have_same_digest(alloc, &other, view)? && is_same_view(&other, view))
+}
+
+fn has_same_copy(told: &Delta) -> Result<bool, OutOfMemory> {
+    let copy = told.try_copy()?;
+    Ok(have_same_parts(&copy, told))
 }
 
 fn is_answer_copied(alloc: Global, view: &View, asker: &View) -> Result<bool, OutOfMemory> {
     let told = answer(alloc, view, asker)?;
-    Ok(have_same_parts(&copy_of_delta(&told)?, &told))
+    has_same_copy(&told)
 }
 
-fn fills(alloc: Global, view: &View, asker: &View) -> Result<(bool, bool, bool), OutOfMemory> {
-    let other = filled(alloc, view, asker)?;
-    let has_same_digest = have_same_digest(alloc, &other, view)?;
-    let is_copied = is_answer_copied(alloc, view, asker)?;
-    Ok((is_same_view(&other, view), has_same_digest, is_copied))
+fn fills(alloc: Global, view: &View, asker: &View) -> Result<bool, OutOfMemory> {
+    Ok(is_filled(alloc, view, asker)? && is_answer_copied(alloc, view, asker)?)
 }
 
 /// Whether that is told of the view's digest.
@@ -178,41 +272,56 @@ fn digest_tells(alloc: Global, view: &View, step: &Step) -> Result<bool, Fail> {
         Step::Has(thread, number, wanted) => Ok(has(alloc, view, thread, number)? == wanted),
         Step::DigestEmpty(wanted) => Ok(is_digest_empty(alloc, view)? == wanted),
         Step::DigestCopied => Ok(is_copied(alloc, view)?),
-        Step::TellsAll(count, first) => tells(&all_told(alloc, view)?, count, first),
-        Step::TellsItself(count) => tells(&answer(alloc, view, view)?, count, None),
+        Step::DigestOfThree => has_digest_of_three(alloc, view),
+        Step::DigestBesideEmpty(same, empty, over, under) => {
+            Ok(beside_empty(alloc, view)? == (same, empty, over, under))
+        }
         _ => Ok(false),
+    }
+}
+
+/// Whether that is told of the view, and of its answers.
+fn answers(alloc: Global, view: &View, asker: &View, step: &Step) -> Result<bool, Fail> {
+    match *step {
+        Step::TellsAll(count, first) => is_told(all_told(alloc, view), count, first),
+        Step::TellsItself(count) => is_told(answer(alloc, view, view), count, None),
+        Step::Answers(count, first) => is_told(answer(alloc, view, asker), count, first),
+        Step::AnswersBeyond(count, first) => {
+            is_told(answer_beyond(alloc, view, asker), count, first)
+        }
+        Step::AnswersAlike => is_answered_alike(alloc, view, asker),
+        Step::Fills => Ok(fills(alloc, view, asker)?),
+        _ => digest_tells(alloc, view, step),
     }
 }
 
 fn holds(alloc: Global, view: &mut View, asker: &View, step: &Step) -> Result<bool, Fail> {
     match *step {
-        Step::Takes(first, then) => takes(alloc, view, first, then),
-        Step::Three => Ok(is_same_view(view, &view_of_three(alloc)?)),
+        Step::Takes(shapes) => takes(alloc, view, shapes),
+        Step::Three => is_three(alloc, view),
         Step::Held(upto, early) => Ok(held(view) == Some((upto, early))),
+        Step::Early(thread, count) => Ok(early(view, thread) == count),
         Step::Reports(phase, mask, ran) => Ok(reports(view) == Some((phase, mask, ran))),
-        Step::Answers(count, first) => tells(&answer(alloc, view, asker)?, count, first),
-        Step::AnswersBeyond(count, first) => {
-            tells(&answer_beyond(alloc, view, asker)?, count, first)
-        }
-        Step::AnswersAlike => Ok(is_answered_alike(alloc, view, asker)?),
-        Step::Fills(equal, digest, copy) => {
-            Ok(fills(alloc, view, asker)? == (equal, digest, copy))
-        }
-        _ => digest_tells(alloc, view, step),
+        _ => answers(alloc, view, asker, step),
     }
 }
 
-/// A view that nothing was told yet, or that of three deltas.
-fn first_view(alloc: Global, three: bool) -> Result<View, Fail> {
-    if three {
-        view_of_three(alloc)
-    } else {
-        Ok(View::new(alloc))
+/// The view that nothing was told yet, or that of the three deltas.
+#[derive(Clone, Copy)]
+enum Start {
+    Nothing,
+    Three,
+}
+
+fn start_of(alloc: Global, start: Start) -> Result<View, Fail> {
+    match start {
+        Start::Nothing => Ok(View::new(alloc)),
+        Start::Three => view_of_three(alloc),
     }
 }
 
 /// The place of the first step that does not hold of the view, and the one that asks, after the steps before it.
-fn first_wrong_of(
+fn first_wrong_step(
     alloc: Global,
     view: &mut View,
     asker: &View,
@@ -226,27 +335,32 @@ fn first_wrong_of(
     Ok(None)
 }
 
-/// The same of such a view, and one that asks.
-fn first_wrong(
-    alloc: Global,
-    three: bool,
-    asks: bool,
-    steps: &[Step],
-) -> Result<Option<usize>, Fail> {
-    let mut view = first_view(alloc, three)?;
-    let asker = first_view(alloc, asks)?;
-    first_wrong_of(alloc, &mut view, &asker, steps)
+/// A view, one that asks, and steps of them.
+type Case = (Start, Start, &'static [Step]);
+
+fn first_wrong_beside(alloc: Global, asker: &View, case: &Case) -> Result<Option<usize>, Fail> {
+    let (start, _, steps) = *case;
+    let mut view = start_of(alloc, start)?;
+    first_wrong_step(alloc, &mut view, asker, steps)
 }
 
-/// The steps hold of such a view, and one that asks.
-fn each_holds(
-    rt: &impl Abort,
-    alloc: Global,
-    three: bool,
-    asks: bool,
-    steps: &[Step],
-) -> Result<(), Fail> {
-    assert_eq!(rt; first_wrong(alloc, three, asks, steps)?, None);
+fn first_wrong_of(alloc: Global, case: &Case) -> Result<Option<usize>, Fail> {
+    let asker = start_of(alloc, case.1)?;
+    first_wrong_beside(alloc, &asker, case)
+}
+
+/// The places of the first case with a wrong step, and of that step.
+fn first_wrong(alloc: Global, cases: &[Case]) -> Result<Option<(usize, usize)>, Fail> {
+    for (place, case) in cases.iter().enumerate() {
+        if let Some(step) = first_wrong_of(alloc, case)? {
+            return Ok(Some((place, step)));
+        }
+    }
+    Ok(None)
+}
+
+fn each_holds(rt: &impl Abort, alloc: Global, cases: &[Case]) -> Result<(), Fail> {
+    assert_eq!(rt; first_wrong(alloc, cases)?, None);
     Ok(())
 }
 
@@ -255,110 +369,126 @@ fn each_holds(
 fn deltas_are_taken_in_and_an_answer_to_an_empty_digest_tells_all(
     rt: HostRuntime,
 ) -> Result<(), Fail> {
-    let three = [
-        Step::Held(2, 0),
-        Step::Reports(Phase::Ready, 3, 0),
-        Step::Fills(true, true, true),
-        Step::Takes(Shape::Dead(2, 9), None),
-        Step::Three,
-        Step::Takes(Shape::Folded(2, 9), None),
-        Step::Held(2, 0),
+    const CASES: &[Case] = &[
+        (
+            Start::Three,
+            Start::Nothing,
+            &[
+                Step::Held(2, 0),
+                Step::Reports(Phase::Ready, 3, 0),
+                Step::Fills,
+                Step::Takes(&[Shape::Dead(2, 9)]),
+                Step::Three,
+                Step::Takes(&[Shape::Folded(2, 9)]),
+                Step::Held(2, 0),
+            ],
+        ),
+        (
+            Start::Nothing,
+            Start::Nothing,
+            &[
+                Step::Takes(&[Shape::Wakeup(2)]),
+                Step::Takes(&[Shape::Created(0, 1)]),
+                Step::Takes(&[Shape::Wakeup(2)]),
+                Step::Three,
+            ],
+        ),
     ];
-    each_holds(&rt, rt.alloc(), true, false, &three)?;
-    let alone = [
-        Step::Takes(Shape::Wakeup(2), None),
-        Step::Takes(Shape::Created(0, 1), None),
-        Step::Takes(Shape::Wakeup(2), None),
-        Step::Three,
-    ];
-    each_holds(&rt, rt.alloc(), false, false, &alone)
+    each_holds(&rt, rt.alloc(), CASES)
 }
 
 // A view is answered as its digest is. Prefixes of four messages and of the most are told by their state, in one part.
 #[test]
 fn an_answer_tells_what_is_lacking(rt: HostRuntime) -> Result<(), Fail> {
-    let lacking = [
-        Step::Answers(0, None),
-        Step::AnswersBeyond(0, None),
-        Step::Takes(Shape::Wakeup(9), Some(Shape::Created(1, 1))),
-        Step::Answers(2, Some(Shape::Wakeup(9))),
-        Step::AnswersBeyond(2, Some(Shape::Wakeup(9))),
-        Step::AnswersAlike,
+    const CASES: &[Case] = &[
+        (
+            Start::Three,
+            Start::Three,
+            &[
+                Step::Answers(0, None),
+                Step::AnswersBeyond(0, None),
+                Step::Takes(&[Shape::Wakeup(9), Shape::Created(1, 1)]),
+                Step::Answers(2, Some(Shape::Wakeup(9))),
+                Step::AnswersBeyond(2, Some(Shape::Wakeup(9))),
+                Step::AnswersAlike,
+            ],
+        ),
+        (
+            Start::Nothing,
+            Start::Nothing,
+            &[
+                Step::Takes(&[Shape::Wakeup(2), Shape::Wakeup(4)]),
+                Step::Takes(&[Shape::Created(0, 1), Shape::Blocked(3, 2)]),
+                Step::TellsAll(1, Some(Shape::Ready(4, 2))),
+                Step::TellsItself(0),
+            ],
+        ),
+        (
+            Start::Nothing,
+            Start::Nothing,
+            &[
+                Step::Takes(&[Shape::Folded(16_000_000, 5)]),
+                Step::Has(0, 16_000_000, true),
+                Step::Has(0, 16_000_001, false),
+                Step::TellsAll(1, Some(Shape::Folded(16_000_000, 5))),
+            ],
+        ),
     ];
-    each_holds(&rt, rt.alloc(), true, true, &lacking)?;
-    let prefix = [
-        Step::Takes(Shape::Wakeup(2), Some(Shape::Wakeup(4))),
-        Step::Takes(Shape::Created(0, 1), Some(Shape::Blocked(3, 2))),
-        Step::TellsAll(1, Some(Shape::Ready(4, 2))),
-        Step::TellsItself(0),
-    ];
-    each_holds(&rt, rt.alloc(), false, false, &prefix)?;
-    let long = [
-        Step::Takes(Shape::Folded(16_000_000, 5), None),
-        Step::Has(0, 16_000_000, true),
-        Step::Has(0, 16_000_001, false),
-        Step::TellsAll(1, Some(Shape::Folded(16_000_000, 5))),
-    ];
-    each_holds(&rt, rt.alloc(), false, false, &long)
-}
-
-/// Whether the digests of equal views are equal, their join is the same, it is equal to an empty digest, that one is empty,
-/// and which of the two covers the other.
-fn digests(alloc: Global) -> Result<[bool; 6], Fail> {
-    let first = Digest::of(alloc, &view_of_three(alloc)?)?;
-    let other = Digest::of(alloc, &view_of_three(alloc)?)?;
-    let nothing = Digest::new(alloc);
-    Ok([
-        first == other,
-        joined(&first, &other)? == first,
-        first == nothing,
-        nothing.is_empty(),
-        first.covers(&nothing),
-        nothing.covers(&first),
-    ])
+    each_holds(&rt, rt.alloc(), CASES)
 }
 
 #[test]
 fn what_a_digest_has(rt: HostRuntime) -> Result<(), Fail> {
-    assert_eq!(rt;
-        digests(rt.alloc())?.as_slice(),
-        [true, true, false, true, true, false].as_slice()
-    );
-    let steps = [
-        Step::Takes(Shape::Wakeup(9), None),
-        Step::Has(0, 1, true),
-        Step::Has(0, 2, true),
-        Step::Has(0, 3, false),
-        Step::Has(0, 9, true),
-        Step::Has(1, 1, false),
-        Step::DigestEmpty(false),
-        Step::DigestCopied,
-    ];
-    each_holds(&rt, rt.alloc(), true, false, &steps)
+    const CASES: &[Case] = &[(
+        Start::Three,
+        Start::Nothing,
+        &[
+            Step::DigestOfThree,
+            Step::DigestBesideEmpty(false, true, true, false),
+            Step::Takes(&[Shape::Wakeup(9)]),
+            Step::Has(0, 1, true),
+            Step::Has(0, 2, true),
+            Step::Has(0, 3, false),
+            Step::Has(0, 9, true),
+            Step::Has(1, 1, false),
+            Step::DigestEmpty(false),
+            Step::DigestCopied,
+        ],
+    )];
+    each_holds(&rt, rt.alloc(), CASES)
 }
 
-// How many early messages a thread has after a view took in these parts twice.
-fn early_after(alloc: Global, shapes: &[Shape], thread: u32) -> Result<usize, Fail> {
-    let mut view = View::new(alloc);
-    let contrary = delta(alloc, shapes)?;
-    take_in(&mut view, &contrary)?;
-    take_in(&mut view, &contrary)?;
-    Ok(match view.thread(Tid(thread)) {
-        Some(held) => held.early().len(),
-        None => 0,
-    })
-}
+/// A message that contradicts a folded part.
+const LATE_DEATH: [Shape; 3] = [Shape::Folded(3, 7), Shape::Dead(2, 1), Shape::Wakeup(5)];
 
-// A message that contradicts a folded part, and a folded part that contradicts early messages: nothing grows past
-// the parts.
+/// A folded part that contradicts early messages.
+const LATE_PREFIX: [Shape; 3] = [Shape::Wakeup(5), Shape::Dead(3, 1), Shape::Folded(2, 7)];
+
+// Nothing grows past the parts.
 #[test]
 fn contradicting_parts_are_safe(rt: HostRuntime) -> Result<(), Fail> {
-    let first = [Shape::Folded(3, 7), Shape::Dead(2, 1), Shape::Wakeup(5)];
-    let other = [Shape::Wakeup(5), Shape::Dead(3, 1), Shape::Folded(2, 7)];
-    for (shapes, thread, early) in [(&first, 0, 1), (&other, 0, 1), (&other, 1, 0)] {
-        assert_eq!(rt; early_after(rt.alloc(), shapes, thread)?, early);
-    }
-    Ok(())
+    const CASES: &[Case] = &[
+        (
+            Start::Nothing,
+            Start::Nothing,
+            &[
+                Step::Takes(&LATE_DEATH),
+                Step::Takes(&LATE_DEATH),
+                Step::Early(0, 1),
+            ],
+        ),
+        (
+            Start::Nothing,
+            Start::Nothing,
+            &[
+                Step::Takes(&LATE_PREFIX),
+                Step::Takes(&LATE_PREFIX),
+                Step::Early(0, 1),
+                Step::Early(1, 0),
+            ],
+        ),
+    ];
+    each_holds(&rt, rt.alloc(), CASES)
 }
 
 // A wakeup, as a queue holds it.
@@ -372,8 +502,15 @@ fn queued(thread: u32, number: u32) -> Item
     })
 }
 
+/// Whether nothing is told of two ticks.
+fn are_ticks_untold(alloc: Global) -> Result<bool, OutOfMemory> {
+    let none = Delta::of_items(alloc, &[Item::Tick(Cpu(0)), Item::Tick(Cpu(1))])?;
+    Ok(none.parts().is_empty())
+}
+
 #[test]
 fn a_delta_tells_each_queued_message(rt: HostRuntime) -> Result<(), Fail> {
+    assert!(rt; are_ticks_untold(rt.alloc())?);
     let items = [
         Item::Tick(Cpu(0)),
         queued(1, 2),
@@ -388,7 +525,5 @@ fn a_delta_tells_each_queued_message(rt: HostRuntime) -> Result<(), Fail> {
         one(1, 2, Kind::Wakeup),
     ];
     assert!(rt; told.parts() == expected.as_slice());
-    let none = Delta::of_items(rt.alloc(), &[Item::Tick(Cpu(0)), Item::Tick(Cpu(1))])?;
-    assert!(rt; none.parts().is_empty());
     Ok(())
 }

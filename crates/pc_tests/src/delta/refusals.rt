@@ -1,31 +1,61 @@
 //! Which parts make no delta, and why.
 
-use super::{Shape, refusal};
+use super::{Says, Shape, refusal};
 use pc_delta::DeltaFault;
-use pc_messages::{Kind, Tid};
+use pc_messages::Tid;
 use std::alloc::Global;
 use std::process::Abort;
 use std::test::Fail;
 
-/// Each list of parts is refused as it should be, or not at all.
-fn each_is_refused(
-    rt: &impl Abort,
-    alloc: Global,
-    rows: &[(&[Shape], Option<DeltaFault>)],
-) -> Result<(), Fail> {
-    for (parts, wanted) in rows {
-        assert_eq!(rt; refusal(alloc, parts)?, *wanted);
-    }
-    Ok(())
+/// Whether parts make a delta, and why not.
+#[derive(Clone, Copy)]
+enum Answer {
+    Taken,
+    Zero,
+    Large,
+    Misplaced,
+    Ran,
+    /// The thread and the number that they differ about.
+    Conflict(u32, u32),
 }
 
-const ZERO: Option<DeltaFault> = Some(DeltaFault::ZeroNumber);
+fn fault_of(answer: Answer) -> Option<DeltaFault> {
+    match answer {
+        Answer::Taken => None,
+        Answer::Zero => Some(DeltaFault::ZeroNumber),
+        Answer::Large => Some(DeltaFault::NumberTooLarge),
+        Answer::Misplaced => Some(DeltaFault::CreatedMisplaced),
+        Answer::Ran => Some(DeltaFault::RanTooLarge),
+        Answer::Conflict(thread, number) => Some(DeltaFault::Conflict {
+            thread: Tid(thread),
+            number,
+        }),
+    }
+}
 
-const LARGE: Option<DeltaFault> = Some(DeltaFault::NumberTooLarge);
+/// Some parts, and what is answered to them.
+type Row = (&'static [Shape], Answer);
 
-const MISPLACED: Option<DeltaFault> = Some(DeltaFault::CreatedMisplaced);
+fn is_refused(alloc: Global, row: &Row) -> Result<bool, Fail> {
+    let (parts, wanted) = *row;
+    Ok(refusal(alloc, parts)? == fault_of(wanted))
+}
 
-const RAN: Option<DeltaFault> = Some(DeltaFault::RanTooLarge);
+/// The place of the first row whose parts are answered otherwise.
+fn first_wrong(alloc: Global, rows: &[Row]) -> Result<Option<usize>, Fail> {
+    for (place, row) in rows.iter().enumerate() {
+        if !is_refused(alloc, row)? {
+            return Ok(Some(place));
+        }
+    }
+    Ok(None)
+}
+
+/// Each list of parts is refused as it should be, or not at all.
+fn each_is_refused(rt: &impl Abort, alloc: Global, rows: &[Row]) -> Result<(), Fail> {
+    assert_eq!(rt; first_wrong(alloc, rows)?, None);
+    Ok(())
+}
 
 /// The most ticks that a message can tell of.
 const LONG: u64 = 4_294_967_295;
@@ -39,68 +69,93 @@ const ALL_TICKS: u64 = 68_719_480_000_000_000;
 // Of two faults in one part the first is answered; of two parts, either way round, that of the first part.
 #[test]
 fn each_fault_of_a_part_and_the_first_of_two(rt: HostRuntime) -> Result<(), Fail> {
-    let rows = [
-        ([Shape::Folded(0, 0)].as_slice(), ZERO),
-        (&[Shape::Wakeup(0)], ZERO),
-        (&[Shape::Folded(16_000_001, 0)], LARGE),
-        (&[Shape::Wakeup(16_000_001)], LARGE),
-        (&[Shape::Folded(16_000_000, 0)], None),
-        (&[Shape::Wakeup(16_000_000)], None),
-        (&[Shape::Created(0, 2)], MISPLACED),
-        (&[Shape::Wakeup(1)], MISPLACED),
-        (&[Shape::Created(0, 1)], None),
-        (&[Shape::Folded(1, TOO_LONG)], RAN),
-        (&[Shape::Folded(1, LONG)], None),
-        (&[Shape::Created(0, 0)], ZERO),
-        (&[Shape::Folded(0, 1)], ZERO),
-        (&[Shape::Created(0, 16_000_001)], LARGE),
-        (&[Shape::Folded(16_000_001, ALL_TICKS)], LARGE),
-        (&[Shape::Wakeup(0), Shape::Wakeup(16_000_001)], ZERO),
-        (&[Shape::Wakeup(16_000_001), Shape::Wakeup(0)], LARGE),
-        (&[Shape::Wakeup(1), Shape::Wakeup(16_000_001)], MISPLACED),
-        (&[Shape::Wakeup(1), Shape::Folded(1, TOO_LONG)], MISPLACED),
-        (&[Shape::Folded(1, TOO_LONG), Shape::Wakeup(1)], RAN),
+    const ROWS: &[Row] = &[
+        (&[Shape::Folded(0, 0)], Answer::Zero),
+        (&[Shape::Wakeup(0)], Answer::Zero),
+        (&[Shape::Folded(16_000_001, 0)], Answer::Large),
+        (&[Shape::Wakeup(16_000_001)], Answer::Large),
+        (&[Shape::Folded(16_000_000, 0)], Answer::Taken),
+        (&[Shape::Wakeup(16_000_000)], Answer::Taken),
+        (&[Shape::Created(0, 2)], Answer::Misplaced),
+        (&[Shape::Wakeup(1)], Answer::Misplaced),
+        (&[Shape::Created(0, 1)], Answer::Taken),
+        (&[Shape::Folded(1, TOO_LONG)], Answer::Ran),
+        (&[Shape::Folded(1, LONG)], Answer::Taken),
+        (&[Shape::Created(0, 0)], Answer::Zero),
+        (&[Shape::Folded(0, 1)], Answer::Zero),
+        (&[Shape::Created(0, 16_000_001)], Answer::Large),
+        (&[Shape::Folded(16_000_001, ALL_TICKS)], Answer::Large),
+        (&[Shape::Wakeup(0), Shape::Wakeup(16_000_001)], Answer::Zero),
+        (
+            &[Shape::Wakeup(16_000_001), Shape::Wakeup(0)],
+            Answer::Large,
+        ),
+        (
+            &[Shape::Wakeup(1), Shape::Wakeup(16_000_001)],
+            Answer::Misplaced,
+        ),
+        (
+            &[Shape::Wakeup(1), Shape::Folded(1, TOO_LONG)],
+            Answer::Misplaced,
+        ),
+        (&[Shape::Folded(1, TOO_LONG), Shape::Wakeup(1)], Answer::Ran),
         // A fault of a part comes before a conflict.
-        (&[Shape::Wakeup(2), Shape::Yield(2), Shape::Wakeup(0)], ZERO),
+        (
+            &[Shape::Wakeup(2), Shape::Yield(2), Shape::Wakeup(0)],
+            Answer::Zero,
+        ),
     ];
-    each_is_refused(&rt, rt.alloc(), &rows)
-}
-
-const fn conflict(thread: u32, number: u32) -> Option<DeltaFault> {
-    Some(DeltaFault::Conflict {
-        thread: Tid(thread),
-        number,
-    })
+    each_is_refused(&rt, rt.alloc(), ROWS)
 }
 
 /// Conflicts about t1's third message, and t0's fifth and second.
-const CONFLICTS: [Shape; 6] = [
-    Shape::One(1, 3, Kind::Wakeup),
-    Shape::One(1, 3, Kind::Yield { ran: 1 }),
+const THREE_CONFLICTS: [Shape; 6] = [
+    Shape::One(1, 3, Says::Wakes),
+    Shape::One(1, 3, Says::Yields(1)),
     Shape::Wakeup(5),
     Shape::Wakeup(2),
     Shape::Yield(5),
     Shape::Yield(2),
 ];
 
+/// The same without the last, so that there are two.
+const TWO_CONFLICTS: [Shape; 5] = [
+    Shape::One(1, 3, Says::Wakes),
+    Shape::One(1, 3, Says::Yields(1)),
+    Shape::Wakeup(5),
+    Shape::Wakeup(2),
+    Shape::Yield(5),
+];
+
+/// The same without the last two, so that there is one.
+const ONE_CONFLICT: [Shape; 4] = [
+    Shape::One(1, 3, Says::Wakes),
+    Shape::One(1, 3, Says::Yields(1)),
+    Shape::Wakeup(5),
+    Shape::Wakeup(2),
+];
+
 // The least of several conflicts is answered.
 #[test]
 fn parts_that_differ_conflict(rt: HostRuntime) -> Result<(), Fail> {
-    let rows = [
+    const ROWS: &[Row] = &[
+        (&[Shape::Wakeup(2), Shape::Yield(2)], Answer::Conflict(0, 2)),
         (
-            [Shape::Wakeup(2), Shape::Yield(2)].as_slice(),
-            conflict(0, 2),
+            &[Shape::Folded(3, 1), Shape::Folded(3, 2)],
+            Answer::Conflict(0, 3),
         ),
-        (&[Shape::Folded(3, 1), Shape::Folded(3, 2)], conflict(0, 3)),
-        (&[], None),
-        (&[Shape::Wakeup(2), Shape::Wakeup(2)], None),
-        (&[Shape::Wakeup(2), Shape::Yield(3)], None),
-        (&[Shape::Yield(2), Shape::One(1, 2, Kind::Wakeup)], None),
-        (&[Shape::Wakeup(2), Shape::Folded(2, 7)], None),
-        (&[Shape::Folded(2, 7), Shape::Folded(3, 8)], None),
-        (&CONFLICTS, conflict(0, 2)),
-        (&CONFLICTS[..5], conflict(0, 5)),
-        (&CONFLICTS[..4], conflict(1, 3)),
+        (&[], Answer::Taken),
+        (&[Shape::Wakeup(2), Shape::Wakeup(2)], Answer::Taken),
+        (&[Shape::Wakeup(2), Shape::Yield(3)], Answer::Taken),
+        (
+            &[Shape::Yield(2), Shape::One(1, 2, Says::Wakes)],
+            Answer::Taken,
+        ),
+        (&[Shape::Wakeup(2), Shape::Folded(2, 7)], Answer::Taken),
+        (&[Shape::Folded(2, 7), Shape::Folded(3, 8)], Answer::Taken),
+        (&THREE_CONFLICTS, Answer::Conflict(0, 2)),
+        (&TWO_CONFLICTS, Answer::Conflict(0, 5)),
+        (&ONE_CONFLICT, Answer::Conflict(1, 3)),
     ];
-    each_is_refused(&rt, rt.alloc(), &rows)
+    each_is_refused(&rt, rt.alloc(), ROWS)
 }
