@@ -145,19 +145,24 @@ fn refusal(alloc: Global, shapes: &[Shape]) -> Result<Option<DeltaFault>, Fail> 
     Ok(Delta::from_parts(parts(alloc, shapes)?).err())
 }
 
-#[test]
-fn a_part_tells_of_its_thread(rt: HostRuntime) -> Result<(), Fail> {
+/// What a message of t7 and a prefix of t9 tell of.
+fn threads_of_two(mask: Mask) -> (Tid, Tid) {
     let folded = Part::Folded {
         thread: Tid(9),
         upto: 2,
         reported: Reported {
             phase: Phase::Ready,
-            mask: Mask::new(3, 2)?,
+            mask,
             ran: 0,
             level: Level::LOWEST,
         },
     };
-    assert_eq!(rt; one(7, 2, Kind::Wakeup).thread(), Tid(7));
-    assert_eq!(rt; folded.thread(), Tid(9));
+    (one(7, 2, Kind::Wakeup).thread(), folded.thread())
+}
+
+#[test]
+fn a_part_tells_of_its_thread(rt: HostRuntime) -> Result<(), Fail> {
+    let mask = Mask::new(3, 2)?;
+    assert_eq!(rt; threads_of_two(mask), (Tid(7), Tid(9)));
     Ok(())
 }

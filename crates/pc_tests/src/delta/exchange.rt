@@ -140,38 +140,20 @@ fn is_as_its_copy(digest: &Digest) -> Result<bool, OutOfMemory> {
     Ok(is_same_digest(&copy, digest))
 }
 
-fn is_copied(alloc: Global, view: &View) -> Result<bool, OutOfMemory> {
-    let digest = digest(alloc, view)?;
-    is_as_its_copy(&digest)
-}
-
-fn has(alloc: Global, view: &View, thread: u32, number: u32) -> Result<bool, OutOfMemory> {
-    Ok(digest(alloc, view)?.has(Tid(thread), number))
-}
-
-fn is_digest_empty(alloc: Global, view: &View) -> Result<bool, OutOfMemory> {
-    Ok(digest(alloc, view)?.is_empty())
-}
-
 /// Whether the first digest is equal to the other, and to their join.
 fn is_as_joined(first: &Digest, other: &Digest) -> Result<bool, OutOfMemory> {
     let both = joined(first, other)?;
     Ok(is_same_digest(first, other) && is_same_digest(&both, first))
 }
 
-fn is_as_joined_with(alloc: Global, first: &Digest, view: &View) -> Result<bool, OutOfMemory> {
-    let other = digest(alloc, view)?;
-    is_as_joined(first, &other)
+fn digest_of_three(alloc: Global) -> Result<Digest, Fail> {
+    let view = view_of_three(alloc)?;
+    Ok(digest(alloc, &view)?)
 }
 
-fn has_digest_of(alloc: Global, view: &View, other: &View) -> Result<bool, OutOfMemory> {
-    let first = digest(alloc, view)?;
-    is_as_joined_with(alloc, &first, other)
-}
-
-fn has_digest_of_three(alloc: Global, view: &View) -> Result<bool, Fail> {
-    let other = view_of_three(alloc)?;
-    Ok(has_digest_of(alloc, view, &other)?)
+fn is_of_three(alloc: Global, digest: &Digest) -> Result<bool, Fail> {
+    let other = digest_of_three(alloc)?;
+    Ok(is_as_joined(digest, &other)?)
 }
 
 fn beside_nothing(first: &Digest, nothing: &Digest) -> (bool, bool, bool, bool) {
@@ -183,9 +165,9 @@ fn beside_nothing(first: &Digest, nothing: &Digest) -> (bool, bool, bool, bool) 
     )
 }
 
-fn beside_empty(alloc: Global, view: &View) -> Result<(bool, bool, bool, bool), OutOfMemory> {
-    let first = digest(alloc, view)?;
-    Ok(beside_nothing(&first, &Digest::new(alloc)))
+fn beside_empty(alloc: Global, digest: &Digest) -> (bool, bool, bool, bool) {
+    let nothing = Digest::new(alloc);
+    beside_nothing(digest, &nothing)
 }
 
 /// The answer to an empty digest.
@@ -266,18 +248,23 @@ fn fills(alloc: Global, view: &View, asker: &View) -> Result<bool, OutOfMemory> 
     Ok(is_filled(alloc, view, asker)? && is_answer_copied(alloc, view, asker)?)
 }
 
-/// Whether that is told of the view's digest.
-fn digest_tells(alloc: Global, view: &View, step: &Step) -> Result<bool, Fail> {
+/// Whether that is told of the digest.
+fn digest_tells(alloc: Global, digest: &Digest, step: &Step) -> Result<bool, Fail> {
     match *step {
-        Step::Has(thread, number, wanted) => Ok(has(alloc, view, thread, number)? == wanted),
-        Step::DigestEmpty(wanted) => Ok(is_digest_empty(alloc, view)? == wanted),
-        Step::DigestCopied => Ok(is_copied(alloc, view)?),
-        Step::DigestOfThree => has_digest_of_three(alloc, view),
+        Step::Has(thread, number, wanted) => Ok(digest.has(Tid(thread), number) == wanted),
+        Step::DigestEmpty(wanted) => Ok(digest.is_empty() == wanted),
+        Step::DigestCopied => Ok(is_as_its_copy(digest)?),
+        Step::DigestOfThree => is_of_three(alloc, digest),
         Step::DigestBesideEmpty(same, empty, over, under) => {
-            Ok(beside_empty(alloc, view)? == (same, empty, over, under))
+            Ok(beside_empty(alloc, digest) == (same, empty, over, under))
         }
         _ => Ok(false),
     }
+}
+
+fn own_digest_tells(alloc: Global, view: &View, step: &Step) -> Result<bool, Fail> {
+    let own = digest(alloc, view)?;
+    digest_tells(alloc, &own, step)
 }
 
 /// Whether that is told of the view, and of its answers.
@@ -291,7 +278,7 @@ fn answers(alloc: Global, view: &View, asker: &View, step: &Step) -> Result<bool
         }
         Step::AnswersAlike => is_answered_alike(alloc, view, asker),
         Step::Fills => Ok(fills(alloc, view, asker)?),
-        _ => digest_tells(alloc, view, step),
+        _ => own_digest_tells(alloc, view, step),
     }
 }
 
