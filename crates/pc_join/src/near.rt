@@ -14,21 +14,21 @@ use crate::walk::NearIter;
 use std::alloc::Global;
 use std::marker::Model;
 
-/// So many names have an index, which then takes 256 KiB at the most: no kernel gives as many. Names from here on come from
-/// deltas that somebody made up.
-pub const NEAR: u32 = 65_536;
+/// So many names have an index, which then takes 128 KiB at the most: no kernel gives more. Names from here on come from
+/// deltas that somebody made up. A place, counted from 1, is at most this, so it stands in 16 bits.
+pub const NEAR: u32 = 65_535;
 
 /// The index grows by so many names at once.
 const STEP: usize = 64;
 
-/// So many entries can be counted in 32 bits.
-const MOST: usize = u32::MAX as usize;
+/// So many entries can be counted in 16 bits.
+const MOST: usize = u16::MAX as usize;
 
 /// Values by near names: the place of each name, counted from 1, or 0, and entries in the order in which their names came. So
 /// a look-up reads one place and one entry, and a new name moves no other.
 #[derive(Drop)]
 pub struct Near<V: Join> {
-    places: Vec<u32>,
+    places: Vec<u16>,
     entries: Vec<(u32, V)>,
 }
 
@@ -44,7 +44,7 @@ impl<V: Join> Model for Near<V> {
 }
 
 /// The place of the name; 0 where it has none.
-fn place_of(places: &[u32], name: u32) -> u32
+fn place_of(places: &[u16], name: u32) -> u16
     ensures { result ≡ place_in places.now name }
 {
     match places.get(name as usize) {
@@ -54,7 +54,7 @@ fn place_of(places: &[u32], name: u32) -> u32
 }
 
 /// The entry at a place.
-pub(crate) fn entry_of<V>(entries: &[(u32, V)], place: u32) -> &(u32, V)
+pub(crate) fn entry_of<V>(entries: &[(u32, V)], place: u16) -> &(u32, V)
     requires some { 1 ≤ place }
     requires within { place ≤ length entries.now }
     ensures { entry_at entries.now place ≡ result.now ∷ [] }
@@ -63,7 +63,7 @@ pub(crate) fn entry_of<V>(entries: &[(u32, V)], place: u32) -> &(u32, V)
 }
 
 /// The value at a place.
-fn value_of<V>(entries: &[(u32, V)], place: u32) -> Option<&V>
+fn value_of<V>(entries: &[(u32, V)], place: u16) -> Option<&V>
     requires { place ≤ length entries.now }
     ensures { option_copied result ≡ first_value (entry_at entries.now place) }
 {
@@ -75,10 +75,10 @@ fn value_of<V>(entries: &[(u32, V)], place: u32) -> Option<&V>
 
 /// Joins a value to the one at the place of its name.
 fn join_at<V: Join>(
-    places: &[u32],
+    places: &[u16],
     entries: &mut Vec<(u32, V)>,
     name: u32,
-    place: u32,
+    place: u16,
     value: &V,
 ) -> Result<(), OutOfMemory>
     requires index { IsIndex places.now entries.old.items }
@@ -97,10 +97,10 @@ fn join_at<V: Join>(
 /// Joins a piece to the value at the place of its name.
 #[inline(always)]
 fn join_piece_at<V: Join, P: Piece<V>>(
-    places: &[u32],
+    places: &[u16],
     entries: &mut Vec<(u32, V)>,
     name: u32,
-    place: u32,
+    place: u16,
     piece: P,
 ) -> Result<(), OutOfMemory>
     requires index { IsIndex places.now entries.old.items }
@@ -116,7 +116,7 @@ fn join_piece_at<V: Join, P: Piece<V>>(
 
 /// Makes the index reach the name, and those just behind it, which mostly come next.
 #[inline(always)]
-fn reach(places: &mut Vec<u32>, name: u32) -> Result<(), OutOfMemory>
+fn reach(places: &mut Vec<u16>, name: u32) -> Result<(), OutOfMemory>
     requires near { length places.old.items ≤ NEAR }
     requires name { name < NEAR }
     ensures same { (other : ℕ) → place_in places.new.items other ≡ place_in places.old.items other }
@@ -126,14 +126,15 @@ fn reach(places: &mut Vec<u32>, name: u32) -> Result<(), OutOfMemory>
     if (name as usize) < places.len() {
         return Ok(());
     }
-    places.resize((name as usize / STEP + 1) * STEP, 0)?;
+    let reached = (name as usize / STEP + 1) * STEP;
+    places.resize(reached.min(NEAR as usize), 0)?;
     Ok(())
 }
 
 /// Puts a value under a name that has no place yet. The room comes first, so that the entry is made where it stays.
 #[inline(always)]
 fn start_at<V: Join>(
-    places: &mut Vec<u32>,
+    places: &mut Vec<u16>,
     entries: &mut Vec<(u32, V)>,
     name: u32,
     value: V,
@@ -155,7 +156,7 @@ fn start_at<V: Join>(
     reach(places, name)?;
     entries.reserve(1)?;
     entries.push_reserved((name, value));
-    places[name as usize] = entries.len() as u32;
+    places[name as usize] = entries.len() as u16;
     Ok(())
 }
 
@@ -163,9 +164,9 @@ fn start_at<V: Join>(
 #[inline(always)]
 fn is_same_at<V: PartialEq>(
     entries: &[(u32, V)],
-    place: u32,
+    place: u16,
     others: &[(u32, V)],
-    other: u32,
+    other: u16,
 ) -> bool
     requires within { place ≤ length entries.now }
     requires other_within { other ≤ length others.now }
@@ -179,9 +180,9 @@ fn is_same_at<V: PartialEq>(
 
 /// Whether the same names have equal values. Each name is compared where its places stand, so no name is read.
 fn is_same_by<V: PartialEq>(
-    places: &[u32],
+    places: &[u16],
     entries: &[(u32, V)],
-    other_places: &[u32],
+    other_places: &[u16],
     other_entries: &[(u32, V)],
 ) -> bool
     requires index { IsIndex places.now entries.now }
@@ -198,7 +199,7 @@ fn is_same_by<V: PartialEq>(
 }
 
 /// The least name from one on that has a place.
-fn next_name(places: &[u32], from: u32) -> Option<u32>
+fn next_name(places: &[u16], from: u32) -> Option<u32>
     requires { length places.now ≤ NEAR }
     ensures { FindsPlace places.now from result }
 {

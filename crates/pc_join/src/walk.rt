@@ -14,7 +14,7 @@ use std::marker::Model;
 /// The entries of near names that a walk has left: the places of their names, and all entries.
 #[derive(Drop)]
 pub struct NearIter<'a, V> {
-    places: &'a [u32],
+    places: &'a [u16],
     entries: &'a [(u32, V)],
 }
 
@@ -33,7 +33,7 @@ impl<'a, V> Model for NearIter<'a, V> {
 
 impl<'a, V> NearIter<'a, V> {
     /// The entries at these places.
-    pub(crate) fn of(places: &'a [u32], entries: &'a [(u32, V)]) -> Self
+    pub(crate) fn of(places: &'a [u16], entries: &'a [(u32, V)]) -> Self
         requires { AreWithin places.now entries.now }
         ensures { result ≡ entries_at places.now entries.now }
     {

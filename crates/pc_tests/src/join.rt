@@ -617,10 +617,10 @@ fn names_are_walked_in_order(rt: HostRuntime) {
 
 #[test]
 fn near_names_are_walked_before_the_others(rt: HostRuntime) {
-    static NAMES: [(u32, u32); 4] = [(65_536, 3), (9, 1), (1_000_000, 4), (65_535, 2)];
+    static NAMES: [(u32, u32); 4] = [(65_535, 3), (9, 1), (1_000_000, 4), (65_534, 2)];
     static STEPS: [Far<'static>; 1] = [Far::WalksInTwo(
-        &[(9, 1), (65_535, 2)],
-        &[(65_536, 3), (1_000_000, 4)],
+        &[(9, 1), (65_534, 2)],
+        &[(65_535, 3), (1_000_000, 4)],
     )];
     each_is(&rt, rt.alloc(), &NAMES, &STEPS);
 }
@@ -673,7 +673,7 @@ fn names_are_equal_where_they_hold_the_same(rt: HostRuntime) {
 
 #[test]
 fn names_far_apart_are_found_and_walked(rt: HostRuntime) {
-    static NAMES: [(u32, u32); 10] = [
+    static NAMES: [(u32, u32); 11] = [
         (4_294_967_295, 8),
         (64, 3),
         (0, 1),
@@ -682,10 +682,11 @@ fn names_far_apart_are_found_and_walked(rt: HostRuntime) {
         (1_000_000, 7),
         (127, 5),
         (65, 4),
-        (65_536, 10),
-        (65_535, 9),
+        (65_536, 11),
+        (65_535, 10),
+        (65_534, 9),
     ];
-    static STEPS: [Far<'static>; 18] = [
+    static STEPS: [Far<'static>; 20] = [
         Far::Walks(&[
             (0, 1),
             (63, 2),
@@ -693,8 +694,9 @@ fn names_far_apart_are_found_and_walked(rt: HostRuntime) {
             (65, 4),
             (127, 5),
             (128, 6),
-            (65_535, 9),
-            (65_536, 10),
+            (65_534, 9),
+            (65_535, 10),
+            (65_536, 11),
             (1_000_000, 7),
             (4_294_967_295, 8),
         ]),
@@ -703,15 +705,17 @@ fn names_far_apart_are_found_and_walked(rt: HostRuntime) {
         Far::Holds(66, None),
         Far::Holds(126, None),
         Far::Holds(192, None),
-        Far::Holds(65_534, None),
-        Far::Holds(65_535, Some(9)),
-        Far::Holds(65_536, Some(10)),
+        Far::Holds(65_533, None),
+        Far::Holds(65_534, Some(9)),
+        Far::Holds(65_535, Some(10)),
+        Far::Holds(65_536, Some(11)),
         Far::Holds(65_537, None),
         Far::Holds(4_294_967_295, Some(8)),
         Far::Next(1, Some(63)),
         Far::Next(64, Some(64)),
         Far::Next(66, Some(127)),
-        Far::Next(129, Some(65_535)),
+        Far::Next(129, Some(65_534)),
+        Far::Next(65_535, Some(65_535)),
         Far::Next(65_536, Some(65_536)),
         Far::Next(65_537, Some(1_000_000)),
         Far::Next(1_000_001, Some(4_294_967_295)),
@@ -728,10 +732,10 @@ fn names_put_in_descending_order_are_walked_in_ascending_order(rt: HostRuntime) 
 #[test]
 fn near_and_far_names_are_joined(rt: HostRuntime) {
     static STEPS: [Far<'static>; 2] = [
-        Far::Joins(&[(65_536, 3), (4_294_967_295, 4)], true, false),
-        Far::Walks(&[(65_535, 1), (65_536, 3), (4_294_967_295, 4)]),
+        Far::Joins(&[(65_535, 3), (4_294_967_295, 4)], true, false),
+        Far::Walks(&[(65_534, 1), (65_535, 3), (4_294_967_295, 4)]),
     ];
-    each_is(&rt, rt.alloc(), &[(65_535, 1), (65_536, 2)], &STEPS);
+    each_is(&rt, rt.alloc(), &[(65_534, 1), (65_535, 2)], &STEPS);
 }
 
 #[test]
