@@ -229,7 +229,9 @@ enum Step {
     Took(u64, usize),
     /// How many parts the delta has that was sent at this place.
     Parts(usize, usize),
+    /// As a new agent of CPU 0, but for its counts.
     FirstFresh,
+    /// As a new agent of CPU 1, but for its counts.
     OtherFresh,
     Alike,
     Waits(usize),

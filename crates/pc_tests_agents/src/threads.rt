@@ -1,4 +1,4 @@
-//! A book of two CPUs, with an agent for each, and ample memory: values written down by hand.
+//! A book of two CPUs, with an agent for each unless a test says otherwise, and ample memory: values written down by hand.
 
 mod agents;
 mod drawn;

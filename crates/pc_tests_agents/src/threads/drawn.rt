@@ -46,7 +46,7 @@ fn drawn_create(seed: &mut u64) -> EnvCall {
     }
 }
 
-/// The thread on a CPU leaves it, in one of four ways.
+/// The thread on a CPU leaves it, in one of four ways: by the number that `drawn_call` drew.
 fn drawn_exit(way: u32, seed: &mut u64) -> EnvCall {
     let cpu = drawn_cpu(seed);
     let ran = drawn(seed);

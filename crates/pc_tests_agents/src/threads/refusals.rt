@@ -40,7 +40,7 @@ fn a_book_is_of_profile_one(rt: HostRuntime) {
     assert_eq!(rt; bad_field(rt.alloc(), MANY), Some(LimitField::Threads));
 }
 
-fn is_replayed(book: &Book) {
+fn asks_for_laws(book: &Book) {
     book.is_replay();
     book.facts_hold();
 }
@@ -53,7 +53,7 @@ fn is_new(book: &Book) -> bool {
 fn begins_as_new(alloc: Global) -> bool {
     match Book::new(alloc, SMALL) {
         Ok(book) => {
-            is_replayed(&book);
+            asks_for_laws(&book);
             is_new(&book)
         }
         Err(_) => false,

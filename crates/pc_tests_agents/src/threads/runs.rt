@@ -108,7 +108,7 @@ fn is_so(report: &LoadReport, fact: &Fact<'_>) -> bool {
     }
 }
 
-/// The place of the first fact that is not so after the run, which comes to an end.
+/// The place of the first fact that is not so after the run. Nothing where there is no report.
 pub(crate) fn first_wrong(report: Option<LoadReport>, facts: &[Fact<'_>]) -> Option<Option<usize>> {
     match report {
         Some(report) => Some(first_wrong_of(&report, facts)),
@@ -125,7 +125,7 @@ fn first_wrong_of(report: &LoadReport, facts: &[Fact<'_>]) -> Option<usize> {
     None
 }
 
-/// What a run of these settings comes to, behind a gate.
+/// What a run of these settings comes to, behind a gate. Nothing where the settings are refused.
 pub(crate) fn gated_run<R: Threads + Wait + Sync, G: Gate + Sync>(
     rt: &R,
     alloc: Global,

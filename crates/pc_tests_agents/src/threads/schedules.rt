@@ -205,12 +205,12 @@ const ASKED_AGAIN: Hold = (0, 9, 1, 10);
 
 #[test]
 fn an_answer_takes_the_place_of_what_waits(rt: HostRuntime) {
-    let holds = [ASKED[0], ASKED[1], ASKED[2], ASKED_AGAIN];
     const FACTS: [Fact<'static>; 2] = [
         Fact::Totals([2, 5, 3, 3]),
         // Nothing stale: the first agent takes its thread back by the later answer, which tells the yield.
         Fact::FirstCounts([4, 3, 2, 0, 0, 8]),
     ];
+    let holds = [ASKED[0], ASKED[1], ASKED[2], ASKED_AGAIN];
     let turns = [(0, 2), (0, 3)];
     comes_to_held(&rt, rt.alloc(), 2, &TWO, &turns, &holds, &FACTS);
 }
@@ -218,8 +218,8 @@ fn an_answer_takes_the_place_of_what_waits(rt: HostRuntime) {
 #[test]
 fn what_was_answered_before_a_restart_is_kept(rt: HostRuntime) {
     // The other agent restarts behind its answer, and before it is told of the yield, which no agent would know if both forgot it.
-    let holds = [ASKED[0], ASKED[1], (0, 5, 1, 5), ASKED_AGAIN];
     const FACTS: [Fact<'static>; 1] = [Fact::Totals([2, 5, 3, 3])];
+    let holds = [ASKED[0], ASKED[1], (0, 5, 1, 5), ASKED_AGAIN];
     let turns = [(0, 2), (0, 3), (1, 2)];
     comes_to_held(&rt, rt.alloc(), 2, &TWO, &turns, &holds, &FACTS);
 }

@@ -63,7 +63,7 @@ fn asked(
     }
 }
 
-/// These settings, which are accepted.
+/// These settings, where they are accepted.
 pub(crate) fn config(
     alloc: Global,
     cpus: i64,
@@ -81,7 +81,7 @@ fn count_of(asked: Result<Config, ConfigFault>) -> Result<usize, ConfigFault> {
     }
 }
 
-/// As many threads of the queue that die at once.
+/// So many threads of the queue that die at once.
 fn add_crowd(alloc: Global, threads: &mut Vec<ThreadPlan>, count: usize, queue: i64) -> bool {
     for _ in 0..count {
         if !add_plan(alloc, threads, &(queue, 1, &DIES)) {

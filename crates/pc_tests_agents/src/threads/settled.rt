@@ -174,6 +174,7 @@ fn fault_of_later(alloc: Global, scene: &mut Scene) -> Option<RunFault> {
     }
 }
 
+/// The same over a new scene.
 fn fault_behind_nothing(alloc: Global) -> Option<RunFault> {
     match new_scene(alloc, SMALL, 1) {
         Some(mut scene) => fault_of_later(alloc, &mut scene),
