@@ -99,50 +99,55 @@ fn first_other(
     Ok(None)
 }
 
+const TOTALS: Asked = Asked::Run(ReportForm::Totals);
+
+const EACH_CPU: Asked = Asked::Run(ReportForm::EachCpu);
+
+const PICTURE: Asked = Asked::Run(ReportForm::Picture);
+
+/// Words, and what they ask for, of which file.
+static COMMANDS: [(&[&str], Asked, Option<&str>); 12] = [
+    (&["pc-sim", "replay"], Asked::Replay, None),
+    (
+        &["pc-sim", "replay", "a.script"],
+        Asked::Replay,
+        Some("a.script"),
+    ),
+    (
+        &["pc-sim", "explain", "a.script"],
+        Asked::Explain,
+        Some("a.script"),
+    ),
+    (&["pc-sim", "explain", "-"], Asked::Explain, None),
+    (
+        &["pc-sim", "draw", "a.script"],
+        Asked::Draw,
+        Some("a.script"),
+    ),
+    (&["pc-sim", "draw", "-"], Asked::Draw, None),
+    (&["pc-sim", "run"], TOTALS, None),
+    (&["pc-sim", "run", "-"], TOTALS, None),
+    (&["pc-sim", "run", "--per-cpu", "--draw"], PICTURE, None),
+    (
+        &["pc-sim", "run", "s.toml", "--per-cpu"],
+        EACH_CPU,
+        Some("s.toml"),
+    ),
+    (
+        &["pc-sim", "run", "--per-cpu", "s.toml"],
+        EACH_CPU,
+        Some("s.toml"),
+    ),
+    (
+        &["pc-sim", "run", "--draw", "s.toml"],
+        PICTURE,
+        Some("s.toml"),
+    ),
+];
+
 #[test]
 fn commands_are_read_off_the_command_line(rt: HostRuntime) -> Result<(), Fail> {
-    const TOTALS: Asked = Asked::Run(ReportForm::Totals);
-    const EACH_CPU: Asked = Asked::Run(ReportForm::EachCpu);
-    const PICTURE: Asked = Asked::Run(ReportForm::Picture);
-    const ROWS: [(&[&str], Asked, Option<&str>); 12] = [
-        (&["pc-sim", "replay"], Asked::Replay, None),
-        (
-            &["pc-sim", "replay", "a.script"],
-            Asked::Replay,
-            Some("a.script"),
-        ),
-        (
-            &["pc-sim", "explain", "a.script"],
-            Asked::Explain,
-            Some("a.script"),
-        ),
-        (&["pc-sim", "explain", "-"], Asked::Explain, None),
-        (
-            &["pc-sim", "draw", "a.script"],
-            Asked::Draw,
-            Some("a.script"),
-        ),
-        (&["pc-sim", "draw", "-"], Asked::Draw, None),
-        (&["pc-sim", "run"], TOTALS, None),
-        (&["pc-sim", "run", "-"], TOTALS, None),
-        (&["pc-sim", "run", "--per-cpu", "--draw"], PICTURE, None),
-        (
-            &["pc-sim", "run", "s.toml", "--per-cpu"],
-            EACH_CPU,
-            Some("s.toml"),
-        ),
-        (
-            &["pc-sim", "run", "--per-cpu", "s.toml"],
-            EACH_CPU,
-            Some("s.toml"),
-        ),
-        (
-            &["pc-sim", "run", "--draw", "s.toml"],
-            PICTURE,
-            Some("s.toml"),
-        ),
-    ];
-    assert_eq!(rt; first_other(rt.alloc(), &ROWS)?, None);
+    assert_eq!(rt; first_other(rt.alloc(), &COMMANDS)?, None);
     Ok(())
 }
 

@@ -181,13 +181,16 @@ const fn event(place: usize) -> Option<(Event, Option<Call>)> {
     })
 }
 
-/// The place of the first event that is another call.
+/// The place of the first event that is another call, or that is not counted.
 fn first_other_call() -> Option<usize> {
     for place in 0..EVENTS {
         match event(place) {
             Some((event, wanted)) if call_of(&event) == wanted => {}
             _ => return Some(place),
         }
+    }
+    if event(EVENTS).is_some() {
+        return Some(EVENTS);
     }
     None
 }
@@ -257,12 +260,15 @@ fn is_replied(place: usize) -> bool {
     }
 }
 
-/// The place of the first call that is replied something else.
+/// The place of the first call that is replied something else, or that is not counted.
 fn first_other_reply() -> Option<usize> {
     for place in 0..CALLS {
         if !is_replied(place) {
             return Some(place);
         }
+    }
+    if call(CALLS).is_some() {
+        return Some(CALLS);
     }
     None
 }

@@ -69,7 +69,7 @@ enum Step<'a> {
     Raises(Part, u8),
     /// The state after these kinds: phase, mask, ticks and level.
     Folds(&'a [Part], Phase, u64, u64, u8),
-    FoldsToNothing(&'a [Part]),
+    NothingFoldsToNothing,
     BeginsNothing(Part),
     Alike(Part, Part, bool),
     /// Whether the states of two threads are the same, that were created ready or not, or are none.
@@ -182,7 +182,7 @@ fn is_told(step: &Step<'_>) -> bool {
     match step {
         Step::WellFormed(number, part, wanted) => is_well_formed(*number, part, *wanted),
         Step::Folds(parts, phase, mask, ran, level) => folds(parts, *phase, *mask, *ran, *level),
-        Step::FoldsToNothing(parts) => folded(parts).is_none(),
+        Step::NothingFoldsToNothing => folded(&[]).is_none(),
         Step::Alike(part, other, wanted) => are_alike(part, other, *wanted),
         Step::StatesAlike(one, other, wanted) => are_states_alike(*one, *other, *wanted),
         Step::IsCreated(part, _)
@@ -292,7 +292,7 @@ fn the_state_of_a_list(rt: HostRuntime) {
     ];
     static STEPS: [Step<'static>; 3] = [
         Step::Folds(SIX, Phase::Ready, 2, 4, 2),
-        Step::FoldsToNothing(&[]),
+        Step::NothingFoldsToNothing,
         Step::BeginsNothing(Part::Wakeup),
     ];
     each_holds(&rt, &STEPS);

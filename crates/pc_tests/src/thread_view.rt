@@ -109,7 +109,7 @@ fn arrived_within(
     to: usize,
 ) -> Result<ThreadView, Fail> {
     match numbers.get(from..to) {
-        Some(some) => arrived(alloc, first, some),
+        Some(within) => arrived(alloc, first, within),
         None => Err("no such places".into()),
     }
 }

@@ -442,25 +442,31 @@ fn each_holds(rt: &impl Abort, alloc: Global, cases: &[Case]) -> Result<(), Fail
 // What was merged is covered, and a folded prefix is as its messages.
 #[test]
 fn merges_and_joins_do_not_depend_on_the_order(rt: HostRuntime) -> Result<(), Fail> {
-    const CASES: &[Case] = &[(
-        Start::Merged(&ODD, &EVEN),
-        &[
-            Step::As(Start::Merged(&EVEN, &ODD), true),
-            Step::As(Start::Joined(&ODD, &EVEN), true),
-            Step::As(Start::Joined(&EVEN, &ODD), true),
-            Step::Copied,
-            Step::Knows(1, 1, true),
-            Step::Odd(false, true, false),
-            Step::As(Start::Folded(&[]), false),
-            Step::As(Start::Folded(&[(1, 1, Says::Same)]), true),
-            Step::Held(0, Some((4, Some((Phase::Ready, 2))))),
-            Step::Held(2, None),
-            Step::Next(0, Some(0)),
-            Step::Next(1, Some(1)),
-            Step::Next(2, None),
-            Step::Nothing(false),
-        ],
-    )];
+    const CASES: &[Case] = &[
+        (
+            Start::Merged(&ODD, &EVEN),
+            &[
+                Step::As(Start::Merged(&EVEN, &ODD), true),
+                Step::As(Start::Joined(&ODD, &EVEN), true),
+                Step::As(Start::Joined(&EVEN, &ODD), true),
+                Step::Copied,
+                Step::Knows(1, 1, true),
+                Step::Odd(false, true, false),
+                Step::As(Start::Folded(&[]), false),
+                Step::As(Start::Folded(&[(1, 1, Says::Same)]), true),
+                Step::Held(0, Some((4, Some((Phase::Ready, 2))))),
+                Step::Held(2, None),
+                Step::Next(0, Some(0)),
+                Step::Next(1, Some(1)),
+                Step::Next(2, None),
+                Step::Nothing(false),
+            ],
+        ),
+        (
+            Start::Folded(&[(1, 1, Says::Same)]),
+            &[Step::As(Start::Merged(&ODD, &EVEN), true)],
+        ),
+    ];
     each_holds(&rt, rt.alloc(), CASES)
 }
 

@@ -1,7 +1,20 @@
 //! Lines that are faults.
 
 use super::{Ended, FAULT, each_ends, each_is_fault};
-use pc_script::Outcome;
+use pc_script::{Outcome, ScriptFault};
+
+/// How a script ends.
+type End = Result<Outcome, ScriptFault>;
+
+const AT_1: End = Ok(Outcome::FaultLine(1));
+
+const AT_2: End = Ok(Outcome::FaultLine(2));
+
+const AT_3: End = Ok(Outcome::FaultLine(3));
+
+const AT_4: End = Ok(Outcome::FaultLine(4));
+
+const AT_10: End = Ok(Outcome::FaultLine(10));
 
 #[test]
 fn a_fault_ends_the_script(rt: HostRuntime) {
@@ -9,61 +22,37 @@ fn a_fault_ends_the_script(rt: HostRuntime) {
         (
             b"enclave 2 8 100 16 1000\ncreate 0 3 Ready\nwake t0",
             b"ok\nfault line 2\n",
-            Ok(Outcome::FaultLine(2)),
+            AT_2,
         ),
-        (
-            b"# x\n\nwake t1\r\r",
-            b"fault line 3\n",
-            Ok(Outcome::FaultLine(3)),
-        ),
+        (b"# x\n\nwake t1\r\r", b"fault line 3\n", AT_3),
         (
             b"enclave 2 8 100 16 1000\ndeliver 0 18446744073709551615\ndeliver 0 18446744073709551616",
             b"ok\nrefused NoDelta\nfault line 3\n",
-            Ok(Outcome::FaultLine(3)),
+            AT_3,
         ),
         (
             b"enclave 2 8 100 16 1000\ntick 255\ntick 256",
             b"ok\nrefused BadCpu\nfault line 3\n",
-            Ok(Outcome::FaultLine(3)),
+            AT_3,
         ),
-        (
-            b"\n# x\n   \nx",
-            b"fault line 4\n",
-            Ok(Outcome::FaultLine(4)),
-        ),
-        (
-            b"\r\n#\r\nx\r\nwake t1",
-            b"fault line 3\n",
-            Ok(Outcome::FaultLine(3)),
-        ),
-        (
-            b"\n\n\n\n\n\n\n\n\n x \n",
-            b"fault line 10\n",
-            Ok(Outcome::FaultLine(10)),
-        ),
+        (b"\n# x\n   \nx", b"fault line 4\n", AT_4),
+        (b"\r\n#\r\nx\r\nwake t1", b"fault line 3\n", AT_3),
+        (b"\n\n\n\n\n\n\n\n\n x \n", b"fault line 10\n", AT_10),
         // A line that names a version stands first, and alone.
         (
             b"enclave 2 8 100 16 1000\nversion 2",
             b"ok\nfault line 2\n",
-            Ok(Outcome::FaultLine(2)),
+            AT_2,
         ),
-        (
-            b"version 2\nversion 2",
-            b"ok\nfault line 2\n",
-            Ok(Outcome::FaultLine(2)),
-        ),
-        (
-            b"# x\n\nversion 3",
-            b"fault line 3\n",
-            Ok(Outcome::FaultLine(3)),
-        ),
+        (b"version 2\nversion 2", b"ok\nfault line 2\n", AT_2),
+        (b"# x\n\nversion 3", b"fault line 3\n", AT_3),
         (
             b"# x\nversion 2\n\nversion 2\ntick 0",
             b"ok\nfault line 4\n",
-            Ok(Outcome::FaultLine(4)),
+            AT_4,
         ),
-        (b"wake t\xff", FAULT, Ok(Outcome::FaultLine(1))),
-        (b"\xc2\xa0", FAULT, Ok(Outcome::FaultLine(1))),
+        (b"wake t\xff", FAULT, AT_1),
+        (b"\xc2\xa0", FAULT, AT_1),
     ];
     each_ends(&rt, rt.alloc(), &ROWS);
 }

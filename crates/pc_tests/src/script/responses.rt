@@ -45,8 +45,8 @@ const fn posted(thread: Option<Tid>, number: Option<u32>, woken: Option<Cpu>) ->
     })
 }
 
-fn reply(line: &Line) -> Reply {
-    match *line {
+fn reply(line: &Line) -> Option<Reply> {
+    Some(match *line {
         Line::Posted(thread, number, woken) => {
             posted(Some(Tid(thread)), Some(number), Some(Cpu(woken)))
         }
@@ -62,8 +62,9 @@ fn reply(line: &Line) -> Reply {
         Line::Published(delta, items) => Reply::Published { delta, items },
         Line::Consumed(items) => Reply::Consumed { items },
         Line::Answered(delta) => Reply::Answered { delta },
-        _ => Reply::Done,
-    }
+        Line::Done => Reply::Done,
+        _ => return None,
+    })
 }
 
 /// The status of t0.
@@ -75,8 +76,8 @@ const fn status(number: u32, running_on: Option<Cpu>, phase: Phase) -> Response 
     }
 }
 
-fn response(line: &Line) -> Response {
-    match *line {
+fn response(line: &Line) -> Option<Response> {
+    Some(match *line {
         Line::Opened => Response::Opened,
         Line::NoEnclave => Response::NoEnclave,
         Line::HaveEnclave => Response::HaveEnclave,
@@ -85,8 +86,8 @@ fn response(line: &Line) -> Response {
         Line::Running(number, cpu) => status(number, Some(Cpu(cpu)), Phase::Ready),
         Line::Truth(truth) => Response::Truth(truth),
         Line::Sameness(sameness) => Response::Sameness(sameness),
-        _ => Response::Event(reply(line)),
-    }
+        _ => Response::Event(reply(line)?),
+    })
 }
 
 /// Whether this is the text, and a line feed.
@@ -106,10 +107,17 @@ fn is_written(alloc: Global, response: Response, text: &str) -> bool {
     }
 }
 
+fn is_told(alloc: Global, line: &Line, text: &str) -> bool {
+    match response(line) {
+        Some(response) => is_written(alloc, response, text),
+        None => false,
+    }
+}
+
 /// The place of the first line of which something else is written.
 fn first_wrong(alloc: Global, rows: &[(Line, &str)]) -> Option<usize> {
     for (place, (line, text)) in rows.iter().enumerate() {
-        if !is_written(alloc, response(line), text) {
+        if !is_told(alloc, line, text) {
             return Some(place);
         }
     }
@@ -124,7 +132,7 @@ fn is_answer(alloc: Global, refusal: &Refusal, text: &str) -> bool {
     is_written(alloc, Response::Refused(*refusal), text)
 }
 
-/// The place of the first refusal of which something else is written, to a question or to an event.
+/// The place of the first refusal of which something else is written, to a question or to an event, or that is not counted.
 fn first_misnamed(alloc: Global) -> Option<usize> {
     for place in 0..REFUSALS {
         match refusal(place) {
@@ -132,6 +140,9 @@ fn first_misnamed(alloc: Global) -> Option<usize> {
                 if is_answer(alloc, &refusal, text) && is_event(alloc, &refusal, text) => {}
             _ => return Some(place),
         }
+    }
+    if refusal(REFUSALS).is_some() {
+        return Some(REFUSALS);
     }
     None
 }
