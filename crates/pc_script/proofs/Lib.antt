@@ -1,6 +1,6 @@
+pub mod Notices
 pub mod Numerals
-pub mod Openings
-pub mod Progress
 pub mod Splits
 pub mod Spellings
 pub mod Taking
+pub mod Walking

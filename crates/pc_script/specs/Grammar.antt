@@ -158,5 +158,5 @@ IsFault line = (HasNoReply line → ⊥) × ((command : Command) → Spells (wor
 -- what a line asks for
 abbrev pub IsAsked : List ℕ → Wish → Type 0
 IsAsked line wish.Nothing = HasNoReply line
-IsAsked line (wish.Answer command) = Spells (words line) command
+IsAsked line (wish.Answer command) = (HasNoReply line → ⊥) × Spells (words line) command
 IsAsked line wish.Stop = IsFault line

@@ -1,6 +1,7 @@
 pub mod Lists
 pub mod Outputs
 pub mod Readings
-pub mod Steps
 pub mod Taking
 pub mod Verbs
+pub mod Walks
+pub mod Written

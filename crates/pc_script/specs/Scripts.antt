@@ -1,6 +1,7 @@
 -- What a script asks for, how it ends, and what is written.
-use Rattle.std.specs.Prelude.{◌≡◌, ℕ, suc, List, [], ◌∷◌, ◌++◌, flat_map, codes, decimal}
+use Rattle.std.specs.Prelude.{◌≡◌, ℕ, suc, List, [], ◌∷◌, ◌++◌, Option, flat_map, map, codes, decimal}
 use Rattle.pc_calls.specs.declared.limits.Profile.{Profile}
+use Rattle.pc_calls.specs.declared.limits.Profile.TheVariants.{One, Two}
 use Rattle.pc_script.specs.Grammar.{Spells, HasNoReply, IsFault}
 use Rattle.pc_script.specs.Responses.{response_text, text_line}
 use Rattle.pc_script.specs.Text.{lines, words}
@@ -20,6 +21,40 @@ pub data Script : ℕ → List (List ℕ) → List Command → Outcome → Type 
   fault : {number : ℕ} {line : List ℕ} {more : List (List ℕ)}
       → IsFault line → Script number (line ∷ more) [] (FaultLine number)
 
+-- ---- a run of a script
+
+-- A run of a script: in the profile that its lines name, the commands that they ask for, up to the end or to the first fault, and
+-- these responses to them
+pub record IsRunOf (IsRun : Profile → List Command → List Response → Type 0) (script : List (List ℕ)) (outcome : Outcome)
+    (profile : Profile) (responses : List Response) : Type 0 where
+  pub passed : ℕ
+  pub rest : List (List ℕ)
+  pub commands : List Command
+  pub opens : Opens profile passed rest script
+  pub asks : Script (suc passed) rest commands outcome
+  pub run : IsRun profile commands responses
+
+-- A run of a script until memory runs out: a line asks for a command whose answer found none, and these are the responses to the
+-- lines before it
+pub record IsRunUntil (IsRun : Profile → List Command → List Response → Type 0)
+    (RanOut : Profile → List Command → List Response → Command → Type 0) (script : List (List ℕ)) (profile : Profile)
+    (responses : List Response) : Type 0 where
+  pub passed : ℕ
+  pub rest : List (List ℕ)
+  pub opens : Opens profile passed rest script
+  pub before : List (List ℕ)
+  pub line : List ℕ
+  pub after : List (List ℕ)
+  pub cut : rest ≡ before ++ line ∷ after
+  pub commands : List Command
+  pub asks : Script (suc passed) before commands Finished
+  pub run : IsRun profile commands responses
+  pub command : Command
+  pub wants : Spells (words line) command
+  pub ran_out : RanOut profile commands responses command
+
+-- ---- what is written of it
+
 -- what is written at the end: the number of the line that is a fault
 abbrev pub outcome_text : Outcome → List ℕ
 outcome_text Finished = []
@@ -29,57 +64,73 @@ outcome_text (FaultLine number) = codes "fault line " ++ (decimal number ++ 10 �
 abbrev pub responses_text : List Response → List ℕ
 responses_text responses = flat_map (λ response. text_line (response_text response)) responses
 
--- What is told of lines, of which the first has this number: the responses of some run over the commands that they ask for,
--- and their fault
-pub record IsTold (IsRun : List Command → List Response → Type 0) (number : ℕ) (script : List (List ℕ)) (outcome : Outcome)
-    (told : List ℕ) : Type 0 where
-  pub commands : List Command
+-- the answer to the line that names the version, if there is one, and a line for each response
+abbrev pub answers_text : Profile → List Response → List ℕ
+answers_text profile responses = opening_text profile ++ responses_text responses
+
+-- The output of a script: what is written of a run of it
+pub record IsOutput (IsRun : Profile → List Command → List Response → Type 0) (text : List ℕ) (outcome : Outcome) (output : List ℕ)
+    : Type 0 where
+  pub profile : Profile
   pub responses : List Response
-  pub asks : Script number script commands outcome
-  pub run : IsRun commands responses
-  pub text : told ≡ responses_text responses ++ outcome_text outcome
+  pub runs : IsRunOf IsRun (lines text) outcome profile responses
+  pub written : output ≡ answers_text profile responses ++ outcome_text outcome
 
--- The output is the answer to the line that names the version, if there is one, and what is told of the rest in that
--- version's profile
-pub record IsOutputOf (IsRun : Profile → List Command → List Response → Type 0) (script : List (List ℕ)) (outcome : Outcome)
-    (output : List ℕ) : Type 0 where
+-- the output of a script until memory runs out at a command
+pub record IsOutputUntil (IsRun : Profile → List Command → List Response → Type 0)
+    (RanOut : Profile → List Command → List Response → Command → Type 0) (text : List ℕ) (output : List ℕ) : Type 0 where
   pub profile : Profile
-  pub passed : ℕ
-  pub rest : List (List ℕ)
-  pub told : List ℕ
-  pub opens : Opens profile passed rest script
-  pub tells : IsTold (IsRun profile) (suc passed) rest outcome told
-  pub text : output ≡ opening_text profile ++ told
+  pub responses : List Response
+  pub runs : IsRunUntil IsRun RanOut (lines text) profile responses
+  pub written : output ≡ answers_text profile responses
 
--- a text's output
-abbrev pub IsOutput : (Profile → List Command → List Response → Type 0) → List ℕ → Outcome → List ℕ → Type 0
-IsOutput IsRun text outcome output = IsOutputOf IsRun (lines text) outcome output
+-- ---- what an observer is told of it
 
--- What is told of lines until memory runs out: a line asks for a command whose answer found none, and what is told is that of
--- the lines before it
-pub record IsToldUntil (IsRun : List Command → List Response → Type 0) (RanOut : List Command → List Response → Command → Type 0)
-    (number : ℕ) (script : List (List ℕ)) (told : List ℕ) : Type 0 where
-  pub before : List (List ℕ)
-  pub line : List ℕ
-  pub after : List (List ℕ)
-  pub cut : script ≡ before ++ line ∷ after
-  pub tells : IsTold IsRun number before Finished told
-  pub command : Command
-  pub asks : Spells (words line) command
-  pub ran_out : RanOut tells.commands tells.responses command
+-- What an observer is told of a line that has a reply: that it names the version, the response to its command, or that the line with
+-- this number is a fault
+pub data Notice : Type 0 where
+  version_two : Notice
+  answered : Response → Notice
+  faulted : ℕ → Notice
 
--- the output until memory runs out at a command
-pub record IsOutputUntilOf (IsRun : Profile → List Command → List Response → Type 0)
-    (RanOut : Profile → List Command → List Response → Command → Type 0) (script : List (List ℕ)) (output : List ℕ) : Type 0 where
+-- the text of a notice
+abbrev pub notice_text : Notice → List ℕ
+notice_text version_two = text_line (codes "ok")
+notice_text (answered response) = text_line (response_text response)
+notice_text (faulted number) = outcome_text (FaultLine number)
+
+abbrev pub notices_text : List Notice → List ℕ
+notices_text notices = flat_map notice_text notices
+
+-- what is told of a version, of responses, and of an end
+abbrev pub opening_notices : Profile → List Notice
+opening_notices One = []
+opening_notices Two = version_two ∷ []
+
+abbrev pub outcome_notices : Outcome → List Notice
+outcome_notices Finished = []
+outcome_notices (FaultLine number) = faulted number ∷ []
+
+abbrev pub answer_notices : Profile → List Response → List Notice
+answer_notices profile responses = opening_notices profile ++ map answered responses
+
+-- What a list of notices makes of an observer and of what the writer holds
+abbrev pub Telling : Type 0 → Type 1
+Telling O = O → Option (List ℕ) → List Notice → O → Option (List ℕ) → Type 0
+
+-- A script was walked over: the observer was told of a run of it, line by line
+pub record IsWalked {O : Type 0} (Tells : Telling O) (IsRun : Profile → List Command → List Response → Type 0)
+    (script : List (List ℕ)) (outcome : Outcome) (old : O) (before : Option (List ℕ)) (new : O) (after : Option (List ℕ)) : Type 0 where
   pub profile : Profile
-  pub passed : ℕ
-  pub rest : List (List ℕ)
-  pub told : List ℕ
-  pub opens : Opens profile passed rest script
-  pub tells : IsToldUntil (IsRun profile) (RanOut profile) (suc passed) rest told
-  pub text : output ≡ opening_text profile ++ told
+  pub responses : List Response
+  pub runs : IsRunOf IsRun script outcome profile responses
+  pub told : Tells old before (answer_notices profile responses ++ outcome_notices outcome) new after
 
--- a text's output until memory runs out at a command
-abbrev pub IsOutputUntil : (Profile → List Command → List Response → Type 0) → (Profile → List Command → List Response → Command → Type 0)
-    → List ℕ → List ℕ → Type 0
-IsOutputUntil IsRun RanOut text output = IsOutputUntilOf IsRun RanOut (lines text) output
+-- the same until memory runs out at a command
+pub record IsWalkedUntil {O : Type 0} (Tells : Telling O) (IsRun : Profile → List Command → List Response → Type 0)
+    (RanOut : Profile → List Command → List Response → Command → Type 0) (script : List (List ℕ)) (old : O)
+    (before : Option (List ℕ)) (new : O) (after : Option (List ℕ)) : Type 0 where
+  pub profile : Profile
+  pub responses : List Response
+  pub runs : IsRunUntil IsRun RanOut script profile responses
+  pub told : Tells old before (answer_notices profile responses) new after

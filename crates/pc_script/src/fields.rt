@@ -8,6 +8,7 @@ ghost use Rattle.pc_script.specs.Inner.Readings as reading;
 ghost use Rattle.pc_script.specs.Inner.Taking.{words_left};
 
 use crate::digits::byte;
+use crate::trouble::Wanted;
 use crate::words::Words;
 use pc_messages::{Cpu, Tid};
 
@@ -16,6 +17,11 @@ pub(crate) trait Argument: Copy {
     ghost kind: { Kind };
 
     ghost field: { Self → Field };
+
+    /// What such a field is.
+    fn wanted() -> Wanted
+    where
+        Self: Sized;
 
     /// Takes the next word, where it is such a field.
     fn read(words: &mut Words<'_>) -> Option<Self>
@@ -90,6 +96,10 @@ impl Argument for Processors {
 
     ghost is_one_word = { refl };
 
+    fn wanted() -> Wanted {
+        Wanted::Cpus
+    }
+
     fn read(words: &mut Words<'_>) -> Option<Self> {
         Some(Processors(words.byte()?))
     }
@@ -101,6 +111,10 @@ impl Argument for Processor {
     ghost field = { λ read. grammar.Processor read.0 };
 
     ghost is_one_word = { refl };
+
+    fn wanted() -> Wanted {
+        Wanted::Cpu
+    }
 
     fn read(words: &mut Words<'_>) -> Option<Self> {
         Some(Processor(Cpu(words.byte()?)))
@@ -114,6 +128,10 @@ impl Argument for Queue {
 
     ghost is_one_word = { refl };
 
+    fn wanted() -> Wanted {
+        Wanted::Queue
+    }
+
     fn read(words: &mut Words<'_>) -> Option<Self> {
         Some(Queue(Cpu(words.byte()?)))
     }
@@ -125,6 +143,10 @@ impl Argument for Level {
     ghost field = { λ read. grammar.Level read.0 };
 
     ghost is_one_word = { refl };
+
+    fn wanted() -> Wanted {
+        Wanted::Level
+    }
 
     fn read(words: &mut Words<'_>) -> Option<Self> {
         Some(Level(words.byte()?))
@@ -138,6 +160,10 @@ impl Argument for Count {
 
     ghost is_one_word = { refl };
 
+    fn wanted() -> Wanted {
+        Wanted::Count
+    }
+
     fn read(words: &mut Words<'_>) -> Option<Self> {
         Some(Count(words.count()?))
     }
@@ -149,6 +175,10 @@ impl Argument for Mask {
     ghost field = { λ read. grammar.Mask read.0 };
 
     ghost is_one_word = { refl };
+
+    fn wanted() -> Wanted {
+        Wanted::Mask
+    }
 
     fn read(words: &mut Words<'_>) -> Option<Self> {
         Some(Mask(words.number()?))
@@ -162,6 +192,10 @@ impl Argument for Index {
 
     ghost is_one_word = { refl };
 
+    fn wanted() -> Wanted {
+        Wanted::Index
+    }
+
     fn read(words: &mut Words<'_>) -> Option<Self> {
         Some(Index(words.number()?))
     }
@@ -174,6 +208,10 @@ impl Argument for Thread {
 
     ghost is_one_word = { refl };
 
+    fn wanted() -> Wanted {
+        Wanted::Thread
+    }
+
     fn read(words: &mut Words<'_>) -> Option<Self> {
         Some(Thread(Tid(words.thread()?)))
     }
@@ -185,6 +223,10 @@ impl Argument for State {
     ghost field = { λ read. grammar.State read.0 };
 
     ghost is_one_word = { refl };
+
+    fn wanted() -> Wanted {
+        Wanted::State
+    }
 
     fn read(words: &mut Words<'_>) -> Option<Self> {
         let word = words.next()?;
@@ -204,6 +246,10 @@ impl Argument for Target {
     ghost field = { λ read. grammar.Target read.0 };
 
     ghost is_one_word = { refl };
+
+    fn wanted() -> Wanted {
+        Wanted::Target
+    }
 
     fn read(words: &mut Words<'_>) -> Option<Self> {
         let word = words.next()?;

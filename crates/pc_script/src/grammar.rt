@@ -12,12 +12,13 @@ use crate::fields::{
     Arguments, Count, Failure, Index, Level, Mask, Processor, Processors, Queue, State, Target,
     Thread,
 };
+use crate::trouble::{Trouble, failure_trouble, one_too_many, trouble_with};
 use crate::words::Words;
 use pc_calls::{EnvCall, Event, Limits};
 
 /// The first word of a command.
-#[derive(Clone, Copy)]
-enum Verb {
+#[derive(Clone, Copy, Debug, PartialEq, Eq)]
+pub enum Verb {
     Enclave,
     Create,
     Wake,
@@ -90,14 +91,77 @@ macro_rules! pairs {
     ($first:pat, $($others:tt)+) => { ($first, pairs!($($others)+)) };
 }
 
-/// The command of a verb whose fields are the words that are left, from a table.
+/// Hands the table of commands to a macro, behind what is given: of each verb the fields that stand behind its word, and the
+/// command that they make.
+macro_rules! table {
+    ($make:ident, $($given:expr),+) => {
+        $make!($($given),+;
+            Enclave(Processors(cpus), Count(threads), Count(numbers), Count(room), Count(posts)) =>
+                Command::Enclave(Limits { cpus, threads, numbers, room, posts }),
+            Create(Queue(queue), Mask(mask), State(ready)) => Command::Event(Event::Env(EnvCall::Create { queue, mask, ready })),
+            Wake(Thread(thread)) => Command::Event(Event::Env(EnvCall::Wake { thread })),
+            Block(Processor(cpu), Count(ran)) => Command::Event(Event::Env(EnvCall::Block { cpu, ran })),
+            Yield(Processor(cpu), Count(ran)) => Command::Event(Event::Env(EnvCall::YieldNow { cpu, ran })),
+            Preempt(Processor(cpu), Count(ran)) => Command::Event(Event::Env(EnvCall::Preempt { cpu, ran })),
+            Die(Processor(cpu), Count(ran)) => Command::Event(Event::Env(EnvCall::Die { cpu, ran })),
+            Affinity(Thread(thread), Mask(mask)) => Command::Event(Event::Env(EnvCall::SetAffinity { thread, mask })),
+            Priority(Thread(thread), Level(level)) => Command::Event(Event::Env(EnvCall::SetPriority { thread, level })),
+            Tick(Processor(cpu)) => Command::Event(Event::Env(EnvCall::Tick { cpu })),
+            Associate(Thread(thread), Queue(queue), Count(number)) => Command::Event(Event::Associate { thread, queue, number }),
+            Commit(Processor(cpu), Thread(thread), Count(aseq)) => Command::Event(Event::Commit { cpu, thread, aseq }),
+            Sleep(Processor(cpu), Count(aseq)) => Command::Event(Event::Sleep { cpu, aseq }),
+            Rouse(Processor(cpu)) => Command::Event(Event::Rouse { cpu }),
+            Config(Queue(queue), Target(target)) => Command::Event(Event::Config { queue, target }),
+            Publish(Processor(cpu), Failure(fails)) => Command::Event(Event::Publish { cpu, fails }),
+            Consume(Processor(cpu)) => Command::Event(Event::Consume { cpu }),
+            Deliver(Processor(cpu), Index(delta)) => Command::Event(Event::Deliver { cpu, delta }),
+            Answer(Processor(cpu), Processor(asker)) => Command::Event(Event::Answer { cpu, asker }),
+            Pick(Processor(cpu), Count(aseq)) => Command::Event(Event::Pick { cpu, aseq }),
+            Steal(Processor(cpu)) => Command::Event(Event::Steal { cpu }),
+            Crash(Processor(cpu)) => Command::Event(Event::Crash { cpu }),
+            Status(Thread(thread)) => Command::Read(Read::Status { thread }),
+            Asleep(Processor(cpu)) => Command::Read(Read::Asleep { cpu }),
+            Show(Processor(cpu)) => Command::Read(Read::Show { cpu }),
+            Same(Processor(cpu), Processor(other)) => Command::Read(Read::Same { cpu, other }),
+            Complete(Processor(cpu), Thread(thread)) => Command::Read(Read::Complete { cpu, thread })
+        )
+    };
+}
+
+/// The command of a verb whose fields are the words that are left.
 macro_rules! read {
-    ($verb:expr, $words:expr, $($name:ident($($fields:tt)+) => $command:expr),+) => {
+    ($verb:expr, $words:expr; $($name:ident($($fields:tt)+) => $command:expr),+) => {
         match $verb {
             $(Verb::$name => match Arguments::read($words) {
                 Some(pairs!($($fields)+)) => Some($command),
                 None => None,
             })+
+        }
+    };
+}
+
+/// The first trouble with fields that should be the words from a place on. A failure stands last.
+macro_rules! first_trouble {
+    ($words:expr, $place:expr; Failure($last:pat)) => { failure_trouble($words, $place) };
+    ($words:expr, $place:expr; $last:ident($value:pat)) => {
+        match trouble_with::<$last>($words, $place) {
+            Some(trouble) => Some(trouble),
+            None => one_too_many($words, $place + 1),
+        }
+    };
+    ($words:expr, $place:expr; $first:ident($value:pat), $($others:tt)+) => {
+        match trouble_with::<$first>($words, $place) {
+            Some(trouble) => Some(trouble),
+            None => first_trouble!($words, $place + 1; $($others)+),
+        }
+    };
+}
+
+/// The first trouble with the words that are left behind a verb's.
+macro_rules! troubles {
+    ($verb:expr, $words:expr; $($name:ident($($fields:tt)+) => $command:expr),+) => {
+        match $verb {
+            $(Verb::$name => first_trouble!($words, 2; $($fields)+),)+
         }
     };
 }
@@ -110,36 +174,7 @@ fn read_as(verb: Verb, words: &mut Words<'_>) -> Option<Command>
         ((any : List Field) → kinds_of any ≡ kinds verb → AreInRange any → words_left words.old ≡ words_of any → ⊥)
         (Spells (name_of verb ∷ words_left words.old)) }
 {
-    read!(verb, words,
-        Enclave(Processors(cpus), Count(threads), Count(numbers), Count(room), Count(posts)) =>
-            Command::Enclave(Limits { cpus, threads, numbers, room, posts }),
-        Create(Queue(queue), Mask(mask), State(ready)) => Command::Event(Event::Env(EnvCall::Create { queue, mask, ready })),
-        Wake(Thread(thread)) => Command::Event(Event::Env(EnvCall::Wake { thread })),
-        Block(Processor(cpu), Count(ran)) => Command::Event(Event::Env(EnvCall::Block { cpu, ran })),
-        Yield(Processor(cpu), Count(ran)) => Command::Event(Event::Env(EnvCall::YieldNow { cpu, ran })),
-        Preempt(Processor(cpu), Count(ran)) => Command::Event(Event::Env(EnvCall::Preempt { cpu, ran })),
-        Die(Processor(cpu), Count(ran)) => Command::Event(Event::Env(EnvCall::Die { cpu, ran })),
-        Affinity(Thread(thread), Mask(mask)) => Command::Event(Event::Env(EnvCall::SetAffinity { thread, mask })),
-        Priority(Thread(thread), Level(level)) => Command::Event(Event::Env(EnvCall::SetPriority { thread, level })),
-        Tick(Processor(cpu)) => Command::Event(Event::Env(EnvCall::Tick { cpu })),
-        Associate(Thread(thread), Queue(queue), Count(number)) => Command::Event(Event::Associate { thread, queue, number }),
-        Commit(Processor(cpu), Thread(thread), Count(aseq)) => Command::Event(Event::Commit { cpu, thread, aseq }),
-        Sleep(Processor(cpu), Count(aseq)) => Command::Event(Event::Sleep { cpu, aseq }),
-        Rouse(Processor(cpu)) => Command::Event(Event::Rouse { cpu }),
-        Config(Queue(queue), Target(target)) => Command::Event(Event::Config { queue, target }),
-        Publish(Processor(cpu), Failure(fails)) => Command::Event(Event::Publish { cpu, fails }),
-        Consume(Processor(cpu)) => Command::Event(Event::Consume { cpu }),
-        Deliver(Processor(cpu), Index(delta)) => Command::Event(Event::Deliver { cpu, delta }),
-        Answer(Processor(cpu), Processor(asker)) => Command::Event(Event::Answer { cpu, asker }),
-        Pick(Processor(cpu), Count(aseq)) => Command::Event(Event::Pick { cpu, aseq }),
-        Steal(Processor(cpu)) => Command::Event(Event::Steal { cpu }),
-        Crash(Processor(cpu)) => Command::Event(Event::Crash { cpu }),
-        Status(Thread(thread)) => Command::Read(Read::Status { thread }),
-        Asleep(Processor(cpu)) => Command::Read(Read::Asleep { cpu }),
-        Show(Processor(cpu)) => Command::Read(Read::Show { cpu }),
-        Same(Processor(cpu), Processor(other)) => Command::Read(Read::Same { cpu, other }),
-        Complete(Processor(cpu), Thread(thread)) => Command::Read(Read::Complete { cpu, thread })
-    )
+    table!(read, verb, words)
 }
 
 /// The command that a line with this first word spells, and with the words that are left after it.
@@ -149,4 +184,13 @@ pub(crate) fn command_of(name: &[u8], words: &mut Words<'_>) -> Option<Command>
 {
     let verb = verb_of(name)?;
     read_as(verb, words)
+}
+
+/// What is wrong with a line whose first word is this one, and with the words that are left after it; nothing, where they spell a
+/// command.
+pub(crate) fn trouble_of<'a>(name: &'a [u8], words: &mut Words<'a>) -> Option<Trouble<'a>> {
+    match verb_of(name) {
+        Some(verb) => table!(troubles, verb, words),
+        None => Some(Trouble::NoCommand { word: name }),
+    }
 }

@@ -11,10 +11,10 @@ use std::io::Read;
 /// The greatest length of a script, in bytes.
 pub const MOST_BYTES: usize = 16_777_216;
 
-/// Reads once, and adds what was read to the text. Answers false at the end.
-fn read_more<R: Read>(reader: &mut R, text: &mut Vec<u8>) -> Result<bool, ScriptFault>
-    requires { length text.old.items ≤ MOST_BYTES }
-    ensures reads { (bytes : List ℕ) × (length text.old.items + length bytes ≤ MOST_BYTES + 1)
+/// Reads once, no more than a byte past the greatest length, and adds what was read to the text. Answers false at the end.
+fn read_more<R: Read>(reader: &mut R, text: &mut Vec<u8>, most: usize) -> Result<bool, ScriptFault>
+    requires { length text.old.items ≤ most }
+    ensures reads { (bytes : List ℕ) × (length text.old.items + length bytes ≤ most + 1)
         × Consumes (R.remaining reader.old) (R.remaining reader.new) bytes
         × OnOk result (text.new.items ≡ text.old.items ++ bytes) }
     ensures ok { IfOk result (λ more. MatchBool more
@@ -23,7 +23,7 @@ fn read_more<R: Read>(reader: &mut R, text: &mut Vec<u8>) -> Result<bool, Script
     ensures not_long { (result ≢ Err ScriptFault.TooLong) × (result ≢ Err ScriptFault.Write) }
 {
     let mut buffer = [0u8; 8_192];
-    let room = buffer.len().min(MOST_BYTES + 1 - text.len());
+    let room = buffer.len().min((most - text.len()).saturating_add(1));
     let Ok(count) = reader.read(&mut buffer[..room]) else {
         return Err(ScriptFault::Read);
     };
@@ -36,9 +36,30 @@ fn read_more<R: Read>(reader: &mut R, text: &mut Vec<u8>) -> Result<bool, Script
     }
 }
 
-/// Reads a script's text to the end, which is the first read that gives nothing, and no more than a byte past the greatest length.
+/// Reads a text to the end, which is the first read that gives nothing, and no more than a byte past the greatest length, in bytes.
 ///
-/// The fault is `Read` where a read failed, `TooLong` past [`MOST_BYTES`], or `OutOfMemory`; there is no text then.
+/// The fault is `Read` where a read failed, `TooLong` past the greatest length, or `OutOfMemory`; there is no text then.
+pub fn read_bytes<R: Read>(
+    alloc: Global,
+    reader: &mut R,
+    most: usize,
+) -> Result<Vec<u8>, ScriptFault>
+    ensures ok { IfOk result (λ text. IfSome (R.remaining reader.old) (λ bytes. bytes ≡ text.items)) }
+    ensures short { IfOk result (λ text. length text.items ≤ most) }
+    ensures too_long { result ≡ Err ScriptFault.TooLong → IfSome (R.remaining reader.old) (λ bytes. most < length bytes) }
+    ensures no_write { result ≢ Err ScriptFault.Write }
+    ensures reads { (bytes : List ℕ) × (length bytes ≤ most + 1) × Consumes (R.remaining reader.old) (R.remaining reader.new) bytes }
+{
+    let mut text = Vec::new(alloc);
+    while text.len() <= most {
+        if !read_more(reader, &mut text, most)? {
+            return Ok(text);
+        }
+    }
+    Err(ScriptFault::TooLong)
+}
+
+/// Reads a script's text, as [`read_bytes`] does, of no more than [`MOST_BYTES`].
 pub fn read_text<R: Read>(alloc: Global, reader: &mut R) -> Result<Vec<u8>, ScriptFault>
     ensures ok { IfOk result (λ text. IfSome (R.remaining reader.old) (λ bytes. bytes ≡ text.items)) }
     ensures short { IfOk result (λ text. length text.items ≤ MOST_BYTES) }
@@ -46,11 +67,5 @@ pub fn read_text<R: Read>(alloc: Global, reader: &mut R) -> Result<Vec<u8>, Scri
     ensures no_write { result ≢ Err ScriptFault.Write }
     ensures reads { (bytes : List ℕ) × (length bytes ≤ MOST_BYTES + 1) × Consumes (R.remaining reader.old) (R.remaining reader.new) bytes }
 {
-    let mut text = Vec::new(alloc);
-    while text.len() <= MOST_BYTES {
-        if !read_more(reader, &mut text)? {
-            return Ok(text);
-        }
-    }
-    Err(ScriptFault::TooLong)
+    read_bytes(alloc, reader, MOST_BYTES)
 }

@@ -1,116 +1,102 @@
-//! Running a script.
+//! Running a script: the observer that writes a reply for each line that has one.
 
-ghost use Rattle.std.specs.Prelude.{◌≡◌, ◌≢◌, ◌⊎◌, ◌+◌, ℕ, suc, List, [], ◌<◌, ◌≤◌, length, IfOk, IfSome, OnOk};
+ghost use Rattle.std.specs.Prelude.{◌≡◌, ◌≢◌, ◌⊎◌, ◌+◌, ℕ, List, [], ◌++◌, ◌<◌, ◌≤◌, length, IfOk, IfSome, IsTrue, OnOk, refl};
 ghost use Rattle.std.specs.Io.KnownBytes.{Appends, Consumes};
-ghost use Rattle.pc_script.specs.Inner.Outputs.{output_held};
-ghost use Rattle.pc_script.specs.Left.{lines_of_rest};
-ghost use Rattle.pc_script.specs.Scripts.{IsOutput, IsOutputUntil, IsTold, IsToldUntil, outcome_text};
-ghost use Rattle.pc_script.specs.Versions.{opening_text};
+ghost use Rattle.pc_script.specs.Inner.Outputs.{output_held, waiting};
+ghost use Rattle.pc_script.specs.Scripts.{IsOutput, IsOutputUntil, notices_text, outcome_text};
+ghost use Rattle.pc_script.specs.declared.outcome.Outcome.{Outcome};
+ghost use Rattle.pc_script.specs.declared.outcome.ScriptFault.{ScriptFault};
+ghost use Rattle.pc_script.specs.Inner.Written.{written_more, written_nothing};
 
+use crate::command::Command;
 use crate::input::{MOST_BYTES, read_text};
-use crate::line::take_line;
-use crate::lines::lines_of;
 use crate::machine::Machine;
-use crate::opening::{Opening, opening_of};
+use crate::observer::{Line, Observer};
 use crate::outcome::{Outcome, ScriptFault};
 use crate::output::Output;
 use crate::response::Response;
-use pc_calls::Profile;
+use crate::walker::walk;
 use std::alloc::Global;
 use std::io::{Read, Write};
 
-/// Writes what waits, and that the line with this number is a fault.
-fn write_fault<W: Write>(
-    number: u32,
-    output: &mut Output,
-    writer: &mut W,
-) -> Result<Outcome, ScriptFault>
-    ensures ok { IfOk result (λ outcome. (outcome ≡ Outcome.FaultLine number)
-        × Appends (output_held (W.contents writer.old) output.old) (output_held (W.contents writer.new) output.new)
-        (outcome_text (Outcome.FaultLine number))) }
-    ensures err { (result ≢ Err ScriptFault.OutOfMemory) × (result ≢ Err ScriptFault.Read) × (result ≢ Err ScriptFault.TooLong) }
-{
-    if !output.write_out(writer) {
-        return Err(ScriptFault::Write);
-    }
-    match writeln!(writer, "fault line {number}") {
-        Ok(()) => Ok(Outcome::FaultLine(number)),
-        Err(_) => Err(ScriptFault::Write),
-    }
+/// Writes a reply for each line that has one. Replies may wait in the output.
+#[derive(Drop)]
+struct Replies {
+    output: Output,
 }
 
-/// Answers the line `version 2`, if the script has one.
-fn write_opening<W: Write>(profile: Profile, writer: &mut W) -> Result<(), ScriptFault>
-    ensures ok { OnOk result (Appends (W.contents writer.old) (W.contents writer.new) (opening_text profile)) }
-    ensures err { (result ≢ Err ScriptFault.OutOfMemory) × (result ≢ Err ScriptFault.Read) × (result ≢ Err ScriptFault.TooLong) }
-{
-    match profile {
-        Profile::One => Ok(()),
-        Profile::Two => {
-            match writeln!(writer, "ok") {
-                Ok(()) => Ok(()),
-                Err(_) => Err(ScriptFault::Write),
-            }
+impl Replies {
+    /// Writes what waits, however the walk ended; after a write that failed nothing more is written.
+    fn end<W: Write>(
+        &mut self,
+        ended: Result<Outcome, ScriptFault>,
+        writer: &mut W,
+    ) -> Result<Outcome, ScriptFault>
+        ensures same { (result ≡ ended) ⊎ (result ≡ Err ScriptFault.Write) }
+        ensures written { (result ≡ Err ScriptFault.Write) ⊎ Appends (W.contents writer.old) (W.contents writer.new) (waiting self.old.output.waiting) }
+    {
+        if let Err(ScriptFault::Write) = ended {
+            return ended;
+        }
+        if self.output.write_out(writer) {
+            ended
+        } else {
+            Err(ScriptFault::Write)
         }
     }
 }
 
-/// Takes the lines that are left of a text, up to the end or the first fault. What is replied may wait in the output.
-fn take_lines<M: Machine, W: Write>(
-    opening: &Opening<'_>,
-    machine: &mut M,
-    output: &mut Output,
-    writer: &mut W,
-) -> Result<Outcome, ScriptFault>
-    requires short { opening.now.passed + length (lines_of_rest opening.now.rest) ≤ MOST_BYTES + 1 }
-    requires fresh { M.StandsAfter opening.now.profile machine.old [] [] }
-    ensures ok { IfOk result (λ outcome. (told : List ℕ)
-        × IsTold (M.IsRun opening.now.profile) (suc opening.now.passed) (lines_of_rest opening.now.rest) outcome told
-        × Appends (output_held (W.contents writer.old) output.old) (output_held (W.contents writer.new) output.new) told) }
-    ensures no_memory { result ≡ Err ScriptFault.OutOfMemory → (told : List ℕ)
-        × IsToldUntil (M.IsRun opening.now.profile) (M.RanOut opening.now.profile) (suc opening.now.passed) (lines_of_rest opening.now.rest) told
-        × Appends (output_held (W.contents writer.old) output.old) (output_held (W.contents writer.new) output.new) told }
-    ensures read_all { (result ≢ Err ScriptFault.Read) × (result ≢ Err ScriptFault.TooLong) }
+/// What a write that ended so leaves of a walk.
+fn unless_failed(is_written: bool) -> Result<(), ScriptFault>
+    ensures ok { OnOk result (IsTrue is_written) }
+    ensures err { (fault : ScriptFault) → result ≡ Err fault → fault ≡ ScriptFault.Write }
 {
-    let mut number = opening.passed;
-    // Each response stands where the one before it stood.
-    let mut response = Response::Opened;
-    for line in lines_of(opening.rest) {
-        number += 1;
-        if !take_line(line, machine, &mut response, output, writer)? {
-            return write_fault(number, output, writer);
-        }
-    }
-    Ok(Outcome::Finished)
-}
-
-/// Runs the lines that are left of a text, up to the end or the first fault, and writes all that is replied.
-fn run_lines<M: Machine, W: Write>(
-    opening: &Opening<'_>,
-    machine: &mut M,
-    writer: &mut W,
-) -> Result<Outcome, ScriptFault>
-    requires short { opening.now.passed + length (lines_of_rest opening.now.rest) ≤ MOST_BYTES + 1 }
-    requires fresh { M.StandsAfter opening.now.profile machine.old [] [] }
-    ensures ok { IfOk result (λ outcome. (told : List ℕ)
-        × IsTold (M.IsRun opening.now.profile) (suc opening.now.passed) (lines_of_rest opening.now.rest) outcome told
-        × Appends (W.contents writer.old) (W.contents writer.new) told) }
-    ensures no_memory { result ≡ Err ScriptFault.OutOfMemory → (told : List ℕ)
-        × IsToldUntil (M.IsRun opening.now.profile) (M.RanOut opening.now.profile) (suc opening.now.passed) (lines_of_rest opening.now.rest) told
-        × Appends (W.contents writer.old) (W.contents writer.new) told }
-    ensures read_all { (result ≢ Err ScriptFault.Read) × (result ≢ Err ScriptFault.TooLong) }
-{
-    let mut output = Output::new();
-    let ended = take_lines(opening, machine, &mut output, writer);
-    // After a write that failed nothing more is written.
-    if let Err(ScriptFault::Write) = ended {
-        return ended;
-    }
-    if output.write_out(writer) {
-        ended
+    if is_written {
+        Ok(())
     } else {
         Err(ScriptFault::Write)
     }
+}
+
+/// Writes what waits, and that the line with this number is a fault.
+fn write_fault<W: Write>(number: u32, output: &mut Output, writer: &mut W) -> bool
+    ensures { IsTrue result → Appends (output_held (W.contents writer.old) output.old) (output_held (W.contents writer.new) output.new)
+        (outcome_text (Outcome.FaultLine number)) }
+{
+    output.write_out(writer) && writeln!(writer, "fault line {number}").is_ok()
+}
+
+impl<M: Machine, W: Write> Observer<M, W> for Replies {
+    ghost Tells = { λ old before notices new after. Appends (output_held before old.output) (output_held after new.output) (notices_text notices) };
+
+    ghost MayFail = { λ fault. fault ≡ ScriptFault.Write };
+
+    fn version_two(&mut self, line: Line<'_>, writer: &mut W) -> Result<(), ScriptFault> {
+        unless_failed(self.output.put(&mut Response::Opened, writer))
+    }
+
+    fn expect(&mut self, command: &Command, machine: &M) {}
+
+    #[inline(always)]
+    fn answered(
+        &mut self,
+        line: Line<'_>,
+        command: &Command,
+        response: &mut Response,
+        machine: &M,
+        writer: &mut W,
+    ) -> Result<(), ScriptFault> {
+        unless_failed(self.output.put(response, writer))
+    }
+
+    fn faulted(&mut self, line: Line<'_>, writer: &mut W) -> Result<(), ScriptFault> {
+        unless_failed(write_fault(line.number, &mut self.output, writer))
+    }
+
+    ghost tells_nothing = { λ observer known. written_nothing (output_held known observer.output) };
+
+    ghost tells_more = { λ old now new before here after notices further.
+        written_more (output_held before old.output) (output_held here now.output) (output_held after new.output) notices further };
 }
 
 /// Reads a script, has the machine answer its commands one after another, and writes the responses.
@@ -135,8 +121,9 @@ pub fn run_script<M: Machine, R: Read, W: Write>(
     ensures reads { (bytes : List ℕ) × (length bytes ≤ MOST_BYTES + 1) × Consumes (R.remaining reader.old) (R.remaining reader.new) bytes }
 {
     let text = read_text(alloc, reader)?;
-    let opening = opening_of(text.as_slice());
-    write_opening(opening.profile, writer)?;
-    let mut machine = M::start(alloc, opening.profile);
-    run_lines(&opening, &mut machine, writer)
+    let mut replies = Replies {
+        output: Output::new(),
+    };
+    let ended = walk::<M, Replies, W>(alloc, text.as_slice(), &mut replies, writer);
+    replies.end(ended, writer)
 }

@@ -1,6 +1,6 @@
 use Rattle.std.proofs.Common.{◌++◌, length-append, arith}
 use Rattle.std.proofs.KnownBytes.{Consumes-trans}
-use Rattle.pc_script.proofs.input.read_text.Goals as goal
+use Rattle.pc_script.proofs.input.read_bytes.Goals as goal
 
 pub returns-in_err-read_more-clause-reads : goal.returns-in_err-read_more-clause-reads
 returns-in_err-read_more-clause-reads g c =

@@ -1,0 +1,116 @@
+//! What is wrong with a line that is no command: which word, and what was wanted in its place.
+
+ghost use Rattle.std.specs.Prelude.{MatchOption};
+ghost use Rattle.pc_script.specs.Grammar.{IsFault};
+
+use crate::fields::Argument;
+use crate::grammar::trouble_of;
+use crate::line::{Wish, asked};
+use crate::words::Words;
+
+/// What may stand at a word's place: the field that the table of commands has there.
+#[derive(Clone, Copy, Debug, PartialEq, Eq)]
+pub enum Wanted {
+    /// How many CPUs there are.
+    Cpus,
+    Cpu,
+    Queue,
+    Level,
+    /// Of ticks, of posts, or of what a limit counts.
+    Count,
+    Mask,
+    /// Of a delta.
+    Index,
+    Thread,
+    /// `ready` or `blocked`.
+    State,
+    /// A CPU, or `-`.
+    Target,
+    /// The word `fail`, or none.
+    Failure,
+}
+
+/// The first word of a line that keeps it from being a command. Places are counted from 1.
+#[derive(Clone, Copy, Debug, PartialEq, Eq)]
+pub enum Trouble<'a> {
+    /// The first word is no command's.
+    NoCommand {
+        word: &'a [u8],
+    },
+    /// A word is missing.
+    Missing {
+        place: u32,
+        wanted: Wanted,
+    },
+    /// Something else was wanted in the place of this word.
+    Wrong {
+        place: u32,
+        word: &'a [u8],
+        wanted: Wanted,
+    },
+    /// The command ends before this word.
+    TooMany {
+        place: u32,
+        word: &'a [u8],
+    },
+}
+
+/// What is wrong with a line that is a fault; nothing of every other line. It takes no memory. `version 2` is no command here.
+pub fn trouble_in(line: &[u8]) -> Option<Trouble<'_>>
+    ensures { MatchOption result (IsFault line.now → ⊥) (λ _. IsFault line.now) }
+{
+    match asked(line) {
+        Wish::Stop => Some(first_trouble(line)),
+        _ => None,
+    }
+}
+
+/// The first trouble in the words of a line that spell no command.
+fn first_trouble(line: &[u8]) -> Trouble<'_> {
+    let mut words = Words::of(line);
+    let name = words.next().unwrap_or(line);
+    match trouble_of(name, &mut words) {
+        Some(trouble) => trouble,
+        None => Trouble::NoCommand { word: name },
+    }
+}
+
+/// The trouble with the next word, which should be this field.
+pub(crate) fn trouble_with<'a, F: Argument>(
+    words: &mut Words<'a>,
+    place: u32,
+) -> Option<Trouble<'a>> {
+    let wanted = F::wanted();
+    let Some(word) = words.next() else {
+        return Some(Trouble::Missing { place, wanted });
+    };
+    match F::read(&mut Words::of(word)) {
+        Some(_) => None,
+        None => Some(Trouble::Wrong {
+            place,
+            word,
+            wanted,
+        }),
+    }
+}
+
+/// The trouble with the next word, which should be `fail`, or not be there.
+pub(crate) fn failure_trouble<'a>(words: &mut Words<'a>, place: u32) -> Option<Trouble<'a>> {
+    match words.next() {
+        Some(b"fail") => one_too_many(words, place.saturating_add(1)),
+        Some(word) => Some(Trouble::Wrong {
+            place,
+            word,
+            wanted: Wanted::Failure,
+        }),
+        None => None,
+    }
+}
+
+/// The trouble with a word behind the last.
+pub(crate) fn one_too_many<'a>(words: &mut Words<'a>, place: u32) -> Option<Trouble<'a>> {
+    match words.next() {
+        Some(word) => Some(Trouble::TooMany { place, word }),
+        None => None,
+    }
+}

@@ -1,0 +1,168 @@
+//! The walk over the lines of a script: the one loop in which a machine answers what they ask for, and an observer is told of it.
+
+ghost use Rattle.std.specs.Prelude.{◌≡◌, ◌⊎◌, ◌+◌, ◌<◌, ◌≤◌, ◌^◌, ℕ, List, Option, [], ◌∷◌, false, length, IfOk, OnOk, Err};
+ghost use Rattle.std.specs.Bool.{MatchBool};
+ghost use Rattle.pc_calls.specs.declared.limits.Profile.TheVariants.{One};
+ghost use Rattle.pc_script.specs.Grammar.{HasNoReply, IsFault, Spells};
+ghost use Rattle.pc_script.specs.Inner.Walks.{Answers, FindsNone, Stops, Takes, stand};
+ghost use Rattle.pc_script.specs.Scripts.{IsWalked, IsWalkedUntil, answered};
+ghost use Rattle.pc_script.specs.Text.{lines, words};
+ghost use Rattle.pc_script.specs.Versions.{IsVersionTwo};
+ghost use Rattle.pc_script.specs.declared.outcome.ScriptFault.{ScriptFault};
+ghost use Rattle.pc_script.specs.declared.response.Response.{Response};
+
+use crate::command::Command;
+use crate::input::MOST_BYTES;
+use crate::line::{Wish, asked, is_version_two};
+use crate::lines::lines_of;
+use crate::machine::Machine;
+use crate::observer::{Line, Observer};
+use crate::outcome::{Outcome, ScriptFault};
+use crate::response::Response;
+use pc_calls::Profile;
+use std::alloc::Global;
+use std::io::Write;
+
+/// A walk over the lines of a script, which are handed to it one after another.
+///
+/// The first line that has a reply may name the version, and by that the profile in which the machine is started.
+#[derive(Drop)]
+struct Walker<M: Machine> {
+    alloc: Global,
+    machine: M,
+    /// Whether a line had a reply.
+    is_open: bool,
+    /// Each response stands where the one before it stood.
+    response: Response,
+}
+
+impl<M: Machine> Walker<M> {
+    /// Before the first line.
+    fn new(alloc: Global) -> Walker<M>
+        ensures fresh { M.StandsAfter One result.machine [] [] }
+        ensures open { result.is_open ≡ false }
+    {
+        Walker {
+            alloc,
+            machine: M::start(alloc, Profile::One),
+            is_open: false,
+            response: Response::Opened,
+        }
+    }
+
+    /// Has the machine take the command of a line, and tells the observer of it.
+    #[inline(always)]
+    fn answer<O: Observer<M, W>, W: Write>(
+        &mut self,
+        line: Line<'_>,
+        command: Command,
+        observer: &mut O,
+        writer: &mut W,
+    ) -> Result<(), ScriptFault>
+        requires replies { HasNoReply line.text.now → ⊥ }
+        requires spelled { Spells (words line.text.now) command }
+        ensures ok { OnOk result (Takes M.StandsAfter O.Tells line.entry.text.now
+            (stand self.old.machine self.old.is_open observer.old (W.contents writer.old))
+            (stand self.new.machine self.new.is_open observer.new (W.contents writer.new))) }
+        ensures err { (fault : ScriptFault) → result ≡ Err fault → O.MayFail fault
+            ⊎ ((fault ≡ ScriptFault.OutOfMemory) × FindsNone M.StandsAfter M.RanOut O.Tells line.entry.text.now
+            (stand self.old.machine self.old.is_open observer.old (W.contents writer.old))
+            (stand self.new.machine self.new.is_open observer.new (W.contents writer.new))) }
+    {
+        self.is_open = true;
+        observer.expect(&command, &self.machine);
+        match self.machine.answer(command, &mut self.response) {
+            Ok(()) => observer.answered(line, &command, &mut self.response, &self.machine, writer),
+            Err(_) => Err(ScriptFault::OutOfMemory),
+        }
+    }
+
+    /// Takes a line that asks for no command: the first that has a reply may name the version, and every other is a fault, for
+    /// which the answer is false.
+    #[inline(never)]
+    fn stop<O: Observer<M, W>, W: Write>(
+        &mut self,
+        line: Line<'_>,
+        observer: &mut O,
+        writer: &mut W,
+    ) -> Result<bool, ScriptFault>
+        requires fault { IsFault line.text.now }
+        ensures ok { IfOk result (λ goes. MatchBool goes
+            (Takes M.StandsAfter O.Tells line.entry.text.now
+            (stand self.old.machine self.old.is_open observer.old (W.contents writer.old))
+            (stand self.new.machine self.new.is_open observer.new (W.contents writer.new)))
+            (Stops O.Tells line.entry.text.now line.entry.number
+            (stand self.old.machine self.old.is_open observer.old (W.contents writer.old))
+            (stand self.new.machine self.new.is_open observer.new (W.contents writer.new)))) }
+        ensures err { (fault : ScriptFault) → result ≡ Err fault → O.MayFail fault }
+    {
+        if !self.is_open && is_version_two(line.text) {
+            self.is_open = true;
+            self.machine = M::start(self.alloc, Profile::Two);
+            observer.version_two(line, writer)?;
+            return Ok(true);
+        }
+        self.is_open = true;
+        observer.faulted(line, writer)?;
+        Ok(false)
+    }
+
+    /// Takes the next line. Answers false where it is a fault.
+    #[inline(always)]
+    fn take<O: Observer<M, W>, W: Write>(
+        &mut self,
+        line: Line<'_>,
+        observer: &mut O,
+        writer: &mut W,
+    ) -> Result<bool, ScriptFault>
+        ensures ok { IfOk result (λ goes. MatchBool goes
+            (Takes M.StandsAfter O.Tells line.entry.text.now
+            (stand self.old.machine self.old.is_open observer.old (W.contents writer.old))
+            (stand self.new.machine self.new.is_open observer.new (W.contents writer.new)))
+            (Stops O.Tells line.entry.text.now line.entry.number
+            (stand self.old.machine self.old.is_open observer.old (W.contents writer.old))
+            (stand self.new.machine self.new.is_open observer.new (W.contents writer.new)))) }
+        ensures err { (fault : ScriptFault) → result ≡ Err fault → O.MayFail fault
+            ⊎ ((fault ≡ ScriptFault.OutOfMemory) × FindsNone M.StandsAfter M.RanOut O.Tells line.entry.text.now
+            (stand self.old.machine self.old.is_open observer.old (W.contents writer.old))
+            (stand self.new.machine self.new.is_open observer.new (W.contents writer.new))) }
+    {
+        match asked(line.text) {
+            Wish::Nothing => Ok(true),
+            Wish::Answer(command) => {
+                self.answer(line, command, observer, writer)?;
+                Ok(true)
+            }
+            Wish::Stop => self.stop(line, observer, writer),
+        }
+    }
+}
+
+/// Walks over the lines of a script's text, up to the end or to the first fault: a machine of its own answers their commands, one after
+/// another, and the observer is told of each line that has a reply.
+///
+/// The fault is one of the observer's, or `OutOfMemory` where the machine found none for an answer.
+pub fn walk<M: Machine, O: Observer<M, W>, W: Write>(
+    alloc: Global,
+    text: &[u8],
+    observer: &mut O,
+    writer: &mut W,
+) -> Result<Outcome, ScriptFault>
+    requires short { length text.now ≤ MOST_BYTES }
+    ensures ok { IfOk result (λ outcome. IsWalked O.Tells M.IsRun (lines text.now) outcome observer.old (W.contents writer.old)
+        observer.new (W.contents writer.new)) }
+    ensures no_memory { result ≡ Err ScriptFault.OutOfMemory → O.MayFail ScriptFault.OutOfMemory
+        ⊎ IsWalkedUntil O.Tells M.IsRun M.RanOut (lines text.now) observer.old (W.contents writer.old) observer.new (W.contents writer.new) }
+    ensures err { (fault : ScriptFault) → result ≡ Err fault → O.MayFail fault ⊎ (fault ≡ ScriptFault.OutOfMemory) }
+{
+    let mut walk = Walker::<M>::new(alloc);
+    let mut number = 0;
+    for text in lines_of(Some(text)) {
+        number += 1;
+        let line = Line { number, text };
+        if !walk.take(line, observer, writer)? {
+            return Ok(Outcome::FaultLine(number));
+        }
+    }
+    Ok(Outcome::Finished)
+}
