@@ -1,4 +1,4 @@
-use Rattle.pc_draw.proofs.Marks.{Marks-trans, Marks-trans_ok}
+use Rattle.pc_pen.proofs.Marks.{Marks-trans, Marks-trans_ok}
 use Rattle.pc_draw.proofs.picture.write_marks.Goals as goal
 
 pub returns : goal.returns

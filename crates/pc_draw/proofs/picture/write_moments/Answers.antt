@@ -1,4 +1,4 @@
-use Rattle.pc_draw.proofs.Marks.{Marks-none, Marks-trans, Marks-trans_ok}
+use Rattle.pc_pen.proofs.Marks.{Marks-none, Marks-trans, Marks-trans_ok}
 use Rattle.pc_draw.proofs.picture.write_moments.Goals as goal
 
 pub loop-step-init : goal.loop-step-init

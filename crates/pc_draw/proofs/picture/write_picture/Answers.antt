@@ -1,4 +1,4 @@
-use Rattle.pc_draw.proofs.Marks.{picture_ok}
+use Rattle.pc_pen.proofs.Marks.{picture_ok}
 use Rattle.pc_draw.proofs.picture.write_picture.Goals as goal
 
 pub returns : goal.returns

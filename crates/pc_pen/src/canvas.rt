@@ -1,12 +1,15 @@
 //! A canvas: marks that are composed without memory, to be written together.
 
-ghost use Rattle.std.specs.Prelude.{◌≤◌, OnOk};
-ghost use Rattle.pc_draw.specs.Inner.Drawn.{Marks};
+ghost use Rattle.std.specs.Prelude.{◌≡◌, ◌≤◌, ◌∷◌, [], OnOk, map, take};
+ghost use Rattle.pc_pen.specs.Canvases.{Drawing, added, blank, drawing, finished};
+ghost use Rattle.pc_pen.specs.Drawn.{Marks, MarksOf};
 
 use crate::mark::{write_shape, write_words};
 use crate::shape::Shape;
+use itoa::Buffer;
 use std::fmt;
 use std::io::{self, Write};
+use std::marker::Model;
 
 /// The most bytes of the marks that are written together.
 const ROOM: usize = 131_072;
@@ -26,15 +29,21 @@ struct Place {
 
 /// Marks. What goes beyond the room is left out.
 #[derive(Drop)]
-pub(crate) struct Canvas {
+pub struct Canvas {
     bytes: [u8; ROOM],
     end: usize,
     places: [Place; MOST_MARKS],
     count: usize,
     /// The mark that is being composed.
     open: Place,
-    ghost within: { end ≤ 131072 },
-    ghost few: { count ≤ 1024 },
+}
+
+impl Model for Canvas {
+    ghost Value = { Drawing };
+
+    ghost view = { λ c. drawing (map (λ place. place.shape) (take c.count c.places)) c.open.shape c.end };
+
+    ghost invariant = { λ c. (c.end ≤ 131072) × (c.count ≤ 1024) };
 }
 
 /// A part of a text; nothing where there is no such part.
@@ -47,7 +56,7 @@ fn part(text: &[u8], start: usize, end: usize) -> &[u8] {
 
 /// Writes the mark whose texts stand there.
 fn write_mark<W: Write>(place: Place, text: &[u8], writer: &mut W) -> io::Result<()>
-    ensures { OnOk result (Marks (W.contents writer.old) (W.contents writer.new)) }
+    ensures { OnOk result (MarksOf (place.shape ∷ []) (W.contents writer.old) (W.contents writer.new)) }
 {
     let attributes = part(text, place.start, place.middle);
     let told = part(text, place.middle, place.end);
@@ -59,7 +68,9 @@ fn write_mark<W: Write>(place: Place, text: &[u8], writer: &mut W) -> io::Result
 
 impl Canvas {
     /// No marks.
-    pub(crate) fn new() -> Canvas {
+    pub fn new() -> Canvas
+        ensures { result ≡ blank }
+    {
         let nowhere = Place {
             shape: None,
             start: 0,
@@ -76,13 +87,17 @@ impl Canvas {
     }
 
     /// Takes all marks away.
-    pub(crate) fn clear(&mut self) {
+    pub fn clear(&mut self)
+        ensures { self.new ≡ drawing [] self.old.begun 0 }
+    {
         self.end = 0;
         self.count = 0;
     }
 
     /// Begins a shape, or words: what is added from now on is its attributes.
-    pub(crate) fn begin(&mut self, shape: Option<Shape>) {
+    pub(crate) fn begin(&mut self, shape: Option<Shape>)
+        ensures { self.new ≡ drawing self.old.kinds shape self.old.used }
+    {
         self.open = Place {
             shape,
             start: self.end,
@@ -92,12 +107,16 @@ impl Canvas {
     }
 
     /// What is added from now on is the mark's title, or its words.
-    pub(crate) fn told(&mut self) {
+    pub(crate) fn told(&mut self)
+        ensures { self.new ≡ self.old }
+    {
         self.open.middle = self.end;
     }
 
     /// Ends the mark.
-    pub(crate) fn done(&mut self) {
+    pub fn done(&mut self)
+        ensures { self.new ≡ finished self.old }
+    {
         if self.end < ROOM && self.count < MOST_MARKS {
             self.places[self.count] = Place {
                 end: self.end,
@@ -108,16 +127,30 @@ impl Canvas {
     }
 
     /// Adds bytes at the end, as far as there is room.
-    pub(crate) fn add(&mut self, bytes: &[u8]) {
+    pub fn add(&mut self, bytes: &[u8])
+        ensures { self.new ≡ added self.old bytes.now }
+    {
         let count = bytes.len().min(ROOM - self.end);
         let end = self.end + count;
         self.bytes[self.end..end].copy_from_slice(&bytes[..count]);
         self.end = end;
     }
 
-    /// Writes all marks.
-    pub(crate) fn write_to<W: Write>(&self, writer: &mut W) -> io::Result<()>
-        ensures { OnOk result (Marks (W.contents writer.old) (W.contents writer.new)) }
+    /// Adds a number at the end, as far as there is room.
+    pub(crate) fn number(&mut self, number: u32)
+        ensures { (self.new.kinds ≡ self.old.kinds) × (self.new.begun ≡ self.old.begun) }
+    {
+        let mut digits = Buffer::new();
+        self.add(digits.format(number).as_bytes());
+    }
+
+    /// Writes all marks, in the order in which they were done.
+    ///
+    /// # Errors
+    /// Those of the writer: then a part of it may be written.
+    pub fn write_to<W: Write>(&self, writer: &mut W) -> io::Result<()>
+        ensures marks { OnOk result (Marks (W.contents writer.old) (W.contents writer.new)) }
+        ensures kinds { OnOk result (MarksOf self.now.kinds (W.contents writer.old) (W.contents writer.new)) }
     {
         for place in &self.places[..self.count] {
             write_mark(*place, &self.bytes[..self.end], writer)?;
@@ -127,6 +160,8 @@ impl Canvas {
 }
 
 impl fmt::Write for Canvas {
+    ghost write_str_gives = { λ old said new. new ≡ added old said };
+
     fn write_str(&mut self, text: &str) -> fmt::Result {
         self.add(text.as_bytes());
         Ok(())

@@ -1,9 +1,9 @@
 use Rattle.std.proofs.Common.{rules, tests, arith, length, subst}
 use Rattle.std.proofs.lemmas.List.{take_all}
 use Rattle.std.proofs.lemmas.Iterator.{IsFirst-from_position, YieldsList-from_slice}
-use Rattle.pc_draw.specs.Pictures.{IsPlain}
-use Rattle.pc_draw.proofs.Marks.{IsMarkup, IsNoMarkup, front_plain}
-use Rattle.pc_draw.proofs.mark.plain.Goals as goal
+use Rattle.pc_pen.specs.Pictures.{IsPlain}
+use Rattle.pc_pen.proofs.Marks.{IsMarkup, IsNoMarkup, front_plain}
+use Rattle.pc_pen.proofs.mark.plain.Goals as goal
 
 pub returns-in-Some : goal.returns-in-Some
 returns-in-Some c =

@@ -1,9 +1,9 @@
 //! Marks: the elements of a picture, each on a line of its own.
 
-ghost use Rattle.std.specs.Prelude.{◌≡◌, ◌∷◌, [], ◌++◌, OnOk, codes};
+ghost use Rattle.std.specs.Prelude.{◌≡◌, ◌∷◌, [], ◌++◌, OnOk, None, Some, codes};
 ghost use Rattle.std.specs.Io.KnownBytes.{Appends};
-ghost use Rattle.pc_draw.specs.Inner.Drawn.{Marks};
-ghost use Rattle.pc_draw.specs.Pictures.{IsPlain, is_markup, shape_name, shape_text, words_text};
+ghost use Rattle.pc_pen.specs.Drawn.{MarksOf};
+ghost use Rattle.pc_pen.specs.Pictures.{IsPlain, is_markup, shape_name, shape_text, words_text};
 
 use crate::shape::Shape;
 use std::io::{self, Write};
@@ -83,7 +83,7 @@ pub(crate) fn write_shape<W: Write>(
     title: &[u8],
     writer: &mut W,
 ) -> io::Result<()>
-    ensures { OnOk result (Marks (W.contents writer.old) (W.contents writer.new)) }
+    ensures { OnOk result (MarksOf (Some shape ∷ []) (W.contents writer.old) (W.contents writer.new)) }
 {
     write_element(shape.name(), plain(attributes), plain(title), writer)
 }
@@ -94,7 +94,7 @@ pub(crate) fn write_words<W: Write>(
     words: &[u8],
     writer: &mut W,
 ) -> io::Result<()>
-    ensures { OnOk result (Marks (W.contents writer.old) (W.contents writer.new)) }
+    ensures { OnOk result (MarksOf (None ∷ []) (W.contents writer.old) (W.contents writer.new)) }
 {
     write_element_of_words(plain(attributes), plain(words), writer)
 }

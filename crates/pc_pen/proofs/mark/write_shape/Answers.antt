@@ -1,5 +1,5 @@
-use Rattle.pc_draw.proofs.Marks.{Marks-shape_ok}
-use Rattle.pc_draw.proofs.mark.write_shape.Goals as goal
+use Rattle.pc_pen.proofs.Marks.{Marks-shape_ok}
+use Rattle.pc_pen.proofs.mark.write_shape.Goals as goal
 
 pub returns : goal.returns
 returns g c =

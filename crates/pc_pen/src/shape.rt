@@ -1,7 +1,7 @@
 //! Shapes.
 
 ghost use Rattle.std.specs.Prelude.{◌≡◌};
-ghost use Rattle.pc_draw.specs.Pictures.{shape_name};
+ghost use Rattle.pc_pen.specs.Pictures.{shape_name};
 
 /// A shape of a picture.
 #[derive(Clone, Copy)]
@@ -9,7 +9,6 @@ pub enum Shape {
     Rectangle,
     Straight,
     Path,
-    Circle,
 }
 
 impl Shape {
@@ -21,7 +20,6 @@ impl Shape {
             Shape::Rectangle => b"rect",
             Shape::Straight => b"line",
             Shape::Path => b"path",
-            Shape::Circle => b"circle",
         }
     }
 }
