@@ -1,7 +1,7 @@
 -- The picture of a run's report.
 use Rattle.std.specs.Prelude.{◌≡◌, ℕ, List, ◌++◌, codes, decimal}
 use Rattle.pc_threads.specs.declared.report.LoadReport.{LoadReport}
-use Rattle.pc_draw.specs.Pictures.{AreMarks, picture_text}
+use Rattle.pc_pen.specs.Pictures.{AreMarks, picture_text}
 
 -- `threads N, messages N, commits N, ran N`
 abbrev pub report_title : LoadReport → List ℕ

@@ -1,8 +1,7 @@
 //! What a report's picture shows: the totals in words, and a group of bars for each agent.
 
-use crate::canvas::Canvas;
-use crate::ground::background;
-use crate::pen::{bar, stroke, words};
+use crate::totals::Totals;
+use pc_pen::{Canvas, HEADING, SMALL, background, bar, stroke, words};
 use pc_threads::{LoadReport, Row};
 use std::fmt::Write;
 
@@ -139,22 +138,12 @@ impl Chart {
     /// Draws the ground of the picture, and the totals.
     pub(crate) fn draw_ground(&self, canvas: &mut Canvas, report: &LoadReport) {
         background(canvas, self.width(), self.height());
-        words(
-            canvas,
-            8,
-            20,
-            "font-size=\"14\" font-weight=\"bold\" fill=\"#000\"",
-        );
-        let threads = report.threads;
-        let messages = report.messages;
-        let commits = report.commits;
-        let ran = report.ran;
-        let _ = write!(
-            canvas,
-            "threads {threads}, messages {messages}, commits {commits}, ran {ran}"
-        );
         canvas.done();
-        words(canvas, 8, 38, "font-size=\"11\" fill=\"#222\"");
+        words(canvas, 8, 20, HEADING);
+        let totals = Totals(report);
+        let _ = write!(canvas, "{totals}");
+        canvas.done();
+        words(canvas, 8, 38, SMALL);
         let _ = write!(
             canvas,
             "What each agent counted; all bars have one scale. Where the pointer rests on a bar, its count is told."

@@ -6,5 +6,6 @@
 
 mod chart;
 mod report;
+mod totals;
 
 pub use report::draw_report;

@@ -1,39 +1,15 @@
 //! The picture of a run's report.
 
-ghost use Rattle.std.specs.Prelude.{ℕ, List, ◌++◌, OnOk, codes};
+ghost use Rattle.std.specs.Prelude.{ℕ, List, OnOk};
 ghost use Rattle.std.specs.Io.KnownBytes.{Appends};
-ghost use Rattle.pc_draw.specs.Inner.Drawn.{Marks, Pictures};
-ghost use Rattle.pc_draw.specs.Reports.{IsPictureOfReport, report_title};
+ghost use Rattle.pc_pen.specs.Drawn.{Marks, Pictures};
+ghost use Rattle.pc_chart.specs.Reports.{IsPictureOfReport, report_title};
 
-use crate::canvas::Canvas;
 use crate::chart::Chart;
-use crate::picture::write_head;
+use crate::totals::Totals;
+use pc_pen::{Canvas, write_end, write_opening};
 use pc_threads::LoadReport;
 use std::io::{self, Write};
-
-/// Writes the totals of a report.
-fn write_totals<W: Write>(report: &LoadReport, writer: &mut W) -> io::Result<()>
-    ensures { OnOk result (Appends (W.contents writer.old) (W.contents writer.new) (report_title report.now)) }
-{
-    let threads = report.threads;
-    let messages = report.messages;
-    let commits = report.commits;
-    let ran = report.ran;
-    write!(
-        writer,
-        "threads {threads}, messages {messages}, commits {commits}, ran {ran}"
-    )
-}
-
-/// Writes the element of the title.
-fn write_title_element<W: Write>(report: &LoadReport, writer: &mut W) -> io::Result<()>
-    ensures { OnOk result (Appends (W.contents writer.old) (W.contents writer.new)
-        (codes "<title>" ++ (report_title report.now ++ codes "</title>\n"))) }
-{
-    writer.write_all(b"<title>")?;
-    write_totals(report, writer)?;
-    writer.write_all(b"</title>\n")
-}
 
 /// Writes the ground, and each agent's group of bars.
 fn write_marks<W: Write>(chart: &Chart, report: &LoadReport, writer: &mut W) -> io::Result<()>
@@ -69,10 +45,9 @@ fn write_picture<W: Write>(report: &LoadReport, writer: &mut W) -> io::Result<()
     ensures { OnOk result (Pictures (report_title report.now) (W.contents writer.old) (W.contents writer.new)) }
 {
     let chart = Chart::of(report);
-    write_head(chart.width(), chart.height(), writer)?;
-    write_title_element(report, writer)?;
+    write_opening(chart.width(), chart.height(), &Totals(report), writer)?;
     write_marks(&chart, report, writer)?;
-    writer.write_all(b"</svg>\n")
+    write_end(writer)
 }
 
 /// Writes a picture of a run's report: a bar for each count of each agent.

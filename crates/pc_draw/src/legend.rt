@@ -145,7 +145,14 @@ fn draw_sample(canvas: &mut Canvas, y: u32, sample: Sample) {
         Sample::Queue => sample_bar(canvas, y, 8, "fill=\"#999\""),
         Sample::Asleep => sample_bar(canvas, y, 3, "fill=\"#222\""),
         Sample::Post => {
-            stroke(canvas, 30, y.saturating_add(3), 30, y.saturating_add(10), POST);
+            stroke(
+                canvas,
+                30,
+                y.saturating_add(3),
+                30,
+                y.saturating_add(10),
+                POST,
+            );
             canvas.done();
         }
         Sample::Delta => sample_delta(canvas, y),
@@ -174,7 +181,13 @@ fn sample_delta(canvas: &mut Canvas, y: u32) {
     let end = y.saturating_add(10);
     stroke(canvas, 8, y, 48, end, "stroke=\"#777\"");
     canvas.done();
-    outline(canvas, 50, y.saturating_add(11), "l-8,-1l3,-6z", "fill=\"#777\"");
+    outline(
+        canvas,
+        50,
+        y.saturating_add(11),
+        "l-8,-1l3,-6z",
+        "fill=\"#777\"",
+    );
     canvas.done();
 }
 

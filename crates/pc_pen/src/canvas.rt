@@ -35,13 +35,13 @@ pub struct Canvas {
     places: [Place; MOST_MARKS],
     count: usize,
     /// The mark that is being composed.
-    open: Place,
+    begun: Place,
 }
 
 impl Model for Canvas {
     ghost Value = { Drawing };
 
-    ghost view = { λ c. drawing (map (λ place. place.shape) (take c.count c.places)) c.open.shape c.end };
+    ghost view = { λ c. drawing (map (λ place. place.shape) (take c.count c.places)) c.begun.shape c.end };
 
     ghost invariant = { λ c. (c.end ≤ 131072) × (c.count ≤ 1024) };
 }
@@ -82,7 +82,7 @@ impl Canvas {
             end: 0,
             places: [nowhere; MOST_MARKS],
             count: 0,
-            open: nowhere,
+            begun: nowhere,
         }
     }
 
@@ -98,7 +98,7 @@ impl Canvas {
     pub(crate) fn begin(&mut self, shape: Option<Shape>)
         ensures { self.new ≡ drawing self.old.kinds shape self.old.used }
     {
-        self.open = Place {
+        self.begun = Place {
             shape,
             start: self.end,
             middle: self.end,
@@ -110,7 +110,7 @@ impl Canvas {
     pub(crate) fn told(&mut self)
         ensures { self.new ≡ self.old }
     {
-        self.open.middle = self.end;
+        self.begun.middle = self.end;
     }
 
     /// Ends the mark.
@@ -120,7 +120,7 @@ impl Canvas {
         if self.end < ROOM && self.count < MOST_MARKS {
             self.places[self.count] = Place {
                 end: self.end,
-                ..self.open
+                ..self.begun
             };
             self.count += 1;
         }

@@ -50,14 +50,23 @@ fn colours(canvas: &mut Canvas, fill: &str, edge: &str)
     canvas.add(b"\"");
 }
 
-/// Adds the place and the size of a rectangle.
+/// Begins a rectangle, whose style is still to be added.
 fn rectangle(canvas: &mut Canvas, x: u32, y: u32, width: u32, height: u32)
-    ensures { (canvas.new.kinds ≡ canvas.old.kinds) × (canvas.new.begun ≡ canvas.old.begun) }
+    ensures { Begins (Some Rectangle) canvas.old canvas.new }
 {
+    canvas.begin(Some(Shape::Rectangle));
     attribute(canvas, "x", x);
     attribute(canvas, "y", y);
     attribute(canvas, "width", width);
     attribute(canvas, "height", height);
+}
+
+/// Begins a path, whose steps are still to be added.
+fn path(canvas: &mut Canvas)
+    ensures { Begins (Some Path) canvas.old canvas.new }
+{
+    canvas.begin(Some(Shape::Path));
+    canvas.add(b"d=\"");
 }
 
 /// Adds a step of a path to a point.
@@ -86,7 +95,6 @@ pub fn thread_bar(canvas: &mut Canvas, x: u32, y: u32, width: u32, height: u32, 
 {
     let fill = hue(thread);
     let edge = if width < 4 { fill } else { "#000" };
-    canvas.begin(Some(Shape::Rectangle));
     rectangle(canvas, x, y, width, height);
     colours(canvas, fill, edge);
     canvas.told();
@@ -96,7 +104,6 @@ pub fn thread_bar(canvas: &mut Canvas, x: u32, y: u32, width: u32, height: u32, 
 pub fn bar(canvas: &mut Canvas, x: u32, y: u32, width: u32, height: u32, style: &str)
     ensures { Begins (Some Rectangle) canvas.old canvas.new }
 {
-    canvas.begin(Some(Shape::Rectangle));
     rectangle(canvas, x, y, width, height);
     canvas.add(style.as_bytes());
     canvas.told();
@@ -126,8 +133,7 @@ pub fn stroke(canvas: &mut Canvas, x: u32, y: u32, to_x: u32, to_y: u32, style: 
 pub fn outline(canvas: &mut Canvas, x: u32, y: u32, steps: &str, style: &str)
     ensures { Begins (Some Path) canvas.old canvas.new }
 {
-    canvas.begin(Some(Shape::Path));
-    canvas.add(b"d=\"");
+    path(canvas);
     to_point(canvas, "M", x, y);
     canvas.add(steps.as_bytes());
     canvas.add(b"\" ");
@@ -160,8 +166,7 @@ pub fn arrow(canvas: &mut Canvas, x: u32, from: u32, to: u32, half: u32, thread:
     } else {
         to.saturating_add(8)
     };
-    canvas.begin(Some(Shape::Path));
-    canvas.add(b"d=\"");
+    path(canvas);
     to_point(canvas, "M", left, from);
     straight_to(canvas, "H", right);
     straight_to(canvas, "V", neck);
