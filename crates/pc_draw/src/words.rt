@@ -1,7 +1,7 @@
 //! What is said in the picture of a script.
 
 ghost use Rattle.std.specs.Prelude.{◌++◌, Some, codes, decimal};
-ghost use Rattle.pc_draw.specs.Pictures.{script_title};
+ghost use Rattle.pc_draw.specs.Pictures.{fault_text, script_title};
 
 use pc_pen::Count;
 use pc_script::Outcome;
@@ -20,6 +20,24 @@ impl fmt::Display for FaultLine {
     }
 }
 
+/// What is said of how a script ended, behind the counts: nothing, or the line that is a fault.
+#[derive(Clone, Copy)]
+struct Ending(Outcome);
+
+impl fmt::Display for Ending {
+    ghost output = { λ ending. Some (fault_text ending.0) };
+
+    fn fmt<W: fmt::Write>(&self, f: &mut fmt::Formatter<W>) -> fmt::Result {
+        match self.0 {
+            Outcome::Finished => f.write_str(""),
+            Outcome::FaultLine(number) => {
+                let fault = FaultLine(number);
+                write!(f, ", {fault}")
+            }
+        }
+    }
+}
+
 /// What a picture says of its script: how many commands there are, how many were refused, and the fault.
 #[derive(Clone, Copy)]
 pub(crate) struct Summary {
@@ -34,14 +52,8 @@ impl fmt::Display for Summary {
     fn fmt<W: fmt::Write>(&self, f: &mut fmt::Formatter<W>) -> fmt::Result {
         let commands = self.commands;
         let refused = self.refused;
-        write!(f, "commands {commands}, refused {refused}")?;
-        match self.outcome {
-            Outcome::Finished => Ok(()),
-            Outcome::FaultLine(number) => {
-                let fault = FaultLine(number);
-                write!(f, ", {fault}")
-            }
-        }
+        let ending = Ending(self.outcome);
+        write!(f, "commands {commands}, refused {refused}{ending}")
     }
 }
 
