@@ -1,7 +1,7 @@
 //! The picture of a script's run, as SVG.
 //!
-//! What is proved of it: it is whole elements, all of whose texts are plain, and its title tells how many commands the script asks for,
-//! how many were refused, and its fault. What is drawn of them, and where, is tested, not proved.
+//! What is proved of it: it is whole elements, all of whose texts are plain, and its title tells how many commands the
+//! script asks for, how many were refused, and its fault. What is drawn of them, and where, is tested, not proved.
 #![tactic(auto)]
 
 mod bars;

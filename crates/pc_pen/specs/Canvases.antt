@@ -1,9 +1,10 @@
 -- What a canvas holds.
-use Rattle.std.specs.Prelude.{ℕ, ◌+◌, ◌-◌, List, ◌++◌, [], ◌∷◌, ◌&&◌, nat_lt, length, min, Option, None, if◌then◌else◌, ◌≡◌}
+use Rattle.std.specs.Prelude.{◌≡◌, ℕ, ◌+◌, ◌-◌, min, nat_lt, ◌&&◌, List, [], ◌∷◌, ◌++◌, length, Option, None}
+use Rattle.std.specs.Prelude.{if◌then◌else◌}
 use Rattle.pc_pen.specs.declared.shape.Shape.{Shape}
 
--- The kinds of its marks, none of words, in the order in which they are written; the kind of the mark that was begun last; and how many
--- bytes all texts have
+-- The kinds of its marks, none of words, in the order in which they are written; the kind of the mark that was begun
+-- last; and how many bytes all texts have
 pub record Drawing : Type 0 where
   pub kinds : List (Option Shape)
   pub begun : Option Shape
@@ -23,7 +24,8 @@ added canvas bytes = drawing canvas.kinds canvas.begun (canvas.used + min (lengt
 -- the mark that was begun is one of the marks, if there is room for it: beyond, marks are left out
 abbrev pub finished : Drawing → Drawing
 finished canvas =
-    if nat_lt canvas.used 131072 && nat_lt (length canvas.kinds) 1024 then drawing (canvas.kinds ++ canvas.begun ∷ []) canvas.begun canvas.used else canvas
+    if nat_lt canvas.used 131072 && nat_lt (length canvas.kinds) 1024
+    then drawing (canvas.kinds ++ canvas.begun ∷ []) canvas.begun canvas.used else canvas
 
 -- A mark of this kind was begun, and no mark was added or lost
 abbrev pub Begins : Option Shape → Drawing → Drawing → Type 0

@@ -3,4 +3,5 @@ use Rattle.std.specs.Prelude.{◌==◌, ℕ, List, ◌++◌, if◌then◌else◌
 
 -- `1 item`, `2 items`
 abbrev pub count_text : ℕ → List ℕ → List ℕ
-count_text number noun = if number == 1 then codes "1 " ++ noun else (decimal number ++ (codes " " ++ (noun ++ codes "s")))
+count_text number noun =
+    if number == 1 then codes "1 " ++ noun else (decimal number ++ (codes " " ++ (noun ++ codes "s")))

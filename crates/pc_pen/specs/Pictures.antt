@@ -1,5 +1,6 @@
 -- Pictures as SVG, whatever they are of.
-use Rattle.std.specs.Prelude.{◌≡◌, ◌==◌, ℕ, Bool, true, not, ◌||◌, List, [], ◌∷◌, ◌++◌, Option, Some, None, codes, decimal}
+use Rattle.std.specs.Prelude.{◌≡◌, ◌==◌, ℕ, Bool, true, not, ◌||◌, List, [], ◌∷◌, ◌++◌, Option, Some, None, codes}
+use Rattle.std.specs.Prelude.{decimal}
 use Rattle.std.specs.List.{list_all}
 use Rattle.pc_pen.specs.declared.shape.Shape.{Shape}
 use Rattle.pc_pen.specs.declared.shape.Shape.TheVariants.{Rectangle, Straight, Path}
@@ -40,10 +41,12 @@ pub data AreMarks : List ℕ → Type 0 where
 -- Whole elements of these kinds, none of words, in this order
 pub data AreMarksOf : List (Option Shape) → List ℕ → Type 0 where
   no_marks : AreMarksOf [] []
-  shape_first : {kinds : List (Option Shape)} {marks : List ℕ} (kind : Shape) (attributes title : List ℕ) → IsPlain attributes → IsPlain title
-      → AreMarksOf kinds marks → AreMarksOf (Some kind ∷ kinds) (shape_text (shape_name kind) attributes title ++ 10 ∷ marks)
-  words_first : {kinds : List (Option Shape)} {marks : List ℕ} (attributes said : List ℕ) → IsPlain attributes → IsPlain said
-      → AreMarksOf kinds marks → AreMarksOf (None ∷ kinds) (words_text attributes said ++ 10 ∷ marks)
+  shape_first : {kinds : List (Option Shape)} {marks : List ℕ} (kind : Shape) (attributes title : List ℕ)
+      → IsPlain attributes → IsPlain title → AreMarksOf kinds marks
+      → AreMarksOf (Some kind ∷ kinds) (shape_text (shape_name kind) attributes title ++ 10 ∷ marks)
+  words_first : {kinds : List (Option Shape)} {marks : List ℕ} (attributes said : List ℕ)
+      → IsPlain attributes → IsPlain said → AreMarksOf kinds marks
+      → AreMarksOf (None ∷ kinds) (words_text attributes said ++ 10 ∷ marks)
 
 -- ---- pictures
 

@@ -25,7 +25,8 @@ fn write_title<T: fmt::Display, W: Write>(title: &T, writer: &mut W) -> io::Resu
     write!(writer, "<title>{title}</title>\n")
 }
 
-/// Writes what stands before the marks of a picture: its size, in pixels, and its title, which has no markup of its own.
+/// Writes what stands before the marks of a picture: its size, in pixels, and its title, which has no markup of
+/// its own.
 ///
 /// # Errors
 /// Those of the writer: then a part of it may be written.

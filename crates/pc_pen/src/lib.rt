@@ -1,6 +1,7 @@
 //! What pictures are made of, as SVG: marks, canvases on which they are composed, and the frame around them.
 //!
-//! What is proved: what a canvas writes is whole elements, as many and of the kinds that were put on it, whatever their texts.
+//! What is proved: what a canvas writes is whole elements, as many and of the kinds that were put on it, whatever
+//! their texts.
 #![tactic(auto)]
 
 mod canvas;

@@ -26,8 +26,8 @@ impl fmt::Display for Count {
 /// The most bytes of a text that are quoted.
 const MOST_QUOTED: usize = 60;
 
-/// A text that is quoted. What is no printed ASCII, or has a meaning in markup, is a `?`, and what goes beyond 60 bytes is left
-/// out.
+/// A text that is quoted. What is no printed ASCII, or has a meaning in markup, is a `?`, and what goes beyond 60
+/// bytes is left out.
 #[derive(Clone, Copy)]
 pub struct Quoted<'a>(pub &'a [u8]);
 
