@@ -31,7 +31,7 @@ PAGE = """<!DOCTYPE html><title>?</title><body style="margin:0"><script>
 const parsed = new DOMParser().parseFromString({text}, "image/svg+xml");
 const faults = parsed.getElementsByTagName("parsererror").length;
 const picture = document.body.appendChild(document.importNode(parsed.documentElement, true));
-const shown = [...picture.querySelectorAll("rect, line, path, circle, text")].filter(e => e.getBBox && (e.getBBox().width || e.getBBox().height)).length;
+const shown = [...picture.querySelectorAll("rect, line, path, text")].filter(e => e.getBBox && (e.getBBox().width || e.getBBox().height)).length;
 document.title = `faults ${{faults}} shown ${{shown}} titles ${{picture.querySelectorAll("* > title").length}}`;
 </script>"""
 

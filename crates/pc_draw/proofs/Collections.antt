@@ -15,8 +15,9 @@ use Rattle.pc_script.specs.declared.outcome.ScriptFault.{ScriptFault}
 use Rattle.pc_script.specs.declared.response.Response.{Response}
 use Rattle.pc_script.proofs.Progress.{HasRun, HasRun-none, HasRun-more, told_at_fault}
 use Rattle.pc_draw.specs.Inner.Collected.{KeepsLine, IsCollected}
-use Rattle.pc_draw.specs.Inner.Drawn.{Pictures}
-use Rattle.pc_draw.specs.Pictures.{IsPictureOf, refuses, refused_among, script_title, picture_text}
+use Rattle.pc_pen.specs.Drawn.{Pictures}
+use Rattle.pc_draw.specs.Pictures.{IsPictureOf, refuses, refused_among, script_title}
+use Rattle.pc_pen.specs.Pictures.{picture_text}
 
 -- ---- a machine, and what is kept
 

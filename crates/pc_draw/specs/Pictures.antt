@@ -1,8 +1,8 @@
--- Pictures as SVG: of a script's run, and of a run's report.
-use Rattle.std.specs.Prelude.{◌≡◌, ◌==◌, ℕ, suc, Bool, true, false, not, ◌||◌, List, [], ◌∷◌, ◌++◌, length, count_by, codes, decimal}
-use Rattle.std.specs.List.{list_all}
+-- The picture of a script's run.
+use Rattle.std.specs.Prelude.{◌≡◌, ℕ, suc, Bool, true, false, List, [], ◌++◌, length, count_by, codes, decimal}
 use Rattle.pc_calls.specs.declared.event.Reply.TheVariants as reply
 use Rattle.pc_calls.specs.declared.limits.Profile.{Profile}
+use Rattle.pc_pen.specs.Pictures.{AreMarks, picture_text}
 use Rattle.pc_script.specs.Scripts.{Script}
 use Rattle.pc_script.specs.Text.{lines}
 use Rattle.pc_script.specs.Versions.{Opens}
@@ -11,57 +11,6 @@ use Rattle.pc_script.specs.declared.outcome.Outcome.{Outcome}
 use Rattle.pc_script.specs.declared.outcome.Outcome.TheVariants.{Finished, FaultLine}
 use Rattle.pc_script.specs.declared.response.Response.{Response}
 use Rattle.pc_script.specs.declared.response.Response.TheVariants as response
-use Rattle.pc_draw.specs.declared.shape.Shape.{Shape}
-use Rattle.pc_draw.specs.declared.shape.Shape.TheVariants.{Rectangle, Straight, Path, Circle}
-
--- ---- marks
-
--- a byte by which markup begins or ends: `&`, `<` or `>`
-abbrev pub is_markup : ℕ → Bool
-is_markup byte = (byte == 38) || (byte == 60) || (byte == 62)
-
--- a text that has no markup of its own
-abbrev pub IsPlain : List ℕ → Type 0
-IsPlain text = list_all (λ byte. not (is_markup byte)) text ≡ true
-
--- the names of shapes
-abbrev pub shape_name : Shape → List ℕ
-shape_name Rectangle = codes "rect"
-shape_name Straight = codes "line"
-shape_name Path = codes "path"
-shape_name Circle = codes "circle"
-
--- a shape, and what is told of it where the pointer rests
-abbrev pub shape_text : List ℕ → List ℕ → List ℕ → List ℕ
-shape_text name attributes title =
-    codes "<" ++ (name ++ (codes " " ++ (attributes ++ (codes "><title>" ++ (title ++ (codes "</title></" ++ (name ++ codes ">")))))))
-
--- words in a picture
-abbrev pub words_text : List ℕ → List ℕ → List ℕ
-words_text attributes words = codes "<text " ++ (attributes ++ (codes ">" ++ (words ++ codes "</text>")))
-
--- Whole elements, one after another, each on a line of its own, all of whose texts are plain
-pub data AreMarks : List ℕ → Type 0 where
-  none : AreMarks []
-  shape : {marks : List ℕ} (kind : Shape) (attributes title : List ℕ) → IsPlain attributes → IsPlain title
-      → AreMarks marks → AreMarks (shape_text (shape_name kind) attributes title ++ 10 ∷ marks)
-  words : {marks : List ℕ} (attributes said : List ℕ) → IsPlain attributes → IsPlain said
-      → AreMarks marks → AreMarks (words_text attributes said ++ 10 ∷ marks)
-
--- ---- pictures
-
--- the first line of a picture of this size
-abbrev pub head_text : ℕ → ℕ → List ℕ
-head_text width height =
-    codes "<svg xmlns=\"http://www.w3.org/2000/svg\" width=\"" ++ (decimal width ++ (codes "\" height=\"" ++ (decimal height
-    ++ (codes "\" viewBox=\"0 0 " ++ (decimal width ++ (codes " " ++ (decimal height ++ codes "\" font-family=\"sans-serif\">\n")))))))
-
--- a picture: its size, what it says of itself, and its marks
-abbrev pub picture_text : ℕ → ℕ → List ℕ → List ℕ → List ℕ
-picture_text width height title marks =
-    head_text width height ++ (codes "<title>" ++ (title ++ (codes "</title>\n" ++ (marks ++ codes "</svg>\n"))))
-
--- ---- a script's run
 
 -- whether a command was refused
 abbrev pub refuses : Response → Bool

@@ -1,15 +1,15 @@
 //! The bars of a script's picture: what each row of each lane shows, column by column.
 
-use crate::canvas::Canvas;
 use crate::layout::Layout;
 use crate::rows::{FIFTHS, ROWS, Row, Strip, draw_strip, height_of};
 use crate::scene::{Lane, MOST_LANES, Scene, place_of};
 use crate::step::{Step, Told};
 use pc_calls::{Event, Reply};
+use pc_pen::Canvas;
 use pc_script::Command;
 
 /// How many rows all lanes have.
-const MOST_STRIPS: usize = 512;
+const MOST_STRIPS: usize = MOST_LANES * ROWS.len();
 
 /// What happened at a CPU in one column.
 #[derive(Clone, Copy)]

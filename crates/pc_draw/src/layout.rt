@@ -3,6 +3,8 @@
 //! Steps go from left to right, each in a column of its own up to [`MOST_SINGLE`] of them; beyond, a column is of several steps. CPUs
 //! have lanes, one under another.
 
+use crate::legend::legend_height;
+
 /// The most steps that have a column each.
 const MOST_SINGLE: u32 = 1_000;
 
@@ -26,9 +28,6 @@ pub(crate) const TOP: u32 = 64;
 
 /// The height of a lane.
 pub(crate) const LANE: u32 = 64;
-
-/// The height of the legend.
-const LEGEND: u32 = 300;
 
 /// The least width of a picture, which the legend needs.
 const LEAST_WIDTH: u32 = 720;
@@ -102,7 +101,7 @@ impl Layout {
 
     /// The height of the picture.
     pub(crate) fn height(&self) -> u32 {
-        self.legend().saturating_add(LEGEND)
+        self.legend().saturating_add(legend_height())
     }
 }
 

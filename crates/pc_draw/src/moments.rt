@@ -3,14 +3,12 @@
 //! Where a column is of several steps, only crashes and moves are shown here, and of each no more than [`MOST_MOMENTS`]: words tell how
 //! many there are, and how many refused commands are of no CPU. The others are counted in rows.
 
-use crate::canvas::Canvas;
 use crate::layout::{Layout, TOP};
-use crate::pen::{arrow, bold_cross, hollow_cross, outline, stroke, words};
 use crate::scene::{Scene, place_of};
 use crate::step::{Reason, Step, Told};
-use crate::words::Quoted;
 use pc_calls::{Event, Posted, Refusal, Reply};
 use pc_messages::Cpu;
+use pc_pen::{Canvas, Quoted, SMALL, arrow, bold_cross, hollow_cross, outline, stroke, words};
 use pc_script::Command;
 use std::fmt::Write;
 
@@ -95,7 +93,7 @@ impl Moments {
     pub(crate) fn end(&self, canvas: &mut Canvas) {
         if self.unplaced > 0 {
             let unplaced = self.unplaced;
-            words(canvas, 560, 38, "font-size=\"11\" fill=\"#222\"");
+            words(canvas, 560, 38, SMALL);
             let _ = write!(
                 canvas,
                 "refused commands that are of no CPU, and are not drawn: {unplaced}"
@@ -107,7 +105,7 @@ impl Moments {
         }
         let crashes = self.crashes;
         let moves = self.moves;
-        words(canvas, 440, 20, "font-size=\"11\" fill=\"#222\"");
+        words(canvas, 440, 20, SMALL);
         let _ = write!(
             canvas,
             "{crashes} crashes and {moves} moves of threads: the first {MOST_MOMENTS} of each are drawn"

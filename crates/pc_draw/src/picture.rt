@@ -1,55 +1,19 @@
 //! The picture of a script's run.
 
-ghost use Rattle.std.specs.Prelude.{◌++◌, OnOk, vec_len, codes};
-ghost use Rattle.std.specs.Io.KnownBytes.{Appends};
-ghost use Rattle.pc_draw.specs.Inner.Drawn.{Marks, Pictures};
-ghost use Rattle.pc_draw.specs.Pictures.{head_text, script_title};
+ghost use Rattle.std.specs.Prelude.{OnOk, vec_len};
+ghost use Rattle.pc_pen.specs.Drawn.{Marks, Pictures};
+ghost use Rattle.pc_draw.specs.Pictures.{script_title};
 
 use crate::bars::Bars;
-use crate::canvas::Canvas;
-use crate::ground::{draw_ground, draw_legend};
+use crate::ground::draw_ground;
 use crate::layout::Layout;
+use crate::legend::draw_legend;
 use crate::moments::Moments;
 use crate::scene::Scene;
 use crate::step::{Step, Story, Told};
-use pc_script::{Command, Outcome};
+use pc_pen::{Canvas, write_end, write_opening};
+use pc_script::Command;
 use std::io::{self, Write};
-
-/// Writes the first line of a picture of this size, in pixels.
-pub(crate) fn write_head<W: Write>(width: u32, height: u32, writer: &mut W) -> io::Result<()>
-    ensures { OnOk result (Appends (W.contents writer.old) (W.contents writer.new) (head_text width height)) }
-{
-    write!(
-        writer,
-        "<svg xmlns=\"http://www.w3.org/2000/svg\" width=\"{width}\" height=\"{height}\" viewBox=\"0 0 {width} {height}\" font-family=\"sans-serif\">\n"
-    )
-}
-
-/// Writes how many commands there are, how many were refused, and the fault.
-fn write_title<W: Write>(
-    commands: usize,
-    refused: u32,
-    outcome: Outcome,
-    writer: &mut W,
-) -> io::Result<()>
-    ensures { OnOk result (Appends (W.contents writer.old) (W.contents writer.new) (script_title commands refused outcome)) }
-{
-    write!(writer, "commands {commands}, refused {refused}")?;
-    match outcome {
-        Outcome::Finished => Ok(()),
-        Outcome::FaultLine(number) => write!(writer, ", fault line {number}"),
-    }
-}
-
-/// Writes the element of the title.
-fn write_title_element<W: Write>(story: &Story<'_>, writer: &mut W) -> io::Result<()>
-    ensures { OnOk result (Appends (W.contents writer.old) (W.contents writer.new)
-        (codes "<title>" ++ (script_title (vec_len story.now.steps) story.now.refused story.now.outcome ++ codes "</title>\n"))) }
-{
-    writer.write_all(b"<title>")?;
-    write_title(story.steps.len(), story.refused, story.outcome, writer)?;
-    writer.write_all(b"</title>\n")
-}
 
 /// Writes the bars of all steps.
 fn write_bars<W: Write>(
@@ -98,7 +62,7 @@ fn write_moments<W: Write>(
     }
     canvas.clear();
     moments.end(canvas);
-    draw_legend(canvas, layout);
+    draw_legend(canvas, layout.legend());
     canvas.write_to(writer)
 }
 
@@ -139,8 +103,7 @@ pub(crate) fn write_picture<W: Write>(
 {
     let steps = u32::try_from(story.steps.len()).unwrap_or(u32::MAX);
     let layout = Layout::of(steps, cpus_of(story.steps.as_slice()));
-    write_head(layout.width(), layout.height(), writer)?;
-    write_title_element(story, writer)?;
+    write_opening(layout.width(), layout.height(), &story.summary(), writer)?;
     write_marks(&layout, story, scene, writer)?;
-    writer.write_all(b"</svg>\n")
+    write_end(writer)
 }

@@ -1,9 +1,8 @@
 //! The rows of a lane: what a strip of one looks like.
 
-use crate::canvas::Canvas;
 use crate::layout::Layout;
-use crate::pen::{bar, stroke, thread_bar, words};
-use crate::words::{Count, Lines};
+use crate::words::{Lines, Waiting};
+use pc_pen::{Canvas, Count, bar, stroke, thread_bar, words};
 use std::fmt::Write;
 
 /// The rows of a lane, from top to bottom but for [`Row::Idle`], which lies where who runs would.
@@ -215,25 +214,20 @@ fn draw_idle(canvas: &mut Canvas, span: &Span, strip: &Strip) {
     let y = span.y.saturating_add(17);
     let to = span.x.saturating_add(span.width);
     stroke(canvas, span.x, y, to, y, IDLE);
-    let waiting = Count(u64::from(strip.most), "ready thread");
-    let verb = if strip.most == 1 { "waits" } else { "wait" };
+    let waiting = Waiting(strip.most);
     let cpu = span.cpu;
     let lines = span.lines;
-    let _ = write!(
-        canvas,
-        "CPU {cpu} idle while up to {waiting} {verb}, {lines}"
-    );
+    let _ = write!(canvas, "CPU {cpu} idle while up to {waiting}, {lines}");
     canvas.done();
 }
 
 fn draw_waits(canvas: &mut Canvas, span: &Span, strip: &Strip) {
     count_bar(canvas, span, 40, strip.most, WAITS);
-    let waiting = Count(u64::from(strip.most), "ready thread");
-    let verb = if strip.most == 1 { "waits" } else { "wait" };
+    let waiting = Waiting(strip.most);
     let cpu = span.cpu;
     let lines = span.lines;
     let before = up_to(strip);
-    let _ = write!(canvas, "{before}{waiting} {verb} for CPU {cpu}, {lines}");
+    let _ = write!(canvas, "{before}{waiting} for CPU {cpu}, {lines}");
     canvas.done();
 }
 

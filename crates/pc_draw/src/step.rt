@@ -1,8 +1,9 @@
 //! The steps of a script: its commands, and what they were answered.
 
-ghost use Rattle.std.specs.Prelude.{◌≡◌};
+ghost use Rattle.std.specs.Prelude.{◌≡◌, vec_len};
 ghost use Rattle.pc_draw.specs.Pictures.{refuses};
 
+use crate::words::Summary;
 use pc_calls::{Refusal, Reply};
 use pc_script::{Command, Outcome, Response};
 
@@ -47,6 +48,20 @@ pub(crate) struct Story<'a> {
     /// How many commands were refused.
     pub(crate) refused: u32,
     pub(crate) outcome: Outcome,
+}
+
+impl Story<'_> {
+    /// What a picture says of the story.
+    pub(crate) fn summary(&self) -> Summary
+        ensures commands { result.commands ≡ vec_len self.now.steps }
+        ensures kept { (result.refused ≡ self.now.refused) × (result.outcome ≡ self.now.outcome) }
+    {
+        Summary {
+            commands: self.steps.len(),
+            refused: self.refused,
+            outcome: self.outcome,
+        }
+    }
 }
 
 /// Whether the command was refused.

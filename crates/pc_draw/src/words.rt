@@ -1,20 +1,59 @@
-//! Parts of what is said in a picture.
+//! What is said in the picture of a script.
 
+ghost use Rattle.std.specs.Prelude.{◌++◌, Some, codes, decimal};
+ghost use Rattle.pc_draw.specs.Pictures.{fault_text, script_title};
+
+use pc_pen::Count;
+use pc_script::Outcome;
 use std::fmt;
 
-/// So many of something: `1 item`, `2 items`.
+/// The line that is a fault: `fault line 12`.
 #[derive(Clone, Copy)]
-pub(crate) struct Count(pub(crate) u64, pub(crate) &'static str);
+pub(crate) struct FaultLine(pub(crate) u32);
 
-impl fmt::Display for Count {
+impl fmt::Display for FaultLine {
+    ghost output = { λ fault. Some (codes "fault line " ++ decimal fault.0) };
+
     fn fmt<W: fmt::Write>(&self, f: &mut fmt::Formatter<W>) -> fmt::Result {
         let number = self.0;
-        let noun = self.1;
-        if number == 1 {
-            write!(f, "1 {noun}")
-        } else {
-            write!(f, "{number} {noun}s")
+        write!(f, "fault line {number}")
+    }
+}
+
+/// What is said of how a script ended, behind the counts: nothing, or the line that is a fault.
+#[derive(Clone, Copy)]
+struct Ending(Outcome);
+
+impl fmt::Display for Ending {
+    ghost output = { λ ending. Some (fault_text ending.0) };
+
+    fn fmt<W: fmt::Write>(&self, f: &mut fmt::Formatter<W>) -> fmt::Result {
+        match self.0 {
+            Outcome::Finished => f.write_str(""),
+            Outcome::FaultLine(number) => {
+                let fault = FaultLine(number);
+                write!(f, ", {fault}")
+            }
         }
+    }
+}
+
+/// What a picture says of its script: how many commands there are, how many were refused, and the fault.
+#[derive(Clone, Copy)]
+pub(crate) struct Summary {
+    pub(crate) commands: usize,
+    pub(crate) refused: u32,
+    pub(crate) outcome: Outcome,
+}
+
+impl fmt::Display for Summary {
+    ghost output = { λ summary. Some (script_title summary.commands summary.refused summary.outcome) };
+
+    fn fmt<W: fmt::Write>(&self, f: &mut fmt::Formatter<W>) -> fmt::Result {
+        let commands = self.commands;
+        let refused = self.refused;
+        let ending = Ending(self.outcome);
+        write!(f, "commands {commands}, refused {refused}{ending}")
     }
 }
 
@@ -34,32 +73,14 @@ impl fmt::Display for Lines {
     }
 }
 
-/// The most bytes of a line that are quoted.
-const MOST_QUOTED: usize = 60;
-
-/// A line of the script. What is no printed ASCII, or has a meaning in markup, is a `?`, and what goes beyond 60 bytes is left
-/// out.
+/// So many threads that wait: `1 ready thread waits`, `2 ready threads wait`.
 #[derive(Clone, Copy)]
-pub(crate) struct Quoted<'a>(pub(crate) &'a [u8]);
+pub(crate) struct Waiting(pub(crate) u32);
 
-/// Whether the byte stands for itself in a picture.
-fn stands_for_itself(byte: u8) -> bool {
-    (byte.is_ascii_graphic() || byte == b' ') && !matches!(byte, b'&' | b'<' | b'>' | b'"' | b'\'')
-}
-
-impl fmt::Display for Quoted<'_> {
+impl fmt::Display for Waiting {
     fn fmt<W: fmt::Write>(&self, f: &mut fmt::Formatter<W>) -> fmt::Result {
-        for byte in self.0.iter().take(MOST_QUOTED) {
-            let letter = if stands_for_itself(*byte) {
-                char::from(*byte)
-            } else {
-                '?'
-            };
-            write!(f, "{letter}")?;
-        }
-        if self.0.len() > MOST_QUOTED {
-            write!(f, "..")?;
-        }
-        Ok(())
+        let threads = Count(u64::from(self.0), "ready thread");
+        let verb = if self.0 == 1 { "waits" } else { "wait" };
+        write!(f, "{threads} {verb}")
     }
 }

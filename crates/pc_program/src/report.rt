@@ -3,7 +3,7 @@
 ghost use Rattle.std.specs.Prelude.{Some, OnOk};
 ghost use Rattle.pc_program.specs.ReportText.{IsReport, row_text, rows_text, totals_text};
 
-use pc_draw::draw_report;
+use pc_chart::draw_report;
 use pc_threads::{LoadReport, Row};
 use std::fmt;
 use std::io::{self, Write};

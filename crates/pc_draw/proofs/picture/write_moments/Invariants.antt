@@ -1,4 +1,4 @@
-use Rattle.pc_draw.specs.Inner.Drawn.{Marks}
+use Rattle.pc_pen.specs.Drawn.{Marks}
 use Rattle.pc_draw.proofs.picture.write_moments.Given as goal
 
 abbrev pub invariant-loop-step : goal.invariant-loop-step

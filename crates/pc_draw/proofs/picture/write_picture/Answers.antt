@@ -1,6 +1,7 @@
-use Rattle.pc_draw.proofs.Marks.{picture_ok}
+use Rattle.pc_pen.proofs.Marks.{picture_ok}
 use Rattle.pc_draw.proofs.picture.write_picture.Goals as goal
 
 pub returns : goal.returns
 returns g c =
-    picture_ok c.write_all.result _ _ _ _ _ _ _ _ c.in_ok-write_head.ensures c.in_ok-write_title_element.ensures c.in_ok-write_marks.ensures c.write_all.ensures.bytes
+    rw (← c.summary.ensures.commands, ← c.summary.ensures.kept.0, ← c.summary.ensures.kept.1) (
+    picture_ok c.write_end.result _ _ _ _ _ _ _ c.in_ok-write_opening.ensures c.in_ok-write_marks.ensures c.write_end.ensures)

@@ -1,5 +1,0 @@
-use Rattle.pc_draw.proofs.Marks.{report_ok}
-use Rattle.pc_draw.proofs.report.draw_report.Goals as goal
-
-pub returns : goal.returns
-returns g c = report_ok c.write_picture.result c.args.report.now _ _ c.write_picture.ensures

@@ -1,6 +1,0 @@
-use Rattle.pc_draw.proofs.Marks.{picture_ok}
-use Rattle.pc_draw.proofs.report.write_picture.Goals as goal
-
-pub returns : goal.returns
-returns g c =
-    picture_ok c.write_all.result _ _ _ _ _ _ _ _ c.in_ok-write_head.ensures c.in_ok-write_title_element.ensures c.in_ok-write_marks.ensures c.write_all.ensures.bytes

@@ -1,0 +1,4 @@
+pub mod Canvases
+pub mod Drawn
+pub mod Phrases
+pub mod Pictures

@@ -1,0 +1,21 @@
+//! What pictures are made of, as SVG: marks, canvases on which they are composed, and the frame around them.
+//!
+//! What is proved: what a canvas writes is whole elements, as many and of the kinds that were put on it, whatever
+//! their texts.
+#![tactic(auto)]
+
+mod canvas;
+mod frame;
+mod mark;
+mod pen;
+mod phrases;
+mod shape;
+
+pub use canvas::Canvas;
+pub use frame::{write_end, write_opening};
+pub use pen::{
+    HEADING, SMALL, arrow, background, bar, bold_cross, hollow_cross, outline, stroke, thread_bar,
+    words,
+};
+pub use phrases::{Count, Quoted};
+pub use shape::Shape;
