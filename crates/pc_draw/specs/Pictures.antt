@@ -1,11 +1,10 @@
 -- The picture of a script's run.
-use Rattle.std.specs.Prelude.{◌≡◌, ℕ, suc, Bool, true, false, List, [], ◌++◌, length, count_by, codes, decimal}
+use Rattle.std.specs.Prelude.{◌≡◌, ℕ, Bool, true, false, List, [], ◌++◌, length, count_by, codes, decimal}
 use Rattle.pc_calls.specs.declared.event.Reply.TheVariants as reply
 use Rattle.pc_calls.specs.declared.limits.Profile.{Profile}
 use Rattle.pc_pen.specs.Pictures.{AreMarks, picture_text}
-use Rattle.pc_script.specs.Scripts.{Script}
+use Rattle.pc_script.specs.Scripts.{IsRunOf}
 use Rattle.pc_script.specs.Text.{lines}
-use Rattle.pc_script.specs.Versions.{Opens}
 use Rattle.pc_script.specs.declared.command.Command.{Command}
 use Rattle.pc_script.specs.declared.outcome.Outcome.{Outcome}
 use Rattle.pc_script.specs.declared.outcome.Outcome.TheVariants.{Finished, FaultLine}
@@ -40,15 +39,10 @@ script_title commands refused outcome =
 pub record IsPictureOf (IsRun : Profile → List Command → List Response → Type 0) (script : List ℕ) (outcome : Outcome)
     (written : List ℕ) : Type 0 where
   pub profile : Profile
-  pub passed : ℕ
-  pub rest : List (List ℕ)
-  pub opens : Opens profile passed rest (lines script)
-  pub commands : List Command
   pub responses : List Response
-  pub asks : Script (suc passed) rest commands outcome
-  pub run : IsRun profile commands responses
+  pub runs : IsRunOf IsRun (lines script) outcome profile responses
   pub width : ℕ
   pub height : ℕ
   pub marks : List ℕ
   pub are_marks : AreMarks marks
-  pub text : written ≡ picture_text width height (script_title (length commands) (refused_among responses) outcome) marks
+  pub text : written ≡ picture_text width height (script_title (length runs.commands) (refused_among responses) outcome) marks

@@ -2,8 +2,8 @@
 
 use crate::layout::Layout;
 use crate::rows::{FIFTHS, ROWS, Row, Strip, draw_strip, height_of};
-use crate::scene::{Lane, MOST_LANES, Scene, place_of};
-use crate::step::{Step, Told};
+use crate::lanes::{Lane, MOST_LANES, Scene};
+use crate::step::{Answer, Step};
 use pc_calls::{Event, Reply};
 use pc_pen::Canvas;
 use pc_script::Command;
@@ -185,7 +185,7 @@ impl Bars {
     }
 
     /// Takes a step, which is counted from 0, after which this goes on, and draws the bars that end before its column.
-    pub(crate) fn take(&mut self, index: u32, step: &Step<'_>, scene: &Scene, canvas: &mut Canvas) {
+    pub(crate) fn take(&mut self, index: u32, step: &Step, scene: &Scene, canvas: &mut Canvas) {
         let column = self.layout.column_of(index);
         if column != self.column {
             self.end_column(canvas);
@@ -199,7 +199,7 @@ impl Bars {
         self.last = step.number;
         self.steps = self.steps.saturating_add(1);
         self.count(scene);
-        self.count_step(step, scene);
+        self.count_step(step);
     }
 
     /// Draws the bars that last to the end.
@@ -232,25 +232,25 @@ impl Bars {
     }
 
     /// Counts what the step itself did.
-    fn count_step(&mut self, step: &Step<'_>, scene: &Scene) {
+    fn count_step(&mut self, step: &Step) {
         let Command::Event(event) = step.command else {
             return;
         };
         match step.answer {
-            Told::Event(Reply::Posted(posted)) => {
+            Answer::Event(Reply::Posted(posted)) => {
                 if let Some(tally) = self.tallies.get_mut(posted.queue.index() as usize) {
                     tally.posts = tally.posts.saturating_add(1);
                 }
             }
-            Told::Event(Reply::Done) => {
+            Answer::Event(Reply::Done) => {
                 if let Event::Deliver { cpu, .. } = event
                     && let Some(tally) = self.tallies.get_mut(cpu.index() as usize)
                 {
                     tally.deltas = tally.deltas.saturating_add(1);
                 }
             }
-            Told::Refused(_) => {
-                let cpu = place_of(&event, scene);
+            Answer::Refused(_) => {
+                let cpu = step.lane();
                 if let Some(tally) = self.tallies.get_mut(cpu) {
                     tally.refusals = tally.refusals.saturating_add(1);
                 }

@@ -20,7 +20,7 @@ const DISTANCES: [u32; 22] = [
 ];
 
 /// Draws the ground of a script's picture: its words, its lanes, and its axis.
-pub(crate) fn draw_ground(canvas: &mut Canvas, layout: &Layout, story: &Story<'_>) {
+pub(crate) fn draw_ground(canvas: &mut Canvas, layout: &Layout, story: &Story) {
     background(canvas, layout.width(), layout.height());
     canvas.done();
     head_words(canvas, layout, story);
@@ -32,7 +32,7 @@ pub(crate) fn draw_ground(canvas: &mut Canvas, layout: &Layout, story: &Story<'_
 }
 
 /// The words on top.
-fn head_words(canvas: &mut Canvas, layout: &Layout, story: &Story<'_>) {
+fn head_words(canvas: &mut Canvas, layout: &Layout, story: &Story) {
     words(canvas, 8, 20, HEADING);
     let summary = story.summary();
     let _ = write!(canvas, "{summary}");
@@ -101,7 +101,7 @@ fn distance(layout: &Layout) -> u32 {
 }
 
 /// The numbers of the lines, and thin lines at their steps.
-fn axis(canvas: &mut Canvas, layout: &Layout, steps: &[Step<'_>]) {
+fn axis(canvas: &mut Canvas, layout: &Layout, steps: &[Step]) {
     let distance = distance(layout);
     let bottom = layout.y(layout.lanes);
     for label in 0..MOST_LABELS {

@@ -5,14 +5,14 @@
 #![tactic(auto)]
 
 mod bars;
-mod collect;
 mod ground;
+mod lanes;
 mod layout;
 mod legend;
 mod moments;
 mod picture;
+mod record;
 mod rows;
-mod scene;
 mod script;
 mod step;
 mod words;

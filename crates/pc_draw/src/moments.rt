@@ -4,12 +4,11 @@
 //! many there are, and how many refused commands are of no CPU. The others are counted in rows.
 
 use crate::layout::{Layout, TOP};
-use crate::scene::{Scene, place_of};
-use crate::step::{Reason, Step, Told};
+use crate::step::{Answer, Reason, Sent, Step};
 use pc_calls::{Event, Posted, Refusal, Reply};
 use pc_messages::Cpu;
 use pc_pen::{Canvas, Quoted, SMALL, arrow, bold_cross, hollow_cross, outline, stroke, words};
-use pc_script::Command;
+use pc_script::{Command, Line};
 use std::fmt::Write;
 
 /// The most crashes, and the most moves of threads, that are drawn one by one in a picture of many steps.
@@ -32,9 +31,9 @@ pub(crate) struct Moments {
 }
 
 /// Says a step's line, and ends the mark.
-fn say_line(canvas: &mut Canvas, step: &Step<'_>) {
-    let number = step.number;
-    let line = Quoted(step.line);
+fn say_line(canvas: &mut Canvas, line: Line<'_>) {
+    let number = line.number;
+    let line = Quoted(line.text);
     let _ = write!(canvas, "line {number}: {line}");
     canvas.done();
 }
@@ -76,15 +75,25 @@ impl Moments {
         }
     }
 
-    /// Draws a step, which is counted from 0, before which this goes on.
-    pub(crate) fn take(&mut self, index: u32, step: &Step<'_>, scene: &Scene, canvas: &mut Canvas) {
+    /// Draws a step, which is counted from 0, of this line. Deltas were sent so.
+    pub(crate) fn take(
+        &mut self,
+        index: u32,
+        line: Line<'_>,
+        step: &Step,
+        sent: &[Sent],
+        canvas: &mut Canvas,
+    ) {
         match (step.answer, step.command) {
-            (Told::Refused(reason), command) => self.refusal(
-                index, step, reason, &command, scene, canvas,
-            ),
-            (Told::Event(reply), Command::Event(event)) => {
-                self.event(index, step, &event, &reply, scene, canvas);
-            }
+            (Answer::Refused(reason), _) => self.refusal(index, line, reason, step.lane(), canvas),
+            (Answer::Event(reply), Command::Event(event)) => match (event, reply) {
+                (Event::Deliver { cpu, delta }, _) => {
+                    if let Some(sent) = sent.get(usize::try_from(delta).unwrap_or(usize::MAX)) {
+                        self.delta(index, line, cpu, sent, canvas);
+                    }
+                }
+                _ => self.event(index, line, &event, &reply, step.home, canvas),
+            },
             _ => {}
         }
     }
@@ -113,26 +122,23 @@ impl Moments {
         canvas.done();
     }
 
-    /// An event that was accepted.
+    /// An event that was accepted, and the home that its thread had before it.
     fn event(
         &mut self,
         index: u32,
-        step: &Step<'_>,
+        line: Line<'_>,
         event: &Event,
         reply: &Reply,
-        scene: &Scene,
+        home: Option<Cpu>,
         canvas: &mut Canvas,
     ) {
-        match (event, reply) {
-            (Event::Crash { cpu }, _) => self.crash(index, step, *cpu, canvas),
-            (_, Reply::Associated { thread, queue }) => {
+        match (event, reply, home) {
+            (Event::Crash { cpu }, _, _) => self.crash(index, line, *cpu, canvas),
+            (_, Reply::Associated { thread, queue }, Some(home)) => {
                 let is_steal = matches!(event, Event::Steal { .. });
-                self.change_home(index, step, thread.index(), *queue, is_steal, scene, canvas);
+                self.change_home(index, line, thread.index(), home, *queue, is_steal, canvas);
             }
-            (_, Reply::Posted(posted)) => self.post(index, step, posted, canvas),
-            (Event::Deliver { cpu, delta }, _) => self.delta(
-                index, step, *cpu, *delta, scene, canvas,
-            ),
+            (_, Reply::Posted(posted), _) => self.post(index, line, posted, canvas),
             _ => {}
         }
     }
@@ -146,16 +152,12 @@ impl Moments {
     fn refusal(
         &mut self,
         index: u32,
-        step: &Step<'_>,
+        line: Line<'_>,
         reason: Reason,
-        command: &Command,
-        scene: &Scene,
+        lane: usize,
         canvas: &mut Canvas,
     ) {
-        let place = match command {
-            Command::Event(event) => u32::try_from(place_of(event, scene)).unwrap_or(u32::MAX),
-            _ => u32::MAX,
-        };
+        let place = u32::try_from(lane).unwrap_or(u32::MAX);
         if self.layout.is_dense {
             if place >= self.layout.lanes {
                 self.unplaced = self.unplaced.saturating_add(1);
@@ -168,22 +170,22 @@ impl Moments {
             TOP.saturating_sub(6)
         };
         hollow_cross(canvas, self.layout.middle(index), y);
-        let number = step.number;
-        let line = Quoted(step.line);
+        let number = line.number;
+        let line = Quoted(line.text);
         let _ = write!(canvas, "line {number}: {line}: refused");
         say_reason(canvas, reason);
         canvas.done();
     }
 
     /// An agent crashed.
-    fn crash(&mut self, index: u32, step: &Step<'_>, cpu: Cpu, canvas: &mut Canvas) {
+    fn crash(&mut self, index: u32, line: Line<'_>, cpu: Cpu, canvas: &mut Canvas) {
         self.crashes = self.crashes.saturating_add(1);
         if self.layout.is_dense && self.crashes > MOST_MOMENTS {
             return;
         }
         bold_cross(canvas, self.layout.middle(index), self.height_in(cpu, 17));
         let cpu = cpu.index();
-        let number = step.number;
+        let number = line.number;
         let _ = write!(canvas, "crash {cpu}, line {number}");
         canvas.done();
     }
@@ -192,42 +194,40 @@ impl Moments {
     fn change_home(
         &mut self,
         index: u32,
-        step: &Step<'_>,
+        line: Line<'_>,
         thread: u32,
+        home: Cpu,
         queue: Cpu,
         is_steal: bool,
-        scene: &Scene,
         canvas: &mut Canvas,
     ) {
         self.moves = self.moves.saturating_add(1);
         if self.layout.is_dense && self.moves > MOST_MOMENTS {
             return;
         }
-        let Some(home) = scene.home(thread) else {
-            return;
-        };
         let half = if is_steal { 3 } else { 1 };
         let verb = if is_steal { "stolen" } else { "moved" };
         // A thread that stays where it is, as one that a new agent takes over from itself, has a short arrow.
-        let is_same = home == queue.index();
+        let is_same = home.index() == queue.index();
         arrow(
             canvas,
             self.layout.middle(index),
-            self.height_in(Cpu(home), if is_same { 18 } else { 34 }),
+            self.height_in(home, if is_same { 18 } else { 34 }),
             self.height_in(queue, 34),
             half,
             thread,
         );
+        let home = home.index();
         let queue = queue.index();
         let _ = write!(
             canvas,
             "t{thread} {verb} from queue {home} to queue {queue}, "
         );
-        say_line(canvas, step);
+        say_line(canvas, line);
     }
 
     /// An item was posted.
-    fn post(&self, index: u32, step: &Step<'_>, posted: &Posted, canvas: &mut Canvas) {
+    fn post(&self, index: u32, line: Line<'_>, posted: &Posted, canvas: &mut Canvas) {
         if self.layout.is_dense {
             return;
         }
@@ -240,28 +240,24 @@ impl Moments {
             self.height_in(posted.queue, 61),
             POST,
         );
-        say_line(canvas, step);
+        say_line(canvas, line);
     }
 
-    /// A delta was taken in.
+    /// A delta was taken in that was sent so.
     fn delta(
         &self,
         index: u32,
-        step: &Step<'_>,
+        line: Line<'_>,
         cpu: Cpu,
-        delta: u64,
-        scene: &Scene,
+        sent: &Sent,
         canvas: &mut Canvas,
     ) {
-        let Some(sent) = scene.sender(delta) else {
-            return;
-        };
         if self.layout.is_dense {
             return;
         }
         let x = self.layout.middle(index);
         let y = self.height_in(cpu, 29);
-        let from = sent.cpu;
+        let from = sent.cpu.index();
         stroke(
             canvas,
             self.layout.middle(sent.step),
@@ -270,7 +266,7 @@ impl Moments {
             y,
             THIN,
         );
-        say_line(canvas, step);
+        say_line(canvas, line);
         let head = if from < cpu.index() {
             "l-3,-7h6z"
         } else if from > cpu.index() {
@@ -279,6 +275,6 @@ impl Moments {
             "l-7,-3v6z"
         };
         outline(canvas, x, y, head, "fill=\"#777\"");
-        say_line(canvas, step);
+        say_line(canvas, line);
     }
 }

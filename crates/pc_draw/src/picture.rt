@@ -9,29 +9,32 @@ use crate::ground::draw_ground;
 use crate::layout::Layout;
 use crate::legend::draw_legend;
 use crate::moments::Moments;
-use crate::scene::Scene;
-use crate::step::{Step, Story, Told};
+use crate::lanes::Scene;
+use crate::step::{Answer, Step, Story};
 use pc_pen::{Canvas, write_end, write_opening};
-use pc_script::Command;
+use pc_script::{Command, Line, lines_of};
 use std::io::{self, Write};
 
 /// Writes the bars of all steps.
 fn write_bars<W: Write>(
     layout: &Layout,
-    story: &Story<'_>,
-    scene: &mut Scene,
+    story: &Story,
     canvas: &mut Canvas,
     writer: &mut W,
 ) -> io::Result<()>
     ensures { OnOk result (Marks (W.contents writer.old) (W.contents writer.new)) }
 {
     let mut bars = Bars::new(*layout);
+    let mut scene = Scene::new();
     let mut index = 0u32;
-    scene.reset();
+    let mut changed = 0usize;
     for step in story.steps.as_slice() {
         canvas.clear();
-        scene.apply(index, step);
-        bars.take(index, step, scene, canvas);
+        if let Some(changes) = story.changes.as_slice().get(changed..step.changed) {
+            scene.apply(changes);
+        }
+        changed = step.changed;
+        bars.take(index, step, &scene, canvas);
         canvas.write_to(writer)?;
         index = index.saturating_add(1);
     }
@@ -40,11 +43,11 @@ fn write_bars<W: Write>(
     canvas.write_to(writer)
 }
 
-/// Writes what is shown of single steps.
+/// Writes what is shown of single steps, whose lines are those of the text.
 fn write_moments<W: Write>(
     layout: &Layout,
-    story: &Story<'_>,
-    scene: &mut Scene,
+    text: &[u8],
+    story: &Story,
     canvas: &mut Canvas,
     writer: &mut W,
 ) -> io::Result<()>
@@ -52,13 +55,18 @@ fn write_moments<W: Write>(
 {
     let mut moments = Moments::new(*layout);
     let mut index = 0u32;
-    scene.reset();
-    for step in story.steps.as_slice() {
-        canvas.clear();
-        moments.take(index, step, scene, canvas);
-        scene.apply(index, step);
-        canvas.write_to(writer)?;
-        index = index.saturating_add(1);
+    let mut number = 0u32;
+    for text in lines_of(Some(text)) {
+        number = number.saturating_add(1);
+        let Some(step) = story.steps.get(index as usize) else {
+            break;
+        };
+        if step.number == number {
+            canvas.clear();
+            moments.take(index, Line { number, text }, step, story.sent.as_slice(), canvas);
+            canvas.write_to(writer)?;
+            index = index.saturating_add(1);
+        }
     }
     canvas.clear();
     moments.end(canvas);
@@ -69,8 +77,8 @@ fn write_moments<W: Write>(
 /// Writes the marks.
 fn write_marks<W: Write>(
     layout: &Layout,
-    story: &Story<'_>,
-    scene: &mut Scene,
+    text: &[u8],
+    story: &Story,
     writer: &mut W,
 ) -> io::Result<()>
     ensures { OnOk result (Marks (W.contents writer.old) (W.contents writer.new)) }
@@ -78,24 +86,24 @@ fn write_marks<W: Write>(
     let mut canvas = Canvas::new();
     draw_ground(&mut canvas, layout, story);
     canvas.write_to(writer)?;
-    write_bars(layout, story, scene, &mut canvas, writer)?;
-    write_moments(layout, story, scene, &mut canvas, writer)
+    write_bars(layout, story, &mut canvas, writer)?;
+    write_moments(layout, text, story, &mut canvas, writer)
 }
 
 /// How many CPUs the accepted `enclave` has; none without one.
-fn cpus_of(steps: &[Step<'_>]) -> u32 {
+fn cpus_of(steps: &[Step]) -> u32 {
     for step in steps {
-        if let (Command::Enclave(limits), Told::Opened) = (step.command, step.answer) {
+        if let (Command::Enclave(limits), Answer::Opened) = (step.command, step.answer) {
             return u32::from(limits.cpus);
         }
     }
     0
 }
 
-/// Writes the picture of a script's run. The scene has room for what the steps make.
+/// Writes the picture of a script's run, of which the text was.
 pub(crate) fn write_picture<W: Write>(
-    story: &Story<'_>,
-    scene: &mut Scene,
+    text: &[u8],
+    story: &Story,
     writer: &mut W,
 ) -> io::Result<()>
     ensures { OnOk result (Pictures (script_title (vec_len story.now.steps) story.now.refused story.now.outcome)
@@ -104,6 +112,6 @@ pub(crate) fn write_picture<W: Write>(
     let steps = u32::try_from(story.steps.len()).unwrap_or(u32::MAX);
     let layout = Layout::of(steps, cpus_of(story.steps.as_slice()));
     write_opening(layout.width(), layout.height(), &story.summary(), writer)?;
-    write_marks(&layout, story, scene, writer)?;
+    write_marks(&layout, text, story, writer)?;
     write_end(writer)
 }

@@ -4,26 +4,27 @@ ghost use Rattle.std.specs.Prelude.{◌≡◌, ◌⊎◌, ◌+◌, ℕ, List, �
 ghost use Rattle.std.specs.Io.KnownBytes.{Appends, Consumes};
 ghost use Rattle.pc_draw.specs.Pictures.{IsPictureOf};
 ghost use Rattle.pc_script.specs.declared.input.TheConstants.{MOST_BYTES};
+ghost use Rattle.pc_session.specs.Session.{IsSession};
 
-use crate::collect::collect;
 use crate::picture::write_picture;
-use crate::scene::Scene;
-use pc_script::{Machine, Outcome, ScriptFault, opening_of, read_text};
+use crate::record::Recorder;
+use pc_script::{Outcome, ScriptFault, read_text, walk};
+use pc_session::Session;
 use std::alloc::Global;
-use std::io::{Read, Write};
+use std::io::{Read, Sink, Write, sink};
 
-/// Reads a script, has the machine answer its commands one after another, and writes a picture of what happened.
+/// Reads a script, answers its commands one after another in a session of its own, and writes a picture of what happened.
 ///
 /// The whole script is answered, and all memory is taken, before the first byte is written. Reading and the faults are as in
 /// [`pc_script::run_script`]; a script that ends at a fault is drawn up to there. The picture is written piece by piece, so a
 /// writer without a buffer is slow; nothing is flushed.
-pub fn draw_script<M: Machine, R: Read, W: Write>(
+pub fn draw_script<R: Read, W: Write>(
     alloc: Global,
     reader: &mut R,
     writer: &mut W,
 ) -> Result<Outcome, ScriptFault>
     ensures ok { IfOk result (λ outcome. IfSome (R.remaining reader.old) (λ text. (written : List ℕ)
-        × IsPictureOf M.IsRun text outcome written × Appends (W.contents writer.old) (W.contents writer.new) written)) }
+        × IsPictureOf IsSession text outcome written × Appends (W.contents writer.old) (W.contents writer.new) written)) }
     ensures no_memory { result ≡ Err ScriptFault.OutOfMemory → writer.new ≡ writer.old }
     ensures unread { (result ≡ Err ScriptFault.Read) ⊎ (result ≡ Err ScriptFault.TooLong) → writer.new ≡ writer.old }
     ensures too_long { result ≡ Err ScriptFault.TooLong → IfSome (R.remaining reader.old) (λ text. MOST_BYTES < length text) }
@@ -31,14 +32,12 @@ pub fn draw_script<M: Machine, R: Read, W: Write>(
     ensures reads { (bytes : List ℕ) × (length bytes ≤ MOST_BYTES + 1) × Consumes (R.remaining reader.old) (R.remaining reader.new) bytes }
 {
     let text = read_text(alloc, reader)?;
-    let opening = opening_of(text.as_slice());
-    let mut machine = M::start(alloc, opening.profile);
-    let story = collect(alloc, &opening, &mut machine)?;
-    let Ok(mut scene) = Scene::new(alloc, story.steps.as_slice()) else {
-        return Err(ScriptFault::OutOfMemory);
-    };
-    match write_picture(&story, &mut scene, writer) {
-        Ok(()) => Ok(story.outcome),
+    let mut recorder = Recorder::new(alloc);
+    // Nothing is written while the script is walked over.
+    let outcome =
+        walk::<Session, Recorder, Sink>(alloc, text.as_slice(), &mut recorder, &mut sink())?;
+    match write_picture(text.as_slice(), &recorder.story, writer) {
+        Ok(()) => Ok(outcome),
         Err(_) => Err(ScriptFault::Write),
     }
 }

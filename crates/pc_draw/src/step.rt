@@ -1,11 +1,15 @@
 //! The steps of a script: its commands, and what they were answered.
 
-ghost use Rattle.std.specs.Prelude.{◌≡◌, vec_len};
+ghost use Rattle.std.specs.Prelude.{◌≡◌, ◌+◌, ◌≤◌, vec_len, if◌then◌else◌, OnOk};
 ghost use Rattle.pc_draw.specs.Pictures.{refuses};
+ghost use Rattle.pc_script.specs.declared.outcome.Outcome.{Outcome};
 
+use crate::lanes::{Change, MOST_LANES};
 use crate::words::Summary;
-use pc_calls::{Refusal, Reply};
+use pc_calls::{EnvCall, Event, Refusal, Reply};
+use pc_messages::{Cpu, Tid};
 use pc_script::{Command, Outcome, Response};
+use std::alloc::{AllocError, Global};
 
 /// Why a command was refused.
 #[derive(Clone, Copy)]
@@ -17,9 +21,9 @@ pub(crate) enum Reason {
     Of(Refusal),
 }
 
-/// What a command was answered, as far as pictures tell it.
+/// What a command was answered, as far as pictures show it.
 #[derive(Clone, Copy)]
-pub(crate) enum Told {
+pub(crate) enum Answer {
     /// There is a kernel.
     Opened,
     /// The event is done.
@@ -32,25 +36,65 @@ pub(crate) enum Told {
 
 /// A command of a script.
 #[derive(Clone, Copy)]
-pub(crate) struct Step<'a> {
+pub(crate) struct Step {
     /// The number of its line, counted from 1.
     pub(crate) number: u32,
-    /// Its line.
-    pub(crate) line: &'a [u8],
     pub(crate) command: Command,
-    pub(crate) answer: Told,
+    pub(crate) answer: Answer,
+    /// The home that its thread had before it, where it names a thread and no CPU, or moved one.
+    pub(crate) home: Option<Cpu>,
+    /// How many changes the steps up to this one made.
+    pub(crate) changed: usize,
+}
+
+/// Who sent a delta, and at which step.
+#[derive(Clone, Copy)]
+pub(crate) struct Sent {
+    pub(crate) cpu: Cpu,
+    pub(crate) step: u32,
 }
 
 /// The steps of a script, and how it ended.
 #[derive(Drop)]
-pub(crate) struct Story<'a> {
-    pub(crate) steps: Vec<Step<'a>>,
+pub(crate) struct Story {
+    pub(crate) steps: Vec<Step>,
+    /// What goes on elsewhere than before, step by step.
+    pub(crate) changes: Vec<Change>,
+    /// Of each delta who sent it.
+    pub(crate) sent: Vec<Sent>,
     /// How many commands were refused.
-    pub(crate) refused: u32,
+    pub(crate) refused: usize,
     pub(crate) outcome: Outcome,
+    ghost few: { refused ≤ vec_len steps },
 }
 
-impl Story<'_> {
+impl Story {
+    /// No steps.
+    pub(crate) fn new(alloc: Global) -> Story
+        ensures { (vec_len result.steps ≡ 0) × (result.refused ≡ 0) × (result.outcome ≡ Outcome.Finished) }
+    {
+        Story {
+            steps: Vec::new(alloc),
+            changes: Vec::new(alloc),
+            sent: Vec::new(alloc),
+            refused: 0,
+            outcome: Outcome::Finished,
+        }
+    }
+
+    /// Adds a step, which was refused or not.
+    pub(crate) fn add(&mut self, step: Step, is_refused: bool) -> Result<(), AllocError>
+        ensures ok { OnOk result ((vec_len self.new.steps ≡ vec_len self.old.steps + 1)
+            × (self.new.refused ≡ self.old.refused + (if is_refused then 1 else 0))) }
+        ensures outcome { self.new.outcome ≡ self.old.outcome }
+    {
+        self.steps.push(step)?;
+        if is_refused {
+            self.refused += 1;
+        }
+        Ok(())
+    }
+
     /// What a picture says of the story.
     pub(crate) fn summary(&self) -> Summary
         ensures commands { result.commands ≡ vec_len self.now.steps }
@@ -61,6 +105,74 @@ impl Story<'_> {
             refused: self.refused,
             outcome: self.outcome,
         }
+    }
+}
+
+impl Step {
+    /// The lane at which it is shown: of the CPU that its event names, or of its thread's home; past all lanes where there is
+    /// neither.
+    pub(crate) fn lane(&self) -> usize {
+        let Command::Event(event) = &self.command else {
+            return MOST_LANES;
+        };
+        match (cpu_of(event), self.home) {
+            (Some(cpu), _) | (None, Some(cpu)) => cpu.index() as usize,
+            _ => MOST_LANES,
+        }
+    }
+}
+
+/// The CPU that an event names: whose agent acts, on which a thread runs, or whose queue it is about. None of those that name a
+/// thread alone.
+pub(crate) fn cpu_of(event: &Event) -> Option<Cpu> {
+    match event {
+        Event::Env(call) => cpu_of_call(call),
+        Event::Associate { queue, .. } | Event::Config { queue, .. } => Some(*queue),
+        Event::Commit { cpu, .. }
+        | Event::Sleep { cpu, .. }
+        | Event::Rouse { cpu }
+        | Event::Publish { cpu, .. }
+        | Event::Consume { cpu }
+        | Event::Deliver { cpu, .. }
+        | Event::Answer { cpu, .. }
+        | Event::Pick { cpu, .. }
+        | Event::Steal { cpu }
+        | Event::Crash { cpu } => Some(*cpu),
+    }
+}
+
+/// The CPU that a call of the environment names.
+fn cpu_of_call(call: &EnvCall) -> Option<Cpu> {
+    match call {
+        EnvCall::Create { queue, .. } => Some(*queue),
+        EnvCall::Block { cpu, .. }
+        | EnvCall::YieldNow { cpu, .. }
+        | EnvCall::Preempt { cpu, .. }
+        | EnvCall::Die { cpu, .. }
+        | EnvCall::Tick { cpu } => Some(*cpu),
+        EnvCall::Wake { .. } | EnvCall::SetAffinity { .. } | EnvCall::SetPriority { .. } => None,
+    }
+}
+
+/// The CPUs beside that one at which an event may change something: the queue of a post, the agent that it woke, and the agent
+/// that a queue is set to wake.
+pub(crate) fn other_cpus(event: &Event, reply: &Reply) -> [Option<Cpu>; 2] {
+    match (event, reply) {
+        (_, Reply::Posted(posted)) => [Some(posted.queue), posted.woken],
+        (Event::Config { target, .. }, _) => [*target, None],
+        _ => [None, None],
+    }
+}
+
+/// The thread of an event that names no CPU.
+pub(crate) fn named_thread(event: &Event) -> Option<Tid> {
+    match event {
+        Event::Env(
+            EnvCall::Wake { thread }
+            | EnvCall::SetAffinity { thread, .. }
+            | EnvCall::SetPriority { thread, .. },
+        ) => Some(*thread),
+        _ => None,
     }
 }
 
@@ -78,16 +190,16 @@ pub(crate) fn is_refused(response: &Response) -> bool
     }
 }
 
-/// What pictures tell of a response.
-pub(crate) fn told_of(response: &Response) -> Told {
+/// What pictures show of a response.
+pub(crate) fn answer_of(response: &Response) -> Answer {
     match response {
-        Response::Opened => Told::Opened,
-        Response::NoEnclave => Told::Refused(Reason::NoEnclave),
-        Response::HaveEnclave => Told::Refused(Reason::HaveEnclave),
-        Response::BadLimits(_) => Told::Refused(Reason::BadLimits),
-        Response::Event(Reply::Refused(refusal)) => Told::Refused(Reason::Of(*refusal)),
-        Response::Event(reply) => Told::Event(*reply),
-        Response::Refused(refusal) => Told::Refused(Reason::Of(*refusal)),
-        _ => Told::Read,
+        Response::Opened => Answer::Opened,
+        Response::NoEnclave => Answer::Refused(Reason::NoEnclave),
+        Response::HaveEnclave => Answer::Refused(Reason::HaveEnclave),
+        Response::BadLimits(_) => Answer::Refused(Reason::BadLimits),
+        Response::Event(Reply::Refused(refusal)) => Answer::Refused(Reason::Of(*refusal)),
+        Response::Event(reply) => Answer::Event(*reply),
+        Response::Refused(refusal) => Answer::Refused(Reason::Of(*refusal)),
+        _ => Answer::Read,
     }
 }

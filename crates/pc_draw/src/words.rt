@@ -42,7 +42,7 @@ impl fmt::Display for Ending {
 #[derive(Clone, Copy)]
 pub(crate) struct Summary {
     pub(crate) commands: usize,
-    pub(crate) refused: u32,
+    pub(crate) refused: usize,
     pub(crate) outcome: Outcome,
 }
 

@@ -9,7 +9,8 @@ use Rattle.std.proofs.lemmas.List.Splits.{slice_split_at, join_with_byte-slice_s
 use Rattle.std.proofs.lemmas.List.Sums.{AllPass-from_list_all}
 use Rattle.pc_explain.specs.Comments.{is_comment, without_comments}
 use Rattle.pc_explain.specs.Inner.Annotated.{HasNoLineFeed, IsAnnotated, at_end, told, comment}
-use Rattle.pc_explain.specs.Inner.Lines.{Annotates}
+use Rattle.pc_explain.specs.Inner.Told.{Annotates-trans}
+use Rattle.pc_explain.specs.Inner.Writing.{Annotates}
 
 -- ---- line feeds
 
@@ -56,22 +57,7 @@ told_lines (comment {written} line none rest) =
 pub without_comments_is : {plain written : List ℕ} → IsAnnotated plain written → without_comments written ≡ plain
 without_comments_is {plain} h = ap (join_with_byte 10) (told_lines h) ∙ join_with_byte-slice_split 10 plain
 
-pub IsAnnotated-append : {plain written others more : List ℕ} → IsAnnotated plain written → IsAnnotated others more
-    → IsAnnotated (plain ++ others) (written ++ more)
-IsAnnotated-append at_end after = after
-IsAnnotated-append {others} {more} (told {plain} {written} line none other rest) after =
-    rw (append_assoc line (10 ∷ plain) others, append_assoc line (10 ∷ written) more) (told line none other (IsAnnotated-append rest after))
-IsAnnotated-append {more} (comment {written} line none rest) after =
-    rw (append_assoc (35 ∷ line) (10 ∷ written) more) (comment line none (IsAnnotated-append rest after))
-
 -- ---- writing one after another
-
-pub Annotates-nothing : (known : Option (List ℕ)) → Annotates [] known known
-Annotates-nothing known = ([], at_end, Appends-nil known)
-
-pub Annotates-trans : {one other : List ℕ} (before now after : Option (List ℕ)) → Annotates one before now → Annotates other now after
-    → Annotates (one ++ other) before after
-Annotates-trans before now after h k = (h.0 ++ k.0, IsAnnotated-append h.1 k.1, Appends-trans before now after h.0 k.0 h.2 k.2)
 
 -- a comment
 pub Annotates-comment : (line : List ℕ) (before after : Option (List ℕ)) → HasNoLineFeed line → Appends before after (35 ∷ line ++ 10 ∷ [])

@@ -3,7 +3,8 @@
 ghost use Rattle.std.specs.Prelude.{◌≡◌, ◌≢◌, [], ◌∷◌, ◌++◌, OnOk, Err};
 ghost use Rattle.std.specs.Io.KnownBytes.{Appends};
 ghost use Rattle.pc_explain.specs.Inner.Annotated.{HasNoLineFeed};
-ghost use Rattle.pc_explain.specs.Inner.Lines.{Annotates};
+ghost use Rattle.pc_explain.specs.Inner.Writing.{Annotates};
+ghost use Rattle.pc_script.specs.declared.outcome.ScriptFault.{ScriptFault};
 ghost use Rattle.pc_script.specs.Responses.{response_text, text_line};
 
 use crate::sentences::Sentences;
@@ -34,7 +35,7 @@ fn write_line<W: Write>(front: &[u8], text: &[u8], writer: &mut W) -> io::Result
 /// Writes a comment of two texts, each up to its first line feed.
 fn write_comment<W: Write>(front: &[u8], text: &[u8], writer: &mut W) -> Result<(), ScriptFault>
     ensures ok { OnOk result (Annotates [] (W.contents writer.old) (W.contents writer.new)) }
-    ensures err { (result ≢ Err ScriptFault.OutOfMemory) × (result ≢ Err ScriptFault.Read) × (result ≢ Err ScriptFault.TooLong) }
+    ensures err { (fault : ScriptFault) → result ≡ Err fault → fault ≡ ScriptFault.Write }
 {
     match write_line(first_line(front), first_line(text), writer) {
         Ok(()) => Ok(()),
@@ -49,7 +50,7 @@ pub(crate) fn write_heading<W: Write>(
     writer: &mut W,
 ) -> Result<(), ScriptFault>
     ensures ok { OnOk result (Annotates [] (W.contents writer.old) (W.contents writer.new)) }
-    ensures err { (result ≢ Err ScriptFault.OutOfMemory) × (result ≢ Err ScriptFault.Read) × (result ≢ Err ScriptFault.TooLong) }
+    ensures err { (fault : ScriptFault) → result ≡ Err fault → fault ≡ ScriptFault.Write }
 {
     let mut front = Sentences::new();
     let _ = write!(front, " {number}: ");
@@ -59,7 +60,7 @@ pub(crate) fn write_heading<W: Write>(
 /// Writes a sentence, if there is one, as a comment.
 fn write_sentence<W: Write>(sentence: &[u8], writer: &mut W) -> Result<(), ScriptFault>
     ensures ok { OnOk result (Annotates [] (W.contents writer.old) (W.contents writer.new)) }
-    ensures err { (result ≢ Err ScriptFault.OutOfMemory) × (result ≢ Err ScriptFault.Read) × (result ≢ Err ScriptFault.TooLong) }
+    ensures err { (fault : ScriptFault) → result ≡ Err fault → fault ≡ ScriptFault.Write }
 {
     if sentence.is_empty() {
         return Ok(());
@@ -73,7 +74,7 @@ pub(crate) fn write_sentences<W: Write>(
     writer: &mut W,
 ) -> Result<(), ScriptFault>
     ensures ok { OnOk result (Annotates [] (W.contents writer.old) (W.contents writer.new)) }
-    ensures err { (result ≢ Err ScriptFault.OutOfMemory) × (result ≢ Err ScriptFault.Read) × (result ≢ Err ScriptFault.TooLong) }
+    ensures err { (fault : ScriptFault) → result ≡ Err fault → fault ≡ ScriptFault.Write }
 {
     for sentence in lines_of(Some(sentences.as_slice())) {
         write_sentence(sentence, writer)?;
@@ -87,7 +88,7 @@ pub(crate) fn write_response<W: Write>(
     writer: &mut W,
 ) -> Result<(), ScriptFault>
     ensures ok { OnOk result (Annotates (text_line (response_text response.now)) (W.contents writer.old) (W.contents writer.new)) }
-    ensures err { (result ≢ Err ScriptFault.OutOfMemory) × (result ≢ Err ScriptFault.Read) × (result ≢ Err ScriptFault.TooLong) }
+    ensures err { (fault : ScriptFault) → result ≡ Err fault → fault ≡ ScriptFault.Write }
 {
     match response.write_to(writer) {
         Ok(()) => Ok(()),

@@ -1,9 +1,8 @@
-//! The sentences on a line that is no command: which word is wrong, and what was wanted there.
+//! The sentences on a line that is no command: which word is wrong, what was wanted there, and how the command is written.
 
 use crate::sentences::Sentences;
-use crate::usage::{Usage, Wanted, usage_of};
 use crate::words::Quoted;
-use pc_script::first_word;
+use pc_script::{Trouble, Verb, Wanted, trouble_in};
 use std::fmt::{self, Write};
 
 /// Tells why a line is no command.
@@ -13,62 +12,104 @@ pub(crate) fn tell_fault(text: &mut Sentences, line: &[u8]) {
 }
 
 fn fault(text: &mut Sentences, line: &[u8]) -> fmt::Result {
-    let Some((name, rest)) = first_word(line) else {
-        return Ok(());
-    };
-    let quoted = Quoted(name);
-    if name == b"version".as_slice() {
-        return writeln!(
-            text,
-            "Word 1, `{quoted}`: a command was wanted, since only the first line that is not silent may be `version 2`."
-        );
-    }
-    match usage_of(name) {
-        None => writeln!(
-            text,
-            "Word 1, `{quoted}`: the name of a command was wanted."
-        ),
-        Some(usage) => {
-            wrong_word(text, &usage, rest)?;
-            let form = usage.form;
-            writeln!(text, "It is written: {form}.")
+    match trouble_in(line) {
+        Some(Trouble::NoCommand { word }) => no_command(text, word),
+        Some(Trouble::Missing {
+            verb,
+            place,
+            wanted,
+        }) => {
+            let words = words_of(wanted);
+            writeln!(text, "Word {place} is missing: {words} was wanted.")?;
+            form(text, verb)
         }
-    }
-}
-
-/// Tells the first of a command's further words that is wrong, missing, or too many.
-fn wrong_word(text: &mut Sentences, usage: &Usage, words: &[u8]) -> fmt::Result {
-    let mut rest = words;
-    let mut place = 1u32;
-    for wanted in usage.wanted {
-        place = place.saturating_add(1);
-        let Some((word, after)) = first_word(rest) else {
-            return missing(text, place, *wanted);
-        };
-        if !wanted.is_met_by(word) {
-            return unmet(text, place, word, *wanted);
-        }
-        rest = after;
-    }
-    let place = place.saturating_add(1);
-    match first_word(rest) {
-        Some((word, _)) => {
+        Some(Trouble::Wrong {
+            verb,
+            place,
+            word,
+            wanted,
+        }) => {
             let quoted = Quoted(word);
-            writeln!(text, "Word {place}, `{quoted}`, is one too many.")
+            let words = words_of(wanted);
+            writeln!(text, "Word {place}, `{quoted}`: {words} was wanted.")?;
+            form(text, verb)
+        }
+        Some(Trouble::TooMany { verb, place, word }) => {
+            let quoted = Quoted(word);
+            writeln!(text, "Word {place}, `{quoted}`, is one too many.")?;
+            form(text, verb)
         }
         None => Ok(()),
     }
 }
 
-/// A word that is missing.
-fn missing(text: &mut Sentences, place: u32, wanted: Wanted) -> fmt::Result {
-    let words = wanted.words();
-    writeln!(text, "Word {place} is missing: {words} was wanted.")
+/// The first word of a line is no command's.
+fn no_command(text: &mut Sentences, word: &[u8]) -> fmt::Result {
+    let quoted = Quoted(word);
+    if word == b"version".as_slice() {
+        return writeln!(
+            text,
+            "Word 1, `{quoted}`: a command was wanted, since only the first line that is not silent may be `version 2`."
+        );
+    }
+    writeln!(
+        text,
+        "Word 1, `{quoted}`: the name of a command was wanted."
+    )
 }
 
-/// A word that may not stand there.
-fn unmet(text: &mut Sentences, place: u32, word: &[u8], wanted: Wanted) -> fmt::Result {
-    let quoted = Quoted(word);
-    let words = wanted.words();
-    writeln!(text, "Word {place}, `{quoted}`: {words} was wanted.")
+/// How a command is written.
+fn form(text: &mut Sentences, verb: Verb) -> fmt::Result {
+    let form = form_of(verb);
+    writeln!(text, "It is written: {form}.")
+}
+
+/// What may stand at a word's place, in words.
+fn words_of(wanted: Wanted) -> &'static str {
+    match wanted {
+        Wanted::Cpus => "a count of CPUs, a decimal number up to 255,",
+        Wanted::Cpu => "a CPU, a decimal number up to 255,",
+        Wanted::Queue => "a queue, a decimal number up to 255,",
+        Wanted::Level => "a level, a decimal number up to 255,",
+        Wanted::Count => "a count, a decimal number up to 4294967295,",
+        Wanted::Mask => "a mask, a decimal number up to 18446744073709551615,",
+        Wanted::Index => "a delta, a decimal number up to 18446744073709551615,",
+        Wanted::Thread => "a thread, t and a decimal number up to 4294967295,",
+        Wanted::State => "ready or blocked",
+        Wanted::Target => "a CPU, a decimal number up to 255, or -,",
+        Wanted::Failure => "fail or nothing",
+    }
+}
+
+/// The words of a command.
+fn form_of(verb: Verb) -> &'static str {
+    match verb {
+        Verb::Enclave => "enclave CPUS THREADS NUMBERS ROOM POSTS",
+        Verb::Create => "create Q MASK ready, or create Q MASK blocked",
+        Verb::Wake => "wake T",
+        Verb::Block => "block C RAN",
+        Verb::Yield => "yield C RAN",
+        Verb::Preempt => "preempt C RAN",
+        Verb::Die => "die C RAN",
+        Verb::Affinity => "affinity T MASK",
+        Verb::Priority => "priority T LEVEL",
+        Verb::Tick => "tick C",
+        Verb::Associate => "associate T Q NUMBER",
+        Verb::Commit => "commit C T ASEQ",
+        Verb::Sleep => "sleep C ASEQ",
+        Verb::Rouse => "rouse C",
+        Verb::Config => "config Q C, or config Q -",
+        Verb::Publish => "publish C, or publish C fail",
+        Verb::Consume => "consume C",
+        Verb::Deliver => "deliver C K",
+        Verb::Answer => "answer A B",
+        Verb::Pick => "pick C ASEQ",
+        Verb::Steal => "steal C",
+        Verb::Crash => "crash C",
+        Verb::Status => "status T",
+        Verb::Asleep => "asleep C",
+        Verb::Show => "show C",
+        Verb::Same => "same A B",
+        Verb::Complete => "complete C T",
+    }
 }

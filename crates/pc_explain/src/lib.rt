@@ -8,15 +8,11 @@
 mod advice;
 mod before;
 mod comment;
+mod explain;
 mod faults;
-mod line;
 mod news;
-mod run;
 mod sentences;
 mod telling;
-mod usage;
-mod watched;
 mod words;
 
-pub use run::explain_script;
-pub use watched::Watched;
+pub use explain::explain_script;

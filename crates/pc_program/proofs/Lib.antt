@@ -1,17 +1,7 @@
-pub mod Answerable
 pub mod Commands
-pub mod GoingOn
 pub mod ListsOfKind
-pub mod Looking
-pub mod Outputs
 pub mod Readings
 pub mod Reporting
-pub mod Rows
-pub mod Showing
-pub mod Shown
-pub mod Standing
-pub mod Statuses
 pub mod StepTexts
-pub mod Telling
 pub mod Tellings
 pub mod Running

@@ -1,4 +1,2 @@
 pub mod Drafts
 pub mod Readings
-pub mod Sessions
-pub mod Showing

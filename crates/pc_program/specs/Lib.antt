@@ -1,13 +1,9 @@
 pub mod CommandLine
 pub mod Endings
-pub mod GoingOn
 pub mod Inner
 pub mod Programs
 pub mod Progress
-pub mod Reads
 pub mod ReportText
 pub mod Runs
-pub mod Session
 pub mod SettingsText
-pub mod ShownViews
 pub mod StepTexts

@@ -11,7 +11,7 @@ use Rattle.pc_threads.specs.declared.report.LoadReport.{LoadReport}
 use Rattle.pc_program.specs.Endings.{ending_of_settings}
 use Rattle.pc_program.specs.ReportText.{IsReport}
 use Rattle.pc_program.specs.Runs.{DoesWhatIsSpelled, SpellsSettings}
-use Rattle.pc_program.specs.Session.{IsSession, RanOut}
+use Rattle.pc_session.specs.Session.{IsSession, RanOut}
 use Rattle.pc_program.specs.SettingsText.{Reads}
 use Rattle.pc_program.specs.declared.ending.Ending.{Ending}
 use Rattle.pc_program.specs.declared.ending.Ending.TheVariants.{Finished, FaultLine, DrawnToFault, CannotRead, BadCommandLine, OutOfMemory, Settings, Run, CannotStart}

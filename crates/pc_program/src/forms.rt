@@ -6,7 +6,7 @@ ghost use Rattle.pc_script.specs.Scripts.{IsOutput, IsOutputUntil};
 ghost use Rattle.pc_script.specs.declared.input.TheConstants.{MOST_BYTES};
 ghost use Rattle.pc_explain.specs.Comments.{without_comments};
 ghost use Rattle.pc_program.specs.Programs.{IsAnswered, IsDrawn, IsMade};
-ghost use Rattle.pc_program.specs.Session.{IsSession, RanOut};
+ghost use Rattle.pc_session.specs.Session.{IsSession, RanOut};
 
 use crate::ending::Ending;
 use crate::session::Session;

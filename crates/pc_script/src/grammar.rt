@@ -142,17 +142,17 @@ macro_rules! read {
 
 /// The first trouble with fields that should be the words from a place on. A failure stands last.
 macro_rules! first_trouble {
-    ($words:expr, $place:expr; Failure($last:pat)) => { failure_trouble($words, $place) };
-    ($words:expr, $place:expr; $last:ident($value:pat)) => {
-        match trouble_with::<$last>($words, $place) {
+    ($verb:expr, $words:expr, $place:expr; Failure($last:pat)) => { failure_trouble($verb, $words, $place) };
+    ($verb:expr, $words:expr, $place:expr; $last:ident($value:pat)) => {
+        match trouble_with::<$last>($verb, $words, $place) {
             Some(trouble) => Some(trouble),
-            None => one_too_many($words, $place + 1),
+            None => one_too_many($verb, $words, $place + 1),
         }
     };
-    ($words:expr, $place:expr; $first:ident($value:pat), $($others:tt)+) => {
-        match trouble_with::<$first>($words, $place) {
+    ($verb:expr, $words:expr, $place:expr; $first:ident($value:pat), $($others:tt)+) => {
+        match trouble_with::<$first>($verb, $words, $place) {
             Some(trouble) => Some(trouble),
-            None => first_trouble!($words, $place + 1; $($others)+),
+            None => first_trouble!($verb, $words, $place + 1; $($others)+),
         }
     };
 }
@@ -161,7 +161,7 @@ macro_rules! first_trouble {
 macro_rules! troubles {
     ($verb:expr, $words:expr; $($name:ident($($fields:tt)+) => $command:expr),+) => {
         match $verb {
-            $(Verb::$name => first_trouble!($words, 2; $($fields)+),)+
+            $(Verb::$name => first_trouble!($verb, $words, 2; $($fields)+),)+
         }
     };
 }

@@ -33,6 +33,7 @@ mod words;
 
 pub use command::{Command, Read};
 pub use digits::{count, number};
+pub use grammar::Verb;
 pub use input::{MOST_BYTES, read_bytes, read_text};
 pub use line::{Wish, asked};
 pub use lines::{Lines, first_word, lines_of};

@@ -4,7 +4,7 @@ ghost use Rattle.std.specs.Prelude.{MatchOption};
 ghost use Rattle.pc_script.specs.Grammar.{IsFault};
 
 use crate::fields::Argument;
-use crate::grammar::trouble_of;
+use crate::grammar::{Verb, trouble_of};
 use crate::line::{Wish, asked};
 use crate::words::Words;
 
@@ -39,17 +39,20 @@ pub enum Trouble<'a> {
     },
     /// A word is missing.
     Missing {
+        verb: Verb,
         place: u32,
         wanted: Wanted,
     },
     /// Something else was wanted in the place of this word.
     Wrong {
+        verb: Verb,
         place: u32,
         word: &'a [u8],
         wanted: Wanted,
     },
     /// The command ends before this word.
     TooMany {
+        verb: Verb,
         place: u32,
         word: &'a [u8],
     },
@@ -77,16 +80,22 @@ fn first_trouble(line: &[u8]) -> Trouble<'_> {
 
 /// The trouble with the next word, which should be this field.
 pub(crate) fn trouble_with<'a, F: Argument>(
+    verb: Verb,
     words: &mut Words<'a>,
     place: u32,
 ) -> Option<Trouble<'a>> {
     let wanted = F::wanted();
     let Some(word) = words.next() else {
-        return Some(Trouble::Missing { place, wanted });
+        return Some(Trouble::Missing {
+            verb,
+            place,
+            wanted,
+        });
     };
     match F::read(&mut Words::of(word)) {
         Some(_) => None,
         None => Some(Trouble::Wrong {
+            verb,
             place,
             word,
             wanted,
@@ -95,10 +104,15 @@ pub(crate) fn trouble_with<'a, F: Argument>(
 }
 
 /// The trouble with the next word, which should be `fail`, or not be there.
-pub(crate) fn failure_trouble<'a>(words: &mut Words<'a>, place: u32) -> Option<Trouble<'a>> {
+pub(crate) fn failure_trouble<'a>(
+    verb: Verb,
+    words: &mut Words<'a>,
+    place: u32,
+) -> Option<Trouble<'a>> {
     match words.next() {
-        Some(b"fail") => one_too_many(words, place.saturating_add(1)),
+        Some(b"fail") => one_too_many(verb, words, place.saturating_add(1)),
         Some(word) => Some(Trouble::Wrong {
+            verb,
             place,
             word,
             wanted: Wanted::Failure,
@@ -108,9 +122,13 @@ pub(crate) fn failure_trouble<'a>(words: &mut Words<'a>, place: u32) -> Option<T
 }
 
 /// The trouble with a word behind the last.
-pub(crate) fn one_too_many<'a>(words: &mut Words<'a>, place: u32) -> Option<Trouble<'a>> {
+pub(crate) fn one_too_many<'a>(
+    verb: Verb,
+    words: &mut Words<'a>,
+    place: u32,
+) -> Option<Trouble<'a>> {
     match words.next() {
-        Some(word) => Some(Trouble::TooMany { place, word }),
+        Some(word) => Some(Trouble::TooMany { verb, place, word }),
         None => None,
     }
 }

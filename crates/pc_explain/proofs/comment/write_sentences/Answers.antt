@@ -1,4 +1,4 @@
-use Rattle.pc_explain.proofs.Annotations.{Annotates-nothing, Annotates-trans}
+use Rattle.pc_explain.specs.Inner.Told.{Annotates-nothing, Annotates-trans}
 use Rattle.pc_explain.proofs.comment.write_sentences.Goals as goal
 
 pub loop-sentence-init : goal.loop-sentence-init

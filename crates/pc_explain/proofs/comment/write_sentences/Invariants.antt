@@ -1,5 +1,5 @@
 use Rattle.std.proofs.Common.{[]}
-use Rattle.pc_explain.specs.Inner.Lines.{Annotates}
+use Rattle.pc_explain.specs.Inner.Writing.{Annotates}
 use Rattle.pc_explain.proofs.comment.write_sentences.Given as goal
 
 abbrev pub invariant-loop-sentence : goal.invariant-loop-sentence

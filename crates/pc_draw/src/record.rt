@@ -1,0 +1,271 @@
+//! Recording a script: the observer that keeps what is drawn of each command, and what the world says after it.
+
+ghost use Rattle.std.specs.Prelude.{◌≡◌, ◌+◌, [], vec_len, if◌then◌else◌, OnOk, IfOk, Err, refl};
+ghost use Rattle.pc_draw.specs.Inner.Recorded.{Records};
+ghost use Rattle.pc_draw.specs.Inner.Told.{told_more, told_nothing};
+ghost use Rattle.pc_draw.specs.Pictures.{refuses};
+ghost use Rattle.pc_script.specs.declared.outcome.Outcome.{Outcome};
+ghost use Rattle.pc_script.specs.declared.outcome.ScriptFault.{ScriptFault};
+
+use crate::lanes::{Change, Lane, MOST_LANES, QUIET, is_waiting, lane_of};
+use crate::step::{Sent, Step, Story, answer_of, cpu_of, is_refused, named_thread, other_cpus};
+use pc_calls::{Event, Reply};
+use pc_messages::{Cpu, Tid};
+use pc_script::{Command, Line, Observer, Outcome, Response, ScriptFault};
+use pc_session::Session;
+use pc_world::World;
+use std::alloc::{AllocError, Global};
+use std::io::Write;
+
+/// What the world said last of a thread.
+#[derive(Clone, Copy)]
+struct Thread {
+    home: Cpu,
+    /// Whether it is ready and runs nowhere.
+    waits: bool,
+}
+
+/// What was recorded last of the world. An event changes only the CPUs and the thread that it and its reply name: the world is asked
+/// of these alone.
+#[derive(Drop)]
+struct Last {
+    threads: Vec<Thread>,
+    lanes: [Lane; MOST_LANES],
+    /// How many threads wait at home at each CPU.
+    waits: [u32; MOST_LANES],
+}
+
+/// Keeps the commands of a script, what they were answered, and what goes on after each.
+#[derive(Drop)]
+pub(crate) struct Recorder {
+    pub(crate) story: Story,
+    last: Last,
+    /// The home of the thread that the command under way names.
+    home: Option<Cpu>,
+}
+
+/// The thread whose message was posted, or that was moved or committed.
+fn thread_of(reply: &Reply) -> Option<Tid> {
+    match reply {
+        Reply::Posted(posted) => posted.thread,
+        Reply::Associated { thread, .. } | Reply::Committed { thread, .. } => Some(*thread),
+        _ => None,
+    }
+}
+
+impl Last {
+    fn new(alloc: Global) -> Last {
+        Last {
+            threads: Vec::new(alloc),
+            lanes: [QUIET; MOST_LANES],
+            waits: [0; MOST_LANES],
+        }
+    }
+
+    /// The home of a thread when the world was last asked.
+    fn home(&self, thread: Tid) -> Option<Cpu> {
+        match self.threads.get(thread.index() as usize) {
+            Some(thread) => Some(thread.home),
+            None => None,
+        }
+    }
+
+    /// Counts a thread among those that wait at its home, or no longer.
+    fn count(&mut self, thread: &Thread, is_there: bool) {
+        if !thread.waits {
+            return;
+        }
+        if let Some(waits) = self.waits.get_mut(thread.home.index() as usize) {
+            *waits = if is_there {
+                waits.saturating_add(1)
+            } else {
+                waits.saturating_sub(1)
+            };
+        }
+    }
+
+    /// Asks the world of a thread.
+    fn ask_thread(&mut self, thread: Tid, world: &World) -> Result<(), AllocError> {
+        let Some(home) = world.kernel().queue_of(thread) else {
+            return Ok(());
+        };
+        let now = Thread {
+            home,
+            waits: is_waiting(world, thread),
+        };
+        let place = thread.index() as usize;
+        match self.threads.get(place) {
+            Some(known) => {
+                let known = *known;
+                self.count(&known, false);
+                self.threads[place] = now;
+            }
+            None => self.threads.push(now)?,
+        }
+        self.count(&now, true);
+        Ok(())
+    }
+
+    /// Asks the world of a CPU, and keeps what goes on there where that is something else.
+    fn ask_cpu(
+        &mut self,
+        cpu: Cpu,
+        world: &World,
+        changes: &mut Vec<Change>,
+    ) -> Result<(), AllocError> {
+        let place = cpu.index() as usize;
+        let Some(waits) = self.waits.get(place) else {
+            return Ok(());
+        };
+        let lane = lane_of(world, cpu, *waits);
+        if let Some(known) = self.lanes.get_mut(place) {
+            if *known != lane {
+                *known = lane;
+                changes.push(Change {
+                    cpu: cpu.index(),
+                    lane,
+                })?;
+            }
+        }
+        Ok(())
+    }
+
+    /// Asks the world of all that an event and its reply name, and of the home that the thread had before.
+    fn ask(
+        &mut self,
+        event: &Event,
+        reply: &Reply,
+        before: Option<Cpu>,
+        world: &World,
+        changes: &mut Vec<Change>,
+    ) -> Result<(), AllocError> {
+        if let Some(thread) = thread_of(reply) {
+            self.ask_thread(thread, world)?;
+        }
+        if let Some(cpu) = cpu_of(event) {
+            self.ask_cpu(cpu, world, changes)?;
+        }
+        if let Some(cpu) = before {
+            self.ask_cpu(cpu, world, changes)?;
+        }
+        for cpu in &other_cpus(event, reply) {
+            if let Some(cpu) = cpu {
+                self.ask_cpu(*cpu, world, changes)?;
+            }
+        }
+        Ok(())
+    }
+}
+
+impl Recorder {
+    /// Before the first line.
+    pub(crate) fn new(alloc: Global) -> Recorder
+        ensures { (vec_len result.story.steps ≡ 0) × (result.story.refused ≡ 0) × (result.story.outcome ≡ Outcome.Finished) }
+    {
+        Recorder {
+            story: Story::new(alloc),
+            last: Last::new(alloc),
+            home: None,
+        }
+    }
+
+    /// Keeps what an event did that was accepted, and answers the home that its thread had before.
+    fn follow(
+        &mut self,
+        event: &Event,
+        reply: &Reply,
+        world: &World,
+    ) -> Result<Option<Cpu>, AllocError>
+        ensures { (vec_len self.new.story.steps ≡ vec_len self.old.story.steps) × (self.new.story.refused ≡ self.old.story.refused)
+            × (self.new.story.outcome ≡ self.old.story.outcome) }
+    {
+        let before = match thread_of(reply) {
+            Some(thread) => self.last.home(thread),
+            None => self.home,
+        };
+        self.last
+            .ask(event, reply, before, world, &mut self.story.changes)?;
+        if let (Reply::Published { .. } | Reply::Answered { .. }, Some(cpu)) = (reply, cpu_of(event)) {
+            let step = u32::try_from(self.story.steps.len()).unwrap_or(u32::MAX);
+            self.story.sent.push(Sent { cpu, step })?;
+        }
+        Ok(before)
+    }
+
+    /// Keeps a command and its response.
+    fn keep(
+        &mut self,
+        number: u32,
+        command: &Command,
+        response: &Response,
+        session: &Session,
+    ) -> Result<(), AllocError>
+        ensures ok { OnOk result ((vec_len self.new.story.steps ≡ vec_len self.old.story.steps + 1)
+            × (self.new.story.refused ≡ self.old.story.refused + (if refuses response.now then 1 else 0))
+            × (self.new.story.outcome ≡ self.old.story.outcome)) }
+    {
+        let before = match (command, response, session.world()) {
+            (Command::Event(event), Response::Event(reply), Some(world)) if !is_refused(response) => {
+                self.follow(event, reply, world)?
+            }
+            _ => self.home,
+        };
+        self.story.add(
+            Step {
+                number,
+                command: *command,
+                answer: answer_of(response),
+                home: before,
+                changed: self.story.changes.len(),
+            },
+            is_refused(response),
+        )
+    }
+}
+
+/// The thread that a command names, and no CPU.
+fn home_before(command: &Command, session: &Session) -> Option<Cpu> {
+    let Command::Event(event) = command else {
+        return None;
+    };
+    let thread = named_thread(event)?;
+    session.world()?.kernel().queue_of(thread)
+}
+
+impl<W: Write> Observer<Session, W> for Recorder {
+    ghost Tells = { λ old before notices new after. (after ≡ before)
+        × Records notices (vec_len old.story.steps) old.story.refused old.story.outcome (vec_len new.story.steps) new.story.refused new.story.outcome };
+
+    ghost MayFail = { λ fault. fault ≡ ScriptFault.OutOfMemory };
+
+    fn version_two(&mut self, line: Line<'_>, writer: &mut W) -> Result<(), ScriptFault> {
+        Ok(())
+    }
+
+    fn expect(&mut self, command: &Command, machine: &Session) {
+        self.home = home_before(command, machine);
+    }
+
+    fn answered(
+        &mut self,
+        line: Line<'_>,
+        command: &Command,
+        response: &mut Response,
+        machine: &Session,
+        writer: &mut W,
+    ) -> Result<(), ScriptFault> {
+        match self.keep(line.number, command, response, machine) {
+            Ok(()) => Ok(()),
+            Err(_) => Err(ScriptFault::OutOfMemory),
+        }
+    }
+
+    fn faulted(&mut self, line: Line<'_>, writer: &mut W) -> Result<(), ScriptFault> {
+        self.story.outcome = Outcome::FaultLine(line.number);
+        Ok(())
+    }
+
+    ghost tells_nothing = { λ observer known. told_nothing known (vec_len observer.story.steps) observer.story.refused observer.story.outcome };
+
+    ghost tells_more = { λ old now new before here after notices further. told_more before here after notices further };
+}

@@ -1,0 +1,164 @@
+//! Explaining a script: the observer that writes comments between its replies.
+
+ghost use Rattle.std.specs.Prelude.{◌≡◌, ◌⊎◌, ◌+◌, ℕ, List, [], ◌∷◌, ◌<◌, ◌≤◌, length, IfOk, IfSome, OnOk, Err};
+ghost use Rattle.std.specs.Io.KnownBytes.{Appends, Consumes};
+ghost use Rattle.pc_explain.specs.Comments.{without_comments};
+ghost use Rattle.pc_explain.specs.Inner.Told.{told_more, told_nothing};
+ghost use Rattle.pc_explain.specs.Inner.Writing.{Annotates};
+ghost use Rattle.pc_script.specs.Responses.{response_text, text_line};
+ghost use Rattle.pc_script.specs.Scripts.{IsOutput, IsOutputUntil, notices_text, outcome_text};
+ghost use Rattle.pc_script.specs.declared.input.TheConstants.{MOST_BYTES};
+ghost use Rattle.pc_script.specs.declared.outcome.Outcome.{Outcome};
+ghost use Rattle.pc_script.specs.declared.outcome.ScriptFault.{ScriptFault};
+ghost use Rattle.pc_session.specs.Session.{IsSession, RanOut};
+
+use crate::before::Before;
+use crate::comment::{write_heading, write_response, write_sentences};
+use crate::faults::tell_fault;
+use crate::sentences::Sentences;
+use crate::telling::tell;
+use pc_script::{Command, Line, Observer, Outcome, Response, ScriptFault, read_text, walk};
+use pc_session::Session;
+use std::alloc::Global;
+use std::io::{Read, Write};
+
+/// What is told of the line `version 2`.
+const VERSION_TWO: &[u8] =
+    b"The script is of version 2: an enclave may have up to 65535 threads, and each 16000000 messages.";
+
+/// Writes, for each line that has a reply, the line, the reply, and sentences on it.
+#[derive(Drop)]
+struct Comments {
+    /// What the sentences on the command that is under way need of the world before it.
+    before: Before,
+}
+
+/// The sentences on the line `version 2`.
+fn on_version_two() -> Sentences {
+    let mut sentences = Sentences::new();
+    sentences.add(VERSION_TWO);
+    sentences
+}
+
+/// The sentences on a line that is a fault.
+fn on_fault(line: &[u8]) -> Sentences {
+    let mut sentences = Sentences::new();
+    tell_fault(&mut sentences, line);
+    sentences
+}
+
+/// What the sentences on a command need of a session's world as it is before it.
+fn remembered(session: &Session, command: &Command) -> Before {
+    Before::of(session.world(), command)
+}
+
+/// The sentences on a command that was answered.
+fn on_command(
+    session: &Session,
+    command: &Command,
+    response: &Response,
+    before: &Before,
+) -> Sentences {
+    let mut sentences = Sentences::new();
+    tell(&mut sentences, command, response, before, session.world());
+    sentences
+}
+
+/// Writes a line's number and text, its response, and sentences.
+fn write_told<W: Write>(
+    line: Line<'_>,
+    response: &Response,
+    sentences: &Sentences,
+    writer: &mut W,
+) -> Result<(), ScriptFault>
+    ensures ok { OnOk result (Annotates (text_line (response_text response.now)) (W.contents writer.old) (W.contents writer.new)) }
+    ensures err { (fault : ScriptFault) → result ≡ Err fault → fault ≡ ScriptFault.Write }
+{
+    write_heading(line.number, line.text, writer)?;
+    write_response(response, writer)?;
+    write_sentences(sentences, writer)
+}
+
+/// Writes that the line with this number is a fault.
+fn write_fault_line<W: Write>(number: u32, writer: &mut W) -> Result<(), ScriptFault>
+    ensures ok { OnOk result (Annotates (outcome_text (Outcome.FaultLine number)) (W.contents writer.old) (W.contents writer.new)) }
+    ensures err { (fault : ScriptFault) → result ≡ Err fault → fault ≡ ScriptFault.Write }
+{
+    match writeln!(writer, "fault line {number}") {
+        Ok(()) => Ok(()),
+        Err(_) => Err(ScriptFault::Write),
+    }
+}
+
+/// Writes a line that is a fault, that it is one, and why.
+fn write_fault<W: Write>(
+    line: Line<'_>,
+    sentences: &Sentences,
+    writer: &mut W,
+) -> Result<(), ScriptFault>
+    ensures ok { OnOk result (Annotates (outcome_text (Outcome.FaultLine line.entry.number)) (W.contents writer.old) (W.contents writer.new)) }
+    ensures err { (fault : ScriptFault) → result ≡ Err fault → fault ≡ ScriptFault.Write }
+{
+    write_heading(line.number, line.text, writer)?;
+    write_fault_line(line.number, writer)?;
+    write_sentences(sentences, writer)
+}
+
+impl<W: Write> Observer<Session, W> for Comments {
+    ghost Tells = { λ old before notices new after. Annotates (notices_text notices) before after };
+
+    ghost MayFail = { λ fault. fault ≡ ScriptFault.Write };
+
+    fn version_two(&mut self, line: Line<'_>, writer: &mut W) -> Result<(), ScriptFault> {
+        write_told(line, &Response::Opened, &on_version_two(), writer)
+    }
+
+    fn expect(&mut self, command: &Command, machine: &Session) {
+        self.before = remembered(machine, command);
+    }
+
+    fn answered(
+        &mut self,
+        line: Line<'_>,
+        command: &Command,
+        response: &mut Response,
+        machine: &Session,
+        writer: &mut W,
+    ) -> Result<(), ScriptFault> {
+        let sentences = on_command(machine, command, response, &self.before);
+        write_told(line, response, &sentences, writer)
+    }
+
+    fn faulted(&mut self, line: Line<'_>, writer: &mut W) -> Result<(), ScriptFault> {
+        write_fault(line, &on_fault(line.text), writer)
+    }
+
+    ghost tells_nothing = { λ observer known. told_nothing known };
+
+    ghost tells_more = { λ old now new before here after notices further. told_more before here after notices further };
+}
+
+/// Reads a script, answers its commands one after another in a session of its own, and writes the responses with comments between.
+///
+/// What is written is, without its comments, what [`pc_script::run_script`] writes. Reading and the faults are as there. Comments take
+/// no memory. They are written line by line, so a writer without a buffer is slow; nothing is flushed.
+pub fn explain_script<R: Read, W: Write>(
+    alloc: Global,
+    reader: &mut R,
+    writer: &mut W,
+) -> Result<Outcome, ScriptFault>
+    ensures ok { IfOk result (λ outcome. IfSome (R.remaining reader.old) (λ text. (written : List ℕ)
+        × IsOutput IsSession text outcome (without_comments written) × Appends (W.contents writer.old) (W.contents writer.new) written)) }
+    ensures no_memory { result ≡ Err ScriptFault.OutOfMemory → (writer.new ≡ writer.old) ⊎ IfSome (R.remaining reader.old) (λ text. (written : List ℕ)
+        × IsOutputUntil IsSession RanOut text (without_comments written) × Appends (W.contents writer.old) (W.contents writer.new) written) }
+    ensures unread { (result ≡ Err ScriptFault.Read) ⊎ (result ≡ Err ScriptFault.TooLong) → writer.new ≡ writer.old }
+    ensures too_long { result ≡ Err ScriptFault.TooLong → IfSome (R.remaining reader.old) (λ text. MOST_BYTES < length text) }
+    ensures short { OnOk result (IfSome (R.remaining reader.old) (λ text. length text ≤ MOST_BYTES)) }
+    ensures reads { (bytes : List ℕ) × (length bytes ≤ MOST_BYTES + 1) × Consumes (R.remaining reader.old) (R.remaining reader.new) bytes }
+{
+    let text = read_text(alloc, reader)?;
+    let mut comments = Comments {
+        before: Before::Nothing,
+    };
+    walk::<Session, Comments, W>(alloc, text.as_slice(), &mut comments, writer)
+}

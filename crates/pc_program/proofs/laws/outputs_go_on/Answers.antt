@@ -1,5 +1,0 @@
-use Rattle.pc_program.proofs.Outputs.{outputs_go_on}
-use Rattle.pc_program.proofs.laws.outputs_go_on.Goals as goal
-
-pub returns : goal.returns
-returns c = outputs_go_on c.sessions_go_on.ensures

@@ -1,5 +1,0 @@
-use Rattle.pc_program.proofs.Standing.{stands_at_start}
-use Rattle.pc_program.proofs.session.SessionMachine.start.Goals as goal
-
-pub returns : goal.returns
-returns c = stands_at_start c.args.profile

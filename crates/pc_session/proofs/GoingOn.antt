@@ -1,0 +1,97 @@
+-- A session goes on, whatever it is asked.
+use Rattle.std.proofs.Common.{◌≡◌, ℕ, ◌≤◌, ◌↔◌, IsTrue, List, [], ◌∷◌, ◌++◌, Option, Some, None, refl, sym, ap, subst, inl, append-nil, append_assoc}
+use Rattle.pc_calls.specs.declared.event.Event.{Event}
+use Rattle.pc_calls.specs.declared.event.Reply.{Reply}
+use Rattle.pc_calls.specs.declared.limits.Limits.{Limits}
+use Rattle.pc_calls.specs.declared.limits.LimitField.{LimitField}
+use Rattle.pc_calls.specs.declared.limits.Profile.{Profile}
+use Rattle.pc_calls.specs.Limits.{bad_field}
+use Rattle.pc_join.specs.Sets.{has}
+use Rattle.pc_view.specs.Prefixes.{upto}
+use Rattle.pc_script.specs.declared.command.Command.{Command}
+use Rattle.pc_script.specs.declared.command.Command.TheVariants.{Enclave, Event as OneEvent, Read}
+use Rattle.pc_script.specs.declared.response.Response.{Response}
+use Rattle.pc_script.specs.declared.response.Response.TheVariants as response
+use Rattle.pc_agent.specs.PlainAgent.{Set}
+use Rattle.pc_world.specs.Facts.{EveryEventHasAStep, RunsAreBegun}
+use Rattle.pc_world.specs.PlainWorld.{PlainWorld, opened}
+use Rattle.pc_world.specs.Reached.{Leads, LeadsTo, Reached}
+use Rattle.pc_world.specs.Steps.{Step}
+use Rattle.pc_session.specs.GoingOn.{SessionsGoOn}
+use Rattle.pc_session.specs.Session.{Session, IsLimited, IsOpening, IsRun, IsSession, IsStep, IsWorldStep, none, one_more}
+use Rattle.pc_session.proofs.Answerable.{read_has}
+
+-- one event more leads further
+leads_on : (w new last : PlainWorld) (events : List Event) (event : Event) → Leads w events new → LeadsTo new event last → Leads w (events ++ event ∷ []) last
+leads_on w new last [] event same step = (last, subst (λ v. LeadsTo v event last) same step, refl)
+leads_on w new last (e ∷ events) event (next, first, rest) step = (next, first, leads_on next new last events event rest step)
+
+reached_on : (limits : Limits) (w new : PlainWorld) (event : Event) (told : Reply) → Reached limits w → Step w event told new → Reached limits new
+reached_on limits w new event told reached step =
+    record { events = reached.events ++ event ∷ []; leads = leads_on (opened limits) w new reached.events event reached.leads (inl (told, step)) }
+
+-- the world of a session, where there is one, is one that events lead to
+abbrev StandsWell : Session → Type 0
+StandsWell None = Unit {0}
+StandsWell (Some w) = (limits : Limits) × Reached limits w
+
+keeps_reached : (limits : Limits) (w new : PlainWorld) (command : Command) (told : Response) → Reached limits w → IsWorldStep w command told new → Reached limits new
+keeps_reached limits w new (Enclave asked) told reached (tells, same) = subst (Reached limits) (sym same) reached
+keeps_reached limits w new (OneEvent event) told reached (reply, step, tells) = reached_on limits w new event reply reached step
+keeps_reached limits w new (Read read) told reached (tells, same) = subst (Reached limits) (sym same) reached
+
+opens_well : (o : Option LimitField) (limits : Limits) (told : Response) (new : Session) → IsLimited o limits told new → StandsWell new
+opens_well None limits told new (tells, is) = subst StandsWell (sym is) (limits, record { events = []; leads = refl })
+opens_well (Some field) limits told new (tells, is) = subst StandsWell (sym is) tt
+
+begins_well : (profile : Profile) (command : Command) (told : Response) (new : Session) → IsOpening profile command told new → StandsWell new
+begins_well profile (Enclave limits) told new opens = opens_well (bad_field profile limits) limits told new opens
+begins_well profile (OneEvent event) told new (tells, is) = subst StandsWell (sym is) tt
+begins_well profile (Read read) told new (tells, is) = subst StandsWell (sym is) tt
+
+steps_well : (profile : Profile) (s new : Session) (command : Command) (told : Response) → StandsWell s → IsStep profile s command told new → StandsWell new
+steps_well profile None new command told well opens = begins_well profile command told new opens
+steps_well profile (Some w) new command told (limits, reached) (w', step, is) = subst StandsWell (sym is) (limits, keeps_reached limits w w' command told reached step)
+
+runs_well : {profile : Profile} {s e : Session} {commands : List Command} {told : List Response} → StandsWell s → IsRun profile s commands told e → StandsWell e
+runs_well well none = well
+runs_well {profile} {e} well (one_more {m} commands told command response before step) = steps_well profile m e command response (runs_well well before) step
+
+-- ---- the next command
+module _ (events : EveryEventHasAStep) (begun : RunsAreBegun)
+    (the_greatest : (set : Set) (t n : ℕ) → (n ≤ upto set t) ↔ ((m : ℕ) → 1 ≤ m → m ≤ n → IsTrue (has set t m))) where
+  world_next : (limits : Limits) (w : PlainWorld) (command : Command) → Reached limits w → (told : Response) × (new : PlainWorld) × IsWorldStep w command told new
+  world_next limits w (Enclave asked) reached = (response.HaveEnclave, w, (refl, refl))
+  world_next limits w (OneEvent event) reached =
+      let next = events limits w event reached in
+      (response.Event next.0, next.1, (next.0, next.2, refl))
+  world_next limits w (Read read) reached =
+      let next = read_has the_greatest w read (λ t. begun limits w t reached) in
+      (next.0, w, (next.1, refl))
+
+  opening_next : (o : Option LimitField) (limits : Limits) → (told : Response) × (new : Session) × IsLimited o limits told new
+  opening_next None limits = (response.Opened, Some (opened limits), (refl, refl))
+  opening_next (Some field) limits = (response.BadLimits field, None, (refl, refl))
+
+  session_next : (profile : Profile) (s : Session) (command : Command) → StandsWell s → (told : Response) × (new : Session) × IsStep profile s command told new
+  session_next profile None (Enclave limits) well = opening_next (bad_field profile limits) limits
+  session_next profile None (OneEvent event) well = (response.NoEnclave, None, (refl, refl))
+  session_next profile None (Read read) well = (response.NoEnclave, None, (refl, refl))
+  session_next profile (Some w) command (limits, reached) =
+      let next = world_next limits w command reached in
+      (next.0, Some next.1, (next.1, next.2, refl))
+
+  goes_on : (profile : Profile) (more commands : List Command) (told : List Response) (s : Session) → IsRun profile None commands told s
+      → (later : List Response) × IsSession profile (commands ++ more) (told ++ later)
+  goes_on profile [] commands told s run =
+      ([], subst (λ cs. IsSession profile cs (told ++ [])) (sym (append-nil commands)) (subst (λ ts. IsSession profile commands ts) (sym (append-nil told)) (s, run)))
+  goes_on profile (command ∷ more) commands told s run =
+      let next = session_next profile s command (runs_well tt run) in
+      let rest = goes_on profile more (commands ++ command ∷ []) (told ++ next.0 ∷ []) next.1 (one_more commands told command next.0 run next.2) in (
+        next.0 ∷ rest.0,
+        subst (λ cs. IsSession profile cs (told ++ (next.0 ∷ rest.0))) (append_assoc commands (command ∷ []) more)
+            (subst (λ ts. IsSession profile (commands ++ command ∷ [] ++ more) ts) (append_assoc told (next.0 ∷ []) rest.0) rest.1),
+      )
+
+  pub sessions_go_on : SessionsGoOn
+  sessions_go_on profile commands more told (s, run) = goes_on profile more commands told s run

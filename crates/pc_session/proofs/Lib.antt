@@ -1,0 +1,10 @@
+pub mod Answerable
+pub mod GoingOn
+pub mod Looking
+pub mod Outputs
+pub mod Rows
+pub mod Showing
+pub mod Shown
+pub mod Standing
+pub mod Statuses
+pub mod Telling

@@ -1,0 +1,5 @@
+pub mod GoingOn
+pub mod Inner
+pub mod Reads
+pub mod Session
+pub mod ShownViews
