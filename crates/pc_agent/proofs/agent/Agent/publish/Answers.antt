@@ -14,8 +14,8 @@ returns-in-Ok-clause-publishes g c P run p shows extends h =
     let there : is_cpu (shown P) cpu ≡ true = ap (λ r. is_cpu r cpu) (sym shows.reads) ∙ c.requires.there in
     let items = c.as_slice.result.now in
     let holds : items ≡ plain.content P cpu =
-    c.as_slice.ensures.value ∙ c.in-Ok.ensures.content ∙ ap (λ r. content_read r cpu) shows.reads ∙ (c.reads_are_plain.ensures P).content cpu there in
-    let of_kernel : AreItemsOf (kinds_read (seen c.args.kernel.now)) items = subst (AreItemsOf _) (sym c.as_slice.ensures.value) c.in-Ok.ensures.of_run in
+    c.as_slice.ensures.value ∙ c.in-Ok.ensures.queued.content ∙ ap (λ r. content_read r cpu) shows.reads ∙ (c.reads_are_plain.ensures P).content cpu there in
+    let of_kernel : AreItemsOf (kinds_read (seen c.args.kernel.now)) items = subst (AreItemsOf _) (sym c.as_slice.ensures.value) c.in-Ok.ensures.queued.of_run in
     let of_plain : AreItemsOf (plain.kinds P) items = same_run (kinds_read (seen c.args.kernel.now)) (plain.kinds P) items (λ t. ap (λ r. kinds_read r t) shows.reads ∙ (c.reads_are_plain.ensures P).kinds t) of_kernel in
     let of_run : AreItemsOf run items = items_stay c.parts_stay_as_the_run_goes_on.ensures run (plain.kinds P) extends items of_plain in
     subst (λ l. IsPublished g.W.Wire.Sends l run p c.publish_items-in-Ok.result cpu c.publish_items-in-Ok.new.self c.args.wire.now c.publish_items-in-Ok.new.wire) holds
@@ -30,8 +30,8 @@ returns-in-Some-default-empty-clause-publishes g c P run p shows extends h =
     let rest = c.in-Some-default-empty.field-0-1.now in
     let alone : items ++ rest ≡ items = ap (λ l. items ++ l) (drop_all 0 rest (search arith)) ∙ append-nil items in
     let holds : items ≡ plain.content P cpu =
-    sym alone ∙ c.in-Some-default-empty.ensures.content ∙ ap (λ r. content_read r cpu) shows.reads ∙ (c.reads_are_plain.ensures P).content cpu there in
-    let of_kernel : AreItemsOf (kinds_read (seen c.args.kernel.now)) items = subst (AreItemsOf _) alone c.in-Some-default-empty.ensures.of_run in
+    sym alone ∙ c.in-Some-default-empty.ensures.queued.content ∙ ap (λ r. content_read r cpu) shows.reads ∙ (c.reads_are_plain.ensures P).content cpu there in
+    let of_kernel : AreItemsOf (kinds_read (seen c.args.kernel.now)) items = subst (AreItemsOf _) alone c.in-Some-default-empty.ensures.queued.of_run in
     let of_plain : AreItemsOf (plain.kinds P) items = same_run (kinds_read (seen c.args.kernel.now)) (plain.kinds P) items (λ t. ap (λ r. kinds_read r t) shows.reads ∙ (c.reads_are_plain.ensures P).kinds t) of_kernel in
     let of_run : AreItemsOf run items = items_stay c.parts_stay_as_the_run_goes_on.ensures run (plain.kinds P) extends items of_plain in
     subst (λ l. IsPublished g.W.Wire.Sends l run p c.publish_items.result cpu c.publish_items.new.self c.args.wire.now c.publish_items.new.wire) holds
