@@ -13,7 +13,8 @@ impl Kernel {
 
     /// Creates a thread, whose name is the next one and whose home is the queue.
     pub fn create(&mut self, queue: Cpu, mask: u64, ready: bool) -> Result<Posted, CallFault>
-        ensures { AnsweredInMemory Answer.Posted (Call.Env (EnvCall.Create queue ready mask)) result self.old self.new }
+        ensures { AnsweredInMemory Answer.Posted (Call.Env (EnvCall.Create queue ready mask))
+            result self.old self.new }
     {
         match self.tables.first_kind(queue, mask, ready) {
             Err(refusal) => Err(refusal.into()),
@@ -61,7 +62,8 @@ impl Kernel {
 
     /// Changes the CPUs on which a thread may run; a running thread keeps the CPU that it runs on.
     pub fn set_affinity(&mut self, thread: Tid, mask: u64) -> Result<Posted, CallFault>
-        ensures { AnsweredInMemory Answer.Posted (Call.Env (EnvCall.SetAffinity thread mask)) result self.old self.new }
+        ensures { AnsweredInMemory Answer.Posted (Call.Env (EnvCall.SetAffinity thread mask))
+            result self.old self.new }
     {
         match self.tables.affinity(thread, mask) {
             Err(refusal) => Err(refusal.into()),
@@ -71,7 +73,8 @@ impl Kernel {
 
     /// Changes a thread's level.
     pub fn set_priority(&mut self, thread: Tid, level: u8) -> Result<Posted, CallFault>
-        ensures { AnsweredInMemory Answer.Posted (Call.Env (EnvCall.SetPriority thread level)) result self.old self.new }
+        ensures { AnsweredInMemory Answer.Posted (Call.Env (EnvCall.SetPriority thread level))
+            result self.old self.new }
     {
         match self.tables.priority(thread, level) {
             Err(refusal) => Err(refusal.into()),
