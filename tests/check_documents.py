@@ -27,6 +27,8 @@ FILE_NAME = re.compile(r"[\w./*-]+\.(?:rt|antt|edit|md|py|txt|script|output)|[\w
 
 # A name inside a type or a trait: a ghost, a constant, or a field.
 INNER_NAME = re.compile(r"\bghost (\w+)[ :=]|\bconst ([A-Z_]+):|^    (?:pub )?(\w+): ")
+# A record of specs/, whose head may take several lines, and its fields.
+RECORD = re.compile(r"^pub record (\w+)(?:.*\n)*?.*\bwhere\n((?: +.*\n)*)", re.M)
 # Names that are std's, and words of the language.
 FOREIGN = {"Err", "Ok", "IsStrictlyIncreasing"}
 
@@ -51,6 +53,7 @@ class Function:
     is_pub: bool
     of_trait: str = ""  # the trait that an impl meets, or that declares it
     clauses: set = field(default_factory=set)
+    records: set = field(default_factory=set)  # what its clauses begin with: where that is a record, its fields are clauses too
     has_contract: bool = False
     head: str = ""  # its parameters and what it answers
 
@@ -80,12 +83,14 @@ class Crate:
         self.exports = set()
         for many, one in re.findall(r"^pub use [\w:]*::(?:\{([^}]*)\}|(\w+));", text, re.M):
             self.exports |= set(IDENTIFIER.findall(many or one))
-        self.definitions = {}
+        self.definitions, self.fields = {}, {}
         for path in folder.glob("specs/**/*.antt"):
             module = ".".join(path.relative_to(folder / "specs").with_suffix("").parts)
             found = re.findall(r"^\s*(?:[a-z]+ )*?pub (?:record |data |mod )?([^\s:(){}]+)", path.read_text(), re.M)
             constructors = re.findall(r"^  (\w+) :", path.read_text(), re.M)
             self.definitions[module] = set(found) | set(constructors)
+            for name, fields in RECORD.findall(path.read_text()):
+                self.fields[name] = set(re.findall(r"^  pub (\w+) :", fields, re.M))
 
     def read_source(self, text, module, into):
         owner, of_trait, last, in_enum, in_head = "", "", None, False, False
@@ -119,10 +124,11 @@ class Crate:
             if in_head:
                 last.head += line
                 in_head = "{" not in line and not line.endswith(";")
-            clause = re.match(r"\s*ensures (?:(\w+) )?\{", line)
+            clause = re.match(r"\s*ensures (?:(\w+) )?\{(?: (\w+))?", line)
             if clause and last:
                 last.has_contract = True
                 last.clauses |= {clause[1]} if clause[1] else set()
+                last.records |= {clause[2]} if clause[2] else set()
 
     def exported(self, function):
         if not function.is_pub or (function.of_trait and function.owner != function.of_trait):
@@ -175,14 +181,19 @@ class Checker:
     # Names
 
     def clauses_of(self, function):
-        """Its own clauses, and those of the trait's method that it meets."""
-        clauses = set(function.clauses)
+        """Its own clauses, those of the trait's method that it meets, and the fields of the records that they are."""
+        clauses = set(function.clauses).union(*(self.fields_of(function.crate, name) for name in function.records))
         if function.of_trait and function.of_trait != function.owner:
             for crate in self.crates.values():
                 for other in crate.functions:
                     if other.owner == other.of_trait == function.of_trait and other.name == function.name:
                         clauses |= other.clauses
         return clauses
+
+    def fields_of(self, crate, name):
+        """The fields of a record of the crate, or else of another one; none where nothing else is a record of this name."""
+        own = self.crates[crate].fields.get(name)
+        return own if own is not None else set().union(*(other.fields.get(name, set()) for other in self.crates.values()))
 
     def functions_at(self, crates, path):
         """The functions that a path of names stands for: `name`, `Type::name`, `module::name`, `tests::module::name`."""

@@ -18,12 +18,13 @@ use Rattle.pc_run_queue.specs.Runs.{may_run, refreshed_as, runs_in}
 use Rattle.pc_agent.specs.declared.agent.Agent.{Agent}
 use Rattle.pc_agent.specs.declared.wire.SendFault.{SendFault}
 use Rattle.pc_agent.specs.declared.wire.SendFault.TheVariants as fault
+use Rattle.pc_agent.specs.Calls.{DoesCopy}
 use Rattle.pc_agent.specs.Exchanging.{IsDelivered}
 use Rattle.pc_agent.specs.Inner.Wanted.{HoldsAll}
 use Rattle.pc_agent.specs.Own.{HasCopied, HasPartlyCopied, Publishes}
 use Rattle.pc_agent.specs.PlainAgent.{PlainAgent, Set, copied, threads_in}
-use Rattle.pc_agent.specs.Publishing.{IsCopied, IsPublished, Sending}
-use Rattle.pc_agent.specs.Shows.{ShowsAgent, ShowsDelta, ShowsPart}
+use Rattle.pc_agent.specs.Publishing.{Copies, IsCopied, IsPublished, Sending}
+use Rattle.pc_agent.specs.Shows.{ShowsAgent, ShowsDelta, ShowsPart, cpu_of}
 use Rattle.pc_agent.proofs.Taking.{view_of_nothing, view_takes, view_takes_some}
 
 -- a part of a delta
@@ -47,6 +48,13 @@ partly_delivered run p set (Err fault) e old new delta tells h partly list count
 -- nothing is a part of every delta
 pub takes_none : (parts : List Part) (view : View) → IsPartlyTakenIn parts view view
 takes_none parts view = record { between = record { at_least = λ m e. e; at_most = λ m e. ap (λ b. b || set_of parts m) e }; of_run = λ run of_run parts_of_run. of_run }
+
+-- a copy for which there was no memory
+pub copy_failed : (items : List Item) (result : Result (List Part) OutOfMemory) (old new : Agent) → IsErr result → Copies items result old new → IsPartlyTakenIn (parts_in items) old.view new.view
+    → new.list ≡ old.list → new.shown ≡ old.shown → cpu_of new ≡ cpu_of old → new.counts ≡ old.counts → DoesCopy items result old new
+copy_failed items (Ok delta) old new e copies partly list sent cpu counts = absurd (false≢true e)
+copy_failed items (Err fault) old new e copies partly list sent cpu counts =
+    record { copies = copies; told = tt; taken = tt; partly = partly; refreshed = tt; list_err = list; sent = sent; cpu = cpu; counts = counts }
 
 -- the laws of views and of the parts of items
 abbrev pub ReportsAreTold : Type 0

@@ -1,4 +1,3 @@
 pub mod Picks
-pub mod Goes
 pub mod Wanted
 pub mod Settled

@@ -6,4 +6,5 @@ pub mod Publishing
 pub mod Running
 pub mod Exchanging
 pub mod Own
+pub mod Calls
 pub mod Inner

@@ -1,12 +1,11 @@
 //! What agents tell each other.
 
-ghost use Rattle.std.specs.Prelude.{◌≡◌, ◌<◌, Err, OnOk};
+ghost use Rattle.std.specs.Prelude.{◌≡◌, ◌<◌, Err};
 ghost use Rattle.pc_view.specs.Views.{pairs_of};
 ghost use Rattle.pc_delta.specs.Digests.{set_of_digest};
-ghost use Rattle.pc_delta.specs.Exchange.{IsTakenIn, IsPartlyTakenIn};
 ghost use Rattle.pc_agent.specs.declared.counts.TheConstants.{MOST_COUNTED};
-ghost use Rattle.pc_agent.specs.Exchanging.{Delivers, IsAnswered};
-ghost use Rattle.pc_agent.specs.Shows.{cpu_of};
+ghost use Rattle.pc_agent.specs.Calls.{DoesDeliver};
+ghost use Rattle.pc_agent.specs.Exchanging.{IsAnswered};
 
 use crate::agent::Agent;
 use crate::runnable::keep_runnable;
@@ -20,13 +19,7 @@ impl Agent {
     /// Takes in what a delta tells. The run list stays as it is. Where memory runs out, a part of it may have been taken
     /// in; delivering it again completes it.
     pub fn deliver(&mut self, delta: &Delta) -> Result<(), OutOfMemory>
-        ensures delivers { Delivers delta.now result self.old self.new }
-        ensures done { OnOk result (IsTakenIn delta.now self.old.view self.new.view) }
-        ensures partly { IsPartlyTakenIn delta.now self.old.view self.new.view }
-        ensures list { self.new.list ≡ self.old.list }
-        ensures sent { self.new.shown ≡ self.old.shown }
-        ensures cpu { cpu_of self.new ≡ cpu_of self.old }
-        ensures counts { self.new.counts ≡ self.old.counts }
+        ensures { DoesDeliver delta.now result self.old self.new }
     {
         self.passed = 0;
         let parts = delta.parts();

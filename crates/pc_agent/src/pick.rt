@@ -1,21 +1,8 @@
 //! How an agent has a thread of its run list run.
 
-ghost use Rattle.std.specs.Prelude.{◌≡◌, ◌≢◌, ◌∷◌, [], List, None, Some, Ok, IfOk, IfErr, OnErr, IsTrue, IsFalse, MatchOption, is_some};
-ghost use Rattle.pc_messages.specs.Run.{Extends};
-ghost use Rattle.pc_calls.specs.Conditions.{refusal_in};
-ghost use Rattle.pc_calls.specs.declared.call.Answer.TheVariants.{Done};
-ghost use Rattle.pc_calls.specs.declared.call.Call.{Call};
-ghost use Rattle.pc_calls.specs.declared.call.Call.TheVariants as call;
-ghost use Rattle.pc_kernel.specs.Answers.{Accepts};
-ghost use Rattle.pc_kernel.specs.Reads.{seen, kinds_read, is_cpu, aseq_read, on};
-ghost use Rattle.pc_kernel.specs.Steps.{refused};
-ghost use Rattle.pc_agent.specs.Counts.{pick_counted};
-ghost use Rattle.pc_agent.specs.Own.{PicksAsSeen};
-ghost use Rattle.pc_agent.specs.PlainAgent.{pick_refused, ready_list};
-ghost use Rattle.pc_agent.specs.Publishing.{WhateverShown};
-ghost use Rattle.pc_agent.specs.Running.{IsPicked, left_by};
-ghost use Rattle.pc_agent.specs.Shows.{cpu_of};
-ghost use Rattle.pc_agent.specs.Inner.Goes.{GoesOn};
+ghost use Rattle.std.specs.Prelude.{◌≡◌, ◌∷◌, [], MatchOption};
+ghost use Rattle.pc_kernel.specs.Reads.{seen};
+ghost use Rattle.pc_agent.specs.Calls.{DoesPick, GoesOn};
 ghost use Rattle.pc_agent.specs.Inner.Picks.{CommitsFirst, Picks, unready_for};
 ghost use Rattle.pc_agent.specs.Inner.Settled.{StaysSettled};
 ghost use Rattle.pc_agent.specs.Inner.Wanted.{StaysPassed};
@@ -104,19 +91,7 @@ impl Agent {
     /// `Stale` with the count of now; `Busy` where a thread runs on its CPU; `NothingReady` where the kernel accepts none,
     /// and the run list then is empty.
     pub fn pick(&mut self, kernel: &mut Kernel, aseq: u32) -> Result<Tid, Refusal>
-        ensures picks { WhateverShown kernel.old self.old (λ P run p. IsPicked aseq P run p result (cpu_of self.old) self.new kernel.new) }
-        ensures own { PicksAsSeen aseq self.old kernel.old result self.new kernel.new }
-        ensures refused { refusal_in result ≡ pick_refused (seen kernel.old) (cpu_of self.old) aseq self.old.list }
-        ensures first { IfOk result (λ thread. ready_list (seen kernel.old) (cpu_of self.old) aseq self.old.list ≡ thread ∷ self.new.list) }
-        ensures list_err { IfErr result (λ refusal. self.new.list ≡ left_by refusal self.old.list) }
-        ensures kernel { IfOk result (λ thread. Accepts (call.Commit (cpu_of self.old) thread aseq) Done kernel.old kernel.new) }
-        ensures view { self.new.view ≡ self.old.view }
-        ensures sent { self.new.shown ≡ self.old.shown }
-        ensures limits { kernel.new.limits ≡ kernel.old.limits }
-        ensures extends { Extends (kinds_read (seen kernel.new)) (kinds_read (seen kernel.old)) }
-        ensures err { OnErr result (kernel.new ≡ kernel.old) }
-        ensures cpu { cpu_of self.new ≡ cpu_of self.old }
-        ensures counts { self.new.counts ≡ pick_counted result self.old.counts }
+        ensures { DoesPick aseq result self.old self.new kernel.old kernel.new }
     {
         let answered = pick_from(&mut self.list, kernel, self.cpu, aseq, &mut self.passed);
         self.counts.count_pick(&answered);

@@ -1,24 +1,14 @@
 //! What an agent does with its own queue.
 
-ghost use Rattle.std.specs.Prelude.{◌≡◌, ◌<◌, ◌^◌, List, length, Ok, Err, IfOk, OnOk, OnErr, IsTrue};
-ghost use Rattle.pc_messages.specs.Items.{AreItemsOf, AreTellable};
-ghost use Rattle.pc_messages.specs.Run.{Run, Extends};
-ghost use Rattle.pc_calls.specs.declared.call.Answer.TheVariants.{Done};
-ghost use Rattle.pc_calls.specs.declared.call.Call.TheVariants as call;
-ghost use Rattle.pc_calls.specs.Conditions.{refusal_in};
-ghost use Rattle.pc_kernel.specs.Answers.{Accepts};
-ghost use Rattle.pc_kernel.specs.Reads.{seen, kinds_read, content_read, is_cpu};
-ghost use Rattle.pc_kernel.specs.PlainKernel as plain;
-ghost use Rattle.pc_kernel.specs.Steps.{refused};
-ghost use Rattle.pc_delta.specs.Exchange.{IsTakenIn, IsPartlyTakenIn};
-ghost use Rattle.pc_delta.specs.Parts.{parts_in};
+ghost use Rattle.std.specs.Prelude.{◌≡◌, ◌<◌, ◌^◌, length, Err, OnOk, OnErr, IsTrue};
+ghost use Rattle.pc_messages.specs.Items.{AreTellable};
+ghost use Rattle.pc_kernel.specs.Reads.{seen, is_cpu};
 ghost use Rattle.pc_run_queue.specs.Runs.{IsSettled, refreshed};
 ghost use Rattle.pc_agent.specs.declared.counts.TheConstants.{MOST_COUNTED};
-ghost use Rattle.pc_agent.specs.Counts.{consume_counted};
-ghost use Rattle.pc_agent.specs.Own.{ConsumesAsSeen, Publishes};
-ghost use Rattle.pc_agent.specs.PlainAgent.{PlainAgent, threads_in};
-ghost use Rattle.pc_agent.specs.Publishing.{Copies, IsConsumed, IsPublished, WhateverShown};
-ghost use Rattle.pc_agent.specs.Shows.{ShowsAgent, cpu_of};
+ghost use Rattle.pc_agent.specs.Calls.{CountsAsSent, DoesConsume, DoesCopy, DoesPublish};
+ghost use Rattle.pc_agent.specs.Own.{Publishes};
+ghost use Rattle.pc_agent.specs.PlainAgent.{threads_in};
+ghost use Rattle.pc_agent.specs.Shows.{cpu_of};
 
 use crate::agent::Agent;
 use crate::wire::{SendFault, Wire};
@@ -71,15 +61,7 @@ impl Agent {
     /// tells them. Where memory runs out, the view has a part of them, and the run list is the old one.
     pub fn copied(&mut self, items: &[Item]) -> Result<Delta, OutOfMemory>
         requires tellable { AreTellable items.now }
-        ensures copies { Copies items.now result self.old self.new }
-        ensures told { IfOk result (λ delta. delta ≡ parts_in items.now) }
-        ensures taken { OnOk result (IsTakenIn (parts_in items.now) self.old.view self.new.view) }
-        ensures partly { IsPartlyTakenIn (parts_in items.now) self.old.view self.new.view }
-        ensures refreshed { OnOk result (self.new.list ≡ refreshed self.new.view (cpu_of self.old) self.old.list (threads_in items.now)) }
-        ensures list_err { OnErr result (self.new.list ≡ self.old.list) }
-        ensures sent { self.new.shown ≡ self.old.shown }
-        ensures cpu { cpu_of self.new ≡ cpu_of self.old }
-        ensures counts { self.new.counts ≡ self.old.counts }
+        ensures { DoesCopy items.now result self.old self.new }
     {
         views_tell_what_their_sets_tell();
         parts_of_items_are_of_the_run();
@@ -102,12 +84,7 @@ impl Agent {
 
     /// Counts so many items at the front of its queue as sent.
     pub fn sent(&mut self, items: u32)
-        ensures shown { (run : Run) (p : PlainAgent) → ShowsAgent run p self.old → ShowsAgent run (record p { shown = items }) self.new }
-        ensures count { self.new.shown ≡ items }
-        ensures view { self.new.view ≡ self.old.view }
-        ensures list { self.new.list ≡ self.old.list }
-        ensures cpu { cpu_of self.new ≡ cpu_of self.old }
-        ensures counts { self.new.counts ≡ self.old.counts }
+        ensures { CountsAsSent items self.old self.new }
     {
         self.shown = items;
     }
@@ -119,12 +96,7 @@ impl Agent {
     pub fn publish<W: Wire>(&mut self, kernel: &Kernel, wire: &mut W) -> Result<u32, SendFault>
         requires there { IsTrue (is_cpu (seen kernel.now) self.old.cpu) }
         requires room { W.faults wire.old < MOST_COUNTED }
-        ensures publishes { WhateverShown kernel.now self.old (λ P run p.
-            IsPublished W.Sends (plain.content P self.old.cpu) run p result (cpu_of self.old) self.new wire.old wire.new) }
-        ensures own { Publishes W.Sends (content_read (seen kernel.now) (cpu_of self.old)) result self.old self.new wire.old wire.new }
-        ensures fault { result ≡ Err SendFault.WireFault → W.faults wire.old < W.faults wire.new }
-        ensures cpu { cpu_of self.new ≡ cpu_of self.old }
-        ensures counts { self.new.counts ≡ self.old.counts }
+        ensures { DoesPublish W.Sends W.faults kernel.now result self.old self.new wire.old wire.new }
     {
         reads_are_plain();
         views_tell_what_their_sets_tell();
@@ -168,20 +140,7 @@ impl Agent {
     /// Removes from its queue the items that it has sent, and answers how many. It takes no memory. `TooMany` comes where
     /// more items count as sent than the queue holds.
     pub fn consume(&mut self, kernel: &mut Kernel) -> Result<u32, Refusal>
-        ensures consumes { WhateverShown kernel.old self.old (λ P run p. IsConsumed P run p result (cpu_of self.old) self.new kernel.new) }
-        ensures own { ConsumesAsSeen self.old kernel.old result self.new kernel.new }
-        ensures count { IfOk result (λ count. count ≡ self.old.shown) }
-        ensures nothing_sent { OnOk result (self.new.shown ≡ 0) }
-        ensures kernel { OnOk result (Accepts (call.Consume (cpu_of self.old) self.old.shown) Done kernel.old kernel.new) }
-        ensures view { self.new.view ≡ self.old.view }
-        ensures list { self.new.list ≡ self.old.list }
-        ensures fault { refusal_in result ≡ refused (seen kernel.old) (call.Consume self.old.cpu self.old.shown) }
-        ensures limits { kernel.new.limits ≡ kernel.old.limits }
-        ensures extends { Extends (kinds_read (seen kernel.new)) (kinds_read (seen kernel.old)) }
-        ensures err { OnErr result (kernel.new ≡ kernel.old) }
-        ensures agent_err { OnErr result (self.new ≡ self.old) }
-        ensures cpu { cpu_of self.new ≡ cpu_of self.old }
-        ensures counts { self.new.counts ≡ consume_counted result self.old.counts }
+        ensures { DoesConsume result self.old self.new kernel.old kernel.new }
     {
         let items = self.shown;
         match kernel.consume(self.cpu, items) {

@@ -1,19 +1,12 @@
 //! How an agent takes a thread over.
 
-ghost use Rattle.std.specs.Prelude.{◌≡◌, ◌≢◌, ◌∷◌, ◌++◌, ◌+◌, [], List, None, Some, Ok, IfOk, OnErr, IsTrue, is_some};
-ghost use Rattle.pc_messages.specs.Run.{Extends};
-ghost use Rattle.pc_calls.specs.declared.call.Answer.TheVariants.{Done};
-ghost use Rattle.pc_kernel.specs.Answers.{Accepts};
-ghost use Rattle.pc_kernel.specs.Reads.{Reads, seen, kinds_read, is_cpu, on};
-ghost use Rattle.pc_view.specs.Prefixes.{upto_of};
+ghost use Rattle.std.specs.Prelude.{◌≡◌, ◌+◌, OnErr, IsTrue};
+ghost use Rattle.pc_kernel.specs.Reads.{seen};
 ghost use Rattle.pc_run_queue.specs.Runs.{IsSettled, runs_in};
-ghost use Rattle.pc_agent.specs.Counts.{steal_counted};
+ghost use Rattle.pc_agent.specs.Calls.{DoesSteal, GoesOn};
 ghost use Rattle.pc_agent.specs.Own.{StealsAsSeen};
 ghost use Rattle.pc_agent.specs.PlainAgent.{is_idle, is_wanted, may_take};
-ghost use Rattle.pc_agent.specs.Publishing.{WhateverShown};
-ghost use Rattle.pc_agent.specs.Running.{Finds, IsSeenExactly, Steals, takes_up_to};
-ghost use Rattle.pc_agent.specs.Shows.{cpu_of};
-ghost use Rattle.pc_agent.specs.Inner.Goes.{GoesOn};
+ghost use Rattle.pc_agent.specs.Running.{Finds};
 ghost use Rattle.pc_join.specs.NameSets.{FindsFrom};
 ghost use Rattle.pc_agent.specs.Inner.Wanted.{AreShort, HoldsAll, IsNoneWantedBelow};
 
@@ -196,20 +189,7 @@ impl Agent {
     /// `Busy` where a thread runs on its CPU; `NothingToSteal` where there is no such thread; then want of memory; then
     /// what the kernel refuses: `Dead`, `Stale` with the number of now, `Pending`. Only the least thread is tried.
     pub fn steal(&mut self, kernel: &mut Kernel) -> Result<Tid, CallFault>
-        ensures steals { WhateverShown kernel.old self.old (λ P run p. Steals P run p result (cpu_of self.old) self.new kernel.new) }
-        ensures own { StealsAsSeen self.old.view (cpu_of self.old) result self.old.list self.new.list kernel.old kernel.new }
-        ensures exact { IfOk result (λ thread. WhateverShown kernel.old self.old (λ P run p. IsSeenExactly P run p thread)) }
-        ensures kernel { IfOk result (λ thread.
-            Accepts (takes_up_to (upto_of self.old.view) (cpu_of self.old) thread) Done kernel.old kernel.new) }
-        ensures taken { IfOk result (λ thread. self.new.list ≡ self.old.list ++ thread ∷ []) }
-        ensures limits { kernel.new.limits ≡ kernel.old.limits }
-        ensures extends { Extends (kinds_read (seen kernel.new)) (kinds_read (seen kernel.old)) }
-        ensures err { OnErr result (kernel.new ≡ kernel.old) }
-        ensures list_err { OnErr result (self.new.list ≡ self.old.list) }
-        ensures view { self.new.view ≡ self.old.view }
-        ensures sent { self.new.shown ≡ self.old.shown }
-        ensures cpu { cpu_of self.new ≡ cpu_of self.old }
-        ensures counts { self.new.counts ≡ steal_counted result self.old.counts }
+        ensures { DoesSteal result self.old self.new kernel.old kernel.new }
     {
         accepted_associates_are_exact();
         views_tell_what_their_sets_tell();

@@ -25,6 +25,7 @@ mod LastPosts
 mod Marked
 mod Pending
 pub mod Answered
+mod Answering
 mod Reached
 mod PostRefused
 pub mod Held

@@ -1,5 +1,7 @@
 -- What a kernel shows, and that a call answers as the step does.
-use Rattle.std.specs.Prelude.{ℕ, ◌≤◌, ◌≡◌, List, Result, Ok, Err}
+use Rattle.std.specs.Prelude.{ℕ, ◌≤◌, ◌≡◌, ◌↔◌, List, Some, Result, Ok, Err, OnErr}
+use Rattle.pc_messages.specs.Run.{Extends}
+use Rattle.pc_calls.specs.Conditions.{refusal_in}
 use Rattle.pc_calls.specs.declared.call.Call.{Call}
 use Rattle.pc_calls.specs.declared.call.Answer.{Answer}
 use Rattle.pc_calls.specs.declared.call.Answer.TheVariants.{Done}
@@ -8,8 +10,8 @@ use Rattle.pc_calls.specs.declared.refusal.CallFault.{CallFault}
 use Rattle.pc_calls.specs.declared.refusal.CallFault.TheVariants.{Refused, OutOfMemory}
 use Rattle.pc_kernel.specs.PlainKernel.{PlainKernel, start, aseq}
 use Rattle.pc_kernel.specs.Rows.{KernelRows}
-use Rattle.pc_kernel.specs.Reads.{seen, shown}
-use Rattle.pc_kernel.specs.Steps.{reply, after, replay}
+use Rattle.pc_kernel.specs.Reads.{seen, shown, kinds_read}
+use Rattle.pc_kernel.specs.Steps.{refused, reply, after, replay}
 
 -- the kernel's reads are those of the plain kernel, in which no queue has lost more than it was given
 pub record Shows (k : KernelRows) (P : PlainKernel) : Type 0 where
@@ -40,6 +42,24 @@ RepliesInMemory tell (Err OutOfMemory) old new (Err refusal) Q = ⊥
 
 abbrev pub StepsInMemory : {A : Type 0} → (A → Answer) → Call → Result A CallFault → KernelRows → KernelRows → Type 0
 StepsInMemory tell call result old new = (P : PlainKernel) → Shows old P → RepliesInMemory tell result old new (reply P call) (after P call)
+
+-- what a call of an agent does: it is the step of every plain kernel that is shown; it is refused exactly where the reads refuse
+-- it, and with that refusal; the limits stay, and the run goes on; refused, it changes nothing
+pub record Answered {A : Type 0} (tell : A → Answer) (call : Call) (result : Result A Refusal) (old new : KernelRows) : Type 0 where
+  pub step : Steps tell call result old new
+  pub fault : refusal_in result ≡ refused (seen old) call
+  pub limits : new.limits ≡ old.limits
+  pub extends : Extends (kinds_read (seen new)) (kinds_read (seen old))
+  pub err : OnErr result (new ≡ old)
+
+-- the same of a call that takes memory: where none was left, it changes nothing either, and the reads do not refuse it
+pub record AnsweredInMemory {A : Type 0} (tell : A → Answer) (call : Call) (result : Result A CallFault)
+    (old new : KernelRows) : Type 0 where
+  pub step : StepsInMemory tell call result old new
+  pub fault : (refusal : Refusal) → (result ≡ Err (Refused refusal)) ↔ (refused (seen old) call ≡ Some refusal)
+  pub limits : new.limits ≡ old.limits
+  pub extends : Extends (kinds_read (seen new)) (kinds_read (seen old))
+  pub err : OnErr result (new ≡ old)
 
 -- a list of calls leads from the start of the kernel's limits to a plain kernel that it shows
 pub record IsReached (k : KernelRows) : Type 0 where

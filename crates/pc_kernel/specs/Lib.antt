@@ -4,6 +4,7 @@ pub mod Facts
 pub mod Inner
 pub mod PlainKernel
 pub mod Posted
+pub mod Queued
 pub mod Reads
 pub mod Rows
 pub mod Sound

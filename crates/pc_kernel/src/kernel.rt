@@ -3,8 +3,7 @@
 ghost use Rattle.std.specs.Prelude.{◌≡◌, ◌<◌, ◌≤◌, ◌↔◌, ℕ, nat_lt, Some, None, ◌++◌, is_some, length, IfOk, IfSome, IfErr, IsFalse, ◌⊎◌};
 ghost use Rattle.std.specs.Option.{option_copied};
 ghost use Rattle.pc_calls.specs.Limits.{bad_field};
-ghost use Rattle.pc_calls.specs.declared.limits.TheConstants.{MOST_CPUS, MOST_ROOM};
-ghost use Rattle.pc_messages.specs.Items.{AreItemsOf, AreTellable};
+ghost use Rattle.pc_calls.specs.declared.limits.TheConstants.{MOST_CPUS};
 ghost use Rattle.pc_kernel.specs.PlainKernel.{start};
 
 mod agents;
@@ -39,7 +38,8 @@ impl Kernel {
     ghost use Rattle.pc_kernel.specs.Answers.{Shows, IsReached};
     ghost use Rattle.pc_kernel.specs.Sound.{IsSound};
     ghost use Rattle.pc_calls.specs.declared.limits.LimitField.{LimitField};
-    ghost use Rattle.pc_kernel.specs.Reads.{seen, kinds_read, status_of, reported_of, history_of, queue_of, aseq_of, aseq_read, content_read, is_known, is_cpu, on, is_asleep};
+    ghost use Rattle.pc_kernel.specs.Queued.{AreQueued};
+    ghost use Rattle.pc_kernel.specs.Reads.{seen, status_of, reported_of, history_of, queue_of, aseq_of, aseq_read, content_read, is_known, is_cpu, on, is_asleep};
 
     /// The kernel at the start, with limits of profile One.
     pub fn new(alloc: Global, limits: Limits) -> Result<Self, LimitsFault>
@@ -168,10 +168,7 @@ impl Kernel {
     /// The count of posts to the CPU's queue, and all that the queue holds, the oldest first. The items stay.
     pub fn peek(&self, cpu: Cpu) -> Result<(u32, Vec<Item>), CallFault>
         ensures posts { IfOk result (λ read. read.0 ≡ aseq_read (seen self.now) cpu) }
-        ensures content { IfOk result (λ read. read.1.items ≡ content_read (seen self.now) cpu) }
-        ensures of_run { IfOk result (λ read. AreItemsOf (kinds_read (seen self.now)) read.1.items) }
-        ensures tellable { IfOk result (λ read. AreTellable read.1.items) }
-        ensures few { IfOk result (λ read. length read.1.items ≤ MOST_ROOM) }
+        ensures queued { IfOk result (λ read. AreQueued self.now cpu read.1.items) }
         ensures bad_cpu { (result ≡ Err (CallFault.Refused Refusal.BadCpu)) ↔ IsFalse (is_cpu (seen self.now) cpu) }
         ensures memory { IfErr result (λ fault. (fault ≡ CallFault.Refused Refusal.BadCpu) ⊎ (fault ≡ CallFault.OutOfMemory)) }
     {
@@ -189,10 +186,7 @@ impl Kernel {
     /// All that the CPU's queue holds, the oldest first, where it stands: the items of the first slice, then those of the second;
     /// none of a CPU that is not there. It takes no memory.
     pub fn queued(&self, cpu: Cpu) -> Option<(&[Item], &[Item])>
-        ensures content { IfSome result (λ held. held.0.now ++ held.1.now ≡ content_read (seen self.now) cpu) }
-        ensures of_run { IfSome result (λ held. AreItemsOf (kinds_read (seen self.now)) (held.0.now ++ held.1.now)) }
-        ensures tellable { IfSome result (λ held. AreTellable (held.0.now ++ held.1.now)) }
-        ensures few { IfSome result (λ held. length (held.0.now ++ held.1.now) ≤ MOST_ROOM) }
+        ensures queued { IfSome result (λ held. AreQueued self.now cpu (held.0.now ++ held.1.now)) }
         ensures front { IfSome result (λ held. (0 < length held.0.now) ↔ (0 < length (content_read (seen self.now) cpu))) }
         ensures there { is_some result ≡ is_cpu (seen self.now) cpu }
     {

@@ -1,11 +1,9 @@
 //! A kernel that is called by many, and the list of what it was called.
 
-ghost use Rattle.std.specs.Prelude.{ℕ, ◌≡◌, ◌≤◌, ◌<◌, ◌↔◌, ◌⊎◌, ◌∷◌, ◌++◌, [], Some, None, Err, IfOk, IfErr, IfSome, OnOk, OnErr, IsFalse, length, vec_len, vec_capacity};
+ghost use Rattle.std.specs.Prelude.{ℕ, ◌≡◌, ◌<◌, ◌↔◌, ◌⊎◌, ◌∷◌, ◌++◌, [], Some, None, Err, IfOk, IfErr, IfSome, OnOk, OnErr, IsFalse, vec_len, vec_capacity};
 ghost use Rattle.pc_calls.specs.Conditions.{refusal_in};
 ghost use Rattle.pc_calls.specs.Limits.{bad_field};
 ghost use Rattle.pc_calls.specs.declared.limits.Profile.TheVariants as profile;
-ghost use Rattle.pc_calls.specs.declared.limits.TheConstants.{MOST_ROOM};
-ghost use Rattle.pc_messages.specs.Items.{AreItemsOf, AreTellable};
 ghost use Rattle.pc_messages.specs.Run.{Extends};
 
 mod agents;
@@ -43,7 +41,8 @@ impl Book {
     ghost use Rattle.pc_kernel.specs.Answers.{Shows};
     ghost use Rattle.pc_kernel.specs.Facts.{HadNoPost, IsAtHome, IsPlaced};
     ghost use Rattle.pc_kernel.specs.PlainKernel.{start};
-    ghost use Rattle.pc_kernel.specs.Reads.{seen, aseq_read, content_read, is_cpu};
+    ghost use Rattle.pc_kernel.specs.Queued.{AreQueued};
+    ghost use Rattle.pc_kernel.specs.Reads.{seen, aseq_read, is_cpu};
     ghost use Rattle.pc_kernel.specs.Steps.{refused};
     ghost use Rattle.pc_threads.specs.Pages.{IsReplay, Lists, answered, replayed, run_of};
 
@@ -105,10 +104,7 @@ impl Book {
     /// listed.
     pub fn peek(&self, cpu: Cpu) -> Result<(u32, Vec<Item>), CallFault>
         ensures posts { IfOk result (λ read. read.0 ≡ aseq_read (seen self.now.kernel) cpu) }
-        ensures content { IfOk result (λ read. read.1.items ≡ content_read (seen self.now.kernel) cpu) }
-        ensures of_run { IfOk result (λ read. AreItemsOf (run_of self.now) read.1.items) }
-        ensures tellable { IfOk result (λ read. AreTellable read.1.items) }
-        ensures few { IfOk result (λ read. length read.1.items ≤ MOST_ROOM) }
+        ensures queued { IfOk result (λ read. AreQueued self.now.kernel cpu read.1.items) }
         ensures bad_cpu { (result ≡ Err (CallFault.Refused Refusal.BadCpu)) ↔ IsFalse (is_cpu (seen self.now.kernel) cpu) }
         ensures memory { IfErr result (λ fault. (fault ≡ CallFault.Refused Refusal.BadCpu) ⊎ (fault ≡ CallFault.OutOfMemory)) }
     {

@@ -1,26 +1,16 @@
 //! The agents' calls. None takes memory, and each costs a few look-ups, however many threads, CPUs, items and messages
 //! there are; only `consume` costs more, by the items that it removes.
 
-ghost use Rattle.std.specs.Prelude.{◌≡◌, OnErr};
-ghost use Rattle.pc_calls.specs.Conditions.{refusal_in};
-
 use crate::kernel::Kernel;
 use pc_calls::{Answer, Call, Refusal};
 use pc_messages::{Cpu, Tid};
 
 impl Kernel {
-    ghost use Rattle.pc_kernel.specs.Answers.{Steps, done};
-    ghost use Rattle.pc_messages.specs.Run.{Extends};
-    ghost use Rattle.pc_kernel.specs.Reads.{seen, kinds_read};
-    ghost use Rattle.pc_kernel.specs.Steps.{refused};
+    ghost use Rattle.pc_kernel.specs.Answers.{Answered, done};
 
     /// Removes the first items of the CPU's queue.
     pub fn consume(&mut self, cpu: Cpu, count: u32) -> Result<(), Refusal>
-        ensures step { Steps done (Call.Consume cpu count) result self.old self.new }
-        ensures fault { refusal_in result ≡ refused (seen self.old) (Call.Consume cpu count) }
-        ensures limits { self.new.limits ≡ self.old.limits }
-        ensures extends { Extends (kinds_read (seen self.new)) (kinds_read (seen self.old)) }
-        ensures err { OnErr result (self.new ≡ self.old) }
+        ensures { Answered done (Call.Consume cpu count) result self.old self.new }
     {
         match self.tables.consume_fault(cpu, count) {
             Some(refusal) => Err(refusal),
@@ -34,11 +24,7 @@ impl Kernel {
     /// Gives a thread another home queue (the ghOSt paper's ASSOCIATE_QUEUE). The caller names the thread's last number
     /// as it knows it.
     pub fn associate(&mut self, thread: Tid, queue: Cpu, number: u32) -> Result<(), Refusal>
-        ensures step { Steps done (Call.Associate thread queue number) result self.old self.new }
-        ensures fault { refusal_in result ≡ refused (seen self.old) (Call.Associate thread queue number) }
-        ensures limits { self.new.limits ≡ self.old.limits }
-        ensures extends { Extends (kinds_read (seen self.new)) (kinds_read (seen self.old)) }
-        ensures err { OnErr result (self.new ≡ self.old) }
+        ensures { Answered done (Call.Associate thread queue number) result self.old self.new }
     {
         match self.tables.associate_fault(thread, queue, number) {
             Some(refusal) => Err(refusal),
@@ -52,11 +38,7 @@ impl Kernel {
     /// Puts a thread on the CPU, where the CPU's agent has read all posts to its queue (the ghOSt paper's transaction
     /// under an Aseq).
     pub fn commit(&mut self, cpu: Cpu, thread: Tid, aseq: u32) -> Result<(), Refusal>
-        ensures step { Steps done (Call.Commit cpu thread aseq) result self.old self.new }
-        ensures fault { refusal_in result ≡ refused (seen self.old) (Call.Commit cpu thread aseq) }
-        ensures limits { self.new.limits ≡ self.old.limits }
-        ensures extends { Extends (kinds_read (seen self.new)) (kinds_read (seen self.old)) }
-        ensures err { OnErr result (self.new ≡ self.old) }
+        ensures { Answered done (Call.Commit cpu thread aseq) result self.old self.new }
     {
         match self.tables.commit_fault(cpu, thread, aseq) {
             Some(refusal) => Err(refusal),
@@ -69,11 +51,7 @@ impl Kernel {
 
     /// Puts the CPU's agent to sleep, where it has read all posts to its queue.
     pub fn sleep(&mut self, cpu: Cpu, aseq: u32) -> Result<(), Refusal>
-        ensures step { Steps done (Call.Sleep cpu aseq) result self.old self.new }
-        ensures fault { refusal_in result ≡ refused (seen self.old) (Call.Sleep cpu aseq) }
-        ensures limits { self.new.limits ≡ self.old.limits }
-        ensures extends { Extends (kinds_read (seen self.new)) (kinds_read (seen self.old)) }
-        ensures err { OnErr result (self.new ≡ self.old) }
+        ensures { Answered done (Call.Sleep cpu aseq) result self.old self.new }
     {
         match self.tables.sleep_fault(cpu, aseq) {
             Some(refusal) => Err(refusal),
@@ -86,11 +64,7 @@ impl Kernel {
 
     /// Wakes the CPU's agent.
     pub fn rouse(&mut self, cpu: Cpu) -> Result<(), Refusal>
-        ensures step { Steps done (Call.Rouse cpu) result self.old self.new }
-        ensures fault { refusal_in result ≡ refused (seen self.old) (Call.Rouse cpu) }
-        ensures limits { self.new.limits ≡ self.old.limits }
-        ensures extends { Extends (kinds_read (seen self.new)) (kinds_read (seen self.old)) }
-        ensures err { OnErr result (self.new ≡ self.old) }
+        ensures { Answered done (Call.Rouse cpu) result self.old self.new }
     {
         match self.tables.rouse_fault(cpu) {
             Some(refusal) => Err(refusal),
@@ -103,11 +77,7 @@ impl Kernel {
 
     /// Sets which agent the queue wakes, if any (the ghOSt paper's CONFIG_QUEUE_WAKEUP). That agent is awake at once.
     pub fn config_wakeup(&mut self, queue: Cpu, target: Option<Cpu>) -> Result<(), Refusal>
-        ensures step { Steps done (Call.Config queue target) result self.old self.new }
-        ensures fault { refusal_in result ≡ refused (seen self.old) (Call.Config queue target) }
-        ensures limits { self.new.limits ≡ self.old.limits }
-        ensures extends { Extends (kinds_read (seen self.new)) (kinds_read (seen self.old)) }
-        ensures err { OnErr result (self.new ≡ self.old) }
+        ensures { Answered done (Call.Config queue target) result self.old self.new }
     {
         match self.tables.config_fault(queue, &target) {
             Some(refusal) => Err(refusal),

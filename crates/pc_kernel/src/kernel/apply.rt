@@ -1,28 +1,20 @@
 //! Calls as values.
 
-ghost use Rattle.std.specs.Prelude.{◌≡◌, ◌↔◌, Some, Err, OnErr};
+ghost use Rattle.std.specs.Prelude.{◌≡◌, Err};
 ghost use Rattle.std.specs.Result.{result_map_both};
 
 use crate::kernel::Kernel;
 use pc_calls::{Answer, Call, CallFault, EnvCall, Posted, Refusal};
 
 impl Kernel {
-    ghost use Rattle.pc_messages.specs.Run.{Extends};
-    ghost use Rattle.pc_kernel.specs.Answers.{StepsInMemory, itself};
-    ghost use Rattle.pc_kernel.specs.Reads.{seen, kinds_read};
-    ghost use Rattle.pc_kernel.specs.Steps.{refused};
+    ghost use Rattle.pc_kernel.specs.Answers.{AnsweredInMemory, itself};
 
     /// Makes the call.
     // Inlined: a caller with calls of one kind then chooses among the kinds once, and the answer is not handed on through memory.
     #[inline(always)]
     pub fn apply(&mut self, call: Call) -> Result<Answer, CallFault>
-        ensures step { StepsInMemory itself call result self.old self.new }
-        ensures fault { (refusal : Refusal) → (result ≡ Err (CallFault.Refused refusal))
-            ↔ (refused (seen self.old) call ≡ Some refusal) }
+        ensures answered { AnsweredInMemory itself call result self.old self.new }
         ensures environment { result ≡ Err CallFault.OutOfMemory → (env : EnvCall) × (call ≡ Call.Env env) }
-        ensures limits { self.new.limits ≡ self.old.limits }
-        ensures extends { Extends (kinds_read (seen self.new)) (kinds_read (seen self.old)) }
-        ensures err { OnErr result (self.new ≡ self.old) }
     {
         match call {
             Call::Env(call) => posted(self.apply_env(call)),
@@ -43,12 +35,7 @@ impl Kernel {
     // Inlined as `apply` is.
     #[inline(always)]
     pub fn apply_env(&mut self, call: EnvCall) -> Result<Posted, CallFault>
-        ensures step { StepsInMemory Answer.Posted (Call.Env call) result self.old self.new }
-        ensures fault { (refusal : Refusal) → (result ≡ Err (CallFault.Refused refusal))
-            ↔ (refused (seen self.old) (Call.Env call) ≡ Some refusal) }
-        ensures limits { self.new.limits ≡ self.old.limits }
-        ensures extends { Extends (kinds_read (seen self.new)) (kinds_read (seen self.old)) }
-        ensures err { OnErr result (self.new ≡ self.old) }
+        ensures { AnsweredInMemory Answer.Posted (Call.Env call) result self.old self.new }
     {
         match call {
             EnvCall::Create { queue, mask, ready } => self.create(queue, mask, ready),

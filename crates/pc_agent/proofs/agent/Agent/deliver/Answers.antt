@@ -1,4 +1,4 @@
-use Rattle.std.proofs.Common.{Ok, Err, refl, subst, sym, ap, ◌∙◌}
+use Rattle.std.proofs.Common.{Ok, Err, refl, subst, sym, ap, ◌∙◌, rules}
 use Rattle.pc_delta.specs.Parts.{tells_of}
 use Rattle.pc_agent.proofs.Delivered.{delivered, partly_delivered}
 use Rattle.pc_agent.specs.Inner.Settled.{AreAsNoted, TellsOfNoOther}
@@ -6,13 +6,27 @@ use Rattle.pc_agent.proofs.Kept.{held_but}
 use Rattle.pc_agent.proofs.Settles.{still_settled}
 use Rattle.pc_agent.proofs.agent.Agent.deliver.Goals as goal
 
-pub returns-clause-delivers : goal.returns-clause-delivers
-returns-clause-delivers c run p set tells h =
-    delivered run p set (Ok tt) c.args.self.now _ c.args.delta.now tells h c.in-Ok.ensures.done c.take_in.ensures.partly refl refl
+pub returns : goal.returns
+returns c = record {
+  delivers = λ run p set tells h. delivered run p set (Ok tt) c.args.self.now _ c.args.delta.now tells h c.in-Ok.ensures.done c.take_in.ensures.partly refl refl;
+  done = search rules;
+  partly = search rules;
+  list = refl;
+  sent = refl;
+  cpu = refl;
+  counts = refl;
+}
 
-pub returns-in-Err-clause-delivers : goal.returns-in-Err-clause-delivers
-returns-in-Err-clause-delivers c run p set tells h =
-    partly_delivered run p set (Err c.in-Err.fault) refl c.args.self.now _ c.args.delta.now tells h c.take_in.ensures.partly refl refl
+pub returns-in-Err : goal.returns-in-Err
+returns-in-Err c = record {
+  delivers = λ run p set tells h. partly_delivered run p set (Err c.in-Err.fault) refl c.args.self.now _ c.args.delta.now tells h c.take_in.ensures.partly refl refl;
+  done = search rules;
+  partly = search rules;
+  list = refl;
+  sent = refl;
+  cpu = refl;
+  counts = refl;
+}
 
 pub keep_runnable-requires : goal.keep_runnable-requires
 keep_runnable-requires c names is t untold =

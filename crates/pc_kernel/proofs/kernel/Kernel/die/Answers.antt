@@ -7,8 +7,7 @@ use Rattle.pc_kernel.proofs.kernel.Kernel.die.Goals as goal
 pub invariant_of-self : goal.invariant_of-self
 invariant_of-self c = reached_in_memory answer.Posted (Env (Die c.args.cpu c.args.ran)) c.leave.result c.self.inside.tables c.leave.new.self c.leave.ensures.step c.leave.ensures.limits c.self.invariant
 
-pub returns-clause-fault : goal.returns-clause-fault
-returns-clause-fault c = rw (← c.self.view_is) c.leave.ensures.fault
-
-pub returns-clause-extends : goal.returns-clause-extends
-returns-clause-extends c = rw (← c.self.view_is) c.leave.ensures.extends
+pub returns : goal.returns
+returns c =
+    let left = c.leave.ensures in
+    rw (← c.self.view_is) (record { step = left.step; fault = left.fault; limits = left.limits; extends = left.extends; err = left.err })

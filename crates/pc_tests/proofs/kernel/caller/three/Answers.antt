@@ -12,7 +12,7 @@ returns-in-Ok-apply c =
     let a = c.apply.new.self in
     let b = c.apply-in-Ok.new.self in
     let n = c.apply-in-Ok-apply.new.self in
-    let one : Replays (first ∷ []) k a = replays_ok itself first (Ok c.in-Ok.field-0) k a c.in-Ok.ensures.step in
-    let two : Replays (second ∷ []) a b = replays_ok itself second (Ok c.in-Ok-apply.field-0) a b c.in-Ok-apply.ensures.step in
+    let one : Replays (first ∷ []) k a = replays_ok itself first (Ok c.in-Ok.field-0) k a c.in-Ok.ensures.answered.step in
+    let two : Replays (second ∷ []) a b = replays_ok itself second (Ok c.in-Ok-apply.field-0) a b c.in-Ok-apply.ensures.answered.step in
     replays_last (first ∷ second ∷ []) third c.apply-in-Ok-apply.result k b n (replays_then (first ∷ []) (second ∷ []) k a b one two)
-    (replays_ok itself third c.apply-in-Ok-apply.result b n c.apply-in-Ok-apply.ensures.step)
+    (replays_ok itself third c.apply-in-Ok-apply.result b n c.apply-in-Ok-apply.ensures.answered.step)

@@ -6,18 +6,18 @@ did : (c : goal.After-list) → Lists c.args.call.now c.in-Ok.answer (record { k
     (record { kernel = c.apply.new.self; calls = c.list.new.calls.items })
 did c =
     record {
-      accepted = accepts c.args.call.now c.in-Ok.answer c.self.inside.kernel c.apply.new.self c.in-Ok.ensures.step;
+      accepted = accepts c.args.call.now c.in-Ok.answer c.self.inside.kernel c.apply.new.self c.in-Ok.ensures.answered.step;
       listed = entry_listed c.self.inside.calls.items c.reserve.new.self.items c.list.new.calls.items (c.args.call.now, c.in-Ok.answer) c.reserve.ensures.items c.list.ensures;
     }
 
 pub invariant_of-self-in-Ok : goal.invariant_of-self-in-Ok
-invariant_of-self-in-Ok c = listed_again _ _ c.args.call.now c.in-Ok.answer c.in-Ok.ensures.limits c.self.invariant (did c)
+invariant_of-self-in-Ok c = listed_again _ _ c.args.call.now c.in-Ok.answer c.in-Ok.ensures.answered.limits c.self.invariant (did c)
 
 pub returns-in-Ok-clause-listed : goal.returns-in-Ok-clause-listed
 returns-in-Ok-clause-listed c = rw (← c.self.view_is) (did c)
 
 pub returns-in-Err-clause-fault : goal.returns-in-Err-clause-fault
-returns-in-Err-clause-fault c = rw (← c.self.view_is) (fault_again _ _ c.in-Err.fault c.in-Err.ensures.fault)
+returns-in-Err-clause-fault c = rw (← c.self.view_is) (fault_again _ _ c.in-Err.fault c.in-Err.ensures.answered.fault)
 
 pub returns-in-Ok-clause-extends : goal.returns-in-Ok-clause-extends
-returns-in-Ok-clause-extends c = rw (← c.self.view_is) c.in-Ok.ensures.extends
+returns-in-Ok-clause-extends c = rw (← c.self.view_is) c.in-Ok.ensures.answered.extends

@@ -9,10 +9,10 @@ pub invariant_of-self-in-Ok : goal.invariant_of-self-in-Ok
 invariant_of-self-in-Ok c =
     let made : call.Commit (cpu_of c.args.agent.now) c.in-Ok.thread c.args.aseq ≡ call.Commit c.cpu-cpu.result c.in-Ok.thread c.args.aseq = cc c.cpu-cpu.ensures in
     put c.self.inside.kernel c.pick.new.kernel c.self.inside.calls.items c.reserve.new.self.items c.list.new.calls.items _ _ Done made c.reserve.ensures.items
-    c.list.ensures c.in-Ok.ensures.limits c.in-Ok.ensures.kernel c.self.invariant
+    c.list.ensures c.in-Ok.ensures.goes_on.limits c.in-Ok.ensures.kernel c.self.invariant
 
 pub returns-in-Err-clause-picks : goal.returns-in-Err-clause-picks
 returns-in-Err-clause-picks c = rw (← c.self.view_is) c.in-Err.ensures.picks
 
 pub returns-in-Ok-clause-extends : goal.returns-in-Ok-clause-extends
-returns-in-Ok-clause-extends c = rw (← c.self.view_is) c.in-Ok.ensures.extends
+returns-in-Ok-clause-extends c = rw (← c.self.view_is) c.in-Ok.ensures.goes_on.extends

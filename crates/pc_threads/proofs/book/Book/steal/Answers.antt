@@ -11,10 +11,10 @@ use Rattle.pc_threads.proofs.book.Book.steal.Goals as goal
 pub invariant_of-self-in-Ok : goal.invariant_of-self-in-Ok
 invariant_of-self-in-Ok c =
     let number : upto_of (view_of c.args.agent.now) c.in-Ok.thread ≡ c.upto-number.result =
-    ap (λ view. upto_of view c.in-Ok.thread) (sym (c.view.ensures.same ∙ c.in-Ok.ensures.view)) ∙ sym c.upto-number.ensures in
+    ap (λ view. upto_of view c.in-Ok.thread) (sym (c.view.ensures.same ∙ c.in-Ok.ensures.same.view)) ∙ sym c.upto-number.ensures in
     let made : call.Associate c.in-Ok.thread (cpu_of c.args.agent.now) (upto_of (view_of c.args.agent.now) c.in-Ok.thread) ≡ call.Associate c.in-Ok.thread c.cpu-queue.result c.upto-number.result = cc (number, c.cpu-queue.ensures) in
     put c.self.inside.kernel c.steal.new.kernel c.self.inside.calls.items c.reserve.new.self.items c.list.new.calls.items _ _ Done made c.reserve.ensures.items
-    c.list.ensures c.in-Ok.ensures.limits c.in-Ok.ensures.kernel c.self.invariant
+    c.list.ensures c.in-Ok.ensures.goes_on.limits c.in-Ok.ensures.kernel c.self.invariant
 
 pub returns-in-Err-clause-own : goal.returns-in-Err-clause-own
 returns-in-Err-clause-own c _ =
@@ -23,4 +23,4 @@ returns-in-Err-clause-own c _ =
     c.in-Err.ensures.own
 
 pub returns-in-Ok-clause-extends : goal.returns-in-Ok-clause-extends
-returns-in-Ok-clause-extends c = rw (← c.self.view_is) c.in-Ok.ensures.extends
+returns-in-Ok-clause-extends c = rw (← c.self.view_is) c.in-Ok.ensures.goes_on.extends

@@ -8,4 +8,4 @@ returns-in-Ok c =
 
 pub returns-in-Err : goal.returns-in-Err
 returns-in-Err c =
-    pick_refused_by c.runs_go_on.ensures c.args.self.now _ c.args.cpu c.in-Some.place c.index_mut.result.now c.pick.new.self c.in-Some.ensures c.index_mut.ensures.value refl c.args.aseq c.in-Err.refusal c.in-Err.ensures.picks c.in-Err.ensures.err refl
+    pick_refused_by c.runs_go_on.ensures c.args.self.now _ c.args.cpu c.in-Some.place c.index_mut.result.now c.pick.new.self c.in-Some.ensures c.index_mut.ensures.value refl c.args.aseq c.in-Err.refusal c.in-Err.ensures.picks c.in-Err.ensures.goes_on.err refl
