@@ -9,6 +9,7 @@ ghost use Rattle.pc_messages.specs.Items.{AreItemsOf, AreTellable};
 ghost use Rattle.pc_messages.specs.Run.{Extends};
 
 mod agents;
+mod settling;
 
 use pc_calls::{
     Answer, Call, CallFault, EnvCall, LimitField, Limits, LimitsFault, Posted, Refusal,
@@ -16,6 +17,7 @@ use pc_calls::{
 use pc_kernel::Kernel;
 use pc_kernel::laws::{messages_stay_home, sleepers_had_no_post, threads_are_placed};
 use pc_messages::{Cpu, Item};
+pub use settling::{RunFault, settle};
 use std::alloc::Global;
 use std::marker::Model;
 

@@ -6,29 +6,15 @@
 #![tactic(auto)]
 
 mod book;
-mod config;
-mod driver;
-mod gate;
-mod ledgers;
-mod line;
-mod notes;
-mod place;
 mod report;
-mod row;
 mod runner;
-mod settling;
-mod tallied;
-mod turns;
-mod worker;
+mod settings;
 
-pub use book::Book;
-pub use config::{
+pub use book::{Book, RunFault, settle};
+pub use pc_calls::{Answer, Call, CallFault, EnvCall, Limits, LimitsFault, Posted, Refusal};
+pub use report::{LoadReport, Row};
+pub use runner::{Driven, Gate, OpenGate, Point, run_agents};
+pub use settings::{
     Config, ConfigFault, MOST_RESTARTS, MOST_STEPS, MOST_TURN, Restart, Step, ThreadPlan,
     lives_end_in_death, sound_settings_have_no_fault,
 };
-pub use gate::{Driven, Gate, OpenGate, Point};
-pub use pc_calls::{Answer, Call, CallFault, EnvCall, Limits, LimitsFault, Posted, Refusal};
-pub use report::LoadReport;
-pub use row::Row;
-pub use runner::run_agents;
-pub use settling::{RunFault, settle};

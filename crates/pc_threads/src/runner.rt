@@ -11,18 +11,23 @@ ghost use Rattle.pc_threads.specs.Reports.{AddsUp, DoesAll, TellsItsBook};
 ghost use Rattle.pc_threads.specs.Settings.{plan_of, steps_in, ticks};
 ghost use Rattle.pc_threads.specs.Totals.{created_by, in_all, limits_on, told_by};
 
-use crate::book::Book;
-use crate::config::Config;
-use crate::driver::{Progress, count_steps, create_all, drive};
-use crate::gate::Gate;
-use crate::ledgers::{Names, Pool, Purse, Seven};
-use crate::notes::{Lines, Quit};
-use crate::report::LoadReport;
-use crate::row::Row;
-use crate::settling::{RunFault, settle};
-use crate::tallied::Tallied;
-use crate::turns::{Desk, Served, serve};
-use crate::worker::Worker;
+mod driver;
+mod gate;
+mod ledgers;
+mod line;
+mod notes;
+mod place;
+mod tallied;
+mod turns;
+mod worker;
+
+use crate::book::{Book, RunFault, settle};
+use crate::report::{LoadReport, Row};
+use crate::settings::Config;
+use driver::{Progress, count_steps, create_all, drive};
+pub use gate::{Driven, Gate, OpenGate, Point};
+use ledgers::{Names, Pool, Purse, Seven};
+use notes::{Lines, Quit};
 use pc_agent::Agent;
 use pc_calls::{Limits, LimitsFault, MOST_NUMBERS, MOST_POSTS, MOST_ROOM, MOST_THREADS};
 use pc_messages::Cpu;
@@ -34,6 +39,9 @@ use std::sync::ledger::{Blank, Ledger};
 use std::sync::{Mutex, Wait};
 use std::thread;
 use std::thread::{JoinHandle, Scope, Threads};
+use tallied::Tallied;
+use turns::{Desk, Served, serve};
+use worker::Worker;
 
 impl<T: Drop> From<AllocFailed<T>> for RunFault {
     fn from(_: AllocFailed<T>) -> RunFault {
