@@ -4,6 +4,7 @@ ghost use Rattle.std.specs.Prelude.{pos, ◌≡◌, ◌+◌, ◌^◌, ◌<◌, �
 ghost use Rattle.pc_calls.specs.declared.limits.TheConstants.{MOST_CPUS};
 ghost use Rattle.pc_kernel.specs.Reads.{seen};
 ghost use Rattle.pc_agent.specs.Shows.{cpu_of};
+ghost use Rattle.pc_threads.specs.Inner.Blanks.{AreBlanksOf};
 ghost use Rattle.pc_threads.specs.Inner.Driving.{sum_in, told_in};
 ghost use Rattle.pc_threads.specs.Inner.Ends.{HasEnded};
 ghost use Rattle.pc_threads.specs.Inner.Shares.{HasDone, HasPosted, idle};
@@ -26,7 +27,7 @@ use crate::report::{LoadReport, Row};
 use crate::settings::Config;
 use driver::{Progress, count_steps, create_all, drive};
 pub use gate::{Driven, Gate, OpenGate, Point};
-use ledgers::{Names, Pool, Purse, Seven};
+use ledgers::{Names, Pool, Purse, Seven, SharedLedger};
 use notes::{Lines, Quit};
 use pc_agent::Agent;
 use pc_calls::{Limits, LimitsFault, MOST_NUMBERS, MOST_POSTS, MOST_ROOM, MOST_THREADS};
@@ -35,7 +36,7 @@ use pc_view::View;
 use std::alloc::{AllocError, AllocFailed, Global};
 use std::collections::VecDeque;
 use std::marker::Brand;
-use std::sync::ledger::{Blank, Ledger};
+use std::sync::ledger::Blank;
 use std::sync::{Mutex, Wait};
 use std::thread;
 use std::thread::{JoinHandle, Scope, Threads};
@@ -121,7 +122,7 @@ fn take_back<N: Names>(pool: &mut Pool<N>, worker: Worker<N>) -> (Row, View)
 }
 
 /// Starts a thread for each CPU's agent.
-fn start_all<'s, 'e, N: Names + Send + Sync + 's, R: Wait + Sync, G: Gate + Sync>(
+fn start_all<'s, 'e, N: Names + 's, R: Wait + Sync, G: Gate + Sync>(
     scope: &'s Scope<'s, &'e ()>,
     rt: &'s R,
     gate: &'s G,
@@ -130,14 +131,6 @@ fn start_all<'s, 'e, N: Names + Send + Sync + 's, R: Wait + Sync, G: Gate + Sync
     pool: &mut Pool<N>,
     handles: &mut VecDeque<JoinHandle<Served<N>>>,
 ) -> Result<(), RunFault>
-where
-    N::Cpus: Send + Sync,
-    N::Created: Send + Sync,
-    N::Told: Send + Sync,
-    N::Ran: Send + Sync,
-    N::Committed: Send + Sync,
-    N::TakenOver: Send + Sync,
-    N::Consumed: Send + Sync,
     requires agents { pos pool.old.agents ≡ config.now.cpus }
     requires nothing { pool.old ≡ idle pool.old.agents }
     ensures nothing { OnOk result (pool.new ≡ idle 0) }
@@ -200,7 +193,7 @@ fn join_all<N: Names, R: Threads>(
 }
 
 /// Starts the agents and does all steps of all threads.
-fn start_and_drive<'s, 'e, N: Names + Send + Sync + 's, R: Threads + Wait + Sync, G: Gate + Sync>(
+fn start_and_drive<'s, 'e, N: Names + 's, R: Threads + Wait + Sync, G: Gate + Sync>(
     scope: &'s Scope<'s, &'e ()>,
     rt: &'s R,
     gate: &'s G,
@@ -210,14 +203,6 @@ fn start_and_drive<'s, 'e, N: Names + Send + Sync + 's, R: Threads + Wait + Sync
     pool: &mut Pool<N>,
     handles: &mut VecDeque<JoinHandle<Served<N>>>,
 ) -> Result<(), RunFault>
-where
-    N::Cpus: Send + Sync,
-    N::Created: Send + Sync,
-    N::Told: Send + Sync,
-    N::Ran: Send + Sync,
-    N::Committed: Send + Sync,
-    N::TakenOver: Send + Sync,
-    N::Consumed: Send + Sync,
     requires agents { pos pool.old.agents ≡ config.now.cpus }
     requires nothing { pool.old ≡ idle pool.old.agents }
     ensures nothing { OnOk result (pool.new ≡ idle 0) }
@@ -241,7 +226,7 @@ struct Ended<N: Names> {
 }
 
 /// Starts the agents, drives the run to its end, stops the agents and waits for them.
-fn in_scope<'s, 'e, N: Names + Send + Sync + 's, R: Threads + Wait + Sync, G: Gate + Sync>(
+fn in_scope<'s, 'e, N: Names + 's, R: Threads + Wait + Sync, G: Gate + Sync>(
     scope: &'s Scope<'s, &'e ()>,
     rt: &'s R,
     gate: &'s G,
@@ -250,14 +235,6 @@ fn in_scope<'s, 'e, N: Names + Send + Sync + 's, R: Threads + Wait + Sync, G: Ga
     purse: Purse<N>,
     pool: Pool<N>,
 ) -> Result<Ended<N>, RunFault>
-where
-    N::Cpus: Send + Sync,
-    N::Created: Send + Sync,
-    N::Told: Send + Sync,
-    N::Ran: Send + Sync,
-    N::Committed: Send + Sync,
-    N::TakenOver: Send + Sync,
-    N::Consumed: Send + Sync,
     requires agents { pos pool.agents ≡ config.now.cpus }
     requires nothing { pool ≡ idle pool.agents }
     ensures ends { IfOk result (λ ended. HasEnded config.now purse pool ended.purse ended.pool ended.joined) }
@@ -286,7 +263,7 @@ where
 }
 
 /// The threads of a run, from their start to their end.
-fn scoped<N: Names + Send + Sync, R: Threads + Wait + Sync, G: Gate + Sync>(
+fn scoped<N: Names, R: Threads + Wait + Sync, G: Gate + Sync>(
     rt: &R,
     gate: &G,
     config: &Config,
@@ -294,14 +271,6 @@ fn scoped<N: Names + Send + Sync, R: Threads + Wait + Sync, G: Gate + Sync>(
     purse: Purse<N>,
     pool: Pool<N>,
 ) -> Result<Ended<N>, RunFault>
-where
-    N::Cpus: Send + Sync,
-    N::Created: Send + Sync,
-    N::Told: Send + Sync,
-    N::Ran: Send + Sync,
-    N::Committed: Send + Sync,
-    N::TakenOver: Send + Sync,
-    N::Consumed: Send + Sync,
     requires agents { pos pool.agents ≡ config.now.cpus }
     requires nothing { pool ≡ idle pool.agents }
     ensures ends { IfOk result (λ ended. HasEnded config.now purse pool ended.purse ended.pool ended.joined) }
@@ -340,15 +309,8 @@ struct Opened<N: Names> {
 /// Opens the ledgers over a new book.
 fn open<N: Names>(book: Book, cpus: u8, blanks: Blanks) -> Opened<N>
     requires new { (book.calls ≡ []) × (book.kernel.limits ≡ limits_on cpus) }
-    requires cpus { (blanks.cpus.name ≡ N.Cpus.name) × (blanks.cpus.parts ≡ N.Cpus.parts) }
-    requires created { (blanks.created.name ≡ N.Created.name) × (blanks.created.parts ≡ N.Created.parts) }
-    requires told { (blanks.told.name ≡ N.Told.name) × (blanks.told.parts ≡ N.Told.parts) }
-    requires ran { (blanks.ran.name ≡ N.Ran.name) × (blanks.ran.parts ≡ N.Ran.parts) }
-    requires committed { (blanks.committed.name ≡ N.Committed.name) × (blanks.committed.parts ≡ N.Committed.parts) }
-    requires taken_over { (blanks.taken_over.name ≡ N.TakenOver.name) × (blanks.taken_over.parts ≡ N.TakenOver.parts) }
-    requires consumed { (blanks.consumed.name ≡ N.Consumed.name) × (blanks.consumed.parts ≡ N.Consumed.parts) }
-    requires one { (blanks.cpus.parts ≡ 1) × (blanks.created.parts ≡ 1) × (blanks.told.parts ≡ 1) × (blanks.ran.parts ≡ 1) }
-    requires agents { (blanks.taken_over.parts ≡ blanks.committed.parts) × (blanks.consumed.parts ≡ blanks.committed.parts) }
+    requires named { AreBlanksOf N.Cpus.Ledger N.Created.Ledger N.Told.Ledger N.Ran.Ledger
+        N.Committed.Ledger N.TakenOver.Ledger N.Consumed.Ledger blanks }
     ensures nothing { result.pool ≡ idle blanks.committed.parts }
     ensures none { result.purse ≡ record { cpus = cpus; created = 0; told = 0; ran = 0 } }
 {
@@ -398,30 +360,15 @@ fn report_of(alloc: Global, book: Book, joined: Joined) -> Result<LoadReport, Ru
 }
 
 /// A run by these ledgers.
-fn run_named<N: Names + Send + Sync, R: Threads + Wait + Sync, G: Gate + Sync>(
+fn run_named<N: Names, R: Threads + Wait + Sync, G: Gate + Sync>(
     rt: &R,
     alloc: Global,
     config: &Config,
     gate: &G,
     blanks: Blanks,
 ) -> Result<LoadReport, RunFault>
-where
-    N::Cpus: Send + Sync,
-    N::Created: Send + Sync,
-    N::Told: Send + Sync,
-    N::Ran: Send + Sync,
-    N::Committed: Send + Sync,
-    N::TakenOver: Send + Sync,
-    N::Consumed: Send + Sync,
-    requires cpus { (blanks.cpus.name ≡ N.Cpus.name) × (blanks.cpus.parts ≡ N.Cpus.parts) }
-    requires created { (blanks.created.name ≡ N.Created.name) × (blanks.created.parts ≡ N.Created.parts) }
-    requires told { (blanks.told.name ≡ N.Told.name) × (blanks.told.parts ≡ N.Told.parts) }
-    requires ran { (blanks.ran.name ≡ N.Ran.name) × (blanks.ran.parts ≡ N.Ran.parts) }
-    requires committed { (blanks.committed.name ≡ N.Committed.name) × (blanks.committed.parts ≡ N.Committed.parts) }
-    requires taken_over { (blanks.taken_over.name ≡ N.TakenOver.name) × (blanks.taken_over.parts ≡ N.TakenOver.parts) }
-    requires consumed { (blanks.consumed.name ≡ N.Consumed.name) × (blanks.consumed.parts ≡ N.Consumed.parts) }
-    requires one { (blanks.cpus.parts ≡ 1) × (blanks.created.parts ≡ 1) × (blanks.told.parts ≡ 1) × (blanks.ran.parts ≡ 1) }
-    requires agents { (blanks.taken_over.parts ≡ blanks.committed.parts) × (blanks.consumed.parts ≡ blanks.committed.parts) }
+    requires named { AreBlanksOf N.Cpus.Ledger N.Created.Ledger N.Told.Ledger N.Ran.Ledger
+        N.Committed.Ledger N.TakenOver.Ledger N.Consumed.Ledger blanks }
     requires all { pos blanks.committed.parts ≡ config.now.cpus }
     ensures tells { IfOk result TellsItsBook }
     ensures adds_up { IfOk result AddsUp }
@@ -458,25 +405,17 @@ where
 
 /// A run by ledgers that this call picks.
 fn run_with<
-    A: Ledger + Send + Sync,
-    B: Ledger + Send + Sync,
-    C: Ledger + Send + Sync,
-    D: Ledger + Send + Sync,
-    E: Ledger + Send + Sync,
-    F: Ledger + Send + Sync,
-    H: Ledger + Send + Sync,
+    A: SharedLedger,
+    B: SharedLedger,
+    C: SharedLedger,
+    D: SharedLedger,
+    E: SharedLedger,
+    F: SharedLedger,
+    H: SharedLedger,
     R: Threads + Wait + Sync,
     G: Gate + Sync,
 >(rt: &R, alloc: Global, config: &Config, gate: &G, blanks: Blanks) -> Result<LoadReport, RunFault>
-    requires cpus { (blanks.cpus.name ≡ A.name) × (blanks.cpus.parts ≡ A.parts) }
-    requires created { (blanks.created.name ≡ B.name) × (blanks.created.parts ≡ B.parts) }
-    requires told { (blanks.told.name ≡ C.name) × (blanks.told.parts ≡ C.parts) }
-    requires ran { (blanks.ran.name ≡ D.name) × (blanks.ran.parts ≡ D.parts) }
-    requires committed { (blanks.committed.name ≡ E.name) × (blanks.committed.parts ≡ E.parts) }
-    requires taken_over { (blanks.taken_over.name ≡ F.name) × (blanks.taken_over.parts ≡ F.parts) }
-    requires consumed { (blanks.consumed.name ≡ H.name) × (blanks.consumed.parts ≡ H.parts) }
-    requires one { (blanks.cpus.parts ≡ 1) × (blanks.created.parts ≡ 1) × (blanks.told.parts ≡ 1) × (blanks.ran.parts ≡ 1) }
-    requires agents { (blanks.taken_over.parts ≡ blanks.committed.parts) × (blanks.consumed.parts ≡ blanks.committed.parts) }
+    requires named { AreBlanksOf A.Ledger B.Ledger C.Ledger D.Ledger E.Ledger F.Ledger H.Ledger blanks }
     requires all { pos blanks.committed.parts ≡ config.now.cpus }
     ensures tells { IfOk result TellsItsBook }
     ensures adds_up { IfOk result AddsUp }

@@ -3,32 +3,44 @@
 //! Nothing is known of a value under a lock but what its type says. So each thread has a share of what it did itself, and a
 //! share moves in the same section of the lock as the call: who has all shares knows what the book's calls come to.
 
-use std::marker::{Model, PhantomData};
+use std::marker::{Brand, Model, PhantomData};
 use std::sync::ledger::{Ledger, Share};
 
+/// A ledger of which each thread may have shares.
+pub(crate) trait SharedLedger: Ledger + Send + Sync {}
+
+impl SharedLedger for Brand {}
+
 /// The ledgers of a run.
-pub(crate) trait Names {
+pub(crate) trait Names: Send + Sync {
     /// Its CPUs.
-    type Cpus: Ledger;
+    type Cpus: SharedLedger;
     /// Threads created.
-    type Created: Ledger;
+    type Created: SharedLedger;
     /// Messages of threads.
-    type Told: Ledger;
+    type Told: SharedLedger;
     /// Ticks that they tell.
-    type Ran: Ledger;
+    type Ran: SharedLedger;
     /// Threads committed.
-    type Committed: Ledger;
+    type Committed: SharedLedger;
     /// Threads given another queue.
-    type TakenOver: Ledger;
+    type TakenOver: SharedLedger;
     /// Items consumed.
-    type Consumed: Ledger;
+    type Consumed: SharedLedger;
 }
 
 /// Seven ledgers.
 pub(crate) struct Seven<A, B, C, D, E, F, G>(PhantomData<(A, B, C, D, E, F, G)>);
 
-impl<A: Ledger, B: Ledger, C: Ledger, D: Ledger, E: Ledger, F: Ledger, G: Ledger> Names
-    for Seven<A, B, C, D, E, F, G> {
+impl<
+    A: SharedLedger,
+    B: SharedLedger,
+    C: SharedLedger,
+    D: SharedLedger,
+    E: SharedLedger,
+    F: SharedLedger,
+    G: SharedLedger,
+> Names for Seven<A, B, C, D, E, F, G> {
     type Cpus = A;
 
     type Created = B;
