@@ -3,9 +3,9 @@ use Rattle.std.proofs.Common.{ℕ, ℤ, pos, ◌≡◌, ◌+◌, List, [], ◌�
 use Rattle.toml.specs.Data.{Members}
 use Rattle.pc_threads.specs.Settings.{Settings, Plan, faults_of, first_fault}
 use Rattle.pc_threads.specs.declared.settings.config.Config.{Config}
-use Rattle.pc_threads.specs.declared.settings.config.ConfigFault.{ConfigFault}
-use Rattle.pc_threads.specs.declared.settings.config.Restart.{Restart}
-use Rattle.pc_threads.specs.declared.settings.config.Step.{Step}
+use Rattle.pc_threads.specs.declared.settings.faults.ConfigFault.{ConfigFault}
+use Rattle.pc_threads.specs.declared.settings.restarts.Restart.{Restart}
+use Rattle.pc_threads.specs.declared.settings.plans.Step.{Step}
 use Rattle.std.specs.Option.{option_to_list}
 use Rattle.std.specs.List.{cons_option}
 use Rattle.pc_program.specs.StepTexts.{read_step}

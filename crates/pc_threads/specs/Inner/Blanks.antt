@@ -2,7 +2,7 @@
 use Rattle.std.specs.Prelude.{◌≡◌}
 use Rattle.std.specs.declared.sync.ledger.Blank.{Blank}
 use Rattle.std.specs.declared.sync.ledger.Ledger.{Ghosts}
-use Rattle.pc_threads.specs.declared.runner.Blanks.{Blanks}
+use Rattle.pc_threads.specs.declared.runner.opening.Blanks.{Blanks}
 
 -- the blank is to become this ledger
 abbrev pub IsBlankOf : {L : Type 0} → Ghosts L → Blank → Type 0

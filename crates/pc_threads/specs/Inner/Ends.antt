@@ -1,6 +1,6 @@
 -- What the threads of a run leave.
 use Rattle.std.specs.Prelude.{◌≡◌, vec_len}
-use Rattle.pc_threads.specs.declared.runner.Joined.{Joined}
+use Rattle.pc_threads.specs.declared.runner.threads.Joined.{Joined}
 use Rattle.pc_threads.specs.Settings.{Settings, ticks}
 use Rattle.pc_threads.specs.Inner.Driving.{sum_in, told_in}
 use Rattle.pc_threads.specs.Inner.Shares.{Done, HasDone, HasPosted, Spent, idle}

@@ -8,25 +8,17 @@ ghost use Rattle.pc_threads.specs.Settings.{IsPlan, is_block, plan_of, steps_in,
 ghost use Rattle.pc_threads.specs.Totals.{created_by, ran_by, told_by};
 
 use crate::book::RunFault;
+use crate::runner::desk::Desk;
+use crate::runner::faults::Quit;
 use crate::runner::gate::{Driven, Gate};
 use crate::runner::ledgers::{Names, Purse};
-use crate::runner::notes::{Quit, Word};
+use crate::runner::notes::Word;
 use crate::runner::tallied::Tallied;
-use crate::runner::turns::Desk;
 use crate::settings::{Step, ThreadPlan};
 use pc_calls::{CallFault, EnvCall, Posted, Refusal};
 use pc_messages::{Cpu, Tid};
 use std::alloc::{AllocError, Global};
 use std::sync::Wait;
-
-impl From<CallFault> for RunFault {
-    fn from(fault: CallFault) -> RunFault {
-        match fault {
-            CallFault::OutOfMemory => RunFault::OutOfMemory,
-            CallFault::Refused(refusal) => RunFault::Driver(refusal),
-        }
-    }
-}
 
 /// What creates the thread.
 fn creation(plan: &ThreadPlan) -> EnvCall

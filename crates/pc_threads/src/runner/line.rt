@@ -2,7 +2,8 @@
 
 ghost use Rattle.std.specs.Prelude.{◌≡◌, ◌+◌, Result, Ok, Err};
 
-use crate::runner::notes::{Inbox, Quit};
+use crate::runner::faults::Quit;
+use crate::runner::notes::Inbox;
 use pc_agent::{SendFault, Wire};
 use pc_delta::Delta;
 use pc_messages::Cpu;

@@ -1,11 +1,12 @@
 //! What the threads of a run tell each other.
 
+use crate::runner::faults::Quit;
 use crate::runner::place::{Mailbox, Place};
 use crossbeam_channel::{Receiver, SendError, Sender};
 use pc_delta::{Delta, Digest};
 use pc_messages::{Cpu, Phase};
 use pc_view::View;
-use std::alloc::{AllocError, AllocFailed, Global};
+use std::alloc::{AllocError, Global};
 use std::sync::{Arc, Wait};
 
 /// What an agent is told. What several are told is shared by them.
@@ -34,15 +35,6 @@ pub(crate) enum Word {
     Committed(u8),
     /// The agent of the CPU with this index has ended before it was told to.
     Quitted(u8, Quit),
-}
-
-/// Why an agent ends before it is told to.
-#[derive(Clone, Copy, Debug, PartialEq, Eq)]
-pub(crate) enum Quit {
-    /// A growth was refused.
-    OutOfMemory,
-    /// Its gate gave the run up; or its CPU, its items or a channel were not there.
-    GaveUp,
 }
 
 /// What one agent has for another that has not taken it yet.
@@ -305,17 +297,5 @@ impl Lines {
         for inbox in self.inboxes.iter() {
             let _ = inbox.tell(rt, Note::Stop);
         }
-    }
-}
-
-impl<T: Drop> From<AllocFailed<T>> for Quit {
-    fn from(_: AllocFailed<T>) -> Quit {
-        Quit::OutOfMemory
-    }
-}
-
-impl From<AllocError> for Quit {
-    fn from(_: AllocError) -> Quit {
-        Quit::OutOfMemory
     }
 }

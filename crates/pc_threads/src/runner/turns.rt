@@ -4,52 +4,16 @@ ghost use Rattle.std.specs.Prelude.{◌≤◌, IfOk, length};
 ghost use Rattle.pc_calls.specs.declared.limits.TheConstants.{MOST_ROOM};
 ghost use Rattle.pc_messages.specs.Items.{AreTellable};
 
+use crate::runner::desk::Desk;
+use crate::runner::faults::Quit;
 use crate::runner::gate::{Gate, Point};
 use crate::runner::ledgers::Names;
 use crate::runner::line::Line;
-use crate::runner::notes::{Lines, Quit, Told, Word};
-use crate::runner::tallied::Tallied;
+use crate::runner::notes::{Told, Word};
 use crate::runner::worker::Worker;
 use crate::settings::Config;
-use pc_agent::SendFault;
-use pc_calls::CallFault;
-use pc_delta::Digest;
-use pc_join::OutOfMemory;
 use pc_messages::{Cpu, Item};
-use std::alloc::Global;
-use std::sync::{Arc, Mutex, Wait};
-
-/// What all threads of a run share.
-#[derive(Drop)]
-pub(crate) struct Desk<N: Names> {
-    pub(crate) alloc: Global,
-    pub(crate) tallied: Mutex<Tallied<N>>,
-    pub(crate) lines: Lines,
-}
-
-impl From<OutOfMemory> for Quit {
-    fn from(_: OutOfMemory) -> Quit {
-        Quit::OutOfMemory
-    }
-}
-
-impl From<CallFault> for Quit {
-    fn from(fault: CallFault) -> Quit {
-        match fault {
-            CallFault::OutOfMemory => Quit::OutOfMemory,
-            CallFault::Refused(_) => Quit::GaveUp,
-        }
-    }
-}
-
-impl From<SendFault> for Quit {
-    fn from(fault: SendFault) -> Quit {
-        match fault {
-            SendFault::OutOfMemory => Quit::OutOfMemory,
-            SendFault::WireFault => Quit::GaveUp,
-        }
-    }
-}
+use std::sync::{Arc, Wait};
 
 fn pass<G: Gate>(gate: &G, cpu: Cpu, point: Point) -> Result<(), Quit> {
     if gate.pass(cpu, point) {

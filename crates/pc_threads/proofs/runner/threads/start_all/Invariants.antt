@@ -1,6 +1,6 @@
 use Rattle.std.proofs.Common.{◌≡◌, ◌+◌, length}
 use Rattle.pc_threads.specs.Inner.Shares.{idle}
-use Rattle.pc_threads.proofs.runner.start_all.Given as goal
+use Rattle.pc_threads.proofs.runner.threads.start_all.Given as goal
 
 -- so many agents run
 abbrev pub invariant-loop-cpu : goal.invariant-loop-cpu

@@ -2,7 +2,7 @@ use Rattle.std.proofs.Common.{◌∙◌, ap}
 use Rattle.pc_calls.specs.Limits.{bad_field}
 use Rattle.pc_calls.specs.declared.limits.Profile.TheVariants.{One}
 use Rattle.pc_threads.proofs.Reported.{no_bad, no_bad_limit}
-use Rattle.pc_threads.proofs.runner.new_book.Goals as goal
+use Rattle.pc_threads.proofs.runner.opening.new_book.Goals as goal
 
 pub unreachable-requires : goal.unreachable-requires
 unreachable-requires c =

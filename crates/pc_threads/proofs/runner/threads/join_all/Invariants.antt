@@ -1,6 +1,6 @@
 use Rattle.std.proofs.Common.{◌≡◌, ◌+◌, length, vec_len}
 use Rattle.pc_threads.specs.Inner.Shares.{HasDone}
-use Rattle.pc_threads.proofs.runner.join_all.Given as goal
+use Rattle.pc_threads.proofs.runner.threads.join_all.Given as goal
 
 -- so many threads have ended, and their agents came back
 abbrev pub invariant-loop-handle : goal.invariant-loop-handle

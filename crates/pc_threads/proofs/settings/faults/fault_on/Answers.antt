@@ -1,8 +1,8 @@
 use Rattle.std.proofs.Common.{refl, length, min, not, position, take, arith}
 use Rattle.pc_threads.specs.Settings.{is_restart}
-use Rattle.pc_threads.specs.declared.settings.config.TheConstants.{MOST_RESTARTS}
+use Rattle.pc_threads.specs.declared.settings.restarts.TheConstants.{MOST_RESTARTS}
 use Rattle.pc_threads.proofs.Faults.{Looked, thread_told, restart_told, excess_told, nothing_told}
-use Rattle.pc_threads.proofs.settings.config.fault_on.Goals as goal
+use Rattle.pc_threads.proofs.settings.faults.fault_on.Goals as goal
 
 pub returns-in-Some : goal.returns-in-Some
 returns-in-Some c =
