@@ -7,16 +7,18 @@ ghost use Rattle.pc_threads.specs.Inner.Blanks.{AreBlanksOf};
 ghost use Rattle.pc_threads.specs.Reports.{AddsUp, DoesAll, TellsItsBook};
 ghost use Rattle.pc_threads.specs.Totals.{created_by, in_all, told_by};
 
+mod channels;
 mod desk;
 mod driver;
 mod faults;
 mod gate;
+mod inbox;
+mod inbox_wire;
 mod ledgers;
-mod line;
-mod notes;
+mod mailbox;
 mod opening;
-mod place;
 mod scope;
+mod slot;
 mod tallied;
 mod threads;
 mod turns;
@@ -25,11 +27,11 @@ mod worker;
 use crate::book::{Book, RunFault, settle};
 use crate::report::LoadReport;
 use crate::settings::Config;
+use channels::Channels;
 use desk::Desk;
 use driver::create_all;
 pub use gate::{Driven, Gate, OpenGate, Point};
 use ledgers::{Names, Seven, SharedLedger};
-use notes::Lines;
 use opening::{Blanks, Opened, new_book, open};
 use scope::{Ended, scoped};
 use std::alloc::Global;
@@ -77,7 +79,7 @@ fn run_named<N: Names, R: Threads + Wait + Sync, G: Gate + Sync>(
     config.is_sound();
     let cpus = config.cpus();
     let book = new_book(alloc, cpus)?;
-    let lines = Lines::new(alloc, cpus)?;
+    let channels = Channels::new(alloc, cpus)?;
     let Opened {
         mut tallied,
         mut purse,
@@ -87,7 +89,7 @@ fn run_named<N: Names, R: Threads + Wait + Sync, G: Gate + Sync>(
     let desk = Desk {
         alloc,
         tallied: Mutex::new(tallied),
-        lines,
+        channels,
     };
     let Ended {
         purse,
@@ -130,7 +132,7 @@ fn run_with<
 /// The caller's thread is the driver: it creates the threads, does each thread's next step when an agent has committed it, and
 /// wakes it behind a block. Agents send what they read before they remove it, pick, take over where nothing is ready, and
 /// restart where the settings say so. `StartFailed`, `GaveUp` and `Driver` end the run early; then what `settle` tells. Where a
-/// word to the driver, or that a run ends, finds no memory, the run may wait without end.
+/// notice to the driver, or the note that a run ends, finds no memory, the run may wait without end.
 pub fn run_agents<R: Threads + Wait + Sync, G: Gate + Sync>(
     rt: &R,
     alloc: Global,

@@ -1,4 +1,4 @@
-//! What an agent counted in a run.
+//! A report's row of an agent.
 
 ghost use Rattle.std.specs.Prelude.{◌≡◌};
 ghost use Rattle.pc_agent.specs.Shows.{counts_of, cpu_of};
@@ -6,7 +6,7 @@ ghost use Rattle.pc_agent.specs.Shows.{counts_of, cpu_of};
 use pc_agent::Agent;
 use pc_messages::Cpu;
 
-/// What one CPU's agent counted (own).
+/// A report's row: what one CPU's agent counted in the run (own).
 #[derive(Clone, Copy, Debug, PartialEq, Eq)]
 pub struct Row {
     pub cpu: Cpu,

@@ -1,7 +1,7 @@
 //! What the threads of a run share.
 
+use crate::runner::channels::Channels;
 use crate::runner::ledgers::Names;
-use crate::runner::notes::Lines;
 use crate::runner::tallied::Tallied;
 use std::alloc::Global;
 use std::sync::Mutex;
@@ -11,5 +11,5 @@ use std::sync::Mutex;
 pub(crate) struct Desk<N: Names> {
     pub(crate) alloc: Global,
     pub(crate) tallied: Mutex<Tallied<N>>,
-    pub(crate) lines: Lines,
+    pub(crate) channels: Channels,
 }

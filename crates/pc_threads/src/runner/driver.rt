@@ -8,11 +8,11 @@ ghost use Rattle.pc_threads.specs.Settings.{IsPlan, is_block, plan_of, steps_in,
 ghost use Rattle.pc_threads.specs.Totals.{created_by, ran_by, told_by};
 
 use crate::book::RunFault;
+use crate::runner::channels::Notice;
 use crate::runner::desk::Desk;
 use crate::runner::faults::Quit;
 use crate::runner::gate::{Driven, Gate};
 use crate::runner::ledgers::{Names, Purse};
-use crate::runner::notes::Word;
 use crate::runner::tallied::Tallied;
 use crate::settings::{Step, ThreadPlan};
 use pc_calls::{CallFault, EnvCall, Posted, Refusal};
@@ -137,7 +137,7 @@ fn leave<N: Names>(
 /// Tells the agent that the post woke, where it woke one.
 fn tell_woken<N: Names, R: Wait>(rt: &R, desk: &Desk<N>, posted: &Posted) -> Result<(), RunFault> {
     match posted.woken {
-        Some(cpu) => match desk.lines.wake(rt, cpu) {
+        Some(cpu) => match desk.channels.wake(rt, cpu) {
             Ok(()) => Ok(()),
             Err(Quit::OutOfMemory) => Err(RunFault::OutOfMemory),
             Err(Quit::GaveUp) => Err(RunFault::Driver(Refusal::IdleCpu)),
@@ -212,10 +212,10 @@ fn step<N: Names, R: Wait>(
 
 /// The CPU on which a thread was committed, when there is one.
 fn next_commit<N: Names, R: Wait>(rt: &R, desk: &Desk<N>) -> Result<Cpu, RunFault> {
-    match desk.lines.at_driver.recv(rt) {
-        Ok(Word::Committed(cpu)) => Ok(Cpu(cpu)),
-        Ok(Word::Quitted(_, Quit::OutOfMemory)) => Err(RunFault::OutOfMemory),
-        Ok(Word::Quitted(cpu, Quit::GaveUp)) => Err(RunFault::GaveUp(Cpu(cpu))),
+    match desk.channels.at_driver.recv(rt) {
+        Ok(Notice::Committed(cpu)) => Ok(Cpu(cpu)),
+        Ok(Notice::Quitted(_, Quit::OutOfMemory)) => Err(RunFault::OutOfMemory),
+        Ok(Notice::Quitted(cpu, Quit::GaveUp)) => Err(RunFault::GaveUp(Cpu(cpu))),
         Err(_) => Err(RunFault::Driver(Refusal::IdleCpu)),
     }
 }

@@ -3,7 +3,7 @@
 use crate::settings::Step;
 use pc_messages::Cpu;
 
-/// A place of an agent's turn (own).
+/// A point of an agent's turn (own).
 #[derive(Clone, Copy, Debug, PartialEq, Eq)]
 pub enum Point {
     /// The turn begins.

@@ -79,7 +79,7 @@ fn in_scope<'s, 'e, N: Names + 's, R: Threads + Wait + Sync, G: Gate + Sync>(
         &mut pool,
         &mut handles,
     );
-    desk.lines.stop_all(rt);
+    desk.channels.stop_all(rt);
     let joined = join_all(rt, desk.alloc, &mut handles, &mut pool);
     driven?;
     Ok(Ended {

@@ -4,12 +4,13 @@ ghost use Rattle.std.specs.Prelude.{◌≤◌, IfOk, length};
 ghost use Rattle.pc_calls.specs.declared.limits.TheConstants.{MOST_ROOM};
 ghost use Rattle.pc_messages.specs.Items.{AreTellable};
 
+use crate::runner::channels::Notice;
 use crate::runner::desk::Desk;
 use crate::runner::faults::Quit;
 use crate::runner::gate::{Gate, Point};
+use crate::runner::inbox::Received;
+use crate::runner::inbox_wire::InboxWire;
 use crate::runner::ledgers::Names;
-use crate::runner::line::Line;
-use crate::runner::notes::{Told, Word};
 use crate::runner::worker::Worker;
 use crate::settings::Config;
 use pc_messages::{Cpu, Item};
@@ -30,17 +31,17 @@ fn ask_peers<N: Names, R: Wait>(
     worker: &mut Worker<N>,
 ) -> Result<(), Quit> {
     let digest = worker.digest(desk.alloc)?;
-    desk.lines.ask_peers(rt, worker.agent.cpu(), &digest)
+    desk.channels.ask_peers(rt, worker.agent.cpu(), &digest)
 }
 
 /// Starts again, and asks the others.
 fn restart<N: Names, R: Wait>(rt: &R, desk: &Desk<N>, worker: &mut Worker<N>) -> Result<(), Quit> {
     let cpu = worker.agent.cpu();
     desk.tallied.lock(rt).rouse(cpu)?;
-    desk.lines.keep_answers(rt, cpu)?;
+    desk.channels.keep_answers(rt, cpu)?;
     worker.restart();
     let digest = worker.digest(desk.alloc)?;
-    desk.lines.ask_peers_anew(rt, cpu, &digest)
+    desk.channels.ask_peers_anew(rt, cpu, &digest)
 }
 
 /// All that the agent's queue holds, and its count of posts.
@@ -66,7 +67,7 @@ fn publish<N: Names, R: Wait, G: Gate>(
     let delta = worker.copied(items.as_slice())?;
     pass(gate, cpu, Point::Copied)?;
     if !delta.parts().is_empty() {
-        desk.lines.tell_peers(rt, cpu, &Arc::new(desk.alloc, delta)?, worker.agent.view())?;
+        desk.channels.tell_peers(rt, cpu, &Arc::new(desk.alloc, delta)?, worker.agent.view())?;
     }
     worker.sent(items.len() as u32);
     Ok(aseq)
@@ -79,23 +80,23 @@ fn take_note<N: Names, R: Wait>(
     worker: &mut Worker<N>,
 ) -> Result<bool, Quit> {
     let cpu = worker.agent.cpu();
-    let inbox = desk.lines.of(cpu)?;
-    let told = inbox.take(rt)?;
+    let inbox = desk.channels.of(cpu)?;
+    let received = inbox.take(rt)?;
     for delta in inbox.news(rt) {
         worker.deliver(&delta)?;
     }
-    match told {
-        Told::Nothing => Ok(false),
-        Told::Delta(delta) => {
+    match received {
+        Received::Nothing => Ok(false),
+        Received::Delta(delta) => {
             worker.deliver(&delta)?;
             Ok(false)
         }
-        Told::Digest(asker, digest) => {
-            let mut line = Line::new(rt, desk.alloc, desk.lines.of(asker)?, cpu);
-            worker.agent.answer(&digest, &mut line)?;
+        Received::Digest(asker, digest) => {
+            let mut wire = InboxWire::new(rt, desk.alloc, desk.channels.of(asker)?, cpu);
+            worker.agent.answer(&digest, &mut wire)?;
             Ok(false)
         }
-        Told::End => Ok(true),
+        Received::End => Ok(true),
     }
 }
 
@@ -116,7 +117,7 @@ fn turn<N: Names, R: Wait, G: Gate>(
     let acted = desk.tallied.lock(rt).act(worker, aseq)?;
     pass(gate, cpu, Point::Answered)?;
     if acted.committed {
-        desk.lines.report(rt, Word::Committed(cpu.index()))?;
+        desk.channels.report(rt, Notice::Committed(cpu.index()))?;
     }
     if acted.lacks {
         ask_peers(rt, desk, worker)?;
@@ -167,10 +168,10 @@ pub(crate) fn serve<N: Names, R: Wait, G: Gate>(
     let mut worker = worker;
     let quit = turns(rt, gate, config, desk, &mut worker).err();
     if let Some(quit) = quit {
-        // Where even this word finds no memory, the run may wait on.
+        // Where even this notice finds no memory, the run may wait on.
         let _ = desk
-            .lines
-            .report(rt, Word::Quitted(worker.agent.cpu().index(), quit));
+            .channels
+            .report(rt, Notice::Quitted(worker.agent.cpu().index(), quit));
     }
     Served { worker, quit }
 }

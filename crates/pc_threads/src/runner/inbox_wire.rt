@@ -3,7 +3,7 @@
 ghost use Rattle.std.specs.Prelude.{◌≡◌, ◌+◌, Result, Ok, Err};
 
 use crate::runner::faults::Quit;
-use crate::runner::notes::Inbox;
+use crate::runner::inbox::Inbox;
 use pc_agent::{SendFault, Wire};
 use pc_delta::Delta;
 use pc_messages::Cpu;
@@ -12,7 +12,7 @@ use std::sync::{Arc, Wait};
 
 /// The inbox of the one that asks, and the CPU of the one that answers. A send is refused where the channel is disconnected.
 #[derive(Drop)]
-pub(crate) struct Line<'a, R: Wait> {
+pub(crate) struct InboxWire<'a, R: Wait> {
     rt: &'a R,
     alloc: Global,
     inbox: &'a Inbox,
@@ -20,11 +20,11 @@ pub(crate) struct Line<'a, R: Wait> {
     faults: u64,
 }
 
-impl<'a, R: Wait> Line<'a, R> {
-    pub(crate) fn new(rt: &'a R, alloc: Global, inbox: &'a Inbox, cpu: Cpu) -> Line<'a, R>
+impl<'a, R: Wait> InboxWire<'a, R> {
+    pub(crate) fn new(rt: &'a R, alloc: Global, inbox: &'a Inbox, cpu: Cpu) -> InboxWire<'a, R>
         ensures { result.faults ≡ 0 }
     {
-        Line {
+        InboxWire {
             rt,
             alloc,
             inbox,
@@ -34,10 +34,10 @@ impl<'a, R: Wait> Line<'a, R> {
     }
 }
 
-impl<'a, R: Wait> Wire for Line<'a, R> {
+impl<'a, R: Wait> Wire for InboxWire<'a, R> {
     ghost Sends = { λ old delta result new. Unit {0} };
 
-    ghost faults = { λ line. line.faults };
+    ghost faults = { λ wire. wire.faults };
 
     fn send(&mut self, delta: Delta) -> Result<(), SendFault> {
         let Ok(delta) = Arc::new(self.alloc, delta) else {
