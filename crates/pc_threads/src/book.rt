@@ -21,10 +21,11 @@ pub use settling::{RunFault, settle};
 use std::alloc::Global;
 use std::marker::Model;
 
-/// A kernel, with every call that it accepted and what it answered, in their order (own). So whoever holds a book knows how
-/// its kernel came about.
+/// A kernel, with every call that it accepted and what it answered, in their order (own). So whoever holds a book knows
+/// how its kernel came about.
 ///
-/// A refused call is not listed. Each call takes memory for the list before all else; where there is none, nothing changes.
+/// A refused call is not listed. Each call takes memory for the list before all else; where there is none, nothing
+/// changes.
 #[derive(Drop)]
 pub struct Book {
     kernel: Kernel,
@@ -67,16 +68,17 @@ impl Book {
         }
     }
 
-    /// The kernel is where the listed calls lead from the start of its limits, each accepted as listed. It does nothing.
+    /// The kernel is where the listed calls lead from the start of its limits, each accepted as listed. It does
+    /// nothing.
     pub fn is_replay(&self)
         ensures { IsReplay self.now }
     {
         let _ = &self.kernel;
     }
 
-    /// What holds after every list of calls holds of the replay of the listed ones, which the kernel shows: messages that
-    /// were not consumed stay home, threads are placed, and sleepers that their own queue wakes had no post since they slept.
-    /// It does nothing.
+    /// What holds after every list of calls holds of the replay of the listed ones, which the kernel shows: messages
+    /// that were not consumed stay home, threads are placed, and sleepers that their own queue wakes had no post since
+    /// they slept. It does nothing.
     pub fn facts_hold(&self)
         ensures shown { Shows self.now.kernel (replayed self.now) }
         ensures home { (t : ℕ) → IsAtHome (replayed self.now) t }
@@ -103,8 +105,8 @@ impl Book {
         self.calls.as_slice()
     }
 
-    /// The count of posts to the CPU's queue, and all that the queue holds, the oldest first. The items stay, and nothing is
-    /// listed.
+    /// The count of posts to the CPU's queue, and all that the queue holds, the oldest first. The items stay, and
+    /// nothing is listed.
     pub fn peek(&self, cpu: Cpu) -> Result<(u32, Vec<Item>), CallFault>
         ensures posts { IfOk result (λ read. read.0 ≡ aseq_read (seen self.now.kernel) cpu) }
         ensures content { IfOk result (λ read. read.1.items ≡ content_read (seen self.now.kernel) cpu) }

@@ -1,8 +1,8 @@
-//! What agents that run in threads trust together: a kernel with a record of every call that it accepted, and the view of all
-//! that happened, put together from what the agents know in the end.
+//! What agents that run in threads trust together: a kernel with a record of every call that it accepted, and the view
+//! of all that happened, put together from what the agents know in the end.
 //!
-//! What a book is, is defined in `specs/Pages.antt`, what is settled in `specs/Settling.antt`, what can be asked of a run in
-//! `specs/Settings.antt`, and what its report tells in `specs/Reports.antt`.
+//! What a book is, is defined in `specs/Pages.antt`, what is settled in `specs/Settling.antt`, what can be asked of a
+//! run in `specs/Settings.antt`, and what its report tells in `specs/Reports.antt`.
 #![tactic(auto)]
 
 mod book;

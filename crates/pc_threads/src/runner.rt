@@ -126,13 +126,14 @@ fn run_with<
     run_named::<Seven<A, B, C, D, E, F, H>, R, G>(rt, alloc, config, gate, blanks)
 }
 
-/// Runs an agent for each CPU in a thread of its own, over one kernel behind one lock, until all threads are dead; then puts
-/// together what the agents know (own).
+/// Runs an agent for each CPU in a thread of its own, over one kernel behind one lock, until all threads are dead; then
+/// puts together what the agents know (own).
 ///
-/// The caller's thread is the driver: it creates the threads, does each thread's next step when an agent has committed it, and
-/// wakes it behind a block. Agents send what they read before they remove it, pick, take over where nothing is ready, and
-/// restart where the settings say so. `StartFailed`, `GaveUp` and `Driver` end the run early; then what `settle` tells. Where a
-/// notice to the driver, or the note that a run ends, finds no memory, the run may wait without end.
+/// The caller's thread is the driver: it creates the threads, does each thread's next step when an agent has committed
+/// it, and wakes it behind a block. Agents send what they read before they remove it, pick, take over where nothing is
+/// ready, and restart where the settings say so. `StartFailed`, `GaveUp` and `Driver` end the run early; then what
+/// `settle` tells. Where a notice to the driver, or the note that a run ends, finds no memory, the run may wait without
+/// end.
 pub fn run_agents<R: Threads + Wait + Sync, G: Gate + Sync>(
     rt: &R,
     alloc: Global,

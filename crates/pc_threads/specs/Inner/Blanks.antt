@@ -9,8 +9,10 @@ abbrev pub IsBlankOf : {L : Type 0} → Ghosts L → Blank → Type 0
 IsBlankOf ledger blank = (blank.name ≡ ledger.name) × (blank.parts ≡ ledger.parts)
 
 -- the blanks are to become these ledgers: one part of each for the driver, or as many of each as there are agents
-pub record AreBlanksOf {A B C D E F H : Type 0} (cpus : Ghosts A) (created : Ghosts B) (told : Ghosts C) (ran : Ghosts D)
-    (committed : Ghosts E) (taken_over : Ghosts F) (consumed : Ghosts H) (blanks : Blanks) : Type 0 where
+pub record AreBlanksOf {A B C D E F H : Type 0}
+    (cpus : Ghosts A) (created : Ghosts B) (told : Ghosts C) (ran : Ghosts D)
+    (committed : Ghosts E) (taken_over : Ghosts F) (consumed : Ghosts H)
+    (blanks : Blanks) : Type 0 where
   pub cpus_is : IsBlankOf cpus blanks.cpus
   pub created_is : IsBlankOf created blanks.created
   pub told_is : IsBlankOf told blanks.told

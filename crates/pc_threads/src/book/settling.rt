@@ -102,8 +102,8 @@ fn settle_with(alloc: Global, kernel: &Kernel, views: &[View]) -> Result<View, R
 
 /// The view of all that the book's kernel posted, from the views of CPUs 0, 1, ..
 ///
-/// `Audit` with the first CPU whose view is not of the kernel's run; then want of memory; then `Incomplete` with the least
-/// thread with a message that no view knows.
+/// `Audit` with the first CPU whose view is not of the kernel's run; then want of memory; then `Incomplete` with the
+/// least thread with a message that no view knows.
 pub fn settle(alloc: Global, book: &Book, views: &[View]) -> Result<View, RunFault>
     requires few { length views.now ≤ MOST_CPUS }
     ensures settles { Settles (run_of book.now) views.now result }

@@ -18,7 +18,8 @@ pub(crate) enum Notice {
     Quitted(u8, Quit),
 }
 
-/// Whether a thread that the delta tells of may be one for the CPU to take: the view reports it ready and allowed there, or does not know.
+/// Whether a thread that the delta tells of may be one for the CPU to take: the view reports it ready and allowed
+/// there, or does not know.
 fn offers(delta: &Delta, view: &View, cpu: Cpu) -> bool {
     delta.parts().iter().any(|part| match view.thread(part.thread()) {
         Some(known) => match known.reported() {
@@ -63,8 +64,8 @@ impl Channels {
         self.of(cpu)?.tell(rt, Note::Wake)
     }
 
-    /// Leaves every agent but the CPU's what that one has learnt, by which its view is this, and wakes those that may have a thread to
-    /// take.
+    /// Leaves every agent but the CPU's what that one has learnt, by which its view is this, and wakes those that may
+    /// have a thread to take.
     pub(crate) fn tell_peers<R: Wait>(
         &self,
         rt: &R,

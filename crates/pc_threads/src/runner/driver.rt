@@ -58,8 +58,8 @@ pub(crate) struct Progress {
 impl Progress {
     /// No thread has done a step.
     pub(crate) fn new(alloc: Global, plans: &[ThreadPlan]) -> Result<Progress, AllocError>
-        ensures { IfOk result (λ progress. (by : Step → ℕ) →
-            left_of by (map plan_of plans.now) progress.done.items ≡ sum_by (λ plan. sum_by by plan.steps) (map plan_of plans.now)) }
+        ensures { IfOk result (λ progress. (by : Step → ℕ) → left_of by (map plan_of plans.now) progress.done.items
+            ≡ sum_by (λ plan. sum_by by plan.steps) (map plan_of plans.now)) }
     {
         let mut done = Vec::new(alloc);
         done.resize(plans.len(), 0)?;
@@ -68,7 +68,8 @@ impl Progress {
 
     /// The thread's next step, which then is done, if it has one left.
     fn take(&mut self, plans: &[ThreadPlan], thread: Tid) -> Option<Step>
-        ensures { IfSome result (λ step. IsOneFewer (map plan_of plans.now) step self.old.done.items self.new.done.items) }
+        ensures { IfSome result (λ step.
+            IsOneFewer (map plan_of plans.now) step self.old.done.items self.new.done.items) }
     {
         let place = thread.index() as usize;
         if place >= plans.len() || place >= self.done.len() {
@@ -115,7 +116,8 @@ fn leave<N: Names>(
     progress: &mut Progress,
     cpu: Cpu,
 ) -> Result<Left, RunFault>
-    ensures fewer { IfOk result (λ left. IsOneFewer (map plan_of plans.now) left.step progress.old.done.items progress.new.done.items) }
+    ensures fewer { IfOk result (λ left.
+        IsOneFewer (map plan_of plans.now) left.step progress.old.done.items progress.new.done.items) }
     ensures posted { IfOk result (λ left. HasPosted 0 1 (ticks left.step) purse.old purse.new) }
 {
     let Some(thread) = tallied.book.kernel().running(cpu) else {
@@ -170,7 +172,8 @@ fn leave_locked<N: Names, R: Wait>(
     progress: &mut Progress,
     cpu: Cpu,
 ) -> Result<Left, RunFault>
-    ensures fewer { IfOk result (λ left. IsOneFewer (map plan_of plans.now) left.step progress.old.done.items progress.new.done.items) }
+    ensures fewer { IfOk result (λ left.
+        IsOneFewer (map plan_of plans.now) left.step progress.old.done.items progress.new.done.items) }
     ensures posted { IfOk result (λ left. HasPosted 0 1 (ticks left.step) purse.old purse.new) }
 {
     let mut tallied = desk.tallied.lock(rt);
@@ -201,7 +204,8 @@ fn step<N: Names, R: Wait>(
     progress: &mut Progress,
     cpu: Cpu,
 ) -> Result<Step, RunFault>
-    ensures fewer { IfOk result (λ step. IsOneFewer (map plan_of plans.now) step progress.old.done.items progress.new.done.items) }
+    ensures fewer { IfOk result (λ step.
+        IsOneFewer (map plan_of plans.now) step progress.old.done.items progress.new.done.items) }
     ensures posted { IfOk result (λ step. HasPosted 0 (told_in step) (ticks step) purse.old purse.new) }
 {
     let left = leave_locked(rt, plans, desk, purse, progress, cpu)?;

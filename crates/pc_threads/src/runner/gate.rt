@@ -23,8 +23,8 @@ pub struct Driven {
     pub messages: u64,
 }
 
-/// What each agent passes at each point of each of its turns, in its own thread (own). A test holds an agent back here, and a
-/// program ends a run.
+/// What each agent passes at each point of each of its turns, in its own thread (own). A test holds an agent back here,
+/// and a program ends a run.
 pub trait Gate {
     /// The CPU's agent is at the point; false gives the run up.
     fn pass(&self, cpu: Cpu, point: Point) -> bool;

@@ -37,13 +37,15 @@ struct Waiting {
     digest: Slot<Arc<Digest, Global>>,
 }
 
-/// What an agent is told, in the order in which it takes it. Of what another agent asks or answers only the last waits: a later
-/// digest has all that an earlier one had, and since an agent knows no less than before, a later answer tells all that an earlier
-/// one told but for what the asker knew by then. So what waits stays below a bound, however often agents ask. An agent that
-/// starts again knows less, so what it then asks waits behind all that it told, and what it answered before is kept.
+/// What an agent is told, in the order in which it takes it. Of what another agent asks or answers only the last waits:
+/// a later digest has all that an earlier one had, and since an agent knows no less than before, a later answer tells
+/// all that an earlier one told but for what the asker knew by then. So what waits stays below a bound, however often
+/// agents ask. An agent that starts again knows less, so what it then asks waits behind all that it told, and what it
+/// answered before is kept.
 ///
-/// What others have learnt waits in a mailbox, and all of it is taken at once, ahead of each note. It wakes the owner only where it may tell of a
-/// thread to take, or where much waits: a note for each would have each agent do a turn for each message of the run.
+/// What others have learnt waits in a mailbox, and all of it is taken at once, ahead of each note. It wakes the owner
+/// only where it may tell of a thread to take, or where much waits: a note for each would have each agent do a turn for
+/// each message of the run.
 #[derive(Drop)]
 pub(crate) struct Inbox {
     to: Sender<Note>,
@@ -144,8 +146,8 @@ impl Inbox {
         self.tell(rt, Note::Digest(cpu.index(), digest))
     }
 
-    /// What others have learnt and the owner has not taken yet. It is taken ahead of each thing that the owner is told, so that one who has
-    /// started again is answered all that it told before.
+    /// What others have learnt and the owner has not taken yet. It is taken ahead of each thing that the owner is told,
+    /// so that one who has started again is answered all that it told before.
     pub(crate) fn news<R: Wait>(&self, rt: &R) -> Vec<Arc<Delta, Global>> {
         self.news.take(rt)
     }

@@ -10,7 +10,8 @@ use pc_messages::Cpu;
 use std::alloc::Global;
 use std::sync::{Arc, Wait};
 
-/// The inbox of the one that asks, and the CPU of the one that answers. A send is refused where the channel is disconnected.
+/// The inbox of the one that asks, and the CPU of the one that answers. A send is refused where the channel is
+/// disconnected.
 #[derive(Drop)]
 pub(crate) struct InboxWire<'a, R: Wait> {
     rt: &'a R,

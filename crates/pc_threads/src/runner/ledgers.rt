@@ -1,7 +1,8 @@
 //! Who counts what in a run: shares of ledgers, which exist in the proofs alone.
 //!
-//! Nothing is known of a value under a lock but what its type says. So each thread has a share of what it did itself, and a
-//! share moves in the same section of the lock as the call: who has all shares knows what the book's calls come to.
+//! Nothing is known of a value under a lock but what its type says. So each thread has a share of what it did itself,
+//! and a share moves in the same section of the lock as the call: who has all shares knows what the book's calls come
+//! to.
 
 use std::marker::{Brand, Model, PhantomData};
 use std::sync::ledger::{Ledger, Share};
@@ -71,7 +72,8 @@ impl<N: Names> Model for Purse<N> {
 
     ghost Value = { Spent };
 
-    ghost view = { λ p. record { cpus = p.cpus.amount; created = p.created.amount; told = p.told.amount; ran = p.ran.amount } };
+    ghost view = { λ p.
+        record { cpus = p.cpus.amount; created = p.created.amount; told = p.told.amount; ran = p.ran.amount } };
 
     ghost invariant = { λ p. (p.cpus.parts ≡ 1) × (p.created.parts ≡ 1) × (p.told.parts ≡ 1) × (p.ran.parts ≡ 1) };
 }
@@ -90,7 +92,12 @@ impl<N: Names> Model for Pool<N> {
 
     ghost Value = { Done };
 
-    ghost view = { λ p. record { agents = p.committed.parts; committed = p.committed.amount; taken_over = p.taken_over.amount; consumed = p.consumed.amount } };
+    ghost view = { λ p. record {
+      agents = p.committed.parts;
+      committed = p.committed.amount;
+      taken_over = p.taken_over.amount;
+      consumed = p.consumed.amount;
+    } };
 
     ghost invariant = { λ p. (p.taken_over.parts ≡ p.committed.parts) × (p.consumed.parts ≡ p.committed.parts) };
 }

@@ -33,8 +33,8 @@ impl<T: Drop> Mailbox<T> {
         }
     }
 
-    /// Puts this behind what waits, and answers whether the owner is to be told: where this is `urgent` or much waits, and it
-    /// was not told yet.
+    /// Puts this behind what waits, and answers whether the owner is to be told: where this is `urgent` or much waits,
+    /// and it was not told yet.
     pub(crate) fn put<R: Wait>(
         &self,
         rt: &R,

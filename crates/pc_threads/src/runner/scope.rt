@@ -34,7 +34,8 @@ fn start_and_drive<'s, 'e, N: Names + 's, R: Threads + Wait + Sync, G: Gate + Sy
     requires nothing { pool.old ≡ idle pool.old.agents }
     ensures nothing { OnOk result (pool.new ≡ idle 0) }
     ensures started { OnOk result (length handles.new.items ≡ length handles.old.items + pool.old.agents) }
-    ensures posted { OnOk result (HasPosted 0 (sum_in told_in config.now.threads) (sum_in ticks config.now.threads) purse.old purse.new) }
+    ensures posted { OnOk result (HasPosted 0 (sum_in told_in config.now.threads) (sum_in ticks config.now.threads)
+        purse.old purse.new) }
 {
     config.is_sound();
     let plans = config.threads();
@@ -108,7 +109,8 @@ pub(crate) fn scoped<N: Names, R: Threads + Wait + Sync, G: Gate + Sync>(
         |scope| -> Result<Ended<N>, RunFault>
             requires agents { pos pool.agents ≡ config.now.cpus }
             requires nothing { pool ≡ idle pool.agents }
-            ensures ends { IfOk result (λ ended. HasEnded config.entry.now purse pool ended.purse ended.pool ended.joined) }
+            ensures ends { IfOk result (λ ended.
+                HasEnded config.entry.now purse pool ended.purse ended.pool ended.joined) }
         { in_scope(scope, rt, gate, config, desk, purse, pool) },
     )
 }

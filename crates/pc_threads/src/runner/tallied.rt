@@ -67,7 +67,8 @@ fn are_bounded(book: &Book)
 impl<N: Names> Tallied<N> {
     /// Makes the call of the environment, by the driver.
     pub(crate) fn post(&mut self, purse: &mut Purse<N>, call: EnvCall) -> Result<Posted, CallFault>
-        ensures { OnOk result (HasPosted (created_by (Env call)) (told_by (Env call)) (ran_by (Env call)) purse.old purse.new) }
+        ensures { OnOk result (HasPosted (created_by (Env call)) (told_by (Env call)) (ran_by (Env call))
+            purse.old purse.new) }
     {
         let weights = weights_of(&call);
         let posted = self.book.post(call)?;

@@ -84,8 +84,8 @@ pub(crate) struct Joined {
     pub(crate) views: Vec<View>,
 }
 
-/// Waits for every thread to end. The first agent by CPUs that ended before it was told to, or that met a fault in the end, has
-/// its fault told.
+/// Waits for every thread to end. The first agent by CPUs that ended before it was told to, or that met a fault in the
+/// end, has its fault told.
 pub(crate) fn join_all<N: Names, R: Threads>(
     rt: &R,
     alloc: Global,

@@ -37,7 +37,8 @@ impl Config {
     ) -> Result<Config, ConfigFault>
         ensures ok { IfOk result (λ _. first_fault (faults_of (asked cpus threads.items restarts.items)) ≡ None) }
         ensures keeps { IfOk result (λ config. config ≡ asked cpus threads.items restarts.items) }
-        ensures answers { IfErr result (λ fault. first_fault (faults_of (asked cpus threads.items restarts.items)) ≡ Some fault) }
+        ensures answers { IfErr result (λ fault.
+            first_fault (faults_of (asked cpus threads.items restarts.items)) ≡ Some fault) }
     {
         let Some(cpus) = count_of_cpus(cpus) else {
             return Err(ConfigFault::BadCpus);

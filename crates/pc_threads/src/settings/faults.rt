@@ -21,7 +21,8 @@ pub enum ConfigFault {
     /// The thread at this place, the first such one: its queue, its mask or its steps.
     #[error("the thread at place {0} cannot be asked for")]
     BadThread(usize),
-    /// The restart at this place, the first such one: its CPU, its turn, its want of a peer, or that it is one too many.
+    /// The restart at this place, the first such one: its CPU, its turn, its want of a peer, or that it is one too
+    /// many.
     #[error("the restart at place {0} cannot be asked for")]
     BadRestart(usize),
 }

@@ -74,7 +74,8 @@ pub(crate) fn bad_thread(cpus: u8, threads: &[ThreadPlan]) -> Option<usize>
     threads.iter().position(|plan| !is_thread(cpus, plan))
 }
 
-/// The steps of a thread are accepted exactly where there are 1 to 1,000, the last is a die and no other is. It does nothing.
+/// The steps of a thread are accepted exactly where there are 1 to 1,000, the last is a die and no other is. It does
+/// nothing.
 pub fn lives_end_in_death()
     ensures { LivesEndInDeath }
 {}
