@@ -31,12 +31,12 @@ use channels::Channels;
 use desk::Desk;
 use driver::create_all;
 pub use gate::{Driven, Gate, OpenGate, Point};
-use ledgers::{Names, Seven, SharedLedger};
+use ledgers::{Names, Seven};
 use opening::{Blanks, Opened, new_book, open};
 use scope::{Ended, scoped};
 use std::alloc::Global;
 use std::marker::Brand;
-use std::sync::ledger::Blank;
+use std::sync::ledger::{Blank, Ledger};
 use std::sync::{Mutex, Wait};
 use std::thread::Threads;
 use threads::Joined;
@@ -61,13 +61,21 @@ fn report_of(alloc: Global, book: Book, joined: Joined) -> Result<LoadReport, Ru
 }
 
 /// A run by these ledgers.
-fn run_named<N: Names, R: Threads + Wait + Sync, G: Gate + Sync>(
+fn run_named<N: Names + Send + Sync, R: Threads + Wait + Sync, G: Gate + Sync>(
     rt: &R,
     alloc: Global,
     config: &Config,
     gate: &G,
     blanks: Blanks,
 ) -> Result<LoadReport, RunFault>
+where
+    N::Cpus: Send + Sync,
+    N::Created: Send + Sync,
+    N::Told: Send + Sync,
+    N::Ran: Send + Sync,
+    N::Committed: Send + Sync,
+    N::TakenOver: Send + Sync,
+    N::Consumed: Send + Sync,
     requires named { AreBlanksOf N.Cpus.Ledger N.Created.Ledger N.Told.Ledger N.Ran.Ledger
         N.Committed.Ledger N.TakenOver.Ledger N.Consumed.Ledger blanks }
     requires all { pos blanks.committed.parts ≡ config.now.cpus }
@@ -106,13 +114,13 @@ fn run_named<N: Names, R: Threads + Wait + Sync, G: Gate + Sync>(
 
 /// A run by ledgers that this call picks.
 fn run_with<
-    A: SharedLedger,
-    B: SharedLedger,
-    C: SharedLedger,
-    D: SharedLedger,
-    E: SharedLedger,
-    F: SharedLedger,
-    H: SharedLedger,
+    A: Ledger + Send + Sync,
+    B: Ledger + Send + Sync,
+    C: Ledger + Send + Sync,
+    D: Ledger + Send + Sync,
+    E: Ledger + Send + Sync,
+    F: Ledger + Send + Sync,
+    H: Ledger + Send + Sync,
     R: Threads + Wait + Sync,
     G: Gate + Sync,
 >(rt: &R, alloc: Global, config: &Config, gate: &G, blanks: Blanks) -> Result<LoadReport, RunFault>

@@ -4,44 +4,32 @@
 //! and a share moves in the same section of the lock as the call: who has all shares knows what the book's calls come
 //! to.
 
-use std::marker::{Brand, Model, PhantomData};
+use std::marker::{Model, PhantomData};
 use std::sync::ledger::{Ledger, Share};
 
-/// A ledger of which each thread may have shares.
-pub(crate) trait SharedLedger: Ledger + Send + Sync {}
-
-impl SharedLedger for Brand {}
-
 /// The ledgers of a run.
-pub(crate) trait Names: Send + Sync {
+pub(crate) trait Names {
     /// Its CPUs.
-    type Cpus: SharedLedger;
+    type Cpus: Ledger;
     /// Threads created.
-    type Created: SharedLedger;
+    type Created: Ledger;
     /// Messages of threads.
-    type Told: SharedLedger;
+    type Told: Ledger;
     /// Ticks that they tell.
-    type Ran: SharedLedger;
+    type Ran: Ledger;
     /// Threads committed.
-    type Committed: SharedLedger;
+    type Committed: Ledger;
     /// Threads given another queue.
-    type TakenOver: SharedLedger;
+    type TakenOver: Ledger;
     /// Items consumed.
-    type Consumed: SharedLedger;
+    type Consumed: Ledger;
 }
 
 /// Seven ledgers.
 pub(crate) struct Seven<A, B, C, D, E, F, G>(PhantomData<(A, B, C, D, E, F, G)>);
 
-impl<
-    A: SharedLedger,
-    B: SharedLedger,
-    C: SharedLedger,
-    D: SharedLedger,
-    E: SharedLedger,
-    F: SharedLedger,
-    G: SharedLedger,
-> Names for Seven<A, B, C, D, E, F, G> {
+impl<A: Ledger, B: Ledger, C: Ledger, D: Ledger, E: Ledger, F: Ledger, G: Ledger> Names
+    for Seven<A, B, C, D, E, F, G> {
     type Cpus = A;
 
     type Created = B;

@@ -20,7 +20,7 @@ use std::thread;
 use std::thread::{JoinHandle, Scope, Threads};
 
 /// Starts the agents and does all steps of all threads.
-fn start_and_drive<'s, 'e, N: Names + 's, R: Threads + Wait + Sync, G: Gate + Sync>(
+fn start_and_drive<'s, 'e, N: Names + Send + Sync + 's, R: Threads + Wait + Sync, G: Gate + Sync>(
     scope: &'s Scope<'s, &'e ()>,
     rt: &'s R,
     gate: &'s G,
@@ -30,6 +30,14 @@ fn start_and_drive<'s, 'e, N: Names + 's, R: Threads + Wait + Sync, G: Gate + Sy
     pool: &mut Pool<N>,
     handles: &mut VecDeque<JoinHandle<Served<N>>>,
 ) -> Result<(), RunFault>
+where
+    N::Cpus: Send + Sync,
+    N::Created: Send + Sync,
+    N::Told: Send + Sync,
+    N::Ran: Send + Sync,
+    N::Committed: Send + Sync,
+    N::TakenOver: Send + Sync,
+    N::Consumed: Send + Sync,
     requires agents { pos pool.old.agents ≡ config.now.cpus }
     requires nothing { pool.old ≡ idle pool.old.agents }
     ensures nothing { OnOk result (pool.new ≡ idle 0) }
@@ -54,7 +62,7 @@ pub(crate) struct Ended<N: Names> {
 }
 
 /// Starts the agents, drives the run to its end, stops the agents and waits for them.
-fn in_scope<'s, 'e, N: Names + 's, R: Threads + Wait + Sync, G: Gate + Sync>(
+fn in_scope<'s, 'e, N: Names + Send + Sync + 's, R: Threads + Wait + Sync, G: Gate + Sync>(
     scope: &'s Scope<'s, &'e ()>,
     rt: &'s R,
     gate: &'s G,
@@ -63,6 +71,14 @@ fn in_scope<'s, 'e, N: Names + 's, R: Threads + Wait + Sync, G: Gate + Sync>(
     purse: Purse<N>,
     pool: Pool<N>,
 ) -> Result<Ended<N>, RunFault>
+where
+    N::Cpus: Send + Sync,
+    N::Created: Send + Sync,
+    N::Told: Send + Sync,
+    N::Ran: Send + Sync,
+    N::Committed: Send + Sync,
+    N::TakenOver: Send + Sync,
+    N::Consumed: Send + Sync,
     requires agents { pos pool.agents ≡ config.now.cpus }
     requires nothing { pool ≡ idle pool.agents }
     ensures ends { IfOk result (λ ended. HasEnded config.now purse pool ended.purse ended.pool ended.joined) }
@@ -91,7 +107,7 @@ fn in_scope<'s, 'e, N: Names + 's, R: Threads + Wait + Sync, G: Gate + Sync>(
 }
 
 /// The threads of a run, from their start to their end.
-pub(crate) fn scoped<N: Names, R: Threads + Wait + Sync, G: Gate + Sync>(
+pub(crate) fn scoped<N: Names + Send + Sync, R: Threads + Wait + Sync, G: Gate + Sync>(
     rt: &R,
     gate: &G,
     config: &Config,
@@ -99,6 +115,14 @@ pub(crate) fn scoped<N: Names, R: Threads + Wait + Sync, G: Gate + Sync>(
     purse: Purse<N>,
     pool: Pool<N>,
 ) -> Result<Ended<N>, RunFault>
+where
+    N::Cpus: Send + Sync,
+    N::Created: Send + Sync,
+    N::Told: Send + Sync,
+    N::Ran: Send + Sync,
+    N::Committed: Send + Sync,
+    N::TakenOver: Send + Sync,
+    N::Consumed: Send + Sync,
     requires agents { pos pool.agents ≡ config.now.cpus }
     requires nothing { pool ≡ idle pool.agents }
     ensures ends { IfOk result (λ ended. HasEnded config.now purse pool ended.purse ended.pool ended.joined) }

@@ -53,7 +53,7 @@ fn take_back<N: Names>(pool: &mut Pool<N>, worker: Worker<N>) -> (Row, View)
 }
 
 /// Starts a thread for each CPU's agent.
-pub(crate) fn start_all<'s, 'e, N: Names + 's, R: Wait + Sync, G: Gate + Sync>(
+pub(crate) fn start_all<'s, 'e, N: Names + Send + Sync + 's, R: Wait + Sync, G: Gate + Sync>(
     scope: &'s Scope<'s, &'e ()>,
     rt: &'s R,
     gate: &'s G,
@@ -62,6 +62,14 @@ pub(crate) fn start_all<'s, 'e, N: Names + 's, R: Wait + Sync, G: Gate + Sync>(
     pool: &mut Pool<N>,
     handles: &mut VecDeque<JoinHandle<Served<N>>>,
 ) -> Result<(), RunFault>
+where
+    N::Cpus: Send + Sync,
+    N::Created: Send + Sync,
+    N::Told: Send + Sync,
+    N::Ran: Send + Sync,
+    N::Committed: Send + Sync,
+    N::TakenOver: Send + Sync,
+    N::Consumed: Send + Sync,
     requires agents { pos pool.old.agents ≡ config.now.cpus }
     requires nothing { pool.old ≡ idle pool.old.agents }
     ensures nothing { OnOk result (pool.new ≡ idle 0) }
