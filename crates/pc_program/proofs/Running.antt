@@ -3,7 +3,7 @@ use Rattle.std.proofs.Common.{◌≡◌, Option, Some, None, Ok, subst}
 use Rattle.toml.specs.Data.{Members}
 use Rattle.pc_threads.specs.Reports.{DoesAll}
 use Rattle.pc_threads.specs.Settings.{Settings}
-use Rattle.pc_threads.specs.declared.config.Config.{Config}
+use Rattle.pc_threads.specs.declared.settings.config.Config.{Config}
 use Rattle.pc_threads.specs.declared.report.LoadReport.{LoadReport}
 use Rattle.pc_program.specs.Runs.{DoesWhatIsSpelled}
 use Rattle.pc_program.specs.SettingsText.{Reads}

@@ -8,8 +8,8 @@ use Rattle.std.proofs.lemmas.Fmt.{digits_value-decimal}
 use Rattle.std.proofs.lemmas.Slice.Eq.{bytes_eq-Decides}
 use Rattle.pc_messages.proofs.Bools.{both, first_true, second_true}
 use Rattle.pc_script.proofs.Numerals.{own}
-use Rattle.pc_threads.specs.declared.config.Step.{Step}
-use Rattle.pc_threads.specs.declared.config.Step.TheVariants.{Yield, Block, Preempt, Die}
+use Rattle.pc_threads.specs.declared.settings.plans.Step.{Step}
+use Rattle.pc_threads.specs.declared.settings.plans.Step.TheVariants.{Yield, Block, Preempt, Die}
 use Rattle.pc_program.specs.StepTexts.{first_step, read_number, read_after, read_step, step_text, StepsAreReadAsWritten}
 use Rattle.pc_threads.specs.Settings.{ticks}
 

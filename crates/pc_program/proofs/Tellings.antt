@@ -2,10 +2,10 @@
 use Rattle.std.proofs.Common.{ℕ, ℤ, pos, ◌≡◌, ◌+◌, List, [], ◌∷◌, ◌++◌, map, flat_map, filter_map, Option, Some, None, Result, Ok, Err, ok_or, unwrap_or, option_map, codes, append-nil, refl, sym, ap, ◌∙◌, subst, inl, inr}
 use Rattle.toml.specs.Data.{Members}
 use Rattle.pc_threads.specs.Settings.{Settings, Plan, faults_of, first_fault}
-use Rattle.pc_threads.specs.declared.config.Config.{Config}
-use Rattle.pc_threads.specs.declared.config.ConfigFault.{ConfigFault}
-use Rattle.pc_threads.specs.declared.config.Restart.{Restart}
-use Rattle.pc_threads.specs.declared.config.Step.{Step}
+use Rattle.pc_threads.specs.declared.settings.config.Config.{Config}
+use Rattle.pc_threads.specs.declared.settings.faults.ConfigFault.{ConfigFault}
+use Rattle.pc_threads.specs.declared.settings.restarts.Restart.{Restart}
+use Rattle.pc_threads.specs.declared.settings.plans.Step.{Step}
 use Rattle.std.specs.Option.{option_to_list}
 use Rattle.std.specs.List.{cons_option}
 use Rattle.pc_program.specs.StepTexts.{read_step}

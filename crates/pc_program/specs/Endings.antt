@@ -4,9 +4,9 @@ use Rattle.pc_script.specs.declared.outcome.Outcome.{Outcome}
 use Rattle.pc_script.specs.declared.outcome.Outcome.TheVariants as outcome
 use Rattle.pc_script.specs.declared.outcome.ScriptFault.{ScriptFault}
 use Rattle.pc_script.specs.declared.outcome.ScriptFault.TheVariants as fault
-use Rattle.pc_threads.specs.declared.config.ConfigFault.TheVariants as config
-use Rattle.pc_threads.specs.declared.settling.RunFault.{RunFault}
-use Rattle.pc_threads.specs.declared.settling.RunFault.TheVariants as run
+use Rattle.pc_threads.specs.declared.settings.faults.ConfigFault.TheVariants as config
+use Rattle.pc_threads.specs.declared.book.settling.RunFault.{RunFault}
+use Rattle.pc_threads.specs.declared.book.settling.RunFault.TheVariants as run
 use Rattle.pc_program.specs.declared.ending.BadSettings.{BadSettings}
 use Rattle.pc_program.specs.declared.ending.BadSettings.TheVariants as bad
 use Rattle.pc_program.specs.declared.ending.Unsettled.{Unsettled}

@@ -1,6 +1,6 @@
 -- The line by which a person at a terminal sees that a run goes on.
 use Rattle.std.specs.Prelude.{ℕ, List, ◌∷◌, ◌++◌, ◌+◌, ◌≤◌, codes, decimal}
-use Rattle.pc_threads.specs.declared.gate.Driven.{Driven}
+use Rattle.pc_threads.specs.declared.runner.gate.Driven.{Driven}
 use Rattle.pc_program.specs.declared.progress.TheConstants.{MESSAGES_BETWEEN}
 
 -- how many threads are dead, of all, and how many messages their steps posted

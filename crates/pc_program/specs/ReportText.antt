@@ -3,7 +3,7 @@ use Rattle.std.specs.Prelude.{ℕ, List, [], ◌∷◌, ◌++◌, Option, codes,
 use Rattle.std.specs.Io.KnownBytes.{Appends}
 use Rattle.pc_chart.specs.Reports.{IsPictureOfReport}
 use Rattle.pc_threads.specs.declared.report.LoadReport.{LoadReport}
-use Rattle.pc_threads.specs.declared.row.Row.{Row}
+use Rattle.pc_threads.specs.declared.report.row.Row.{Row}
 use Rattle.pc_program.specs.declared.report.ReportForm.{ReportForm}
 use Rattle.pc_program.specs.declared.report.ReportForm.TheVariants.{Totals, EachCpu, Picture}
 

@@ -3,8 +3,8 @@ use Rattle.std.specs.Prelude.{ℕ, ℤ, pos, ◌≡◌, ◌+◌, ◌⊎◌, List
 use Rattle.std.specs.Option.{option_map_or}
 use Rattle.toml.specs.Data.{Data, Items, no_items, item, Members, get_member, as_integer, as_str, as_array, as_table}
 use Rattle.pc_threads.specs.Settings.{Settings, Plan, faults_of, first_fault}
-use Rattle.pc_threads.specs.declared.config.Config.{Config}
-use Rattle.pc_threads.specs.declared.config.Restart.{Restart}
+use Rattle.pc_threads.specs.declared.settings.config.Config.{Config}
+use Rattle.pc_threads.specs.declared.settings.restarts.Restart.{Restart}
 use Rattle.pc_program.specs.StepTexts.{read_step}
 use Rattle.pc_program.specs.declared.settings.Field.{Field}
 use Rattle.pc_program.specs.declared.settings.Field.TheVariants as field

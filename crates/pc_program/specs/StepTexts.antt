@@ -2,8 +2,8 @@
 use Rattle.std.specs.Prelude.{ℕ, ◌≡◌, ◌^◌, ◌<◌, ◌↔◌, ◌&&◌, List, [], ◌∷◌, ◌++◌, length, take, drop, nat_lt, Option, Some, None, option_map, if◌then◌else◌, bytes_eq, codes, decimal}
 use Rattle.std.specs.Str.Parse.{digits_value}
 use Rattle.pc_threads.specs.Settings.{ticks}
-use Rattle.pc_threads.specs.declared.config.Step.{Step}
-use Rattle.pc_threads.specs.declared.config.Step.TheVariants.{Yield, Block, Preempt, Die}
+use Rattle.pc_threads.specs.declared.settings.plans.Step.{Step}
+use Rattle.pc_threads.specs.declared.settings.plans.Step.TheVariants.{Yield, Block, Preempt, Die}
 
 -- how a step is written: its name, a space, and for how many ticks the thread ran
 abbrev pub step_name : Step → List ℕ

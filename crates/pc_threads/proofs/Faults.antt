@@ -3,11 +3,11 @@ use Rattle.std.proofs.Common.{ℕ, ◌≡◌, ◌+◌, ◌<◌, ◌≤◌, Bool,
 use Rattle.std.proofs.lemmas.List.{length-map, take_min}
 use Rattle.std.specs.List.{prefix_len}
 use Rattle.pc_calls.specs.declared.limits.TheConstants.{MOST_CPUS, MOST_THREADS}
-use Rattle.pc_threads.specs.declared.config.TheConstants.{MOST_RESTARTS}
-use Rattle.pc_threads.specs.declared.config.ThreadPlan.{ThreadPlan}
-use Rattle.pc_threads.specs.declared.config.Restart.{Restart}
-use Rattle.pc_threads.specs.declared.config.ConfigFault.{ConfigFault}
-use Rattle.pc_threads.specs.declared.config.ConfigFault.TheVariants.{BadCpus, TooManyThreads, BadThread, BadRestart}
+use Rattle.pc_threads.specs.declared.settings.restarts.TheConstants.{MOST_RESTARTS}
+use Rattle.pc_threads.specs.declared.settings.plans.ThreadPlan.{ThreadPlan}
+use Rattle.pc_threads.specs.declared.settings.restarts.Restart.{Restart}
+use Rattle.pc_threads.specs.declared.settings.faults.ConfigFault.{ConfigFault}
+use Rattle.pc_threads.specs.declared.settings.faults.ConfigFault.TheVariants.{BadCpus, TooManyThreads, BadThread, BadRestart}
 use Rattle.pc_threads.specs.Settings.{Settings, plan_of, is_thread, is_restart, faults_of, faults_on, first_fault, fault_if, is_between}
 
 -- nothing is told by what is not there

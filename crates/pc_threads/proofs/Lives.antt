@@ -7,9 +7,9 @@ use Rattle.std.proofs.lemmas.List.Quantifiers.{position-Some}
 use Rattle.std.proofs.lemmas.List.Sums.{position_or_len_is}
 use Rattle.std.proofs.Math.Seq.{take-length, get_or-append_seam}
 use Rattle.pc_messages.proofs.Bools.{both, first_true, second_true}
-use Rattle.pc_threads.specs.declared.config.TheConstants.{MOST_STEPS}
-use Rattle.pc_threads.specs.declared.config.Step.{Step}
-use Rattle.pc_threads.specs.declared.config.Step.TheVariants.{Yield, Block, Preempt, Die}
+use Rattle.pc_threads.specs.declared.settings.plans.TheConstants.{MOST_STEPS}
+use Rattle.pc_threads.specs.declared.settings.plans.Step.{Step}
+use Rattle.pc_threads.specs.declared.settings.plans.Step.TheVariants.{Yield, Block, Preempt, Die}
 use Rattle.pc_threads.specs.Settings.{is_die, is_life, IsLife, LivesEndInDeath}
 
 died : (step : Step) → is_die step ≡ true → (ticks : ℕ) × (step ≡ Die ticks)

@@ -14,8 +14,8 @@ use Rattle.pc_thread_view.specs.Told.{Told}
 use Rattle.pc_view.specs.declared.view.View.{View}
 use Rattle.pc_view.specs.Prefixes.{reported_in, state_told, upto_of, upto_told}
 use Rattle.pc_view.specs.Views.{IsOfRun, pairs_in, pairs_of, thread_of}
-use Rattle.pc_threads.specs.declared.settling.RunFault.{RunFault}
-use Rattle.pc_threads.specs.declared.settling.RunFault.TheVariants.{Audit, Driver, GaveUp, Incomplete, OutOfMemory, StartFailed}
+use Rattle.pc_threads.specs.declared.book.settling.RunFault.{RunFault}
+use Rattle.pc_threads.specs.declared.book.settling.RunFault.TheVariants.{Audit, Driver, GaveUp, Incomplete, OutOfMemory, StartFailed}
 use Rattle.pc_threads.specs.Inner.Merging.{IsFirstShort, ReachesAll}
 use Rattle.pc_threads.specs.Settling.{AreOfRun, AreWhole, IsLeastLacking, IsViewOfAll, Settles, pairs_of_all}
 

@@ -4,9 +4,9 @@ use Rattle.std.specs.Option.{option_map}
 use Rattle.std.proofs.Math.ListN.{set}
 use Rattle.std.proofs.lemmas.Option.{slice_get-map}
 use Rattle.std.proofs.lemmas.List.Sums.{sum_by-cons, sum_by-le}
-use Rattle.pc_threads.specs.declared.config.Step.{Step}
-use Rattle.pc_threads.specs.declared.config.ThreadPlan.{ThreadPlan}
-use Rattle.pc_threads.specs.declared.config.TheConstants.{MOST_STEPS}
+use Rattle.pc_threads.specs.declared.settings.plans.Step.{Step}
+use Rattle.pc_threads.specs.declared.settings.plans.ThreadPlan.{ThreadPlan}
+use Rattle.pc_threads.specs.declared.settings.plans.TheConstants.{MOST_STEPS}
 use Rattle.pc_threads.specs.Settings.{IsPlan, IsSound, Plan, Settings, is_block, messages_in, messages_of, plan_of, ran_in, steps_in, ticks}
 use Rattle.pc_threads.specs.Inner.Driving.{IsOneFewer, left_of, one, sum_in, told_in}
 use Rattle.pc_threads.specs.Inner.Shares.{HasPosted, Spent}

@@ -1,3 +1,4 @@
+pub mod Blanks
 pub mod Driving
 pub mod Ends
 pub mod Merging

@@ -2,13 +2,14 @@
 use Rattle.std.specs.Prelude.{ℕ, ℤ, pos, nat_abs, ◌≡◌, ◌+◌, ◌^◌, ◌==◌, ◌≤◌, ◌<◌, ◌↔◌, Bool, true, false, not, ◌&&◌, nat_le, nat_lt, int_le, int_lt, if◌then◌else◌, List, [], ◌∷◌, ◌++◌, length, map, take, position, All, sum_by, count_by, Option, Some, None, option_map}
 use Rattle.std.specs.Option.{option_map_or}
 use Rattle.pc_calls.specs.declared.limits.TheConstants.{MOST_CPUS, MOST_THREADS}
-use Rattle.pc_threads.specs.declared.config.TheConstants.{MOST_STEPS, MOST_RESTARTS, MOST_TURN}
-use Rattle.pc_threads.specs.declared.config.Step.{Step}
-use Rattle.pc_threads.specs.declared.config.Step.TheVariants.{Yield, Block, Preempt, Die}
-use Rattle.pc_threads.specs.declared.config.ThreadPlan.{ThreadPlan}
-use Rattle.pc_threads.specs.declared.config.Restart.{Restart}
-use Rattle.pc_threads.specs.declared.config.ConfigFault.{ConfigFault}
-use Rattle.pc_threads.specs.declared.config.ConfigFault.TheVariants.{BadCpus, TooManyThreads, BadThread, BadRestart}
+use Rattle.pc_threads.specs.declared.settings.plans.TheConstants.{MOST_STEPS}
+use Rattle.pc_threads.specs.declared.settings.restarts.TheConstants.{MOST_RESTARTS, MOST_TURN}
+use Rattle.pc_threads.specs.declared.settings.plans.Step.{Step}
+use Rattle.pc_threads.specs.declared.settings.plans.Step.TheVariants.{Yield, Block, Preempt, Die}
+use Rattle.pc_threads.specs.declared.settings.plans.ThreadPlan.{ThreadPlan}
+use Rattle.pc_threads.specs.declared.settings.restarts.Restart.{Restart}
+use Rattle.pc_threads.specs.declared.settings.faults.ConfigFault.{ConfigFault}
+use Rattle.pc_threads.specs.declared.settings.faults.ConfigFault.TheVariants.{BadCpus, TooManyThreads, BadThread, BadRestart}
 
 -- a thread's first queue, the CPUs that it may run on, and its steps in order
 pub record Plan : Type 0 where

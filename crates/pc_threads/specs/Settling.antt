@@ -5,8 +5,8 @@ use Rattle.pc_messages.specs.Run.{Run}
 use Rattle.pc_join.specs.Sets.{Members, IsSameSet}
 use Rattle.pc_view.specs.declared.view.View.{View}
 use Rattle.pc_view.specs.Views.{IsOfRun, pairs_in, pairs_of}
-use Rattle.pc_threads.specs.declared.settling.RunFault.{RunFault}
-use Rattle.pc_threads.specs.declared.settling.RunFault.TheVariants.{Audit, Driver, GaveUp, Incomplete, OutOfMemory, StartFailed}
+use Rattle.pc_threads.specs.declared.book.settling.RunFault.{RunFault}
+use Rattle.pc_threads.specs.declared.book.settling.RunFault.TheVariants.{Audit, Driver, GaveUp, Incomplete, OutOfMemory, StartFailed}
 
 -- the messages that some view knows
 abbrev pub pairs_of_all : List View → Members

@@ -7,6 +7,7 @@ ghost use Rattle.pc_calls.specs.declared.limits.Profile.TheVariants as profile;
 ghost use Rattle.pc_messages.specs.Run.{Extends};
 
 mod agents;
+mod settling;
 
 use pc_calls::{
     Answer, Call, CallFault, EnvCall, LimitField, Limits, LimitsFault, Posted, Refusal,
@@ -14,13 +15,15 @@ use pc_calls::{
 use pc_kernel::Kernel;
 use pc_kernel::laws::{messages_stay_home, sleepers_had_no_post, threads_are_placed};
 use pc_messages::{Cpu, Item};
+pub use settling::{RunFault, settle};
 use std::alloc::Global;
 use std::marker::Model;
 
-/// A kernel, with every call that it accepted and what it answered, in their order (own). So whoever holds a book knows how
-/// its kernel came about.
+/// A kernel, with every call that it accepted and what it answered, in their order (own). So whoever holds a book knows
+/// how its kernel came about.
 ///
-/// A refused call is not listed. Each call takes memory for the list before all else; where there is none, nothing changes.
+/// A refused call is not listed. Each call takes memory for the list before all else; where there is none, nothing
+/// changes.
 #[derive(Drop)]
 pub struct Book {
     kernel: Kernel,
@@ -64,16 +67,17 @@ impl Book {
         }
     }
 
-    /// The kernel is where the listed calls lead from the start of its limits, each accepted as listed. It does nothing.
+    /// The kernel is where the listed calls lead from the start of its limits, each accepted as listed. It does
+    /// nothing.
     pub fn is_replay(&self)
         ensures { IsReplay self.now }
     {
         let _ = &self.kernel;
     }
 
-    /// What holds after every list of calls holds of the replay of the listed ones, which the kernel shows: messages that
-    /// were not consumed stay home, threads are placed, and sleepers that their own queue wakes had no post since they slept.
-    /// It does nothing.
+    /// What holds after every list of calls holds of the replay of the listed ones, which the kernel shows: messages
+    /// that were not consumed stay home, threads are placed, and sleepers that their own queue wakes had no post since
+    /// they slept. It does nothing.
     pub fn facts_hold(&self)
         ensures shown { Shows self.now.kernel (replayed self.now) }
         ensures home { (t : ℕ) → IsAtHome (replayed self.now) t }
@@ -100,8 +104,8 @@ impl Book {
         self.calls.as_slice()
     }
 
-    /// The count of posts to the CPU's queue, and all that the queue holds, the oldest first. The items stay, and nothing is
-    /// listed.
+    /// The count of posts to the CPU's queue, and all that the queue holds, the oldest first. The items stay, and
+    /// nothing is listed.
     pub fn peek(&self, cpu: Cpu) -> Result<(u32, Vec<Item>), CallFault>
         ensures posts { IfOk result (λ read. read.0 ≡ aseq_read (seen self.now.kernel) cpu) }
         ensures queued { IfOk result (λ read. AreQueued self.now.kernel cpu read.1.items) }

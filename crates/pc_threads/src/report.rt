@@ -4,11 +4,14 @@ ghost use Rattle.std.specs.Prelude.{◌≡◌, ◌<◌, ◌≤◌, ◌*◌, ◌-
 ghost use Rattle.pc_kernel.specs.Reads.{seen};
 ghost use Rattle.pc_threads.specs.Totals.{committed_by, in_all, ran_by, told_by};
 
+mod row;
+mod weights;
+
 use crate::book::Book;
-use crate::row::Row;
-use crate::tallied::weights_of;
 use pc_calls::{Answer, Call};
 use pc_view::View;
+pub use row::Row;
+pub(crate) use weights::weights_of;
 
 /// What a run came to (own).
 #[derive(Drop)]

@@ -5,9 +5,9 @@ use Rattle.toml.specs.Data.{Members, no_members, as_str, as_table}
 use Rattle.toml.specs.View.{view}
 use Rattle.toml.specs.declared.value.Value.{Value}
 use Rattle.pc_threads.specs.Settings.{Settings, Plan, faults_of, first_fault}
-use Rattle.pc_threads.specs.declared.config.ConfigFault.{ConfigFault}
-use Rattle.pc_threads.specs.declared.config.Restart.{Restart}
-use Rattle.pc_threads.specs.declared.config.Step.{Step}
+use Rattle.pc_threads.specs.declared.settings.faults.ConfigFault.{ConfigFault}
+use Rattle.pc_threads.specs.declared.settings.restarts.Restart.{Restart}
+use Rattle.pc_threads.specs.declared.settings.plans.Step.{Step}
 use Rattle.pc_program.specs.StepTexts.{read_step}
 use Rattle.pc_program.specs.SettingsText.{integer_at, tables_at, texts_at}
 use Rattle.pc_program.specs.declared.settings.Field.TheVariants as field

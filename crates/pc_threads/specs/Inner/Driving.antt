@@ -2,8 +2,8 @@
 use Rattle.std.specs.Prelude.{ℕ, ◌+◌, ◌≡◌, List, [], ◌∷◌, drop, sum_by, if◌then◌else◌}
 use Rattle.pc_calls.specs.declared.call.EnvCall.{EnvCall}
 use Rattle.pc_calls.specs.declared.call.EnvCall.TheVariants.{YieldNow, Block, Preempt, Die}
-use Rattle.pc_threads.specs.declared.config.Step.{Step}
-use Rattle.pc_threads.specs.declared.config.Step.TheVariants as step
+use Rattle.pc_threads.specs.declared.settings.plans.Step.{Step}
+use Rattle.pc_threads.specs.declared.settings.plans.Step.TheVariants as step
 use Rattle.pc_threads.specs.Settings.{Plan, is_block}
 
 -- by how many steps each thread has done

@@ -1,6 +1,6 @@
 -- What shares of ledgers have counted.
 use Rattle.std.specs.Prelude.{ℕ, ◌+◌, ◌≡◌, List, length, sum_by}
-use Rattle.pc_threads.specs.declared.row.Row.{Row}
+use Rattle.pc_threads.specs.declared.report.row.Row.{Row}
 
 -- what the driver has: its CPUs, and the threads, messages of threads and ticks that it posted
 pub record Spent : Type 0 where

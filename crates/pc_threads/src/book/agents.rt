@@ -46,10 +46,11 @@ impl Book {
         }
     }
 
-    /// The agent commits the first thread of its run list that the kernel accepts, under the count of posts that it read.
+    /// The agent commits the first thread of its run list that the kernel accepts, under the count of posts that it
+    /// read.
     ///
-    /// A refused pick raises a count of the agent, and empties its run list where it is `NothingReady`. Without memory for the
-    /// list the agent is not asked, and is as it was.
+    /// A refused pick raises a count of the agent, and empties its run list where it is `NothingReady`. Without memory
+    /// for the list the agent is not asked, and is as it was.
     pub fn pick(&mut self, agent: &mut Agent, aseq: u32) -> Result<Tid, CallFault>
         ensures listed { IfOk result (λ thread. Lists (call.Commit (cpu_of agent.old) thread aseq) Done self.old self.new) }
         ensures picks { IfSome (answered result) (λ answer. WhateverShown self.old.kernel agent.old (λ P run p.
@@ -78,8 +79,8 @@ impl Book {
 
     /// The agent takes over the least thread that it may.
     ///
-    /// A refused steal raises a count of the agent. Want of memory changes nothing, whether it is for the list or for the
-    /// agent's run list.
+    /// A refused steal raises a count of the agent. Want of memory changes nothing, whether it is for the list or for
+    /// the agent's run list.
     pub fn steal(&mut self, agent: &mut Agent) -> Result<Tid, CallFault>
         ensures listed { IfOk result (λ thread.
             Lists (takes_up_to (upto_of (view_of agent.old)) (cpu_of agent.old) thread) Done self.old self.new) }

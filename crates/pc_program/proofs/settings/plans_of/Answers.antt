@@ -1,7 +1,7 @@
 use Rattle.std.proofs.Common.{◌≡◌, ◌⊎◌, [], ◌∷◌, List, Ok, Err, inl, inr, sym, ap, ◌∙◌, map, rules}
 use Rattle.std.proofs.lemmas.List.{map-append}
 use Rattle.pc_threads.specs.Settings.{Plan, plan_of}
-use Rattle.pc_threads.specs.declared.config.Step.{Step}
+use Rattle.pc_threads.specs.declared.settings.plans.Step.{Step}
 use Rattle.pc_program.specs.declared.settings.SettingsFault.TheVariants.{OutOfMemory}
 use Rattle.pc_program.specs.declared.settings.draft.Draft.{Draft}
 use Rattle.pc_program.specs.Inner.Drafts.{told}

@@ -1,5 +1,0 @@
-use Rattle.pc_threads.proofs.Lives.{lives_end}
-use Rattle.pc_threads.proofs.config.lives_end_in_death.Goals as goal
-
-pub returns : goal.returns
-returns c = lives_end

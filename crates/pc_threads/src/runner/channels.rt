@@ -1,0 +1,141 @@
+//! What the threads of a run tell each other.
+
+use crate::runner::faults::Quit;
+use crate::runner::inbox::{Inbox, Note};
+use crossbeam_channel::{Receiver, SendError, Sender};
+use pc_delta::{Delta, Digest};
+use pc_messages::{Cpu, Phase};
+use pc_view::View;
+use std::alloc::{AllocError, Global};
+use std::sync::{Arc, Wait};
+
+/// What the driver is told.
+#[derive(Clone, Copy, Debug, PartialEq, Eq)]
+pub(crate) enum Notice {
+    /// A thread was committed on the CPU with this index.
+    Committed(u8),
+    /// The agent of the CPU with this index has ended before it was told to.
+    Quitted(u8, Quit),
+}
+
+/// Whether a thread that the delta tells of may be one for the CPU to take: the view reports it ready and allowed
+/// there, or does not know.
+fn offers(delta: &Delta, view: &View, cpu: Cpu) -> bool {
+    delta.parts().iter().any(|part| match view.thread(part.thread()) {
+        Some(known) => match known.reported() {
+            Some(state) => state.phase == Phase::Ready && state.mask.allows(cpu),
+            None => true,
+        },
+        None => true,
+    })
+}
+
+/// The channels of a run. All their ends are kept until every thread has ended.
+#[derive(Drop)]
+pub(crate) struct Channels {
+    /// By CPUs.
+    inboxes: Vec<Inbox>,
+    to_driver: Sender<Notice>,
+    pub(crate) at_driver: Receiver<Notice>,
+}
+
+impl Channels {
+    /// The channels of so many agents.
+    pub(crate) fn new(alloc: Global, cpus: u8) -> Result<Channels, AllocError> {
+        let mut inboxes = Vec::with_capacity(alloc, cpus as usize)?;
+        for _ in 0..cpus {
+            inboxes.push(Inbox::new(alloc, cpus)?)?;
+        }
+        let (to_driver, at_driver) = crossbeam_channel::unbounded(alloc)?;
+        Ok(Channels {
+            inboxes,
+            to_driver,
+            at_driver,
+        })
+    }
+
+    /// The inbox of the CPU's agent.
+    pub(crate) fn of(&self, cpu: Cpu) -> Result<&Inbox, Quit> {
+        self.inboxes.get(cpu.index() as usize).ok_or(Quit::GaveUp)
+    }
+
+    /// Tells the CPU's agent that its queue was posted to.
+    pub(crate) fn wake<R: Wait>(&self, rt: &R, cpu: Cpu) -> Result<(), Quit> {
+        self.of(cpu)?.tell(rt, Note::Wake)
+    }
+
+    /// Leaves every agent but the CPU's what that one has learnt, by which its view is this, and wakes those that may
+    /// have a thread to take.
+    pub(crate) fn tell_peers<R: Wait>(
+        &self,
+        rt: &R,
+        cpu: Cpu,
+        delta: &Arc<Delta, Global>,
+        view: &View,
+    ) -> Result<(), Quit> {
+        for place in 0..self.inboxes.len() {
+            if place != cpu.index() as usize {
+                let urgent = match u8::try_from(place) {
+                    Ok(index) => offers(delta, view, Cpu(index)),
+                    Err(_) => true,
+                };
+                self.inboxes[place].inform(rt, Arc::try_clone(delta)?, urgent)?;
+            }
+        }
+        Ok(())
+    }
+
+    /// Asks every agent but the CPU's for what that one lacks.
+    pub(crate) fn ask_peers<R: Wait>(
+        &self,
+        rt: &R,
+        cpu: Cpu,
+        digest: &Arc<Digest, Global>,
+    ) -> Result<(), Quit> {
+        for place in 0..self.inboxes.len() {
+            if place != cpu.index() as usize {
+                self.inboxes[place].ask(rt, cpu, Arc::try_clone(digest)?)?;
+            }
+        }
+        Ok(())
+    }
+
+    /// Asks every agent but the CPU's for what that one lacks, which has started again.
+    pub(crate) fn ask_peers_anew<R: Wait>(
+        &self,
+        rt: &R,
+        cpu: Cpu,
+        digest: &Arc<Digest, Global>,
+    ) -> Result<(), Quit> {
+        for place in 0..self.inboxes.len() {
+            if place != cpu.index() as usize {
+                self.inboxes[place].ask_anew(rt, cpu, Arc::try_clone(digest)?)?;
+            }
+        }
+        Ok(())
+    }
+
+    /// Has all that the CPU's agent answered and that waits stay, before that agent forgets what it knows.
+    pub(crate) fn keep_answers<R: Wait>(&self, rt: &R, cpu: Cpu) -> Result<(), Quit> {
+        for place in 0..self.inboxes.len() {
+            self.inboxes[place].keep_answer(rt, cpu)?;
+        }
+        Ok(())
+    }
+
+    /// Tells the driver.
+    pub(crate) fn report<R: Wait>(&self, rt: &R, notice: Notice) -> Result<(), Quit> {
+        match self.to_driver.send(rt, notice) {
+            Ok(()) => Ok(()),
+            Err(SendError::OutOfMemory(_)) => Err(Quit::OutOfMemory),
+            Err(SendError::Disconnected(_)) => Err(Quit::GaveUp),
+        }
+    }
+
+    /// Tells all agents to end. One for whose note there is no memory may wait on.
+    pub(crate) fn stop_all<R: Wait>(&self, rt: &R) {
+        for inbox in self.inboxes.iter() {
+            let _ = inbox.tell(rt, Note::Stop);
+        }
+    }
+}

@@ -1,0 +1,102 @@
+//! The book of a new run, and its ledgers.
+
+ghost use Rattle.std.specs.Prelude.{◌≡◌, ◌≤◌, [], IfOk};
+ghost use Rattle.pc_calls.specs.declared.limits.TheConstants.{MOST_CPUS};
+ghost use Rattle.pc_threads.specs.Inner.Blanks.{AreBlanksOf};
+ghost use Rattle.pc_threads.specs.Inner.Shares.{idle};
+ghost use Rattle.pc_threads.specs.Totals.{limits_on};
+
+use crate::book::{Book, RunFault};
+use crate::runner::ledgers::{Names, Pool, Purse};
+use crate::runner::tallied::Tallied;
+use pc_calls::{Limits, LimitsFault, MOST_NUMBERS, MOST_POSTS, MOST_ROOM, MOST_THREADS};
+use std::alloc::Global;
+use std::sync::ledger::Blank;
+
+/// The limits of a run on so many CPUs.
+fn limits_of(cpus: u8) -> Limits
+    ensures { result ≡ limits_on cpus }
+{
+    Limits {
+        cpus,
+        threads: MOST_THREADS,
+        numbers: MOST_NUMBERS,
+        room: MOST_ROOM,
+        posts: MOST_POSTS,
+    }
+}
+
+/// The book of a run on so many CPUs.
+pub(crate) fn new_book(alloc: Global, cpus: u8) -> Result<Book, RunFault>
+    requires some { 1 ≤ cpus }
+    requires few { cpus ≤ MOST_CPUS }
+    ensures nothing { IfOk result (λ book. book.calls ≡ []) }
+    ensures limits { IfOk result (λ book. book.kernel.limits ≡ limits_on cpus) }
+{
+    match Book::new(alloc, limits_of(cpus)) {
+        Ok(book) => Ok(book),
+        Err(LimitsFault::OutOfMemory) => Err(RunFault::OutOfMemory),
+        Err(LimitsFault::BadLimits(_)) => unreachable!(),
+    }
+}
+
+/// Seven ledgers that no type stands for yet.
+#[derive(Drop)]
+pub(crate) struct Blanks {
+    pub(crate) cpus: Blank,
+    pub(crate) created: Blank,
+    pub(crate) told: Blank,
+    pub(crate) ran: Blank,
+    pub(crate) committed: Blank,
+    pub(crate) taken_over: Blank,
+    pub(crate) consumed: Blank,
+}
+
+/// The book of a run that has not begun, with the shares of all that may happen.
+#[derive(Drop)]
+pub(crate) struct Opened<N: Names> {
+    pub(crate) tallied: Tallied<N>,
+    pub(crate) purse: Purse<N>,
+    pub(crate) pool: Pool<N>,
+}
+
+/// Opens the ledgers over a new book.
+pub(crate) fn open<N: Names>(book: Book, cpus: u8, blanks: Blanks) -> Opened<N>
+    requires new { (book.calls ≡ []) × (book.kernel.limits ≡ limits_on cpus) }
+    requires named { AreBlanksOf N.Cpus.Ledger N.Created.Ledger N.Told.Ledger N.Ran.Ledger
+        N.Committed.Ledger N.TakenOver.Ledger N.Consumed.Ledger blanks }
+    ensures nothing { result.pool ≡ idle blanks.committed.parts }
+    ensures none { result.purse ≡ record { cpus = cpus; created = 0; told = 0; ran = 0 } }
+{
+    let (mut all_cpus, mut cpus_share) = blanks.cpus.open::<N::Cpus>();
+    let (created, created_share) = blanks.created.open::<N::Created>();
+    let (told, told_share) = blanks.told.open::<N::Told>();
+    let (ran, ran_share) = blanks.ran.open::<N::Ran>();
+    let (committed, committed_share) = blanks.committed.open::<N::Committed>();
+    let (taken_over, taken_over_share) = blanks.taken_over.open::<N::TakenOver>();
+    let (consumed, consumed_share) = blanks.consumed.open::<N::Consumed>();
+    all_cpus.add(&mut cpus_share, cpus as u64);
+    Opened {
+        tallied: Tallied {
+            book,
+            cpus: all_cpus,
+            created,
+            told,
+            ran,
+            committed,
+            taken_over,
+            consumed,
+        },
+        purse: Purse {
+            cpus: cpus_share,
+            created: created_share,
+            told: told_share,
+            ran: ran_share,
+        },
+        pool: Pool {
+            committed: committed_share,
+            taken_over: taken_over_share,
+            consumed: consumed_share,
+        },
+    }
+}
