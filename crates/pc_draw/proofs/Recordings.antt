@@ -1,5 +1,5 @@
 -- What a recording keeps of a whole script.
-use Rattle.std.proofs.Common.{◌≡◌, ℕ, suc, ◌+◌, Bool, true, false, List, [], ◌∷◌, ◌++◌, map, length, cond, refl, sym, ap, ◌∙◌, subst, Option, Some, None, IfSome, Result, Ok, Err, arith, length-append}
+use Rattle.std.proofs.Common.{◌≡◌, ℕ, suc, ◌+◌, Bool, true, false, List, [], ◌∷◌, ◌++◌, map, length, cond, if◌then◌else◌, refl, sym, ap, ◌∙◌, subst, Option, Some, None, IfSome, Result, Ok, Err, arith, length-append}
 use Rattle.std.specs.Io.KnownBytes.{Appends}
 use Rattle.std.specs.Prelude.{count_by}
 use Rattle.std.proofs.lemmas.List.Sums.{sum_by-append}
@@ -15,31 +15,8 @@ use Rattle.pc_script.specs.declared.outcome.Outcome.TheVariants.{Finished, Fault
 use Rattle.pc_script.specs.declared.response.Response.{Response}
 use Rattle.pc_session.specs.Session.{Session, IsRun, IsSession, none, one_more}
 use Rattle.pc_draw.specs.Inner.Recorded.{Records, is_answer, is_refusal, end_by}
+use Rattle.pc_draw.specs.Inner.Told.{count_both, end_both}
 use Rattle.pc_draw.specs.Pictures.{IsPictureOf, refuses, refused_among, script_title}
-
--- ---- notices, and then others
-
-end_both : (notices further : List Notice) (outcome : Outcome) → end_by (notices ++ further) outcome ≡ end_by further (end_by notices outcome)
-end_both [] further outcome = refl
-end_both (version_two ∷ notices) further outcome = end_both notices further outcome
-end_both (answered response ∷ notices) further outcome = end_both notices further outcome
-end_both (faulted number ∷ notices) further outcome = end_both notices further (FaultLine number)
-
-count_both : (test : Notice → Bool) (notices further : List Notice) → count_by test (notices ++ further) ≡ count_by test notices + count_by test further
-count_both test notices further = sum_by-append (λ notice. cond (test notice) 1 0) notices further
-
-pub records_none : (kept refused : ℕ) (outcome : Outcome) → Records [] kept refused outcome kept refused outcome
-records_none kept refused outcome = record { kept_is = omega arith; refused_is = omega arith; outcome_is = refl }
-
-pub records_both : (notices further : List Notice) {kept refused kept_now refused_now kept_then refused_then : ℕ} {outcome outcome_now outcome_then : Outcome}
-    → Records notices kept refused outcome kept_now refused_now outcome_now
-    → Records further kept_now refused_now outcome_now kept_then refused_then outcome_then
-    → Records (notices ++ further) kept refused outcome kept_then refused_then outcome_then
-records_both notices further {outcome} h k = record {
-  kept_is = omega (arith, h.kept_is, k.kept_is, count_both is_answer notices further);
-  refused_is = omega (arith, h.refused_is, k.refused_is, count_both is_refusal notices further);
-  outcome_is = k.outcome_is ∙ ap (end_by further) h.outcome_is ∙ sym (end_both notices further outcome);
-}
 
 -- ---- one notice
 
@@ -65,24 +42,46 @@ records_answer response {refused} one more same = record {
 
 answers_kept : (responses : List Response) → count_by is_answer (map answered responses) ≡ length responses
 answers_kept [] = refl
-answers_kept (response ∷ responses) = omega (arith, answers_kept responses)
+answers_kept (response ∷ responses) = omega (arith, count_both is_answer (answered response ∷ []) (map answered responses), answers_kept responses)
 
 refusals_kept : (responses : List Response) → count_by is_refusal (map answered responses) ≡ refused_among responses
 refusals_kept [] = refl
-refusals_kept (response ∷ responses) = ap (λ n. n + cond (refuses response) 1 0) (refusals_kept responses)
+refusals_kept (response ∷ responses) =
+    count_both is_refusal (answered response ∷ []) (map answered responses)
+    ∙ ap (λ n. count_by refuses (response ∷ []) + n) (refusals_kept responses)
+    ∙ sym (sum_by-append (λ r. cond (refuses r) 1 0) (response ∷ []) responses)
+
+-- what names the version, and what tells of a fault, is no answer
+no_opening : (test : Notice → Bool) → test version_two ≡ false → (profile : Profile) → count_by test (opening_notices profile) ≡ 0
+no_opening test h One = refl
+no_opening test h Two = ap (λ b. 0 + cond b 1 0) h
+
+no_outcome : (test : Notice → Bool) → ((number : ℕ) → test (faulted number) ≡ false) → (outcome : Outcome) → count_by test (outcome_notices outcome) ≡ 0
+no_outcome test h Finished = refl
+no_outcome test h (FaultLine number) = ap (λ b. 0 + cond b 1 0) (h number)
 
 -- what is recorded of a run's notices
 kept_of : (profile : Profile) (responses : List Response) (outcome : Outcome) → count_by is_answer (answer_notices profile responses ++ outcome_notices outcome) ≡ length responses
-kept_of One responses Finished = omega (arith, count_both is_answer (map answered responses) [], answers_kept responses)
-kept_of One responses (FaultLine number) = omega (arith, count_both is_answer (map answered responses) (faulted number ∷ []), answers_kept responses)
-kept_of Two responses Finished = omega (arith, count_both is_answer (map answered responses) [], answers_kept responses)
-kept_of Two responses (FaultLine number) = omega (arith, count_both is_answer (map answered responses) (faulted number ∷ []), answers_kept responses)
+kept_of profile responses outcome =
+    omega (
+      arith,
+      count_both is_answer (answer_notices profile responses) (outcome_notices outcome),
+      count_both is_answer (opening_notices profile) (map answered responses),
+      answers_kept responses,
+      no_opening is_answer refl profile,
+      no_outcome is_answer (λ n. refl) outcome,
+    )
 
 refused_of : (profile : Profile) (responses : List Response) (outcome : Outcome) → count_by is_refusal (answer_notices profile responses ++ outcome_notices outcome) ≡ refused_among responses
-refused_of One responses Finished = omega (arith, count_both is_refusal (map answered responses) [], refusals_kept responses)
-refused_of One responses (FaultLine number) = omega (arith, count_both is_refusal (map answered responses) (faulted number ∷ []), refusals_kept responses)
-refused_of Two responses Finished = omega (arith, count_both is_refusal (map answered responses) [], refusals_kept responses)
-refused_of Two responses (FaultLine number) = omega (arith, count_both is_refusal (map answered responses) (faulted number ∷ []), refusals_kept responses)
+refused_of profile responses outcome =
+    omega (
+      arith,
+      count_both is_refusal (answer_notices profile responses) (outcome_notices outcome),
+      count_both is_refusal (opening_notices profile) (map answered responses),
+      refusals_kept responses,
+      no_opening is_refusal refl profile,
+      no_outcome is_refusal (λ n. refl) outcome,
+    )
 
 end_answers : (responses : List Response) (outcome : Outcome) → end_by (map answered responses) outcome ≡ outcome
 end_answers [] outcome = refl
@@ -140,3 +139,18 @@ whole_drawn None text outcome ended kept refused before after profile responses 
 whole_drawn (Some bytes) text outcome ended kept refused before after profile responses is runs recorded drawn =
     subst (λ t. (written : List ℕ) × IsPictureOf IsSession t outcome written × Appends before after written) (sym is)
     (drawn_of text outcome ended kept refused before after profile responses runs recorded drawn)
+
+-- of a recording that began with nothing
+pub drawn_from_nothing : (known : Option (List ℕ)) (text : List ℕ) (outcome ended first : Outcome) (no_kept no_refused kept refused : ℕ) (before after : Option (List ℕ)) (profile : Profile) (responses : List Response)
+    → (no_kept ≡ 0) × (no_refused ≡ 0) × (first ≡ Finished)
+    → IfSome known (λ bytes. bytes ≡ text) → IsRunOf IsSession (lines text) outcome profile responses
+    → Records (answer_notices profile responses ++ outcome_notices outcome) no_kept no_refused first kept refused ended
+    → Pictures (script_title kept refused ended) before after
+    → IfSome known (λ bytes. (written : List ℕ) × IsPictureOf IsSession bytes outcome written × Appends before after written)
+drawn_from_nothing known text outcome ended first no_kept no_refused kept refused before after profile responses (a, b, c) is runs recorded drawn =
+    let from_nothing : Records (answer_notices profile responses ++ outcome_notices outcome) 0 0 Finished kept refused ended = record {
+      kept_is = omega (arith, a, recorded.kept_is);
+      refused_is = omega (arith, b, recorded.refused_is);
+      outcome_is = recorded.outcome_is ∙ ap (end_by (answer_notices profile responses ++ outcome_notices outcome)) c;
+    } in
+    whole_drawn known text outcome ended kept refused before after profile responses is runs from_nothing drawn

@@ -1,8 +1,8 @@
 //! The bars of a script's picture: what each row of each lane shows, column by column.
 
+use crate::lanes::{Lane, MOST_LANES, Scene};
 use crate::layout::Layout;
 use crate::rows::{FIFTHS, ROWS, Row, Strip, draw_strip, height_of};
-use crate::lanes::{Lane, MOST_LANES, Scene};
 use crate::step::{Answer, Step};
 use pc_calls::{Event, Reply};
 use pc_pen::Canvas;

@@ -244,14 +244,7 @@ impl Moments {
     }
 
     /// A delta was taken in that was sent so.
-    fn delta(
-        &self,
-        index: u32,
-        line: Line<'_>,
-        cpu: Cpu,
-        sent: &Sent,
-        canvas: &mut Canvas,
-    ) {
+    fn delta(&self, index: u32, line: Line<'_>, cpu: Cpu, sent: &Sent, canvas: &mut Canvas) {
         if self.layout.is_dense {
             return;
         }

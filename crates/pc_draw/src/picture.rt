@@ -6,11 +6,11 @@ ghost use Rattle.pc_draw.specs.Pictures.{script_title};
 
 use crate::bars::Bars;
 use crate::ground::draw_ground;
+use crate::lanes::Scene;
 use crate::layout::Layout;
 use crate::legend::draw_legend;
 use crate::moments::Moments;
-use crate::lanes::Scene;
-use crate::step::{Answer, Step, Story};
+use crate::step::{Answer, Step, Story, Traces};
 use pc_pen::{Canvas, write_end, write_opening};
 use pc_script::{Command, Line, lines_of};
 use std::io::{self, Write};
@@ -19,6 +19,7 @@ use std::io::{self, Write};
 fn write_bars<W: Write>(
     layout: &Layout,
     story: &Story,
+    traces: &Traces,
     canvas: &mut Canvas,
     writer: &mut W,
 ) -> io::Result<()>
@@ -30,7 +31,7 @@ fn write_bars<W: Write>(
     let mut changed = 0usize;
     for step in story.steps.as_slice() {
         canvas.clear();
-        if let Some(changes) = story.changes.as_slice().get(changed..step.changed) {
+        if let Some(changes) = traces.changes.as_slice().get(changed..step.changed) {
             scene.apply(changes);
         }
         changed = step.changed;
@@ -48,6 +49,7 @@ fn write_moments<W: Write>(
     layout: &Layout,
     text: &[u8],
     story: &Story,
+    traces: &Traces,
     canvas: &mut Canvas,
     writer: &mut W,
 ) -> io::Result<()>
@@ -63,7 +65,13 @@ fn write_moments<W: Write>(
         };
         if step.number == number {
             canvas.clear();
-            moments.take(index, Line { number, text }, step, story.sent.as_slice(), canvas);
+            moments.take(
+                index,
+                Line { number, text },
+                step,
+                traces.sent.as_slice(),
+                canvas,
+            );
             canvas.write_to(writer)?;
             index = index.saturating_add(1);
         }
@@ -79,6 +87,7 @@ fn write_marks<W: Write>(
     layout: &Layout,
     text: &[u8],
     story: &Story,
+    traces: &Traces,
     writer: &mut W,
 ) -> io::Result<()>
     ensures { OnOk result (Marks (W.contents writer.old) (W.contents writer.new)) }
@@ -86,8 +95,8 @@ fn write_marks<W: Write>(
     let mut canvas = Canvas::new();
     draw_ground(&mut canvas, layout, story);
     canvas.write_to(writer)?;
-    write_bars(layout, story, &mut canvas, writer)?;
-    write_moments(layout, text, story, &mut canvas, writer)
+    write_bars(layout, story, traces, &mut canvas, writer)?;
+    write_moments(layout, text, story, traces, &mut canvas, writer)
 }
 
 /// How many CPUs the accepted `enclave` has; none without one.
@@ -104,6 +113,7 @@ fn cpus_of(steps: &[Step]) -> u32 {
 pub(crate) fn write_picture<W: Write>(
     text: &[u8],
     story: &Story,
+    traces: &Traces,
     writer: &mut W,
 ) -> io::Result<()>
     ensures { OnOk result (Pictures (script_title (vec_len story.now.steps) story.now.refused story.now.outcome)
@@ -112,6 +122,6 @@ pub(crate) fn write_picture<W: Write>(
     let steps = u32::try_from(story.steps.len()).unwrap_or(u32::MAX);
     let layout = Layout::of(steps, cpus_of(story.steps.as_slice()));
     write_opening(layout.width(), layout.height(), &story.summary(), writer)?;
-    write_marks(&layout, text, story, writer)?;
+    write_marks(&layout, text, story, traces, writer)?;
     write_end(writer)
 }

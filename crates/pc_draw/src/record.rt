@@ -8,7 +8,7 @@ ghost use Rattle.pc_script.specs.declared.outcome.Outcome.{Outcome};
 ghost use Rattle.pc_script.specs.declared.outcome.ScriptFault.{ScriptFault};
 
 use crate::lanes::{Change, Lane, MOST_LANES, QUIET, is_waiting, lane_of};
-use crate::step::{Sent, Step, Story, answer_of, cpu_of, is_refused, named_thread, other_cpus};
+use crate::step::{Sent, Story, Traces, cpu_of, is_refused, named_thread, other_cpus};
 use pc_calls::{Event, Reply};
 use pc_messages::{Cpu, Tid};
 use pc_script::{Command, Line, Observer, Outcome, Response, ScriptFault};
@@ -39,8 +39,9 @@ struct Last {
 #[derive(Drop)]
 pub(crate) struct Recorder {
     pub(crate) story: Story,
+    pub(crate) traces: Traces,
     last: Last,
-    /// The home of the thread that the command under way names.
+    /// The home that the thread of the command under way had before it.
     home: Option<Cpu>,
 }
 
@@ -94,12 +95,11 @@ impl Last {
             waits: is_waiting(world, thread),
         };
         let place = thread.index() as usize;
-        match self.threads.get(place) {
-            Some(known) => {
-                let known = *known;
-                self.count(&known, false);
-                self.threads[place] = now;
-            }
+        if let Some(known) = self.threads.get(place).copied() {
+            self.count(&known, false);
+        }
+        match self.threads.get_mut(place) {
+            Some(known) => *known = now,
             None => self.threads.push(now)?,
         }
         self.count(&now, true);
@@ -164,32 +164,37 @@ impl Recorder {
     {
         Recorder {
             story: Story::new(alloc),
+            traces: Traces::new(alloc),
             last: Last::new(alloc),
             home: None,
         }
     }
 
-    /// Keeps what an event did that was accepted, and answers the home that its thread had before.
-    fn follow(
-        &mut self,
-        event: &Event,
-        reply: &Reply,
-        world: &World,
-    ) -> Result<Option<Cpu>, AllocError>
-        ensures { (vec_len self.new.story.steps ≡ vec_len self.old.story.steps) × (self.new.story.refused ≡ self.old.story.refused)
-            × (self.new.story.outcome ≡ self.old.story.outcome) }
+    /// Keeps who sent the next delta.
+    fn send(&mut self, event: &Event) -> Result<(), AllocError>
+        ensures { self.new.story ≡ self.old.story }
     {
-        let before = match thread_of(reply) {
-            Some(thread) => self.last.home(thread),
-            None => self.home,
+        let Some(cpu) = cpu_of(event) else {
+            return Ok(());
         };
-        self.last
-            .ask(event, reply, before, world, &mut self.story.changes)?;
-        if let (Reply::Published { .. } | Reply::Answered { .. }, Some(cpu)) = (reply, cpu_of(event)) {
-            let step = u32::try_from(self.story.steps.len()).unwrap_or(u32::MAX);
-            self.story.sent.push(Sent { cpu, step })?;
+        let step = u32::try_from(self.story.steps.len()).unwrap_or(u32::MAX);
+        self.traces.sent.push(Sent { cpu, step })?;
+        Ok(())
+    }
+
+    /// Keeps what an event did that was accepted.
+    fn follow(&mut self, event: &Event, reply: &Reply, world: &World) -> Result<(), AllocError>
+        ensures { self.new.story ≡ self.old.story }
+    {
+        if let Some(thread) = thread_of(reply) {
+            self.home = self.last.home(thread);
         }
-        Ok(before)
+        self.last
+            .ask(event, reply, self.home, world, &mut self.traces.changes)?;
+        if let Reply::Published { .. } | Reply::Answered { .. } = reply {
+            self.send(event)?;
+        }
+        Ok(())
     }
 
     /// Keeps a command and its response.
@@ -204,26 +209,26 @@ impl Recorder {
             × (self.new.story.refused ≡ self.old.story.refused + (if refuses response.now then 1 else 0))
             × (self.new.story.outcome ≡ self.old.story.outcome)) }
     {
-        let before = match (command, response, session.world()) {
-            (Command::Event(event), Response::Event(reply), Some(world)) if !is_refused(response) => {
-                self.follow(event, reply, world)?
-            }
-            _ => self.home,
-        };
+        if let (Command::Event(event), Response::Event(reply), Some(world)) = (
+            command,
+            response,
+            session.world(),
+        )
+            && !is_refused(response)
+        {
+            self.follow(event, reply, world)?;
+        }
         self.story.add(
-            Step {
-                number,
-                command: *command,
-                answer: answer_of(response),
-                home: before,
-                changed: self.story.changes.len(),
-            },
-            is_refused(response),
+            number,
+            command,
+            response,
+            self.home,
+            self.traces.changes.len(),
         )
     }
 }
 
-/// The thread that a command names, and no CPU.
+/// The home of the thread that a command names, where it names no CPU.
 fn home_before(command: &Command, session: &Session) -> Option<Cpu> {
     let Command::Event(event) = command else {
         return None;

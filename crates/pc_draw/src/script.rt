@@ -34,9 +34,13 @@ pub fn draw_script<R: Read, W: Write>(
     let text = read_text(alloc, reader)?;
     let mut recorder = Recorder::new(alloc);
     // Nothing is written while the script is walked over.
-    let outcome =
-        walk::<Session, Recorder, Sink>(alloc, text.as_slice(), &mut recorder, &mut sink())?;
-    match write_picture(text.as_slice(), &recorder.story, writer) {
+    let outcome = walk::<Session, Recorder, Sink>(
+        alloc,
+        text.as_slice(),
+        &mut recorder,
+        &mut sink(),
+    )?;
+    match write_picture(text.as_slice(), &recorder.story, &recorder.traces, writer) {
         Ok(()) => Ok(outcome),
         Err(_) => Err(ScriptFault::Write),
     }

@@ -58,14 +58,29 @@ pub(crate) struct Sent {
 #[derive(Drop)]
 pub(crate) struct Story {
     pub(crate) steps: Vec<Step>,
-    /// What goes on elsewhere than before, step by step.
-    pub(crate) changes: Vec<Change>,
-    /// Of each delta who sent it.
-    pub(crate) sent: Vec<Sent>,
     /// How many commands were refused.
     pub(crate) refused: usize,
     pub(crate) outcome: Outcome,
     ghost few: { refused ≤ vec_len steps },
+}
+
+/// What goes on from step to step, and who sent what.
+#[derive(Drop)]
+pub(crate) struct Traces {
+    /// What goes on elsewhere than before, step by step.
+    pub(crate) changes: Vec<Change>,
+    /// Of each delta who sent it.
+    pub(crate) sent: Vec<Sent>,
+}
+
+impl Traces {
+    /// None yet.
+    pub(crate) fn new(alloc: Global) -> Traces {
+        Traces {
+            changes: Vec::new(alloc),
+            sent: Vec::new(alloc),
+        }
+    }
 }
 
 impl Story {
@@ -75,21 +90,34 @@ impl Story {
     {
         Story {
             steps: Vec::new(alloc),
-            changes: Vec::new(alloc),
-            sent: Vec::new(alloc),
             refused: 0,
             outcome: Outcome::Finished,
         }
     }
 
-    /// Adds a step, which was refused or not.
-    pub(crate) fn add(&mut self, step: Step, is_refused: bool) -> Result<(), AllocError>
+    /// Adds the command of the line with this number, and its response; its thread had this home before, and so many
+    /// changes were made up to it.
+    pub(crate) fn add(
+        &mut self,
+        number: u32,
+        command: &Command,
+        response: &Response,
+        home: Option<Cpu>,
+        changed: usize,
+    ) -> Result<(), AllocError>
         ensures ok { OnOk result ((vec_len self.new.steps ≡ vec_len self.old.steps + 1)
-            × (self.new.refused ≡ self.old.refused + (if is_refused then 1 else 0))) }
+            × (self.new.refused ≡ self.old.refused + (if refuses response.now then 1 else 0))) }
         ensures outcome { self.new.outcome ≡ self.old.outcome }
     {
+        let step = Step {
+            number,
+            command: *command,
+            answer: answer_of(response),
+            home,
+            changed,
+        };
         self.steps.push(step)?;
-        if is_refused {
+        if is_refused(response) {
             self.refused += 1;
         }
         Ok(())

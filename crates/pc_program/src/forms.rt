@@ -1,20 +1,27 @@
-//! What is made of a script: its replies, these with an explanation, or a picture.
+//! What is made of a script (its replies, these with an explanation, or a picture) or of settings (the report of a run), and how it
+//! is flushed.
 
-ghost use Rattle.std.specs.Prelude.{◌≡◌, ◌+◌, ◌⊎◌, ◌<◌, ◌≤◌, List, ℕ, length, IfOk, IfSome, OnOk, Err};
-ghost use Rattle.std.specs.Io.KnownBytes.{Appends, Consumes};
+ghost use Rattle.std.specs.Prelude.{◌≡◌, ◌+◌, ◌⊎◌, ◌<◌, ◌≤◌, [], List, ℕ, length, IfOk, IfSome, OnOk, Err};
+ghost use Rattle.std.specs.Io.Buffered.{writer_buffer, writer_contents};
+ghost use Rattle.std.specs.Io.KnownBytes.{Appends, Consumes, Keeps};
+ghost use Rattle.toml.specs.Parse.{parse_document};
 ghost use Rattle.pc_script.specs.Scripts.{IsOutput, IsOutputUntil};
 ghost use Rattle.pc_script.specs.declared.input.TheConstants.{MOST_BYTES};
 ghost use Rattle.pc_explain.specs.Comments.{without_comments};
-ghost use Rattle.pc_program.specs.Programs.{IsAnswered, IsDrawn, IsMade};
 ghost use Rattle.pc_session.specs.Session.{IsSession, RanOut};
+ghost use Rattle.pc_program.specs.Programs.{IsAnswered, IsDrawn, IsMade, IsReported};
 
 use crate::ending::Ending;
-use crate::session::Session;
+use crate::report::ReportForm;
+use crate::run_text::run_config;
 use pc_draw::draw_script;
 use pc_explain::explain_script;
 use pc_script::{Outcome, ScriptFault};
+use pc_session::Session;
 use std::alloc::Global;
-use std::io::{Read, Write};
+use std::io::{BufWriter, Read, Write};
+use std::sync::Wait;
+use std::thread::Threads;
 
 /// What is made of a script.
 #[derive(Clone, Copy, Debug, PartialEq, Eq)]
@@ -57,13 +64,13 @@ fn replies<R: Read, W: Write>(alloc: Global, reader: &mut R, writer: &mut W) -> 
 fn explained<R: Read, W: Write>(alloc: Global, reader: &mut R, writer: &mut W) -> Ending
     ensures { IfSome (R.remaining reader.old) (λ text. IsAnswered without_comments text (W.contents writer.old) (W.contents writer.new) result) }
 {
-    Ending::from(explain_script::<Session, R, W>(alloc, reader, writer))
+    Ending::from(explain_script(alloc, reader, writer))
 }
 
 fn picture<R: Read, W: Write>(alloc: Global, reader: &mut R, writer: &mut W) -> Ending
     ensures { IfSome (R.remaining reader.old) (λ text. IsDrawn text (W.contents writer.old) (W.contents writer.new) result) }
 {
-    Ending::of_picture(draw_script::<Session, R, W>(alloc, reader, writer))
+    Ending::of_picture(draw_script(alloc, reader, writer))
 }
 
 /// Reads a script, makes this of it, writes it, and tells how it ended. Nothing is flushed.
@@ -77,5 +84,54 @@ pub fn make<R: Read, W: Write>(alloc: Global, form: Form, reader: &mut R, writer
         Form::Replies => replies(alloc, reader, writer),
         Form::Explained => explained(alloc, reader, writer),
         Form::Picture => picture(alloc, reader, writer),
+    }
+}
+
+/// Flushes what was written before it ended so. That this fails is told before all else.
+fn flushed<W: Write + Drop>(writer: &mut BufWriter<W>, ending: Ending) -> Ending
+    ensures kept { Keeps (writer_contents W.contents writer.old) (writer_contents W.contents writer.new) }
+    ensures flushed { (result ≡ Ending.CannotRead) ⊎ ((result ≡ ending) × (writer_buffer writer.new ≡ [])) }
+{
+    match writer.flush() {
+        Ok(()) => ending,
+        Err(_) => Ending::CannotRead,
+    }
+}
+
+/// Makes what is asked for of the text that a reader gives, writes it, and flushes it, whatever the ending.
+///
+/// Endings are those of [`make`]; where the flush fails it is `CannotRead`, whatever else there was.
+pub fn make_flushed<R: Read, W: Write + Drop>(
+    alloc: Global,
+    form: Form,
+    reader: &mut R,
+    writer: &mut BufWriter<W>,
+) -> Ending
+    ensures told { IfSome (R.remaining reader.old) (λ text.
+        IsMade form text (writer_contents W.contents writer.old) (writer_contents W.contents writer.new) result) }
+    ensures flushed { (result ≡ Ending.CannotRead) ⊎ (writer_buffer writer.new ≡ []) }
+{
+    let ending = make(alloc, form, reader, writer);
+    flushed(writer, ending)
+}
+
+/// Runs agents by a settings text, writes the report, and flushes it, whatever the ending.
+///
+/// Endings are those of the faults of [`run_config`]; where the flush fails it is `CannotRead`, whatever else there was. It may
+/// wait without end, as a run may.
+pub fn run_flushed<R: Threads + Wait + Sync, S: Write + Copy + Sync, W: Write + Drop>(
+    rt: &R,
+    alloc: Global,
+    text: &str,
+    form: ReportForm,
+    screen: Option<S>,
+    writer: &mut BufWriter<W>,
+) -> Ending
+    ensures told { IsReported (parse_document text.now) form (writer_contents W.contents writer.old) (writer_contents W.contents writer.new) result }
+    ensures flushed { (result ≡ Ending.CannotRead) ⊎ (writer_buffer writer.new ≡ []) }
+{
+    match run_config(rt, alloc, text, form, screen, writer) {
+        Ok(_report) => flushed(writer, Ending::Finished),
+        Err(fault) => flushed(writer, Ending::from(fault)),
     }
 }

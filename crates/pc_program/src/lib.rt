@@ -4,22 +4,16 @@
 
 mod command_line;
 mod ending;
-mod flushing;
 mod forms;
 mod input;
-pub mod laws;
 mod progress;
-mod reads;
 mod report;
 mod run_text;
-mod session;
 mod settings;
-mod show;
 
 pub use command_line::{Command, CommandFault, read_command};
 pub use ending::{BadSettings, Ending, Unsettled};
-pub use flushing::{make_flushed, run_flushed};
-pub use forms::{Form, make, run_script};
+pub use forms::{Form, make, make_flushed, run_flushed, run_script};
 pub use input::read_settings;
 pub use report::ReportForm;
 pub use run_text::{RunTextFault, run_config};

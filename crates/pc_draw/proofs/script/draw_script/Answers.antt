@@ -1,17 +1,8 @@
-use Rattle.std.proofs.Common.{arith}
-use Rattle.pc_script.proofs.Openings.{Opens-length}
-use Rattle.pc_script.proofs.Splits.{lines-few}
-use Rattle.pc_draw.proofs.Collections.{whole_drawn}
+use Rattle.pc_draw.proofs.Recordings.{drawn_from_nothing}
 use Rattle.pc_draw.proofs.script.draw_script.Goals as goal
 
-pub collect-requires-clause-short : goal.collect-requires-clause-short
-collect-requires-clause-short g c =
+pub returns-in-Ok-clause-ok : goal.returns-in-Ok-clause-ok
+returns-in-Ok-clause-ok g c =
     let whole = c.as_slice.ensures.value in
-    let opens = rw whole at c.opening_of-opening.ensures in
-    omega (arith, Opens-length opens, lines-few c.in_ok-text.text.items, c.in_ok-text.ensures.short)
-
-pub returns-in-Ok-write_picture-clause-ok : goal.returns-in-Ok-write_picture-clause-ok
-returns-in-Ok-write_picture-clause-ok g c =
-    let whole = c.as_slice.ensures.value in
-    let opens = rw whole at c.opening_of-opening.ensures in
-    whole_drawn g.M.Machine.IsRun _ c.in_ok-text.text.items _ _ c.in_ok-text.ensures.ok opens c.in_ok-story.ensures.ok c.in-Ok-write_picture.ensures
+    let walked = rw whole at c.in_ok-outcome.ensures.ok in
+    drawn_from_nothing _ c.in_ok-text.text.items _ _ _ _ _ _ _ _ _ walked.profile walked.responses c.new-recorder.ensures c.in_ok-text.ensures.ok walked.runs walked.told.1 c.in-Ok.ensures

@@ -1,7 +1,7 @@
 use Rattle.toml.specs.Parse.{parse_document}
 use Rattle.std.specs.Io.Buffered.{writer_contents}
 use Rattle.pc_program.proofs.Reporting.{reported}
-use Rattle.pc_program.proofs.flushing.run_flushed.Goals as goal
+use Rattle.pc_program.proofs.forms.run_flushed.Goals as goal
 
 pub returns-in-Ok-clause-told : goal.returns-in-Ok-clause-told
 returns-in-Ok-clause-told g c =
