@@ -7,3 +7,4 @@ pub mod ReportText
 pub mod Runs
 pub mod SettingsText
 pub mod StepTexts
+pub mod Theorem
