@@ -4,7 +4,8 @@
 Crates stand in the order of crates.txt, and the files of a crate each behind those of the crate that it uses, else in the
 order of specs/Lib.antt. The comment at the head of specs/Lib.antt introduces the crate, that at the head of a file the file.
 A comment directly above a public definition is that definition's; one with an empty line behind it stands where it is, as
-prose. A comment above or behind a field or a constructor is told below its record or type. specs/Inner is left out.
+prose, and one that begins with `----` as a heading. A comment above or behind a field or a constructor is told below its
+record or type. specs/Inner is left out.
 
 `--bare` tells each definition that has no comment instead, a line each, with exit status 1 where there is one.
 """
@@ -72,7 +73,7 @@ def read(path):
             comment, column = (comment if comment and column == len(told[1]) else []) + [told[2]], len(told[1])
             continue
         defined = DEFINITION.match(line)
-        text = " ".join(comment).strip("- ")
+        text = " ".join(comment).strip()
         is_inner = group in ("record", "data") and line.startswith(" " * (depth + 1))
         if is_inner and (defined or CONSTRUCTOR.match(line)):
             name = defined[3] if defined else CONSTRUCTOR.match(line)[1]
@@ -83,7 +84,7 @@ def read(path):
             group, depth = defined[2] or "", len(defined[1])
             found.append(Definition(defined[3], number, text, False, group))
         elif not line and comment and column == 0:
-            found.append(text)
+            found.append(f"**{sentence(text.strip('- '))[:-1]}**" if text.startswith("---") else sentence(text))
         comment = []
     return " ".join(head), found
 
@@ -115,7 +116,7 @@ def document():
                 if is_text or not in_list:
                     piece += [""] if piece[-1][-1:] != "\n" else []
                 if is_text:
-                    piece.append(wrapped(sentence(item)) + "\n")
+                    piece.append(wrapped(item) + "\n")
                 else:
                     told = f"`{item.name}`" + (f": {item.comment}" if item.comment else "")
                     piece.append(wrapped(told, "  - " if item.is_field else "- ", "    " if item.is_field else "  "))
