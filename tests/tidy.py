@@ -1,4 +1,7 @@
-"""Checks of the repository's files and commits, for tests/check_documents.py. Each answers how much was looked at, and its findings."""
+"""Checks of the repository's files and commits, for tests/check_documents.py.
+
+Each answers how much was looked at, and its findings.
+"""
 import re
 import subprocess
 
@@ -41,8 +44,8 @@ def in_strings(text):
 
 def widths(root):
     """Lines of documents, sources and definitions that are too wide; proofs aside."""
-    paths = [*root.glob("*.md"), *root.glob("docs/**/*.md"), *root.glob("examples/*.md"), *root.glob("crates/*/src/**/*.rt"),
-             *root.glob("crates/*/specs/**/*.antt")]
+    kinds = ("*.md", "docs/**/*.md", "examples/*.md", "crates/*/src/**/*.rt", "crates/*/specs/**/*.antt")
+    paths = [path for kind in kinds for path in root.glob(kind)]
     checked, findings = 0, []
     for path in sorted(paths):
         text = path.read_text()
@@ -59,7 +62,8 @@ def files(root):
 
     A case of tests/cases is found by the tool that runs it. A module is named where it is imported, or by `mod NAME;`.
     """
-    texts = {path: path.read_text(errors="replace") for path in all_files(root) if path.suffix in SOURCES | {".in", ".c", ".1"}}
+    kinds = SOURCES | {".in", ".c", ".1"}
+    texts = {path: path.read_text(errors="replace") for path in all_files(root) if path.suffix in kinds}
     checked, findings = 0, []
     for path in all_files(root):
         name = str(path.relative_to(root))

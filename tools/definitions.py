@@ -1,11 +1,11 @@
 #!/usr/bin/env python3
 """Makes docs/DEFINITIONS.md from the comments of crates/*/specs/*.antt: `tools/definitions.py >docs/DEFINITIONS.md`.
 
-Crates stand in the order of crates.txt, and the files of a crate each behind those of the crate that it uses, else in the
-order of specs/Lib.antt. The comment at the head of specs/Lib.antt introduces the crate, that at the head of a file the file.
-A comment directly above a public definition is that definition's; one with an empty line behind it stands where it is, as
-prose, and one that begins with `----` as a heading. A comment above or behind a field or a constructor is told below its
-record or type. specs/Inner is left out.
+Crates stand in the order of crates.txt, and the files of a crate each behind those of the crate that it uses, else in
+the order of specs/Lib.antt. The comment at the head of specs/Lib.antt introduces the crate, that at the head of a file
+the file. A comment directly above a public definition is that definition's; one with an empty line behind it stands
+where it is, as prose, and one that begins with `----` as a heading. A comment above or behind a field or a constructor
+is told below its record or type. specs/Inner is left out.
 
 `--bare` tells each definition that has no comment instead, a line each, with exit status 1 where there is one.
 """
@@ -96,7 +96,8 @@ def sentence(text):
 
 
 def wrapped(text, first="", rest=""):
-    return textwrap.fill(text, WIDTH, initial_indent=first, subsequent_indent=rest, break_long_words=False, break_on_hyphens=False)
+    return textwrap.fill(
+        text, WIDTH, initial_indent=first, subsequent_indent=rest, break_long_words=False, break_on_hyphens=False)
 
 
 def document():
@@ -119,7 +120,8 @@ def document():
                     piece.append(wrapped(item) + "\n")
                 else:
                     told = f"`{item.name}`" + (f": {item.comment}" if item.comment else "")
-                    piece.append(wrapped(told, "  - " if item.is_field else "- ", "    " if item.is_field else "  "))
+                    indent = "  " if item.is_field else ""
+                    piece.append(wrapped(told, indent + "- ", indent + "  "))
                 in_list = not is_text
             parts.append("\n".join(piece).rstrip("\n") + "\n")
     return "\n".join(parts + [table()])
@@ -139,7 +141,8 @@ def table():
             sums = [total + count for total, count in zip(sums, counts)]
     return "\n".join([
         "## How much there is to read", "",
-        "Lines at the top of `specs/`, which is what a reader has to trust (comments and imports counted), and of `specs/Inner`:",
+        "Lines at the top of `specs/`, which is what a reader has to trust (comments and imports counted), and of",
+        "`specs/Inner`:",
         "", "| crate | top | inner |", "|---|---|---|", *rows, f"| all | {sums[0]:,} | {sums[1]:,} |", ""])
 
 
