@@ -1,24 +1,30 @@
 #!/usr/bin/env python3
-"""Checks that the documents speak of what is there. It reads the sources and proves nothing.
+"""Checks that the documents speak of what is there, and that the repository is tidy. It reads the sources and proves nothing.
 
-  promises     each function, clause, type, definition and file that the tables of docs/PROMISES.md name is there
+  promises     each function, clause, type, definition and file that the lists of docs/PROMISES.md name is there
+  memory       its list on want of memory has an item for each public call that may want memory, with clauses and tests that are there
   public       each function with a contract that a crate exports is named by docs/PROMISES.md
-  memory       its table on want of memory has a row for each public call that may want memory, and names clauses and tests that are there
-  definitions  each definition that docs/DEFINITIONS.md names is there, and its lines are counted right
+  definitions  docs/DEFINITIONS.md is what tools/definitions.py makes, and each definition has a comment
   names        each `Type::name`, `Module.word` and path of a file in any other document is there
   crates       docs/ARCHITECTURE.md has each crate, and what it stands on, as crates.txt has it
-  refusals     docs/FORMATS.md and docs/GLOSSARY.md have a row for each refusal
+  refusals     docs/FORMATS.md and docs/GLOSSARY.md have an item for each refusal
   advice       docs/GLOSSARY.md has the words of pc_explain on each refusal: why, and what would be accepted
-  examples     each example's script has its output beside it
-  citations    no file cites the papers that the project was made from
+  examples     each example's script has its output beside it, and examples/README.md names all of them
+  widths       no line of a document, of .rt or of specs/ is wider than 120 columns
+  files        each file of docs/, examples/, tools/, tests/ and bench/ is named by some other file
+  numbers      nothing is cited by a number: no theorem, request, row or issue
+  titles       each commit's title has at most 72 columns, and none of the words that tell of work under way
 
-A line for each finding, how much was looked at, and then `N passed, M failed`, of these ten checks. The exit status is 0
-only where none failed.
+A line for each finding, how much was looked at, and then `N passed, M failed`, of these checks. The exit status is 0 only where
+none failed. The last four are those of tests/tidy.py.
 """
 import pathlib
 import re
+import subprocess
 import sys
 from dataclasses import dataclass, field
+
+import tidy
 
 ROOT = pathlib.Path(__file__).resolve().parent.parent
 IDENTIFIER = re.compile(r"[A-Za-z_]\w*")
@@ -37,11 +43,6 @@ WANTING = re.compile(
     r"->.*Result<.*\b(?:OutOfMemory|AllocError|(?:Limits|Queue|Call|Send|Delta|Run|Script|Settings|Command|RunText)Fault)\b", re.S)
 # An ending of the program may be one too, where the call may allocate.
 ENDING = re.compile(r"\balloc: Global\b.*->.*\bEnding\b", re.S)
-# What the papers are cited by: numbers of their theorems, definitions, requests and rows, and their names.
-CITATIONS = re.compile(
-    r"\bT[1-5]\.\d+|\bD(?:1[0-5]|[1-9])\b|\bR(?:1[0-6]|[1-9])\b|\bW\d+\b|\brows? \d+\b"
-    r"|\b(?:paper|document)s? 0?[1-4]\b|\b0[1-4]-(?:scope|theorems|requests|formats)|\bissue #?\d+|\bheadline\b|/work/"
-)
 
 
 @dataclass
@@ -160,6 +161,50 @@ def impl_names(header):
     return (names[0], names[-1]) if len(parts) > 1 else ("", names[0])
 
 
+@dataclass
+class Item:
+    """An item of a list of a document: its place, the heading that it stands under, its text, and the lines below it by their words."""
+    where: str
+    heading: str
+    text: str
+    below: dict = field(default_factory=dict)
+
+
+def items_of(name, labels):
+    """The items of a document's lists. A line `  - LABEL ..` or `  - LABEL: ..` below an item is kept under its label."""
+    items, heading, told = [], "", None
+    for number, line in enumerate((ROOT / name).read_text().splitlines(), 1):
+        if line.startswith("#"):
+            heading, told = line, None
+        elif line.startswith("- "):
+            items.append(Item(f"{name}:{number}", heading, line[2:]))
+            told = ""
+        elif line.startswith("  - ") and told is not None:
+            told = next((label for label in labels if line[4:].startswith(label)), None)
+            if told is not None:
+                items[-1].below[told] = line[4 + len(told):].removeprefix(":").strip()
+        elif line.startswith("  ") and told == "":
+            items[-1].text += " " + line.strip()
+        elif line.startswith("    ") and told:
+            items[-1].below[told] += " " + line.strip()
+        else:
+            told = None
+    return items
+
+
+def paragraphs_of(path):
+    """The paragraphs and items of a document with the number of their first line; a line in code, or of a table, is one alone."""
+    found, is_open = [], False
+    for number, line in enumerate(path.read_text().splitlines(), 1):
+        is_alone = not line.strip() or line.startswith(("|", "#", "    ")) and not is_open
+        if is_open and not is_alone and not re.match(r"\s*(?:[-*]|\d+\.) ", line):
+            found[-1][1] += " " + line.strip()
+        else:
+            found.append([number, line])
+        is_open = not is_alone
+    return found
+
+
 def all_below(below, name):
     """All that a crate stands on, through others too."""
     lower = below.get(name, set())
@@ -214,7 +259,7 @@ class Checker:
         return any(word in crate.definitions[module] for crate in where)
 
     def is_file(self, crates, name):
-        places = [ROOT, ROOT / "docs", *(crate.folder for crate in crates), *(crate.folder / "src" for crate in crates)]
+        places = [ROOT, ROOT / "docs", ROOT / "examples", *(crate.folder for crate in crates), *(crate.folder / "src" for crate in crates)]
         return any(any(place.glob(name.rstrip("/"))) for place in places)
 
     def is_known(self, word):
@@ -223,7 +268,7 @@ class Checker:
     # PROMISES
 
     def check_carriers(self, where, crate, cell):
-        """The cell of a table that names what carries a promise."""
+        """What names what carries a promise."""
         types, group, place = [], [], 0
         for span in SPAN.finditer(cell):
             before, text, place = cell[place:span.start()], span[1].replace("<V>", ""), span.end()
@@ -286,7 +331,7 @@ class Checker:
             self.expect(has, where, f"`{name}` has no clause `{word}` and meets no such trait")
 
     def check_promised(self, where, crate, cell, carries):
-        """The cell of a table that says a promise: whatever it names is there. It may name what carries it, too."""
+        """What says a promise: whatever it names is there. It may name what carries it, too."""
         for text in SPAN.findall(cell):
             path = text.split("::")
             if not all(IDENTIFIER.fullmatch(part) for part in path):
@@ -297,19 +342,17 @@ class Checker:
             self.expect(found or self.is_known(path[-1]), where, f"nothing is named `{text}`")
 
     def check_promises(self):
-        crate = None
-        for number, line in enumerate((ROOT / "docs/PROMISES.md").read_text().splitlines(), 1):
-            where = f"docs/PROMISES.md:{number}"
-            heading = re.match(r"#+ (?:`(\w+)`)?", line)
-            if heading:
-                crate = self.crates.get(heading[1]) if heading[1] else None
-                self.expect(crate or not heading[1], where, f"there is no crate `{heading[1]}`")
-            cells = [cell.strip() for cell in line.strip().strip("|").split(" | ")]
-            if crate and line.startswith("|") and len(cells) == 2 and not line.startswith("|-") and cells[1] != "carried by":
-                self.check_promised(where, crate, cells[0], cells[1].startswith("the clause of each"))
-                self.check_carriers(where, crate, cells[1])
-            elif crate and line.startswith("|") and len(cells) != 2:
-                self.expect(line.startswith("|-"), where, "a line of a table without two cells")
+        for item in items_of("docs/PROMISES.md", ["carried by", "met by"]):
+            heading = re.match(r"## `(\w+)`", item.heading)
+            if not heading:
+                continue
+            crate = self.crates.get(heading[1])
+            self.expect(crate, item.where, f"there is no crate `{heading[1]}`")
+            carriers = item.below.get("carried by", "")
+            self.expect(carriers, item.where, "no line `carried by` stands below it")
+            if crate:
+                self.check_promised(item.where, crate, item.text, carriers.startswith("the clause of each"))
+                self.check_carriers(item.where, crate, carriers)
 
     def check_public(self):
         for crate in self.crates.values():
@@ -321,28 +364,27 @@ class Checker:
     # What want of memory leaves
 
     def check_memory(self):
-        """The table of docs/PROMISES.md: a row with a crate's name alone, and below it rows of a call, what is left, clauses and tests."""
-        crate, told, in_table = None, set(), False
-        for number, line in enumerate((ROOT / "docs/PROMISES.md").read_text().splitlines(), 1):
-            where = f"docs/PROMISES.md:{number}"
-            in_table = line == "## Want of memory" if line.startswith("#") else in_table
-            cells = [cell.strip() for cell in line.strip("|").split("|")]
-            if not in_table or not line.startswith("| `"):
+        """The list of docs/PROMISES.md: under a crate's name an item for each call, with what is left, clauses and tests."""
+        told = set()
+        for item in items_of("docs/PROMISES.md", ["carried by", "met by"]):
+            heading = re.match(r"### `(\w+)`", item.heading)
+            if not heading:
                 continue
-            if not any(cells[1:]):
-                crate = self.crates.get(cells[0].strip("`"))
-                self.expect(crate, where, f"there is no crate {cells[0]}")
+            crate = self.crates.get(heading[1])
+            self.expect(crate, item.where, f"there is no crate `{heading[1]}`")
+            called = re.match(r"`([\w:]+)`: ", item.text)
+            self.expect(called and {"carried by", "met by"} <= set(item.below), item.where, "no call, or no `carried by` and `met by` below it")
+            if not crate or not called:
                 continue
-            self.expect(len(cells) == 4, where, "a line of the table without four cells")
-            call = cells[0].strip("`").split("::")
-            found = [f for f in self.functions_at([crate], call) if f.is_pub]
-            self.expect(found and all(f.may_want_memory() for f in found), where, f"{cells[0]} is no public call that may want memory")
+            found = [f for f in self.functions_at([crate], called[1].split("::")) if f.is_pub]
+            holds = found and all(f.may_want_memory() for f in found)
+            self.expect(holds, item.where, f"`{called[1]}` is no public call that may want memory")
             told |= {(f.crate, f.owner, f.name) for f in found}
-            self.check_carriers(where, crate, cells[2])
-            self.check_tests_of(where, cells[3])
+            self.check_carriers(item.where, crate, item.below.get("carried by", ""))
+            self.check_tests_of(item.where, item.below.get("met by", ""))
         for function in (f for it in self.crates.values() for f in it.functions if self.wants_row(it, f)):
             key = (function.crate, function.owner, function.name)
-            self.expect(key in told, "docs/PROMISES.md", f"`{function}` may want memory, and the table does not tell what that leaves")
+            self.expect(key in told, "docs/PROMISES.md", f"`{function}` may want memory, and its list does not tell what that leaves")
 
     def wants_row(self, crate, function):
         """Whether a call is public and may want memory. The methods of `Join` are told of each type that has them."""
@@ -351,7 +393,7 @@ class Checker:
         return crate.exported(function) and function.may_want_memory()
 
     def check_tests_of(self, where, cell):
-        """The cell of the table that names the tests: single calls and cases in backquotes, parts of the harness in italics."""
+        """What names the tests: single calls and cases in backquotes, parts of the harness in italics."""
         calls = "".join(path.read_text() for path in (ROOT / "tests/hostile/calls").glob("*.rt.in"))
         parts = (ROOT / "tests/hostile/hostile.py").read_text()
         self.expect(cell, where, "no test is named")
@@ -363,45 +405,25 @@ class Checker:
     # DEFINITIONS, and the other documents
 
     def check_definitions(self):
-        crates = []
-        for number, line in enumerate((ROOT / "docs/DEFINITIONS.md").read_text().splitlines(), 1):
-            where, module = f"docs/DEFINITIONS.md:{number}", ""
-            if line.startswith("#"):
-                names = SPAN.findall(line)
-                crates = [self.crates[name] for name in names if name in self.crates]
-                self.expect(len(crates) == len(names), where, "there is no such crate")
-            counted = re.match(r"\| `(\w+)` \| ([\d,]+) \| ([\d,]+|-) \|", line)
-            if counted:
-                self.expect_counts(where, *counted.groups())
-            for text in SPAN.findall(line):
-                if text in self.crates:
-                    continue
-                if re.fullmatch(r"(?:Inner\.)?[A-Z]\w*\.[A-Za-z_]\w*", text):
-                    module = text.rsplit(".", 1)[0]
-                    self.expect(self.is_definition(crates, text), where, f"there is no definition `{text}`")
-                elif module and IDENTIFIER.fullmatch(text):
-                    holds = self.is_definition(crates, f"{module}.{text}") or self.is_known(text)
-                    self.expect(holds, where, f"there is no definition `{text}` in `{module}`")
-                elif re.fullmatch(r"[A-Z]\w*", text):
-                    self.expect(self.is_known(text), where, f"nothing is named `{text}`")
-
-    def expect_counts(self, where, name, top, inner):
-        folder = ROOT / "crates" / name / "specs"
-        for pattern, told in (("*.antt", top), ("Inner/*.antt", inner)):
-            files = [path for path in folder.glob(pattern) if path.name not in ("Lib.antt", "Inner.antt")]
-            lines = sum(len(path.read_text().splitlines()) for path in files)
-            told = 0 if told == "-" else int(told.replace(",", ""))
-            self.expect(lines == told, where, f"`{name}` has {lines} lines of {pattern}, not {told}")
+        made = subprocess.run([sys.executable, ROOT / "tools/definitions.py"], capture_output=True, text=True, check=True).stdout
+        path, where = ROOT / "docs/DEFINITIONS.md", "docs/DEFINITIONS.md"
+        told = path.read_text() if path.is_file() else ""
+        self.expect(made == told, where, "it is not what tools/definitions.py makes of specs/: tools/definitions.py >docs/DEFINITIONS.md")
+        bare = subprocess.run([sys.executable, ROOT / "tools/definitions.py", "--bare"], capture_output=True, text=True)
+        self.checked += made.count("\n- `")
+        for line in bare.stdout.splitlines() if bare.returncode else []:
+            self.findings.append(line)
 
     def check_names(self):
-        for path in [ROOT / "README.md", ROOT / "CHANGELOG.md", ROOT / "CONTRIBUTING.md", *sorted((ROOT / "docs").glob("*.md"))]:
-            if not path.is_file():
+        documents = [ROOT / name for name in ("README.md", "CHANGELOG.md", "CONTRIBUTING.md", "examples/README.md")]
+        for path in [*documents, *sorted((ROOT / "docs").glob("*.md"))]:
+            if not path.is_file() or path.name == "DEFINITIONS.md":
                 continue
-            for number, line in enumerate(path.read_text().splitlines(), 1):
+            for number, paragraph in paragraphs_of(path):
                 where = f"{path.relative_to(ROOT)}:{number}"
-                if path.name == "DEFINITIONS.md" or path.name == "PROMISES.md" and line.startswith("|"):
+                if path.name == "PROMISES.md" and paragraph.lstrip().startswith("- "):
                     continue
-                for text in SPAN.findall(line):
+                for text in SPAN.findall(paragraph):
                     parts = text.split(": ")[0].split("::")
                     if len(parts) > 1 and all(IDENTIFIER.fullmatch(part) for part in parts):
                         self.expect(self.is_item(parts), where, f"there is no `{text}`")
@@ -426,10 +448,10 @@ class Checker:
             if name in self.crates:
                 below[name] = set(libraries.split())
         rows = {}
-        for line in (ROOT / "docs/ARCHITECTURE.md").read_text().splitlines():
-            cells = line.split(" | ")
-            if len(cells) == 4 and line.startswith("| `"):
-                rows[SPAN.search(cells[0])[1]] = SPAN.findall(cells[2])
+        for item in items_of("docs/ARCHITECTURE.md", ["stands on", "seen as"]):
+            named = re.match(r"`(pc_\w+)`: ", item.text)
+            if named:
+                rows[named[1]] = SPAN.findall(item.below.get("stands on", ""))
         self.expect(set(rows) == set(self.crates) == set(below), "docs/ARCHITECTURE.md", "its crates are not those of crates.txt")
         for name, told in rows.items():
             for lower in told:
@@ -446,23 +468,21 @@ class Checker:
         text = (ROOT / "crates/pc_calls/src/refusal.rt").read_text()
         refusals = set(re.findall(r"^    (\w+)(?:\(\w+\))?,$", re.search(r"enum Refusal \{(.*?)^\}", text, re.M | re.S)[1], re.M))
         for name in ("FORMATS", "GLOSSARY"):
-            told = set(re.findall(r"^\| `(\w+)[^`]*` \|", (ROOT / f"docs/{name}.md").read_text(), re.M))
+            told = set(re.findall(r"^- `(\w+)[^`]*`", (ROOT / f"docs/{name}.md").read_text(), re.M))
             for refusal in sorted(refusals):
-                self.expect(refusal in told, f"docs/{name}.md", f"it has no row for `{refusal}`")
+                self.expect(refusal in told, f"docs/{name}.md", f"it has no item for `{refusal}`")
 
     def check_advice(self):
-        """The table of refusals that an explained script tells, and docs/GLOSSARY.md's: the same names, reasons and remedies."""
+        """The refusals that an explained script tells of, and those of docs/GLOSSARY.md: the same names, reasons and remedies."""
         text = (ROOT / "crates/pc_explain/src/advice.rt").read_text()
         columns = []
         for name in ("reason", "remedy"):
             bodies = re.findall(r"fn " + name + r"\(.*?\n(?:    )?\}", text, re.S)
             columns.append(dict(re.findall(r"::(\w+)(?:\(_\))? =>\s*(?:\{\s*)?\"([^\"]*)\"", "".join(bodies))))
-        glossary, in_table = {}, False
-        for line in (ROOT / "docs/GLOSSARY.md").read_text().splitlines():
-            in_table = line.startswith("| refusal |") or in_table and line.startswith("|")
-            cells = line.strip("| ").split(" | ")
-            if in_table and line.startswith("| `") and len(cells) == 4:
-                glossary[cells[0].strip("`")] = cells[2:]
+        glossary = {}
+        for item in items_of("docs/GLOSSARY.md", ["why", "accepted"]):
+            if item.heading == "## Refusals" and {"why", "accepted"} <= set(item.below):
+                glossary[SPAN.match(item.text)[1]] = [item.below["why"], item.below["accepted"]]
         where = "docs/GLOSSARY.md"
         self.expect(set(glossary) == set(columns[0]) == set(columns[1]), where, "its refusals are not those of crates/pc_explain/src/advice.rt")
         for name, told in glossary.items():
@@ -471,25 +491,37 @@ class Checker:
 
     def check_examples(self):
         inputs = {".script", ".toml"}
-        for example in sorted((ROOT / "examples").iterdir()):
-            if example.suffix in inputs:
-                self.expect(example.with_suffix(".output").is_file(), f"examples/{example.name}", "it has no output beside it")
+        page = ROOT / "examples/README.md"
+        told = set(SPAN.findall(page.read_text())) if page.is_file() else set()
+        folder = ROOT / "examples"
+        for example in sorted(folder.glob("**/*.*")):
+            name = str(example.relative_to(folder))
+            if example == page:
+                continue
+            self.expect(name in told, "examples/README.md", f"it does not tell of `{name}`")
+            if example.suffix in inputs and example.parent == folder:
+                self.expect(example.with_suffix(".output").is_file(), f"examples/{name}", "it has no output beside it")
             elif example.suffix == ".output":
                 beside = any(example.with_suffix(suffix).is_file() for suffix in inputs)
-                self.expect(beside, f"examples/{example.name}", "it has no script or settings beside it")
+                self.expect(beside, f"examples/{name}", "it has no script or settings beside it")
 
-    def check_citations(self):
-        kept = {".rt", ".antt", ".edit", ".md", ".txt", ".py", ".script", ".output", ""}
-        for path in sorted(ROOT.rglob("*")):
-            parts = path.relative_to(ROOT).parts
-            if {".git", "out", "__pycache__"} & set(parts) or path.suffix not in kept or not path.is_file():
-                continue
-            if parts[:2] == ("tests", "cases") or path == pathlib.Path(__file__).resolve():
-                continue
-            text = path.read_text(errors="replace")
-            cited = CITATIONS.search(text)
-            number = text.count("\n", 0, cited.start()) + 1 if cited else 1
-            self.expect(not cited, f"{path.relative_to(ROOT)}:{number}", f"it cites `{cited[0] if cited else ''}`")
+    # tests/tidy.py
+
+    def add(self, checked, findings):
+        self.checked += checked
+        self.findings += findings
+
+    def check_widths(self):
+        self.add(*tidy.widths(ROOT))
+
+    def check_files(self):
+        self.add(*tidy.files(ROOT))
+
+    def check_numbers(self):
+        self.add(*tidy.numbers(ROOT))
+
+    def check_titles(self):
+        self.add(*tidy.titles(ROOT))
 
 
 def main():
@@ -505,7 +537,10 @@ def main():
         checker.check_refusals,
         checker.check_advice,
         checker.check_examples,
-        checker.check_citations,
+        checker.check_widths,
+        checker.check_files,
+        checker.check_numbers,
+        checker.check_titles,
     ]
     failed = 0
     for check in checks:

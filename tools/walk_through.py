@@ -11,15 +11,17 @@ import pathlib
 import re
 import subprocess
 import sys
+import textwrap
 
 HEAD = """# A walk through one script
 
-`examples/{name}`, line by line: what is answered, and what each agent knows then. `tools/walk_through.py` made this page from the
-program's own output; `./test` compares them. How the layers stand on each other is drawn in `ARCHITECTURE.md`, what each line may
-say is in `FORMATS.md`.
+`examples/{name}`, line by line: what is answered, and what each agent knows then.
+`tools/walk_through.py` made this page from the program's own output; `./test` compares them. How the layers stand on
+each other is drawn in `ARCHITECTURE.md`, what each line may say is in `FORMATS.md`.
 
-Of a thread an agent knows the messages *up to* a number, by which the thread is ready, blocked or dead, and may know later ones *past
-a gap*. A cell is empty where the line changed nothing that the agent knows; `nothing` where it knows of no thread.
+Of a thread an agent knows the messages *up to* a number, by which the thread is ready, blocked or dead, and may know
+later ones *past a gap*. A cell is empty where the line changed nothing that the agent knows; `nothing` where it knows
+of no thread.
 """
 
 
@@ -92,7 +94,7 @@ def page(program, path):
     yield HEAD.format(name=path.name)
     for text, commands in blocks:
         if text:
-            yield " ".join(text) + "\n"
+            yield textwrap.fill(" ".join(text), 120, break_long_words=False, break_on_hyphens=False) + "\n"
         if not commands:
             continue
         yield "| line | reply |" + "".join(f" agent {cpu} knows |" for cpu in range(walk.cpus))

@@ -1,0 +1,112 @@
+"""Checks of the repository's files and commits, for tests/check_documents.py.
+
+Each answers how much was looked at, and its findings.
+"""
+import re
+import subprocess
+
+WIDTH = 120
+TITLE_WIDTH = 72
+# The titles of commits since this moment are looked at.
+TITLES_SINCE = "2026-11-27T00:00:00+00:00"
+UNDER_WAY = re.compile(r"\b(?:wip|merge[sd]?)\b", re.I)
+# What cites by a number: a theorem or definition, a request, a row of a table, an issue.
+NUMBERED = re.compile(
+    r"\bT\d\.\d+|\b[DRW]\d+\b|\brows? \d+\b|\b[Ii]ssue #?\d+"
+    r"|\b(?:paper|theorem|request)s? 0?\d+\b")
+SOURCES = {".rt", ".antt", ".edit", ".md", ".txt", ".py", ".sh", ".script", ".output", ".toml", ""}
+# A comment, a string, or a character.
+STRING = re.compile(r"//[^\n]*|b?r(#*)\".*?\"\1|b?\"(?:[^\"\\]|\\.)*\"|b?'(?:[^'\\\n]|\\[^'\n]*.)'", re.S)
+# What a tool looks for by itself, and so nobody has to name.
+FOUND_BY_NAME = re.compile(r"^(?:tests/cases/|README\.md$)")
+
+
+def all_files(root):
+    """The files of the repository, without what is built."""
+    for path in sorted(root.rglob("*")):
+        if path.is_file() and not {".git", "out", "__pycache__"} & set(path.relative_to(root).parts):
+            yield path
+
+
+def in_strings(text):
+    """The lines of a source that are too wide by a string literal, which no line break may cut."""
+    found = set()
+    for told in STRING.finditer(text):
+        if told[0].startswith(("//", "'")):
+            continue
+        number, column = text.count("\n", 0, told.start()) + 1, told.start() - text.rfind("\n", 0, told.start()) - 1
+        for further, line in enumerate(told[0].split("\n")):
+            begin = 0 if further else column
+            if begin <= WIDTH < begin + len(line):
+                found.add(number + further)
+    return found
+
+
+def widths(root):
+    """Lines of documents, sources and definitions that are too wide; proofs aside."""
+    kinds = ("*.md", "docs/**/*.md", "examples/*.md", "crates/*/src/**/*.rt", "crates/*/specs/**/*.antt")
+    paths = [path for kind in kinds for path in root.glob(kind)]
+    checked, findings = 0, []
+    for path in sorted(paths):
+        text = path.read_text()
+        literal = in_strings(text) if path.suffix == ".rt" else set()
+        for number, line in enumerate(text.splitlines(), 1):
+            checked += 1
+            if len(line) > WIDTH and number not in literal:
+                findings.append(f"{path.relative_to(root)}:{number}: {len(line)} columns")
+    return checked, findings
+
+
+def files(root):
+    """Files of docs/, examples/, tools/, tests/ and bench/ whose name stands in no other file.
+
+    A case of tests/cases is found by the tool that runs it. A module is named where it is imported, or by `mod NAME;`.
+    """
+    kinds = SOURCES | {".in", ".c", ".1"}
+    texts = {path: path.read_text(errors="replace") for path in all_files(root) if path.suffix in kinds}
+    checked, findings = 0, []
+    for path in all_files(root):
+        name = str(path.relative_to(root))
+        if name.split("/")[0] not in ("docs", "examples", "tools", "tests", "bench") or FOUND_BY_NAME.match(name):
+            continue
+        checked += 1
+        module = re.escape(path.name.split(".")[0])
+        imported = {".py": rf"|\bimport [\w, ]*\b{module}\b|\bfrom {module} import\b", ".in": rf"|\bmod {module};"}
+        wanted = re.compile(rf"(?<![\w-]){re.escape(path.name)}(?![\w-])" + imported.get(path.suffix, ""))
+        if not any(wanted.search(text) for other, text in texts.items() if other != path):
+            findings.append(f"{name}: no other file names it")
+    return checked, findings
+
+
+def numbers(root):
+    """What is cited by a number, in sources, documents and tests; the cases' own texts aside."""
+    checked, findings = 0, []
+    for path in all_files(root):
+        name = str(path.relative_to(root))
+        if path.suffix not in SOURCES or name.startswith("tests/cases/") or name == "tests/tidy.py":
+            continue
+        checked += 1
+        text = path.read_text(errors="replace")
+        cited = NUMBERED.search(text)
+        if cited:
+            findings.append(f"{name}:{text.count(chr(10), 0, cited.start()) + 1}: it cites `{cited[0]}`")
+    return checked, findings
+
+
+def titles(root):
+    """Titles of commits; none where there is no history."""
+    if not (root / ".git").exists():
+        return 0, []
+
+    def git(*words):
+        return subprocess.run(["git", "-C", str(root), *words], capture_output=True, text=True)
+
+    told = git("log", "--format=%h %s", f"--since={TITLES_SINCE}").stdout.splitlines()
+    findings = []
+    for line in told:
+        commit, _, title = line.partition(" ")
+        if len(title) > TITLE_WIDTH:
+            findings.append(f"commit {commit}: its title has {len(title)} columns")
+        if UNDER_WAY.search(title):
+            findings.append(f"commit {commit}: `{UNDER_WAY.search(title)[0]}` is no word of a title")
+    return len(told), findings

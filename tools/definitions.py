@@ -1,0 +1,173 @@
+#!/usr/bin/env python3
+"""Makes docs/DEFINITIONS.md from the comments of crates/*/specs/*.antt: `tools/definitions.py >docs/DEFINITIONS.md`.
+
+Crates stand in the order of crates.txt, and the files of a crate each behind those of the crate that it uses, else in
+the order of specs/Lib.antt. The comment at the head of specs/Lib.antt introduces the crate, that at the head of a file
+the file. A comment directly above a public definition is that definition's; one with an empty line behind it stands
+where it is, as prose, and one that begins with `----` as a heading. A comment above or behind a field or a constructor
+is told below its record or type. specs/Inner is left out.
+
+`--bare` tells each definition that has no comment instead, a line each, with exit status 1 where there is one.
+"""
+import pathlib
+import re
+import sys
+import textwrap
+
+ROOT = pathlib.Path(__file__).resolve().parent.parent
+WIDTH = 120
+COMMENT = re.compile(r"( *)-- ?(.*)")
+DEFINITION = re.compile(r"( *)(?:[a-z]+ )*?pub (?:(record|data|mod) )?([^\s:(){}]+)")
+CONSTRUCTOR = re.compile(r" +([^\s:(){}]+) :")
+HEAD = """\
+# Definitions
+
+This page is made by `tools/definitions.py` from the comments of the sources. The check of the documents compares them.
+
+Everything that is proved is proved against these definitions. They speak of lists, sets and "the last kind that gives
+a phase", and never of the rings, caches, folded prefixes and ranges that the code keeps. Each has its name in a file at
+the top of the `specs/` folder of the crate that owns it, and what stands there is what a reader has to trust. What
+stands below that, in `specs/Inner`, is bookkeeping of private functions: nobody has to read it to know what is
+promised. `docs/PROMISES.md` has the promises that cite these names, `docs/GLOSSARY.md` the words.
+"""
+
+
+def crates():
+    """The crates that have definitions, in the order of crates.txt."""
+    lines = (ROOT / "crates.txt").read_text().splitlines()
+    names = [line.split(":")[0].split(" ")[0] for line in lines if ":" in line and not line.startswith("#")]
+    return [name for name in names if (ROOT / "crates" / name / "specs/Lib.antt").is_file()]
+
+
+def files_of(crate):
+    """The files at the top of the crate's specs/, each behind those that it uses."""
+    folder = ROOT / "crates" / crate / "specs"
+    listed = re.findall(r"^pub mod (\w+)$", (folder / "Lib.antt").read_text(), re.M)
+    names = [name for name in listed if name != "Inner" and (folder / f"{name}.antt").is_file()]
+    uses = {}
+    for name in names:
+        used = re.findall(rf"^use Rattle\.{crate}\.specs\.(\w+)", (folder / f"{name}.antt").read_text(), re.M)
+        uses[name] = {other for other in used if other in names and other != name}
+    ordered = []
+    while len(ordered) < len(names):
+        ready = [name for name in names if name not in ordered and uses[name] <= set(ordered)]
+        left = [name for name in names if name not in ordered]
+        ordered.append((ready or left)[0])
+    return [folder / f"{name}.antt" for name in ordered]
+
+
+class Definition:
+    def __init__(self, name, line, comment, is_field, kind=""):
+        self.name, self.line, self.comment, self.is_field, self.kind = name, line, comment, is_field, kind
+
+
+def read(path):
+    """The comment at the file's head, and then, in order, definitions and pieces of prose."""
+    head, found, comment, column, group, depth = [], [], [], 0, "", 0
+    lines = path.read_text().splitlines()
+    while len(head) < len(lines) and lines[len(head)].startswith("--"):
+        head.append(COMMENT.match(lines[len(head)])[2])
+    for number, line in enumerate(lines[len(head):], len(head) + 1):
+        told = COMMENT.match(line)
+        if told:
+            comment, column = (comment if comment and column == len(told[1]) else []) + [told[2]], len(told[1])
+            continue
+        defined = DEFINITION.match(line)
+        text = " ".join(comment).strip()
+        is_inner = group in ("record", "data") and line.startswith(" " * (depth + 1))
+        if is_inner and (defined or CONSTRUCTOR.match(line)):
+            name = defined[3] if defined else CONSTRUCTOR.match(line)[1]
+            text = text or line.partition("  -- ")[2]
+            if text:
+                found.append(Definition(name, number, text, True))
+        elif defined and not line.startswith("use "):
+            group, depth = defined[2] or "", len(defined[1])
+            found.append(Definition(defined[3], number, text, False, group))
+        elif not line and comment and column == 0:
+            found.append(f"**{sentence(text.strip('- '))[:-1]}**" if text.startswith("---") else sentence(text))
+        comment = []
+    return " ".join(head), found
+
+
+def sentence(text):
+    """The text with a capital letter in front and a full stop behind it."""
+    first = text[:1].upper() + text[1:] if not text.startswith("`") else text
+    return first if first.endswith((".", "?", "!", ":")) else first + "."
+
+
+def wrapped(text, first="", rest=""):
+    return textwrap.fill(
+        text, WIDTH, initial_indent=first, subsequent_indent=rest, break_long_words=False, break_on_hyphens=False)
+
+
+def document():
+    parts = [HEAD]
+    for crate in crates():
+        introduction, _ = read(ROOT / "crates" / crate / "specs/Lib.antt")
+        files = files_of(crate)
+        if files:
+            parts.append(f"## `{crate}`\n" + (f"\n{wrapped(introduction)}\n" if introduction else ""))
+        for path in files:
+            head, found = read(path)
+            piece, in_list = [f"### `{path.stem}`\n", wrapped(sentence(head)) + "\n"], False
+            for item in found:
+                is_text = isinstance(item, str)
+                if not is_text and item.kind == "mod":
+                    continue
+                if is_text or not in_list:
+                    piece += [""] if piece[-1][-1:] != "\n" else []
+                if is_text:
+                    piece.append(wrapped(item) + "\n")
+                else:
+                    told = f"`{item.name}`" + (f": {item.comment}" if item.comment else "")
+                    indent = "  " if item.is_field else ""
+                    piece.append(wrapped(told, indent + "- ", indent + "  "))
+                in_list = not is_text
+            parts.append("\n".join(piece).rstrip("\n") + "\n")
+    return "\n".join(parts + [table()])
+
+
+def table():
+    """How many lines of specs/ each crate has."""
+    rows, sums = [], [0, 0]
+    for crate in crates():
+        folder = ROOT / "crates" / crate / "specs"
+        counts = []
+        for pattern in ("*.antt", "Inner/**/*.antt"):
+            paths = [path for path in folder.glob(pattern) if path.name not in ("Lib.antt", "Inner.antt")]
+            counts.append(sum(len(path.read_text().splitlines()) for path in paths))
+        if counts[0]:
+            rows.append(f"| `{crate}` | {counts[0]:,} | {counts[1] or '-'} |")
+            sums = [total + count for total, count in zip(sums, counts)]
+    return "\n".join([
+        "## How much there is to read", "",
+        "Lines at the top of `specs/`, which is what a reader has to trust (comments and imports counted), and of",
+        "`specs/Inner`:",
+        "", "| crate | top | inner |", "|---|---|---|", *rows, f"| all | {sums[0]:,} | {sums[1]:,} |", ""])
+
+
+def bare():
+    """The definitions that have no comment."""
+    found = []
+    for crate in crates():
+        for path in files_of(crate):
+            head, items = read(path)
+            if not head:
+                found.append(f"{path.relative_to(ROOT)}:1: no comment at its head")
+            for item in items:
+                if not isinstance(item, str) and not item.comment and item.kind != "mod":
+                    found.append(f"{path.relative_to(ROOT)}:{item.line}: `{item.name}` has no comment")
+    return found
+
+
+def main(words):
+    if words == ["--bare"]:
+        found = bare()
+        print("\n".join(found) or "each definition has a comment")
+        return 1 if found else 0
+    print(document(), end="")
+    return 0
+
+
+if __name__ == "__main__":
+    sys.exit(main(sys.argv[1:]))
