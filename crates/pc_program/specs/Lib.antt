@@ -1,10 +1,10 @@
 pub mod CommandLine
 pub mod Endings
 pub mod Inner
+pub mod Program
 pub mod Programs
 pub mod Progress
 pub mod ReportText
 pub mod Runs
 pub mod SettingsText
 pub mod StepTexts
-pub mod Theorem
