@@ -18,6 +18,7 @@ use Rattle.pc_run_queue.specs.Runs.{may_run, refreshed_as}
 abbrev pub Set : Type 0
 Set = List (ℕ × ℕ)
 
+-- one agent in plain words
 pub record PlainAgent : Type 0 where
   pub seen : Set  -- what it has taken in
   pub list : List ℕ  -- its run list, the first name first

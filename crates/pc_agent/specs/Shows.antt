@@ -39,11 +39,14 @@ cpu_of agent = agent.cpu
 abbrev pub view_of : Agent → View
 view_of agent = agent.view
 
+-- the names of an agent's run list, in order
 abbrev pub list_of : Agent → List ℕ
 list_of agent = agent.list
 
+-- how many items at the front of its queue an agent has sent
 abbrev pub sent_of : Agent → ℕ
 sent_of agent = agent.shown
 
+-- what an agent has counted
 abbrev pub counts_of : Agent → Counts
 counts_of agent = agent.counts

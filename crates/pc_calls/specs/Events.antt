@@ -5,7 +5,9 @@ use Rattle.pc_calls.specs.declared.call.Answer.TheVariants as answer
 use Rattle.pc_calls.specs.declared.call.Call.{Call}
 use Rattle.pc_calls.specs.declared.call.Call.TheVariants as call
 use Rattle.pc_calls.specs.declared.event.Event.{Event}
-use Rattle.pc_calls.specs.declared.event.Event.TheVariants.{Env, Associate, Commit, Sleep, Rouse, Config, Publish, Consume, Deliver, Answer as AnswerDigest, Pick, Steal, Crash}
+use Rattle.pc_calls.specs.declared.event.Event.TheVariants.{Env, Associate, Commit, Sleep, Rouse, Config, Publish}
+use Rattle.pc_calls.specs.declared.event.Event.TheVariants.{Consume, Deliver, Answer as AnswerDigest, Pick, Steal}
+use Rattle.pc_calls.specs.declared.event.Event.TheVariants.{Crash}
 use Rattle.pc_calls.specs.declared.event.Reply.{Reply}
 use Rattle.pc_calls.specs.declared.event.Reply.TheVariants as reply
 use Rattle.pc_calls.specs.declared.refusal.Refusal.{Refusal}

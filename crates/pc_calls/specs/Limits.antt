@@ -2,7 +2,8 @@
 use Rattle.std.specs.Prelude.{ℕ, Bool, ◌&&◌, not, nat_le, [], ◌∷◌, Option}
 use Rattle.pc_messages.specs.declared.message.TheConstants.{GREATEST_NUMBER}
 use Rattle.pc_calls.specs.Conditions.{first_of}
-use Rattle.pc_calls.specs.declared.limits.TheConstants.{MOST_CPUS, MOST_THREADS, MOST_THREADS_TWO, MOST_NUMBERS, MOST_ROOM, MOST_POSTS}
+use Rattle.pc_calls.specs.declared.limits.TheConstants.{MOST_CPUS, MOST_THREADS, MOST_THREADS_TWO, MOST_NUMBERS}
+use Rattle.pc_calls.specs.declared.limits.TheConstants.{MOST_ROOM, MOST_POSTS}
 use Rattle.pc_calls.specs.declared.limits.Limits.{Limits}
 use Rattle.pc_calls.specs.declared.limits.Profile.{Profile}
 use Rattle.pc_calls.specs.declared.limits.Profile.TheVariants.{One, Two}
@@ -14,6 +15,7 @@ abbrev pub most_threads : Profile → ℕ
 most_threads One = MOST_THREADS
 most_threads Two = MOST_THREADS_TWO
 
+-- the most messages of a thread: 1,000,000 in profile One, 16,000,000 in profile Two
 abbrev pub most_numbers : Profile → ℕ
 most_numbers One = MOST_NUMBERS
 most_numbers Two = GREATEST_NUMBER

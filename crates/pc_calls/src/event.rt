@@ -62,8 +62,8 @@ pub enum Event {
         cpu: Cpu,
         aseq: u32,
     },
-    /// The agent takes the least thread that its view reports ready and allowed on its CPU, that is not in its run list,
-    /// and that the kernel knows and has on no CPU.
+    /// The agent takes the least thread that its view reports ready and allowed on its CPU, that is not in its run
+    /// list, and that the kernel knows and has on no CPU.
     Steal {
         cpu: Cpu,
     },
@@ -75,8 +75,8 @@ pub enum Event {
 
 /// What an event is answered.
 ///
-/// In each variant what is short stands in front of what is wide. A reply is copied in the pieces that the fields of all
-/// variants cut it into, and a lone byte amid wide fields leaves pieces of odd sizes, which are slow to copy.
+/// In each variant what is short stands in front of what is wide. A reply is copied in the pieces that the fields of
+/// all variants cut it into, and a lone byte amid wide fields leaves pieces of odd sizes, which are slow to copy.
 #[derive(Clone, Copy, Debug, PartialEq, Eq)]
 pub enum Reply {
     /// It is done, and there is nothing more to say.

@@ -54,7 +54,9 @@ fn write_picture<W: Write>(report: &LoadReport, writer: &mut W) -> io::Result<()
 ///
 /// It takes no memory. The picture is written piece by piece, so a writer without a buffer is slow; nothing is flushed.
 pub fn draw_report<W: Write>(report: &LoadReport, writer: &mut W) -> io::Result<()>
-    ensures { OnOk result ((written : List ℕ) × IsPictureOfReport report.now written × Appends (W.contents writer.old) (W.contents writer.new) written) }
+    ensures { OnOk result
+        ((written : List ℕ) × IsPictureOfReport report.now written
+        × Appends (W.contents writer.old) (W.contents writer.new) written) }
 {
     write_picture(report, writer)
 }

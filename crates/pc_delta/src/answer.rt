@@ -1,13 +1,15 @@
 //! Deltas that answer an asker.
 
-ghost use Rattle.std.specs.Prelude.{ℕ, ◌≡◌, ◌<◌, ◌≤◌, true, List, [], ◌∷◌, ◌++◌, None, Some, Option, All, IfOk, OnOk, MatchOption, IsTrue, IsFalse, option_copied, vec_capacity, vec_len};
+ghost use Rattle.std.specs.Prelude.{ℕ, ◌≡◌, ◌<◌, ◌≤◌, true, List, [], ◌∷◌, ◌++◌, None, Some, Option, All, IfOk, OnOk};
+ghost use Rattle.std.specs.Prelude.{MatchOption, IsTrue, IsFalse, option_copied, vec_capacity, vec_len};
 ghost use Rattle.pc_join.specs.ByName.{AscendFrom, known_in};
 ghost use Rattle.pc_thread_view.specs.Told.{tells};
 ghost use Rattle.pc_view.specs.Views.{pairs_of};
 ghost use Rattle.pc_delta.specs.declared.part.Part.{Part};
 ghost use Rattle.pc_delta.specs.Faults.{first_fault};
 ghost use Rattle.pc_delta.specs.Exchange.{IsAnswer, IsAnswerTo};
-ghost use Rattle.pc_delta.specs.Inner.Answering.{IsUsefulOf, IsLacking, IsOneOf, KnowsPrefix, TellsAll, TellsPrefix, listed};
+ghost use Rattle.pc_delta.specs.Inner.Answering.{IsUsefulOf, IsLacking, IsOneOf, KnowsPrefix, TellsAll, TellsPrefix};
+ghost use Rattle.pc_delta.specs.Inner.Answering.{listed};
 
 use crate::delta::Delta;
 use crate::digest::Digest;
@@ -56,12 +58,14 @@ fn lacking_parts<A: Asker>(alloc: Global, view: &View, asker: &A) -> Result<Vec<
 /// Whether all that is told of a thread is known, as far as that is seen at a glance: where no message of it is early,
 /// as mostly, its last number decides.
 fn has_all<K: Known>(held: &ThreadView, known: Option<&K>) -> bool
-    ensures { IsTrue result → (n : ℕ) → tells held.now n ≡ true → known_in K.known (option_copied known.entry) (n ∷ []) ≡ true }
+    ensures { IsTrue result → (n : ℕ) → tells held.now n ≡ true
+        → known_in K.known (option_copied known.entry) (n ∷ []) ≡ true }
 {
     held.early().is_empty() && !lacks(known, held.upto())
 }
 
-/// Adds what is not known of a thread. Mostly that is nothing, or its first messages alone: both stand where threads are walked.
+/// Adds what is not known of a thread. Mostly that is nothing, or its first messages alone: both stand where threads
+/// are walked.
 #[inline(always)]
 fn add_thread<K: Known>(
     parts: &mut Vec<Part>,
@@ -83,8 +87,8 @@ fn add_thread<K: Known>(
     Ok(())
 }
 
-/// Adds an early message, where it is not known. It is looked for near a place, and the next one is to be looked for near that which is
-/// answered.
+/// Adds an early message, where it is not known. It is looked for near a place, and the next one is to be looked for
+/// near that which is answered.
 #[inline(never)]
 fn add_early<K: Known>(
     parts: &mut Vec<Part>,
@@ -102,11 +106,12 @@ fn add_early<K: Known>(
     Ok(next)
 }
 
-/// A full list of fewer items than these gets room for four times as many, an empty one for one; a longer one grows as `Vec` has it.
+/// A full list of fewer items than these gets room for four times as many, an empty one for one; a longer one grows as
+/// `Vec` has it.
 const MANY: usize = 4_096;
 
-/// Makes room for at least one more item. An agent that has started again is told of all threads, and to grow a list step by
-/// step is mostly to copy it.
+/// Makes room for at least one more item. An agent that has started again is told of all threads, and to grow a list
+/// step by step is mostly to copy it.
 #[inline(never)]
 fn make_room<T>(items: &mut Vec<T>) -> Result<(), OutOfMemory>
     ensures same { items.new.items ≡ items.old.items }
@@ -162,7 +167,8 @@ fn early_part<K: Known>(
 #[inline(always)]
 fn folded_part<K: Known>(thread: Tid, held: &ThreadView, known: Option<&K>) -> Option<Part>
     ensures { MatchOption result (KnowsPrefix (known_in K.known (option_copied known.entry)) held.now.upto)
-        (λ part. IsUsefulOf thread held.now (known_in K.known (option_copied known.entry)) part × TellsPrefix thread held.now.upto part) }
+        (λ part. IsUsefulOf thread held.now (known_in K.known (option_copied known.entry)) part
+        × TellsPrefix thread held.now.upto part) }
 {
     let upto = held.upto();
     if !lacks(known, upto) {

@@ -44,11 +44,14 @@ impl Delta {
         ensures kept { IfOk result (λ delta. delta ≡ parts.items) }
         ensures no_fault { IfOk result (λ delta. first_fault parts.items ≡ None) }
         ensures no_conflict { IfOk result (λ delta. HasNoConflict parts.items) }
-        ensures zero_number { (result ≡ Err DeltaFault.ZeroNumber) ↔ (first_fault parts.items ≡ Some DeltaFault.ZeroNumber) }
-        ensures number_too_large { (result ≡ Err DeltaFault.NumberTooLarge) ↔ (first_fault parts.items ≡ Some DeltaFault.NumberTooLarge) }
+        ensures zero_number { (result ≡ Err DeltaFault.ZeroNumber)
+            ↔ (first_fault parts.items ≡ Some DeltaFault.ZeroNumber) }
+        ensures number_too_large { (result ≡ Err DeltaFault.NumberTooLarge)
+            ↔ (first_fault parts.items ≡ Some DeltaFault.NumberTooLarge) }
         ensures created_misplaced { (result ≡ Err DeltaFault.CreatedMisplaced) ↔
             (first_fault parts.items ≡ Some DeltaFault.CreatedMisplaced) }
-        ensures ran_too_large { (result ≡ Err DeltaFault.RanTooLarge) ↔ (first_fault parts.items ≡ Some DeltaFault.RanTooLarge) }
+        ensures ran_too_large { (result ≡ Err DeltaFault.RanTooLarge)
+            ↔ (first_fault parts.items ≡ Some DeltaFault.RanTooLarge) }
         ensures out_of_memory { result ≡ Err DeltaFault.OutOfMemory → first_fault parts.items ≡ None }
         ensures conflict { (thread number : ℕ) → result ≡ Err (DeltaFault.Conflict thread number)
             → (first_fault parts.items ≡ None) × IsLeastConflict parts.items thread number }
@@ -68,8 +71,8 @@ impl Delta {
         }
     }
 
-    /// The delta that tells each message of these items, as a queue holds them: one part for each, in their order (own).
-    /// Nothing is left to test in what a kernel queued, so only want of memory can refuse it.
+    /// The delta that tells each message of these items, as a queue holds them: one part for each, in their order
+    /// (own). Nothing is left to test in what a kernel queued, so only want of memory can refuse it.
     pub fn of_items(alloc: Global, items: &[Item]) -> Result<Delta, OutOfMemory>
         requires tellable { AreTellable items.now }
         ensures told { IfOk result (λ delta. delta ≡ parts_in items.now) }

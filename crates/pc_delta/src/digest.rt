@@ -91,9 +91,11 @@ impl Join for Digest {
     ghost is_of = { IsOfAnySource };
 
     fn join_from(&mut self, other: &Digest) -> Result<(), OutOfMemory>
-        ensures union { OnOk result (IsUnion (set_of_digest self.old) (set_of_digest other.now) (set_of_digest self.new)) }
+        ensures union { OnOk result
+            (IsUnion (set_of_digest self.old) (set_of_digest other.now) (set_of_digest self.new)) }
         ensures between { IsBetween (set_of_digest self.old) (set_of_digest other.now) (set_of_digest self.new) }
-        ensures of_source { (s : Source) → IsOfAnySource self.old s → IsOfAnySource other.now s → IsOfAnySource self.new s }
+        ensures of_source { (s : Source) → IsOfAnySource self.old s → IsOfAnySource other.now s
+            → IsOfAnySource self.new s }
         ensures of_any_source { IsDigest self.new }
     {
         self.numbers.join_from(&other.numbers)

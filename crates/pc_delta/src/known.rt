@@ -25,7 +25,8 @@ pub trait Asker {
 
     /// What is known of the thread; none where nothing is.
     fn of_thread(&self, thread: Tid) -> Option<&Self::Of>
-        ensures { (m : List ℕ) → members self.now (thread ∷ m) ≡ known_in Self.Of.Known.known (option_copied result) m };
+        ensures { (m : List ℕ)
+            → members self.now (thread ∷ m) ≡ known_in Self.Of.Known.known (option_copied result) m };
 }
 
 /// What an asker knows of one thread: the numbers of a digest, or what its view has.
@@ -33,7 +34,8 @@ pub trait Known {
     /// The numbers that are known.
     ghost known: { Self → Members };
 
-    /// Whether the number is known, and where to look for a later one; of several that ascend each is looked for where the last one was.
+    /// Whether the number is known, and where to look for a later one; of several that ascend each is looked for where
+    /// the last one was.
     fn knows_from(&self, number: u32, place: usize) -> (bool, usize)
         ensures { result.0 ≡ known self.now (number ∷ []) };
 

@@ -22,7 +22,8 @@ ghost use Rattle.pc_delta.specs.Worked.{NoParts, Numbers, Misplaced, Ran, FirstP
 pub fn equal_unions_give_equal_views()
     ensures { (run : Run) (deltas others : List (List Part)) (before after start end : View) → IsOfRun run before
         → IsOfRun run start → AreOfRun run (all_parts deltas) → AreOfRun run (all_parts others)
-        → IsSameSet (λ m. pairs_of before m || set_of (all_parts deltas) m) (λ m. pairs_of start m || set_of (all_parts others) m)
+        → IsSameSet (λ m. pairs_of before m || set_of (all_parts deltas) m)
+        (λ m. pairs_of start m || set_of (all_parts others) m)
         → IsTakenIn (all_parts deltas) before after → IsTakenIn (all_parts others) start end → after ≡ end }
 {}
 
@@ -50,7 +51,8 @@ pub fn taking_in_again_completes()
 /// Equal digests of views of one run mean equal views.
 pub fn digests_tell_views_apart()
     ensures { (run : Run) (a b : View) (digest other : RangesByName) → IsOfRun run a → IsOfRun run b
-        → IsSameSet (set_of_digest digest) (pairs_of a) → IsSameSet (set_of_digest other) (pairs_of b) → digest ≡ other → a ≡ b }
+        → IsSameSet (set_of_digest digest) (pairs_of a) → IsSameSet (set_of_digest other) (pairs_of b) → digest ≡ other
+        → a ≡ b }
 {}
 
 /// Two digests are equal exactly where they are of the same sets of numbers.
@@ -65,7 +67,8 @@ pub fn one_run_has_no_conflict()
 
 /// Parts of a run are parts of each run that goes on from it.
 pub fn parts_stay_as_the_run_goes_on()
-    ensures { (longer shorter : Run) (parts : List Part) → Extends longer shorter → AreOfRun shorter parts → AreOfRun longer parts }
+    ensures { (longer shorter : Run) (parts : List Part) → Extends longer shorter → AreOfRun shorter parts
+        → AreOfRun longer parts }
 {}
 
 /// What parts without a fault are: each message is well formed, and each folded part has a number from 1 to

@@ -55,7 +55,8 @@ fn take_part(view: &mut View, part: Part) -> Result<(), OutOfMemory>
     ensures union { OnOk result (IsUnion (pairs_of view.old) (set_of_part part) (pairs_of view.new)) }
     ensures between { IsBetween (pairs_of view.old) (set_of_part part) (pairs_of view.new) }
     ensures of_run { (run : Run) → IsOfRun run view.old → IsPartOfRun run part → IsOfRun run view.new }
-    ensures others { (other : ℕ) → ¬ (other ≡ thread_of_part part) → thread_of view.new other ≡ thread_of view.old other }
+    ensures others { (other : ℕ) → ¬ (other ≡ thread_of_part part)
+        → thread_of view.new other ≡ thread_of view.old other }
 {
     match part {
         Part::One(message) => view.insert(message),

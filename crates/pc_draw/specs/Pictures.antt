@@ -34,8 +34,8 @@ abbrev pub script_title : ℕ → ℕ → Outcome → List ℕ
 script_title commands refused outcome =
     codes "commands " ++ (decimal commands ++ (codes ", refused " ++ (decimal refused ++ fault_text outcome)))
 
--- The picture of a script: it tells how many commands the script's text asks for, how many of them were refused in a run over
--- them, and its fault, and has marks beside
+-- The picture of a script: it tells how many commands the script's text asks for, how many of them were refused in a
+-- run over them, and its fault, and has marks beside
 pub record IsPictureOf (IsRun : Profile → List Command → List Response → Type 0) (script : List ℕ) (outcome : Outcome)
     (written : List ℕ) : Type 0 where
   pub profile : Profile
@@ -45,4 +45,5 @@ pub record IsPictureOf (IsRun : Profile → List Command → List Response → T
   pub height : ℕ
   pub marks : List ℕ
   pub are_marks : AreMarks marks
-  pub text : written ≡ picture_text width height (script_title (length runs.commands) (refused_among responses) outcome) marks
+  pub text : written
+      ≡ picture_text width height (script_title (length runs.commands) (refused_among responses) outcome) marks

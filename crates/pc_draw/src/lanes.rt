@@ -1,4 +1,5 @@
-//! What goes on at each CPU, as the world tells it: who runs, who waits, what the queue holds, and whether the agent sleeps.
+//! What goes on at each CPU, as the world tells it: who runs, who waits, what the queue holds, and whether the
+//! agent sleeps.
 
 use pc_messages::{Cpu, Phase, Tid};
 use pc_world::World;

@@ -1,7 +1,7 @@
 //! Where things stand in the picture of a script, in pixels.
 //!
-//! Steps go from left to right, each in a column of its own up to [`MOST_SINGLE`] of them; beyond, a column is of several steps. CPUs
-//! have lanes, one under another.
+//! Steps go from left to right, each in a column of its own up to [`MOST_SINGLE`] of them; beyond, a column is of
+//! several steps. CPUs have lanes, one under another.
 
 use crate::legend::legend_height;
 

@@ -1,7 +1,8 @@
 //! What a script's picture shows of single steps: posts, deltas, moves of threads, refusals and crashes.
 //!
-//! Where a column is of several steps, only crashes and moves are shown here, and of each no more than [`MOST_MOMENTS`]: words tell how
-//! many there are, and how many refused commands are of no CPU. The others are counted in rows.
+//! Where a column is of several steps, only crashes and moves are shown here, and of each no more than
+//! [`MOST_MOMENTS`]: words tell how many there are, and how many refused commands are of no CPU. The others are counted
+//! in rows.
 
 use crate::layout::{Layout, TOP};
 use crate::step::{Answer, Reason, Sent, Step};

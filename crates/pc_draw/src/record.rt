@@ -25,8 +25,8 @@ struct Thread {
     waits: bool,
 }
 
-/// What was recorded last of the world. An event changes only the CPUs and the thread that it and its reply name: the world is asked
-/// of these alone.
+/// What was recorded last of the world. An event changes only the CPUs and the thread that it and its reply name: the
+/// world is asked of these alone.
 #[derive(Drop)]
 struct Last {
     threads: Vec<Thread>,
@@ -160,7 +160,8 @@ impl Last {
 impl Recorder {
     /// Before the first line.
     pub(crate) fn new(alloc: Global) -> Recorder
-        ensures { (vec_len result.story.steps ≡ 0) × (result.story.refused ≡ 0) × (result.story.outcome ≡ Outcome.Finished) }
+        ensures { (vec_len result.story.steps ≡ 0) × (result.story.refused ≡ 0)
+            × (result.story.outcome ≡ Outcome.Finished) }
     {
         Recorder {
             story: Story::new(alloc),
@@ -239,7 +240,8 @@ fn home_before(command: &Command, session: &Session) -> Option<Cpu> {
 
 impl<W: Write> Observer<Session, W> for Recorder {
     ghost Tells = { λ old before notices new after. (after ≡ before)
-        × Records notices (vec_len old.story.steps) old.story.refused old.story.outcome (vec_len new.story.steps) new.story.refused new.story.outcome };
+        × Records notices (vec_len old.story.steps) old.story.refused old.story.outcome
+        (vec_len new.story.steps) new.story.refused new.story.outcome };
 
     ghost MayFail = { λ fault. fault ≡ ScriptFault.OutOfMemory };
 
@@ -270,7 +272,8 @@ impl<W: Write> Observer<Session, W> for Recorder {
         Ok(())
     }
 
-    ghost tells_nothing = { λ observer known. told_nothing known (vec_len observer.story.steps) observer.story.refused observer.story.outcome };
+    ghost tells_nothing = { λ observer known. told_nothing known
+        (vec_len observer.story.steps) observer.story.refused observer.story.outcome };
 
     ghost tells_more = { λ old now new before here after notices further. told_more before here after notices further };
 }

@@ -13,23 +13,27 @@ use pc_session::Session;
 use std::alloc::Global;
 use std::io::{Read, Sink, Write, sink};
 
-/// Reads a script, answers its commands one after another in a session of its own, and writes a picture of what happened.
+/// Reads a script, answers its commands one after another in a session of its own, and writes a picture of
+/// what happened.
 ///
-/// The whole script is answered, and all memory is taken, before the first byte is written. Reading and the faults are as in
-/// [`pc_script::run_script`]; a script that ends at a fault is drawn up to there. The picture is written piece by piece, so a
-/// writer without a buffer is slow; nothing is flushed.
+/// The whole script is answered, and all memory is taken, before the first byte is written. Reading and the faults are
+/// as in [`pc_script::run_script`]; a script that ends at a fault is drawn up to there. The picture is written piece by
+/// piece, so a writer without a buffer is slow; nothing is flushed.
 pub fn draw_script<R: Read, W: Write>(
     alloc: Global,
     reader: &mut R,
     writer: &mut W,
 ) -> Result<Outcome, ScriptFault>
     ensures ok { IfOk result (λ outcome. IfSome (R.remaining reader.old) (λ text. (written : List ℕ)
-        × IsPictureOf IsSession text outcome written × Appends (W.contents writer.old) (W.contents writer.new) written)) }
+        × IsPictureOf IsSession text outcome written
+        × Appends (W.contents writer.old) (W.contents writer.new) written)) }
     ensures no_memory { result ≡ Err ScriptFault.OutOfMemory → writer.new ≡ writer.old }
     ensures unread { (result ≡ Err ScriptFault.Read) ⊎ (result ≡ Err ScriptFault.TooLong) → writer.new ≡ writer.old }
-    ensures too_long { result ≡ Err ScriptFault.TooLong → IfSome (R.remaining reader.old) (λ text. MOST_BYTES < length text) }
+    ensures too_long { result ≡ Err ScriptFault.TooLong
+        → IfSome (R.remaining reader.old) (λ text. MOST_BYTES < length text) }
     ensures short { OnOk result (IfSome (R.remaining reader.old) (λ text. length text ≤ MOST_BYTES)) }
-    ensures reads { (bytes : List ℕ) × (length bytes ≤ MOST_BYTES + 1) × Consumes (R.remaining reader.old) (R.remaining reader.new) bytes }
+    ensures reads { (bytes : List ℕ) × (length bytes ≤ MOST_BYTES + 1)
+        × Consumes (R.remaining reader.old) (R.remaining reader.new) bytes }
 {
     let text = read_text(alloc, reader)?;
     let mut recorder = Recorder::new(alloc);

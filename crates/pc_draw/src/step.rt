@@ -137,8 +137,8 @@ impl Story {
 }
 
 impl Step {
-    /// The lane at which it is shown: of the CPU that its event names, or of its thread's home; past all lanes where there is
-    /// neither.
+    /// The lane at which it is shown: of the CPU that its event names, or of its thread's home; past all lanes where
+    /// there is neither.
     pub(crate) fn lane(&self) -> usize {
         let Command::Event(event) = &self.command else {
             return MOST_LANES;
@@ -150,8 +150,8 @@ impl Step {
     }
 }
 
-/// The CPU that an event names: whose agent acts, on which a thread runs, or whose queue it is about. None of those that name a
-/// thread alone.
+/// The CPU that an event names: whose agent acts, on which a thread runs, or whose queue it is about. None of those
+/// that name a thread alone.
 pub(crate) fn cpu_of(event: &Event) -> Option<Cpu> {
     match event {
         Event::Env(call) => cpu_of_call(call),
@@ -182,8 +182,8 @@ fn cpu_of_call(call: &EnvCall) -> Option<Cpu> {
     }
 }
 
-/// The CPUs beside that one at which an event may change something: the queue of a post, the agent that it woke, and the agent
-/// that a queue is set to wake.
+/// The CPUs beside that one at which an event may change something: the queue of a post, the agent that it woke, and
+/// the agent that a queue is set to wake.
 pub(crate) fn other_cpus(event: &Event, reply: &Reply) -> [Option<Cpu>; 2] {
     match (event, reply) {
         (_, Reply::Posted(posted)) => [Some(posted.queue), posted.woken],

@@ -7,6 +7,8 @@ abbrev pub is_comment : List ℕ → Bool
 is_comment [] = false
 is_comment (first ∷ others) = first == 35
 
--- the text without its comments: of the parts between line feeds those that are none, with line feeds between them again
+-- the text without its comments: of the parts between line feeds those that are none, with line feeds between
+-- them again
 abbrev pub without_comments : List ℕ → List ℕ
-without_comments text = join_with_byte 10 (filter (λ line. not (is_comment line)) (slice_split (λ byte. byte == 10) text))
+without_comments text =
+    join_with_byte 10 (filter (λ line. not (is_comment line)) (slice_split (λ byte. byte == 10) text))

@@ -1,2 +1,3 @@
+-- An explained script has comments between the replies. Without them it is the script's output.
 pub mod Comments
 pub mod Inner

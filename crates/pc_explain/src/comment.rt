@@ -24,7 +24,8 @@ fn first_line(text: &[u8]) -> &[u8]
 
 /// Writes a `#`, two texts, and a line feed.
 fn write_line<W: Write>(front: &[u8], text: &[u8], writer: &mut W) -> io::Result<()>
-    ensures { OnOk result (Appends (W.contents writer.old) (W.contents writer.new) (35 ∷ (front.now ++ text.now) ++ 10 ∷ [])) }
+    ensures { OnOk result
+        (Appends (W.contents writer.old) (W.contents writer.new) (35 ∷ (front.now ++ text.now) ++ 10 ∷ [])) }
 {
     writer.write_all(b"#")?;
     writer.write_all(front)?;
@@ -87,7 +88,8 @@ pub(crate) fn write_response<W: Write>(
     response: &Response,
     writer: &mut W,
 ) -> Result<(), ScriptFault>
-    ensures ok { OnOk result (Annotates (text_line (response_text response.now)) (W.contents writer.old) (W.contents writer.new)) }
+    ensures ok { OnOk result
+        (Annotates (text_line (response_text response.now)) (W.contents writer.old) (W.contents writer.new)) }
     ensures err { (fault : ScriptFault) → result ≡ Err fault → fault ≡ ScriptFault.Write }
 {
     match response.write_to(writer) {

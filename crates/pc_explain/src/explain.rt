@@ -71,7 +71,8 @@ fn write_told<W: Write>(
     sentences: &Sentences,
     writer: &mut W,
 ) -> Result<(), ScriptFault>
-    ensures ok { OnOk result (Annotates (text_line (response_text response.now)) (W.contents writer.old) (W.contents writer.new)) }
+    ensures ok { OnOk result
+        (Annotates (text_line (response_text response.now)) (W.contents writer.old) (W.contents writer.new)) }
     ensures err { (fault : ScriptFault) → result ≡ Err fault → fault ≡ ScriptFault.Write }
 {
     write_heading(line.number, line.text, writer)?;
@@ -81,7 +82,8 @@ fn write_told<W: Write>(
 
 /// Writes that the line with this number is a fault.
 fn write_fault_line<W: Write>(number: u32, writer: &mut W) -> Result<(), ScriptFault>
-    ensures ok { OnOk result (Annotates (outcome_text (Outcome.FaultLine number)) (W.contents writer.old) (W.contents writer.new)) }
+    ensures ok { OnOk result
+        (Annotates (outcome_text (Outcome.FaultLine number)) (W.contents writer.old) (W.contents writer.new)) }
     ensures err { (fault : ScriptFault) → result ≡ Err fault → fault ≡ ScriptFault.Write }
 {
     match writeln!(writer, "fault line {number}") {
@@ -96,7 +98,9 @@ fn write_fault<W: Write>(
     sentences: &Sentences,
     writer: &mut W,
 ) -> Result<(), ScriptFault>
-    ensures ok { OnOk result (Annotates (outcome_text (Outcome.FaultLine line.entry.number)) (W.contents writer.old) (W.contents writer.new)) }
+    ensures ok { OnOk result
+        (Annotates (outcome_text (Outcome.FaultLine line.entry.number)) (W.contents writer.old)
+        (W.contents writer.new)) }
     ensures err { (fault : ScriptFault) → result ≡ Err fault → fault ≡ ScriptFault.Write }
 {
     write_heading(line.number, line.text, writer)?;
@@ -138,23 +142,30 @@ impl<W: Write> Observer<Session, W> for Comments {
     ghost tells_more = { λ old now new before here after notices further. told_more before here after notices further };
 }
 
-/// Reads a script, answers its commands one after another in a session of its own, and writes the responses with comments between.
+/// Reads a script, answers its commands one after another in a session of its own, and writes the responses with
+/// comments between.
 ///
-/// What is written is, without its comments, what [`pc_script::run_script`] writes. Reading and the faults are as there. Comments take
-/// no memory. They are written line by line, so a writer without a buffer is slow; nothing is flushed.
+/// What is written is, without its comments, what [`pc_script::run_script`] writes. Reading and the faults are as
+/// there. Comments take no memory. They are written line by line, so a writer without a buffer is slow; nothing
+/// is flushed.
 pub fn explain_script<R: Read, W: Write>(
     alloc: Global,
     reader: &mut R,
     writer: &mut W,
 ) -> Result<Outcome, ScriptFault>
     ensures ok { IfOk result (λ outcome. IfSome (R.remaining reader.old) (λ text. (written : List ℕ)
-        × IsOutput IsSession text outcome (without_comments written) × Appends (W.contents writer.old) (W.contents writer.new) written)) }
-    ensures no_memory { result ≡ Err ScriptFault.OutOfMemory → (writer.new ≡ writer.old) ⊎ IfSome (R.remaining reader.old) (λ text. (written : List ℕ)
-        × IsOutputUntil IsSession RanOut text (without_comments written) × Appends (W.contents writer.old) (W.contents writer.new) written) }
+        × IsOutput IsSession text outcome (without_comments written)
+        × Appends (W.contents writer.old) (W.contents writer.new) written)) }
+    ensures no_memory { result ≡ Err ScriptFault.OutOfMemory → (writer.new ≡ writer.old)
+        ⊎ IfSome (R.remaining reader.old) (λ text. (written : List ℕ)
+        × IsOutputUntil IsSession RanOut text (without_comments written)
+        × Appends (W.contents writer.old) (W.contents writer.new) written) }
     ensures unread { (result ≡ Err ScriptFault.Read) ⊎ (result ≡ Err ScriptFault.TooLong) → writer.new ≡ writer.old }
-    ensures too_long { result ≡ Err ScriptFault.TooLong → IfSome (R.remaining reader.old) (λ text. MOST_BYTES < length text) }
+    ensures too_long { result ≡ Err ScriptFault.TooLong
+        → IfSome (R.remaining reader.old) (λ text. MOST_BYTES < length text) }
     ensures short { OnOk result (IfSome (R.remaining reader.old) (λ text. length text ≤ MOST_BYTES)) }
-    ensures reads { (bytes : List ℕ) × (length bytes ≤ MOST_BYTES + 1) × Consumes (R.remaining reader.old) (R.remaining reader.new) bytes }
+    ensures reads { (bytes : List ℕ) × (length bytes ≤ MOST_BYTES + 1)
+        × Consumes (R.remaining reader.old) (R.remaining reader.new) bytes }
 {
     let text = read_text(alloc, reader)?;
     let mut comments = Comments {

@@ -1,4 +1,5 @@
-//! The sentences on a line that is no command: which word is wrong, what was wanted there, and how the command is written.
+//! The sentences on a line that is no command: which word is wrong, what was wanted there, and how the command
+//! is written.
 
 use crate::sentences::Sentences;
 use crate::words::Quoted;
@@ -14,21 +15,25 @@ pub(crate) fn tell_fault(text: &mut Sentences, line: &[u8]) {
 fn fault(text: &mut Sentences, line: &[u8]) -> fmt::Result {
     match trouble_in(line) {
         Some(Trouble::NoCommand { word }) => no_command(text, word),
-        Some(Trouble::Missing {
-            verb,
-            place,
-            wanted,
-        }) => {
+        Some(
+            Trouble::Missing {
+                verb,
+                place,
+                wanted,
+            },
+        ) => {
             let words = words_of(wanted);
             writeln!(text, "Word {place} is missing: {words} was wanted.")?;
             form(text, verb)
         }
-        Some(Trouble::Wrong {
-            verb,
-            place,
-            word,
-            wanted,
-        }) => {
+        Some(
+            Trouble::Wrong {
+                verb,
+                place,
+                word,
+                wanted,
+            },
+        ) => {
             let quoted = Quoted(word);
             let words = words_of(wanted);
             writeln!(text, "Word {place}, `{quoted}`: {words} was wanted.")?;

@@ -1,8 +1,8 @@
 //! What happens at each line of a script, in plain sentences.
 //!
-//! What is written is what the script's run writes, with comments between: before each reply the line that it answers, with
-//! its number, and after it what changed, or why it was refused and what would be accepted. Without the comments it is
-//! exactly what the run writes. The sentences themselves are tested, not proved.
+//! What is written is what the script's run writes, with comments between: before each reply the line that it answers,
+//! with its number, and after it what changed, or why it was refused and what would be accepted. Without the comments
+//! it is exactly what the run writes. The sentences themselves are tested, not proved.
 #![tactic(auto)]
 
 mod advice;

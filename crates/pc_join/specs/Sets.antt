@@ -37,7 +37,8 @@ abbrev pub AgreesOn : Members → Source → Source → Type 0
 AgreesOn set s t = (m : List ℕ) → set m ≡ true → ¬ (s m ≡ None) → t m ≡ s m
 
 -- x is a join of a and b: all are of the source, and x has the union of their sets
-pub record IsJoin {A : Type 0} (known : A → Members) (is_of : A → Source → Type 0) (s : Source) (a b x : A) : Type 0 where
+pub record IsJoin {A : Type 0} (known : A → Members) (is_of : A → Source → Type 0) (s : Source)
+    (a b x : A) : Type 0 where
   pub first : is_of a s
   pub second : is_of b s
   pub join : is_of x s

@@ -1,10 +1,12 @@
 //! Values by the name of the thread that they are about.
 
-ghost use Rattle.std.specs.Prelude.{ℕ, ◌≡◌, ◌↔◌, ◌<◌, ◌^◌, ◌++◌, Bool, true, false, List, [], ◌∷◌, Some, None, IsTrue, IsOk, IfOk, OnOk, OnErr, IfSome, MatchOption, IsSome, All, option_copied};
+ghost use Rattle.std.specs.Prelude.{ℕ, ◌≡◌, ◌↔◌, ◌<◌, ◌^◌, ◌++◌, Bool, true, false, List, [], ◌∷◌, Some, None, IsTrue};
+ghost use Rattle.std.specs.Prelude.{IsOk, IfOk, OnOk, OnErr, IfSome, MatchOption, IsSome, All, option_copied};
 ghost use Rattle.std.specs.FinMap as map;
 ghost use Rattle.std.specs.Ordering.{nat_cmp};
 ghost use Rattle.pc_join.specs.Sets.{Members, Source, IsUnion, IsBetween, IsWithin, IsVoid, members_at, source_at};
-ghost use Rattle.pc_join.specs.ByName.{members_by_name, IsOfByName, HoldsNoEmpty, HasShortNames, IsNextName, known_in, IsLeastFrom, AscendFrom, is_same_by_name, value_at};
+ghost use Rattle.pc_join.specs.ByName.{members_by_name, IsOfByName, HoldsNoEmpty, HasShortNames, IsNextName, known_in};
+ghost use Rattle.pc_join.specs.ByName.{IsLeastFrom, AscendFrom, is_same_by_name, value_at};
 ghost use Rattle.pc_join.specs.Inner.Puts.{IsJoinedAt, IsPut, IsWholeAt, HasNoVoid, IsCovered};
 ghost use Rattle.pc_join.specs.Inner.NameLaws.{unique_by_name, stays_by_name};
 ghost use Rattle.pc_join.specs.Inner.Equal.{partial_by_name};
@@ -39,7 +41,8 @@ impl<V: Join> Model for ByName<V> {
 
     ghost view = { λ held. map.from_entries held.values };
 
-    ghost invariant = { λ held. HoldsNoEmpty V.known (map.from_entries held.values) × HasShortNames (map.from_entries {R = nat_cmp} held.values) };
+    ghost invariant = { λ held. HoldsNoEmpty V.known (map.from_entries held.values)
+        × HasShortNames (map.from_entries {R = nat_cmp} held.values) };
 }
 
 impl<V: Join> ByName<V> {
@@ -53,8 +56,8 @@ impl<V: Join> ByName<V> {
         }
     }
 
-    /// These values, each under the name with its number. The numbers ascend, and no value is empty. It takes memory for
-    /// all names at once.
+    /// These values, each under the name with its number. The numbers ascend, and no value is empty. It takes memory
+    /// for all names at once.
     pub fn of_ascending(alloc: Global, entries: Vec<(u32, V)>) -> Result<Self, OutOfMemory>
         requires ascending { AscendFrom 0 entries.items }
         requires short { All (λ entry. entry.0 < 2 ^ 32) entries.items }
@@ -105,7 +108,8 @@ impl<V: Join> ByName<V> {
     /// Joins the value to what is held under the name. An empty value changes nothing, and no other name changes.
     pub fn put(&mut self, name: Tid, value: V) -> Result<(), OutOfMemory>
         ensures union { OnOk result
-            (IsUnion (members_by_name V.known self.old) (members_at name (V.known value)) (members_by_name V.known self.new)) }
+            (IsUnion (members_by_name V.known self.old) (members_at name (V.known value))
+            (members_by_name V.known self.new)) }
         ensures between { IsBetween (members_by_name V.known self.old) (members_at name (V.known value))
             (members_by_name V.known self.new) }
         ensures of_source { (s : Source) → IsOfByName V.known V.is_of self.old s → V.is_of value (source_at s name)
@@ -124,22 +128,27 @@ impl<V: Join> ByName<V> {
     /// nothing, and no other name changes.
     #[inline(always)]
     pub fn put_piece<P: Piece<V>>(&mut self, name: Tid, piece: P) -> Result<(), OutOfMemory>
-        ensures union { OnOk result (IsUnion (members_by_name V.known self.old) (members_at name (V.known (P.stands_for piece)))
+        ensures union { OnOk result
+            (IsUnion (members_by_name V.known self.old) (members_at name (V.known (P.stands_for piece)))
             (members_by_name V.known self.new)) }
         ensures between { IsBetween (members_by_name V.known self.old) (members_at name (V.known (P.stands_for piece)))
             (members_by_name V.known self.new) }
-        ensures of_source { (s : Source) → IsOfByName V.known V.is_of self.old s → V.is_of (P.stands_for piece) (source_at s name)
+        ensures of_source { (s : Source) → IsOfByName V.known V.is_of self.old s
+            → V.is_of (P.stands_for piece) (source_at s name)
             → IsOfByName V.known V.is_of self.new s }
         ensures others { (other : ℕ) → ¬ (other ≡ name) → map.get self.new other ≡ map.get self.old other }
-        ensures known { IsWithin (V.known (P.stands_for piece)) (known_in V.known (map.get self.old name)) → self.new ≡ self.old }
-        ensures known_succeeds { IsWithin (V.known (P.stands_for piece)) (known_in V.known (map.get self.old name)) → IsOk result }
+        ensures known { IsWithin (V.known (P.stands_for piece)) (known_in V.known (map.get self.old name))
+            → self.new ≡ self.old }
+        ensures known_succeeds { IsWithin (V.known (P.stands_for piece)) (known_in V.known (map.get self.old name))
+            → IsOk result }
     {
         self.values.put_piece(name.index(), piece)
     }
 
     /// The least name that is held, from this one on.
     pub fn next(&self, from: Tid) -> Option<Tid>
-        ensures least { MatchOption result ((name : ℕ) → IsSome (map.get self.now name) → name < from) (IsNextName self.now from) }
+        ensures least { MatchOption result ((name : ℕ) → IsSome (map.get self.now name) → name < from)
+            (IsNextName self.now from) }
         ensures short { HasShortNames self.now }
     {
         match self.values.next(from.index()) {

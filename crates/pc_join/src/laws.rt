@@ -1,7 +1,8 @@
 //! What follows for every type with a join, over its definitions alone: joins are least upper bounds of inclusion.
 
 ghost use Rattle.std.specs.Prelude.{ℕ, ◌≡◌, List, ◌++◌};
-ghost use Rattle.pc_join.specs.Sets.{Members, Source, IsJoin, IsWithin, IsSameSet, IsUnion, IsBetween, AgreesOn, as_members};
+ghost use Rattle.pc_join.specs.Sets.{Members, Source, IsJoin, IsWithin, IsSameSet, IsUnion, IsBetween, AgreesOn};
+ghost use Rattle.pc_join.specs.Sets.{as_members};
 
 use crate::join::Join;
 
@@ -38,8 +39,10 @@ pub fn inclusion_is_a_partial_order<V: Join>()
 /// A join is above both values, and below each value that is above both.
 pub fn joins_are_least_upper_bounds<V: Join>()
     ensures above_first { (s : Source) (a b x : V) → IsJoin V.known V.is_of s a b x → IsWithin (V.known a) (V.known x) }
-    ensures above_second { (s : Source) (a b x : V) → IsJoin V.known V.is_of s a b x → IsWithin (V.known b) (V.known x) }
-    ensures least { (s : Source) (a b x above : V) → IsJoin V.known V.is_of s a b x → IsWithin (V.known a) (V.known above)
+    ensures above_second { (s : Source) (a b x : V) → IsJoin V.known V.is_of s a b x
+        → IsWithin (V.known b) (V.known x) }
+    ensures least { (s : Source) (a b x above : V) → IsJoin V.known V.is_of s a b x
+        → IsWithin (V.known a) (V.known above)
         → IsWithin (V.known b) (V.known above) → IsWithin (V.known x) (V.known above) }
 {}
 
@@ -55,7 +58,8 @@ pub fn union_of_pairs_is_append()
 
 /// Joining again completes what want of memory broke off.
 pub fn joining_again_completes<V: Join>()
-    ensures { (a b x y : V) → IsBetween (V.known a) (V.known b) (V.known x) → IsUnion (V.known x) (V.known b) (V.known y)
+    ensures { (a b x y : V) → IsBetween (V.known a) (V.known b) (V.known x)
+        → IsUnion (V.known x) (V.known b) (V.known y)
         → IsUnion (V.known a) (V.known b) (V.known y) }
 {}
 

@@ -1,6 +1,7 @@
 //! One leaf: entries by ascending names, next to each other in memory.
 
-ghost use Rattle.std.specs.Prelude.{ℕ, ◌≡◌, ◌<◌, ◌/◌, false, Option, List, Some, None, length, drop, ltb, IsTrue, OnOk, option_copied, IsSome, MatchOption};
+ghost use Rattle.std.specs.Prelude.{ℕ, ◌≡◌, ◌<◌, ◌/◌, false, Option, List, Some, None, length, drop, ltb, IsTrue, OnOk};
+ghost use Rattle.std.specs.Prelude.{option_copied, IsSome, MatchOption};
 ghost use Rattle.pc_join.specs.ByName.{AscendFrom, IsLeastFrom, value_at};
 ghost use Rattle.pc_join.specs.Inner.Leaves.{IsLeaf, IsPlaceIn, IsSetAt, begins_with};
 ghost use Rattle.pc_join.specs.Inner.Puts.{IsPieceJoined, IsPut, IsWholeAt};
@@ -32,7 +33,8 @@ fn is_after_all<V>(entries: &[(u32, V)], name: u32) -> bool
     }
 }
 
-/// How many of the entries have lesser names. Names mostly are dense: then each stands at the place that its bits below 64 say.
+/// How many of the entries have lesser names. Names mostly are dense: then each stands at the place that its bits below
+/// 64 say.
 pub fn place_of<V>(entries: &[(u32, V)], name: u32) -> usize
     requires { AscendFrom 0 entries.now }
     ensures { IsPlaceIn entries.now name result }
@@ -66,7 +68,8 @@ pub fn value_of<V>(entries: &[(u32, V)], name: u32) -> Option<&V>
 /// The least name that stands there, from one on.
 pub fn name_from<V>(entries: &[(u32, V)], from: u32) -> Option<u32>
     requires { AscendFrom 0 entries.now }
-    ensures { MatchOption result ((name : ℕ) → IsSome (value_at entries.now name) → name < from) (IsLeastFrom (value_at entries.now) from) }
+    ensures { MatchOption result ((name : ℕ) → IsSome (value_at entries.now name) → name < from)
+        (IsLeastFrom (value_at entries.now) from) }
 {
     match entries.get(place_of(entries, from)) {
         Some(entry) => Some(entry.0),
@@ -84,7 +87,8 @@ fn join_at<V: Join>(
     requires place { IsPlaceIn leaf.old.items name place }
     requires there { IsTrue (begins_with (drop place leaf.old.items) name) }
     ensures put { IsPut V.known V.is_of (value_at leaf.old.items) name value.now (value_at leaf.new.items) }
-    ensures whole { OnOk result (IsWholeAt V.known (value_at leaf.old.items name) (Some value.now) (value_at leaf.new.items name)) }
+    ensures whole { OnOk result
+        (IsWholeAt V.known (value_at leaf.old.items name) (Some value.now) (value_at leaf.new.items name)) }
     ensures leaf { (number : ℕ) → IsLeaf number leaf.old.items → IsLeaf number leaf.new.items }
     ensures there { ¬ (value_at leaf.old.items name ≡ None) }
 {
@@ -101,7 +105,8 @@ fn insert_at<V: Join>(
     requires place { IsPlaceIn leaf.old.items name place }
     requires new { begins_with (drop place leaf.old.items) name ≡ false }
     ensures put { IsPut V.known V.is_of (value_at leaf.old.items) name value (value_at leaf.new.items) }
-    ensures whole { OnOk result (IsWholeAt V.known (value_at leaf.old.items name) (Some value) (value_at leaf.new.items name)) }
+    ensures whole { OnOk result
+        (IsWholeAt V.known (value_at leaf.old.items name) (Some value) (value_at leaf.new.items name)) }
     ensures fresh { OnOk result (IsSetAt (value_at leaf.old.items) name value (value_at leaf.new.items)) }
     ensures leaf { (number : ℕ) → number ≡ name / 64 → IsLeaf number leaf.old.items → IsLeaf number leaf.new.items }
 {
@@ -113,7 +118,8 @@ fn insert_at<V: Join>(
 pub fn put_in<V: Join>(leaf: &mut Vec<(u32, V)>, name: u32, value: V) -> Result<(), OutOfMemory>
     requires { AscendFrom 0 leaf.old.items }
     ensures put { IsPut V.known V.is_of (value_at leaf.old.items) name value (value_at leaf.new.items) }
-    ensures whole { OnOk result (IsWholeAt V.known (value_at leaf.old.items name) (Some value) (value_at leaf.new.items name)) }
+    ensures whole { OnOk result
+        (IsWholeAt V.known (value_at leaf.old.items name) (Some value) (value_at leaf.new.items name)) }
     ensures fresh { value_at leaf.old.items name ≡ None
         → OnOk result (IsSetAt (value_at leaf.old.items) name value (value_at leaf.new.items)) }
     ensures leaf { (number : ℕ) → number ≡ name / 64 → IsLeaf number leaf.old.items → IsLeaf number leaf.new.items }
@@ -129,7 +135,8 @@ pub fn put_in<V: Join>(leaf: &mut Vec<(u32, V)>, name: u32, value: V) -> Result<
 pub fn join_in<V: Join>(leaf: &mut Vec<(u32, V)>, name: u32, value: &V) -> Result<(), OutOfMemory>
     requires { AscendFrom 0 leaf.old.items }
     ensures put { IsPut V.known V.is_of (value_at leaf.old.items) name value.now (value_at leaf.new.items) }
-    ensures whole { OnOk result (IsWholeAt V.known (value_at leaf.old.items name) (Some value.now) (value_at leaf.new.items name)) }
+    ensures whole { OnOk result
+        (IsWholeAt V.known (value_at leaf.old.items name) (Some value.now) (value_at leaf.new.items name)) }
     ensures leaf { (number : ℕ) → number ≡ name / 64 → IsLeaf number leaf.old.items → IsLeaf number leaf.new.items }
 {
     let place = place_of(leaf.as_slice(), name);
@@ -149,7 +156,8 @@ fn join_piece_at<V: Join, P: Piece<V>>(
 ) -> Result<(), OutOfMemory>
     requires place { IsPlaceIn leaf.old.items name place }
     requires there { IsTrue (begins_with (drop place leaf.old.items) name) }
-    ensures joined { IsPieceJoined V.known V.is_of (value_at leaf.old.items) name (P.stands_for piece) (value_at leaf.new.items) result }
+    ensures joined { IsPieceJoined V.known V.is_of (value_at leaf.old.items) name (P.stands_for piece)
+        (value_at leaf.new.items) result }
     ensures leaf { (number : ℕ) → IsLeaf number leaf.old.items → IsLeaf number leaf.new.items }
 {
     piece.join_to(&mut leaf[place].1)
@@ -162,7 +170,8 @@ pub fn put_piece_in<V: Join, P: Piece<V>>(
     piece: P,
 ) -> Result<(), OutOfMemory>
     requires { AscendFrom 0 leaf.old.items }
-    ensures joined { IsPieceJoined V.known V.is_of (value_at leaf.old.items) name (P.stands_for piece) (value_at leaf.new.items) result }
+    ensures joined { IsPieceJoined V.known V.is_of (value_at leaf.old.items) name (P.stands_for piece)
+        (value_at leaf.new.items) result }
     ensures leaf { (number : ℕ) → number ≡ name / 64 → IsLeaf number leaf.old.items → IsLeaf number leaf.new.items }
 {
     let place = place_of(leaf.as_slice(), name);

@@ -1,7 +1,8 @@
-//! Values by names that are far apart, in leaves of 64 names: so a look-up is one in a map of few leaves and one in a leaf, a
-//! walk goes through memory in order, and a name after all others of its leaf is put at the leaf's end.
+//! Values by names that are far apart, in leaves of 64 names: so a look-up is one in a map of few leaves and one in a
+//! leaf, a walk goes through memory in order, and a name after all others of its leaf is put at the leaf's end.
 
-ghost use Rattle.std.specs.Prelude.{ℕ, ◌≡◌, ◌↔◌, ◌<◌, ◌/◌, List, [], Option, Some, None, IsSome, IsTrue, MatchOption, OnOk, length, option_copied};
+ghost use Rattle.std.specs.Prelude.{ℕ, ◌≡◌, ◌↔◌, ◌<◌, ◌/◌, List, [], Option, Some, None, IsSome, IsTrue, MatchOption};
+ghost use Rattle.std.specs.Prelude.{OnOk, length, option_copied};
 ghost use Rattle.std.specs.BTreeMap.{get};
 ghost use Rattle.std.specs.Ordering.{nat_cmp};
 ghost use Rattle.pc_join.specs.ByName.{AscendFrom, IsLeastFrom, value_at};
@@ -65,7 +66,8 @@ fn put_value<V: Join>(
     requires { AreLeaves leaves.old }
     ensures put { IsPut V.known V.is_of (held_in leaves.old) name value (held_in leaves.new) }
     ensures whole { OnOk result (IsWholeAt V.known (held_in leaves.old name) (Some value) (held_in leaves.new name)) }
-    ensures fresh { held_in leaves.old name ≡ None → OnOk result (IsSetAt (held_in leaves.old) name value (held_in leaves.new)) }
+    ensures fresh { held_in leaves.old name ≡ None
+        → OnOk result (IsSetAt (held_in leaves.old) name value (held_in leaves.new)) }
     ensures leaves { AreLeaves leaves.new }
 {
     match leaves.get_mut(&(name / NAMES)) {
@@ -83,7 +85,8 @@ fn join_value<V: Join>(
 ) -> Result<(), OutOfMemory>
     requires { AreLeaves leaves.old }
     ensures put { IsPut V.known V.is_of (held_in leaves.old) name value.now (held_in leaves.new) }
-    ensures whole { OnOk result (IsWholeAt V.known (held_in leaves.old name) (Some value.now) (held_in leaves.new name)) }
+    ensures whole { OnOk result
+        (IsWholeAt V.known (held_in leaves.old name) (Some value.now) (held_in leaves.new name)) }
     ensures leaves { AreLeaves leaves.new }
 {
     match leaves.get_mut(&(name / NAMES)) {
@@ -103,7 +106,8 @@ fn put_piece_by<V: Join, P: Piece<V>>(
     piece: P,
 ) -> Result<(), OutOfMemory>
     requires { AreLeaves leaves.old }
-    ensures joined { IsPieceJoined V.known V.is_of (held_in leaves.old) name (P.stands_for piece) (held_in leaves.new) result }
+    ensures joined { IsPieceJoined V.known V.is_of (held_in leaves.old) name (P.stands_for piece)
+        (held_in leaves.new) result }
     ensures leaves { AreLeaves leaves.new }
 {
     match leaves.get_mut(&(name / NAMES)) {
@@ -138,7 +142,8 @@ fn first_from<V>(leaves: &BTreeMap<u32, Vec<(u32, V)>>, number: u32, from: u32) 
 /// The least name in the leaves, from one on: it is in the leaf of that one, or in the next that is there.
 fn next_name<V>(leaves: &BTreeMap<u32, Vec<(u32, V)>>, from: u32) -> Option<u32>
     requires { AreLeaves leaves.now }
-    ensures { MatchOption result ((name : ℕ) → IsSome (held_in leaves.now name) → name < from) (IsLeastFrom (held_in leaves.now) from) }
+    ensures { MatchOption result ((name : ℕ) → IsSome (held_in leaves.now name) → name < from)
+        (IsLeastFrom (held_in leaves.now) from) }
 {
     let number = from / NAMES;
     if let Some(name) = first_from(leaves, number, from) {
@@ -183,7 +188,8 @@ impl<V: Join> Leaves<V> {
     pub fn put(&mut self, name: u32, value: V) -> Result<(), OutOfMemory>
         ensures put { IsPut V.known V.is_of (value_at self.old) name value (value_at self.new) }
         ensures whole { OnOk result (IsWholeAt V.known (value_at self.old name) (Some value) (value_at self.new name)) }
-        ensures fresh { value_at self.old name ≡ None → OnOk result (IsSetAt (value_at self.old) name value (value_at self.new)) }
+        ensures fresh { value_at self.old name ≡ None
+            → OnOk result (IsSetAt (value_at self.old) name value (value_at self.new)) }
         ensures ascend { AscendFrom 0 self.new }
     {
         put_value(&mut self.leaves, self.alloc, name, value)
@@ -192,7 +198,8 @@ impl<V: Join> Leaves<V> {
     /// Joins a value, of which a copy is held where the name is new.
     pub fn join(&mut self, name: u32, value: &V) -> Result<(), OutOfMemory>
         ensures put { IsPut V.known V.is_of (value_at self.old) name value.now (value_at self.new) }
-        ensures whole { OnOk result (IsWholeAt V.known (value_at self.old name) (Some value.now) (value_at self.new name)) }
+        ensures whole { OnOk result
+            (IsWholeAt V.known (value_at self.old name) (Some value.now) (value_at self.new name)) }
         ensures ascend { AscendFrom 0 self.new }
     {
         join_value(&mut self.leaves, self.alloc, name, value)
@@ -201,7 +208,8 @@ impl<V: Join> Leaves<V> {
     /// Joins a piece to what stands under the name, where that is. It stays a call of its own: few names are far.
     #[inline(never)]
     pub fn put_piece<P: Piece<V>>(&mut self, name: u32, piece: P) -> Result<(), OutOfMemory>
-        ensures joined { IsPieceJoined V.known V.is_of (value_at self.old) name (P.stands_for piece) (value_at self.new) result }
+        ensures joined { IsPieceJoined V.known V.is_of (value_at self.old) name (P.stands_for piece)
+            (value_at self.new) result }
         ensures ascend { AscendFrom 0 self.new }
     {
         put_piece_by(&mut self.leaves, self.alloc, name, piece)

@@ -1,23 +1,25 @@
 //! Sets of names.
 
-ghost use Rattle.std.specs.Prelude.{ℕ, ◌≡◌, ◌≢◌, ◌==◌, ◌<◌, ◌≤◌, ◌^◌, ◌*◌, ◌&&◌, not, max, if◌then◌else◌, Bool, true, false, MatchBool, MatchOption, IsSome, IsTrue, OnOk, OnErr, length, slice_index};
+ghost use Rattle.std.specs.Prelude.{ℕ, ◌≡◌, ◌≢◌, ◌==◌, ◌<◌, ◌≤◌, ◌^◌, ◌*◌, ◌&&◌, not, max, if◌then◌else◌, Bool, true};
+ghost use Rattle.std.specs.Prelude.{false, MatchBool, MatchOption, IsSome, IsTrue, OnOk, OnErr, length, slice_index};
 ghost use Rattle.std.specs.BTreeMap.{get};
 ghost use Rattle.std.specs.Int.{bit_at};
 ghost use Rattle.std.specs.Ordering.{nat_cmp};
 ghost use Rattle.pc_join.specs.ByName.{IsLeastFrom};
-ghost use Rattle.pc_join.specs.Inner.Blocks.{HasFewWords, HasShortBlocks, IsFirstBit, is_in_block, is_in_blocks, is_in_words, passes};
+ghost use Rattle.pc_join.specs.Inner.Blocks.{HasFewWords, HasShortBlocks, IsFirstBit, is_in_block, is_in_blocks};
+ghost use Rattle.pc_join.specs.Inner.Blocks.{is_in_words, passes};
 
 use crate::join::OutOfMemory;
 use pc_messages::Tid;
 use std::alloc::Global;
 use std::collections::BTreeMap;
 
-/// Names below this one stand in a vector of words, the others in a map: names are given densely from 0, and a kernel has no more
-/// threads than that. So a look-up mostly is one index, and the words of a set are 8 KiB at the most.
+/// Names below this one stand in a vector of words, the others in a map: names are given densely from 0, and a kernel
+/// has no more threads than that. So a look-up mostly is one index, and the words of a set are 8 KiB at the most.
 const DENSE: u32 = 65_536;
 
-/// A set of names of threads: a bit for each, in words of 64. Any name may stand in it; one below [`DENSE`] is found by one index.
-/// The names of a word are walked over at once; what leaves the set takes no word away (own).
+/// A set of names of threads: a bit for each, in words of 64. Any name may stand in it; one below [`DENSE`] is found by
+/// one index. The names of a word are walked over at once; what leaves the set takes no word away (own).
 #[derive(Drop)]
 pub struct NameSet {
     words: Vec<u64>,
@@ -92,7 +94,8 @@ fn grow_to(words: &mut Vec<u64>, place: usize) -> Result<(), OutOfMemory>
 fn insert_word(words: &mut Vec<u64>, name: u32) -> Result<(), OutOfMemory>
     requires near { name < DENSE }
     requires few { HasFewWords words.old.items }
-    ensures ok { OnOk result ((t : ℕ) → is_in_words words.new.items t ≡ (if name == t then true else is_in_words words.old.items t)) }
+    ensures ok { OnOk result
+        ((t : ℕ) → is_in_words words.new.items t ≡ (if name == t then true else is_in_words words.old.items t)) }
     ensures err { OnErr result ((t : ℕ) → is_in_words words.new.items t ≡ is_in_words words.old.items t) }
     ensures few { HasFewWords words.new.items }
 {
@@ -105,7 +108,8 @@ fn insert_word(words: &mut Vec<u64>, name: u32) -> Result<(), OutOfMemory>
 /// Adds a name whose word is there. Answers whether it is.
 #[inline(always)]
 fn insert_held(words: &mut [u64], name: u32) -> bool
-    ensures added { MatchBool result ((t : ℕ) → is_in_words words.new t ≡ (if name == t then true else is_in_words words.old t))
+    ensures added { MatchBool result
+        ((t : ℕ) → is_in_words words.new t ≡ (if name == t then true else is_in_words words.old t))
         (words.new ≡ words.old) }
     ensures near { IsTrue result → name < 64 * length words.old }
 {
@@ -140,7 +144,8 @@ fn word_of(blocks: &BTreeMap<u32, u64>, block: u32) -> u64
 /// Adds a name to the blocks; one whose block was there before takes no memory.
 fn insert_block(blocks: &mut BTreeMap<u32, u64>, name: u32) -> Result<(), OutOfMemory>
     requires { HasShortBlocks blocks.old }
-    ensures ok { OnOk result ((t : ℕ) → is_in_blocks blocks.new t ≡ (if name == t then true else is_in_blocks blocks.old t)) }
+    ensures ok { OnOk result
+        ((t : ℕ) → is_in_blocks blocks.new t ≡ (if name == t then true else is_in_blocks blocks.old t)) }
     ensures err { OnErr result ((t : ℕ) → is_in_blocks blocks.new t ≡ is_in_blocks blocks.old t) }
     ensures short { HasShortBlocks blocks.new }
 {
@@ -199,8 +204,8 @@ impl NameSet {
         has_bit(word_of(&self.blocks, place), bit)
     }
 
-    /// Adds the name; one that is there changes nothing. Where memory runs out, nothing changes; a name whose word was there
-    /// before takes none.
+    /// Adds the name; one that is there changes nothing. Where memory runs out, nothing changes; a name whose word was
+    /// there before takes none.
     #[inline(always)]
     pub fn insert(&mut self, name: Tid) -> Result<(), OutOfMemory>
         ensures ok { OnOk result ((t : ℕ) → is_in self.new t ≡ (if name == t then true else is_in self.old t)) }
@@ -212,7 +217,8 @@ impl NameSet {
         self.insert_anew(name)
     }
 
-    /// Adds the name, whose word may have to be made. It stands apart, so that a name whose word is there is added in place.
+    /// Adds the name, whose word may have to be made. It stands apart, so that a name whose word is there is added
+    /// in place.
     #[inline(never)]
     fn insert_anew(&mut self, name: Tid) -> Result<(), OutOfMemory>
         ensures ok { OnOk result ((t : ℕ) → is_in self.new t ≡ (if name == t then true else is_in self.old t)) }
@@ -235,10 +241,11 @@ impl NameSet {
         }
     }
 
-    /// The least name of the words that those of the others lack, from one on: word by word, since a look-up for each would cost
-    /// more than the bits.
+    /// The least name of the words that those of the others lack, from one on: word by word, since a look-up for each
+    /// would cost more than the bits.
     fn near_outside(&self, others: &NameSet, from: Tid) -> Option<Tid>
-        ensures first { FindsFrom (λ t. is_in_words self.now.words.items t && not (is_in_words others.now.words.items t)) from result }
+        ensures first { FindsFrom
+            (λ t. is_in_words self.now.words.items t && not (is_in_words others.now.words.items t)) from result }
     {
         let (words, rest) = (self.words.as_slice(), others.words.as_slice());
         let first = (from.index() / 64) as usize;
@@ -253,9 +260,11 @@ impl NameSet {
         None
     }
 
-    /// The least name of the blocks that those of the others lack, from one on. No name below the bound is looked for there.
+    /// The least name of the blocks that those of the others lack, from one on. No name below the bound is looked
+    /// for there.
     fn far_outside(&self, others: &NameSet, from: Tid) -> Option<Tid>
-        ensures first { FindsFrom (λ t. is_in_blocks self.now.blocks t && not (is_in_blocks others.now.blocks t)) (max from DENSE) result }
+        ensures first { FindsFrom (λ t. is_in_blocks self.now.blocks t && not (is_in_blocks others.now.blocks t))
+            (max from DENSE) result }
     {
         let from = if from.index() < DENSE {
             DENSE

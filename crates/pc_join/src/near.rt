@@ -1,10 +1,12 @@
 //! Values by names that are near 0, where the names of threads are: found by an index.
 
-ghost use Rattle.std.specs.Prelude.{ℕ, ◌≡◌, ◌<◌, ◌≤◌, ◌+◌, [], ◌∷◌, None, Some, IsTrue, ◌↔◌, IsSome, MatchOption, OnOk, length, option_copied};
+ghost use Rattle.std.specs.Prelude.{ℕ, ◌≡◌, ◌<◌, ◌≤◌, ◌+◌, [], ◌∷◌, None, Some, IsTrue, ◌↔◌, IsSome, MatchOption, OnOk};
+ghost use Rattle.std.specs.Prelude.{length, option_copied};
 ghost use Rattle.std.specs.Option.{option_eq};
 ghost use Rattle.pc_join.specs.ByName.{IsLeastFrom, value_at};
 ghost use Rattle.pc_join.specs.Inner.Leaves.{IsSetAt};
-ghost use Rattle.pc_join.specs.Inner.Near.{AreNear, FindsPlace, IsIndex, entries_at, first_value, entry_at, found_by, place_in};
+ghost use Rattle.pc_join.specs.Inner.Near.{AreNear, FindsPlace, IsIndex, entries_at, first_value, entry_at, found_by};
+ghost use Rattle.pc_join.specs.Inner.Near.{place_in};
 ghost use Rattle.pc_join.specs.Inner.Equal.{HasSame};
 ghost use Rattle.pc_join.specs.Inner.Puts.{IsPieceJoined, IsPut, IsWholeAt};
 
@@ -14,8 +16,8 @@ use crate::walk::NearIter;
 use std::alloc::Global;
 use std::marker::Model;
 
-/// So many names have an index, which then takes 128 KiB at the most: no kernel gives more. Names from here on come from
-/// deltas that somebody made up. A place, counted from 1, is at most this, so it stands in 16 bits.
+/// So many names have an index, which then takes 128 KiB at the most: no kernel gives more. Names from here on come
+/// from deltas that somebody made up. A place, counted from 1, is at most this, so it stands in 16 bits.
 pub const NEAR: u32 = 65_535;
 
 /// The index grows by so many names at once.
@@ -24,8 +26,8 @@ const STEP: usize = 64;
 /// So many entries can be counted in 16 bits.
 const MOST: usize = u16::MAX as usize;
 
-/// Values by near names: the place of each name, counted from 1, or 0, and entries in the order in which their names came. So
-/// a look-up reads one place and one entry, and a new name moves no other.
+/// Values by near names: the place of each name, counted from 1, or 0, and entries in the order in which their names
+/// came. So a look-up reads one place and one entry, and a new name moves no other.
 #[derive(Drop)]
 pub struct Near<V: Join> {
     places: Vec<u16>,
@@ -84,9 +86,11 @@ fn join_at<V: Join>(
     requires index { IsIndex places.now entries.old.items }
     requires place { place ≡ place_in places.now name }
     requires there { 1 ≤ place }
-    ensures put { IsPut V.known V.is_of (found_by places.now entries.old.items) name value.now (found_by places.now entries.new.items) }
+    ensures put { IsPut V.known V.is_of (found_by places.now entries.old.items) name value.now
+        (found_by places.now entries.new.items) }
     ensures whole { OnOk result
-        (IsWholeAt V.known (found_by places.now entries.old.items name) (Some value.now) (found_by places.now entries.new.items name)) }
+        (IsWholeAt V.known (found_by places.now entries.old.items name) (Some value.now)
+        (found_by places.now entries.new.items name)) }
     ensures index { IsIndex places.now entries.new.items }
     ensures there { ¬ (found_by places.now entries.old.items name ≡ None) }
 {
@@ -147,7 +151,8 @@ fn start_at<V: Join>(
     ensures whole { OnOk result (IsWholeAt V.known (found_by places.old.items entries.old.items name) (Some value)
         (found_by places.new.items entries.new.items name)) }
     ensures fresh { OnOk result
-        (IsSetAt (found_by places.old.items entries.old.items) name value (found_by places.new.items entries.new.items)) }
+        (IsSetAt (found_by places.old.items entries.old.items) name value
+        (found_by places.new.items entries.new.items)) }
     ensures index { IsIndex places.new.items entries.new.items }
 {
     if entries.len() >= MOST {
@@ -170,7 +175,8 @@ fn is_same_at<V: PartialEq>(
 ) -> bool
     requires within { place ≤ length entries.now }
     requires other_within { other ≤ length others.now }
-    ensures { result ≡ option_eq V.eq (first_value (entry_at entries.now place)) (first_value (entry_at others.now other)) }
+    ensures { result ≡ option_eq V.eq (first_value (entry_at entries.now place))
+        (first_value (entry_at others.now other)) }
 {
     if place == 0 || other == 0 {
         return place == other;
@@ -187,7 +193,8 @@ fn is_same_by<V: PartialEq>(
 ) -> bool
     requires index { IsIndex places.now entries.now }
     requires other_index { IsIndex other_places.now other_entries.now }
-    ensures { IsTrue result ↔ HasSame V.eq (found_by places.now entries.now) (found_by other_places.now other_entries.now) }
+    ensures { IsTrue result
+        ↔ HasSame V.eq (found_by places.now entries.now) (found_by other_places.now other_entries.now) }
 {
     let shared = places.len().min(other_places.len());
     for name in 0..shared {
@@ -248,7 +255,8 @@ impl<V: Join> Near<V> {
         requires { name < NEAR }
         ensures put { IsPut V.known V.is_of (value_at self.old) name value (value_at self.new) }
         ensures whole { OnOk result (IsWholeAt V.known (value_at self.old name) (Some value) (value_at self.new name)) }
-        ensures fresh { value_at self.old name ≡ None → OnOk result (IsSetAt (value_at self.old) name value (value_at self.new)) }
+        ensures fresh { value_at self.old name ≡ None
+            → OnOk result (IsSetAt (value_at self.old) name value (value_at self.new)) }
         ensures near { AreNear self.new }
     {
         let place = place_of(self.places.as_slice(), name);
@@ -268,7 +276,8 @@ impl<V: Join> Near<V> {
     pub fn join(&mut self, name: u32, value: &V) -> Result<(), OutOfMemory>
         requires { name < NEAR }
         ensures put { IsPut V.known V.is_of (value_at self.old) name value.now (value_at self.new) }
-        ensures whole { OnOk result (IsWholeAt V.known (value_at self.old name) (Some value.now) (value_at self.new name)) }
+        ensures whole { OnOk result
+            (IsWholeAt V.known (value_at self.old name) (Some value.now) (value_at self.new name)) }
         ensures near { AreNear self.new }
     {
         let place = place_of(self.places.as_slice(), name);
@@ -289,7 +298,8 @@ impl<V: Join> Near<V> {
     #[inline(always)]
     pub fn put_piece<P: Piece<V>>(&mut self, name: u32, piece: P) -> Result<(), OutOfMemory>
         requires { name < NEAR }
-        ensures joined { IsPieceJoined V.known V.is_of (value_at self.old) name (P.stands_for piece) (value_at self.new) result }
+        ensures joined { IsPieceJoined V.known V.is_of (value_at self.old) name (P.stands_for piece)
+            (value_at self.new) result }
         ensures near { AreNear self.new }
     {
         let place = place_of(self.places.as_slice(), name);

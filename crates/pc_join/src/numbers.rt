@@ -1,6 +1,7 @@
 //! Sets of numbers.
 
-ghost use Rattle.std.specs.Prelude.{ℕ, ◌+◌, ◌≡◌, ◌≤◌, ◌<◌, ◌↔◌, ◌==◌, ◌||◌, Bool, true, false, List, [], ◌∷◌, vec_items, IsTrue, IfOk, OnOk, OnErr, MatchOption};
+ghost use Rattle.std.specs.Prelude.{ℕ, ◌+◌, ◌≡◌, ◌≤◌, ◌<◌, ◌↔◌, ◌==◌, ◌||◌, Bool, true, false, List, [], ◌∷◌};
+ghost use Rattle.std.specs.Prelude.{vec_items, IsTrue, IfOk, OnOk, OnErr, MatchOption};
 ghost use Rattle.pc_join.specs.Sets.{Members, Source, IsUnion, IsBetween, IsWithin, IsVoid, numbers_where};
 ghost use Rattle.pc_join.specs.Ranges.{in_range, in_ranges, numbers_in, AreApart, IsFirstMissing, numbers_from_to};
 ghost use Rattle.pc_join.specs.Inner.Ranges.{IsEither, IsAmid, IsStretched, StartBy, StartBefore, AreInside};
@@ -84,7 +85,8 @@ impl Numbers {
 
     /// The first number from 1 to this one that is not there.
     pub fn first_missing(&self, upto: u32) -> Option<u32>
-        ensures { MatchOption result ((n : ℕ) → 1 ≤ n → n ≤ upto → in_ranges self.now n ≡ true) (IsFirstMissing (in_ranges self.now) upto) }
+        ensures { MatchOption result ((n : ℕ) → 1 ≤ n → n ≤ upto → in_ranges self.now n ≡ true)
+            (IsFirstMissing (in_ranges self.now) upto) }
     {
         let held = prefix_end(self.ranges.as_slice());
         if held < upto { Some(held + 1) } else { None }
@@ -150,8 +152,10 @@ fn merge(joined: &mut Ranges, first: &[(u32, u32)], other: &[(u32, u32)]) -> Res
     requires other_later { StartBefore joined.old.items other.now }
     ensures apart { AreApart 0 joined.new.items }
     ensures union { OnOk result
-        (IsEither (in_ranges joined.old.items) (λ n. in_ranges first.now n || in_ranges other.now n) (in_ranges joined.new.items)) }
-    ensures amid { IsAmid (in_ranges joined.old.items) (λ n. in_ranges first.now n || in_ranges other.now n) (in_ranges joined.new.items) }
+        (IsEither (in_ranges joined.old.items) (λ n. in_ranges first.now n || in_ranges other.now n)
+        (in_ranges joined.new.items)) }
+    ensures amid { IsAmid (in_ranges joined.old.items) (λ n. in_ranges first.now n || in_ranges other.now n)
+        (in_ranges joined.new.items) }
 {
     let mut left = first;
     let mut right = other;
@@ -173,7 +177,8 @@ fn add_one_range(ranges: &mut Ranges, from: u32, to: u32) -> Result<(), OutOfMem
     requires positive { 1 ≤ from }
     requires some { from ≤ to }
     ensures apart { AreApart 0 ranges.new.items }
-    ensures union { OnOk result (IsEither (in_ranges ranges.old.items) (in_range (from, to)) (in_ranges ranges.new.items)) }
+    ensures union { OnOk result
+        (IsEither (in_ranges ranges.old.items) (in_range (from, to)) (in_ranges ranges.new.items)) }
     ensures err { OnErr result (ranges.new.items ≡ ranges.old.items) }
 {
     if start_at_most(ranges.as_slice(), from) {
@@ -190,7 +195,8 @@ fn join_ranges(ranges: &mut Ranges, other: &[(u32, u32)]) -> Result<(), OutOfMem
     requires apart { AreApart 0 ranges.old.items }
     requires other_apart { AreApart 0 other.now }
     ensures apart { AreApart 0 ranges.new.items }
-    ensures union { OnOk result (IsEither (in_ranges ranges.old.items) (in_ranges other.now) (in_ranges ranges.new.items)) }
+    ensures union { OnOk result
+        (IsEither (in_ranges ranges.old.items) (in_ranges other.now) (in_ranges ranges.new.items)) }
     ensures amid { IsAmid (in_ranges ranges.old.items) (in_ranges other.now) (in_ranges ranges.new.items) }
 {
     let Some((start, _)) = other.split_first() else {

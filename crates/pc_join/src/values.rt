@@ -1,6 +1,7 @@
 //! Values by name: those of near names found by an index, all others in leaves.
 
-ghost use Rattle.std.specs.Prelude.{ℕ, ◌≡◌, ◌↔◌, ◌<◌, ◌++◌, List, [], Option, Some, None, IsSome, IsTrue, MatchOption, OnOk, length, option_copied};
+ghost use Rattle.std.specs.Prelude.{ℕ, ◌≡◌, ◌↔◌, ◌<◌, ◌++◌, List, [], Option, Some, None, IsSome, IsTrue, MatchOption};
+ghost use Rattle.std.specs.Prelude.{OnOk, length, option_copied};
 ghost use Rattle.pc_join.specs.ByName.{AscendFrom, IsLeastFrom, value_at};
 ghost use Rattle.pc_join.specs.Inner.Leaves.{IsSetAt};
 ghost use Rattle.pc_join.specs.Inner.Equal.{HasSame};
@@ -68,7 +69,8 @@ impl<V: Join> Values<V> {
     pub fn put(&mut self, name: u32, value: V) -> Result<(), OutOfMemory>
         ensures put { IsPut V.known V.is_of (value_at self.old) name value (value_at self.new) }
         ensures whole { OnOk result (IsWholeAt V.known (value_at self.old name) (Some value) (value_at self.new name)) }
-        ensures fresh { value_at self.old name ≡ None → OnOk result (IsSetAt (value_at self.old) name value (value_at self.new)) }
+        ensures fresh { value_at self.old name ≡ None
+            → OnOk result (IsSetAt (value_at self.old) name value (value_at self.new)) }
     {
         if name < NEAR {
             return self.near.put(name, value);
@@ -79,7 +81,8 @@ impl<V: Join> Values<V> {
     /// Joins a value, of which a copy is held where the name is new.
     pub fn join(&mut self, name: u32, value: &V) -> Result<(), OutOfMemory>
         ensures put { IsPut V.known V.is_of (value_at self.old) name value.now (value_at self.new) }
-        ensures whole { OnOk result (IsWholeAt V.known (value_at self.old name) (Some value.now) (value_at self.new name)) }
+        ensures whole { OnOk result
+            (IsWholeAt V.known (value_at self.old name) (Some value.now) (value_at self.new name)) }
     {
         if name < NEAR {
             return self.near.join(name, value);
@@ -90,7 +93,8 @@ impl<V: Join> Values<V> {
     /// Joins a piece to what stands under the name, where that is.
     #[inline(always)]
     pub fn put_piece<P: Piece<V>>(&mut self, name: u32, piece: P) -> Result<(), OutOfMemory>
-        ensures { IsPieceJoined V.known V.is_of (value_at self.old) name (P.stands_for piece) (value_at self.new) result }
+        ensures { IsPieceJoined V.known V.is_of (value_at self.old) name (P.stands_for piece)
+            (value_at self.new) result }
     {
         if name < NEAR {
             return self.near.put_piece(name, piece);

@@ -150,8 +150,8 @@ impl<'a, V> Iterator for Iter<'a, V> {
     }
 }
 
-/// Two walks, over the entries of near names and over the others behind them. A loop over each of them asks less at each
-/// step than one over both, and what the first has left stands in registers.
+/// Two walks, over the entries of near names and over the others behind them. A loop over each of them asks less at
+/// each step than one over both, and what the first has left stands in registers.
 #[derive(Drop)]
 pub struct TwoWalks<'a, V> {
     pub near: NearIter<'a, V>,

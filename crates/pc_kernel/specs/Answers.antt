@@ -20,7 +20,8 @@ pub record Shows (k : KernelRows) (P : PlainKernel) : Type 0 where
 
 -- the call answers this reply, and shows this plain kernel after it; refused, it changes nothing
 abbrev pub Replies :
-    {A : Type 0} → (A → Answer) → Result A Refusal → KernelRows → KernelRows → Result Answer Refusal → PlainKernel → Type 0
+    {A : Type 0} → (A → Answer) → Result A Refusal → KernelRows → KernelRows → Result Answer Refusal → PlainKernel
+    → Type 0
 Replies tell (Ok a) old new (Ok answer) Q = (tell a ≡ answer) × Shows new Q
 Replies tell (Err e) old new (Err refusal) Q = (e ≡ refusal) × (new ≡ old)
 Replies tell (Ok a) old new (Err refusal) Q = ⊥
@@ -28,11 +29,13 @@ Replies tell (Err e) old new (Ok answer) Q = ⊥
 
 -- for every plain kernel that the kernel shows, the call is its step
 abbrev pub Steps : {A : Type 0} → (A → Answer) → Call → Result A Refusal → KernelRows → KernelRows → Type 0
-Steps tell call result old new = (P : PlainKernel) → Shows old P → Replies tell result old new (reply P call) (after P call)
+Steps tell call result old new =
+    (P : PlainKernel) → Shows old P → Replies tell result old new (reply P call) (after P call)
 
 -- the same of a call that takes memory; where none was left, the reply accepts, and nothing changed
 abbrev pub RepliesInMemory :
-    {A : Type 0} → (A → Answer) → Result A CallFault → KernelRows → KernelRows → Result Answer Refusal → PlainKernel → Type 0
+    {A : Type 0} → (A → Answer) → Result A CallFault → KernelRows → KernelRows → Result Answer Refusal → PlainKernel
+    → Type 0
 RepliesInMemory tell (Ok a) old new (Ok answer) Q = (tell a ≡ answer) × Shows new Q
 RepliesInMemory tell (Err (Refused e)) old new (Err refusal) Q = (e ≡ refusal) × (new ≡ old)
 RepliesInMemory tell (Err OutOfMemory) old new (Ok answer) Q = new ≡ old
@@ -40,12 +43,15 @@ RepliesInMemory tell (Ok a) old new (Err refusal) Q = ⊥
 RepliesInMemory tell (Err (Refused e)) old new (Ok answer) Q = ⊥
 RepliesInMemory tell (Err OutOfMemory) old new (Err refusal) Q = ⊥
 
+-- a call that takes memory answers as the step does, for every plain kernel that is shown
 abbrev pub StepsInMemory : {A : Type 0} → (A → Answer) → Call → Result A CallFault → KernelRows → KernelRows → Type 0
-StepsInMemory tell call result old new = (P : PlainKernel) → Shows old P → RepliesInMemory tell result old new (reply P call) (after P call)
+StepsInMemory tell call result old new =
+    (P : PlainKernel) → Shows old P → RepliesInMemory tell result old new (reply P call) (after P call)
 
--- what a call of an agent does: it is the step of every plain kernel that is shown; it is refused exactly where the reads refuse
--- it, and with that refusal; the limits stay, and the run goes on; refused, it changes nothing
-pub record Answered {A : Type 0} (tell : A → Answer) (call : Call) (result : Result A Refusal) (old new : KernelRows) : Type 0 where
+-- what a call of an agent does: it is the step of every plain kernel that is shown; it is refused exactly where the
+-- reads refuse it, and with that refusal; the limits stay, and the run goes on; refused, it changes nothing
+pub record Answered {A : Type 0} (tell : A → Answer) (call : Call) (result : Result A Refusal)
+    (old new : KernelRows) : Type 0 where
   pub step : Steps tell call result old new
   pub fault : refusal_in result ≡ refused (seen old) call
   pub limits : new.limits ≡ old.limits
@@ -74,7 +80,8 @@ done _ = Done
 abbrev pub itself : Answer → Answer
 itself answer = answer
 
--- every plain kernel that the kernel shows accepts the call with this answer, and the kernel then shows what it is after it
+-- every plain kernel that the kernel shows accepts the call with this answer, and the kernel then shows what it is
+-- after it
 abbrev pub Accepts : Call → Answer → KernelRows → KernelRows → Type 0
 Accepts call answer old new = (P : PlainKernel) → Shows old P → (reply P call ≡ Ok answer) × Shows new (after P call)
 

@@ -28,7 +28,8 @@ pub record IsExactAssociate (P : PlainKernel) (t n : ℕ) : Type 0 where
   pub nothing_waits : is_pending (shown P) t ≡ false
   pub idle : place_of P t ≡ None
 
--- n is the count of all posts to the CPU's queue, the CPU is idle, and the thread is ready, at home and allowed there, and on no CPU
+-- n is the count of all posts to the CPU's queue, the CPU is idle, and the thread is ready, at home and allowed there,
+-- and on no CPU
 pub record IsExactCommit (P : PlainKernel) (c t n : ℕ) : Type 0 where
   pub current : n ≡ aseq P c
   pub idle : P.on c ≡ None
@@ -41,8 +42,12 @@ pub record IsExactCommit (P : PlainKernel) (c t n : ℕ) : Type 0 where
 abbrev pub ReadsArePlain : Type 0
 ReadsArePlain = (P : PlainKernel) → ArePlainReads P
 
+-- an associate that is accepted is exact, on every plain kernel
 abbrev pub AcceptedAssociatesAreExact : Type 0
-AcceptedAssociatesAreExact = (P : PlainKernel) (t q n : ℕ) → refused (shown P) (Associate t q n) ≡ None → IsExactAssociate P t n
+AcceptedAssociatesAreExact =
+    (P : PlainKernel) (t q n : ℕ) → refused (shown P) (Associate t q n) ≡ None → IsExactAssociate P t n
 
+-- a commit that is accepted is exact, on every plain kernel
 abbrev pub AcceptedCommitsAreExact : Type 0
-AcceptedCommitsAreExact = (P : PlainKernel) (c t n : ℕ) → refused (shown P) (Commit c t n) ≡ None → IsExactCommit P c t n
+AcceptedCommitsAreExact =
+    (P : PlainKernel) (c t n : ℕ) → refused (shown P) (Commit c t n) ≡ None → IsExactCommit P c t n

@@ -43,19 +43,23 @@ pub record IsPlaced (P : PlainKernel) (c t : ℕ) : Type 0 where
 abbrev pub HadNoPost : PlainKernel → ℕ → Type 0
 HadNoPost P c = (then' : ℕ) → P.slept c ≡ Some then' → P.target c ≡ Some c → aseq P c ≡ then'
 
--- the five facts, after every list of calls from the start of some limits
+-- after every list of calls from the start of some limits, as the next four: a thread's waiting messages stand at home
 abbrev pub AlwaysAtHome : Type 0
 AlwaysAtHome = (limits : Limits) (calls : List Call) (t : ℕ) → IsAtHome (replay (start limits) calls) t
 
+-- a thread that is on a CPU is placed there
 abbrev pub AlwaysPlaced : Type 0
 AlwaysPlaced = (limits : Limits) (calls : List Call) (c t : ℕ) → IsPlaced (replay (start limits) calls) c t
 
+-- a sleeping agent that its own queue wakes had no post since it slept
 abbrev pub SleepersHadNoPost : Type 0
 SleepersHadNoPost = (limits : Limits) (calls : List Call) (c : ℕ) → HadNoPost (replay (start limits) calls) c
 
+-- each thread's kinds begin with their only Created
 abbrev pub RunsAreBegun : Type 0
 RunsAreBegun = (limits : Limits) (calls : List Call) (t : ℕ) → IsBegun (kinds (replay (start limits) calls) t)
 
+-- the known threads are those whose names are below their count
 abbrev pub NamesAreDense : Type 0
 NamesAreDense =
     (limits : Limits) (calls : List Call) (t : ℕ) →

@@ -1,5 +1,6 @@
 -- The plain kernel: one list of posts and a few marks, from which all else is derived.
-use Rattle.std.specs.Prelude.{ℕ, ◌==◌, nat_lt, not, Bool, false, List, [], ◌∷◌, length, drop, filter, Option, Some, None, find, if◌then◌else◌}
+use Rattle.std.specs.Prelude.{ℕ, ◌==◌, nat_lt, not, Bool, false, List, [], ◌∷◌, length, drop, filter, Option, Some}
+use Rattle.std.specs.Prelude.{None, find, if◌then◌else◌}
 use Rattle.std.specs.List.{filter_map, range_with_len}
 use Rattle.pc_messages.specs.Items.{thread_in}
 use Rattle.pc_messages.specs.declared.kind.Kind.{Kind}
@@ -12,6 +13,7 @@ pub record Post : Type 0 where
   pub queue : ℕ
   pub item : Item
 
+-- the plain kernel: its limits, all posts in order, and the marks that no post tells
 pub record PlainKernel : Type 0 where
   pub limits : Limits
   pub posts : List Post
@@ -52,9 +54,11 @@ firsts (x ∷ xs) = x ∷ filter (λ y. not (y == x)) (firsts xs)
 abbrev pub kinds : PlainKernel → ℕ → List Kind
 kinds P t = filter_map (λ post. kind_in t post.item) P.posts
 
+-- the number of a thread's last message, 0 where it has none
 abbrev pub number : PlainKernel → ℕ → ℕ
 number P t = length (kinds P t)
 
+-- some message of the thread was posted
 abbrev pub is_known : PlainKernel → ℕ → Bool
 is_known P t = nat_lt 0 (number P t)
 
@@ -62,10 +66,11 @@ is_known P t = nat_lt 0 (number P t)
 abbrev pub threads : PlainKernel → ℕ
 threads P = length (firsts (filter_map (λ post. thread_in post.item) P.posts))
 
--- the items posted to a queue, and how many
+-- the items posted to a queue, in order
 abbrev pub items_to : PlainKernel → ℕ → List Item
 items_to P q = filter_map (item_to q) P.posts
 
+-- how many posts a queue had
 abbrev pub aseq : PlainKernel → ℕ → ℕ
 aseq P q = length (items_to P q)
 

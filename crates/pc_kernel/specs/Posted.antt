@@ -26,32 +26,39 @@ abbrev pub taken : Option Refusal → ℕ → ℕ
 taken None count = count
 taken (Some why) count = 0
 
--- each message of a thread was posted, and what was posted of threads are their messages; after every list of calls
+-- each message of a thread was posted, after every list of calls
 abbrev pub MessagesArePosted : Type 0
 MessagesArePosted =
     (limits : Limits) (calls : List Call) (t : ℕ) (message : Message) →
     Contains (messages (replay (start limits) calls) t) message → WasPosted (replay (start limits) calls) message
 
+-- what was posted of a thread, to whatever queue, is a message of it
 abbrev pub PostsAreMessages : Type 0
 PostsAreMessages =
     (limits : Limits) (calls : List Call) (q : ℕ) (message : Message) →
     Contains (items_to (replay (start limits) calls) q) (Thread message) →
     Contains (messages (replay (start limits) calls) message.thread) message
 
--- no queue has lost more than was posted to it, and the home of a known thread is a CPU that is there; after every list of calls
+-- no queue has lost more than was posted to it, after every list of calls
 abbrev pub NoMoreIsEaten : Type 0
-NoMoreIsEaten = (limits : Limits) (calls : List Call) (q : ℕ) → (replay (start limits) calls).eaten q ≤ aseq (replay (start limits) calls) q
+NoMoreIsEaten =
+    (limits : Limits) (calls : List Call) (q : ℕ)
+    → (replay (start limits) calls).eaten q ≤ aseq (replay (start limits) calls) q
 
+-- the home of a known thread is a CPU that is there
 abbrev pub HomesAreThere : Type 0
 HomesAreThere =
     (limits : Limits) (calls : List Call) (t : ℕ) →
     is_known (replay (start limits) calls) t ≡ true →
     is_cpu (shown (replay (start limits) calls)) ((replay (start limits) calls).home t) ≡ true
 
--- a call adds items to the end of a queue, if any, and takes from its front what it takes; whatever plain kernel it is called on
+-- a call adds items to the end of a queue, if any, whatever plain kernel it is called on
 abbrev pub QueuesGoOn : Type 0
-QueuesGoOn = (P : PlainKernel) (call : Call) (q : ℕ) → (more : List Item) × (items_to (after P call) q ≡ items_to P q ++ more)
+QueuesGoOn =
+    (P : PlainKernel) (call : Call) (q : ℕ) → (more : List Item) × (items_to (after P call) q ≡ items_to P q ++ more)
 
+-- only an accepted consume takes items, as many as it names
 abbrev pub OnlyConsumesTake : Type 0
 OnlyConsumesTake =
-    (P : PlainKernel) (call : Call) (q : ℕ) → (after P call).eaten q ≡ P.eaten q + taken (refused (shown P) call) (takes call q)
+    (P : PlainKernel) (call : Call) (q : ℕ)
+    → (after P call).eaten q ≡ P.eaten q + taken (refused (shown P) call) (takes call q)

@@ -9,7 +9,8 @@ use Rattle.pc_calls.specs.declared.limits.Profile.TheVariants.{Two}
 use Rattle.pc_kernel.specs.Rows.{ThreadRow, CpuRow, KernelRows}
 use Rattle.pc_kernel.specs.Reads.{seen, kinds_read}
 
--- a thread's row: its home is there, its kinds begin with their only Created, and their ticks are at most what each can tell
+-- a thread's row: its home is there, its kinds begin with their only Created, and their ticks are at most what each
+-- can tell
 pub record IsThreadRow (k : KernelRows) (row : ThreadRow) : Type 0 where
   pub home : row.home < k.limits.cpus
   pub told : 1 ≤ length row.kinds
@@ -17,7 +18,8 @@ pub record IsThreadRow (k : KernelRows) (row : ThreadRow) : Type 0 where
   pub begun : IsBegun row.kinds
   pub ran : ran_of row.kinds ≤ length row.kinds * MOST_TICKS
 
--- a CPU's row: its queue is within its limits, holds messages of the run that a delta can tell, and wakes an agent that is there
+-- a CPU's row: its queue is within its limits, holds messages of the run that a delta can tell, and wakes an agent that
+-- is there
 pub record IsCpuRow (k : KernelRows) (row : CpuRow) : Type 0 where
   pub room : length row.content ≤ k.limits.room
   pub held : length row.content ≤ row.posts

@@ -1,5 +1,6 @@
 -- The step of each call: the refusals in their order, and else what changes and what is answered.
-use Rattle.std.specs.Prelude.{ℕ, ◌+◌, ◌^◌, ◌==◌, nat_lt, nat_le, not, ◌||◌, Bool, true, false, List, [], ◌∷◌, ◌++◌, length, Option, Some, None, Result, Ok, Err, is_some, is_none, unwrap_or, if◌then◌else◌}
+use Rattle.std.specs.Prelude.{ℕ, ◌+◌, ◌^◌, ◌==◌, nat_lt, nat_le, not, ◌||◌, Bool, true, false, List, [], ◌∷◌, ◌++◌}
+use Rattle.std.specs.Prelude.{length, Option, Some, None, Result, Ok, Err, is_some, is_none, unwrap_or, if◌then◌else◌}
 use Rattle.std.specs.Option.{option_map_or, option_and_then}
 use Rattle.pc_messages.specs.Items.{thread_in, number_in}
 use Rattle.pc_messages.specs.Mask.{allows}
@@ -10,7 +11,8 @@ use Rattle.pc_messages.specs.declared.message.Item.TheVariants as item
 use Rattle.pc_messages.specs.declared.reported.Phase.{Phase}
 use Rattle.pc_messages.specs.declared.reported.Phase.TheVariants as phase
 use Rattle.pc_calls.specs.declared.call.EnvCall.{EnvCall}
-use Rattle.pc_calls.specs.declared.call.EnvCall.TheVariants.{Create, Wake, Block, YieldNow, Preempt, Die, SetAffinity, SetPriority, Tick}
+use Rattle.pc_calls.specs.declared.call.EnvCall.TheVariants.{Create, Wake, Block, YieldNow, Preempt, Die, SetAffinity}
+use Rattle.pc_calls.specs.declared.call.EnvCall.TheVariants.{SetPriority, Tick}
 use Rattle.pc_calls.specs.declared.call.Call.{Call}
 use Rattle.pc_calls.specs.declared.call.Call.TheVariants.{Env, Consume, Associate, Commit, Sleep, Rouse, Config}
 use Rattle.pc_calls.specs.declared.call.Posted.{Posted}
@@ -21,21 +23,24 @@ use Rattle.pc_calls.specs.declared.refusal.Refusal.TheVariants as refusal
 use Rattle.pc_calls.specs.Conditions.{first_of}
 use Rattle.pc_kernel.specs.PlainKernel.{PlainKernel, Post}
 use Rattle.pc_kernel.specs.PlainKernel as plain
-use Rattle.pc_kernel.specs.Reads.{Reads, shown, is_known, number_read, home, place, phase, may_run_on, is_cpu, aseq_read, content_read, on, is_pending}
+use Rattle.pc_kernel.specs.Reads.{Reads, shown, is_known, number_read, home, place, phase, may_run_on, is_cpu}
+use Rattle.pc_kernel.specs.Reads.{aseq_read, content_read, on, is_pending}
 
--- tests on a phase
+-- the phase is Dead
 abbrev pub is_dead : Option Phase → Bool
 is_dead (Some phase.Dead) = true
 is_dead (Some phase.Ready) = false
 is_dead (Some phase.Blocked) = false
 is_dead None = false
 
+-- the phase is Blocked
 abbrev pub is_blocked : Option Phase → Bool
 is_blocked (Some phase.Blocked) = true
 is_blocked (Some phase.Ready) = false
 is_blocked (Some phase.Dead) = false
 is_blocked None = false
 
+-- the phase is Ready
 abbrev pub is_ready : Option Phase → Bool
 is_ready (Some phase.Ready) = true
 is_ready (Some phase.Blocked) = false
@@ -57,6 +62,7 @@ queue_refusals r q =
 abbrev pub post_refusals : Reads → ℕ → List Condition
 post_refusals r t = (nat_le r.limits.numbers (number_read r t), refusal.NumbersSpent) ∷ queue_refusals r (home r t)
 
+-- of a mask: it is empty, or has a CPU that is not there
 abbrev pub mask_refusals : Reads → ℕ → List Condition
 mask_refusals r mask = (mask == 0, refusal.EmptyMask) ∷ (nat_le (2 ^ r.limits.cpus) mask, refusal.MaskTooWide) ∷ []
 
@@ -98,7 +104,8 @@ env_refusals r (Tick cpu) = (not (is_cpu r cpu), refusal.BadCpu) ∷ queue_refus
 -- of each call, in order
 abbrev pub refusals : Reads → Call → List Condition
 refusals r (Env call) = env_refusals r call
-refusals r (Consume cpu count) = (not (is_cpu r cpu), refusal.BadCpu) ∷ (nat_lt (length (content_read r cpu)) count, refusal.TooMany) ∷ []
+refusals r (Consume cpu count) =
+    (not (is_cpu r cpu), refusal.BadCpu) ∷ (nat_lt (length (content_read r cpu)) count, refusal.TooMany) ∷ []
 refusals r (Associate t queue n) =
     (not (is_known r t), refusal.UnknownThread)
     ∷ (not (is_cpu r queue), refusal.BadCpu)
@@ -117,7 +124,8 @@ refusals r (Commit cpu t n) =
     ∷ (not (may_run_on r t cpu), refusal.Forbidden)
     ∷ (is_some (on r cpu), refusal.Busy)
     ∷ []
-refusals r (Sleep cpu n) = (not (is_cpu r cpu), refusal.BadCpu) ∷ (not (n == aseq_read r cpu), refusal.Stale (aseq_read r cpu)) ∷ []
+refusals r (Sleep cpu n) =
+    (not (is_cpu r cpu), refusal.BadCpu) ∷ (not (n == aseq_read r cpu), refusal.Stale (aseq_read r cpu)) ∷ []
 refusals r (Rouse cpu) = (not (is_cpu r cpu), refusal.BadCpu) ∷ []
 refusals r (Config queue None) = (not (is_cpu r queue), refusal.BadCpu) ∷ []
 refusals r (Config queue (Some cpu)) = (not (is_cpu r queue) || not (is_cpu r cpu), refusal.BadCpu) ∷ []
@@ -145,7 +153,8 @@ roused slept (Some c) = at slept c None
 
 -- one more post, after which the queue's target is awake
 abbrev pub posted : PlainKernel → ℕ → Item → PlainKernel
-posted P q item = record P { posts = P.posts ++ record { queue = q; item = item } ∷ []; slept = roused P.slept (P.target q) }
+posted P q item =
+    record P { posts = P.posts ++ record { queue = q; item = item } ∷ []; slept = roused P.slept (P.target q) }
 
 -- what a call of the environment posts: this item to this queue, after this change of the kernel
 pub record Posting : Type 0 where
@@ -166,6 +175,7 @@ telling P t kind =
 abbrev pub leaving : PlainKernel → ℕ → Kind → Posting
 leaving P cpu kind = telling (record P { on = at P.on cpu None }) (unwrap_or (P.on cpu) 0) kind
 
+-- what each call of the environment posts, where, and what else it changes before that
 abbrev pub posting : PlainKernel → EnvCall → Posting
 posting P (Create queue ready mask) =
     let t = plain.threads P in
@@ -201,6 +211,7 @@ receipt p =
       woken = woken p.before p.queue;
     }
 
+-- what each accepted call answers
 abbrev pub accepted : PlainKernel → Call → Answer
 accepted P (Env call) = answer.Posted (receipt (posting P call))
 accepted P (Consume cpu count) = answer.Done
@@ -210,18 +221,21 @@ accepted P (Sleep cpu n) = answer.Done
 accepted P (Rouse cpu) = answer.Done
 accepted P (Config queue target) = answer.Done
 
--- the step: what a call answers, and the kernel after it
+-- what a call answers that is refused so, or accepted
 abbrev pub reply_of : Option Refusal → Answer → Result Answer Refusal
 reply_of None answer = Ok answer
 reply_of (Some why) answer = Err why
 
+-- the kernel after a call that is refused so, or accepted
 abbrev pub after_of : Option Refusal → PlainKernel → PlainKernel → PlainKernel
 after_of None changed same = changed
 after_of (Some why) changed same = same
 
+-- what a call answers: the first refusal that holds, or else its answer
 abbrev pub reply : PlainKernel → Call → Result Answer Refusal
 reply P call = reply_of (refused (shown P) call) (accepted P call)
 
+-- the kernel after a call: as it was where that is refused, or else changed
 abbrev pub after : PlainKernel → Call → PlainKernel
 after P call = after_of (refused (shown P) call) (changed P call) P
 

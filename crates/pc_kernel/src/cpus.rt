@@ -32,7 +32,8 @@ pub(crate) fn fresh(alloc: Global, limits: Limits) -> Result<Vec<CpuEntry>, Allo
     requires some_room { 1 ≤ limits.room }
     requires some_posts { 1 ≤ limits.posts }
     ensures count { IfOk result (λ cpus. length cpus.items ≡ limits.cpus) }
-    ensures each { IfOk result (λ cpus. (c : ℕ) → c < limits.cpus → slice_get cpus.items c ≡ Some (fresh_cpu limits c)) }
+    ensures each { IfOk result
+        (λ cpus. (c : ℕ) → c < limits.cpus → slice_get cpus.items c ≡ Some (fresh_cpu limits c)) }
 {
     let mut cpus = Vec::with_capacity(alloc, limits.cpus as usize)?;
     for cpu in 0..limits.cpus {
@@ -50,7 +51,8 @@ pub(crate) fn fresh(alloc: Global, limits: Limits) -> Result<Vec<CpuEntry>, Allo
 #[inline(always)]
 pub(crate) fn rouse(cpus: &mut Vec<CpuEntry>, agent: Option<Cpu>) -> Option<Cpu>
     requires { ForSome agent (λ c. c < length cpus.old.items) }
-    ensures each { (c : ℕ) → slice_get cpus.new.items c ≡ option_map (roused_entry agent c) (slice_get cpus.old.items c) }
+    ensures each { (c : ℕ)
+        → slice_get cpus.new.items c ≡ option_map (roused_entry agent c) (slice_get cpus.old.items c) }
     ensures count { length cpus.new.items ≡ length cpus.old.items }
     ensures woken { result ≡ woken_of (sleeps_in cpus.old.items) agent }
 {

@@ -1,6 +1,7 @@
 //! The kernel model.
 
-ghost use Rattle.std.specs.Prelude.{◌≡◌, ◌<◌, ◌≤◌, ◌↔◌, ℕ, nat_lt, Some, None, ◌++◌, is_some, length, IfOk, IfSome, IfErr, IsFalse, ◌⊎◌};
+ghost use Rattle.std.specs.Prelude.{◌≡◌, ◌<◌, ◌≤◌, ◌↔◌, ℕ, nat_lt, Some, None, ◌++◌, is_some, length, IfOk, IfSome};
+ghost use Rattle.std.specs.Prelude.{IfErr, IsFalse, ◌⊎◌};
 ghost use Rattle.std.specs.Option.{option_copied};
 ghost use Rattle.pc_calls.specs.Limits.{bad_field};
 ghost use Rattle.pc_calls.specs.declared.limits.TheConstants.{MOST_CPUS};
@@ -39,7 +40,8 @@ impl Kernel {
     ghost use Rattle.pc_kernel.specs.Sound.{IsSound};
     ghost use Rattle.pc_calls.specs.declared.limits.LimitField.{LimitField};
     ghost use Rattle.pc_kernel.specs.Queued.{AreQueued};
-    ghost use Rattle.pc_kernel.specs.Reads.{seen, status_of, reported_of, history_of, queue_of, aseq_of, aseq_read, content_read, is_known, is_cpu, on, is_asleep};
+    ghost use Rattle.pc_kernel.specs.Reads.{seen, status_of, reported_of, history_of, queue_of, aseq_of, aseq_read};
+    ghost use Rattle.pc_kernel.specs.Reads.{content_read, is_known, is_cpu, on, is_asleep};
 
     /// The kernel at the start, with limits of profile One.
     pub fn new(alloc: Global, limits: Limits) -> Result<Self, LimitsFault>
@@ -170,7 +172,8 @@ impl Kernel {
         ensures posts { IfOk result (λ read. read.0 ≡ aseq_read (seen self.now) cpu) }
         ensures queued { IfOk result (λ read. AreQueued self.now cpu read.1.items) }
         ensures bad_cpu { (result ≡ Err (CallFault.Refused Refusal.BadCpu)) ↔ IsFalse (is_cpu (seen self.now) cpu) }
-        ensures memory { IfErr result (λ fault. (fault ≡ CallFault.Refused Refusal.BadCpu) ⊎ (fault ≡ CallFault.OutOfMemory)) }
+        ensures memory { IfErr result
+            (λ fault. (fault ≡ CallFault.Refused Refusal.BadCpu) ⊎ (fault ≡ CallFault.OutOfMemory)) }
     {
         self.tables.is_sound();
         let entry = match self.tables.cpu(cpu) {
@@ -183,11 +186,12 @@ impl Kernel {
         }
     }
 
-    /// All that the CPU's queue holds, the oldest first, where it stands: the items of the first slice, then those of the second;
-    /// none of a CPU that is not there. It takes no memory.
+    /// All that the CPU's queue holds, the oldest first, where it stands: the items of the first slice, then those of
+    /// the second; none of a CPU that is not there. It takes no memory.
     pub fn queued(&self, cpu: Cpu) -> Option<(&[Item], &[Item])>
         ensures queued { IfSome result (λ held. AreQueued self.now cpu (held.0.now ++ held.1.now)) }
-        ensures front { IfSome result (λ held. (0 < length held.0.now) ↔ (0 < length (content_read (seen self.now) cpu))) }
+        ensures front { IfSome result
+            (λ held. (0 < length held.0.now) ↔ (0 < length (content_read (seen self.now) cpu))) }
         ensures there { is_some result ≡ is_cpu (seen self.now) cpu }
     {
         self.tables.is_sound();

@@ -1,7 +1,9 @@
 //! What holds after every list of calls, whatever they are and whether they were refused.
 
-ghost use Rattle.pc_kernel.specs.Facts.{AlwaysAtHome, AlwaysPlaced, SleepersHadNoPost, RunsAreBegun, NamesAreDense, CallsExtend};
-ghost use Rattle.pc_kernel.specs.Posted.{HomesAreThere, MessagesArePosted, NoMoreIsEaten, OnlyConsumesTake, PostsAreMessages, QueuesGoOn};
+ghost use Rattle.pc_kernel.specs.Facts.{AlwaysAtHome, AlwaysPlaced, SleepersHadNoPost, RunsAreBegun, NamesAreDense};
+ghost use Rattle.pc_kernel.specs.Facts.{CallsExtend};
+ghost use Rattle.pc_kernel.specs.Posted.{HomesAreThere, MessagesArePosted, NoMoreIsEaten, OnlyConsumesTake};
+ghost use Rattle.pc_kernel.specs.Posted.{PostsAreMessages, QueuesGoOn};
 ghost use Rattle.pc_kernel.specs.Exact.{ReadsArePlain, AcceptedAssociatesAreExact, AcceptedCommitsAreExact};
 
 /// A thread's messages that were not consumed all stand in its home queue and are its last ones, in order.
@@ -36,14 +38,14 @@ pub fn reads_are_plain()
     ensures { ReadsArePlain }
 {}
 
-/// Where a plain kernel accepts an associate, the thread is known, alive and on no CPU, its home queue holds nothing of it,
-/// and the number is that of its last message.
+/// Where a plain kernel accepts an associate, the thread is known, alive and on no CPU, its home queue holds nothing of
+/// it, and the number is that of its last message.
 pub fn accepted_associates_are_exact()
     ensures { AcceptedAssociatesAreExact }
 {}
 
-/// Where a plain kernel accepts a commit, the thread is ready, at home on the CPU, allowed there and on no CPU, no thread is on
-/// the CPU, and the Aseq is the count of all posts to its queue.
+/// Where a plain kernel accepts a commit, the thread is ready, at home on the CPU, allowed there and on no CPU, no
+/// thread is on the CPU, and the Aseq is the count of all posts to its queue.
 pub fn accepted_commits_are_exact()
     ensures { AcceptedCommitsAreExact }
 {}

@@ -140,8 +140,10 @@ impl ThreadEntry {
         requires targets { AreTargets cpus.old.items }
         requires number { length self.old.kinds < GREATEST_NUMBER }
         requires ran { ran_given kind ≤ MOST_TICKS }
-        ensures row { IfOk result (λ posted. self.new ≡ record self.old { kinds = self.old.kinds ++ kind ∷ []; last_post = posted.aseq }) }
-        ensures ok { IfOk result (λ posted. IsTold cpus.old.items cpus.new.items (thread_row_of self.old) thread kind posted) }
+        ensures row { IfOk result
+            (λ posted. self.new ≡ record self.old { kinds = self.old.kinds ++ kind ∷ []; last_post = posted.aseq }) }
+        ensures ok { IfOk result
+            (λ posted. IsTold cpus.old.items cpus.new.items (thread_row_of self.old) thread kind posted) }
         ensures err { OnErr result (self.new ≡ self.old) }
         ensures err_cpus { OnErr result (cpus.new.items ≡ cpus.old.items) }
     {

@@ -1,6 +1,7 @@
 //! Lists of calls worked by hand: what the definitions answer to them.
 
-ghost use Rattle.pc_kernel.specs.Worked.{StaleFirst, Ticks, Spent, Full, PostsSpentLast, DeadStay, Masks, LastCpu, Targets, Levels, Sleepers, Refusals};
+ghost use Rattle.pc_kernel.specs.Worked.{StaleFirst, Ticks, Spent, Full, PostsSpentLast, DeadStay, Masks, LastCpu};
+ghost use Rattle.pc_kernel.specs.Worked.{Targets, Levels, Sleepers, Refusals};
 
 /// The definition of a step, at lists of calls whose answers were written down beforehand. It computes nothing: it
 /// shows that the definition says what was meant.

@@ -6,11 +6,12 @@ use Rattle.pc_messages.specs.declared.message.Item.{Item}
 use Rattle.pc_messages.specs.declared.message.Item.TheVariants.{Thread, Tick}
 use Rattle.pc_messages.specs.declared.message.Message.{Message}
 
--- the thread of an item, and its number; a tick has neither
+-- the thread of an item; a tick has none
 abbrev pub thread_in : Item → Option ℕ
 thread_in (Thread message) = Some message.thread
 thread_in (Tick cpu) = None
 
+-- the number of an item's message
 abbrev pub number_in : Item → Option ℕ
 number_in (Thread message) = Some message.number
 number_in (Tick cpu) = None
@@ -25,11 +26,12 @@ abbrev pub message_in : ℕ → Item → Option Message
 message_in t (Thread message) = if message.thread == t then Some message else None
 message_in t (Tick cpu) = None
 
--- the pairs of a thread and a number that items tell
+-- the pair of a thread and a number that an item tells; a tick tells none
 abbrev pub pair_in : Item → Option (ℕ × ℕ)
 pair_in (Thread message) = Some (message.thread, message.number)
 pair_in (Tick cpu) = None
 
+-- the pairs that a list of items tells, in order
 abbrev pub pairs_in : List Item → List (ℕ × ℕ)
 pairs_in items = filter_map pair_in items
 
@@ -38,11 +40,13 @@ abbrev pub IsItemOf : Run → Item → Type 0
 IsItemOf run (Thread message) = kind_at (run message.thread) message.number ≡ Some message.kind
 IsItemOf run (Tick cpu) = Unit {0}
 
+-- each item's message is one of the run
 abbrev pub AreItemsOf : Run → List Item → Type 0
 AreItemsOf run items = All (IsItemOf run) items
 
 -- items that a delta can tell: their messages are well formed, and no two of one thread and number differ
 pub record AreTellable (items : List Item) : Type 0 where
   pub well_formed : (message : Message) → Contains items (Thread message) → IsWellFormed message.number message.kind
-  pub alike : (one other : Message) → Contains items (Thread one) → Contains items (Thread other) → one.thread ≡ other.thread
+  pub alike : (one other : Message) → Contains items (Thread one) → Contains items (Thread other)
+      → one.thread ≡ other.thread
       → one.number ≡ other.number → one.kind ≡ other.kind

@@ -2,7 +2,8 @@
 use Rattle.std.specs.Prelude.{ℕ, true, false, List, Option, Some, None, sum_by, unwrap_or}
 use Rattle.std.specs.List.{filter_map, last_or}
 use Rattle.pc_messages.specs.declared.kind.Kind.{Kind}
-use Rattle.pc_messages.specs.declared.kind.Kind.TheVariants.{Created, Blocked, Preempted, Yield, Dead, Wakeup, Affinity, Priority}
+use Rattle.pc_messages.specs.declared.kind.Kind.TheVariants.{Created, Blocked, Preempted, Yield, Dead, Wakeup, Affinity}
+use Rattle.pc_messages.specs.declared.kind.Kind.TheVariants.{Priority}
 use Rattle.pc_messages.specs.declared.reported.Phase.{Phase}
 use Rattle.pc_messages.specs.declared.reported.Phase.TheVariants as phase
 use Rattle.pc_messages.specs.declared.reported.Reported.{Reported}
@@ -56,16 +57,19 @@ ran_given (Priority level) = 0
 abbrev pub last_given : {A B : Type 0} → (A → Option B) → List A → Option B
 last_given f xs = last_or None (filter_map f xs)
 
--- the phase, the mask and the level of a list of kinds, and the ticks of all of it
+-- the phase of a list of kinds: the last that one of them gives
 abbrev pub phase_of : List Kind → Option Phase
 phase_of kinds = last_given phase_given kinds
 
+-- the mask of a list of kinds, that of the last Created or Affinity
 abbrev pub mask_of : List Kind → Option ℕ
 mask_of kinds = last_given mask_given kinds
 
+-- the level of a list of kinds, that of the last Priority, or 0
 abbrev pub level_of : List Kind → ℕ
 level_of kinds = unwrap_or (last_given level_given kinds) 0
 
+-- the ticks of a list of kinds, summed
 abbrev pub ran_of : List Kind → ℕ
 ran_of kinds = sum_by ran_given kinds
 

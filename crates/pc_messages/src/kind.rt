@@ -12,8 +12,9 @@ use crate::reported::Phase;
 pub const MOST_TICKS: u32 = u32::MAX;
 
 /// What happened to a thread. The first seven are the ghOSt paper's messages of a thread (its eighth, TIMER_TICK,
-/// belongs to none, see [`crate::message::Item`]), the last is this project's own. `ran` is in ticks. What is short stands in
-/// front of what is wide, here and in other types that are held by the thousand: fields lie in memory in their order.
+/// belongs to none, see [`crate::message::Item`]), the last is this project's own. `ran` is in ticks. What is short
+/// stands in front of what is wide, here and in other types that are held by the thousand: fields lie in memory in
+/// their order.
 ///
 /// The default is `Wakeup`, which carries nothing.
 #[derive(Clone, Copy, Debug, Default, PartialEq, Eq)]

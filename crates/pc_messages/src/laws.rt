@@ -11,7 +11,8 @@ ghost use Rattle.pc_messages.specs.declared.reported.Reported.{Reported};
 /// kind leads on to some state; what it leads to is the state of the whole list. Where the ticks of the whole list fit,
 /// each `apply` on the way meets its condition.
 pub fn states_are_built_message_by_message()
-    ensures there { (kind : Kind) (kinds : List Kind) → IsBegun (kind ∷ kinds) → (state : Reported) × Builds (kind ∷ kinds) state }
+    ensures there { (kind : Kind) (kinds : List Kind) → IsBegun (kind ∷ kinds) → (state : Reported)
+        × Builds (kind ∷ kinds) state }
     ensures whole { (kinds : List Kind) (state : Reported) → Builds kinds state → state_of kinds ≡ Some state }
     ensures fits { (kinds more : List Kind) (kind : Kind) (state : Reported) → Builds kinds state
         → ran_of (kinds ++ kind ∷ more) < 2 ^ 64 → state.ran + ran_given kind < 2 ^ 64 }

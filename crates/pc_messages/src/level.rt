@@ -7,8 +7,8 @@ use thiserror::Error;
 
 /// A thread's priority: 0 to 7, of which 7 runs first (own).
 ///
-/// It takes two bytes, so that a kind of message has no bytes between its fields that mean nothing: what has such bytes is
-/// copied field by field.
+/// It takes two bytes, so that a kind of message has no bytes between its fields that mean nothing: what has such bytes
+/// is copied field by field.
 #[derive(Clone, Copy, Debug, Default, PartialEq, Eq, PartialOrd, Ord)]
 pub struct Level {
     number: u16,

@@ -13,8 +13,8 @@ const HALF: u64 = 1 << 32;
 /// The CPUs that a thread may run on: bit `c` stands for CPU `c`. At least one bit is set in a mask that
 /// [`Mask::new`] made. (The ghOSt paper's THREAD_AFFINITY carries such a set.)
 ///
-/// The bits are kept in two halves, which lie where eight bytes together would not: messages and what is known of threads are
-/// held by the thousand, and are the smaller for it.
+/// The bits are kept in two halves, which lie where eight bytes together would not: messages and what is known of
+/// threads are held by the thousand, and are the smaller for it.
 #[derive(Clone, Copy, Debug, Default, PartialEq, Eq)]
 pub struct Mask {
     low: u32,

@@ -45,7 +45,8 @@ impl Reported {
     /// The state after one more message.
     pub fn apply(&self, kind: Kind) -> Self
         requires { self.now.ran + ran_given kind < 2 ^ 64 }
-        ensures folded { (kinds : List Kind) → state_of kinds ≡ Some self.now → state_of (kinds ++ kind ∷ []) ≡ Some result }
+        ensures folded { (kinds : List Kind) → state_of kinds ≡ Some self.now
+            → state_of (kinds ++ kind ∷ []) ≡ Some result }
         ensures ran { result.ran ≡ self.now.ran + ran_given kind }
     {
         let before = *self;

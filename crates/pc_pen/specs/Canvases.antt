@@ -10,6 +10,7 @@ pub record Drawing : Type 0 where
   pub begun : Option Shape
   pub used : ℕ
 
+-- a canvas with these marks, this one begun, and so many bytes used
 abbrev pub drawing : List (Option Shape) → Option Shape → ℕ → Drawing
 drawing kinds begun used = record { kinds = kinds; begun = begun; used = used }
 

@@ -1,3 +1,5 @@
+-- What a picture is made of, whatever it is of: marks, which are whole elements whose texts have no markup, a canvas on
+-- which they are composed, and the frame around them.
 pub mod Canvases
 pub mod Drawn
 pub mod Phrases

@@ -24,7 +24,8 @@ shape_name Path = codes "path"
 -- a shape, and what is told of it where the pointer rests
 abbrev pub shape_text : List ℕ → List ℕ → List ℕ → List ℕ
 shape_text name attributes title =
-    codes "<" ++ (name ++ (codes " " ++ (attributes ++ (codes "><title>" ++ (title ++ (codes "</title></" ++ (name ++ codes ">")))))))
+    codes "<" ++ (name
+    ++ (codes " " ++ (attributes ++ (codes "><title>" ++ (title ++ (codes "</title></" ++ (name ++ codes ">")))))))
 
 -- words in a picture
 abbrev pub words_text : List ℕ → List ℕ → List ℕ
@@ -53,8 +54,10 @@ pub data AreMarksOf : List (Option Shape) → List ℕ → Type 0 where
 -- the first line of a picture of this size
 abbrev pub head_text : ℕ → ℕ → List ℕ
 head_text width height =
-    codes "<svg xmlns=\"http://www.w3.org/2000/svg\" width=\"" ++ (decimal width ++ (codes "\" height=\"" ++ (decimal height
-    ++ (codes "\" viewBox=\"0 0 " ++ (decimal width ++ (codes " " ++ (decimal height ++ codes "\" font-family=\"sans-serif\">\n")))))))
+    codes "<svg xmlns=\"http://www.w3.org/2000/svg\" width=\""
+    ++ (decimal width ++ (codes "\" height=\"" ++ (decimal height
+    ++ (codes "\" viewBox=\"0 0 "
+    ++ (decimal width ++ (codes " " ++ (decimal height ++ codes "\" font-family=\"sans-serif\">\n")))))))
 
 -- what stands before the marks of a picture: its size, and what it says of itself
 abbrev pub opening_text : ℕ → ℕ → List ℕ → List ℕ

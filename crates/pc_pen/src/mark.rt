@@ -27,7 +27,9 @@ fn plain(text: &[u8]) -> &[u8]
 
 /// Writes a shape's element up to its title.
 fn write_tag<W: Write>(name: &[u8], attributes: &[u8], writer: &mut W) -> io::Result<()>
-    ensures { OnOk result (Appends (W.contents writer.old) (W.contents writer.new) (codes "<" ++ (name.now ++ (codes " " ++ (attributes.now ++ codes ">"))))) }
+    ensures { OnOk result
+        (Appends (W.contents writer.old) (W.contents writer.new)
+        (codes "<" ++ (name.now ++ (codes " " ++ (attributes.now ++ codes ">"))))) }
 {
     writer.write_all(b"<")?;
     writer.write_all(name)?;
@@ -55,7 +57,9 @@ fn write_element<W: Write>(
     title: &[u8],
     writer: &mut W,
 ) -> io::Result<()>
-    ensures { OnOk result (Appends (W.contents writer.old) (W.contents writer.new) (shape_text name.now attributes.now title.now ++ 10 ∷ [])) }
+    ensures { OnOk result
+        (Appends (W.contents writer.old) (W.contents writer.new)
+        (shape_text name.now attributes.now title.now ++ 10 ∷ [])) }
 {
     write_tag(name, attributes, writer)?;
     write_title(name, title, writer)
@@ -67,7 +71,8 @@ fn write_element_of_words<W: Write>(
     words: &[u8],
     writer: &mut W,
 ) -> io::Result<()>
-    ensures { OnOk result (Appends (W.contents writer.old) (W.contents writer.new) (words_text attributes.now words.now ++ 10 ∷ [])) }
+    ensures { OnOk result
+        (Appends (W.contents writer.old) (W.contents writer.new) (words_text attributes.now words.now ++ 10 ∷ [])) }
 {
     writer.write_all(b"<text ")?;
     writer.write_all(attributes)?;

@@ -36,7 +36,8 @@ pc_sim =
     (with_subcommand
     (with_subcommand
     (with_subcommand
-    (on_top (λ s. record s { has_version = true; subcommand_required = true; disable_help_subcommand = true }) (new_app (codes "pc-sim")))
+    (on_top (λ s. record s { has_version = true; subcommand_required = true; disable_help_subcommand = true })
+    (new_app (codes "pc-sim")))
     (of_file (codes "replay")).top)
     (of_file (codes "explain")).top)
     (of_file (codes "draw")).top)

@@ -12,7 +12,8 @@ use Rattle.pc_program.specs.declared.ending.BadSettings.TheVariants as bad
 use Rattle.pc_program.specs.declared.ending.Unsettled.{Unsettled}
 use Rattle.pc_program.specs.declared.ending.Unsettled.TheVariants as why
 use Rattle.pc_program.specs.declared.ending.Ending.{Ending}
-use Rattle.pc_program.specs.declared.ending.Ending.TheVariants.{Finished, FaultLine, DrawnToFault, CannotRead, BadCommandLine, OutOfMemory, Settings, Run, CannotStart}
+use Rattle.pc_program.specs.declared.ending.Ending.TheVariants.{Finished, FaultLine, DrawnToFault, CannotRead}
+use Rattle.pc_program.specs.declared.ending.Ending.TheVariants.{BadCommandLine, OutOfMemory, Settings, Run, CannotStart}
 use Rattle.pc_program.specs.declared.run_text.RunTextFault.{RunTextFault}
 use Rattle.pc_program.specs.declared.run_text.RunTextFault.TheVariants as text
 use Rattle.pc_program.specs.declared.settings.SettingsFault.{SettingsFault}
@@ -44,6 +45,7 @@ ending_of_settings (settings.BadConfig (config.BadThread place)) = Settings bad.
 ending_of_settings (settings.BadConfig (config.BadRestart place)) = Settings bad.BadRestart
 ending_of_settings settings.OutOfMemory = OutOfMemory
 
+-- how the program ends after a fault of a run
 abbrev pub ending_of_run : RunFault → Ending
 ending_of_run (run.Audit cpu) = Run why.Audit
 ending_of_run (run.Incomplete thread) = Run why.Incomplete
@@ -52,6 +54,7 @@ ending_of_run (run.GaveUp cpu) = Run why.GaveUp
 ending_of_run run.StartFailed = CannotStart
 ending_of_run run.OutOfMemory = OutOfMemory
 
+-- how it ends after a run by a settings text
 abbrev pub ending_of_run_text : RunTextFault → Ending
 ending_of_run_text (text.Settings fault) = ending_of_settings fault
 ending_of_run_text (text.Run fault) = ending_of_run fault
@@ -79,6 +82,7 @@ settings_message bad.TooManyThreads = codes "pc-sim: settings TooManyThreads"
 settings_message bad.BadThread = codes "pc-sim: settings BadThread"
 settings_message bad.BadRestart = codes "pc-sim: settings BadRestart"
 
+-- what it says of a run that did not settle
 abbrev pub unsettled_message : Unsettled → List ℕ
 unsettled_message why.Audit = codes "pc-sim: run Audit"
 unsettled_message why.Incomplete = codes "pc-sim: run Incomplete"

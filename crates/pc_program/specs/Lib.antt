@@ -1,3 +1,5 @@
+-- What the program does: settings and their faults, runs by a settings text, reports, the command line, how the program
+-- ends and what it wrote then.
 pub mod CommandLine
 pub mod Endings
 pub mod Inner

@@ -14,18 +14,21 @@ use Rattle.pc_program.specs.Runs.{DoesWhatIsSpelled, SpellsSettings}
 use Rattle.pc_session.specs.Session.{IsSession, RanOut}
 use Rattle.pc_program.specs.SettingsText.{Reads}
 use Rattle.pc_program.specs.declared.ending.Ending.{Ending}
-use Rattle.pc_program.specs.declared.ending.Ending.TheVariants.{Finished, FaultLine, DrawnToFault, CannotRead, BadCommandLine, OutOfMemory, Settings, Run, CannotStart}
+use Rattle.pc_program.specs.declared.ending.Ending.TheVariants.{Finished, FaultLine, DrawnToFault, CannotRead}
+use Rattle.pc_program.specs.declared.ending.Ending.TheVariants.{BadCommandLine, OutOfMemory, Settings, Run, CannotStart}
 use Rattle.pc_program.specs.declared.forms.Form.{Form}
 use Rattle.pc_program.specs.declared.forms.Form.TheVariants.{Replies, Explained, Picture}
 use Rattle.pc_program.specs.declared.report.ReportForm.{ReportForm}
 use Rattle.pc_program.specs.declared.settings.SettingsFault.{SettingsFault}
 
--- after a script of this text: what was written is plainly its output, or what comes before the command at which memory ran out
+-- after a script of this text: what was written is plainly its output, or what comes before the command at which memory
+-- ran out
 abbrev pub IsAnswered : (plain : List ℕ → List ℕ) (text : List ℕ) (old new : Option (List ℕ)) → Ending → Type 0
 IsAnswered plain text old new Finished =
     (written : List ℕ) × IsOutput IsSession text outcome.Finished (plain written) × Appends old new written
 IsAnswered plain text old new FaultLine =
-    (line : ℕ) × (written : List ℕ) × IsOutput IsSession text (outcome.FaultLine line) (plain written) × Appends old new written
+    (line : ℕ) × (written : List ℕ) × IsOutput IsSession text (outcome.FaultLine line) (plain written)
+    × Appends old new written
 IsAnswered plain text old new OutOfMemory =
     Keeps old new ⊎ ((written : List ℕ) × IsOutputUntil IsSession RanOut text (plain written) × Appends old new written)
 IsAnswered plain text old new CannotRead = Unit {0}
@@ -37,9 +40,11 @@ IsAnswered plain text old new CannotStart = ⊥
 
 -- after a script of this text was drawn: what was written is its picture, or nothing
 abbrev pub IsDrawn : (text : List ℕ) (old new : Option (List ℕ)) → Ending → Type 0
-IsDrawn text old new Finished = (written : List ℕ) × IsPictureOf IsSession text outcome.Finished written × Appends old new written
+IsDrawn text old new Finished =
+    (written : List ℕ) × IsPictureOf IsSession text outcome.Finished written × Appends old new written
 IsDrawn text old new DrawnToFault =
-    (line : ℕ) × (written : List ℕ) × IsPictureOf IsSession text (outcome.FaultLine line) written × Appends old new written
+    (line : ℕ) × (written : List ℕ) × IsPictureOf IsSession text (outcome.FaultLine line) written
+    × Appends old new written
 IsDrawn text old new OutOfMemory = Keeps old new
 IsDrawn text old new CannotRead = Unit {0}
 IsDrawn text old new FaultLine = ⊥

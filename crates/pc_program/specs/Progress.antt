@@ -6,9 +6,12 @@ use Rattle.pc_program.specs.declared.progress.TheConstants.{MESSAGES_BETWEEN}
 -- how many threads are dead, of all, and how many messages their steps posted
 abbrev pub progress_text : ℕ → Driven → List ℕ
 progress_text all so_far =
-    decimal so_far.threads ++ (codes " of " ++ (decimal all ++ (codes " threads dead, " ++ (decimal so_far.messages ++ codes " messages"))))
+    decimal so_far.threads
+    ++ (codes " of " ++ (decimal all
+    ++ (codes " threads dead, " ++ (decimal so_far.messages ++ codes " messages"))))
 
--- a text in the place of what a terminal's line has: back to the line's start, the text, and what is left of the line erased
+-- a text in the place of what a terminal's line has: back to the line's start, the text, and what is left of the
+-- line erased
 abbrev pub in_place : List ℕ → List ℕ
 in_place text = 13 ∷ (text ++ 27 ∷ codes "[K")
 

@@ -27,6 +27,7 @@ row_text row =
     ++ (codes " stale " ++ (decimal row.stale ++ (codes " pending " ++ (decimal row.pending
     ++ (codes " other " ++ decimal row.other))))))))))))
 
+-- a line for each CPU, in order
 abbrev pub rows_text : List Row → List ℕ
 rows_text rows = flat_map (λ row. text_line (row_text row)) rows
 

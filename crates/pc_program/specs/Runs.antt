@@ -18,7 +18,8 @@ abbrev pub SpellsSettings : Option Members → Type 0
 SpellsSettings (Some table) = first_fault (faults_in table) ≡ None
 SpellsSettings None = ⊥
 
--- what is said to be wrong with the settings is wrong with the text; a run, and the writing of its report, fail only where nothing is
+-- what is said to be wrong with the settings is wrong with the text; a run, and the writing of its report, fail only
+-- where nothing is
 abbrev pub IsTextsFault : Option Members → RunTextFault → Type 0
 IsTextsFault text (Settings fault) = Reads text (Err fault)
 IsTextsFault text (Run fault) = SpellsSettings text

@@ -1,5 +1,6 @@
 -- The settings that a TOML text spells, and what is wrong with a text that spells none.
-use Rattle.std.specs.Prelude.{ℕ, ℤ, pos, ◌≡◌, ◌+◌, ◌⊎◌, List, [], ◌∷◌, ◌++◌, map, flat_map, filter_map, Option, Some, None, Result, Ok, Err, unwrap_or, option_map, option_and_then, codes}
+use Rattle.std.specs.Prelude.{ℕ, ℤ, pos, ◌≡◌, ◌+◌, ◌⊎◌, List, [], ◌∷◌, ◌++◌, map, flat_map, filter_map, Option, Some}
+use Rattle.std.specs.Prelude.{None, Result, Ok, Err, unwrap_or, option_map, option_and_then, codes}
 use Rattle.std.specs.Option.{option_map_or}
 use Rattle.toml.specs.Data.{Data, Items, no_items, item, Members, get_member, as_integer, as_str, as_array, as_table}
 use Rattle.pc_threads.specs.Settings.{Settings, Plan, faults_of, first_fault}
@@ -9,10 +10,12 @@ use Rattle.pc_program.specs.StepTexts.{read_step}
 use Rattle.pc_program.specs.declared.settings.Field.{Field}
 use Rattle.pc_program.specs.declared.settings.Field.TheVariants as field
 use Rattle.pc_program.specs.declared.settings.SettingsFault.{SettingsFault}
-use Rattle.pc_program.specs.declared.settings.SettingsFault.TheVariants.{NotToml, BadField, BadStep, BadConfig, OutOfMemory}
+use Rattle.pc_program.specs.declared.settings.SettingsFault.TheVariants.{NotToml, BadField, BadStep, BadConfig}
+use Rattle.pc_program.specs.declared.settings.SettingsFault.TheVariants.{OutOfMemory}
 
 -- What stands at a key.
 
+-- the elements of a list
 abbrev pub elements : Items → List Data
 elements no_items = []
 elements (item value items) = value ∷ elements items
@@ -27,9 +30,11 @@ all_some (Some a ∷ rest) = option_map (λ others. a ∷ others) (all_some rest
 abbrev pub list_of : {A : Type 0} → (Data → Option A) → Data → Option (List A)
 list_of kind value = option_and_then (λ items. all_some (map kind (elements items))) (as_array value)
 
+-- the integer that stands at a key
 abbrev pub integer_at : List ℕ → Members → Option ℤ
 integer_at key table = option_and_then as_integer (get_member key table)
 
+-- the list of texts that stands at a key
 abbrev pub texts_at : List ℕ → Members → Option (List (List ℕ))
 texts_at key table = option_and_then (list_of as_str) (get_member key table)
 
@@ -50,18 +55,23 @@ key_text field.Turn = codes "restart.turn"
 
 -- What the keys of a text tell; what is said of a key that tells nothing plays no part, since it is a fault.
 
+-- the tables of threads
 abbrev pub threads_in : Members → List Members
 threads_in table = unwrap_or (tables_at (codes "thread") table) []
 
+-- the tables of restarts
 abbrev pub restarts_in : Members → List Members
 restarts_in table = unwrap_or (tables_at (codes "restart") table) []
 
+-- the texts of a thread's steps
 abbrev pub texts_in : Members → List (List ℕ)
 texts_in thread = unwrap_or (texts_at (codes "steps") thread) []
 
+-- the integer at a key
 abbrev pub integer_in : List ℕ → Members → ℤ
 integer_in key table = unwrap_or (integer_at key table) (pos 0)
 
+-- a thread's plan
 abbrev pub plan_in : Members → Plan
 plan_in thread = record {
   queue = integer_in (codes "queue") thread;
@@ -69,12 +79,14 @@ plan_in thread = record {
   steps = filter_map read_step (texts_in thread);
 }
 
+-- a restart
 abbrev pub restart_in : Members → Restart
 restart_in restart = record {
   cpu = integer_in (codes "cpu") restart;
   turn = integer_in (codes "turn") restart;
 }
 
+-- the settings that a text spells
 abbrev pub settings_in : Members → Settings
 settings_in table = record {
   cpus = integer_in (codes "cpus") table;
@@ -84,11 +96,12 @@ settings_in table = record {
 
 -- The faults of a text, in the order in which they are told.
 
+-- this fault, unless there is a value
 abbrev pub unless : {A F : Type 0} → Option A → F → Option F
 unless None fault = Some fault
 unless (Some a) fault = None
 
--- the keys of a thread and of a restart that are absent or of another type
+-- the keys of a thread that are absent or of another type
 abbrev pub thread_faults : Members → List (Option SettingsFault)
 thread_faults thread =
     unless (integer_at (codes "queue") thread) (BadField field.Queue)
@@ -96,17 +109,20 @@ thread_faults thread =
     ∷ unless (texts_at (codes "steps") thread) (BadField field.Steps)
     ∷ []
 
+-- the keys of a restart that are absent or of another type
 abbrev pub restart_faults : Members → List (Option SettingsFault)
 restart_faults restart =
     unless (integer_at (codes "cpu") restart) (BadField field.Cpu)
     ∷ unless (integer_at (codes "turn") restart) (BadField field.Turn)
     ∷ []
 
--- the texts that are no step, of the steps of a thread from one place on, and of all threads from one place on
+-- the texts that are no step, of a thread's steps from one place on
 abbrev pub text_faults : ℕ → ℕ → List (List ℕ) → List (Option SettingsFault)
 text_faults thread step [] = []
-text_faults thread step (text ∷ texts) = unless (read_step text) (BadStep thread step) ∷ text_faults thread (step + 1) texts
+text_faults thread step (text ∷ texts) =
+    unless (read_step text) (BadStep thread step) ∷ text_faults thread (step + 1) texts
 
+-- the texts that are no step, of all threads from one place on
 abbrev pub step_faults : ℕ → List Members → List (Option SettingsFault)
 step_faults thread [] = []
 step_faults thread (table ∷ tables) = text_faults thread 0 (texts_in table) ++ step_faults (thread + 1) tables

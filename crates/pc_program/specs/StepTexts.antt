@@ -1,5 +1,6 @@
 -- The texts of steps.
-use Rattle.std.specs.Prelude.{ℕ, ◌≡◌, ◌^◌, ◌<◌, ◌↔◌, ◌&&◌, List, [], ◌∷◌, ◌++◌, length, take, drop, nat_lt, Option, Some, None, option_map, if◌then◌else◌, bytes_eq, codes, decimal}
+use Rattle.std.specs.Prelude.{ℕ, ◌≡◌, ◌^◌, ◌<◌, ◌↔◌, ◌&&◌, List, [], ◌∷◌, ◌++◌, length, take, drop, nat_lt, Option}
+use Rattle.std.specs.Prelude.{Some, None, option_map, if◌then◌else◌, bytes_eq, codes, decimal}
 use Rattle.std.specs.Str.Parse.{digits_value}
 use Rattle.pc_threads.specs.Settings.{ticks}
 use Rattle.pc_threads.specs.declared.settings.plans.Step.{Step}
@@ -12,6 +13,7 @@ step_name (Block n) = codes "block "
 step_name (Preempt n) = codes "preempt "
 step_name (Die n) = codes "die "
 
+-- the text of a step
 abbrev pub step_text : Step → List ℕ
 step_text step = step_name step ++ decimal (ticks step)
 
@@ -24,6 +26,7 @@ read_number text =
 abbrev pub read_after : List ℕ → List ℕ → Option ℕ
 read_after name text = if bytes_eq (take (length name) text) name then read_number (drop (length name) text) else None
 
+-- of steps that may be there, the first that is
 abbrev pub first_step : List (Option Step) → Option Step
 first_step [] = None
 first_step (None ∷ rest) = first_step rest

@@ -1,11 +1,13 @@
 //! The command line.
 
-ghost use Rattle.std.specs.Prelude.{◌≡◌, ◌≢◌, ◌↔◌, ◌⊎◌, [], Some, IfOk, IfErr, IsTrue, false, map, option_map, string_bytes, codes};
+ghost use Rattle.std.specs.Prelude.{◌≡◌, ◌≢◌, ◌↔◌, ◌⊎◌, [], Some, IfOk, IfErr, IsTrue, false, map, option_map};
+ghost use Rattle.std.specs.Prelude.{string_bytes, codes};
 ghost use Rattle.clap.specs.Walk.{first_of, rows_of, rule_of};
 ghost use Rattle.clap.specs.Simple.{app_of, subcommand_of, subcommand_rows_of};
 ghost use Rattle.clap.specs.Faults.{fault_of};
 ghost use Rattle.clap.specs.Matches.{found_of};
-ghost use Rattle.pc_program.specs.CommandLine.{IsAsked, IsCommandMet, IsInput, IsRefusal, IsReportForm, flag, of_file, pc_sim, run};
+ghost use Rattle.pc_program.specs.CommandLine.{IsAsked, IsCommandMet, IsInput, IsRefusal, IsReportForm, flag, of_file};
+ghost use Rattle.pc_program.specs.CommandLine.{pc_sim, run};
 
 use crate::report::ReportForm;
 use clap::error::ErrorKind;
@@ -253,7 +255,8 @@ fn command_of(alloc: Global, matches: &ArgMatches<'_>) -> Result<Command, Comman
 
 /// The named file; none of the standard input, which `-` names too.
 fn file_of(alloc: Global, matches: &ArgMatches<'_>) -> Result<Option<String>, AllocError>
-    ensures { IfOk result (λ file. IsInput (first_of (codes "FILE") (rows_of (found_of matches.now))) (option_map string_bytes file)) }
+    ensures { IfOk result
+        (λ file. IsInput (first_of (codes "FILE") (rows_of (found_of matches.now))) (option_map string_bytes file)) }
 {
     match matches.get_str("FILE") {
         None => Ok(None),

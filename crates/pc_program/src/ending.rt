@@ -1,7 +1,8 @@
 //! How the program ends.
 
 ghost use Rattle.std.specs.Prelude.{◌≡◌, option_map};
-ghost use Rattle.pc_program.specs.Endings.{ending_of_picture, message_of, settings_message, status_of, unsettled_message};
+ghost use Rattle.pc_program.specs.Endings.{ending_of_picture, message_of, settings_message, status_of};
+ghost use Rattle.pc_program.specs.Endings.{unsettled_message};
 
 use crate::run_text::RunTextFault;
 use crate::settings::SettingsFault;

@@ -1,5 +1,5 @@
-//! What is made of a script (its replies, these with an explanation, or a picture) or of settings (the report of a run), and how it
-//! is flushed.
+//! What is made of a script (its replies, these with an explanation, or a picture) or of settings (the report of a
+//! run), and how it is flushed.
 
 ghost use Rattle.std.specs.Prelude.{◌≡◌, ◌+◌, ◌⊎◌, ◌<◌, ◌≤◌, [], List, ℕ, length, IfOk, IfSome, OnOk, Err};
 ghost use Rattle.std.specs.Io.Buffered.{writer_buffer, writer_contents};
@@ -36,49 +36,57 @@ pub enum Form {
 
 /// Reads a script, answers its commands one after another on a world of its own, and writes the replies.
 ///
-/// Faults, what was written then, and how little is flushed are as `pc_script::run_script` has them: `Read` or `TooLong` before
-/// anything is written, `OutOfMemory` behind the replies of the commands before, and `Write`.
+/// Faults, what was written then, and how little is flushed are as `pc_script::run_script` has them: `Read` or
+/// `TooLong` before anything is written, `OutOfMemory` behind the replies of the commands before, and `Write`.
 pub fn run_script<R: Read, W: Write>(
     alloc: Global,
     reader: &mut R,
     writer: &mut W,
 ) -> Result<Outcome, ScriptFault>
-    ensures ok { IfOk result (λ outcome. IfSome (R.remaining reader.old) (λ text. (output : List ℕ) × IsOutput IsSession text outcome output
+    ensures ok { IfOk result
+        (λ outcome. IfSome (R.remaining reader.old) (λ text. (output : List ℕ) × IsOutput IsSession text outcome output
         × Appends (W.contents writer.old) (W.contents writer.new) output)) }
-    ensures no_memory { result ≡ Err ScriptFault.OutOfMemory → (writer.new ≡ writer.old) ⊎ IfSome (R.remaining reader.old) (λ text. (output : List ℕ)
+    ensures no_memory { result ≡ Err ScriptFault.OutOfMemory → (writer.new ≡ writer.old)
+        ⊎ IfSome (R.remaining reader.old) (λ text. (output : List ℕ)
         × IsOutputUntil IsSession RanOut text output × Appends (W.contents writer.old) (W.contents writer.new) output) }
     ensures unread { (result ≡ Err ScriptFault.Read) ⊎ (result ≡ Err ScriptFault.TooLong) → writer.new ≡ writer.old }
-    ensures too_long { result ≡ Err ScriptFault.TooLong → IfSome (R.remaining reader.old) (λ text. MOST_BYTES < length text) }
+    ensures too_long { result ≡ Err ScriptFault.TooLong
+        → IfSome (R.remaining reader.old) (λ text. MOST_BYTES < length text) }
     ensures short { OnOk result (IfSome (R.remaining reader.old) (λ text. length text ≤ MOST_BYTES)) }
-    ensures reads { (bytes : List ℕ) × (length bytes ≤ MOST_BYTES + 1) × Consumes (R.remaining reader.old) (R.remaining reader.new) bytes }
+    ensures reads { (bytes : List ℕ) × (length bytes ≤ MOST_BYTES + 1)
+        × Consumes (R.remaining reader.old) (R.remaining reader.new) bytes }
 {
     pc_script::run_script::<Session, R, W>(alloc, reader, writer)
 }
 
 fn replies<R: Read, W: Write>(alloc: Global, reader: &mut R, writer: &mut W) -> Ending
-    ensures { IfSome (R.remaining reader.old) (λ text. IsAnswered (λ written. written) text (W.contents writer.old) (W.contents writer.new) result) }
+    ensures { IfSome (R.remaining reader.old)
+        (λ text. IsAnswered (λ written. written) text (W.contents writer.old) (W.contents writer.new) result) }
 {
     Ending::from(run_script(alloc, reader, writer))
 }
 
 fn explained<R: Read, W: Write>(alloc: Global, reader: &mut R, writer: &mut W) -> Ending
-    ensures { IfSome (R.remaining reader.old) (λ text. IsAnswered without_comments text (W.contents writer.old) (W.contents writer.new) result) }
+    ensures { IfSome (R.remaining reader.old)
+        (λ text. IsAnswered without_comments text (W.contents writer.old) (W.contents writer.new) result) }
 {
     Ending::from(explain_script(alloc, reader, writer))
 }
 
 fn picture<R: Read, W: Write>(alloc: Global, reader: &mut R, writer: &mut W) -> Ending
-    ensures { IfSome (R.remaining reader.old) (λ text. IsDrawn text (W.contents writer.old) (W.contents writer.new) result) }
+    ensures { IfSome (R.remaining reader.old)
+        (λ text. IsDrawn text (W.contents writer.old) (W.contents writer.new) result) }
 {
     Ending::of_picture(draw_script(alloc, reader, writer))
 }
 
 /// Reads a script, makes this of it, writes it, and tells how it ended. Nothing is flushed.
 ///
-/// A text that cannot be read, or is too long, and a write that fails are `CannotRead`; want of memory is `OutOfMemory`, behind
-/// what was made so far, and of a picture nothing was written.
+/// A text that cannot be read, or is too long, and a write that fails are `CannotRead`; want of memory is
+/// `OutOfMemory`, behind what was made so far, and of a picture nothing was written.
 pub fn make<R: Read, W: Write>(alloc: Global, form: Form, reader: &mut R, writer: &mut W) -> Ending
-    ensures { IfSome (R.remaining reader.old) (λ text. IsMade form text (W.contents writer.old) (W.contents writer.new) result) }
+    ensures { IfSome (R.remaining reader.old)
+        (λ text. IsMade form text (W.contents writer.old) (W.contents writer.new) result) }
 {
     match form {
         Form::Replies => replies(alloc, reader, writer),
@@ -117,8 +125,8 @@ pub fn make_flushed<R: Read, W: Write + Drop>(
 
 /// Runs agents by a settings text, writes the report, and flushes it, whatever the ending.
 ///
-/// Endings are those of the faults of [`run_config`]; where the flush fails it is `CannotRead`, whatever else there was. It may
-/// wait without end, as a run may.
+/// Endings are those of the faults of [`run_config`]; where the flush fails it is `CannotRead`, whatever else there
+/// was. It may wait without end, as a run may.
 pub fn run_flushed<R: Threads + Wait + Sync, S: Write + Copy + Sync, W: Write + Drop>(
     rt: &R,
     alloc: Global,
@@ -127,7 +135,8 @@ pub fn run_flushed<R: Threads + Wait + Sync, S: Write + Copy + Sync, W: Write + 
     screen: Option<S>,
     writer: &mut BufWriter<W>,
 ) -> Ending
-    ensures told { IsReported (parse_document text.now) form (writer_contents W.contents writer.old) (writer_contents W.contents writer.new) result }
+    ensures told { IsReported (parse_document text.now) form (writer_contents W.contents writer.old)
+        (writer_contents W.contents writer.new) result }
     ensures flushed { (result ≡ Ending.CannotRead) ⊎ (writer_buffer writer.new ≡ []) }
 {
     match run_config(rt, alloc, text, form, screen, writer) {

@@ -12,8 +12,8 @@ const MOST_SETTINGS: usize = 1_048_576;
 
 /// The whole text that a reader gives.
 ///
-/// It is `CannotRead` where a read fails, where the text has more than 1,048,576 bytes, of which one more is read at most, and
-/// where it is not UTF-8; want of memory is `OutOfMemory`.
+/// It is `CannotRead` where a read fails, where the text has more than 1,048,576 bytes, of which one more is read at
+/// most, and where it is not UTF-8; want of memory is `OutOfMemory`.
 pub fn read_settings<R: Read>(alloc: Global, reader: &mut R) -> Result<String, Ending>
     ensures whole { IfOk result (λ text. IfSome (R.remaining reader.old) (λ bytes. bytes ≡ string_bytes text)) }
     ensures short { IfOk result (λ text. length (string_bytes text) ≤ MOST_SETTINGS) }

@@ -1,5 +1,6 @@
-//! What `pc-sim` does, whatever gives its texts and takes its answers: it replays scripts of events on the kernel model and its
-//! agents, explains or draws them, or runs agents in threads. Whoever calls it has the files, the streams and the exit.
+//! What `pc-sim` does, whatever gives its texts and takes its answers: it replays scripts of events on the kernel model
+//! and its agents, explains or draws them, or runs agents in threads. Whoever calls it has the files, the streams and
+//! the exit.
 #![tactic(auto)]
 
 mod command_line;

@@ -40,7 +40,9 @@ fn is_due(told: u64, so_far: &Driven) -> bool
 
 /// Writes how far the run is in the place of what the line has.
 fn write_so_far<W: Write>(screen: &mut W, so_far: &SoFar) -> io::Result<()>
-    ensures { OnOk result (Appends (W.contents screen.old) (W.contents screen.new) (in_place (progress_text so_far.now.all so_far.now.driven))) }
+    ensures { OnOk result
+        (Appends (W.contents screen.old) (W.contents screen.new)
+        (in_place (progress_text so_far.now.all so_far.now.driven))) }
 {
     write!(screen, "\r{so_far}\x1b[K")
 }

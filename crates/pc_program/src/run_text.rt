@@ -30,11 +30,11 @@ pub enum RunTextFault {
     Write,
 }
 
-/// Reads the settings, runs agents in threads as they ask, and writes the report. Whoever looks at the screen, where there is one,
-/// is told meanwhile how far the run is.
+/// Reads the settings, runs agents in threads as they ask, and writes the report. Whoever looks at the screen, where
+/// there is one, is told meanwhile how far the run is.
 ///
-/// Faults of the settings come first (`Settings`), then those of the run (`Run`), then `Write`, from the first write that fails:
-/// the report may then be written in part. Nothing is flushed. It may wait without end, as a run may.
+/// Faults of the settings come first (`Settings`), then those of the run (`Run`), then `Write`, from the first write
+/// that fails: the report may then be written in part. Nothing is flushed. It may wait without end, as a run may.
 pub fn run_config<R: Threads + Wait + Sync, S: Write + Copy + Sync, W: Write>(
     rt: &R,
     alloc: Global,

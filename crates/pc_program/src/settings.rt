@@ -1,13 +1,15 @@
 //! Settings: a TOML text, and what is asked of a run by it.
 
-ghost use Rattle.std.specs.Prelude.{◌≡◌, ◌⊎◌, ◌∷◌, [], Ok, Err, Some, None, IfOk, IfErr, MatchOption, true, map, option_map};
+ghost use Rattle.std.specs.Prelude.{◌≡◌, ◌⊎◌, ◌∷◌, [], Ok, Err, Some, None, IfOk, IfErr, MatchOption, true, map};
+ghost use Rattle.std.specs.Prelude.{option_map};
 ghost use Rattle.toml.specs.Data.{get_member};
 ghost use Rattle.toml.specs.Parse.{parse_document};
 ghost use Rattle.toml.specs.View.{table_view, view};
 ghost use Rattle.pc_threads.specs.Settings.{plan_of};
 ghost use Rattle.pc_program.specs.SettingsText.{Reads, integer_at, tables_at, texts_at};
 ghost use Rattle.pc_program.specs.Inner.Drafts.{told};
-ghost use Rattle.pc_program.specs.Inner.Readings.{Follows, are_tables, are_texts, each, read_draft, read_plan, read_restart, read_table, read_text, table_in, text_in};
+ghost use Rattle.pc_program.specs.Inner.Readings.{Follows, are_tables, are_texts, each, read_draft, read_plan};
+ghost use Rattle.pc_program.specs.Inner.Readings.{read_restart, read_table, read_text, table_in, text_in};
 
 mod draft;
 mod keys;
@@ -108,8 +110,8 @@ impl<T: Drop> From<AllocFailed<T>> for SettingsFault {
 
 /// Reads the settings that a TOML text spells. Other keys are passed over.
 ///
-/// The fault is the first in this order: `NotToml`; `BadField`, of `cpus`, of the threads, then of the restarts; `BadStep`; and
-/// `BadConfig`, as `Config::new` has them. Want of memory is told where it comes.
+/// The fault is the first in this order: `NotToml`; `BadField`, of `cpus`, of the threads, then of the restarts;
+/// `BadStep`; and `BadConfig`, as `Config::new` has them. Want of memory is told where it comes.
 pub fn read_config(alloc: Global, text: &str) -> Result<Config, SettingsFault>
     ensures { Reads (parse_document text.now) result }
 {

@@ -14,7 +14,8 @@ use std::collections::BTreeMap;
 /// Counts one more item of the thread.
 fn raise(held: &mut BTreeMap<Tid, u32>, thread: Tid) -> Result<(), AllocError>
     requires { unwrap_or (get nat_cmp held.old thread) 0 + 1 < 2 ^ 32 }
-    ensures ok { OnOk result (SetsCount held.old held.new thread (Some (unwrap_or (get nat_cmp held.old thread) 0 + 1))) }
+    ensures ok { OnOk result
+        (SetsCount held.old held.new thread (Some (unwrap_or (get nat_cmp held.old thread) 0 + 1))) }
     ensures err { OnErr result (IsUnchanged held.old held.new) }
 {
     let count = held.get(&thread).copied().unwrap_or(0);

@@ -1,6 +1,7 @@
 //! One CPU's queue, without counts of its threads.
 
-ghost use Rattle.std.specs.Prelude.{◌≡◌, ℕ, ◌+◌, ◌<◌, ◌≤◌, ◌↔◌, [], ◌∷◌, ◌++◌, length, take, drop, slice_get, Some, OnOk, OnErr, IfOk, IsErr, IsTrue};
+ghost use Rattle.std.specs.Prelude.{◌≡◌, ℕ, ◌+◌, ◌<◌, ◌≤◌, ◌↔◌, [], ◌∷◌, ◌++◌, length, take, drop, slice_get, Some};
+ghost use Rattle.std.specs.Prelude.{OnOk, OnErr, IfOk, IsErr, IsTrue};
 ghost use Rattle.std.specs.VecDeque.{deque_len, deque_capacity};
 ghost use Rattle.pc_messages.specs.declared.message.Item.{Item};
 ghost use Rattle.pc_queue.specs.Queue.{Queue, refusal_of};
@@ -29,7 +30,8 @@ impl Model for ItemQueue {
 
     ghost view = { λ q. record { room = q.room; most = q.most; posts = q.posts; items = q.items.items } };
 
-    ghost invariant = { λ q. IsQueue (record { room = q.room; most = q.most; posts = q.posts; items = q.items.items }) };
+    ghost invariant = { λ q. IsQueue
+        (record { room = q.room; most = q.most; posts = q.posts; items = q.items.items }) };
 }
 
 /// Puts an element at the end, where a place is reserved for it.
@@ -100,7 +102,8 @@ impl ItemQueue {
             ((length self.old.items < self.old.room) × (self.old.most ≤ self.old.posts)) }
         ensures memory_last { result ≡ Err QueueFault.OutOfMemory →
             (length self.old.items < self.old.room) × (self.old.posts < self.old.most) }
-        ensures ok { OnOk result (self.new ≡ record self.old { posts = self.old.posts + 1; items = self.old.items ++ item ∷ [] }) }
+        ensures ok { OnOk result
+            (self.new ≡ record self.old { posts = self.old.posts + 1; items = self.old.items ++ item ∷ [] }) }
         ensures err { OnErr result (self.new ≡ self.old) }
     {
         match self.refusal() {
@@ -113,7 +116,8 @@ impl ItemQueue {
     fn append(&mut self, item: Item) -> Result<(), AllocError>
         requires room { length self.old.items < self.old.room }
         requires posts { self.old.posts < self.old.most }
-        ensures ok { OnOk result (self.new ≡ record self.old { posts = self.old.posts + 1; items = self.old.items ++ item ∷ [] }) }
+        ensures ok { OnOk result
+            (self.new ≡ record self.old { posts = self.old.posts + 1; items = self.old.items ++ item ∷ [] }) }
         ensures err { OnErr result (self.new ≡ self.old) }
     {
         self.items.reserve(1)?;
@@ -146,7 +150,8 @@ impl ItemQueue {
         first(alloc, &self.items, self.items.len().min(n as usize))
     }
 
-    /// The items where they stand: those of the first slice, then those of the second. They stay in the queue. It takes no memory.
+    /// The items where they stand: those of the first slice, then those of the second. They stay in the queue. It takes
+    /// no memory.
     pub fn as_slices(&self) -> (&[Item], &[Item])
         ensures items { result.0.now ++ result.1.now ≡ self.now.items }
         ensures front { (0 < length result.0.now) ↔ (0 < length self.now.items) }

@@ -1,6 +1,7 @@
 //! One CPU's queue, with counts of its threads.
 
-ghost use Rattle.std.specs.Prelude.{◌≡◌, ℕ, ◌+◌, ◌<◌, ◌≤◌, ◌↔◌, [], ◌∷◌, ◌++◌, length, take, drop, OnOk, OnErr, IfOk, IsErr, IsTrue};
+ghost use Rattle.std.specs.Prelude.{◌≡◌, ℕ, ◌+◌, ◌<◌, ◌≤◌, ◌↔◌, [], ◌∷◌, ◌++◌, length, take, drop, OnOk, OnErr, IfOk};
+ghost use Rattle.std.specs.Prelude.{IsErr, IsTrue};
 ghost use Rattle.std.specs.BTreeMap.{get};
 ghost use Rattle.std.specs.Ordering.{nat_cmp};
 ghost use Rattle.pc_queue.specs.Queue.{refusal_of, is_pending, held_of};
@@ -60,7 +61,8 @@ impl CpuQueue {
             ((length self.old.items < self.old.room) × (self.old.most ≤ self.old.posts)) }
         ensures memory_last { result ≡ Err QueueFault.OutOfMemory →
             (length self.old.items < self.old.room) × (self.old.posts < self.old.most) }
-        ensures ok { OnOk result (self.new ≡ record self.old { posts = self.old.posts + 1; items = self.old.items ++ item ∷ [] }) }
+        ensures ok { OnOk result
+            (self.new ≡ record self.old { posts = self.old.posts + 1; items = self.old.items ++ item ∷ [] }) }
         ensures err { OnErr result (self.new ≡ self.old) }
     {
         self.queue.post(item)?;

@@ -1,8 +1,8 @@
 //! The run list of one CPU's agent: the names of the threads that it would run, in the order in which it would.
 //!
 //! An agent keeps its own run queue in user space and commits its first thread that the kernel accepts (the ghOSt
-//! paper's per-CPU model). What the list is after each call is a list of names; `specs/Runs.antt` defines what a refresh
-//! makes of it.
+//! paper's per-CPU model). What the list is after each call is a list of names; `specs/Runs.antt` defines what a
+//! refresh makes of it.
 #![tactic(auto)]
 
 mod levels;

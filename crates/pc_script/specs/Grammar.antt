@@ -15,9 +15,9 @@ use Rattle.pc_script.specs.declared.line.Wish.TheVariants as wish
 
 -- ---- fields
 
--- An argument of a command, and its value: how many CPUs there are, a CPU, a queue, a level, a count (of ticks, of posts, or
--- a number up to which something is counted), a mask, the index of a delta, a thread, how a new thread starts, whom a queue
--- wakes, and whether a send fails
+-- An argument of a command, and its value: how many CPUs there are, a CPU, a queue, a level, a count (of ticks, of
+-- posts, or a number up to which something is counted), a mask, the index of a delta, a thread, how a new thread
+-- starts, whom a queue wakes, and whether a send fails
 pub data Field : Type 0 where
   Processors : ℕ → Field
   Processor : ℕ → Field
@@ -78,11 +78,12 @@ IsInRange (State is_ready) = Unit {0}
 IsInRange (Target cpu) = IfSome cpu (λ c. c < 2 ^ 8)
 IsInRange (Failure fails) = Unit {0}
 
--- the words of fields, and their ranges
+-- the words of fields, one after another
 abbrev pub words_of : List Field → List (List ℕ)
 words_of [] = []
 words_of (field ∷ fields) = field_words field ++ words_of fields
 
+-- each field is in its range
 abbrev pub AreInRange : List Field → Type 0
 AreInRange [] = Unit {0}
 AreInRange (field ∷ fields) = IsInRange field × AreInRange fields
@@ -94,6 +95,7 @@ pub record Row : Type 0 where
   pub name : List ℕ
   pub fields : List Field
 
+-- a row of this name and these fields
 abbrev pub row : List ℕ → List Field → Row
 row name fields = record { name = name; fields = fields }
 
@@ -112,7 +114,8 @@ call_row (env.Tick cpu) = row (codes "tick") (Processor cpu ∷ [])
 -- events
 abbrev pub event_row : Event → Row
 event_row (event.Env call) = call_row call
-event_row (event.Associate thread queue number) = row (codes "associate") (Thread thread ∷ Queue queue ∷ Count number ∷ [])
+event_row (event.Associate thread queue number) =
+    row (codes "associate") (Thread thread ∷ Queue queue ∷ Count number ∷ [])
 event_row (event.Commit cpu thread aseq) = row (codes "commit") (Processor cpu ∷ Thread thread ∷ Count aseq ∷ [])
 event_row (event.Sleep cpu aseq) = row (codes "sleep") (Processor cpu ∷ Count aseq ∷ [])
 event_row (event.Rouse cpu) = row (codes "rouse") (Processor cpu ∷ [])
@@ -145,7 +148,8 @@ row_of (command.Read question) = read_row question
 
 -- these words are the command's
 abbrev pub Spells : List (List ℕ) → Command → Type 0
-Spells spelled command = AreInRange (row_of command).fields × (spelled ≡ (row_of command).name ∷ words_of (row_of command).fields)
+Spells spelled command =
+    AreInRange (row_of command).fields × (spelled ≡ (row_of command).name ∷ words_of (row_of command).fields)
 
 -- a line without words, or whose first byte is `#`
 abbrev pub HasNoReply : List ℕ → Type 0

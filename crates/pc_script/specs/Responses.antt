@@ -1,5 +1,6 @@
 -- The texts of responses.
-use Rattle.std.specs.Prelude.{ℕ, Bool, true, false, List, [], ◌∷◌, ◌++◌, Option, Some, None, flat_map, codes, decimal, ◌==◌, if◌then◌else◌}
+use Rattle.std.specs.Prelude.{ℕ, Bool, true, false, List, [], ◌∷◌, ◌++◌, Option, Some, None, flat_map, codes, decimal}
+use Rattle.std.specs.Prelude.{◌==◌, if◌then◌else◌}
 use Rattle.pc_messages.specs.declared.reported.Phase.{Phase}
 use Rattle.pc_messages.specs.declared.reported.Phase.TheVariants as phase
 use Rattle.pc_messages.specs.declared.reported.Reported.{Reported}
@@ -77,7 +78,8 @@ subject_text None number = codes "-"
 abbrev pub posted_text : Posted → List ℕ
 posted_text posted =
     subject_text posted.thread posted.number
-    ++ (codes " q" ++ (decimal posted.queue ++ (codes " a" ++ (decimal posted.aseq ++ (codes " wake " ++ number_or_dash posted.woken)))))
+    ++ (codes " q" ++ (decimal posted.queue
+    ++ (codes " a" ++ (decimal posted.aseq ++ (codes " wake " ++ number_or_dash posted.woken)))))
 
 -- where a thread runs: ` cC`, or nothing
 abbrev pub running_text : Option ℕ → List ℕ
@@ -87,7 +89,9 @@ running_text (Some cpu) = codes " c" ++ decimal cpu
 -- `T nN PHASE`, and where the thread runs
 abbrev pub status_text : ℕ → Status → Phase → List ℕ
 status_text thread status phase =
-    thread_name thread ++ (codes " n" ++ (decimal status.number ++ (codes " " ++ (phase_text phase ++ running_text status.running_on))))
+    thread_name thread
+    ++ (codes " n" ++ (decimal status.number
+    ++ (codes " " ++ (phase_text phase ++ running_text status.running_on))))
 
 -- `yes` or `no`
 abbrev pub truth_text : Bool → List ℕ
@@ -108,7 +112,8 @@ abbrev pub reported_text : Option Reported → List ℕ
 reported_text None = codes "-"
 reported_text (Some reported) =
     phase_text reported.phase
-    ++ (codes " mask " ++ (decimal reported.mask ++ (codes " ran " ++ (decimal reported.ran ++ level_text reported.level))))
+    ++ (codes " mask "
+    ++ (decimal reported.mask ++ (codes " ran " ++ (decimal reported.ran ++ level_text reported.level))))
 
 -- numbers with a space between them, or `-`
 abbrev pub numbers_text : List ℕ → List ℕ

@@ -16,16 +16,19 @@ pub data Script : ℕ → List (List ℕ) → List Command → Outcome → Type 
   at_end : {number : ℕ} → Script number [] [] Finished
   no_reply : {number : ℕ} {line : List ℕ} {more : List (List ℕ)} {commands : List Command} {outcome : Outcome}
       → HasNoReply line → Script (suc number) more commands outcome → Script number (line ∷ more) commands outcome
-  command : {number : ℕ} {line : List ℕ} {more : List (List ℕ)} {command : Command} {commands : List Command} {outcome : Outcome}
-      → Spells (words line) command → Script (suc number) more commands outcome → Script number (line ∷ more) (command ∷ commands) outcome
+  command : {number : ℕ} {line : List ℕ} {more : List (List ℕ)} {command : Command} {commands : List Command}
+      {outcome : Outcome}
+      → Spells (words line) command → Script (suc number) more commands outcome
+      → Script number (line ∷ more) (command ∷ commands) outcome
   fault : {number : ℕ} {line : List ℕ} {more : List (List ℕ)}
       → IsFault line → Script number (line ∷ more) [] (FaultLine number)
 
 -- ---- a run of a script
 
--- A run of a script: in the profile that its lines name, the commands that they ask for, up to the end or to the first fault, and
--- these responses to them
-pub record IsRunOf (IsRun : Profile → List Command → List Response → Type 0) (script : List (List ℕ)) (outcome : Outcome)
+-- A run of a script: in the profile that its lines name, the commands that they ask for, up to the end or to the first
+-- fault, and these responses to them
+pub record IsRunOf (IsRun : Profile → List Command → List Response → Type 0) (script : List (List ℕ))
+    (outcome : Outcome)
     (profile : Profile) (responses : List Response) : Type 0 where
   pub passed : ℕ
   pub rest : List (List ℕ)
@@ -34,8 +37,8 @@ pub record IsRunOf (IsRun : Profile → List Command → List Response → Type 
   pub asks : Script (suc passed) rest commands outcome
   pub run : IsRun profile commands responses
 
--- A run of a script until memory runs out: a line asks for a command whose answer found none, and these are the responses to the
--- lines before it
+-- A run of a script until memory runs out: a line asks for a command whose answer found none, and these are the
+-- responses to the lines before it
 pub record IsRunUntil (IsRun : Profile → List Command → List Response → Type 0)
     (RanOut : Profile → List Command → List Response → Command → Type 0) (script : List (List ℕ)) (profile : Profile)
     (responses : List Response) : Type 0 where
@@ -69,7 +72,8 @@ abbrev pub answers_text : Profile → List Response → List ℕ
 answers_text profile responses = opening_text profile ++ responses_text responses
 
 -- The output of a script: what is written of a run of it
-pub record IsOutput (IsRun : Profile → List Command → List Response → Type 0) (text : List ℕ) (outcome : Outcome) (output : List ℕ)
+pub record IsOutput (IsRun : Profile → List Command → List Response → Type 0) (text : List ℕ) (outcome : Outcome)
+    (output : List ℕ)
     : Type 0 where
   pub profile : Profile
   pub responses : List Response
@@ -78,7 +82,8 @@ pub record IsOutput (IsRun : Profile → List Command → List Response → Type
 
 -- the output of a script until memory runs out at a command
 pub record IsOutputUntil (IsRun : Profile → List Command → List Response → Type 0)
-    (RanOut : Profile → List Command → List Response → Command → Type 0) (text : List ℕ) (output : List ℕ) : Type 0 where
+    (RanOut : Profile → List Command → List Response → Command → Type 0) (text : List ℕ)
+    (output : List ℕ) : Type 0 where
   pub profile : Profile
   pub responses : List Response
   pub runs : IsRunUntil IsRun RanOut (lines text) profile responses
@@ -86,8 +91,8 @@ pub record IsOutputUntil (IsRun : Profile → List Command → List Response →
 
 -- ---- what an observer is told of it
 
--- What an observer is told of a line that has a reply: that it names the version, the response to its command, or that the line with
--- this number is a fault
+-- What an observer is told of a line that has a reply: that it names the version, the response to its command, or that
+-- the line with this number is a fault
 pub data Notice : Type 0 where
   version_two : Notice
   answered : Response → Notice
@@ -99,18 +104,21 @@ notice_text version_two = text_line (codes "ok")
 notice_text (answered response) = text_line (response_text response)
 notice_text (faulted number) = outcome_text (FaultLine number)
 
+-- the texts of notices, one after another
 abbrev pub notices_text : List Notice → List ℕ
 notices_text notices = flat_map notice_text notices
 
--- what is told of a version, of responses, and of an end
+-- what is told of a version: nothing of version 1
 abbrev pub opening_notices : Profile → List Notice
 opening_notices One = []
 opening_notices Two = version_two ∷ []
 
+-- what is told of an end: nothing, or the line that is a fault
 abbrev pub outcome_notices : Outcome → List Notice
 outcome_notices Finished = []
 outcome_notices (FaultLine number) = faulted number ∷ []
 
+-- what is told of a script that was answered: its version and its responses
 abbrev pub answer_notices : Profile → List Response → List Notice
 answer_notices profile responses = opening_notices profile ++ map answered responses
 
@@ -120,7 +128,8 @@ Telling O = O → Option (List ℕ) → List Notice → O → Option (List ℕ) 
 
 -- A script was walked over: the observer was told of a run of it, line by line
 pub record IsWalked {O : Type 0} (Tells : Telling O) (IsRun : Profile → List Command → List Response → Type 0)
-    (script : List (List ℕ)) (outcome : Outcome) (old : O) (before : Option (List ℕ)) (new : O) (after : Option (List ℕ)) : Type 0 where
+    (script : List (List ℕ)) (outcome : Outcome) (old : O) (before : Option (List ℕ)) (new : O)
+    (after : Option (List ℕ)) : Type 0 where
   pub profile : Profile
   pub responses : List Response
   pub runs : IsRunOf IsRun script outcome profile responses

@@ -12,7 +12,8 @@ pub(crate) fn is_plain(word: &[u8]) -> bool
 
 /// The number that this word is in decimal, with neither a sign nor a zero in front.
 pub fn number(word: &[u8]) -> Option<u64>
-    ensures { MatchOption result ((n : ℕ) → n < 2 ^ 64 → word.now ≡ decimal n → ⊥) (λ n. (n < 2 ^ 64) × (word.now ≡ decimal n)) }
+    ensures { MatchOption result ((n : ℕ) → n < 2 ^ 64 → word.now ≡ decimal n → ⊥)
+        (λ n. (n < 2 ^ 64) × (word.now ≡ decimal n)) }
 {
     if !is_plain(word) {
         return None;
@@ -30,7 +31,8 @@ pub fn number(word: &[u8]) -> Option<u64>
 
 /// The number that this word is, where it is below 2 ^ 8.
 pub(crate) fn byte(word: &[u8]) -> Option<u8>
-    ensures { MatchOption result ((n : ℕ) → n < 2 ^ 8 → word.now ≡ decimal n → ⊥) (λ n. (n < 2 ^ 8) × (word.now ≡ decimal n)) }
+    ensures { MatchOption result ((n : ℕ) → n < 2 ^ 8 → word.now ≡ decimal n → ⊥)
+        (λ n. (n < 2 ^ 8) × (word.now ≡ decimal n)) }
 {
     let wide = number(word)?;
     u8::try_from(wide).ok()
@@ -38,7 +40,8 @@ pub(crate) fn byte(word: &[u8]) -> Option<u8>
 
 /// The number that this word is, where it is below 2 ^ 32.
 pub fn count(word: &[u8]) -> Option<u32>
-    ensures { MatchOption result ((n : ℕ) → n < 2 ^ 32 → word.now ≡ decimal n → ⊥) (λ n. (n < 2 ^ 32) × (word.now ≡ decimal n)) }
+    ensures { MatchOption result ((n : ℕ) → n < 2 ^ 32 → word.now ≡ decimal n → ⊥)
+        (λ n. (n < 2 ^ 32) × (word.now ≡ decimal n)) }
 {
     let wide = number(word)?;
     u32::try_from(wide).ok()

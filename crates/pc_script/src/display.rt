@@ -1,7 +1,8 @@
 //! The texts of what a view shows, which are written piece by piece.
 
 ghost use Rattle.std.specs.Prelude.{Some};
-ghost use Rattle.pc_script.specs.Responses.{phase_text, level_text, reported_text, numbers_text, shown_text, shown_lines};
+ghost use Rattle.pc_script.specs.Responses.{phase_text, level_text, reported_text, numbers_text, shown_text};
+ghost use Rattle.pc_script.specs.Responses.{shown_lines};
 
 use crate::lists::{EarlyNumbers, ShownThread, ShownThreads};
 use crate::short::phase_name;

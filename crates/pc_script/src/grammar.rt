@@ -91,8 +91,8 @@ macro_rules! pairs {
     ($first:pat, $($others:tt)+) => { ($first, pairs!($($others)+)) };
 }
 
-/// Hands the table of commands to a macro, behind what is given: of each verb the fields that stand behind its word, and the
-/// command that they make.
+/// Hands the table of commands to a macro, behind what is given: of each verb the fields that stand behind its word,
+/// and the command that they make.
 macro_rules! table {
     ($make:ident, $($given:expr),+) => {
         $make!($($given),+;
@@ -166,8 +166,9 @@ macro_rules! troubles {
     };
 }
 
-/// The command of this verb whose fields are the words that are left. It is put into its caller, which then needs no copy of
-/// the command; a hint that the compiler drops where a function would grow large, so what it calls is kept small.
+/// The command of this verb whose fields are the words that are left. It is put into its caller, which then needs no
+/// copy of the command; a hint that the compiler drops where a function would grow large, so what it calls is
+/// kept small.
 #[inline(always)]
 fn read_as(verb: Verb, words: &mut Words<'_>) -> Option<Command>
     ensures { MatchOption result
@@ -186,8 +187,8 @@ pub(crate) fn command_of(name: &[u8], words: &mut Words<'_>) -> Option<Command>
     read_as(verb, words)
 }
 
-/// What is wrong with a line whose first word is this one, and with the words that are left after it; nothing, where they spell a
-/// command.
+/// What is wrong with a line whose first word is this one, and with the words that are left after it; nothing, where
+/// they spell a command.
 pub(crate) fn trouble_of<'a>(name: &'a [u8], words: &mut Words<'a>) -> Option<Trouble<'a>> {
     match verb_of(name) {
         Some(verb) => table!(troubles, verb, words),

@@ -11,7 +11,8 @@ use std::io::Read;
 /// The greatest length of a script, in bytes.
 pub const MOST_BYTES: usize = 16_777_216;
 
-/// Reads once, no more than a byte past the greatest length, and adds what was read to the text. Answers false at the end.
+/// Reads once, no more than a byte past the greatest length, and adds what was read to the text. Answers false at
+/// the end.
 fn read_more<R: Read>(reader: &mut R, text: &mut Vec<u8>, most: usize) -> Result<bool, ScriptFault>
     requires { length text.old.items ≤ most }
     ensures reads { (bytes : List ℕ) × (length text.old.items + length bytes ≤ most + 1)
@@ -36,9 +37,11 @@ fn read_more<R: Read>(reader: &mut R, text: &mut Vec<u8>, most: usize) -> Result
     }
 }
 
-/// Reads a text to the end, which is the first read that gives nothing, and no more than a byte past the greatest length, in bytes.
+/// Reads a text to the end, which is the first read that gives nothing, and no more than a byte past the greatest
+/// length, in bytes.
 ///
-/// The fault is `Read` where a read failed, `TooLong` past the greatest length, or `OutOfMemory`; there is no text then.
+/// The fault is `Read` where a read failed, `TooLong` past the greatest length, or `OutOfMemory`; there is no
+/// text then.
 pub fn read_bytes<R: Read>(
     alloc: Global,
     reader: &mut R,
@@ -46,9 +49,11 @@ pub fn read_bytes<R: Read>(
 ) -> Result<Vec<u8>, ScriptFault>
     ensures ok { IfOk result (λ text. IfSome (R.remaining reader.old) (λ bytes. bytes ≡ text.items)) }
     ensures short { IfOk result (λ text. length text.items ≤ most) }
-    ensures too_long { result ≡ Err ScriptFault.TooLong → IfSome (R.remaining reader.old) (λ bytes. most < length bytes) }
+    ensures too_long { result ≡ Err ScriptFault.TooLong
+        → IfSome (R.remaining reader.old) (λ bytes. most < length bytes) }
     ensures no_write { result ≢ Err ScriptFault.Write }
-    ensures reads { (bytes : List ℕ) × (length bytes ≤ most + 1) × Consumes (R.remaining reader.old) (R.remaining reader.new) bytes }
+    ensures reads { (bytes : List ℕ) × (length bytes ≤ most + 1)
+        × Consumes (R.remaining reader.old) (R.remaining reader.new) bytes }
 {
     let mut text = Vec::new(alloc);
     while text.len() <= most {
@@ -63,9 +68,11 @@ pub fn read_bytes<R: Read>(
 pub fn read_text<R: Read>(alloc: Global, reader: &mut R) -> Result<Vec<u8>, ScriptFault>
     ensures ok { IfOk result (λ text. IfSome (R.remaining reader.old) (λ bytes. bytes ≡ text.items)) }
     ensures short { IfOk result (λ text. length text.items ≤ MOST_BYTES) }
-    ensures too_long { result ≡ Err ScriptFault.TooLong → IfSome (R.remaining reader.old) (λ bytes. MOST_BYTES < length bytes) }
+    ensures too_long { result ≡ Err ScriptFault.TooLong
+        → IfSome (R.remaining reader.old) (λ bytes. MOST_BYTES < length bytes) }
     ensures no_write { result ≢ Err ScriptFault.Write }
-    ensures reads { (bytes : List ℕ) × (length bytes ≤ MOST_BYTES + 1) × Consumes (R.remaining reader.old) (R.remaining reader.new) bytes }
+    ensures reads { (bytes : List ℕ) × (length bytes ≤ MOST_BYTES + 1)
+        × Consumes (R.remaining reader.old) (R.remaining reader.new) bytes }
 {
     read_bytes(alloc, reader, MOST_BYTES)
 }

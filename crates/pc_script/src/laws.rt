@@ -6,5 +6,6 @@ ghost use Rattle.pc_script.specs.declared.command.Command.{Command};
 
 /// The words of a line are those of one command at most, so a script's text says what is asked.
 pub fn words_spell_one_command()
-    ensures { (spelled : List (List ℕ)) (one other : Command) → Spells spelled one → Spells spelled other → one ≡ other }
+    ensures { (spelled : List (List ℕ)) (one other : Command) → Spells spelled one → Spells spelled other
+        → one ≡ other }
 {}

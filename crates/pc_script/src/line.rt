@@ -34,8 +34,8 @@ pub(crate) fn is_version_two(line: &[u8]) -> bool
     name == b"version".as_slice() && number == b"2".as_slice() && first_word(rest).is_none()
 }
 
-/// What this line of a script asks for. It takes no memory. `version 2` is no command, so it is `Stop` here: who runs a whole
-/// script looks for it first.
+/// What this line of a script asks for. It takes no memory. `version 2` is no command, so it is `Stop` here: who runs a
+/// whole script looks for it first.
 #[inline(always)]
 pub fn asked(line: &[u8]) -> Wish
     ensures { IsAsked line.now result }

@@ -28,8 +28,8 @@ pub trait Machine: Drop {
         Self: Sized,
         ensures { StandsAfter profile result [] [] };
 
-    /// Takes a command, and puts what it is answered in the place of the response, whatever that was, so that it isn't copied on
-    /// its way. After an error the response is what it was, and the machine isn't used again.
+    /// Takes a command, and puts what it is answered in the place of the response, whatever that was, so that it isn't
+    /// copied on its way. After an error the response is what it was, and the machine isn't used again.
     fn answer(&mut self, command: Command, response: &mut Response) -> Result<(), AllocError>
         ensures ok { OnOk result ((profile : Profile) (commands : List Command) (responses : List Response)
             → StandsAfter profile self.old commands responses

@@ -19,11 +19,12 @@ pub struct Line<'t> {
     pub text: &'t [u8],
 }
 
-/// Who is told, line by line, what a script asks for and what the machine answers: who writes the replies, explains or draws them.
+/// Who is told, line by line, what a script asks for and what the machine answers: who writes the replies, explains or
+/// draws them.
 ///
-/// Of a line without a reply nothing is told. `Tells` says what a list of notices makes of the observer and of what the writer
-/// holds; the first `Option` is what the writer holds before, the last what it holds after, where that is known. `MayFail` has the
-/// faults by which an observer ends the walk.
+/// Of a line without a reply nothing is told. `Tells` says what a list of notices makes of the observer and of what the
+/// writer holds; the first `Option` is what the writer holds before, the last what it holds after, where that is known.
+/// `MayFail` has the faults by which an observer ends the walk.
 pub trait Observer<M: Machine, W: Write>: Drop {
     ghost Tells: { Self → Option (List ℕ) → List Notice → Self → Option (List ℕ) → Type 0 };
 
@@ -31,7 +32,8 @@ pub trait Observer<M: Machine, W: Write>: Drop {
 
     /// The line is `version 2`, the first that has a reply.
     fn version_two(&mut self, line: Line<'_>, writer: &mut W) -> Result<(), ScriptFault>
-        ensures ok { OnOk result (Tells self.old (W.contents writer.old) (version_two ∷ []) self.new (W.contents writer.new)) }
+        ensures ok { OnOk result
+            (Tells self.old (W.contents writer.old) (version_two ∷ []) self.new (W.contents writer.new)) }
         ensures err { (fault : ScriptFault) → result ≡ Err fault → MayFail fault };
 
     /// The machine is about to take this command.
@@ -47,16 +49,19 @@ pub trait Observer<M: Machine, W: Write>: Drop {
         machine: &M,
         writer: &mut W,
     ) -> Result<(), ScriptFault>
-        ensures ok { OnOk result (Tells self.old (W.contents writer.old) (answered response.old ∷ []) self.new (W.contents writer.new)) }
+        ensures ok { OnOk result
+            (Tells self.old (W.contents writer.old) (answered response.old ∷ []) self.new (W.contents writer.new)) }
         ensures err { (fault : ScriptFault) → result ≡ Err fault → MayFail fault };
 
     /// The line is a fault.
     fn faulted(&mut self, line: Line<'_>, writer: &mut W) -> Result<(), ScriptFault>
-        ensures ok { OnOk result (Tells self.old (W.contents writer.old) (faulted line.entry.number ∷ []) self.new (W.contents writer.new)) }
+        ensures ok { OnOk result
+            (Tells self.old (W.contents writer.old) (faulted line.entry.number ∷ []) self.new (W.contents writer.new)) }
         ensures err { (fault : ScriptFault) → result ≡ Err fault → MayFail fault };
 
     ghost tells_nothing: { (observer : Self) (known : Option (List ℕ)) → Tells observer known [] observer known };
 
     ghost tells_more: { (old now new : Self) (before here after : Option (List ℕ)) (notices further : List Notice)
-        → Tells old before notices now here → Tells now here further new after → Tells old before (notices ++ further) new after };
+        → Tells old before notices now here → Tells now here further new after
+        → Tells old before (notices ++ further) new after };
 }

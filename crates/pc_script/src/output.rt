@@ -1,7 +1,7 @@
 //! The output of a script: replies wait here until there are enough of them for a write.
 //!
-//! A script has a reply for most of its lines, and what is done for each of them counts. So a reply is put behind those that
-//! wait, in room that is made once for all, and what the writer answers is looked at once for many of them.
+//! A script has a reply for most of its lines, and what is done for each of them counts. So a reply is put behind those
+//! that wait, in room that is made once for all, and what the writer answers is looked at once for many of them.
 
 ghost use Rattle.std.specs.Prelude.{◌≡◌, ◌≤◌, ◌+◌, ◌++◌, [], IsTrue, length};
 ghost use Rattle.pc_script.specs.declared.output.TheConstants.{MOST_WAITING};
@@ -31,7 +31,8 @@ impl Waiting {
 
     /// Writes what waits. Answers false where the write fails.
     ///
-    /// This and `put_after_a_write` stand apart, so that no room for what a writer answers is made ready for every reply.
+    /// This and `put_after_a_write` stand apart, so that no room for what a writer answers is made ready for
+    /// every reply.
     #[inline(never)]
     fn write_out<W: Write>(&mut self, writer: &mut W) -> bool
         ensures empty { self.new.len ≡ 0 }
@@ -53,11 +54,13 @@ impl Waiting {
         self.len = end;
     }
 
-    /// Puts a line's text behind what waits, and first writes what waits, where there is no room for both. Answers false where that fails.
+    /// Puts a line's text behind what waits, and first writes what waits, where there is no room for both. Answers
+    /// false where that fails.
     #[inline(always)]
     fn put<W: Write>(&mut self, text: &[u8], writer: &mut W) -> bool
         requires short { length text.now ≤ ROOM }
-        ensures { IsTrue result → Appends (held (W.contents writer.old) self.old) (held (W.contents writer.new) self.new) text.now }
+        ensures { IsTrue result
+            → Appends (held (W.contents writer.old) self.old) (held (W.contents writer.new) self.new) text.now }
     {
         if text.len() <= MOST_WAITING - self.len {
             self.append(text);
@@ -70,7 +73,8 @@ impl Waiting {
     #[inline(never)]
     fn put_after_a_write<W: Write>(&mut self, text: &[u8], writer: &mut W) -> bool
         requires short { length text.now ≤ ROOM }
-        ensures { IsTrue result → Appends (held (W.contents writer.old) self.old) (held (W.contents writer.new) self.new) text.now }
+        ensures { IsTrue result
+            → Appends (held (W.contents writer.old) self.old) (held (W.contents writer.new) self.new) text.now }
     {
         if !self.write_out(writer) {
             return false;
@@ -106,17 +110,20 @@ impl Output {
     /// Writes what waits. Answers false where the write fails.
     pub(crate) fn write_out<W: Write>(&mut self, writer: &mut W) -> bool
         ensures empty { self.new.waiting.len ≡ 0 }
-        ensures written { IsTrue result → Appends (W.contents writer.old) (W.contents writer.new) (waiting self.old.waiting) }
+        ensures written { IsTrue result
+            → Appends (W.contents writer.old) (W.contents writer.new) (waiting self.old.waiting) }
     {
         self.waiting.write_out(writer)
     }
 
     /// Puts a response's text and a line feed behind what waits. Answers false where a write was needed, and failed.
     ///
-    /// A view is let go of here, or it would still stand while the next one is made. No clause says so: it is a matter of memory.
+    /// A view is let go of here, or it would still stand while the next one is made. No clause says so: it is a matter
+    /// of memory.
     #[inline(always)]
     pub(crate) fn put<W: Write>(&mut self, response: &mut Response, writer: &mut W) -> bool
-        ensures { IsTrue result → Appends (output_held (W.contents writer.old) self.old) (output_held (W.contents writer.new) self.new)
+        ensures { IsTrue result
+            → Appends (output_held (W.contents writer.old) self.old) (output_held (W.contents writer.new) self.new)
             (text_line (response_text response.old)) }
     {
         self.line.clear();
@@ -133,7 +140,8 @@ impl Output {
     /// Writes what waits and a view, which may have any length. Answers false where a write fails.
     #[inline(never)]
     fn put_view<W: Write>(&mut self, threads: &ShownThreads, writer: &mut W) -> bool
-        ensures { IsTrue result → Appends (output_held (W.contents writer.old) self.old) (output_held (W.contents writer.new) self.new)
+        ensures { IsTrue result
+            → Appends (output_held (W.contents writer.old) self.old) (output_held (W.contents writer.new) self.new)
             (text_line (response_text (Response.View threads.now))) }
     {
         self.waiting.write_out(writer) && write_view(threads, writer).is_ok()

@@ -25,8 +25,8 @@ pub enum Response {
     BadLimits(LimitField),
     /// What the event is replied: `ok` and what there is to say, or `refused` and the refusal.
     Event(Reply),
-    /// `T nN PHASE`, and ` cC` where the thread runs: the thread's status word, and its phase, which stands in front as what is
-    /// short does in [`Reply`].
+    /// `T nN PHASE`, and ` cC` where the thread runs: the thread's status word, and its phase, which stands in front as
+    /// what is short does in [`Reply`].
     Status {
         phase: Phase,
         thread: Tid,
@@ -46,7 +46,8 @@ impl Response {
     /// Writes the response's text and a line feed: a view piece by piece, every other response at once.
     #[inline(always)]
     pub fn write_to<W: Write>(&self, writer: &mut W) -> io::Result<()>
-        ensures { OnOk result (Appends (W.contents writer.old) (W.contents writer.new) (text_line (response_text self.now))) }
+        ensures { OnOk result
+            (Appends (W.contents writer.old) (W.contents writer.new) (text_line (response_text self.now))) }
     {
         let mut line = LineEnd::new();
         match write_line(&mut line, self) {
@@ -56,11 +57,13 @@ impl Response {
     }
 }
 
-/// Writes a line for each thread of a view, then `end`. It stands apart, so that what it needs is not made ready for every
-/// response.
+/// Writes a line for each thread of a view, then `end`. It stands apart, so that what it needs is not made ready for
+/// every response.
 #[inline(never)]
 pub(crate) fn write_view<W: Write>(threads: &ShownThreads, writer: &mut W) -> io::Result<()>
-    ensures { OnOk result (Appends (W.contents writer.old) (W.contents writer.new) (text_line (response_text (Response.View threads.now)))) }
+    ensures { OnOk result
+        (Appends (W.contents writer.old) (W.contents writer.new)
+        (text_line (response_text (Response.View threads.now)))) }
 {
     writeln!(writer, "{threads}end")
 }

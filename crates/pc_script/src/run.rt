@@ -1,6 +1,7 @@
 //! Running a script: the observer that writes a reply for each line that has one.
 
-ghost use Rattle.std.specs.Prelude.{◌≡◌, ◌≢◌, ◌⊎◌, ◌+◌, ℕ, List, [], ◌++◌, ◌<◌, ◌≤◌, length, IfOk, IfSome, IsTrue, OnOk, refl};
+ghost use Rattle.std.specs.Prelude.{◌≡◌, ◌≢◌, ◌⊎◌, ◌+◌, ℕ, List, [], ◌++◌, ◌<◌, ◌≤◌, length, IfOk, IfSome, IsTrue};
+ghost use Rattle.std.specs.Prelude.{OnOk, refl};
 ghost use Rattle.std.specs.Io.KnownBytes.{Appends, Consumes};
 ghost use Rattle.pc_script.specs.Inner.Outputs.{output_held, waiting};
 ghost use Rattle.pc_script.specs.Scripts.{IsOutput, IsOutputUntil, notices_text, outcome_text};
@@ -33,7 +34,8 @@ impl Replies {
         writer: &mut W,
     ) -> Result<Outcome, ScriptFault>
         ensures same { (result ≡ ended) ⊎ (result ≡ Err ScriptFault.Write) }
-        ensures written { (result ≡ Err ScriptFault.Write) ⊎ Appends (W.contents writer.old) (W.contents writer.new) (waiting self.old.output.waiting) }
+        ensures written { (result ≡ Err ScriptFault.Write)
+            ⊎ Appends (W.contents writer.old) (W.contents writer.new) (waiting self.old.output.waiting) }
     {
         if let Err(ScriptFault::Write) = ended {
             return ended;
@@ -60,14 +62,16 @@ fn unless_failed(is_written: bool) -> Result<(), ScriptFault>
 
 /// Writes what waits, and that the line with this number is a fault.
 fn write_fault<W: Write>(number: u32, output: &mut Output, writer: &mut W) -> bool
-    ensures { IsTrue result → Appends (output_held (W.contents writer.old) output.old) (output_held (W.contents writer.new) output.new)
+    ensures { IsTrue result
+        → Appends (output_held (W.contents writer.old) output.old) (output_held (W.contents writer.new) output.new)
         (outcome_text (Outcome.FaultLine number)) }
 {
     output.write_out(writer) && writeln!(writer, "fault line {number}").is_ok()
 }
 
 impl<M: Machine, W: Write> Observer<M, W> for Replies {
-    ghost Tells = { λ old before notices new after. Appends (output_held before old.output) (output_held after new.output) (notices_text notices) };
+    ghost Tells = { λ old before notices new after. Appends (output_held before old.output)
+        (output_held after new.output) (notices_text notices) };
 
     ghost MayFail = { λ fault. fault ≡ ScriptFault.Write };
 
@@ -96,29 +100,34 @@ impl<M: Machine, W: Write> Observer<M, W> for Replies {
     ghost tells_nothing = { λ observer known. written_nothing (output_held known observer.output) };
 
     ghost tells_more = { λ old now new before here after notices further.
-        written_more (output_held before old.output) (output_held here now.output) (output_held after new.output) notices further };
+        written_more (output_held before old.output) (output_held here now.output)
+        (output_held after new.output) notices further };
 }
 
 /// Reads a script, has the machine answer its commands one after another, and writes the responses.
 ///
-/// The whole text is read first, and the machine is started in the profile that it names. Reading ends at the
-/// first read that fails (`Read`) or gives nothing, and no more than [`MOST_BYTES`] and one more are read (`TooLong`); after
-/// either fault nothing was written. Responses of one line are gathered and written many at a time, so a writer needs no buffer
-/// for them; a view is written piece by piece, so a writer without a buffer is slow there. Nothing is flushed. `Write` comes from
-/// the first write that fails, also where memory had run out before it.
+/// The whole text is read first, and the machine is started in the profile that it names. Reading ends at the first
+/// read that fails (`Read`) or gives nothing, and no more than [`MOST_BYTES`] and one more are read (`TooLong`); after
+/// either fault nothing was written. Responses of one line are gathered and written many at a time, so a writer needs
+/// no buffer for them; a view is written piece by piece, so a writer without a buffer is slow there. Nothing is
+/// flushed. `Write` comes from the first write that fails, also where memory had run out before it.
 pub fn run_script<M: Machine, R: Read, W: Write>(
     alloc: Global,
     reader: &mut R,
     writer: &mut W,
 ) -> Result<Outcome, ScriptFault>
-    ensures ok { IfOk result (λ outcome. IfSome (R.remaining reader.old) (λ text. (output : List ℕ) × IsOutput M.IsRun text outcome output
+    ensures ok { IfOk result
+        (λ outcome. IfSome (R.remaining reader.old) (λ text. (output : List ℕ) × IsOutput M.IsRun text outcome output
         × Appends (W.contents writer.old) (W.contents writer.new) output)) }
-    ensures no_memory { result ≡ Err ScriptFault.OutOfMemory → (writer.new ≡ writer.old) ⊎ IfSome (R.remaining reader.old) (λ text. (output : List ℕ)
+    ensures no_memory { result ≡ Err ScriptFault.OutOfMemory → (writer.new ≡ writer.old)
+        ⊎ IfSome (R.remaining reader.old) (λ text. (output : List ℕ)
         × IsOutputUntil M.IsRun M.RanOut text output × Appends (W.contents writer.old) (W.contents writer.new) output) }
     ensures unread { (result ≡ Err ScriptFault.Read) ⊎ (result ≡ Err ScriptFault.TooLong) → writer.new ≡ writer.old }
-    ensures too_long { result ≡ Err ScriptFault.TooLong → IfSome (R.remaining reader.old) (λ text. MOST_BYTES < length text) }
+    ensures too_long { result ≡ Err ScriptFault.TooLong
+        → IfSome (R.remaining reader.old) (λ text. MOST_BYTES < length text) }
     ensures short { OnOk result (IfSome (R.remaining reader.old) (λ text. length text ≤ MOST_BYTES)) }
-    ensures reads { (bytes : List ℕ) × (length bytes ≤ MOST_BYTES + 1) × Consumes (R.remaining reader.old) (R.remaining reader.new) bytes }
+    ensures reads { (bytes : List ℕ) × (length bytes ≤ MOST_BYTES + 1)
+        × Consumes (R.remaining reader.old) (R.remaining reader.new) bytes }
 {
     let text = read_text(alloc, reader)?;
     let mut replies = Replies {

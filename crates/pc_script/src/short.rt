@@ -1,10 +1,11 @@
 //! The texts of responses that are one line, made in one piece.
 //!
-//! A script has a line for each of its commands, so these are not written piece by piece through a formatter: each is put
-//! together here, from its last byte to its first.
+//! A script has a line for each of its commands, so these are not written piece by piece through a formatter: each is
+//! put together here, from its last byte to its first.
 
 ghost use Rattle.std.specs.Prelude.{◌≡◌, ◌++◌, ◌≤◌, ◌<◌, ◌+◌, MatchOption, [], decimal, drop, length};
-ghost use Rattle.pc_script.specs.Responses.{limit_text, number_or_dash, phase_text, posted_text, refusal_text, reply_text, response_text, status_text, subject_text, text_line};
+ghost use Rattle.pc_script.specs.Responses.{limit_text, number_or_dash, phase_text, posted_text, refusal_text};
+ghost use Rattle.pc_script.specs.Responses.{reply_text, response_text, status_text, subject_text, text_line};
 
 use crate::lists::ShownThreads;
 use crate::response::Response;
@@ -17,7 +18,8 @@ use pc_messages::{Cpu, Phase, Tid};
 fn write_subject(line: &mut LineEnd, thread: Option<Tid>, number: Option<u32>)
     requires fits { (46 ≤ line.old.start) × (line.old.start ≤ ROOM) }
     ensures start { (line.old.start ≤ line.new.start + 43) × (line.new.start ≤ line.old.start) }
-    ensures written { drop line.new.start line.new.bytes ≡ subject_text thread number ++ drop line.old.start line.old.bytes }
+    ensures written { drop line.new.start line.new.bytes ≡ subject_text thread number
+        ++ drop line.old.start line.old.bytes }
 {
     match (thread, number) {
         (Some(thread), Some(number)) => {
@@ -104,7 +106,8 @@ fn limit_name(limit: LimitField) -> &'static str
 fn write_status(line: &mut LineEnd, thread: Tid, status: Status, phase: Phase)
     requires fits { line.old.start + 1 ≡ ROOM }
     ensures start { line.new.start < ROOM }
-    ensures written { drop line.new.start line.new.bytes ≡ status_text thread status phase ++ drop line.old.start line.old.bytes }
+    ensures written { drop line.new.start line.new.bytes ≡ status_text thread status phase
+        ++ drop line.old.start line.old.bytes }
 {
     if let Some(cpu) = status.running_on {
         line.number(u64::from(cpu.index()));

@@ -58,7 +58,8 @@ pub enum Trouble<'a> {
     },
 }
 
-/// What is wrong with a line that is a fault; nothing of every other line. It takes no memory. `version 2` is no command here.
+/// What is wrong with a line that is a fault; nothing of every other line. It takes no memory. `version 2` is no
+/// command here.
 pub fn trouble_in(line: &[u8]) -> Option<Trouble<'_>>
     ensures { MatchOption result (IsFault line.now → ⊥) (λ _. IsFault line.now) }
 {

@@ -1,6 +1,8 @@
-//! The walk over the lines of a script: the one loop in which a machine answers what they ask for, and an observer is told of it.
+//! The walk over the lines of a script: the one loop in which a machine answers what they ask for, and an observer is
+//! told of it.
 
-ghost use Rattle.std.specs.Prelude.{◌≡◌, ◌⊎◌, ◌+◌, ◌<◌, ◌≤◌, ◌^◌, ℕ, List, Option, [], ◌∷◌, false, length, IfOk, OnOk, Err};
+ghost use Rattle.std.specs.Prelude.{◌≡◌, ◌⊎◌, ◌+◌, ◌<◌, ◌≤◌, ◌^◌, ℕ, List, Option, [], ◌∷◌, false, length, IfOk, OnOk};
+ghost use Rattle.std.specs.Prelude.{Err};
 ghost use Rattle.std.specs.Bool.{MatchBool};
 ghost use Rattle.pc_calls.specs.declared.limits.Profile.TheVariants.{One};
 ghost use Rattle.pc_script.specs.Grammar.{HasNoReply, IsFault, Spells};
@@ -77,8 +79,8 @@ impl<M: Machine> Walker<M> {
         }
     }
 
-    /// Takes a line that asks for no command: the first that has a reply may name the version, and every other is a fault, for
-    /// which the answer is false.
+    /// Takes a line that asks for no command: the first that has a reply may name the version, and every other is a
+    /// fault, for which the answer is false.
     #[inline(never)]
     fn stop<O: Observer<M, W>, W: Write>(
         &mut self,
@@ -138,8 +140,8 @@ impl<M: Machine> Walker<M> {
     }
 }
 
-/// Walks over the lines of a script's text, up to the end or to the first fault: a machine of its own answers their commands, one after
-/// another, and the observer is told of each line that has a reply.
+/// Walks over the lines of a script's text, up to the end or to the first fault: a machine of its own answers their
+/// commands, one after another, and the observer is told of each line that has a reply.
 ///
 /// The fault is one of the observer's, or `OutOfMemory` where the machine found none for an answer.
 pub fn walk<M: Machine, O: Observer<M, W>, W: Write>(
@@ -149,10 +151,12 @@ pub fn walk<M: Machine, O: Observer<M, W>, W: Write>(
     writer: &mut W,
 ) -> Result<Outcome, ScriptFault>
     requires short { length text.now ≤ MOST_BYTES }
-    ensures ok { IfOk result (λ outcome. IsWalked O.Tells M.IsRun (lines text.now) outcome observer.old (W.contents writer.old)
+    ensures ok { IfOk result
+        (λ outcome. IsWalked O.Tells M.IsRun (lines text.now) outcome observer.old (W.contents writer.old)
         observer.new (W.contents writer.new)) }
     ensures no_memory { result ≡ Err ScriptFault.OutOfMemory → O.MayFail ScriptFault.OutOfMemory
-        ⊎ IsWalkedUntil O.Tells M.IsRun M.RanOut (lines text.now) observer.old (W.contents writer.old) observer.new (W.contents writer.new) }
+        ⊎ IsWalkedUntil O.Tells M.IsRun M.RanOut (lines text.now) observer.old (W.contents writer.old) observer.new
+        (W.contents writer.new) }
     ensures err { (fault : ScriptFault) → result ≡ Err fault → O.MayFail fault ⊎ (fault ≡ ScriptFault.OutOfMemory) }
 {
     let mut walk = Walker::<M>::new(alloc);

@@ -2,7 +2,8 @@
 //!
 //! A number is read where it stands, so that its digits are gone over once.
 
-ghost use Rattle.std.specs.Prelude.{◌≡◌, ◌<◌, ◌≤◌, ◌+◌, ◌-◌, ◌*◌, ◌^◌, MatchOption, [], ◌∷◌, decimal, get_or, length, take};
+ghost use Rattle.std.specs.Prelude.{◌≡◌, ◌<◌, ◌≤◌, ◌+◌, ◌-◌, ◌*◌, ◌^◌, MatchOption, [], ◌∷◌, decimal, get_or, length};
+ghost use Rattle.std.specs.Prelude.{take};
 ghost use Rattle.std.specs.Bool.{MatchBool};
 ghost use Rattle.std.specs.Int.{IsInRange};
 ghost use Rattle.std.specs.Str.Parse.{AllDigits, digits_value};
@@ -56,7 +57,8 @@ fn short_number(text: &[u8]) -> (u64, usize)
 #[inline(always)]
 fn is_end(text: &[u8], place: usize) -> bool
     requires { place ≤ length text.now }
-    ensures { MatchBool result (place < length text.now → get_or text.now place 0 ≡ 32) ((place < length text.now) × (get_or text.now place 0 ≡ 32 → ⊥)) }
+    ensures { MatchBool result (place < length text.now → get_or text.now place 0 ≡ 32)
+        ((place < length text.now) × (get_or text.now place 0 ≡ 32 → ⊥)) }
 {
     place == text.len() || text[place] == b' '
 }
@@ -64,7 +66,8 @@ fn is_end(text: &[u8], place: usize) -> bool
 /// The number that this one is with a digit more, where it is below 2 ^ 64.
 fn with_digit(front: u64, digit: u8) -> Option<u64>
     requires { IsInRange 48 57 digit }
-    ensures { MatchOption result (2 ^ 64 ≤ front * 10 + (digit - 48)) (λ n. (n < 2 ^ 64) × (n ≡ front * 10 + (digit - 48))) }
+    ensures { MatchOption result (2 ^ 64 ≤ front * 10 + (digit - 48))
+        (λ n. (n < 2 ^ 64) × (n ≡ front * 10 + (digit - 48))) }
 {
     front.checked_mul(10)?.checked_add(u64::from(digit - b'0'))
 }
@@ -80,7 +83,8 @@ impl<'a> Words<'a> {
 
     /// Takes the next word.
     pub(crate) fn next(&mut self) -> Option<&'a [u8]>
-        ensures { MatchOption result (words_left self.old ≡ []) (λ word. words_left self.old ≡ word.now ∷ words_left self.new) }
+        ensures { MatchOption result (words_left self.old ≡ [])
+            (λ word. words_left self.old ≡ word.now ∷ words_left self.new) }
     {
         let (word, rest) = first_word(self.rest)?;
         self.rest = rest;
@@ -94,10 +98,12 @@ impl<'a> Words<'a> {
         after_spaces(self.rest).is_empty()
     }
 
-    /// Takes the number of twenty digits that the rest starts with, up to its first space. The first nineteen make `front`.
+    /// Takes the number of twenty digits that the rest starts with, up to its first space. The first nineteen
+    /// make `front`.
     fn take_longest(&mut self, front: u64) -> Option<u64>
         requires longer { (SHORT < length self.old.rest.now) × (get_or self.old.rest.now SHORT 0 ≡ 32 → ⊥) }
-        requires digits { AllDigits 10 (take SHORT self.old.rest.now) × (front ≡ digits_value 10 (take SHORT self.old.rest.now)) }
+        requires digits { AllDigits 10 (take SHORT self.old.rest.now)
+            × (front ≡ digits_value 10 (take SHORT self.old.rest.now)) }
         ensures { IsTaken self.old.rest.now self.new.rest.now result }
     {
         let text = self.rest;

@@ -14,12 +14,14 @@ SessionsGoOn =
     (later : List Response) × IsSession profile (commands ++ more) (told ++ later)
 
 -- the lines from the one at which memory ran out on ask for these commands, up to this outcome
-abbrev pub AskFurther : (text output : List ℕ) → IsOutputUntil IsSession RanOut text output → List Command → Outcome → Type 0
+abbrev pub AskFurther : (text output : List ℕ) → IsOutputUntil IsSession RanOut text output → List Command → Outcome
+    → Type 0
 AskFurther text output until further outcome =
     Script (suc until.runs.passed + length until.runs.before) (until.runs.line ∷ until.runs.after) further outcome
 
 -- what was written when memory ran out begins an output of the whole text
 abbrev pub OutputsGoOn : Type 0
 OutputsGoOn =
-    (text output : List ℕ) (until : IsOutputUntil IsSession RanOut text output) (further : List Command) (outcome : Outcome) →
+    (text output : List ℕ) (until : IsOutputUntil IsSession RanOut text output) (further : List Command)
+    (outcome : Outcome) →
     AskFurther text output until further outcome → (later : List ℕ) × IsOutput IsSession text outcome (output ++ later)

@@ -1,3 +1,5 @@
+-- A session of a script: no world before an accepted `enclave`, whose limits are judged by the script's profile, and
+-- one world from then on. Each command has a response: an event is a step of the world, a read changes nothing.
 pub mod GoingOn
 pub mod Inner
 pub mod Reads

@@ -31,7 +31,8 @@ IsStatus t (Some row) told =
 
 -- whether the CPU's agent sleeps
 abbrev pub IsAsleep : PlainWorld → ℕ → Response → Type 0
-IsAsleep w c told = MatchBool (is_cpu (shown w.kernel) c) (told ≡ response.Truth (is_asleep (shown w.kernel) c)) (IsNowhere told)
+IsAsleep w c told =
+    MatchBool (is_cpu (shown w.kernel) c) (told ≡ response.Truth (is_asleep (shown w.kernel) c)) (IsNowhere told)
 
 -- the view of what the agent has taken in
 pub record IsShow (w : PlainWorld) (c : ℕ) (told : Response) : Type 0 where
@@ -39,6 +40,7 @@ pub record IsShow (w : PlainWorld) (c : ℕ) (told : Response) : Type 0 where
   pub tells : told ≡ response.View rows
   pub shown : IsShown (kinds w.kernel) (w.agents c).seen rows
 
+-- what `show` is answered
 abbrev pub IsShowing : PlainWorld → ℕ → Response → Type 0
 IsShowing w c told = MatchBool (is_cpu (shown w.kernel) c) (IsShow w c told) (IsNowhere told)
 
@@ -48,6 +50,7 @@ pub record IsSameness (w : PlainWorld) (c other : ℕ) (told : Response) : Type 
   pub same : IsTrue truth ↔ IsSameSet (as_members (w.agents c).seen) (as_members (w.agents other).seen)
   pub tells : told ≡ response.Sameness truth
 
+-- what `same` is answered
 abbrev pub IsComparing : PlainWorld → ℕ → ℕ → Response → Type 0
 IsComparing w c other told = MatchBool (are_cpus w c other) (IsSameness w c other told) (IsNowhere told)
 
@@ -62,6 +65,7 @@ pub record IsCompleteness (w : PlainWorld) (c thread : ℕ) (told : Response) : 
   pub complete : IsTrue truth ↔ HasAll (shown w.kernel) (w.agents c).seen thread
   pub tells : told ≡ response.Truth truth
 
+-- what `complete` is answered
 abbrev pub IsCompleting : PlainWorld → ℕ → ℕ → Response → Type 0
 IsCompleting w c thread told = MatchBool (is_cpu (shown w.kernel) c) (IsCompleteness w c thread told) (IsNowhere told)
 

@@ -32,6 +32,7 @@ abbrev pub IsLimited : Option LimitField → Limits → Response → Session →
 IsLimited None limits told new = (told ≡ response.Opened) × (new ≡ Some (opened limits))
 IsLimited (Some field) limits told new = (told ≡ response.BadLimits field) × (new ≡ None)
 
+-- a command before there is a world: an `enclave` whose limits are within their ranges opens one
 abbrev pub IsOpening : Profile → Command → Response → Session → Type 0
 IsOpening profile (Enclave limits) told new = IsLimited (bad_field profile limits) limits told new
 IsOpening profile (Event event) told new = (told ≡ response.NoEnclave) × (new ≡ None)
@@ -45,7 +46,8 @@ IsStep profile (Some w) command told new = (w' : PlainWorld) × IsWorldStep w co
 -- the commands of a session, one after another
 pub data IsRun (profile : Profile) : Session → List Command → List Response → Session → Type 0 where
   none : {s : Session} → IsRun profile s [] [] s
-  one_more : {s m e : Session} (commands : List Command) (told : List Response) (command : Command) (response : Response)
+  one_more : {s m e : Session} (commands : List Command) (told : List Response) (command : Command)
+      (response : Response)
       → IsRun profile s commands told m → IsStep profile m command response e
       → IsRun profile s (commands ++ command ∷ []) (told ++ response ∷ []) e
 

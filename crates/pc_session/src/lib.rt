@@ -1,7 +1,7 @@
 //! Sessions: a script's commands, answered on a world of the kernel and its agents.
 //!
-//! A [`Session`] is the machine of every walk over a script: there is no world before an accepted `enclave`, and one from then on.
-//! Each event is a step of that world, each read is answered of it.
+//! A [`Session`] is the machine of every walk over a script: there is no world before an accepted `enclave`, and one
+//! from then on. Each event is a step of that world, each read is answered of it.
 #![tactic(auto)]
 
 pub mod laws;

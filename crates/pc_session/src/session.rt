@@ -96,14 +96,16 @@ impl Machine for Session {
         }
     }
 
-    ghost is_run_after = { λ profile session commands told stands. is_session profile session.profile session.world commands told stands };
+    ghost is_run_after = { λ profile session commands told stands. is_session profile session.profile session.world
+        commands told stands };
 }
 
 impl Session {
     /// The world; none before an accepted `enclave`.
     pub fn world(&self) -> Option<&World>
         ensures { (profile : Profile) (commands : List Command) (told : List Response)
-            → StandsAfter profile self.now.profile self.now.world commands told → LeadsToWorld profile commands told (lent result) }
+            → StandsAfter profile self.now.profile self.now.world commands told
+            → LeadsToWorld profile commands told (lent result) }
     {
         match &self.world {
             Some(world) => Some(world),

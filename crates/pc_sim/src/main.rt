@@ -1,5 +1,6 @@
-//! `pc-sim`: replays scripts of events on the kernel model and its agents, explains or draws them, or runs agents in threads.
-//! What it does is the library's, `pc_program`; here are the words, files and streams of the machine that it runs on.
+//! `pc-sim`: replays scripts of events on the kernel model and its agents, explains or draws them, or runs agents in
+//! threads. What it does is the library's, `pc_program`; here are the words, files and streams of the machine that it
+//! runs on.
 #![tactic(auto)]
 
 use pc_program::{
@@ -137,9 +138,9 @@ fn run_settings<R: Threads + Wait + Sync, S: Write + Copy + Sync, W: Write + Dro
 /// The size in bytes of a block that is large.
 const LARGE: usize = 1 << 18;
 
-/// Takes a large block and gives it back. The heap of the C library gives each large block pages of its own until one was
-/// given back: from then on blocks up to that size stand side by side, as the deltas do that a wire keeps. Where there is
-/// no memory for it nothing is lost.
+/// Takes a large block and gives it back. The heap of the C library gives each large block pages of its own until one
+/// was given back: from then on blocks up to that size stand side by side, as the deltas do that a wire keeps. Where
+/// there is no memory for it nothing is lost.
 fn settle_heap(alloc: Global) {
     let _ = Vec::<u8>::with_capacity(alloc, LARGE);
 }

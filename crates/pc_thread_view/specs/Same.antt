@@ -2,7 +2,8 @@
 use Rattle.std.specs.Prelude.{ℕ, ◌==◌, ◌&&◌, cond, Bool, List, [], ◌∷◌, Option, Some, None}
 use Rattle.std.specs.Cmp.Lexicographic.{pointwise}
 use Rattle.pc_messages.specs.declared.kind.Kind.{Kind}
-use Rattle.pc_messages.specs.declared.kind.Kind.TheVariants.{Created, Blocked, Preempted, Yield, Dead, Wakeup, Affinity, Priority}
+use Rattle.pc_messages.specs.declared.kind.Kind.TheVariants.{Created, Blocked, Preempted, Yield, Dead, Wakeup, Affinity}
+use Rattle.pc_messages.specs.declared.kind.Kind.TheVariants.{Priority}
 use Rattle.pc_messages.specs.declared.reported.Phase.{Phase}
 use Rattle.pc_messages.specs.declared.reported.Phase.TheVariants as phase
 use Rattle.pc_messages.specs.declared.reported.Reported.{Reported}
@@ -40,4 +41,6 @@ is_same_early ds es = pointwise (λ d e. (d.0 == e.0) && same_numbers (written d
 
 -- the same prefix, state and messages
 abbrev pub is_same_told : Told → Told → Bool
-is_same_told a b = (a.upto == b.upto) && (same_numbers (state_numbers a.state) (state_numbers b.state) && is_same_early a.early b.early)
+is_same_told a b =
+    (a.upto == b.upto) &&
+    (same_numbers (state_numbers a.state) (state_numbers b.state) && is_same_early a.early b.early)

@@ -1,5 +1,6 @@
 -- What is told of one thread: a folded prefix of its messages, and early messages past a gap.
-use Rattle.std.specs.Prelude.{ℕ, ◌+◌, ◌*◌, ◌<◌, ◌≤◌, ◌≡◌, ◌==◌, ◌||◌, Bool, true, IsFalse, List, [], ◌∷◌, length, Option, MatchOption, Some, None, if◌then◌else◌}
+use Rattle.std.specs.Prelude.{ℕ, ◌+◌, ◌*◌, ◌<◌, ◌≤◌, ◌≡◌, ◌==◌, ◌||◌, Bool, true, IsFalse, List, [], ◌∷◌, length}
+use Rattle.std.specs.Prelude.{Option, MatchOption, Some, None, if◌then◌else◌}
 use Rattle.std.specs.List.{list_any}
 use Rattle.pc_messages.specs.declared.message.TheConstants.{GREATEST_NUMBER}
 use Rattle.pc_messages.specs.declared.kind.TheConstants.{MOST_TICKS}
@@ -19,7 +20,8 @@ pub record Told : Type 0 where
 -- what one message tells alone: the state of a thread where it is its first, and else a message past the gap
 abbrev pub told_by_message : ℕ → Kind → Told
 told_by_message number kind =
-    if number == 1 then record { upto = 1; state = state_of (kind ∷ []); early = [] } else record { upto = 0; state = None; early = (number, kind) ∷ [] }
+    if number == 1 then record { upto = 1; state = state_of (kind ∷ []); early = [] }
+    else record { upto = 0; state = None; early = (number, kind) ∷ [] }
 
 -- what the messages up to a number tell alone, which report this state
 abbrev pub told_by_prefix : ℕ → Reported → Told

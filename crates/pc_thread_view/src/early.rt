@@ -3,7 +3,8 @@
 //! Messages may arrive in ascending or in descending order, and the first ones leave the list when the prefix
 //! reaches them. None of that moves the others: unused slots stand in front of the list.
 
-ghost use Rattle.std.specs.Prelude.{◌+◌, ◌≡◌, ◌≤◌, ◌<◌, List, [], ◌∷◌, ◌++◌, length, drop, insert, IsOk, IfOk, OnOk, OnErr};
+ghost use Rattle.std.specs.Prelude.{◌+◌, ◌≡◌, ◌≤◌, ◌<◌, List, [], ◌∷◌, ◌++◌, length, drop, insert, IsOk, IfOk, OnOk};
+ghost use Rattle.std.specs.Prelude.{OnErr};
 ghost use Rattle.pc_thread_view.specs.Inner.Early.{early_of, IsFront, HasFront};
 
 use crate::moves::{move_down, move_up};
@@ -76,7 +77,8 @@ fn lower(slots: &mut [(u32, Kind)], front: usize, place: usize, entry: (u32, Kin
 fn raise(slots: &mut [(u32, Kind)], place: usize)
     requires { place < length slots.old }
     ensures len { length slots.new ≡ length slots.old }
-    ensures raised { (others : List _) (last : _) → slots.old ≡ others ++ last ∷ [] → slots.new ≡ insert others place last }
+    ensures raised { (others : List _) (last : _) → slots.old ≡ others ++ last ∷ []
+        → slots.new ≡ insert others place last }
 {
     let behind = slots.len() - 1;
     let last = slots[behind];

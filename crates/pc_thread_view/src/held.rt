@@ -1,13 +1,16 @@
 //! What a thread view holds, built up in the order of the numbers: nothing is put into a gap, and nothing is taken
 //! out again.
 
-ghost use Rattle.std.specs.Prelude.{ℕ, ◌+◌, ◌≡◌, ◌≤◌, ◌<◌, ◌↔◌, ◌==◌, ◌||◌, ◌++◌, true, false, List, [], Some, None, MatchOption, length, IsTrue, IsFalse, IsOk, OnOk, OnErr};
+ghost use Rattle.std.specs.Prelude.{ℕ, ◌+◌, ◌≡◌, ◌≤◌, ◌<◌, ◌↔◌, ◌==◌, ◌||◌, ◌++◌, true, false, List, [], Some, None};
+ghost use Rattle.std.specs.Prelude.{MatchOption, length, IsTrue, IsFalse, IsOk, OnOk, OnErr};
 ghost use Rattle.pc_messages.specs.Run.{IsWellFormed};
 ghost use Rattle.pc_messages.specs.declared.kind.Kind.{Kind};
 ghost use Rattle.pc_join.specs.Sets.{Source};
 ghost use Rattle.pc_join.specs.Inner.Ranges.{IsEither, IsAmid};
-ghost use Rattle.pc_thread_view.specs.Told.{IsSound, IsOfThread, RiseAbove, HasEach, tells, is_early, told_by_message, told_by_prefix};
-ghost use Rattle.pc_thread_view.specs.Inner.Taking.{Gains, NoneAbove, NoneAfter, IsLoose, IsAbsorbed, IsSettled, IsPlace, BeginsWith, AreTold, AreAmong, AreBelow};
+ghost use Rattle.pc_thread_view.specs.Told.{IsSound, IsOfThread, RiseAbove, HasEach, tells, is_early, told_by_message};
+ghost use Rattle.pc_thread_view.specs.Told.{told_by_prefix};
+ghost use Rattle.pc_thread_view.specs.Inner.Taking.{Gains, NoneAbove, NoneAfter, IsLoose, IsAbsorbed, IsSettled};
+ghost use Rattle.pc_thread_view.specs.Inner.Taking.{IsPlace, BeginsWith, AreTold, AreAmong, AreBelow};
 ghost use Rattle.pc_join.specs.Ranges.{one_to};
 ghost use Rattle.pc_thread_view.specs.Inner.Held.{told};
 
@@ -90,8 +93,10 @@ fn merge(joined: &mut Held, first: &[(u32, Kind)], other: &[(u32, Kind)]) -> Res
     requires other_after { NoneAfter joined.old.early.items other.now }
     ensures sound { IsSound (told joined.new) }
     ensures union { OnOk result
-        (IsEither (tells (told joined.old)) (λ n. is_early first.now n || is_early other.now n) (tells (told joined.new))) }
-    ensures amid { IsAmid (tells (told joined.old)) (λ n. is_early first.now n || is_early other.now n) (tells (told joined.new)) }
+        (IsEither (tells (told joined.old)) (λ n. is_early first.now n || is_early other.now n)
+        (tells (told joined.new))) }
+    ensures amid { IsAmid (tells (told joined.old)) (λ n. is_early first.now n || is_early other.now n)
+        (tells (told joined.new)) }
     ensures of_source { (s : Source) → IsOfThread (told joined.old) s → HasEach s first.now → HasEach s other.now
         → IsOfThread (told joined.new) s }
 {
@@ -124,7 +129,8 @@ fn comes_after(early: &[(u32, Kind)], more: &[(u32, Kind)]) -> bool
 fn absorb(held: &mut Held) -> bool
     requires { IsLoose (told held.old) }
     ensures done { IsTrue result → IsAbsorbed (told held.old) (told held.new) }
-    ensures none { IsFalse result → (told held.new ≡ told held.old) × RiseAbove (held.old.prefix.upto + 1) held.old.early.items }
+    ensures none { IsFalse result → (told held.new ≡ told held.old)
+        × RiseAbove (held.old.prefix.upto + 1) held.old.early.items }
 {
     let Some((first, _)) = held.early.as_slice().split_first() else {
         return false;
@@ -158,19 +164,22 @@ fn advance(held: &mut Held, other: &Held)
     requires greater { held.old.prefix.upto < other.now.prefix.upto }
     ensures sound { IsSound (told held.new) }
     ensures union { IsEither (tells (told held.old)) (one_to other.now.prefix.upto) (tells (told held.new)) }
-    ensures of_source { (s : Source) → IsOfThread (told held.old) s → IsOfThread (told other.now) s → IsOfThread (told held.new) s }
+    ensures of_source { (s : Source) → IsOfThread (told held.old) s → IsOfThread (told other.now) s
+        → IsOfThread (told held.new) s }
 {
     held.prefix = other.prefix.copy();
     settle(held);
 }
 
-/// Takes in all messages up to a number, which report this state. Where they are known nothing changes. It takes no memory.
+/// Takes in all messages up to a number, which report this state. Where they are known nothing changes. It takes
+/// no memory.
 pub fn take_prefix(held: &mut Held, upto: u32, reported: Reported)
     requires sound { IsSound (told held.old) }
     requires prefix { IsSound (told_by_prefix upto reported) }
     ensures sound { IsSound (told held.new) }
     ensures union { IsEither (tells (told held.old)) (one_to upto) (tells (told held.new)) }
-    ensures of_source { (s : Source) → IsOfThread (told held.old) s → IsOfThread (told_by_prefix upto reported) s → IsOfThread (told held.new) s }
+    ensures of_source { (s : Source) → IsOfThread (told held.old) s → IsOfThread (told_by_prefix upto reported) s
+        → IsOfThread (told held.new) s }
     ensures known { upto ≤ held.old.prefix.upto → told held.new ≡ told held.old }
 {
     if upto <= held.prefix.upto() {
@@ -298,7 +307,8 @@ fn take_several(held: &mut Held, more: &[(u32, Kind)]) -> Result<(), OutOfMemory
     ensures sound { IsSound (told held.new) }
     ensures union { OnOk result (IsEither (tells (told held.old)) (is_early more.now) (tells (told held.new))) }
     ensures amid { IsAmid (tells (told held.old)) (is_early more.now) (tells (told held.new)) }
-    ensures of_source { (s : Source) → IsOfThread (told held.old) s → HasEach s more.now → IsOfThread (told held.new) s }
+    ensures of_source { (s : Source) → IsOfThread (told held.old) s → HasEach s more.now
+        → IsOfThread (told held.new) s }
 {
     if comes_after(held.early.as_slice(), more) {
         return merge(held, &[], more);
@@ -316,7 +326,8 @@ fn take_early(held: &mut Held, more: &[(u32, Kind)]) -> Result<(), OutOfMemory>
     ensures sound { IsSound (told held.new) }
     ensures union { OnOk result (IsEither (tells (told held.old)) (is_early more.now) (tells (told held.new))) }
     ensures amid { IsAmid (tells (told held.old)) (is_early more.now) (tells (told held.new)) }
-    ensures of_source { (s : Source) → IsOfThread (told held.old) s → HasEach s more.now → IsOfThread (told held.new) s }
+    ensures of_source { (s : Source) → IsOfThread (told held.old) s → HasEach s more.now
+        → IsOfThread (told held.new) s }
 {
     match more {
         [] => Ok(()),
@@ -335,7 +346,8 @@ pub fn join_held(held: &mut Held, other: &Held) -> Result<(), OutOfMemory>
     ensures sound { IsSound (told held.new) }
     ensures union { OnOk result (IsEither (tells (told held.old)) (tells (told other.now)) (tells (told held.new))) }
     ensures amid { IsAmid (tells (told held.old)) (tells (told other.now)) (tells (told held.new)) }
-    ensures of_source { (s : Source) → IsOfThread (told held.old) s → IsOfThread (told other.now) s → IsOfThread (told held.new) s }
+    ensures of_source { (s : Source) → IsOfThread (told held.old) s → IsOfThread (told other.now) s
+        → IsOfThread (told held.new) s }
 {
     if held.prefix.upto() < other.prefix.upto() {
         advance(held, other);
@@ -377,8 +389,8 @@ fn near_place(early: &[(u32, Kind)], number: u32, place: usize) -> usize
     near
 }
 
-/// Whether one of the messages has the number, and a place behind it or where it is lacking. The number is looked for near a place first, as
-/// one looks for several in ascending order.
+/// Whether one of the messages has the number, and a place behind it or where it is lacking. The number is looked for
+/// near a place first, as one looks for several in ascending order.
 fn is_among_from(early: &[(u32, Kind)], number: u32, place: usize) -> (bool, usize)
     requires { RiseAbove 0 early.now }
     ensures { result.0 ≡ is_early early.now number }
@@ -394,7 +406,8 @@ fn is_among_from(early: &[(u32, Kind)], number: u32, place: usize) -> (bool, usi
     (is_among(early, number), near)
 }
 
-/// Whether the message with the number is held, and where to look for a later one. Early messages are looked for near a place first.
+/// Whether the message with the number is held, and where to look for a later one. Early messages are looked for near a
+/// place first.
 pub fn has_from(held: &Held, number: u32, place: usize) -> (bool, usize)
     requires { IsSound (told held.now) }
     ensures { result.0 ≡ tells (told held.now) number }

@@ -28,7 +28,11 @@ impl Model for Prefix {
 
     ghost Value = { Folded };
 
-    ghost view = { λ p. record { upto = p.upto; state = state_at p.upto (record { mask = p.mask; ran = p.ran; phase = p.phase; level = p.level }) } };
+    ghost view = { λ p.
+        record {
+          upto = p.upto;
+          state = state_at p.upto (record { mask = p.mask; ran = p.ran; phase = p.phase; level = p.level });
+        } };
 }
 
 /// The state after the next message.
@@ -37,7 +41,8 @@ fn fold(upto: u32, state: Option<Reported>, kind: Kind) -> Option<Reported>
     requires fits { upto < GREATEST_NUMBER }
     requires created { IsTrue (is_created kind) ↔ (upto + 1 ≡ 1) }
     ensures some { IsStateOfSome (upto + 1) result }
-    ensures folded { (kinds : List Kind) → length kinds ≡ upto → state ≡ state_of kinds → result ≡ state_of (kinds ++ kind ∷ []) }
+    ensures folded { (kinds : List Kind) → length kinds ≡ upto → state ≡ state_of kinds
+        → result ≡ state_of (kinds ++ kind ∷ []) }
 {
     match state {
         None => Reported::first(kind),

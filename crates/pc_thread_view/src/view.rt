@@ -1,12 +1,14 @@
 //! The view of one thread.
 
-ghost use Rattle.std.specs.Prelude.{ℕ, ◌+◌, ◌*◌, ◌≡◌, ◌≤◌, ◌<◌, ◌↔◌, ◌==◌, ◌||◌, Bool, true, false, List, [], ◌∷◌, Some, None, IsTrue, IsFalse, IsOk, IfOk, OnOk, OnErr};
+ghost use Rattle.std.specs.Prelude.{ℕ, ◌+◌, ◌*◌, ◌≡◌, ◌≤◌, ◌<◌, ◌↔◌, ◌==◌, ◌||◌, Bool, true, false, List, [], ◌∷◌};
+ghost use Rattle.std.specs.Prelude.{Some, None, IsTrue, IsFalse, IsOk, IfOk, OnOk, OnErr};
 ghost use Rattle.pc_messages.specs.declared.message.TheConstants.{GREATEST_NUMBER};
 ghost use Rattle.pc_messages.specs.declared.kind.TheConstants.{MOST_TICKS};
 ghost use Rattle.pc_messages.specs.Run.{IsWellFormed};
 ghost use Rattle.pc_join.specs.Sets.{Members, Source, IsUnion, IsBetween, IsWithin, IsVoid, IsSameSet};
 ghost use Rattle.pc_messages.specs.declared.kind.Kind.{Kind};
-ghost use Rattle.pc_thread_view.specs.Told.{Told, IsSound, IsOfThread, RiseAbove, TellsSome, numbers_of, only, tells, told_by_message, told_by_prefix};
+ghost use Rattle.pc_thread_view.specs.Told.{Told, IsSound, IsOfThread, RiseAbove, TellsSome, numbers_of, only, tells};
+ghost use Rattle.pc_thread_view.specs.Told.{told_by_message, told_by_prefix};
 ghost use Rattle.pc_thread_view.specs.Histories.{IsOfHistory, source_of_kinds};
 ghost use Rattle.pc_thread_view.specs.Inner.ToldLaws.{unique_told, stays_told};
 ghost use Rattle.pc_thread_view.specs.Same.{is_same_told};
@@ -85,14 +87,18 @@ impl ThreadView {
         Ok(())
     }
 
-    /// Takes in all messages up to a number, which report this state. Where they are known nothing changes. It takes no memory.
+    /// Takes in all messages up to a number, which report this state. Where they are known nothing changes. It takes
+    /// no memory.
     pub(crate) fn take_prefix(&mut self, upto: u32, reported: Reported)
         requires positive { 1 ≤ upto }
         requires fits { upto ≤ GREATEST_NUMBER }
         requires ran { reported.ran ≤ upto * MOST_TICKS }
-        ensures union { IsUnion (numbers_of self.old) (numbers_of (told_by_prefix upto reported)) (numbers_of self.new) }
-        ensures of_source { (s : Source) → IsOfThread self.old s → IsOfThread (told_by_prefix upto reported) s → IsOfThread self.new s }
-        ensures known { IsWithin (numbers_of (told_by_prefix upto reported)) (numbers_of self.old) → self.new ≡ self.old }
+        ensures union { IsUnion (numbers_of self.old) (numbers_of (told_by_prefix upto reported))
+            (numbers_of self.new) }
+        ensures of_source { (s : Source) → IsOfThread self.old s → IsOfThread (told_by_prefix upto reported) s
+            → IsOfThread self.new s }
+        ensures known { IsWithin (numbers_of (told_by_prefix upto reported)) (numbers_of self.old)
+            → self.new ≡ self.old }
     {
         take_prefix(&mut self.held, upto, reported);
     }
@@ -129,8 +135,8 @@ impl ThreadView {
         has_held(&self.held, number)
     }
 
-    /// Whether the message with this number is known, and where to look for a later one: of several in ascending order each is looked for
-    /// where the last one was, from place 0 on. Any place gives the same answer.
+    /// Whether the message with this number is known, and where to look for a later one: of several in ascending order
+    /// each is looked for where the last one was, from place 0 on. Any place gives the same answer.
     pub fn has_from(&self, number: u32, place: usize) -> (bool, usize)
         ensures { result.0 ≡ tells self.now number }
     {

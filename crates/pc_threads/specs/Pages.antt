@@ -12,6 +12,7 @@ use Rattle.pc_kernel.specs.Reads.{seen, kinds_read}
 use Rattle.pc_kernel.specs.Rows.{KernelRows}
 use Rattle.pc_kernel.specs.Steps.{after, replay, reply}
 
+-- what a book is seen as
 pub record Pages : Type 0 where
   pub kernel : KernelRows
   pub calls : List (Call × Answer)

@@ -7,7 +7,8 @@ use Rattle.pc_threads.specs.Settings.{Settings, messages_in, ran_in}
 use Rattle.pc_threads.specs.Settling.{IsViewOfAll}
 use Rattle.pc_threads.specs.Totals.{committed_by, consumed_by, in_all, limits_on, ran_by, taken_over_by, told_by}
 
--- its numbers are those of its book: the known threads, and what the listed calls come to; its view is that of all messages
+-- its numbers are those of its book: the known threads, and what the listed calls come to; its view is that of
+-- all messages
 pub record TellsItsBook (report : LoadReport) : Type 0 where
   pub threads : report.threads ≡ (seen report.book.kernel).threads
   pub messages : report.messages ≡ in_all told_by report.book.calls

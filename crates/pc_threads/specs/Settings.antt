@@ -1,5 +1,7 @@
 -- What is asked of a run, what is wrong with it, and what it adds up to.
-use Rattle.std.specs.Prelude.{ℕ, ℤ, pos, nat_abs, ◌≡◌, ◌+◌, ◌^◌, ◌==◌, ◌≤◌, ◌<◌, ◌↔◌, Bool, true, false, not, ◌&&◌, nat_le, nat_lt, int_le, int_lt, if◌then◌else◌, List, [], ◌∷◌, ◌++◌, length, map, take, position, All, sum_by, count_by, Option, Some, None, option_map}
+use Rattle.std.specs.Prelude.{ℕ, ℤ, pos, nat_abs, ◌≡◌, ◌+◌, ◌^◌, ◌==◌, ◌≤◌, ◌<◌, ◌↔◌, Bool, true, false, not, ◌&&◌}
+use Rattle.std.specs.Prelude.{nat_le, nat_lt, int_le, int_lt, if◌then◌else◌, List, [], ◌∷◌, ◌++◌, length, map, take}
+use Rattle.std.specs.Prelude.{position, All, sum_by, count_by, Option, Some, None, option_map}
 use Rattle.std.specs.Option.{option_map_or}
 use Rattle.pc_calls.specs.declared.limits.TheConstants.{MOST_CPUS, MOST_THREADS}
 use Rattle.pc_threads.specs.declared.settings.plans.TheConstants.{MOST_STEPS}
@@ -9,7 +11,8 @@ use Rattle.pc_threads.specs.declared.settings.plans.Step.TheVariants.{Yield, Blo
 use Rattle.pc_threads.specs.declared.settings.plans.ThreadPlan.{ThreadPlan}
 use Rattle.pc_threads.specs.declared.settings.restarts.Restart.{Restart}
 use Rattle.pc_threads.specs.declared.settings.faults.ConfigFault.{ConfigFault}
-use Rattle.pc_threads.specs.declared.settings.faults.ConfigFault.TheVariants.{BadCpus, TooManyThreads, BadThread, BadRestart}
+use Rattle.pc_threads.specs.declared.settings.faults.ConfigFault.TheVariants.{BadCpus, TooManyThreads, BadThread}
+use Rattle.pc_threads.specs.declared.settings.faults.ConfigFault.TheVariants.{BadRestart}
 
 -- a thread's first queue, the CPUs that it may run on, and its steps in order
 pub record Plan : Type 0 where
@@ -17,11 +20,13 @@ pub record Plan : Type 0 where
   pub mask : ℤ
   pub steps : List Step
 
+-- how many CPUs, the threads in the order in which they are created, and which agents restart
 pub record Settings : Type 0 where
   pub cpus : ℤ
   pub threads : List Plan
   pub restarts : List Restart
 
+-- a thread's plan as it is asked for
 abbrev pub plan_of : ThreadPlan → Plan
 plan_of plan = record { queue = plan.queue; mask = plan.mask; steps = plan.steps.items }
 
@@ -37,6 +42,7 @@ first_fault [] = None
 first_fault (None ∷ rest) = first_fault rest
 first_fault (Some fault ∷ rest) = Some fault
 
+-- this fault, where the test holds
 abbrev pub fault_if : {F : Type 0} → Bool → F → Option F
 fault_if test fault = if test then Some fault else None
 
@@ -52,6 +58,7 @@ is_cpu cpus z = int_le (pos 0) z && int_lt z (pos cpus)
 abbrev pub is_mask : ℕ → ℤ → Bool
 is_mask cpus z = int_lt (pos 0) z && int_lt z (pos (2 ^ cpus))
 
+-- the thread dies by the step
 abbrev pub is_die : Step → Bool
 is_die (Die ticks) = true
 is_die _ = false
@@ -61,6 +68,7 @@ abbrev pub is_life : List Step → Bool
 is_life steps =
     nat_le (length steps) MOST_STEPS && option_map_or (λ first. first + 1 == length steps) (position is_die steps) false
 
+-- the plan is one for so many CPUs
 abbrev pub is_thread : ℕ → Plan → Bool
 is_thread cpus plan = is_cpu cpus plan.queue && is_mask cpus plan.mask && is_life plan.steps
 
@@ -77,6 +85,7 @@ faults_on cpus threads restarts =
     ∷ fault_if (nat_lt MOST_RESTARTS (length restarts)) (BadRestart MOST_RESTARTS)
     ∷ []
 
+-- all that may be wrong with settings: the CPUs, then the threads and the restarts on them
 abbrev pub faults_of : Settings → List (Option ConfigFault)
 faults_of settings =
     fault_if (not (is_between 1 MOST_CPUS settings.cpus)) BadCpus
@@ -118,6 +127,7 @@ pub record IsReturn (cpus : ℕ) (restart : Restart) : Type 0 where
   pub turn_first : 1 ≤ turn
   pub turn_last : turn ≤ MOST_TURN
 
+-- so many CPUs as there may be, and of threads and restarts no more than there may be, each as it has to be
 pub record IsSound (settings : Settings) : Type 0 where
   pub cpus : ℕ
   pub cpus_is : settings.cpus ≡ pos cpus
@@ -141,6 +151,7 @@ ticks (Block n) = n
 ticks (Preempt n) = n
 ticks (Die n) = n
 
+-- the thread blocks by the step
 abbrev pub is_block : Step → Bool
 is_block (Block n) = true
 is_block _ = false
@@ -153,12 +164,14 @@ messages_of plan = 1 + length plan.steps + count_by is_block plan.steps
 abbrev pub ran_of : Plan → ℕ
 ran_of plan = sum_by ticks plan.steps
 
--- of threads, the messages, the steps and the ticks
+-- the messages of threads, summed
 abbrev pub messages_in : List Plan → ℕ
 messages_in plans = sum_by messages_of plans
 
+-- the steps of threads, counted
 abbrev pub steps_in : List Plan → ℕ
 steps_in plans = sum_by (λ plan. length plan.steps) plans
 
+-- the ticks of threads, summed
 abbrev pub ran_in : List Plan → ℕ
 ran_in plans = sum_by ran_of plans

@@ -6,12 +6,14 @@ use Rattle.pc_join.specs.Sets.{Members, IsSameSet}
 use Rattle.pc_view.specs.declared.view.View.{View}
 use Rattle.pc_view.specs.Views.{IsOfRun, pairs_in, pairs_of}
 use Rattle.pc_threads.specs.declared.book.settling.RunFault.{RunFault}
-use Rattle.pc_threads.specs.declared.book.settling.RunFault.TheVariants.{Audit, Driver, GaveUp, Incomplete, OutOfMemory, StartFailed}
+use Rattle.pc_threads.specs.declared.book.settling.RunFault.TheVariants.{Audit, Driver, GaveUp, Incomplete, OutOfMemory}
+use Rattle.pc_threads.specs.declared.book.settling.RunFault.TheVariants.{StartFailed}
 
 -- the messages that some view knows
 abbrev pub pairs_of_all : List View → Members
 pairs_of_all views m = list_any (λ view. pairs_of view m) views
 
+-- each view is of the run
 abbrev pub AreOfRun : Run → List View → Type 0
 AreOfRun run views = All (IsOfRun run) views
 

@@ -1,6 +1,7 @@
 //! A kernel that is called by many, and the list of what it was called.
 
-ghost use Rattle.std.specs.Prelude.{ℕ, ◌≡◌, ◌<◌, ◌↔◌, ◌⊎◌, ◌∷◌, ◌++◌, [], Some, None, Err, IfOk, IfErr, IfSome, OnOk, OnErr, IsFalse, vec_len, vec_capacity};
+ghost use Rattle.std.specs.Prelude.{ℕ, ◌≡◌, ◌<◌, ◌↔◌, ◌⊎◌, ◌∷◌, ◌++◌, [], Some, None, Err, IfOk, IfErr, IfSome, OnOk};
+ghost use Rattle.std.specs.Prelude.{OnErr, IsFalse, vec_len, vec_capacity};
 ghost use Rattle.pc_calls.specs.Conditions.{refusal_in};
 ghost use Rattle.pc_calls.specs.Limits.{bad_field};
 ghost use Rattle.pc_calls.specs.declared.limits.Profile.TheVariants as profile;
@@ -109,8 +110,10 @@ impl Book {
     pub fn peek(&self, cpu: Cpu) -> Result<(u32, Vec<Item>), CallFault>
         ensures posts { IfOk result (λ read. read.0 ≡ aseq_read (seen self.now.kernel) cpu) }
         ensures queued { IfOk result (λ read. AreQueued self.now.kernel cpu read.1.items) }
-        ensures bad_cpu { (result ≡ Err (CallFault.Refused Refusal.BadCpu)) ↔ IsFalse (is_cpu (seen self.now.kernel) cpu) }
-        ensures memory { IfErr result (λ fault. (fault ≡ CallFault.Refused Refusal.BadCpu) ⊎ (fault ≡ CallFault.OutOfMemory)) }
+        ensures bad_cpu { (result ≡ Err (CallFault.Refused Refusal.BadCpu))
+            ↔ IsFalse (is_cpu (seen self.now.kernel) cpu) }
+        ensures memory { IfErr result
+            (λ fault. (fault ≡ CallFault.Refused Refusal.BadCpu) ⊎ (fault ≡ CallFault.OutOfMemory)) }
     {
         self.kernel.peek(cpu)
     }
@@ -118,7 +121,8 @@ impl Book {
     /// Makes the call of the environment.
     pub fn post(&mut self, call: EnvCall) -> Result<Posted, CallFault>
         ensures listed { IfOk result (λ posted. Lists (Call.Env call) (Answer.Posted posted) self.old self.new) }
-        ensures fault { IfSome (answered result) (λ answer. refusal_in answer ≡ refused (seen self.old.kernel) (Call.Env call)) }
+        ensures fault { IfSome (answered result)
+            (λ answer. refusal_in answer ≡ refused (seen self.old.kernel) (Call.Env call)) }
         ensures extends { IfOk result (λ _. Extends (run_of self.new) (run_of self.old)) }
         ensures limits { self.new.kernel.limits ≡ self.old.kernel.limits }
         ensures err { OnErr result (self.new ≡ self.old) }
@@ -134,7 +138,8 @@ impl Book {
     /// Puts the CPU's agent to sleep, where it has read all posts to its queue.
     pub fn sleep(&mut self, cpu: Cpu, aseq: u32) -> Result<(), CallFault>
         ensures listed { OnOk result (Lists (Call.Sleep cpu aseq) Answer.Done self.old self.new) }
-        ensures fault { IfSome (answered result) (λ answer. refusal_in answer ≡ refused (seen self.old.kernel) (Call.Sleep cpu aseq)) }
+        ensures fault { IfSome (answered result)
+            (λ answer. refusal_in answer ≡ refused (seen self.old.kernel) (Call.Sleep cpu aseq)) }
         ensures extends { OnOk result (Extends (run_of self.new) (run_of self.old)) }
         ensures limits { self.new.kernel.limits ≡ self.old.kernel.limits }
         ensures err { OnErr result (self.new ≡ self.old) }
@@ -150,7 +155,8 @@ impl Book {
     /// Wakes the CPU's agent.
     pub fn rouse(&mut self, cpu: Cpu) -> Result<(), CallFault>
         ensures listed { OnOk result (Lists (Call.Rouse cpu) Answer.Done self.old self.new) }
-        ensures fault { IfSome (answered result) (λ answer. refusal_in answer ≡ refused (seen self.old.kernel) (Call.Rouse cpu)) }
+        ensures fault { IfSome (answered result)
+            (λ answer. refusal_in answer ≡ refused (seen self.old.kernel) (Call.Rouse cpu)) }
         ensures extends { OnOk result (Extends (run_of self.new) (run_of self.old)) }
         ensures limits { self.new.kernel.limits ≡ self.old.kernel.limits }
         ensures err { OnErr result (self.new ≡ self.old) }
@@ -166,7 +172,8 @@ impl Book {
     /// Makes the call, and lists it with its answer.
     fn make(&mut self, call: &Call) -> Result<Answer, CallFault>
         ensures listed { IfOk result (λ answer. Lists call.now answer self.old self.new) }
-        ensures fault { IfSome (answered result) (λ answer. refusal_in answer ≡ refused (seen self.old.kernel) call.now) }
+        ensures fault { IfSome (answered result)
+            (λ answer. refusal_in answer ≡ refused (seen self.old.kernel) call.now) }
         ensures extends { IfOk result (λ _. Extends (run_of self.new) (run_of self.old)) }
         ensures limits { self.new.kernel.limits ≡ self.old.kernel.limits }
         ensures err { OnErr result (self.new ≡ self.old) }

@@ -23,13 +23,15 @@ IsPast kinds told number = (length kinds < told.upto) × (number ≡ length kind
 
 -- the prefix reports another state than so much of the history, and this is its last number
 abbrev pub IsOtherState : List Kind → Told → ℕ → Type 0
-IsOtherState kinds told number = (told.upto ≤ length kinds) × (¬ (told.state ≡ state_of (take told.upto kinds))) × (number ≡ told.upto)
+IsOtherState kinds told number =
+    (told.upto ≤ length kinds) × (¬ (told.state ≡ state_of (take told.upto kinds))) × (number ≡ told.upto)
 
 -- what is told of a thread is not of its history, and this is the number at which it departs from it: the first of
 -- these three that holds. A thread that a kernel does not know has an empty history.
 abbrev pub Departs : List Kind → Told → ℕ → Type 0
 Departs kinds told number =
-    IsPast kinds told number ⊎ (IsOtherState kinds told number ⊎ (IsPrefixOf kinds told × IsFirstOther kinds told.early number))
+    IsPast kinds told number
+    ⊎ (IsOtherState kinds told number ⊎ (IsPrefixOf kinds told × IsFirstOther kinds told.early number))
 
 -- the kernel knows the thread, and the view all its messages so far
 pub record IsComplete (view : View) (reads : Reads) (thread : ℕ) : Type 0 where

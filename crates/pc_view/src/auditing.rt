@@ -1,6 +1,7 @@
 //! Views against a kernel: whether a view is complete for a thread, and whether it is of the kernel's run.
 
-ghost use Rattle.std.specs.Prelude.{ℕ, ◌≡◌, ◌≤◌, ◌<◌, ◌^◌, ◌↔◌, Some, None, IsTrue, IsOk, IfSome, IfErr, All, length, take};
+ghost use Rattle.std.specs.Prelude.{ℕ, ◌≡◌, ◌≤◌, ◌<◌, ◌^◌, ◌↔◌, Some, None, IsTrue, IsOk, IfSome, IfErr, All, length};
+ghost use Rattle.std.specs.Prelude.{take};
 ghost use Rattle.pc_messages.specs.declared.message.TheConstants.{GREATEST_NUMBER};
 ghost use Rattle.pc_messages.specs.Run.{Run, IsBegun, kind_at};
 ghost use Rattle.pc_messages.specs.State.{state_of, ran_of};

@@ -22,24 +22,31 @@ pub fn views_of_the_same_messages_are_equal()
 
 /// A view of a run is a view of each run that goes on from it.
 pub fn views_stay_as_the_run_goes_on()
-    ensures { (longer shorter : Run) (view : View) → Extends longer shorter → IsOfRun shorter view → IsOfRun longer view }
+    ensures { (longer shorter : Run) (view : View) → Extends longer shorter → IsOfRun shorter view
+        → IsOfRun longer view }
 {}
 
 /// What a view of a run tells of a thread: the state of the run's messages up to the number, which it has, and it
 /// has not the next; where that is as far as the run goes, the state that the run gives. Each early message is one of
 /// the run.
 pub fn reads_are_those_of_the_run()
-    ensures reported { (run : Run) (view : View) (thread : ℕ) (told : Told) → IsOfRun run view → thread_of view thread ≡ Some told
+    ensures reported { (run : Run) (view : View) (thread : ℕ) (told : Told) → IsOfRun run view
+        → thread_of view thread ≡ Some told
         → told.state ≡ state_of (take told.upto (run thread)) }
-    ensures within { (run : Run) (view : View) (thread : ℕ) (told : Told) → IsOfRun run view → thread_of view thread ≡ Some told
+    ensures within { (run : Run) (view : View) (thread : ℕ) (told : Told) → IsOfRun run view
+        → thread_of view thread ≡ Some told
         → told.upto ≤ length (run thread) }
-    ensures prefix { (view : View) (thread n : ℕ) (told : Told) → thread_of view thread ≡ Some told → 1 ≤ n → n ≤ told.upto
+    ensures prefix { (view : View) (thread n : ℕ) (told : Told) → thread_of view thread ≡ Some told → 1 ≤ n
+        → n ≤ told.upto
         → pairs_of view (thread ∷ n ∷ []) ≡ true }
-    ensures whole { (run : Run) (view : View) (thread : ℕ) (told : Told) → IsOfRun run view → thread_of view thread ≡ Some told
+    ensures whole { (run : Run) (view : View) (thread : ℕ) (told : Told) → IsOfRun run view
+        → thread_of view thread ≡ Some told
         → length (run thread) ≤ told.upto → told.state ≡ state_of (run thread) }
-    ensures missing { (run : Run) (view : View) (thread : ℕ) (told : Told) → IsOfRun run view → thread_of view thread ≡ Some told
+    ensures missing { (run : Run) (view : View) (thread : ℕ) (told : Told) → IsOfRun run view
+        → thread_of view thread ≡ Some told
         → pairs_of view (thread ∷ (told.upto + 1) ∷ []) ≡ false }
-    ensures early { (run : Run) (view : View) (thread : ℕ) (told : Told) → IsOfRun run view → thread_of view thread ≡ Some told
+    ensures early { (run : Run) (view : View) (thread : ℕ) (told : Told) → IsOfRun run view
+        → thread_of view thread ≡ Some told
         → All (Has (run thread)) told.early }
 {}
 
@@ -60,7 +67,8 @@ pub fn views_tell_what_their_sets_tell()
 pub fn sets_are_those_of_the_run()
     ensures within { (run : Run) (view : View) → IsOfRun run view → IsWithin (pairs_of view) (pairs_in run) }
     ensures prefix { (view : View) (t n : ℕ) → 1 ≤ n → n ≤ upto_of view t → pairs_of view (t ∷ n ∷ []) ≡ true }
-    ensures next { (run : Run) (view : View) (t : ℕ) → IsOfRun run view → pairs_of view (t ∷ (upto_of view t + 1) ∷ []) ≡ false }
+    ensures next { (run : Run) (view : View) (t : ℕ) → IsOfRun run view
+        → pairs_of view (t ∷ (upto_of view t + 1) ∷ []) ≡ false }
 {}
 
 /// A view is of a run exactly where what it tells of each thread is of the thread's history in the run.

@@ -1,6 +1,8 @@
 //! The view of all threads.
 
-ghost use Rattle.std.specs.Prelude.{ℕ, ◌+◌, ◌*◌, ◌≡◌, ◌≤◌, ◌<◌, ◌↔◌, Bool, true, false, List, [], ◌∷◌, ◌++◌, Some, None, IsTrue, IsOk, IsSome, IfSome, IfOk, OnOk, MatchOption, option_copied, take, length, All};
+ghost use Rattle.std.specs.Prelude.{ℕ, ◌+◌, ◌*◌, ◌≡◌, ◌≤◌, ◌<◌, ◌↔◌, Bool, true, false, List, [], ◌∷◌, ◌++◌, Some};
+ghost use Rattle.std.specs.Prelude.{None, IsTrue, IsOk, IsSome, IfSome, IfOk, OnOk, MatchOption, option_copied, take};
+ghost use Rattle.std.specs.Prelude.{length, All};
 ghost use Rattle.pc_messages.specs.declared.message.TheConstants.{GREATEST_NUMBER};
 ghost use Rattle.pc_messages.specs.declared.kind.TheConstants.{MOST_TICKS};
 ghost use Rattle.std.specs.FinMap as map;
@@ -8,7 +10,8 @@ ghost use Rattle.pc_messages.specs.Run.{Run, IsWellFormed, kind_at, Extends};
 ghost use Rattle.pc_join.specs.Sets.{Members, Source, IsUnion, IsBetween, IsWithin, IsVoid, IsSameSet};
 ghost use Rattle.pc_join.specs.ByName.{IsNextName, HasShortNames};
 ghost use Rattle.pc_thread_view.specs.Told.{Told, numbers_of};
-ghost use Rattle.pc_view.specs.Views.{is_same_view, pairs_of, thread_of, pair, prefix_pairs, IsOfRun, IsOfSource, IsPrefixOfRun};
+ghost use Rattle.pc_view.specs.Views.{is_same_view, pairs_of, thread_of, pair, prefix_pairs, IsOfRun, IsOfSource};
+ghost use Rattle.pc_view.specs.Views.{IsPrefixOfRun};
 ghost use Rattle.pc_view.specs.Prefixes.{upto_of, reported_in};
 ghost use Rattle.pc_view.specs.Inner.ViewLaws.{unique_view, stays_view, view_partial, view_equivalence};
 
@@ -46,11 +49,14 @@ impl View {
     /// taken it in.
     pub fn insert(&mut self, message: Message) -> Result<(), OutOfMemory>
         requires { IsWellFormed message.number message.kind }
-        ensures union { OnOk result (IsUnion (pairs_of self.old) (pair message.thread message.number) (pairs_of self.new)) }
+        ensures union { OnOk result
+            (IsUnion (pairs_of self.old) (pair message.thread message.number) (pairs_of self.new)) }
         ensures between { IsBetween (pairs_of self.old) (pair message.thread message.number) (pairs_of self.new) }
-        ensures of_run { (run : Run) → IsOfRun run self.old → kind_at (run message.thread) message.number ≡ Some message.kind
+        ensures of_run { (run : Run) → IsOfRun run self.old
+            → kind_at (run message.thread) message.number ≡ Some message.kind
             → IsOfRun run self.new }
-        ensures others { (other : ℕ) → ¬ (other ≡ message.thread) → thread_of self.new other ≡ thread_of self.old other }
+        ensures others { (other : ℕ) → ¬ (other ≡ message.thread)
+            → thread_of self.new other ≡ thread_of self.old other }
         ensures known { IsTrue (pairs_of self.old (message.thread ∷ message.number ∷ [])) → self.new ≡ self.old }
         ensures known_succeeds { IsTrue (pairs_of self.old (message.thread ∷ message.number ∷ [])) → IsOk result }
     {
@@ -69,7 +75,8 @@ impl View {
         requires ran { reported.ran ≤ upto * MOST_TICKS }
         ensures union { OnOk result (IsUnion (pairs_of self.old) (prefix_pairs thread upto) (pairs_of self.new)) }
         ensures between { IsBetween (pairs_of self.old) (prefix_pairs thread upto) (pairs_of self.new) }
-        ensures of_run { (run : Run) → IsOfRun run self.old → IsPrefixOfRun run thread upto (Some reported) → IsOfRun run self.new }
+        ensures of_run { (run : Run) → IsOfRun run self.old → IsPrefixOfRun run thread upto (Some reported)
+            → IsOfRun run self.new }
         ensures others { (other : ℕ) → ¬ (other ≡ thread) → thread_of self.new other ≡ thread_of self.old other }
     {
         self.threads

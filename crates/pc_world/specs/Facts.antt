@@ -23,21 +23,28 @@ use Rattle.pc_world.specs.Steps.{Step}
 
 -- the kernel is where a list of calls leads to
 abbrev pub KernelsAreReplays : Type 0
-KernelsAreReplays = (limits : Limits) (w : PlainWorld) → Reached limits w → (calls : List Call) × (w.kernel ≡ replay (start limits) calls)
+KernelsAreReplays =
+    (limits : Limits) (w : PlainWorld) → Reached limits w → (calls : List Call)
+    × (w.kernel ≡ replay (start limits) calls)
 
--- what holds of a kernel after every list of calls
+-- what holds of a kernel after every list of calls holds in every reached world, as the next four: waiting messages
+-- stand at home
 abbrev pub MessagesStayHome : Type 0
 MessagesStayHome = (limits : Limits) (w : PlainWorld) (t : ℕ) → Reached limits w → IsAtHome w.kernel t
 
+-- a thread that is on a CPU is placed there
 abbrev pub ThreadsArePlaced : Type 0
 ThreadsArePlaced = (limits : Limits) (w : PlainWorld) (c t : ℕ) → Reached limits w → IsPlaced w.kernel c t
 
+-- a sleeping agent that its own queue wakes had no post since it slept
 abbrev pub SleepersHadNoPost : Type 0
 SleepersHadNoPost = (limits : Limits) (w : PlainWorld) (c : ℕ) → Reached limits w → HadNoPost w.kernel c
 
+-- each thread's kinds begin with their only Created
 abbrev pub RunsAreBegun : Type 0
 RunsAreBegun = (limits : Limits) (w : PlainWorld) (t : ℕ) → Reached limits w → IsBegun (kinds w.kernel t)
 
+-- the known threads are those whose names are below their count
 abbrev pub NamesAreDense : Type 0
 NamesAreDense =
     (limits : Limits) (w : PlainWorld) (t : ℕ) → Reached limits w → is_known w.kernel t ≡ nat_lt t (threads w.kernel)
@@ -50,12 +57,16 @@ IsInRun run t n = (1 ≤ n) × (n ≤ length (run t))
 abbrev pub LiesIn : Run → Set → Type 0
 LiesIn run set = (t n : ℕ) → has set t n ≡ true → IsInRun run t n
 
--- what the agents have taken in, and what was sent, are messages of the kernel's run
+-- what the agents have taken in are messages of the kernel's run
 abbrev pub SeenLiesInTheRun : Type 0
-SeenLiesInTheRun = (limits : Limits) (w : PlainWorld) (c : ℕ) → Reached limits w → LiesIn (kinds w.kernel) (w.agents c).seen
+SeenLiesInTheRun =
+    (limits : Limits) (w : PlainWorld) (c : ℕ) → Reached limits w → LiesIn (kinds w.kernel) (w.agents c).seen
 
+-- what was sent are messages of the kernel's run
 abbrev pub SentLiesInTheRun : Type 0
-SentLiesInTheRun = (limits : Limits) (w : PlainWorld) (set : Set) → Reached limits w → Contains w.sent set → LiesIn (kinds w.kernel) set
+SentLiesInTheRun =
+    (limits : Limits) (w : PlainWorld) (set : Set) → Reached limits w → Contains w.sent set
+    → LiesIn (kinds w.kernel) set
 
 -- the message stands in the queue of some CPU
 abbrev pub Waits : PlainWorld → ℕ → ℕ → Type 0
@@ -68,49 +79,61 @@ WasSent w t n = (set : Set) × Contains w.sent set × (has set t n ≡ true)
 -- the messages of the run are those that stand in queues and those that were sent, and no others
 abbrev pub NothingIsLost : Type 0
 NothingIsLost =
-    (limits : Limits) (w : PlainWorld) (t n : ℕ) → Reached limits w → (Waits w t n ⊎ WasSent w t n) ↔ IsInRun (kinds w.kernel) t n
+    (limits : Limits) (w : PlainWorld) (t n : ℕ) → Reached limits w
+    → (Waits w t n ⊎ WasSent w t n) ↔ IsInRun (kinds w.kernel) t n
 
--- an agent has sent no more items than its queue holds, and the messages of those were sent
+-- the messages of the items that count as sent were sent
 abbrev pub ShownWasSent : Type 0
 ShownWasSent =
     (limits : Limits) (w : PlainWorld) (c t n : ℕ) → Reached limits w →
     has (pairs_in (take (w.agents c).shown (content w.kernel c))) t n ≡ true → WasSent w t n
 
+-- an agent has sent no more items than its queue holds
 abbrev pub ShownIsThere : Type 0
-ShownIsThere = (limits : Limits) (w : PlainWorld) (c : ℕ) → Reached limits w → (w.agents c).shown ≤ length (content w.kernel c)
+ShownIsThere =
+    (limits : Limits) (w : PlainWorld) (c : ℕ) → Reached limits w → (w.agents c).shown ≤ length (content w.kernel c)
 
--- the set has all that stands in queues and all that was sent; it then has all messages of each thread
+-- the set has all that stands in queues and all that was sent
 abbrev pub HasAll : PlainWorld → Set → Type 0
 HasAll w set = (t n : ℕ) → Waits w t n ⊎ WasSent w t n → has set t n ≡ true
 
+-- who has all that stands in queues and all that was sent has all messages of each thread
 abbrev pub AllIsComplete : Type 0
 AllIsComplete =
-    (limits : Limits) (w : PlainWorld) (set : Set) (t : ℕ) → Reached limits w → HasAll w set → number w.kernel t ≤ upto set t
+    (limits : Limits) (w : PlainWorld) (set : Set) (t : ℕ) → Reached limits w → HasAll w set
+    → number w.kernel t ≤ upto set t
 
 -- an agent on a CPU that is there consumes what it has sent
 abbrev pub ConsumesTakeWhatWasSent : Type 0
 ConsumesTakeWhatWasSent =
-    (limits : Limits) (w new : PlainWorld) (c : ℕ) (told : Reply) → Reached limits w → is_cpu (shown w.kernel) c ≡ true →
+    (limits : Limits) (w new : PlainWorld) (c : ℕ) (told : Reply) → Reached limits w → is_cpu (shown w.kernel) c ≡ true
+    →
     Step w (Consume c) told new → told ≡ Consumed (w.agents c).shown
 
--- the agent knows all messages of the thread and reports the state that they report, and none of them stands in any queue
+-- the agent knows all messages of the thread and reports the state that they report, and none of them stands in
+-- any queue
 pub record IsExactSteal (w : PlainWorld) (c t : ℕ) : Type 0 where
   pub whole : upto (w.agents c).seen t ≡ number w.kernel t
   pub state : reports (kinds w.kernel) (w.agents c).seen t ≡ state_of (kinds w.kernel t)
   pub nothing_waits : (q : ℕ) → waiting w.kernel t q ≡ []
 
+-- a steal that succeeds is exact
 abbrev pub StealsAreExact : Type 0
 StealsAreExact =
-    (limits : Limits) (w new : PlainWorld) (c t : ℕ) → Reached limits w → Step w (Steal c) (Associated c t) new → IsExactSteal w c t
+    (limits : Limits) (w new : PlainWorld) (c t : ℕ) → Reached limits w → Step w (Steal c) (Associated c t) new
+    → IsExactSteal w c t
 
--- whatever world it is done in
+-- a commit that succeeds is exact, whatever world it is done in
 abbrev pub CommitsAreExact : Type 0
-CommitsAreExact = (w new : PlainWorld) (c t n : ℕ) → Step w (Commit c t n) (Committed c t) new → IsExactCommit w.kernel c t n
+CommitsAreExact =
+    (w new : PlainWorld) (c t n : ℕ) → Step w (Commit c t n) (Committed c t) new → IsExactCommit w.kernel c t n
 
+-- a pick that succeeds is an exact commit
 abbrev pub PicksAreExact : Type 0
 PicksAreExact = (w new : PlainWorld) (c t n : ℕ) → Step w (Pick c n) (Committed c t) new → IsExactCommit w.kernel c t n
 
 -- every event can be done
 abbrev pub EveryEventHasAStep : Type 0
 EveryEventHasAStep =
-    (limits : Limits) (w : PlainWorld) (event : Event) → Reached limits w → (told : Reply) × (new : PlainWorld) × Step w event told new
+    (limits : Limits) (w : PlainWorld) (event : Event) → Reached limits w → (told : Reply) × (new : PlainWorld)
+    × Step w event told new

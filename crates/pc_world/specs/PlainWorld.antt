@@ -7,6 +7,7 @@ use Rattle.pc_kernel.specs.Steps.{at}
 use Rattle.pc_agent.specs.PlainAgent.{PlainAgent, Set, copied, fresh}
 use Rattle.pc_agent.specs.Publishing.{sent_after}
 
+-- a kernel, its agents, and what was sent
 pub record PlainWorld : Type 0 where
   pub kernel : PlainKernel
   pub agents : ℕ → PlainAgent  -- of each CPU

@@ -1,5 +1,6 @@
 -- What is left of an event that finds no memory.
-use Rattle.std.specs.Prelude.{ℕ, ◌≡◌, ◌⊎◌, List, [], ◌∷◌, ◌++◌, true, false, Some, None, Bool, MatchOption, slice_get, is_some}
+use Rattle.std.specs.Prelude.{ℕ, ◌≡◌, ◌⊎◌, List, [], ◌∷◌, ◌++◌, true, false, Some, None, Bool, MatchOption, slice_get}
+use Rattle.std.specs.Prelude.{is_some}
 use Rattle.pc_messages.specs.Items.{pairs_in}
 use Rattle.pc_calls.specs.declared.call.Call.{Call}
 use Rattle.pc_calls.specs.declared.call.Call.TheVariants as call
@@ -27,8 +28,8 @@ abbrev pub RanOutInCall : PlainWorld → Call → Type 0
 RanOutInCall w (call.Env c) = kernel.refused (shown w.kernel) (call.Env c) ≡ None
 RanOutInCall w c = ⊥
 
--- a publish: the agent has taken in a part of what its queue holds, or all of it, where its send found no memory; a send that
--- its wire refuses asks for none
+-- a publish: the agent has taken in a part of what its queue holds, or all of it, where its send found no memory; a
+-- send that its wire refuses asks for none
 abbrev pub RanOutInPublish : PlainWorld → ℕ → Bool → PlainWorld → Type 0
 RanOutInPublish w c false new = IsWidened w c (pairs_in (content w.kernel c)) new ⊎ (new ≡ copied_all w c)
 RanOutInPublish w c true new = IsWidened w c (pairs_in (content w.kernel c)) new
@@ -44,8 +45,8 @@ RanOutInOwn w (Steal cpu) new =
     × (t : ℕ) × Finds (stealable w cpu) (Some t) × (new ≡ w)
 RanOutInOwn w event new = ⊥
 
--- an event that takes memory and finds none: none of the refusals that come before want of memory holds (a refused send, and what
--- the kernel refuses of a steal, come after it); a call leaves all as it was
+-- an event that takes memory and finds none: none of the refusals that come before want of memory holds (a refused
+-- send, and what the kernel refuses of a steal, come after it); a call leaves all as it was
 abbrev pub RanOut : PlainWorld → Event → PlainWorld → Type 0
 RanOut w event new = MatchOption (call_of event) (RanOutInOwn w event new) (λ c. RanOutInCall w c × (new ≡ w))
 

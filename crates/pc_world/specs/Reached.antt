@@ -1,4 +1,5 @@
--- Worlds that events lead to: whichever answers the agents choose, also to digests of long ago, and wherever memory runs out.
+-- Worlds that events lead to: whichever answers the agents choose, also to digests of long ago, and wherever memory
+-- runs out.
 use Rattle.std.specs.Prelude.{ℕ, ◌≡◌, ◌⊎◌, true, List, [], ◌∷◌}
 use Rattle.pc_calls.specs.declared.event.Event.{Event}
 use Rattle.pc_calls.specs.declared.event.Event.TheVariants.{Answer}

@@ -33,9 +33,11 @@ AreSent run (set ∷ sets) [] = ⊥
 abbrev pub deltas_of : World → List (List Part)
 deltas_of world = sent_by world.wire
 
+-- the world shows this plain world
 pub record ShowsWorld (world : World) (w : PlainWorld) : Type 0 where
   pub kernel : Shows world.kernel w.kernel
-  pub agents : (c : ℕ) (agent : Agent) → slice_get world.agents.items c ≡ Some agent → ShowsAgent (kinds w.kernel) (w.agents c) agent
+  pub agents : (c : ℕ) (agent : Agent) → slice_get world.agents.items c ≡ Some agent
+      → ShowsAgent (kinds w.kernel) (w.agents c) agent
   pub sent : AreSent (kinds w.kernel) w.sent (deltas_of world)
 
 -- a plain world that events lead to from the start of the kernel's limits, and that is shown
@@ -55,7 +57,8 @@ Does step old new told = (w : PlainWorld) → ShowsWorld old w → (w' : PlainWo
 
 -- for every plain world that is shown before, what the event leaves without memory is shown after
 abbrev pub LeavesWhenRanOut : Event → World → World → Type 0
-LeavesWhenRanOut event old new = (w : PlainWorld) → ShowsWorld old w → (w' : PlainWorld) × RanOut w event w' × ShowsWorld new w'
+LeavesWhenRanOut event old new =
+    (w : PlainWorld) → ShowsWorld old w → (w' : PlainWorld) × RanOut w event w' × ShowsWorld new w'
 
 -- what was sent stays sent, and more may follow
 abbrev pub KeepsSent : World → World → Type 0
@@ -63,8 +66,11 @@ KeepsSent old new = (more : List (List Part)) × (deltas_of new ≡ deltas_of ol
 
 -- for every plain world that is shown before, the events were done, one after another, with these replies
 abbrev pub RunsThrough : List Event → List Reply → World → World → Type 0
-RunsThrough events replies old new = (w : PlainWorld) → ShowsWorld old w → (w' : PlainWorld) × Runs w events replies w' × ShowsWorld new w'
+RunsThrough events replies old new =
+    (w : PlainWorld) → ShowsWorld old w → (w' : PlainWorld) × Runs w events replies w' × ShowsWorld new w'
 
--- for every plain world that is shown before, some first events were done, and the next one as far as it goes without memory
+-- for every plain world that is shown before, some first events were done, and the next one as far as it goes
+-- without memory
 abbrev pub RunsInPart : List Event → World → World → Type 0
-RunsInPart events old new = (w : PlainWorld) → ShowsWorld old w → (w' : PlainWorld) × IsCutShort w events w' × ShowsWorld new w'
+RunsInPart events old new =
+    (w : PlainWorld) → ShowsWorld old w → (w' : PlainWorld) × IsCutShort w events w' × ShowsWorld new w'

@@ -1,11 +1,13 @@
 -- What each event does to the plain world, and what it is replied.
-use Rattle.std.specs.Prelude.{ℕ, ◌≡◌, ◌&&◌, Bool, true, false, List, [], ◌∷◌, ◌++◌, length, Option, Some, None, Result, Ok, Err, All, MatchBool, MatchOption, slice_get, is_some}
+use Rattle.std.specs.Prelude.{ℕ, ◌≡◌, ◌&&◌, Bool, true, false, List, [], ◌∷◌, ◌++◌, length, Option, Some, None, Result}
+use Rattle.std.specs.Prelude.{Ok, Err, All, MatchBool, MatchOption, slice_get, is_some}
 use Rattle.pc_messages.specs.Run.{Run}
 use Rattle.pc_calls.specs.declared.call.Answer.{Answer}
 use Rattle.pc_calls.specs.declared.call.Call.{Call}
 use Rattle.pc_calls.specs.declared.call.Call.TheVariants as call
 use Rattle.pc_calls.specs.declared.event.Event.{Event}
-use Rattle.pc_calls.specs.declared.event.Event.TheVariants.{Publish, Consume, Deliver, Answer as AnswerDigest, Pick, Steal, Crash}
+use Rattle.pc_calls.specs.declared.event.Event.TheVariants.{Publish, Consume, Deliver, Answer as AnswerDigest, Pick}
+use Rattle.pc_calls.specs.declared.event.Event.TheVariants.{Steal, Crash}
 use Rattle.pc_calls.specs.declared.event.Reply.{Reply}
 use Rattle.pc_calls.specs.declared.event.Reply.TheVariants as reply
 use Rattle.pc_calls.specs.declared.refusal.Refusal.{Refusal}
@@ -44,17 +46,22 @@ abbrev pub IsConsumed : PlainWorld → ℕ → Result Answer Refusal → Reply �
 IsConsumed w c (Ok answer) told new =
     let p = w.agents c in
     (told ≡ reply.Consumed p.shown)
-    × (new ≡ record (with_agent w c (record p { shown = 0 })) { kernel = kernel.after w.kernel (call.Consume c p.shown) })
+    × (new ≡ record (with_agent w c (record p { shown = 0 }))
+    { kernel = kernel.after w.kernel (call.Consume c p.shown) })
 IsConsumed w c (Err r) told new = IsRefused w r told new
 
+-- a consume: of a CPU that is there, as many items as its agent has sent
 abbrev pub IsConsuming : ℕ → PlainWorld → Reply → PlainWorld → Type 0
-IsConsuming c w told new = OnCpu w c told new (IsConsumed w c (kernel.reply w.kernel (call.Consume c (w.agents c).shown)) told new)
+IsConsuming c w told new =
+    OnCpu w c told new (IsConsumed w c (kernel.reply w.kernel (call.Consume c (w.agents c).shown)) told new)
 
 -- the agent sends what its queue holds; where the send is refused, it has copied it all the same
 abbrev pub IsPublished : PlainWorld → ℕ → Bool → Reply → PlainWorld → Type 0
-IsPublished w c false told new = (told ≡ reply.Published (length w.sent) (length (content w.kernel c))) × (new ≡ published w c)
+IsPublished w c false told new =
+    (told ≡ reply.Published (length w.sent) (length (content w.kernel c))) × (new ≡ published w c)
 IsPublished w c true told new = (told ≡ reply.Refused refusal.WireFault) × (new ≡ copied_all w c)
 
+-- a publish: the agent copies what its queue holds, and sends it unless the send is refused
 abbrev pub IsPublishing : ℕ → Bool → PlainWorld → Reply → PlainWorld → Type 0
 IsPublishing c fails w told new = OnCpu w c told new (IsPublished w c fails told new)
 
@@ -63,6 +70,7 @@ abbrev pub IsDelivered : PlainWorld → ℕ → Option Set → Reply → PlainWo
 IsDelivered w c None told new = IsRefused w refusal.NoDelta told new
 IsDelivered w c (Some set) told new = (told ≡ reply.Done) × (new ≡ with_agent w c (taking_in set (w.agents c)))
 
+-- a delivery: the agent's set gains what the delta tells, where one of this index was sent
 abbrev pub IsDelivering : ℕ → ℕ → PlainWorld → Reply → PlainWorld → Type 0
 IsDelivering c k w told new = OnCpu w c told new (IsDelivered w c (slice_get w.sent k) told new)
 
@@ -70,9 +78,9 @@ IsDelivering c k w told new = OnCpu w c told new (IsDelivered w c (slice_get w.s
 abbrev pub IsNewTo : Set → Part → Type 0
 IsNewTo set part = (t : ℕ) × (n : ℕ) × (has (pairs_of_part part) t n ≡ true) × (has set t n ≡ false)
 
--- a delta of the run with these pairs answers the digest of one set from the view of another: it tells all that the view
--- has and the digest has not, nothing that the view has not, and each of its parts tells something that the digest has not
--- (over lists of pairs, what the exchange of deltas says of views and digests)
+-- a delta of the run with these pairs answers the digest of one set from the view of another: it tells all that the
+-- view has and the digest has not, nothing that the view has not, and each of its parts tells something that the digest
+-- has not (over lists of pairs, what the exchange of deltas says of views and digests)
 pub record IsAnswerSet (run : Run) (view digest set : Set) : Type 0 where
   pub parts : List Part
   pub of_run : AreOfRun run parts
@@ -88,9 +96,11 @@ pub record IsAnswered (w : PlainWorld) (c asker : ℕ) (told : Reply) (new : Pla
   pub tells : told ≡ reply.Answered (length w.sent)
   pub after : new ≡ sending w set
 
+-- both CPUs are there
 abbrev pub are_cpus : PlainWorld → ℕ → ℕ → Bool
 are_cpus w c other = is_cpu (shown w.kernel) c && is_cpu (shown w.kernel) other
 
+-- an answer: a delta is sent that tells what the agent knows and the asker does not
 abbrev pub IsAnswering : ℕ → ℕ → PlainWorld → Reply → PlainWorld → Type 0
 IsAnswering c asker w told new = MatchBool (are_cpus w c asker) (IsAnswered w c asker told new) (IsBadCpu w told new)
 
@@ -99,7 +109,8 @@ abbrev pub IsCommitted : PlainWorld → ℕ → ℕ → List ℕ → Reply → P
 IsCommitted w c n [] told new = ⊥
 IsCommitted w c n (t ∷ rest) told new =
     (told ≡ reply.Committed c t)
-    × (new ≡ record (with_agent w c (record (w.agents c) { list = rest })) { kernel = kernel.after w.kernel (call.Commit c t n) })
+    × (new ≡ record (with_agent w c (record (w.agents c) { list = rest }))
+    { kernel = kernel.after w.kernel (call.Commit c t n) })
 
 -- a pick, refused or not; where no name could be committed, the run list is empty
 abbrev pub IsPicked : PlainWorld → ℕ → ℕ → Option Refusal → Reply → PlainWorld → Type 0
@@ -107,21 +118,25 @@ IsPicked w c n None told new = IsCommitted w c n (ready_list (shown w.kernel) c 
 IsPicked w c n (Some r) told new =
     (told ≡ reply.Refused r) × (new ≡ with_agent w c (record (w.agents c) { list = left_by r (w.agents c).list }))
 
+-- a pick: the first name of the run list that the kernel would commit is committed
 abbrev pub IsPicking : ℕ → ℕ → PlainWorld → Reply → PlainWorld → Type 0
-IsPicking c n w told new = OnCpu w c told new (IsPicked w c n (pick_refused (shown w.kernel) c n (w.agents c).list) told new)
+IsPicking c n w told new =
+    OnCpu w c told new (IsPicked w c n (pick_refused (shown w.kernel) c n (w.agents c).list) told new)
 
 -- the agent takes a thread over, which goes to the end of its run list, unless the kernel refuses
 abbrev pub IsTakenOver : PlainWorld → ℕ → ℕ → Option Refusal → Reply → PlainWorld → Type 0
 IsTakenOver w c t None told new =
     let p = w.agents c in
     (told ≡ reply.Associated c t)
-    × (new ≡ record (with_agent w c (record p { list = p.list ++ t ∷ [] })) { kernel = kernel.after w.kernel (takes_over c p t) })
+    × (new ≡ record (with_agent w c (record p { list = p.list ++ t ∷ [] }))
+    { kernel = kernel.after w.kernel (takes_over c p t) })
 IsTakenOver w c t (Some r) told new = IsRefused w r told new
 
 -- what is done with the least thread that may be stolen
 abbrev pub IsTried : PlainWorld → ℕ → Option ℕ → Reply → PlainWorld → Type 0
 IsTried w c None told new = IsRefused w refusal.NothingToSteal told new
-IsTried w c (Some t) told new = IsTakenOver w c t (kernel.refused (shown w.kernel) (takes_over c (w.agents c) t)) told new
+IsTried w c (Some t) told new =
+    IsTakenOver w c t (kernel.refused (shown w.kernel) (takes_over c (w.agents c) t)) told new
 
 -- the threads that an agent may steal
 abbrev pub stealable : PlainWorld → ℕ → ℕ → Bool
@@ -132,13 +147,15 @@ abbrev pub IsStolen : PlainWorld → ℕ → Bool → Reply → PlainWorld → T
 IsStolen w c true told new = IsRefused w refusal.Busy told new
 IsStolen w c false told new = (least : Option ℕ) × Finds (stealable w c) least × IsTried w c least told new
 
+-- a steal: the least thread that may be stolen is taken over
 abbrev pub IsStealing : ℕ → PlainWorld → Reply → PlainWorld → Type 0
 IsStealing c w told new = OnCpu w c told new (IsStolen w c (is_some (on (shown w.kernel) c)) told new)
 
 -- the agent starts again with nothing, and is awake
 abbrev pub IsCrashing : ℕ → PlainWorld → Reply → PlainWorld → Type 0
 IsCrashing c w told new =
-    OnCpu w c told new ((told ≡ reply.Done) × (new ≡ record (with_agent w c fresh) { kernel = kernel.after w.kernel (call.Rouse c) }))
+    OnCpu w c told new
+    ((told ≡ reply.Done) × (new ≡ record (with_agent w c fresh) { kernel = kernel.after w.kernel (call.Rouse c) }))
 
 -- an event that is no call of the kernel
 abbrev pub IsOwnStep : PlainWorld → Event → Reply → PlainWorld → Type 0
@@ -158,6 +175,7 @@ Step w event told new = MatchOption (call_of event) (IsOwnStep w event told new)
 -- a list of events, one after another
 abbrev pub Runs : PlainWorld → List Event → List Reply → PlainWorld → Type 0
 Runs w [] [] new = new ≡ w
-Runs w (event ∷ events) (told ∷ replies) new = (next : PlainWorld) × Step w event told next × Runs next events replies new
+Runs w (event ∷ events) (told ∷ replies) new =
+    (next : PlainWorld) × Step w event told next × Runs next events replies new
 Runs w [] (told ∷ replies) new = ⊥
 Runs w (event ∷ events) [] new = ⊥

@@ -1,7 +1,10 @@
-//! What holds after every list of events, whatever they are: with crashes anywhere, deltas that are lost, late or repeated,
-//! answers to digests of long ago, and want of memory at any event.
+//! What holds after every list of events, whatever they are: with crashes anywhere, deltas that are lost, late or
+//! repeated, answers to digests of long ago, and want of memory at any event.
 
-ghost use Rattle.pc_world.specs.Facts.{AllIsComplete, CommitsAreExact, ConsumesTakeWhatWasSent, EveryEventHasAStep, KernelsAreReplays, MessagesStayHome, NamesAreDense, NothingIsLost, PicksAreExact, RunsAreBegun, SeenLiesInTheRun, SentLiesInTheRun, ShownIsThere, ShownWasSent, SleepersHadNoPost, StealsAreExact, ThreadsArePlaced};
+ghost use Rattle.pc_world.specs.Facts.{AllIsComplete, CommitsAreExact, ConsumesTakeWhatWasSent, EveryEventHasAStep};
+ghost use Rattle.pc_world.specs.Facts.{KernelsAreReplays, MessagesStayHome, NamesAreDense, NothingIsLost};
+ghost use Rattle.pc_world.specs.Facts.{PicksAreExact, RunsAreBegun, SeenLiesInTheRun, SentLiesInTheRun, ShownIsThere};
+ghost use Rattle.pc_world.specs.Facts.{ShownWasSent, SleepersHadNoPost, StealsAreExact, ThreadsArePlaced};
 ghost use Rattle.pc_world.specs.Inner.Laws.{KernelLaws};
 
 use pc_kernel::laws::{
@@ -37,8 +40,9 @@ pub fn kernels_are_replays()
     kernel_laws();
 }
 
-/// The facts of every kernel hold in every world that events lead to: messages that were not consumed stay home, threads
-/// are placed, sleepers that their own queue wakes had no post since they slept, runs are begun, and names are dense.
+/// The facts of every kernel hold in every world that events lead to: messages that were not consumed stay home,
+/// threads are placed, sleepers that their own queue wakes had no post since they slept, runs are begun, and names
+/// are dense.
 pub fn kernel_facts_hold()
     ensures home { MessagesStayHome }
     ensures placed { ThreadsArePlaced }
@@ -58,8 +62,8 @@ pub fn views_are_of_the_run()
 }
 
 /// The messages in queues together with those that were sent are all messages of the run, and no others. What an agent
-/// counts as sent stands at the front of its queue, and was sent. So whoever takes in all that waits and all that was sent
-/// knows every thread to its last message.
+/// counts as sent stands at the front of its queue, and was sent. So whoever takes in all that waits and all that was
+/// sent knows every thread to its last message.
 pub fn nothing_is_lost()
     ensures all { NothingIsLost }
     ensures shown { ShownWasSent }
@@ -77,16 +81,16 @@ pub fn consumes_remove_what_was_sent()
     kernel_laws();
 }
 
-/// Where a steal succeeds, the thief had seen all messages of the thread and reported the state that the kernel reports,
-/// and no queue held a message of it.
+/// Where a steal succeeds, the thief had seen all messages of the thread and reported the state that the kernel
+/// reports, and no queue held a message of it.
 pub fn steals_are_exact()
     ensures { StealsAreExact }
 {
     kernel_laws();
 }
 
-/// Where a commit or a pick succeeds, the count that was handed in was that of all posts to the CPU's queue, the CPU was
-/// idle, and the thread was ready, allowed, at home there and on no CPU.
+/// Where a commit or a pick succeeds, the count that was handed in was that of all posts to the CPU's queue, the CPU
+/// was idle, and the thread was ready, allowed, at home there and on no CPU.
 pub fn commits_are_exact()
     ensures commits { CommitsAreExact }
     ensures picks { PicksAreExact }

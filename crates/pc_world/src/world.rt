@@ -53,14 +53,16 @@ fn add<T: Drop>(items: &mut Vec<T>, item: T) -> Result<(), OutOfMemory>
 }
 
 impl World {
-    ghost use Rattle.pc_world.specs.Shows.{AreSent, Does, IsReached, IsViewAt, KeepsSent, RunsInPart, RunsThrough, ShowsWorld, LeavesWhenRanOut, deltas_of};
+    ghost use Rattle.pc_world.specs.Shows.{AreSent, Does, IsReached, IsViewAt, KeepsSent, RunsInPart, RunsThrough};
+    ghost use Rattle.pc_world.specs.Shows.{ShowsWorld, LeavesWhenRanOut, deltas_of};
     ghost use Rattle.pc_world.specs.Inner.Handling.{StepsInPart, StepsInto};
 
     /// The world at the start, with limits of profile One.
     pub fn new(alloc: Global, limits: Limits) -> Result<World, LimitsFault>
         ensures ok { IfOk result (λ world. ShowsWorld world (opened limits)) }
         ensures within { IfOk result (λ _. bad_field Profile.One limits ≡ None) }
-        ensures refused { (field : LimitField) → result ≡ Err (LimitsFault.BadLimits field) → bad_field Profile.One limits ≡ Some field }
+        ensures refused { (field : LimitField) → result ≡ Err (LimitsFault.BadLimits field)
+            → bad_field Profile.One limits ≡ Some field }
         ensures memory_last { result ≡ Err LimitsFault.OutOfMemory → bad_field Profile.One limits ≡ None }
     {
         Self::new_in(alloc, Profile::One, limits)
@@ -70,7 +72,8 @@ impl World {
     pub fn new_in(alloc: Global, profile: Profile, limits: Limits) -> Result<World, LimitsFault>
         ensures ok { IfOk result (λ world. ShowsWorld world (opened limits)) }
         ensures within { IfOk result (λ _. bad_field profile limits ≡ None) }
-        ensures refused { (field : LimitField) → result ≡ Err (LimitsFault.BadLimits field) → bad_field profile limits ≡ Some field }
+        ensures refused { (field : LimitField) → result ≡ Err (LimitsFault.BadLimits field)
+            → bad_field profile limits ≡ Some field }
         ensures memory_last { result ≡ Err LimitsFault.OutOfMemory → bad_field profile limits ≡ None }
     {
         match Kernel::new_in(alloc, profile, limits) {
@@ -121,9 +124,9 @@ impl World {
         self.parts.wire.sent()
     }
 
-    /// Takes an event. Want of memory comes only where no refusal before it holds: a refused send, and what the kernel refuses
-    /// of a steal, come after it. Nothing changed then, but that the agent of a publish or a deliver may have taken in a
-    /// part, and that of a publish whose send found no memory all, with its run list refreshed.
+    /// Takes an event. Want of memory comes only where no refusal before it holds: a refused send, and what the kernel
+    /// refuses of a steal, come after it. Nothing changed then, but that the agent of a publish or a deliver may have
+    /// taken in a part, and that of a publish whose send found no memory all, with its run list refreshed.
     pub fn step(&mut self, event: Event) -> Result<Reply, OutOfMemory>
         ensures step { IfOk result (Does (λ w. Step w event) self.old self.new) }
         ensures no_memory { OnErr result (LeavesWhenRanOut event self.old self.new) }
@@ -133,8 +136,8 @@ impl World {
         self.parts.handle(event)
     }
 
-    /// Takes events, one after another, and gives the reply of each. Where memory runs out, some first events were done, in
-    /// their order, and the next one as far as [`World::step`] says.
+    /// Takes events, one after another, and gives the reply of each. Where memory runs out, some first events were
+    /// done, in their order, and the next one as far as [`World::step`] says.
     pub fn run(&mut self, events: &[Event]) -> Result<Vec<Reply>, OutOfMemory>
         ensures run { IfOk result (λ replies. RunsThrough events.now replies.items self.old self.new) }
         ensures no_memory { OnErr result (RunsInPart events.now self.old self.new) }

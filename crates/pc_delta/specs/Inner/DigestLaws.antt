@@ -13,10 +13,12 @@ use Rattle.pc_delta.specs.Digests.{RangesByName, set_of_digest, IsOfAnySource, i
 pub unique_digest : (s : Source) (a b : RangesByName) → IsOfAnySource a s → IsOfAnySource b s
     → IsSameSet (set_of_digest a) (set_of_digest b) → a ≡ b
 unique_digest s a b of_a of_b same =
-    unique_by_name numbers_in (λ ranges t. AreApart 0 ranges) (λ s' xs ys apart others. unique_ranges xs ys apart others)
+    unique_by_name numbers_in (λ ranges t. AreApart 0 ranges)
+    (λ s' xs ys apart others. unique_ranges xs ys apart others)
     s a b of_a of_b same
 
-pub stays_digest : (s t : Source) (a : RangesByName) → AgreesOn (set_of_digest a) s t → IsOfAnySource a s → IsOfAnySource a t
+pub stays_digest : (s t : Source) (a : RangesByName) → AgreesOn (set_of_digest a) s t → IsOfAnySource a s
+    → IsOfAnySource a t
 stays_digest s t a agrees of_s =
     stays_by_name numbers_in (λ ranges u. AreApart 0 ranges) (λ s' t' xs agrees' apart. apart) s t a agrees of_s
 

@@ -14,7 +14,8 @@ abbrev pub place_cmp : Place → Place → Ordering
 place_cmp x y = ordering_then (ordering_then (nat_cmp x.0 y.0) (nat_cmp x.1 y.1)) (bool_cmp x.2 y.2)
 
 -- what stands at the place is the first value there: this one, where none stood there
-pub record IsFirstSeen {X : Type 0} (old : Place → Option X) (here : Place) (value first : X) (new : Place → Option X) : Type 0 where
+pub record IsFirstSeen {X : Type 0} (old : Place → Option X) (here : Place) (value first : X)
+    (new : Place → Option X) : Type 0 where
   pub there : new here ≡ Some first
   pub elsewhere : (q : Place) → ¬ (q ≡ here) → new q ≡ old q
   pub before : (old here ≡ Some first) ⊎ ((old here ≡ None) × (first ≡ value))
@@ -31,4 +32,5 @@ IsNotAfter one other = (one.0 < other.0) ⊎ ((one.0 ≡ other.0) × (one.1 ≤ 
 abbrev pub IsLesserOf : Option (ℕ × ℕ) → ℕ → ℕ → ℕ × ℕ → Type 0
 IsLesserOf None thread number lesser = lesser ≡ (thread, number)
 IsLesserOf (Some least) thread number lesser =
-    ((lesser ≡ least) × IsNotAfter least (thread, number)) ⊎ ((lesser ≡ (thread, number)) × IsNotAfter (thread, number) least)
+    ((lesser ≡ least) × IsNotAfter least (thread, number))
+    ⊎ ((lesser ≡ (thread, number)) × IsNotAfter (thread, number) least)

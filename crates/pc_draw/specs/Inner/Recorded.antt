@@ -24,7 +24,8 @@ end_by (answered response ∷ notices) outcome = end_by notices outcome
 end_by (faulted number ∷ notices) outcome = end_by notices (FaultLine number)
 
 -- So many commands were kept, so many of them refused, and this end; with these notices it is so many, and that end
-pub record Records (notices : List Notice) (kept refused : ℕ) (outcome : Outcome) (kept_now refused_now : ℕ) (outcome_now : Outcome)
+pub record Records (notices : List Notice) (kept refused : ℕ) (outcome : Outcome) (kept_now refused_now : ℕ)
+    (outcome_now : Outcome)
     : Type 0 where
   pub kept_is : kept_now ≡ kept + count_by is_answer notices
   pub refused_is : refused_now ≡ refused + count_by is_refusal notices

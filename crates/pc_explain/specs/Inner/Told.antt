@@ -20,15 +20,19 @@ IsAnnotated-append {others} {more} (comment {plain} {written} line none rest) af
 pub Annotates-nothing : (known : Option (List ℕ)) → Annotates [] known known
 Annotates-nothing known = ([], at_end, Appends-nil known)
 
-pub Annotates-trans : {one other : List ℕ} (before now after : Option (List ℕ)) → Annotates one before now → Annotates other now after
+pub Annotates-trans : {one other : List ℕ} (before now after : Option (List ℕ)) → Annotates one before now
+    → Annotates other now after
     → Annotates (one ++ other) before after
-Annotates-trans before now after h k = (h.0 ++ k.0, IsAnnotated-append h.1 k.1, Appends-trans before now after h.0 k.0 h.2 k.2)
+Annotates-trans before now after h k =
+    (h.0 ++ k.0, IsAnnotated-append h.1 k.1, Appends-trans before now after h.0 k.0 h.2 k.2)
 
 -- of notices
 pub told_nothing : (known : Option (List ℕ)) → Annotates (notices_text []) known known
 told_nothing known = Annotates-nothing known
 
 pub told_more : (before now after : Option (List ℕ)) (notices further : List Notice)
-    → Annotates (notices_text notices) before now → Annotates (notices_text further) now after → Annotates (notices_text (notices ++ further)) before after
+    → Annotates (notices_text notices) before now → Annotates (notices_text further) now after
+    → Annotates (notices_text (notices ++ further)) before after
 told_more before now after notices further h k =
-    subst (λ text. Annotates text before after) (sym (flat_map-append notice_text notices further)) (Annotates-trans before now after h k)
+    subst (λ text. Annotates text before after) (sym (flat_map-append notice_text notices further))
+    (Annotates-trans before now after h k)

@@ -1,5 +1,6 @@
 -- Words and blocks of names, and the bits of one.
-use Rattle.std.specs.Prelude.{ℕ, ◌*◌, ◌/◌, ◌%◌, ◌<◌, ◌≤◌, ◌^◌, ◌≡◌, ◌==◌, ◌&&◌, not, Bool, true, false, List, Option, Some, None, IsSome, length, slice_index}
+use Rattle.std.specs.Prelude.{ℕ, ◌*◌, ◌/◌, ◌%◌, ◌<◌, ◌≤◌, ◌^◌, ◌≡◌, ◌==◌, ◌&&◌, not, Bool, true, false, List, Option}
+use Rattle.std.specs.Prelude.{Some, None, IsSome, length, slice_index}
 use Rattle.std.specs.BTreeMap.{BTreeMap, get}
 use Rattle.std.specs.Int.{bit_at}
 use Rattle.std.specs.Ordering.{nat_cmp}
@@ -33,4 +34,5 @@ passes word others bit = (bit_at word bit == 1) && not (bit_at others bit == 1)
 -- the least bit that passes the test, from one on; none does, where there is none
 abbrev pub IsFirstBit : (ℕ → Bool) → ℕ → Option ℕ → Type 0
 IsFirstBit test low None = (bit : ℕ) → low ≤ bit → bit < 64 → test bit ≡ false
-IsFirstBit test low (Some first) = (low ≤ first) × (first < 64) × (test first ≡ true) × ((bit : ℕ) → low ≤ bit → bit < first → test bit ≡ false)
+IsFirstBit test low (Some first) =
+    (low ≤ first) × (first < 64) × (test first ≡ true) × ((bit : ℕ) → low ≤ bit → bit < first → test bit ≡ false)

@@ -60,20 +60,26 @@ abbrev pub are_same : {V : Type 0} → (V → V → Bool) → List (ℕ × V) �
 are_same same es fs = pointwise (is_same_entry same) es fs
 
 -- a test that is symmetric and transitive is so of entries and of maps
-entries_partial : {V : Type 0} {same : V → V → Bool} → IsPartialEquivalence same → IsPartialEquivalence (is_same_entry same)
+entries_partial : {V : Type 0} {same : V → V → Bool} → IsPartialEquivalence same
+    → IsPartialEquivalence (is_same_entry same)
 entries_partial {same = same} h = record {
   symm = λ p q i. swapped p.0 q.0 i && h.symm p.1 q.1 i;
   trans = λ p q r e f.
       let first = and_parts (p.0 == q.0) (same p.1 q.1) e in
       let second = and_parts (q.0 == r.0) (same q.1 r.1) f in
       both (p.0 == r.0) (same p.1 r.1)
-      (number_eq p.0 r.0 (eq_number p.0 q.0 first.0 ∙ eq_number q.0 r.0 second.0)) (h.trans p.1 q.1 r.1 first.1 second.1);
+      (number_eq p.0 r.0 (eq_number p.0 q.0 first.0 ∙ eq_number q.0 r.0 second.0))
+      (h.trans p.1 q.1 r.1 first.1 second.1);
 }
   where
     swapped : (x y : ℕ) → (x == y) ≡ (y == x)
     swapped x y = grind (arith, nat_tests)
 
-pub partial_by_name : {V : Type 0} {same : V → V → Bool} → IsPartialEquivalence same → IsPartialEquivalence (is_same_by_name same)
+pub partial_by_name : {V : Type 0} {same : V → V → Bool} → IsPartialEquivalence same
+    → IsPartialEquivalence (is_same_by_name same)
 partial_by_name h =
     let lists = lists_per (entries_partial h) in
-    record { symm = λ a b. lists.symm (map.entries a) (map.entries b); trans = λ a b c. lists.trans (map.entries a) (map.entries b) (map.entries c) }
+    record {
+      symm = λ a b. lists.symm (map.entries a) (map.entries b);
+      trans = λ a b c. lists.trans (map.entries a) (map.entries b) (map.entries c);
+    }

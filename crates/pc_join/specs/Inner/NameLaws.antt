@@ -20,9 +20,11 @@ module _ {V : Type 0} (known : V → Members) (is_of : V → Source → Type 0) 
       at : (t : ℕ) (x y : Option V) → map.get a t ≡ x → map.get b t ≡ y → map.get a t ≡ map.get b t
       at t None None e f = e ∙ sym f
       at t None (Some w) e f =
-          absurd (of_b.kept t w f (λ m. sym (ap (λ o. known_in known o m) f) ∙ sym (same (t ∷ m)) ∙ ap (λ o. known_in known o m) e))
+          absurd (of_b.kept t w f
+          (λ m. sym (ap (λ o. known_in known o m) f) ∙ sym (same (t ∷ m)) ∙ ap (λ o. known_in known o m) e))
       at t (Some v) None e f =
-          absurd (of_a.kept t v e (λ m. sym (ap (λ o. known_in known o m) e) ∙ same (t ∷ m) ∙ ap (λ o. known_in known o m) f))
+          absurd (of_a.kept t v e
+          (λ m. sym (ap (λ o. known_in known o m) e) ∙ same (t ∷ m) ∙ ap (λ o. known_in known o m) f))
       at t (Some v) (Some w) e f =
           let one : v ≡ w = unique (source_at s t) v w (of_a.each t v e) (of_b.each t w f)
           (λ m. sym (ap (λ o. known_in known o m) e) ∙ same (t ∷ m) ∙ ap (λ o. known_in known o m) f) in

@@ -1,5 +1,6 @@
 -- Values found by an index: for each name a place, counted from 1, at which its entry stands.
-use Rattle.std.specs.Prelude.{ℕ, suc, zero, ◌<◌, ◌≤◌, ◌≡◌, List, [], ◌∷◌, ◌++◌, length, take, drop, slice_index_or, Option, Some, None}
+use Rattle.std.specs.Prelude.{ℕ, suc, zero, ◌<◌, ◌≤◌, ◌≡◌, List, [], ◌∷◌, ◌++◌, length, take, drop, slice_index_or}
+use Rattle.std.specs.Prelude.{Option, Some, None}
 use Rattle.pc_join.specs.ByName.{AscendFrom}
 use Rattle.pc_join.specs.Inner.Leaves.{AreBefore}
 use Rattle.pc_join.specs.declared.near.TheConstants.{NEAR}
@@ -35,7 +36,8 @@ found_by places entries name = first_value (entry_at entries (place_in places na
 -- an entry of this name stands at the place, where it is one
 abbrev pub IsPlaceOf : {V : Type 0} → ℕ → ℕ → List (ℕ × V) → Type 0
 IsPlaceOf {V} name zero entries = Unit {0}
-IsPlaceOf {V} name (suc place) entries = (place < length entries) × ((d : ℕ × V) → (slice_index_or entries place d).0 ≡ name)
+IsPlaceOf {V} name (suc place) entries =
+    (place < length entries) × ((d : ℕ × V) → (slice_index_or entries place d).0 ≡ name)
 
 -- each name has a place with an entry of its own, or none, and names are near
 pub record IsIndex {V : Type 0} (places : List ℕ) (entries : List (ℕ × V)) : Type 0 where
@@ -50,4 +52,6 @@ pub record AreNear {V : Type 0} (entries : List (ℕ × V)) : Type 0 where
 -- this is the least name from one on that has a place; none has, where there is none
 abbrev pub FindsPlace : List ℕ → ℕ → Option ℕ → Type 0
 FindsPlace places from None = (name : ℕ) → from ≤ name → place_in places name ≡ 0
-FindsPlace places from (Some found) = (from ≤ found) × (found < length places) × (place_in places found ≡ 0 → ⊥) × ((name : ℕ) → from ≤ name → name < found → place_in places name ≡ 0)
+FindsPlace places from (Some found) =
+    (from ≤ found) × (found < length places) × (place_in places found ≡ 0 → ⊥)
+    × ((name : ℕ) → from ≤ name → name < found → place_in places name ≡ 0)

@@ -4,10 +4,13 @@ use Rattle.pc_join.specs.Sets.{Members, Source, IsBetween, IsUnion, IsVoid, IsWi
 use Rattle.pc_join.specs.ByName.{known_in}
 
 -- of what is held under one name: it was old, some of other was joined to it, and it is new
-pub record IsJoinedAt {V : Type 0} (known : V → Members) (is_of : V → Source → Type 0) (old other new : Option V) : Type 0 where
+pub record IsJoinedAt {V : Type 0} (known : V → Members) (is_of : V → Source → Type 0)
+    (old other new : Option V) : Type 0 where
   pub between : IsBetween (known_in known old) (known_in known other) (known_in known new)
-  pub of_source : (s : Source) → IfSome old (λ v. is_of v s) → IfSome other (λ v. is_of v s) → IfSome new (λ v. is_of v s)
-  pub not_void : IfSome old (λ v. ¬ IsVoid (known v)) → IfSome other (λ v. ¬ IsVoid (known v)) → IfSome new (λ v. ¬ IsVoid (known v))
+  pub of_source : (s : Source) → IfSome old (λ v. is_of v s) → IfSome other (λ v. is_of v s)
+      → IfSome new (λ v. is_of v s)
+  pub not_void : IfSome old (λ v. ¬ IsVoid (known v)) → IfSome other (λ v. ¬ IsVoid (known v))
+      → IfSome new (λ v. ¬ IsVoid (known v))
 
 -- some of the value was joined to what is held under the name, and what is held under other names is as it was
 pub record IsPut {V : Type 0} (known : V → Members) (is_of : V → Source → Type 0)
@@ -19,8 +22,8 @@ pub record IsPut {V : Type 0} (known : V → Members) (is_of : V → Source → 
 abbrev pub IsWholeAt : {V : Type 0} → (V → Members) → Option V → Option V → Option V → Type 0
 IsWholeAt known old other new = IsUnion (known_in known old) (known_in known other) (known_in known new)
 
--- a value that is not empty was joined to what is held under the name, all of it where the call succeeds; where all of it
--- was known there, the same is held and the call succeeds
+-- a value that is not empty was joined to what is held under the name, all of it where the call succeeds; where all of
+-- it was known there, the same is held and the call succeeds
 pub record IsPieceJoined {V A E : Type 0} (known : V → Members) (is_of : V → Source → Type 0)
     (old : ℕ → Option V) (name : ℕ) (value : V) (new : ℕ → Option V) (result : Result A E) : Type 0 where
   pub put : IsPut known is_of old name value new

@@ -27,10 +27,12 @@ pub record IsStretched (old : List (ℕ × ℕ)) (range : ℕ × ℕ) (new : Lis
   pub starts : StartBy new range.0
   pub union : IsEither (in_ranges old) (in_range range) (in_ranges new)
 
--- how far two lists of ranges have been joined to the end of others, when these ranges are there and these lists are left
+-- how far two lists of ranges have been joined to the end of others, when these ranges are there and these lists
+-- are left
 pub record IsMerging (old first other now left right : List (ℕ × ℕ)) : Type 0 where
   pub same : (n : ℕ)
-      → (in_ranges now n || (in_ranges left n || in_ranges right n)) ≡ (in_ranges old n || (in_ranges first n || in_ranges other n))
+      → (in_ranges now n || (in_ranges left n || in_ranges right n))
+      ≡ (in_ranges old n || (in_ranges first n || in_ranges other n))
   pub kept : (n : ℕ) → in_ranges old n ≡ true → in_ranges now n ≡ true
   pub apart : AreApart 0 now
   pub left_apart : AreApart 0 left

@@ -13,14 +13,16 @@ use Rattle.pc_kernel.specs.Sound.{IsSound}
 use Rattle.pc_kernel.specs.Steps.{woken_of}
 
 abbrev pub row_of : CpuEntry → CpuRow
-row_of e = record { posts = e.queue.posts; content = e.queue.items; target = e.target; on = e.running; asleep = e.asleep }
+row_of e =
+    record { posts = e.queue.posts; content = e.queue.items; target = e.target; on = e.running; asleep = e.asleep }
 
 abbrev pub rows : Limits → List ThreadRow → List CpuEntry → KernelRows
 rows limits threads cpus = record { limits = limits; threads = threads; cpus = map row_of cpus }
 
 -- every queue has the room and the posts of the limits
 abbrev pub HaveLimits : Limits → List CpuEntry → Type 0
-HaveLimits limits cpus = (c : ℕ) (e : CpuEntry) → slice_get cpus c ≡ Some e → (e.queue.room ≡ limits.room) × (e.queue.most ≡ limits.posts)
+HaveLimits limits cpus =
+    (c : ℕ) (e : CpuEntry) → slice_get cpus c ≡ Some e → (e.queue.room ≡ limits.room) × (e.queue.most ≡ limits.posts)
 
 -- the CPU that a thread's row has it on
 abbrev pub place_in : List ThreadRow → ℕ → Option ℕ
@@ -28,7 +30,8 @@ place_in threads t = option_and_then (λ row. row.on) (slice_get threads t)
 
 -- a thread that runs on a CPU has that CPU in its row
 abbrev pub ArePlaced : List ThreadRow → List CpuEntry → Type 0
-ArePlaced threads cpus = (c t : ℕ) (e : CpuEntry) → slice_get cpus c ≡ Some e → e.running ≡ Some t → place_in threads t ≡ Some c
+ArePlaced threads cpus =
+    (c t : ℕ) (e : CpuEntry) → slice_get cpus c ≡ Some e → e.running ≡ Some t → place_in threads t ≡ Some c
 
 -- what holds of every kernel and its rows
 pub record IsKernel (limits : Limits) (threads : List ThreadRow) (cpus : List CpuEntry) : Type 0 where
@@ -73,6 +76,7 @@ pub record IsPosted (old new : List CpuEntry) (q : ℕ) (item : Item) (landing :
   pub room : length entry.queue.items < entry.queue.room
   pub posts : entry.queue.posts < entry.queue.most
   pub count : length new ≡ length old
-  pub each : (c : ℕ) → slice_get new c ≡ option_map (λ e. roused_entry entry.target c (given_entry q item c e)) (slice_get old c)
+  pub each : (c : ℕ)
+      → slice_get new c ≡ option_map (λ e. roused_entry entry.target c (given_entry q item c e)) (slice_get old c)
   pub aseq : landing.aseq ≡ entry.queue.posts + 1
   pub woken : landing.woken ≡ woken_of (sleeps_in old) entry.target

@@ -9,7 +9,8 @@ use Rattle.pc_kernel.specs.PlainKernel.{PlainKernel, threads}
 use Rattle.pc_kernel.specs.Rows.{KernelRows}
 use Rattle.pc_calls.specs.Conditions.{first_of}
 use Rattle.pc_kernel.specs.Reads.{shown}
-use Rattle.pc_kernel.specs.Steps.{Posting, posting, at, telling, leaving, posted, receipt, leave_refusals, reply_of, after_of}
+use Rattle.pc_kernel.specs.Steps.{Posting, posting, at, telling, leaving, posted, receipt, leave_refusals, reply_of}
+use Rattle.pc_kernel.specs.Steps.{after_of}
 use Rattle.pc_kernel.specs.Answers.{Shows, RepliesInMemory}
 
 -- the first message of the next thread, whose home is this queue
@@ -23,7 +24,8 @@ ticking P cpu = posting P (Tick cpu)
 -- of every plain kernel that the kernel shows: this was posted, and the answer is its receipt
 abbrev pub Sends : (PlainKernel → Posting) → Posted → KernelRows → KernelRows → Type 0
 Sends sent answer old new =
-    (P : PlainKernel) → Shows old P → let p = sent P in (answer ≡ receipt p) × Shows new (posted p.before p.queue p.item)
+    (P : PlainKernel) → Shows old P → let p =
+    sent P in (answer ≡ receipt p) × Shows new (posted p.before p.queue p.item)
 
 -- of every plain kernel that the kernel shows: it shows this change of it
 abbrev pub Becomes : (PlainKernel → PlainKernel) → KernelRows → KernelRows → Type 0

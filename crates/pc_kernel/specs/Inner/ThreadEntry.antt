@@ -21,7 +21,14 @@ pub record IsEntry (kinds : List Kind) (reported : Reported) : Type 0 where
 -- the thread's next message, of this kind, is posted to its home queue
 pub record IsTold (old new : List CpuEntry) (row : ThreadRow) (t : ℕ) (kind : Kind) (posted : Posted) : Type 0 where
   pub landing : Landing
-  pub lands : IsPosted old new row.home (item.Thread record { thread = t; number = length row.kinds + 1; kind = kind }) landing
+  pub lands : IsPosted old new row.home
+      (item.Thread record { thread = t; number = length row.kinds + 1; kind = kind }) landing
   pub answer :
       posted
-      ≡ record { thread = Some t; number = Some (length row.kinds + 1); queue = row.home; aseq = landing.aseq; woken = landing.woken }
+      ≡ record {
+        thread = Some t;
+        number = Some (length row.kinds + 1);
+        queue = row.home;
+        aseq = landing.aseq;
+        woken = landing.woken;
+      }

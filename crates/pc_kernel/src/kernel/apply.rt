@@ -10,7 +10,8 @@ impl Kernel {
     ghost use Rattle.pc_kernel.specs.Answers.{AnsweredInMemory, itself};
 
     /// Makes the call.
-    // Inlined: a caller with calls of one kind then chooses among the kinds once, and the answer is not handed on through memory.
+    // Inlined: a caller with calls of one kind then chooses among the kinds once, and the answer is not handed on
+    // through memory.
     #[inline(always)]
     pub fn apply(&mut self, call: Call) -> Result<Answer, CallFault>
         ensures answered { AnsweredInMemory itself call result self.old self.new }

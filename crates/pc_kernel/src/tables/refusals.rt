@@ -13,7 +13,8 @@ use pc_queue::QueueFault;
 impl Tables {
     ghost use Rattle.pc_kernel.specs.Inner.LastPosts.{thread_row_of};
     ghost use Rattle.pc_kernel.specs.Reads.{seen, number_read, is_pending, on};
-    ghost use Rattle.pc_kernel.specs.Steps.{refused, queue_refusals, post_refusals, mask_refusals, thread_refusals, leave_refusals};
+    ghost use Rattle.pc_kernel.specs.Steps.{refused, queue_refusals, post_refusals, mask_refusals, thread_refusals};
+    ghost use Rattle.pc_kernel.specs.Steps.{leave_refusals};
 
     /// Why the first items of a queue are not removed.
     pub(crate) fn consume_fault(&self, cpu: Cpu, count: u32) -> Option<Refusal>
@@ -123,7 +124,8 @@ impl Tables {
         }
     }
 
-    /// Whether the thread's home queue holds a message of it: whether the last post of one is not among those that are gone.
+    /// Whether the thread's home queue holds a message of it: whether the last post of one is not among those that
+    /// are gone.
     fn is_pending(&self, thread: Tid) -> bool
         requires { thread < length self.now.threads }
         ensures { result ≡ is_pending (seen self.now) thread }

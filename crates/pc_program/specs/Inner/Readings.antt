@@ -1,5 +1,6 @@
 -- Settings read step by step, each of which may find a fault.
-use Rattle.std.specs.Prelude.{ℕ, ℤ, ◌≡◌, ◌+◌, ◌⊎◌, Bool, List, [], ◌∷◌, Option, Some, None, Result, Ok, Err, unwrap_or, ok_or, is_some, codes}
+use Rattle.std.specs.Prelude.{ℕ, ℤ, ◌≡◌, ◌+◌, ◌⊎◌, Bool, List, [], ◌∷◌, Option, Some, None, Result, Ok, Err, unwrap_or}
+use Rattle.std.specs.Prelude.{ok_or, is_some, codes}
 use Rattle.std.specs.List.{list_all}
 use Rattle.toml.specs.Data.{Members, no_members, as_str, as_table}
 use Rattle.toml.specs.View.{view}
@@ -24,7 +25,8 @@ and_then (Err fault) next = Err fault
 -- each element, with its place
 abbrev pub each : {X A : Type 0} → (ℕ → X → Read A) → ℕ → List X → Read (List A)
 each read place [] = Ok []
-each read place (x ∷ xs) = and_then (read place x) (λ a. and_then (each read (place + 1) xs) (λ others. Ok (a ∷ others)))
+each read place (x ∷ xs) =
+    and_then (read place x) (λ a. and_then (each read (place + 1) xs) (λ others. Ok (a ∷ others)))
 
 pub record Told : Type 0 where
   pub queue : ℤ

@@ -1,11 +1,13 @@
 //! What stands at the keys of a table.
 
-ghost use Rattle.std.specs.Prelude.{◌≡◌, ◌⊎◌, Ok, Err, Some, None, IfOk, IfErr, IsSome, MatchOption, true, map, option_map};
+ghost use Rattle.std.specs.Prelude.{◌≡◌, ◌⊎◌, Ok, Err, Some, None, IfOk, IfErr, IsSome, MatchOption, true, map};
+ghost use Rattle.std.specs.Prelude.{option_map};
 ghost use Rattle.toml.specs.Data.{get_member, as_table, as_str};
 ghost use Rattle.toml.specs.View.{table_view, view};
 ghost use Rattle.pc_program.specs.SettingsText.{integer_at, list_of, tables_at, texts_at};
 ghost use Rattle.pc_program.specs.Inner.Drafts.{told};
-ghost use Rattle.pc_program.specs.Inner.Readings.{Follows, are_tables, are_texts, read_draft, read_restart, table_in, text_in};
+ghost use Rattle.pc_program.specs.Inner.Readings.{Follows, are_tables, are_texts, read_draft, read_restart, table_in};
+ghost use Rattle.pc_program.specs.Inner.Readings.{text_in};
 
 use super::draft::Draft;
 use super::{Field, SettingsFault};
@@ -72,7 +74,8 @@ fn texts_in(value: &Value) -> Option<&[Value]>
 /// The list of tables at a key, which may be absent.
 pub fn tables_at<'a>(table: &'a Table, key: &str) -> Option<&'a [Value]>
     ensures { MatchOption result (tables_at key.now (table_view table.now) ≡ None)
-        (λ items. (are_tables items.now ≡ true) × (tables_at key.now (table_view table.now) ≡ Some (map table_in items.now))) }
+        (λ items. (are_tables items.now ≡ true)
+        × (tables_at key.now (table_view table.now) ≡ Some (map table_in items.now))) }
 {
     match value_at(table, key) {
         Some(value) => tables_in(value),
@@ -83,7 +86,8 @@ pub fn tables_at<'a>(table: &'a Table, key: &str) -> Option<&'a [Value]>
 /// The list of texts at a key.
 fn texts_at<'a>(table: &'a Table, key: &str) -> Option<&'a [Value]>
     ensures { MatchOption result (texts_at key.now (table_view table.now) ≡ None)
-        (λ items. (are_texts items.now ≡ true) × (texts_at key.now (table_view table.now) ≡ Some (map text_in items.now))) }
+        (λ items. (are_texts items.now ≡ true)
+        × (texts_at key.now (table_view table.now) ≡ Some (map text_in items.now))) }
 {
     match value_at(table, key) {
         Some(value) => texts_in(value),

@@ -1,6 +1,7 @@
 -- Reading the words of a command.
 use Rattle.std.specs.Prelude.{◌≡◌, ℕ, Bool, true, false, List, ◌++◌, map, Option, Some, None}
-use Rattle.pc_script.specs.Grammar.{Field, Processors, Processor, Queue, Level, Count, Mask, Index, Thread, State, Target, Failure}
+use Rattle.pc_script.specs.Grammar.{Field, Processors, Processor, Queue, Level, Count, Mask, Index, Thread, State}
+use Rattle.pc_script.specs.Grammar.{Target, Failure}
 use Rattle.pc_script.specs.Grammar.{field_words, IsInRange, words_of, AreInRange, Spells}
 use Rattle.pc_script.specs.declared.command.Command.{Command}
 
@@ -45,14 +46,18 @@ abbrev pub kinds_of : List Field → List Kind
 kinds_of fields = map kind_of fields
 
 -- a field of this kind was taken exactly where it is what the words begin with
-abbrev pub IsFieldReading : {Value : Type 0} → Kind → (Value → Field) → List (List ℕ) → List (List ℕ) → Option Value → Type 0
+abbrev pub IsFieldReading : {Value : Type 0} → Kind → (Value → Field) → List (List ℕ) → List (List ℕ) → Option Value
+    → Type 0
 IsFieldReading kind field before after None =
-    (any : Field) → kind_of any ≡ kind → IsInRange any → (others : List (List ℕ)) → before ≡ field_words any ++ others → ⊥
+    (any : Field) → kind_of any ≡ kind → IsInRange any → (others : List (List ℕ)) → before ≡ field_words any ++ others
+    → ⊥
 IsFieldReading kind field before after (Some read) =
     (kind_of (field read) ≡ kind) × IsInRange (field read) × (before ≡ field_words (field read) ++ after)
 
 -- words were read exactly where they are fields of these kinds
-abbrev pub IsFieldsReading : {Values : Type 0} → List Kind → (Values → List Field) → List (List ℕ) → Option Values → Type 0
-IsFieldsReading kinds fields spelled None = (any : List Field) → kinds_of any ≡ kinds → AreInRange any → spelled ≡ words_of any → ⊥
+abbrev pub IsFieldsReading : {Values : Type 0} → List Kind → (Values → List Field) → List (List ℕ) → Option Values
+    → Type 0
+IsFieldsReading kinds fields spelled None =
+    (any : List Field) → kinds_of any ≡ kinds → AreInRange any → spelled ≡ words_of any → ⊥
 IsFieldsReading kinds fields spelled (Some read) =
     (kinds_of (fields read) ≡ kinds) × AreInRange (fields read) × (spelled ≡ words_of (fields read))

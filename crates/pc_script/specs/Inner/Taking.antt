@@ -1,5 +1,6 @@
 -- Taking the words of a line one after another.
-use Rattle.std.specs.Prelude.{◌≡◌, ◌==◌, ◌<◌, ◌^◌, ℕ, List, ◌∷◌, Option, Some, None, MatchOption, decimal, drop, get_or, length, take}
+use Rattle.std.specs.Prelude.{◌≡◌, ◌==◌, ◌<◌, ◌^◌, ℕ, List, ◌∷◌, Option, Some, None, MatchOption, decimal, drop, get_or}
+use Rattle.std.specs.Prelude.{length, take}
 use Rattle.std.specs.List.{position_or_len}
 use Rattle.pc_script.specs.Text.{words}
 use Rattle.pc_script.specs.declared.words.Words.{Words}
@@ -16,7 +17,8 @@ word_end text = position_or_len (λ b. b == 32) text
 abbrev pub StartsWithNoSpace : List ℕ → Type 0
 StartsWithNoSpace text = 0 < length text → get_or text 0 0 ≡ 32 → ⊥
 
--- the text up to its first space was taken exactly where it is a number below 2 ^ 64, and this is what is left behind it
+-- the text up to its first space was taken exactly where it is a number below 2 ^ 64, and this is what is left
+-- behind it
 abbrev pub IsTaken : List ℕ → List ℕ → Option ℕ → Type 0
 IsTaken text after r = MatchOption r
     ((n : ℕ) → n < 2 ^ 64 → take (word_end text) text ≡ decimal n → ⊥)

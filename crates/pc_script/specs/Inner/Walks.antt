@@ -26,20 +26,25 @@ Standing M = Profile → M → List Command → List Response → Type 0
 -- from one machine to the next a command was answered
 abbrev pub Answers : {M : Type 0} → Standing M → M → Command → Response → M → Type 0
 Answers StandsAfter old command response new =
-    (profile : Profile) (commands : List Command) (responses : List Response) → StandsAfter profile old commands responses
+    (profile : Profile) (commands : List Command) (responses : List Response)
+    → StandsAfter profile old commands responses
     → StandsAfter profile new (commands ++ command ∷ []) (responses ++ response ∷ [])
 
 -- The observer was told these notices
 abbrev pub IsTold : {M O : Type 0} → Telling O → List Notice → Stand M O → Stand M O → Type 0
 IsTold Tells notices old new = Tells old.observer old.held notices new.observer new.held
 
--- A line was taken: it has no reply, or the machine answered its command, or it is the first with a reply and names the version
-pub data Takes {M O : Type 0} (StandsAfter : Standing M) (Tells : Telling O) (line : List ℕ) : Stand M O → Stand M O → Type 0 where
+-- A line was taken: it has no reply, or the machine answered its command, or it is the first with a reply and names
+-- the version
+pub data Takes {M O : Type 0} (StandsAfter : Standing M) (Tells : Telling O) (line : List ℕ) : Stand M O → Stand M O
+    → Type 0 where
   silent : {old : Stand M O} → HasNoReply line → Takes StandsAfter Tells line old old
-  answers : {old new : Stand M O} (command : Command) (response : Response) → (HasNoReply line → ⊥) → Spells (words line) command
+  answers : {old new : Stand M O} (command : Command) (response : Response) → (HasNoReply line → ⊥)
+      → Spells (words line) command
       → Answers StandsAfter old.machine command response new.machine → new.is_open ≡ true
       → IsTold Tells (answered response ∷ []) old new → Takes StandsAfter Tells line old new
-  names : {old new : Stand M O} → (HasNoReply line → ⊥) → IsVersionTwo line → old.is_open ≡ false → StandsAfter Two new.machine [] []
+  names : {old new : Stand M O} → (HasNoReply line → ⊥) → IsVersionTwo line → old.is_open ≡ false
+      → StandsAfter Two new.machine [] []
       → new.is_open ≡ true → IsTold Tells (version_two ∷ []) old new → Takes StandsAfter Tells line old new
 
 -- The line with this number is a fault, and no version
@@ -49,11 +54,13 @@ pub record Stops {M O : Type 0} (Tells : Telling O) (line : List ℕ) (number : 
   pub told : IsTold Tells (faulted number ∷ []) old new
 
 -- The line asks for a command, and the machine found no memory for its answer
-pub record FindsNone {M O : Type 0} (StandsAfter : Standing M) (RanOut : Profile → List Command → List Response → Command → Type 0)
+pub record FindsNone {M O : Type 0} (StandsAfter : Standing M)
+    (RanOut : Profile → List Command → List Response → Command → Type 0)
     (Tells : Telling O) (line : List ℕ) (old new : Stand M O) : Type 0 where
   pub command : Command
   pub replies : HasNoReply line → ⊥
   pub asks : Spells (words line) command
-  pub ran_out : (profile : Profile) (commands : List Command) (responses : List Response) → StandsAfter profile old.machine commands responses
+  pub ran_out : (profile : Profile) (commands : List Command) (responses : List Response)
+      → StandsAfter profile old.machine commands responses
       → RanOut profile commands responses command
   pub told : IsTold Tells [] old new

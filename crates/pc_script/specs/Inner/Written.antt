@@ -9,7 +9,8 @@ pub written_nothing : (known : Option (List ℕ)) → Appends known known (notic
 written_nothing known = Appends-nil known
 
 pub written_more : (before now after : Option (List ℕ)) (notices further : List Notice)
-    → Appends before now (notices_text notices) → Appends now after (notices_text further) → Appends before after (notices_text (notices ++ further))
+    → Appends before now (notices_text notices) → Appends now after (notices_text further)
+    → Appends before after (notices_text (notices ++ further))
 written_more before now after notices further h k =
     subst (Appends before after) (sym (flat_map-append notice_text notices further))
     (Appends-trans before now after (notices_text notices) (notices_text further) h k)

@@ -7,7 +7,8 @@ use Rattle.pc_script.specs.declared.lists.ShownThread.{ShownThread}
 
 -- the row of a thread of which this is told
 abbrev pub row_told : ℕ → Told → ShownThread
-row_told thread told = record { thread = thread; upto = told.upto; reported = told.state; early = map (λ e. e.0) told.early }
+row_told thread told =
+    record { thread = thread; upto = told.upto; reported = told.state; early = map (λ e. e.0) told.early }
 
 -- a row for each thread
 abbrev pub rows_told : List (ℕ × Told) → List ShownThread

@@ -6,7 +6,8 @@ use Rattle.std.specs.Cmp.{IsEquivalence, IsPartialEquivalence, decided, partial_
 use Rattle.std.specs.Cmp.Lexicographic.{pointwise_decides}
 use Rattle.pc_join.specs.Inner.Equal.{number_Decides, pair_Decides}
 use Rattle.pc_messages.specs.declared.kind.Kind.{Kind}
-use Rattle.pc_messages.specs.declared.kind.Kind.TheVariants.{Created, Blocked, Preempted, Yield, Dead, Wakeup, Affinity, Priority}
+use Rattle.pc_messages.specs.declared.kind.Kind.TheVariants.{Created, Blocked, Preempted, Yield, Dead, Wakeup, Affinity}
+use Rattle.pc_messages.specs.declared.kind.Kind.TheVariants.{Priority}
 use Rattle.pc_messages.specs.declared.reported.Phase.{Phase}
 use Rattle.pc_messages.specs.declared.reported.Phase.TheVariants as phase
 use Rattle.pc_messages.specs.declared.reported.Reported.{Reported}
@@ -50,7 +51,8 @@ kind_Decides a b =
     (λ e. same_kind a b (test.0 e), λ e. test.1 (ap written e))
 
 phase_from : ℕ → Phase
-phase_from n = elim (n == 0) [ true ↦ phase.Ready | false ↦ elim (n == 1) [ true ↦ phase.Blocked | false ↦ phase.Dead ] ]
+phase_from n =
+    elim (n == 0) [ true ↦ phase.Ready | false ↦ elim (n == 1) [ true ↦ phase.Blocked | false ↦ phase.Dead ] ]
 
 state_from : List ℕ → Option Reported
 state_from [] = None
@@ -83,7 +85,8 @@ told_Decides a b =
     let test = pair_Decides number_Decides (pair_Decides state_Decides early_Decides)
     (a.upto, (a.state, a.early)) (b.upto, (b.state, b.early)) in (
       λ e.
-          let same : ◌≡◌ {A = ℕ × (Option Reported × List (ℕ × Kind))} (a.upto, (a.state, a.early)) (b.upto, (b.state, b.early)) =
+          let same : ◌≡◌ {A = ℕ × (Option Reported × List (ℕ × Kind))} (a.upto, (a.state, a.early))
+          (b.upto, (b.state, b.early)) =
           test.0 e in
           λ i. record { upto = (same i).0; state = (same i).1.0; early = (same i).1.1 },
       λ e. test.1 (λ i. ((e i).upto, ((e i).state, (e i).early))),

@@ -4,7 +4,8 @@ use Rattle.pc_messages.specs.declared.message.TheConstants.{GREATEST_NUMBER}
 use Rattle.pc_messages.specs.declared.kind.Kind.{Kind}
 use Rattle.pc_join.specs.Sets.{Source}
 use Rattle.pc_join.specs.Ranges.{one_to}
-use Rattle.pc_thread_view.specs.Told.{Told, AreLater, HasEach, IsOfThread, IsPrefix, IsSound, IsStateOfSome, RiseAbove, is_early, tells}
+use Rattle.pc_thread_view.specs.Told.{Told, AreLater, HasEach, IsOfThread, IsPrefix, IsSound, IsStateOfSome, RiseAbove}
+use Rattle.pc_thread_view.specs.Told.{is_early, tells}
 
 -- one more message was taken in
 pub record Gains (old : Told) (number : ℕ) (kind : Kind) (new : Told) : Type 0 where
@@ -53,15 +54,18 @@ pub record IsSettled (old new : Told) : Type 0 where
   pub of_source : (s : Source) → IsLooselyOf old s → IsOfThread new s
 
 -- how far two lists of messages have been taken in, when this is told and these lists are left
-pub record IsTaking (old : Told) (first other : List (ℕ × Kind)) (now : Told) (left right : List (ℕ × Kind)) : Type 0 where
-  pub same : (n : ℕ) → (tells now n || (is_early left n || is_early right n)) ≡ (tells old n || (is_early first n || is_early other n))
+pub record IsTaking (old : Told) (first other : List (ℕ × Kind)) (now : Told)
+    (left right : List (ℕ × Kind)) : Type 0 where
+  pub same : (n : ℕ)
+      → (tells now n || (is_early left n || is_early right n)) ≡ (tells old n || (is_early first n || is_early other n))
   pub kept : (n : ℕ) → tells old n ≡ true → tells now n ≡ true
   pub sound : IsSound now
   pub left_told : AreTold left
   pub right_told : AreTold right
   pub left_after : NoneAfter now.early left
   pub right_after : NoneAfter now.early right
-  pub of_source : (s : Source) → IsOfThread old s → HasEach s first → HasEach s other → IsOfThread now s × HasEach s left × HasEach s right
+  pub of_source : (s : Source) → IsOfThread old s → HasEach s first → HasEach s other → IsOfThread now s
+      × HasEach s left × HasEach s right
 
 -- each of the messages has a number of the prefix or of the others
 abbrev pub AreAmong : List (ℕ × Kind) → ℕ → List (ℕ × Kind) → Type 0

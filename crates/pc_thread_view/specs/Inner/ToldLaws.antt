@@ -1,5 +1,6 @@
 -- The laws of a join, of what is told of one thread.
-use Rattle.std.specs.Prelude.{ℕ, ◌+◌, ◌<◌, ◌≤◌, ◌≡◌, ◌==◌, ◌⊎◌, ◌||◌, Bool, true, false, List, [], ◌∷◌, length, refl, Some, Option, None}
+use Rattle.std.specs.Prelude.{ℕ, ◌+◌, ◌<◌, ◌≤◌, ◌≡◌, ◌==◌, ◌⊎◌, ◌||◌, Bool, true, false, List, [], ◌∷◌, length, refl}
+use Rattle.std.specs.Prelude.{Some, Option, None}
 use Rattle.std.proofs.Common.{sym, ap, subst, ◌∙◌, arith, inl, inr}
 use Rattle.std.proofs.lemmas.Bool.{false≢true}
 use Rattle.std.proofs.lemmas.Bool.Decides.{nat_tests}
@@ -18,7 +19,8 @@ some_not_none e = cc
 -- no message is told at or below where the early ones rise from
 pub lacks_below : (n : ℕ) (early : List (ℕ × Kind)) (m : ℕ) → RiseAbove n early → m ≤ n → is_early early m ≡ false
 lacks_below n [] m h e = refl
-lacks_below n (d ∷ ds) m h e = ap (λ b. b || is_early ds m) (other d.0 m (omega arith)) ∙ lacks_below d.0 ds m h.1 (omega arith)
+lacks_below n (d ∷ ds) m h e =
+    ap (λ b. b || is_early ds m) (other d.0 m (omega arith)) ∙ lacks_below d.0 ds m h.1 (omega arith)
   where
     other : (a b : ℕ) → b < a → (a == b) ≡ false
     other a b h = grind (arith, nat_tests)
@@ -49,7 +51,8 @@ upto_least v w h same =
     ]
 
 -- kinds of one source, of one length
-same_kinds : (s : Source) (n : ℕ) (ks js : List Kind) → length ks ≡ length js → HasKinds s n ks → HasKinds s n js → ks ≡ js
+same_kinds : (s : Source) (n : ℕ) (ks js : List Kind) → length ks ≡ length js → HasKinds s n ks → HasKinds s n js
+    → ks ≡ js
 same_kinds s n [] [] e h g = refl
 same_kinds s n [] (j ∷ js) e h g = absurd (omega arith)
 same_kinds s n (k ∷ ks) [] e h g = absurd (omega arith)
@@ -69,7 +72,8 @@ first_least : (n : ℕ) (d e : ℕ × Kind) (ds es : List (ℕ × Kind)) → Ris
     → ((m : ℕ) → is_early (d ∷ ds) m ≡ is_early (e ∷ es) m) → e.0 ≤ d.0
 first_least n d e ds es h g same =
     elim (order_of d.0 e.0) [
-      | inl lt ↦ absurd (false≢true (sym (lacks_below d.0 (e ∷ es) d.0 (lt, g.1) (omega arith)) ∙ sym (same d.0) ∙ here d ds))
+      | inl lt ↦ absurd
+          (false≢true (sym (lacks_below d.0 (e ∷ es) d.0 (lt, g.1) (omega arith)) ∙ sym (same d.0) ∙ here d ds))
       | inr le ↦ le
     ]
 
@@ -87,13 +91,15 @@ same_rest d ds es k m h g e =
 le_both : (a b : ℕ) → a ≤ b → b ≤ a → a ≡ b
 le_both a b h e = omega arith
 
-same_early : (s : Source) (n : ℕ) (ds es : List (ℕ × Kind)) → RiseAbove n ds → RiseAbove n es → HasEach s ds → HasEach s es
+same_early : (s : Source) (n : ℕ) (ds es : List (ℕ × Kind)) → RiseAbove n ds → RiseAbove n es → HasEach s ds
+    → HasEach s es
     → ((m : ℕ) → is_early ds m ≡ is_early es m) → ds ≡ es
 same_early s n [] [] h g a b same = refl
 same_early s n [] (e ∷ es) h g a b same = absurd (false≢true (same e.0 ∙ here e es))
 same_early s n (d ∷ ds) [] h g a b same = absurd (false≢true (sym (same d.0) ∙ here d ds))
 same_early s n (d ∷ ds) (e ∷ es) h g a b same =
-    let number : d.0 ≡ e.0 = le_both d.0 e.0 (first_least n e d es ds g h (λ m. sym (same m))) (first_least n d e ds es h g same) in
+    let number : d.0 ≡ e.0 =
+    le_both d.0 e.0 (first_least n e d es ds g h (λ m. sym (same m))) (first_least n d e ds es h g same) in
     let kind : d.1 ≡ e.1 = some_inside (sym a.0 ∙ ap (λ m. s (m ∷ [])) number ∙ b.0) in
     let first : d ≡ e = λ i. (number i, kind i) in
     let rise : RiseAbove d.0 es = subst (λ m. RiseAbove m es) (sym number) g.1 in
@@ -106,14 +112,17 @@ early_of : (upto : ℕ) (ds es : List (ℕ × Kind)) (m : ℕ) → RiseAbove (up
     → (one_to upto m || is_early ds m) ≡ (one_to upto m || is_early es m) → is_early ds m ≡ is_early es m
 early_of upto ds es m h g e =
     elim (order_of upto m) [
-      | inl lt ↦ sym (ap (λ b. b || is_early ds m) (prefix_no upto m lt)) ∙ e ∙ ap (λ b. b || is_early es m) (prefix_no upto m lt)
+      | inl lt ↦ sym (ap (λ b. b || is_early ds m) (prefix_no upto m lt)) ∙ e
+          ∙ ap (λ b. b || is_early es m) (prefix_no upto m lt)
       | inr le ↦ lacks_below (upto + 1) ds m h (omega arith) ∙ sym (lacks_below (upto + 1) es m g (omega arith))
     ]
 
-pub unique_told : (s : Source) (a b : Told) → IsOfThread a s → IsOfThread b s → IsSameSet (numbers_of a) (numbers_of b) → a ≡ b
+pub unique_told : (s : Source) (a b : Told) → IsOfThread a s → IsOfThread b s → IsSameSet (numbers_of a) (numbers_of b)
+    → a ≡ b
 unique_told s a b of_a of_b same =
     let at : (n : ℕ) → tells a n ≡ tells b n = λ n. same (n ∷ []) in
-    let upto : a.upto ≡ b.upto = le_both a.upto b.upto (upto_least b a of_b.gap (λ n. sym (at n))) (upto_least a b of_a.gap at) in
+    let upto : a.upto ≡ b.upto =
+    le_both a.upto b.upto (upto_least b a of_b.gap (λ n. sym (at n))) (upto_least a b of_a.gap at) in
     let kinds : of_a.prefix.kinds ≡ of_b.prefix.kinds =
     same_kinds s 0 of_a.prefix.kinds of_b.prefix.kinds (of_a.prefix.count ∙ upto ∙ sym of_b.prefix.count)
     of_a.prefix.of_source of_b.prefix.of_source in
@@ -127,14 +136,16 @@ unique_told s a b of_a of_b same =
 
 -- of a source that gives the same at the members
 kinds_stay : (s t : Source) (n upto : ℕ) (kinds : List Kind) → n + length kinds ≤ upto
-    → ((m : ℕ) → 1 ≤ m → m ≤ upto → ¬ (s (m ∷ []) ≡ None) → t (m ∷ []) ≡ s (m ∷ [])) → HasKinds s n kinds → HasKinds t n kinds
+    → ((m : ℕ) → 1 ≤ m → m ≤ upto → ¬ (s (m ∷ []) ≡ None) → t (m ∷ []) ≡ s (m ∷ [])) → HasKinds s n kinds
+    → HasKinds t n kinds
 kinds_stay s t n upto [] h agrees g = tt
 kinds_stay s t n upto (k ∷ ks) h agrees g = (
   agrees (n + 1) (omega arith) (omega arith) (λ e. some_not_none (sym g.0 ∙ e)) ∙ g.0,
   kinds_stay s t (n + 1) upto ks (omega arith) agrees g.1,
 )
 
-each_stay : (s t : Source) (early : List (ℕ × Kind)) → ((m : ℕ) → is_early early m ≡ true → ¬ (s (m ∷ []) ≡ None) → t (m ∷ []) ≡ s (m ∷ []))
+each_stay : (s t : Source) (early : List (ℕ × Kind))
+    → ((m : ℕ) → is_early early m ≡ true → ¬ (s (m ∷ []) ≡ None) → t (m ∷ []) ≡ s (m ∷ []))
     → HasEach s early → HasEach t early
 each_stay s t [] agrees g = tt
 each_stay s t (d ∷ ds) agrees g = (
@@ -160,7 +171,8 @@ stays_told s t a agrees of_s = record {
     kinds = of_s.prefix.kinds;
     count = of_s.prefix.count;
     of_source = kinds_stay s t 0 a.upto of_s.prefix.kinds (le of_s.prefix.count)
-        (λ m h e. agrees (m ∷ []) (or_left (one_to a.upto m) (is_early a.early m) (prefix_yes a.upto m h e))) of_s.prefix.of_source;
+        (λ m h e. agrees (m ∷ []) (or_left (one_to a.upto m) (is_early a.early m) (prefix_yes a.upto m h e)))
+        of_s.prefix.of_source;
     folded = of_s.prefix.folded;
   };
   gap = of_s.gap;

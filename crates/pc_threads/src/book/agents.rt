@@ -24,8 +24,10 @@ impl Book {
         ensures listed { IfOk result (λ count. Lists (call.Consume (cpu_of agent.old) count) Done self.old self.new) }
         ensures consumes { IfSome (answered result) (λ answer. WhateverShown self.old.kernel agent.old (λ P run p.
             IsConsumed P run p answer (cpu_of agent.old) agent.new self.new.kernel)) }
-        ensures own { IfSome (answered result) (λ answer. ConsumesAsSeen agent.old self.old.kernel answer agent.new self.new.kernel) }
-        ensures counts { IfSome (answered result) (λ answer. counts_of agent.new ≡ consume_counted answer (counts_of agent.old)) }
+        ensures own { IfSome (answered result)
+            (λ answer. ConsumesAsSeen agent.old self.old.kernel answer agent.new self.new.kernel) }
+        ensures counts { IfSome (answered result)
+            (λ answer. counts_of agent.new ≡ consume_counted answer (counts_of agent.old)) }
         ensures cpu { cpu_of agent.new ≡ cpu_of agent.old }
         ensures extends { IfOk result (λ _. Extends (run_of self.new) (run_of self.old)) }
         ensures limits { self.new.kernel.limits ≡ self.old.kernel.limits }
@@ -52,11 +54,14 @@ impl Book {
     /// A refused pick raises a count of the agent, and empties its run list where it is `NothingReady`. Without memory
     /// for the list the agent is not asked, and is as it was.
     pub fn pick(&mut self, agent: &mut Agent, aseq: u32) -> Result<Tid, CallFault>
-        ensures listed { IfOk result (λ thread. Lists (call.Commit (cpu_of agent.old) thread aseq) Done self.old self.new) }
+        ensures listed { IfOk result
+            (λ thread. Lists (call.Commit (cpu_of agent.old) thread aseq) Done self.old self.new) }
         ensures picks { IfSome (answered result) (λ answer. WhateverShown self.old.kernel agent.old (λ P run p.
             IsPicked aseq P run p answer (cpu_of agent.old) agent.new self.new.kernel)) }
-        ensures own { IfSome (answered result) (λ answer. PicksAsSeen aseq agent.old self.old.kernel answer agent.new self.new.kernel) }
-        ensures counts { IfSome (answered result) (λ answer. counts_of agent.new ≡ pick_counted answer (counts_of agent.old)) }
+        ensures own { IfSome (answered result)
+            (λ answer. PicksAsSeen aseq agent.old self.old.kernel answer agent.new self.new.kernel) }
+        ensures counts { IfSome (answered result)
+            (λ answer. counts_of agent.new ≡ pick_counted answer (counts_of agent.old)) }
         ensures no_memory { result ≡ Err CallFault.OutOfMemory → agent.new ≡ agent.old }
         ensures cpu { cpu_of agent.new ≡ cpu_of agent.old }
         ensures extends { IfOk result (λ _. Extends (run_of self.new) (run_of self.old)) }

@@ -4,7 +4,8 @@ ghost use Rattle.std.specs.Prelude.{◌≡◌, ◌<◌, ◌≤◌, ◌+◌, ◌-
 ghost use Rattle.pc_calls.specs.declared.call.Call.TheVariants.{Env};
 ghost use Rattle.pc_threads.specs.Pages.{Pages};
 ghost use Rattle.pc_threads.specs.Inner.Shares.{HasPosted};
-ghost use Rattle.pc_threads.specs.Totals.{committed_by, consumed_by, created_by, in_all, limits_on, ran_by, taken_over_by, told_by};
+ghost use Rattle.pc_threads.specs.Totals.{committed_by, consumed_by, created_by, in_all, limits_on, ran_by};
+ghost use Rattle.pc_threads.specs.Totals.{taken_over_by, told_by};
 
 use crate::book::Book;
 use crate::report::weights_of;

@@ -17,13 +17,16 @@ Outcome w event (Err fault) new = RanOut w event new
 -- for every plain world that is shown before, such an outcome is shown after, and what was sent stays sent
 abbrev pub Handles : Event → Result Reply OutOfMemory → Parts → Parts → Type 0
 Handles event result old new =
-    (w : PlainWorld) → ShowsWorld old w → (w' : PlainWorld) × Outcome w event result w' × ShowsWorld new w' × KeepsSent old new
+    (w : PlainWorld) → ShowsWorld old w → (w' : PlainWorld) × Outcome w event result w' × ShowsWorld new w'
+    × KeepsSent old new
 
 -- for every plain world that is shown before, the event was done, or left what it leaves without memory
 abbrev pub StepsInPart : Event → Parts → Parts → Type 0
 StepsInPart event old new =
-    (w : PlainWorld) → ShowsWorld old w → (w' : PlainWorld) × (RanOut w event w' ⊎ ((told : Reply) × Step w event told w')) × ShowsWorld new w'
+    (w : PlainWorld) → ShowsWorld old w → (w' : PlainWorld)
+    × (RanOut w event w' ⊎ ((told : Reply) × Step w event told w')) × ShowsWorld new w'
 
 -- an event was done, and its reply stands at the end
 abbrev pub StepsInto : Event → List Reply → List Reply → Parts → Parts → Type 0
-StepsInto event before after old new = (told : Reply) × (after ≡ before ++ told ∷ []) × Does (λ w. Step w event) old new told
+StepsInto event before after old new =
+    (told : Reply) × (after ≡ before ++ told ∷ []) × Does (λ w. Step w event) old new told
