@@ -98,16 +98,19 @@ macro_rules! table {
         $make!($($given),+;
             Enclave(Processors(cpus), Count(threads), Count(numbers), Count(room), Count(posts)) =>
                 Command::Enclave(Limits { cpus, threads, numbers, room, posts }),
-            Create(Queue(queue), Mask(mask), State(ready)) => Command::Event(Event::Env(EnvCall::Create { queue, mask, ready })),
+            Create(Queue(queue), Mask(mask), State(ready)) =>
+                Command::Event(Event::Env(EnvCall::Create { queue, mask, ready })),
             Wake(Thread(thread)) => Command::Event(Event::Env(EnvCall::Wake { thread })),
             Block(Processor(cpu), Count(ran)) => Command::Event(Event::Env(EnvCall::Block { cpu, ran })),
             Yield(Processor(cpu), Count(ran)) => Command::Event(Event::Env(EnvCall::YieldNow { cpu, ran })),
             Preempt(Processor(cpu), Count(ran)) => Command::Event(Event::Env(EnvCall::Preempt { cpu, ran })),
             Die(Processor(cpu), Count(ran)) => Command::Event(Event::Env(EnvCall::Die { cpu, ran })),
             Affinity(Thread(thread), Mask(mask)) => Command::Event(Event::Env(EnvCall::SetAffinity { thread, mask })),
-            Priority(Thread(thread), Level(level)) => Command::Event(Event::Env(EnvCall::SetPriority { thread, level })),
+            Priority(Thread(thread), Level(level)) =>
+                Command::Event(Event::Env(EnvCall::SetPriority { thread, level })),
             Tick(Processor(cpu)) => Command::Event(Event::Env(EnvCall::Tick { cpu })),
-            Associate(Thread(thread), Queue(queue), Count(number)) => Command::Event(Event::Associate { thread, queue, number }),
+            Associate(Thread(thread), Queue(queue), Count(number)) =>
+                Command::Event(Event::Associate { thread, queue, number }),
             Commit(Processor(cpu), Thread(thread), Count(aseq)) => Command::Event(Event::Commit { cpu, thread, aseq }),
             Sleep(Processor(cpu), Count(aseq)) => Command::Event(Event::Sleep { cpu, aseq }),
             Rouse(Processor(cpu)) => Command::Event(Event::Rouse { cpu }),
