@@ -1,4 +1,4 @@
-//! Tests of agents, the world, what is told of scripts, and the book, by their public names alone: beside `pc_tests`, so that two
+//! Tests of agents, the world, sessions, what is told of scripts, and the book, by their public names alone: beside `pc_tests`, so that two
 //! jobs share the proofs of tests.
 #![tactic(auto)]
 
@@ -6,6 +6,8 @@
 mod agent;
 #[cfg(test)]
 mod explain;
+#[cfg(test)]
+mod session;
 #[cfg(test)]
 mod threads;
 #[cfg(test)]
