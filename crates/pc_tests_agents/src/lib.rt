@@ -1,5 +1,5 @@
-//! Tests of agents, the world, sessions, what is told of scripts, and the book, by their public names alone: beside `pc_tests`, so that two
-//! jobs share the proofs of tests.
+//! Tests of agents, the world, sessions, what is told of scripts, and the book, by their public names alone: beside
+//! `pc_tests`, so that two jobs share the proofs of tests.
 #![tactic(auto)]
 
 #[cfg(test)]

@@ -54,7 +54,8 @@ fn there_is_a_world_from_an_accepted_enclave_on(rt: HostRuntime) {
     each_leaves(&rt, rt.alloc(), &ROWS);
 }
 
-/// What a read is answered: a thread's last number and the CPU where it runs, a truth, a comparison, how many threads an agent knows.
+/// What a read is answered: a thread's last number and the CPU where it runs, a truth, a comparison, how many threads
+/// an agent knows, or that there is no such thread or CPU.
 #[derive(Clone, Copy, Debug, PartialEq, Eq)]
 enum Seen {
     Status(u32, Option<u8>),
@@ -65,7 +66,7 @@ enum Seen {
     NoCpu,
 }
 
-fn seen(response: &Response) -> Option<Seen> {
+fn what_is_in(response: &Response) -> Option<Seen> {
     match response {
         Response::Status { status, .. } => {
             let on = match status.running_on {
@@ -86,7 +87,7 @@ fn seen(response: &Response) -> Option<Seen> {
 // Without contracts, as the functions below, so that a test's proof does not carry those of sessions.
 fn read_of(alloc: Global, world: &World, question: Question) -> Option<Seen> {
     match answer_of(alloc, world, question) {
-        Ok(response) => seen(&response),
+        Ok(response) => what_is_in(&response),
         Err(_) => None,
     }
 }

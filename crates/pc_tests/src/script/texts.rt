@@ -5,8 +5,8 @@ use pc_script::{ScriptFault, count, first_word, lines_of, number, read_bytes, re
 use std::alloc::Global;
 use std::process::Abort;
 
-/// How many bytes a reader gives before it ends, or fails; the greatest length; how many of them were read as a text, or why none
-/// was; and how many the reader would give still.
+/// How many bytes a reader gives before it ends, or fails; the greatest length; how many of them were read as a text,
+/// or why none was; and how many the reader would give still.
 type Row = (usize, bool, usize, Result<usize, ScriptFault>, usize);
 
 /// How long the text is that was read, if it has only this byte.
@@ -107,7 +107,8 @@ fn a_text_is_read_as_it_stands(rt: HostRuntime) {
     assert_eq!(rt; first_other(rt.alloc(), &ROWS), None);
 }
 
-/// A text, its first line, the first two words of that, and the numbers that the second is, as one of 64 bits and as one of 32.
+/// A text, its first line, the first two words of that, and the numbers that the second is: one of 64 bits, and one of
+/// 32.
 type Words = (
     &'static [u8],
     &'static [u8],

@@ -1,4 +1,5 @@
-//! What is wrong with a line that is no command: which word, and what was wanted there. Worked out by hand from docs/FORMATS.md.
+//! What is wrong with a line that is no command: which word, and what was wanted there. Worked out by hand from
+//! docs/FORMATS.md.
 
 use pc_script::{Trouble, Verb, Wanted, trouble_in};
 use std::process::Abort;

@@ -181,7 +181,7 @@ fn walked(
 /// A script, what the observer notes of it, and how the walk ends.
 type Walked = (&'static [u8], &'static [u8], Result<Outcome, ScriptFault>);
 
-/// Whether an observer who gives up behind so many lines notes that, the walk ends so, and it writes nothing of its own.
+/// Whether an observer who gives up behind so many lines notes that, the walk ends so, and nothing is written.
 fn is_walked(alloc: Global, row: &Walked, left: u32, fault: ScriptFault) -> bool {
     let mut notes = Notes {
         text: Vec::new(alloc),
@@ -222,12 +222,14 @@ fn each_line_that_has_a_reply_is_told_of_in_its_order(rt: HostRuntime) {
         ),
         (
             b"# a\ntick 0\n\n  tick   1 \r\n#\nstatus t0",
-            b"expect 0 0 one\nanswered 2 1 tick 0\nexpect 0 1 one\nanswered 4 2   tick   1 \nexpect 0 2 one\nanswered 6 3 status t0\n",
+            b"expect 0 0 one\nanswered 2 1 tick 0\nexpect 0 1 one\n\
+answered 4 2   tick   1 \nexpect 0 2 one\nanswered 6 3 status t0\n",
             FINISHED,
         ),
         (
             b"wake t1\nenclave 1 2 3 4 5\nwake t1",
-            b"expect 0 0 one\nanswered 1 1 wake t1\nexpect 0 1 one\nanswered 2 2 enclave 1 2 3 4 5\nexpect 0 2 one\nanswered 3 3 wake t1\n",
+            b"expect 0 0 one\nanswered 1 1 wake t1\nexpect 0 1 one\n\
+answered 2 2 enclave 1 2 3 4 5\nexpect 0 2 one\nanswered 3 3 wake t1\n",
             FINISHED,
         ),
     ];
