@@ -126,9 +126,12 @@ def drawn_script(place: int) -> str:
     cpus, few = chance.choice([1, 2, 2, 3, 4]), chance.random() < 0.2
     rough, lines = Rough(cpus), ["# drawn", f"enclave {cpus} 3 4 3 1000" if few else f"enclave {cpus} 32 100 32 1000"]
     for _ in range(chance.choice([2, 5, 10, 20])):
-        words, cpu = turn(chance, rough), chance.randrange(cpus)
-        further = [f"{chance.choice(LEAVE)} C RAN", "publish C", "consume C", "pick C ASEQ"] if chance.random() < 0.5 else []
-        further += [chance.choice(["sleep C ASEQ", "sleep C ASEQ", "associate T Q NUMBER", "steal C"])] * (chance.random() < 0.5)
+        words, cpu, other = turn(chance, rough), chance.randrange(cpus), chance.randrange(cpus)
+        further = chance.choice([
+            [f"{chance.choice(LEAVE)} C RAN", "publish C", "consume C", "pick C ASEQ"],
+            [f"publish {other}", f"consume {other}", f"deliver C {rough.deltas}", "steal C"],
+            ["sleep C ASEQ"], ["associate T Q NUMBER"], [],
+        ])
         words += [command(chance, rough, line.split(), cpu) for line in further]
         lines += [b" ".join(line).decode() for line in words] + [""] * (chance.random() < 0.1)
     return "\n".join(lines) + "\n" + chance.choice(["", "", "", "walk\n"])
