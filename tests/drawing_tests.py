@@ -10,6 +10,7 @@ from __future__ import annotations
 
 import argparse
 import pathlib
+import random
 import re
 import subprocess
 import sys
@@ -17,9 +18,13 @@ import tempfile
 import unittest
 import xml.etree.ElementTree as ElementTree
 from collections import Counter
+from collections.abc import Iterator
 from dataclasses import dataclass, field
 
 ROOT = pathlib.Path(__file__).resolve().parent.parent
+sys.path.insert(0, str(ROOT / "tests/hostile"))
+from scripts import Rough, command, turn  # noqa: E402
+
 PROGRAM = ROOT / "crates/pc_sim/out/pc_sim"
 SCRIPTS = [*sorted((ROOT / "examples").glob("*.script")), *sorted((ROOT / "examples/recordings").glob("*.script"))]
 SETTINGS = [*sorted((ROOT / "examples").glob("*.toml")), *sorted((ROOT / "examples/recordings").glob("*.toml"))]
@@ -28,6 +33,23 @@ SHAPES = {SVG + name for name in ("rect", "line", "path")}
 SECONDS = 120
 ENCLAVE = "enclave 2 8 100 16 1000\n"
 LEAVE = ("block", "yield", "preempt", "die")
+# What ends with a number that its refusal as stale tells.
+NUMBERED = ("commit", "sleep", "pick", "associate")
+# The most commands of which each has a column of its own, and where the columns begin.
+MOST_SINGLE = 1000
+LEFT = 72
+DRAWN, MENDED = 300, 3
+LINES = r"lines? (\d+)(?: to (\d+))?"
+WAITING = r"(\d+) ready threads? waits?"
+# What the titles of bars say. What is shown at a CPU is one of these: who runs, how many threads wait there, how many items its queue
+# holds, whether its agent sleeps, and, while it idles, how many threads wait anywhere.
+ROWS = {
+    "runs": rf"t(?P<value>\d+) on CPU (?P<cpu>\d+), {LINES}",
+    "ready": rf"{WAITING.replace('(', '(?P<value>', 1)} for CPU (?P<cpu>\d+), {LINES}",
+    "queue": rf"(?P<value>\d+) items? in queue (?P<cpu>\d+), {LINES}",
+    "asleep": rf"agent (?P<cpu>\d+) asleep, {LINES}",
+    "idle": rf"CPU (?P<cpu>\d+) idle while up to {WAITING.replace('(', '(?P<value>', 1)}, {LINES}",
+}
 
 
 @dataclass
@@ -72,9 +94,9 @@ class Story:
         return self
 
 
-def story_of(script: str, output: str) -> Story:
-    """The story of a script that replay answered so."""
-    told, answers = Story(), iter(output.splitlines())
+def answered(script: str, output: str) -> Iterator[tuple[int, list[str], str]]:
+    """Of each command of a script that replay answered so the number of its line, its words, and the last line of its answer."""
+    answers = iter(output.splitlines())
     for number, line in enumerate(script.splitlines(), 1):
         words = line.split(" ")
         if line.startswith("#") or not line.strip(" "):
@@ -87,8 +109,163 @@ def story_of(script: str, output: str) -> Story:
         if words[0] == "show":
             while answer != "end" and not answer.startswith("refused"):
                 answer = next(answers)
+        yield number, words, answer
+
+
+def story_of(script: str, output: str) -> Story:
+    """The story of a script that replay answered so."""
+    told = Story()
+    for number, words, answer in answered(script, output):
         told.take(number, words, answer)
     return told.end()
+
+
+def drawn_script(place: int) -> str:
+    """A short script by the grammar, most of whose commands are accepted. Threads run, agents sleep and homes change more often than by chance."""
+    chance = random.Random(f"bars {place}")
+    cpus, few = chance.choice([1, 2, 2, 3, 4]), chance.random() < 0.2
+    rough, lines = Rough(cpus), ["# drawn", f"enclave {cpus} 3 4 3 1000" if few else f"enclave {cpus} 32 100 32 1000"]
+    for _ in range(chance.choice([2, 5, 10, 20])):
+        words, cpu, other = turn(chance, rough), chance.randrange(cpus), chance.randrange(cpus)
+        further = chance.choice([
+            [f"{chance.choice(LEAVE)} C RAN", "publish C", "consume C", "pick C ASEQ"],
+            [f"publish {other}", f"consume {other}", f"deliver C {rough.deltas}", "steal C"],
+            ["sleep C ASEQ"], ["associate T Q NUMBER"], [],
+        ])
+        words += [command(chance, rough, line.split(), cpu) for line in further]
+        lines += [b" ".join(line).decode() for line in words] + [""] * (chance.random() < 0.1)
+    return "\n".join(lines) + "\n" + chance.choice(["", "", "", "walk\n"])
+
+
+def mended(script: str, output: str) -> str:
+    """The script that replay answered so, with the numbers by which refused commands may be accepted."""
+    lines = script.splitlines()
+    for number, words, answer in answered(script, output):
+        if answer.startswith("refused Stale ") and words[0] in NUMBERED:
+            lines[number - 1] = " ".join([*words[:-1], answer.split(" ")[2]])
+    return "\n".join(lines) + "\n"
+
+
+def front_of(script: str, most: int) -> str:
+    """The script up to so many commands."""
+    lines, count = [], 0
+    for line in script.splitlines():
+        count += is_asked(line)
+        if count > most:
+            break
+        lines.append(line)
+    return "\n".join(lines) + "\n"
+
+
+def is_asked(line: str) -> bool:
+    """Whether the line is a command, or a fault."""
+    return bool(line.strip(" ")) and not line.startswith("#") and line.split()[0] != "version"
+
+
+class Watched:
+    """A script with questions behind each command: on every thread that there may be by then, and on every agent."""
+
+    def __init__(self, script: str) -> None:
+        self.cpus, self.homes, threads = 0, {}, 0
+        # Of each command its line's number, its words, and on how many threads and agents there are questions.
+        self.commands: list[tuple[int, list[str], int, int]] = []
+        lines = [line for line in script.splitlines() if line.split()[:1] == ["version"]]
+        for number, line in enumerate(script.splitlines(), 1):
+            if is_asked(line):
+                words = line.split()
+                if words[0] == "enclave" and not self.cpus:
+                    self.cpus = int(words[1])
+                threads += words[0] == "create"
+                self.commands.append((number, words, threads, self.cpus))
+                lines += [" ".join(words), *(f"status t{thread}" for thread in range(threads)), *(f"asleep {cpu}" for cpu in range(self.cpus))]
+        self.script = "\n".join(lines) + "\n"
+        self.items = [0] * self.cpus
+
+    def follow(self, words: list[str], answer: str) -> None:
+        """Counts the items of queues, and keeps the homes of threads, by an answer."""
+        posted = re.fullmatch(r"ok (?:t(\d+) n\d+|-) q(\d+) a\d+ wake .*", answer)
+        moved = re.fullmatch(r"ok t(\d+) q(\d+)", answer)
+        if posted:
+            self.items[int(posted[2])] += 1
+            if words[0] == "create":
+                self.homes[int(posted[1])] = int(posted[2])
+        elif moved:
+            self.homes[int(moved[1])] = int(moved[2])
+        elif words[0] == "consume" and answer.startswith("ok "):
+            self.items[int(words[1])] -= int(answer.split()[1])
+
+    def shown(self, statuses: list[str], asleep: list[str]) -> dict[str, list[int | None]]:
+        """What each row shows at each CPU, by the answers to the questions: none where there is nothing to show."""
+        told = [re.fullmatch(r"t\d+ n\d+ (ready|blocked|dead)(?: c(\d+))?", answer) for answer in statuses]
+        on = {int(it[2]): thread for thread, it in enumerate(told) if it and it[2]}
+        waits = Counter(self.homes[thread] for thread, it in enumerate(told) if it and it[1] == "ready" and not it[2])
+        cpus = range(len(asleep))
+        return {
+            "runs": [on.get(cpu) for cpu in cpus],
+            "ready": [waits[cpu] or None for cpu in cpus],
+            "queue": [self.items[cpu] or None for cpu in cpus],
+            "asleep": [1 if asleep[cpu] == "yes" else None for cpu in cpus],
+            "idle": [waits.total() or None if cpu not in on else None for cpu in cpus],
+        }
+
+    def steps(self, output: str) -> list[tuple[int, dict[str, list[int | None]]]]:
+        """Of each command the number of its line, and what the rows show after it."""
+        answers, steps = (answer for _, _, answer in answered(self.script, output)), []
+        for (number, words, threads, cpus), answer in zip(self.commands, answers):
+            self.follow(words, answer)
+            statuses = [next(answers) for _ in range(threads)]
+            steps.append((number, self.shown(statuses, [next(answers) for _ in range(cpus)])))
+        return steps
+
+
+@dataclass(frozen=True)
+class Bar:
+    """A bar over some columns, from the first to before the end: its row, its CPU, what it shows, and the lines that its title tells."""
+
+    row: str
+    cpu: int
+    value: int
+    columns: tuple[int, int]
+    lines: tuple[int, int]
+
+
+def bars_of(steps: list[tuple[int, dict[str, list[int | None]]]], cpus: int) -> Counter[Bar]:
+    """The bars by which the steps are to be shown: each as long as a row shows the same, and one while a CPU idles."""
+    bars, numbers = Counter(), [number for number, _ in steps]
+    for row in ROWS:
+        for cpu in range(cpus):
+            values = [shown[row][cpu] for _, shown in steps]
+            kinds, start = [value if row != "idle" or value is None else "idle" for value in values], 0
+            for end in range(1, len(values) + 1):
+                if end < len(values) and kinds[end] == kinds[start]:
+                    continue
+                if values[start] is not None:
+                    lines = (numbers[start], numbers[min(end, len(numbers) - 1)])
+                    bars[Bar(row, cpu, max(values[start:end]), (start, end), lines)] += 1
+                start = end
+    return bars
+
+
+def bars_in(root: ElementTree.Element, count: int) -> Counter[Bar]:
+    """The bars that a picture of so many commands shows, with the columns over which they lie."""
+    wide, bars = max(4, min(24, 1200 // max(1, count))), Counter()
+    for element in root[1:]:
+        for row, pattern in ROWS.items():
+            told = re.fullmatch(pattern, element[0].text or "") if element.tag in SHAPES else None
+            if told:
+                edges = edges_of(element)
+                columns = tuple((edge - LEFT) / wide for edge in edges)
+                groups = told.groupdict()
+                first, last = told.groups()[-2:]
+                bars[Bar(row, int(groups["cpu"]), int(groups.get("value", 1)), columns, (int(first), int(last or first)))] += 1
+    return bars
+
+
+def edges_of(element: ElementTree.Element) -> tuple[float, float]:
+    """Where a bar begins and ends, from left to right."""
+    if element.tag == SVG + "line":
+        return float(element.get("x1")), float(element.get("x2"))
+    return float(element.get("x")), float(element.get("x")) + float(element.get("width"))
 
 
 class Drawings(unittest.TestCase):
@@ -202,6 +379,32 @@ class Drawings(unittest.TestCase):
                 if story.commands <= 1000:
                     self.assertEqual(self.told(root, r"t\d+ on CPU \d+, lines \d+ to \d+"), story.runs)
                     self.assertEqual(len(self.told(root, r"crash\b.*, line \d+.*")), story.crashes)
+
+    def shown_bars(self, script: str) -> Counter[str]:
+        """Holds the bars of a script's picture against what the script itself answers to questions. Counts the bars of each row."""
+        watched = Watched(script)
+        steps = watched.steps(self.answers(watched.script))
+        run = self.run_program("draw", text=script)
+        drawn = bars_in(self.parsed(run.stdout), len(steps))
+        self.assertEqual(drawn - bars_of(steps, watched.cpus), Counter(), "drawn, and not so")
+        self.assertEqual(bars_of(steps, watched.cpus) - drawn, Counter(), "so, and not drawn")
+        return Counter(bar.row for bar in drawn.elements())
+
+    def test_bars_show_what_the_questions_of_drawn_scripts_answer(self) -> None:
+        rows: Counter[str] = Counter()
+        for place in range(DRAWN):
+            with self.subTest(place=place):
+                script = drawn_script(place)
+                for _ in range(MENDED):
+                    script = mended(script, self.answers(script))
+                rows += self.shown_bars(script)
+        for row in ROWS:
+            self.assertGreater(rows[row], DRAWN // 2, f"hardly any script has a bar of the row {row}")
+
+    def test_bars_show_what_the_questions_of_each_example_answer(self) -> None:
+        for file in SCRIPTS:
+            with self.subTest(file=file.name):
+                self.assertGreater(self.shown_bars(front_of(file.read_text(), MOST_SINGLE)).total(), 0)
 
     def test_many_threads_and_cpus_stay_small(self) -> None:
         script = self.many(64, 10_000)

@@ -5,7 +5,10 @@ mod ends;
 mod faults;
 mod reading;
 mod responses;
+mod texts;
+mod troubles;
 mod waiting;
+mod walking;
 
 use pc_calls::{EnvCall, Event, LimitField, Posted, Profile, Refusal, Reply, Status};
 use pc_messages::{Cpu, Level, Mask, Phase, Reported, Tid};

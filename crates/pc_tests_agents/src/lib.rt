@@ -1,11 +1,13 @@
-//! Tests of agents, the world, what is told of scripts, and the book, by their public names alone: beside `pc_tests`, so that two
-//! jobs share the proofs of tests.
+//! Tests of agents, the world, sessions, what is told of scripts, and the book, by their public names alone: beside
+//! `pc_tests`, so that two jobs share the proofs of tests.
 #![tactic(auto)]
 
 #[cfg(test)]
 mod agent;
 #[cfg(test)]
 mod explain;
+#[cfg(test)]
+mod session;
 #[cfg(test)]
 mod threads;
 #[cfg(test)]

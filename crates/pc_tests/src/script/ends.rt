@@ -9,10 +9,10 @@ use std::process::Abort;
 
 /// Gives this byte so often, at most as many at a time as there is room for, and then fails or ends.
 #[derive(Drop)]
-struct Repeated {
-    byte: u8,
-    left: usize,
-    fails: bool,
+pub(super) struct Repeated {
+    pub(super) byte: u8,
+    pub(super) left: usize,
+    pub(super) fails: bool,
 }
 
 impl Read for Repeated {
