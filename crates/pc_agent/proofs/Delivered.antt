@@ -1,7 +1,5 @@
 -- What an agent shows that took messages in.
-use Rattle.std.proofs.Common.{ℕ, ◌≡◌, ◌||◌, false, List, [], length, Some, Result, Ok, Err, OnOk, IsErr, sym, ap, ◌∙◌, subst, inl, inr}
-use Rattle.pc_join.specs.declared.name_set.NameSet.{NameSet}
-use Rattle.pc_join.specs.NameSets.{is_in}
+use Rattle.std.proofs.Common.{ℕ, ◌≡◌, ◌||◌, false, List, [], length, Result, Ok, Err, OnOk, IsErr, sym, ap, ◌∙◌, subst, inl, inr}
 use Rattle.std.proofs.lemmas.Bool.{false≢true}
 use Rattle.pc_messages.specs.Items.{pairs_in, AreItemsOf}
 use Rattle.pc_messages.specs.Run.{Run}
@@ -20,7 +18,6 @@ use Rattle.pc_agent.specs.declared.wire.SendFault.{SendFault}
 use Rattle.pc_agent.specs.declared.wire.SendFault.TheVariants as fault
 use Rattle.pc_agent.specs.Calls.{DoesCopy}
 use Rattle.pc_agent.specs.Exchanging.{IsDelivered}
-use Rattle.pc_agent.specs.Inner.Wanted.{HoldsAll}
 use Rattle.pc_agent.specs.Own.{HasCopied, HasPartlyCopied, Publishes}
 use Rattle.pc_agent.specs.PlainAgent.{PlainAgent, Set, copied, threads_in}
 use Rattle.pc_agent.specs.Publishing.{Copies, IsCopied, IsPublished, Sending}
@@ -104,12 +101,3 @@ pub none_runs : ReportsAreTold → (view : View) → IsVoid (pairs_of view) → 
 none_runs reported view nothing of_run cpu t =
     let none = view_of_nothing (λ thread. []) view nothing (of_run (λ thread. [])) in
     ap (λ state. may_run state cpu) (reported (λ thread. []) [] view t none.of_run none.seen)
-
-pub none_to_hold : ReportsAreTold → (view : View) → IsVoid (pairs_of view) → ((run : Run) → IsOfRun run view) → (cpu : ℕ) (none : NameSet) → ((t : ℕ) → is_in none t ≡ false)
-    → HoldsAll (runs_in view cpu) (Some none)
-none_to_hold reported view nothing of_run cpu none empty names is t e =
-    let same : none ≡ names = cc in
-    let runs_not = none_runs reported view nothing of_run cpu t in (
-      sym (ap (λ set. is_in set t) same) ∙ empty t ∙ sym runs_not,
-      λ runs. absurd (false≢true (sym runs_not ∙ runs)),
-    )

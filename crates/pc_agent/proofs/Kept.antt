@@ -1,6 +1,7 @@
 -- Names that are kept: what they lack does not pass the test.
-use Rattle.std.proofs.Common.{ℕ, ◌+◌, ◌^◌, ◌<◌, ◌==◌, ◌&&◌, ◌||◌, ◌≡◌, not, Bool, true, false, List, ◌∷◌, length, drop, get_or, Option, Some, None, refl, sym, ap, ◌∙◌, add-one}
+use Rattle.std.proofs.Common.{ℕ, ◌+◌, ◌^◌, ◌<◌, ◌==◌, ◌&&◌, ◌||◌, ◌≡◌, not, Bool, true, false, List, ◌∷◌, length, drop, get_or, Option, Some, None, Result, Ok, Err, OnOk, is_ok, refl, sym, ap, subst, ◌∙◌, add-one}
 use Rattle.pc_join.specs.NameSets.{is_in}
+use Rattle.pc_join.specs.declared.join.OutOfMemory.{OutOfMemory}
 use Rattle.pc_join.specs.declared.name_set.NameSet.{NameSet}
 use Rattle.std.proofs.Math.Seq.{drop-cons}
 use Rattle.std.proofs.lemmas.Bool.{false≢true}
@@ -51,3 +52,14 @@ one_less parts i part test names e lt h t untold =
   where
     from_there : drop i parts ≡ part ∷ drop (i + 1) parts
     from_there = drop-cons parts i part lt ∙ ap (λ n. get_or parts i part ∷ drop n parts) (sym (add-one i)) ∙ ap (λ y. y ∷ drop (i + 1) parts) (sym e)
+
+-- all that parts tell of was looked at anew, or nothing was kept
+pub all_kept : (but test : ℕ → Bool) (result : Result (Unit {0}) OutOfMemory) (old new : NameSet) (before after : Option (NameSet)) (kept ok : Bool) → kept ≡ true → kept ≡ ok → ok ≡ is_ok result
+    → OnOk result (HasAllBut but test old → HasAllBut (λ t. false) test new) → before ≡ Some old → after ≡ Some new → HoldsAllBut but test before → HoldsAll test after
+all_kept but test (Ok done) old new before after kept ok f g h says was is held names has =
+    let same : new ≡ names = cc in
+    subst (HasAllBut (λ t. false) test) same (says (held old was))
+all_kept but test (Err fault) old new before after kept ok f g h says was is held names has = absurd (false≢true (sym h ∙ sym g ∙ f))
+
+pub none_kept : (test : ℕ → Bool) (after : Option (NameSet)) → after ≡ None → HoldsAll test after
+none_kept test after is names has = absurd (let none : ⊥ = cc in none)

@@ -4,6 +4,7 @@ pub mod Ready
 pub mod Stolen
 pub mod Wanted
 pub mod Kept
+pub mod Pushed
 pub mod Settles
 pub mod Delivered
 pub mod Items

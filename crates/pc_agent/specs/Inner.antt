@@ -1,3 +1,4 @@
 pub mod Picks
 pub mod Wanted
 pub mod Settled
+pub mod Shortcuts

@@ -1,12 +1,11 @@
 //! One agent.
 
-ghost use Rattle.std.specs.Prelude.{ℕ, ◌≡◌, IsTrue};
+ghost use Rattle.std.specs.Prelude.{ℕ, ◌≡◌};
 ghost use Rattle.pc_messages.specs.Run.{Run};
-ghost use Rattle.pc_run_queue.specs.Runs.{IsSettled, runs_in};
-ghost use Rattle.pc_agent.specs.Inner.Wanted.{HoldsAll, IsNoneWantedBelow};
+ghost use Rattle.pc_agent.specs.Inner.Shortcuts.{AreTrue};
 
 use crate::counts::Counts;
-use pc_join::NameSet;
+use crate::shortcuts::Shortcuts;
 use pc_messages::{Cpu, Tid};
 use pc_run_queue::RunQueue;
 use pc_view::{View, views_tell_what_their_sets_tell};
@@ -24,23 +23,9 @@ pub struct Agent {
     pub(crate) list: RunQueue,
     pub(crate) shown: u32,
     pub(crate) counts: Counts,
-    /// Below this name no thread is wanted: each that the view reports ready and allowed here is in the run list. A steal
-    /// begins to look here. What the kernel says plays no part in it.
-    pub(crate) passed: u32,
-    /// The names of the threads that the view reports ready and allowed on the CPU: a steal looks at these alone, and not at
-    /// the view. None where memory ran out while they were kept; a steal then looks at all threads that the view knows.
-    pub(crate) runnable: Option<NameSet>,
-    /// Whether it is known that a refresh that touches no thread would leave the run list as it is: then a refresh looks at
-    /// the touched threads alone.
-    pub(crate) settled: bool,
-    /// The threads of the run list of which the parts tell that the view is about to take in, each with its level.
-    pub(crate) noted: Vec<(Tid, u8)>,
-    /// The threads that the refresh under way touches. Like those that are noted, they stand here so that no call takes memory
-    /// for them anew.
-    pub(crate) touched: Vec<Tid>,
-    ghost settled_is: { IsTrue settled → IsSettled view cpu list },
-    ghost runnable_has: { HoldsAll (runs_in view cpu) runnable },
-    ghost passed_over: { IsNoneWantedBelow passed (runs_in view cpu) list },
+    /// What makes its calls quick. Nothing that they do or answer depends on it.
+    pub(crate) shortcuts: Shortcuts,
+    ghost shortcuts_hold: { AreTrue shortcuts view cpu list },
 }
 
 impl Agent {
@@ -63,11 +48,7 @@ impl Agent {
             list: RunQueue::new(alloc),
             shown: 0,
             counts: Counts::new(),
-            passed: 0,
-            runnable: Some(NameSet::new(alloc)),
-            settled: true,
-            noted: Vec::new(alloc),
-            touched: Vec::new(alloc),
+            shortcuts: Shortcuts::new(alloc),
         }
     }
 
@@ -82,9 +63,7 @@ impl Agent {
         self.view.clear();
         self.list = RunQueue::new(self.alloc);
         self.shown = 0;
-        self.passed = 0;
-        self.runnable = Some(NameSet::new(self.alloc));
-        self.settled = true;
+        self.shortcuts.restart(self.alloc);
     }
 
     /// The agent's CPU.

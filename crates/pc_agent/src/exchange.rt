@@ -8,8 +8,6 @@ ghost use Rattle.pc_agent.specs.Calls.{DoesDeliver};
 ghost use Rattle.pc_agent.specs.Exchanging.{IsAnswered};
 
 use crate::agent::Agent;
-use crate::runnable::keep_runnable;
-use crate::watch::{are_as_noted, note_told};
 use crate::wire::{SendFault, Wire};
 use pc_delta::{Delta, Digest, delta_beyond, delta_since, take_in};
 use pc_join::OutOfMemory;
@@ -21,26 +19,18 @@ impl Agent {
     pub fn deliver(&mut self, delta: &Delta) -> Result<(), OutOfMemory>
         ensures { DoesDeliver delta.now result self.old self.new }
     {
-        self.passed = 0;
         let parts = delta.parts();
-        let all = note_told(
-            &mut self.noted,
-            self.settled,
-            &self.list,
-            &self.view,
-            self.cpu,
-            parts,
-        );
-        self.settled = false;
+        self.shortcuts.note(parts, &self.list, &self.view, self.cpu);
         match take_in(&mut self.view, delta) {
-            Ok(()) => keep_runnable(&mut self.runnable, &self.view, self.cpu, parts),
+            Ok(()) => {
+                self.shortcuts.look_anew(parts, &self.view, self.cpu);
+                Ok(())
+            }
             Err(fault) => {
-                self.runnable = None;
-                return Err(fault);
+                self.shortcuts.forget();
+                Err(fault)
             }
         }
-        self.settled = are_as_noted(all, &self.view, self.cpu, self.noted.as_slice());
-        Ok(())
     }
 
     /// Sends what the digest lacks of all that the agent knows.

@@ -14,6 +14,7 @@ mod laws;
 mod pick;
 mod queue;
 mod runnable;
+mod shortcuts;
 mod steal;
 mod watch;
 mod wire;

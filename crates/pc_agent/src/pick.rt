@@ -1,47 +1,31 @@
 //! How an agent has a thread of its run list run.
 
-ghost use Rattle.std.specs.Prelude.{◌≡◌, ◌∷◌, [], MatchOption};
+ghost use Rattle.std.specs.Prelude.{◌≡◌};
 ghost use Rattle.pc_kernel.specs.Reads.{seen};
 ghost use Rattle.pc_agent.specs.Calls.{DoesPick, GoesOn};
 ghost use Rattle.pc_agent.specs.Inner.Picks.{CommitsFirst, Picks, unready_for};
-ghost use Rattle.pc_agent.specs.Inner.Settled.{StaysSettled};
-ghost use Rattle.pc_agent.specs.Inner.Wanted.{StaysPassed};
+ghost use Rattle.pc_agent.specs.Inner.Shortcuts.{StayTrue};
 
 use crate::agent::Agent;
+use crate::shortcuts::Shortcuts;
 use pc_calls::Refusal;
 use pc_kernel::Kernel;
 use pc_messages::{Cpu, Tid};
 use pc_run_queue::RunQueue;
 
-/// Takes the first name out, which may be wanted again.
-fn take_out(list: &mut RunQueue, passed: &mut u32) -> Option<Tid>
-    ensures first { MatchOption result ((list.old ≡ []) × (list.new ≡ [])) (λ name. list.old ≡ name ∷ list.new) }
-    ensures passed { StaysPassed passed.old list.old passed.new list.new }
-    ensures settled { StaysSettled list.old list.new }
-{
-    match list.take_first() {
-        None => None,
-        Some(name) => {
-            *passed = name.index().min(*passed);
-            Some(name)
-        }
-    }
-}
-
 /// Commits the first name that the kernel commits; what stood before it is dropped, and it leaves the list too.
 fn commit_first(
     list: &mut RunQueue,
+    shortcuts: &mut Shortcuts,
     kernel: &mut Kernel,
     cpu: Cpu,
     aseq: u32,
-    passed: &mut u32,
 ) -> Result<Tid, Refusal>
     ensures first { CommitsFirst cpu aseq result list.old list.new kernel.old kernel.new }
     ensures goes_on { GoesOn result kernel.old kernel.new }
-    ensures passed { StaysPassed passed.old list.old passed.new list.new }
-    ensures settled { StaysSettled list.old list.new }
+    ensures kept { StayTrue shortcuts.old list.old shortcuts.new list.new }
 {
-    while let Some(name) = take_out(list, passed) {
+    while let Some(name) = shortcuts.take_first(list) {
         match kernel.commit(cpu, name, aseq) {
             Ok(()) => return Ok(name),
             // The name is dropped: it comes back when a further message of it is copied, or by a steal.
@@ -68,20 +52,19 @@ fn unready(kernel: &Kernel, cpu: Cpu, aseq: u32) -> Option<Refusal>
 /// A pick from a run list, for a CPU.
 fn pick_from(
     list: &mut RunQueue,
+    shortcuts: &mut Shortcuts,
     kernel: &mut Kernel,
     cpu: Cpu,
     aseq: u32,
-    passed: &mut u32,
 ) -> Result<Tid, Refusal>
     ensures picks { Picks cpu aseq result list.old list.new kernel.old kernel.new }
     ensures goes_on { GoesOn result kernel.old kernel.new }
-    ensures passed { StaysPassed passed.old list.old passed.new list.new }
-    ensures settled { StaysSettled list.old list.new }
+    ensures kept { StayTrue shortcuts.old list.old shortcuts.new list.new }
 {
     if let Some(refusal) = unready(kernel, cpu, aseq) {
         return Err(refusal);
     }
-    commit_first(list, kernel, cpu, aseq, passed)
+    commit_first(list, shortcuts, kernel, cpu, aseq)
 }
 
 impl Agent {
@@ -93,7 +76,7 @@ impl Agent {
     pub fn pick(&mut self, kernel: &mut Kernel, aseq: u32) -> Result<Tid, Refusal>
         ensures { DoesPick aseq result self.old self.new kernel.old kernel.new }
     {
-        let answered = pick_from(&mut self.list, kernel, self.cpu, aseq, &mut self.passed);
+        let answered = pick_from(&mut self.list, &mut self.shortcuts, kernel, self.cpu, aseq);
         self.counts.count_pick(&answered);
         answered
     }

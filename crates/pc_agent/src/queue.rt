@@ -1,13 +1,11 @@
 //! What an agent does with its own queue.
 
-ghost use Rattle.std.specs.Prelude.{◌≡◌, ◌<◌, ◌^◌, length, Err, OnOk, OnErr, IsTrue};
+ghost use Rattle.std.specs.Prelude.{◌≡◌, ◌<◌, ◌^◌, length, Err, IsTrue};
 ghost use Rattle.pc_messages.specs.Items.{AreTellable};
 ghost use Rattle.pc_kernel.specs.Reads.{seen, is_cpu};
-ghost use Rattle.pc_run_queue.specs.Runs.{IsSettled, refreshed};
 ghost use Rattle.pc_agent.specs.declared.counts.TheConstants.{MOST_COUNTED};
 ghost use Rattle.pc_agent.specs.Calls.{CountsAsSent, DoesConsume, DoesCopy, DoesPublish};
 ghost use Rattle.pc_agent.specs.Own.{Publishes};
-ghost use Rattle.pc_agent.specs.PlainAgent.{threads_in};
 ghost use Rattle.pc_agent.specs.Shows.{cpu_of};
 
 use crate::agent::Agent;
@@ -18,43 +16,8 @@ use pc_delta::laws::{parts_of_items_are_of_the_run, parts_stay_as_the_run_goes_o
 use pc_join::OutOfMemory;
 use pc_kernel::Kernel;
 use pc_kernel::laws::reads_are_plain;
-use pc_messages::{Cpu, Item, Tid};
-use pc_run_queue::RunQueue;
-use pc_view::{View, views_tell_what_their_sets_tell};
-
-/// Lists the threads of the items, in their order, in place of what the list had; a tick has none.
-fn list_threads(threads: &mut Vec<Tid>, items: &[Item]) -> Result<(), OutOfMemory>
-    ensures { OnOk result (threads.new.items ≡ threads_in items.now) }
-{
-    threads.clear();
-    for item in items {
-        match item {
-            Item::Thread(message) => threads.push(message.thread)?,
-            Item::Tick(_) => {}
-        }
-    }
-    Ok(())
-}
-
-/// Refreshes a run list, of which it may be known that only the touched threads can change it.
-fn refresh_list(
-    list: &mut RunQueue,
-    settled: bool,
-    view: &View,
-    touched: &[Tid],
-    cpu: Cpu,
-) -> Result<(), OutOfMemory>
-    requires { IsTrue settled → IsSettled view.now cpu list.old }
-    ensures ok { OnOk result (list.new ≡ refreshed view.now cpu list.old touched.now) }
-    ensures err { OnErr result (list.new ≡ list.old) }
-    ensures settled { OnOk result (IsSettled view.now cpu list.new) }
-{
-    if settled {
-        list.refresh_settled(view, touched, cpu)
-    } else {
-        list.refresh(view, touched, cpu)
-    }
-}
+use pc_messages::Item;
+use pc_view::views_tell_what_their_sets_tell;
 
 impl Agent {
     /// Takes the messages of items into its view, refreshes its run list with their threads, and gives the delta that
@@ -67,18 +30,8 @@ impl Agent {
         parts_of_items_are_of_the_run();
         let delta = Delta::of_items(self.alloc, items)?;
         self.deliver(&delta)?;
-        list_threads(&mut self.touched, items)?;
-        self.passed = 0;
-        let settled = self.settled;
-        self.settled = false;
-        refresh_list(
-            &mut self.list,
-            settled,
-            &self.view,
-            self.touched.as_slice(),
-            self.cpu,
-        )?;
-        self.settled = true;
+        self.shortcuts
+            .refresh(&mut self.list, &self.view, self.cpu, items)?;
         Ok(delta)
     }
 

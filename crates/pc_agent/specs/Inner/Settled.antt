@@ -5,7 +5,7 @@ use Rattle.pc_view.specs.declared.view.View.{View}
 use Rattle.pc_delta.specs.declared.part.Part.{Part}
 use Rattle.pc_delta.specs.Parts.{tells_of}
 use Rattle.pc_run_queue.specs.Names.{has_name}
-use Rattle.pc_run_queue.specs.Runs.{IsSettled, runs_in, level_in}
+use Rattle.pc_run_queue.specs.Runs.{runs_in, level_in}
 
 -- the thread is noted, with some level
 abbrev pub is_noted : List (ℕ × ℕ) → ℕ → Bool
@@ -22,7 +22,3 @@ AreAsNoted view cpu noted = All (IsAsNoted view cpu) noted
 -- of the threads of the list, the parts tell of none that is not noted
 abbrev pub TellsOfNoOther : List Part → List ℕ → List (ℕ × ℕ) → Type 0
 TellsOfNoOther parts list noted = (t : ℕ) → has_name list t ≡ true → is_noted noted t ≡ false → tells_of parts t ≡ false
-
--- after a change of the list it is settled, where it was
-abbrev pub StaysSettled : List ℕ → List ℕ → Type 0
-StaysSettled old new = (view : View) (cpu : ℕ) → IsSettled view cpu old → IsSettled view cpu new

@@ -9,10 +9,6 @@ use Rattle.pc_agent.specs.PlainAgent.{is_wanted}
 abbrev pub IsNoneWantedBelow : ℕ → (ℕ → Bool) → List ℕ → Type 0
 IsNoneWantedBelow number runs list = (t : ℕ) → t < number → is_wanted runs list t ≡ false
 
--- the same after a change of the run list, whatever may run
-abbrev pub StaysPassed : ℕ → List ℕ → ℕ → List ℕ → Type 0
-StaysPassed passed list lower less = (runs : ℕ → Bool) → IsNoneWantedBelow passed runs list → IsNoneWantedBelow lower runs less
-
 -- each number that passes the test fits 32 bits
 abbrev pub AreShort : (ℕ → Bool) → Type 0
 AreShort test = (t : ℕ) → test t ≡ true → t < 2 ^ 32

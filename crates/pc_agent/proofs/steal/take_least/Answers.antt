@@ -1,7 +1,12 @@
 use Rattle.std.proofs.Common.{Err, ◌≡◌, is_some, refl, sym, subst, ap, ◌∙◌}
 use Rattle.pc_calls.specs.declared.refusal.Refusal.TheVariants.{Busy}
 use Rattle.pc_calls.specs.declared.refusal.CallFault.TheVariants.{Refused}
-use Rattle.pc_run_queue.specs.Runs.{IsSettled}
+use Rattle.pc_kernel.specs.Reads.{seen}
+use Rattle.pc_run_queue.specs.Names.{has_name}
+use Rattle.pc_run_queue.specs.Runs.{runs_in}
+use Rattle.pc_agent.specs.Inner.Shortcuts.{AreTrue}
+use Rattle.pc_agent.specs.PlainAgent.{is_idle}
+use Rattle.pc_agent.proofs.Pushed.{may_run_that, pushed}
 use Rattle.pc_agent.proofs.Stolen.{for_busy, none_found, put_back, was_not_taken, was_taken}
 use Rattle.pc_agent.proofs.steal.take_least.Goals as goal
 
@@ -23,10 +28,16 @@ returns-in-Err-clause-takes c =
     was_not_taken c.args.view.now c.args.cpu c.args.list.now c.args.kernel.now (sym (c.if-is_some.ensures ∙ ap is_some c.running.ensures)) c.in-Some.thread c.in-Some.ensures
     c.upto.result c.upto.ensures c.take_last.new.self c.associate.new.self c.in-Err.refusal c.in-Err.ensures.fault
 
-pub returns-in-Err-clause-settled : goal.returns-in-Err-clause-settled
-returns-in-Err-clause-settled c = λ told. (
-    subst (IsSettled c.args.view.now c.args.cpu) (sym left) (c.requires.settled told)
-    )
+pub returns-in-Ok-associate-clause-kept : goal.returns-in-Ok-associate-clause-kept
+returns-in-Ok-associate-clause-kept c =
+    let thread = c.in-Some.thread in
+    let runs = runs_in c.args.view.now c.args.cpu in
+    let may = may_run_that (runs thread) (has_name c.args.list.now thread) (is_idle (seen c.args.kernel.now) thread) c.in-Some.ensures.passes in
+    pushed c.pass_over-least.new.self c.args.view.now c.args.cpu c.args.list.now thread c.pass_over-least.ensures.kept c.keep_settled_if.new.self c.in-Ok.in_order c.push_in_order.new.self
+    c.keep_settled_if.ensures c.in-Ok.ensures.ok (λ o settled. c.in-Ok.ensures.settled o c.args.cpu may settled)
+
+pub returns-in-Err-clause-kept : goal.returns-in-Err-clause-kept
+returns-in-Err-clause-kept c = subst (AreTrue c.pass_over-least.new.self c.args.view.now c.args.cpu) (sym left) c.pass_over-least.ensures.kept
   where
     left : c.take_last.new.self ≡ c.args.list.now
     left = put_back c.take_last.result c.args.list.now c.push_in_order.new.self c.take_last.new.self c.in-Some.thread c.take_last.ensures c.in-Ok.ensures.ok

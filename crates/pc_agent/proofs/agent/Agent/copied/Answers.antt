@@ -2,6 +2,7 @@ use Rattle.std.proofs.Common.{subst, refl, ◌∙◌}
 use Rattle.pc_delta.specs.Exchange.{IsPartlyTakenIn, IsTakenIn}
 use Rattle.pc_delta.specs.Parts.{parts_in}
 use Rattle.pc_run_queue.specs.Runs.{refreshed}
+use Rattle.pc_agent.specs.PlainAgent.{threads_in}
 use Rattle.pc_agent.proofs.Delivered.{copy_failed, has_copied, has_partly_copied, takes_none}
 use Rattle.pc_agent.proofs.agent.Agent.copied.Goals as goal
 
@@ -21,27 +22,18 @@ returns-in_err-deliver c =
     c.from_residual-in_err-deliver.result c.from_residual-in_err-deliver.ensures.0 record { view = partly; list = c.deliver.ensures.list; shown = c.deliver.ensures.sent })
     partly (c.deliver.ensures.list) c.deliver.ensures.sent c.deliver.ensures.cpu c.deliver.ensures.counts
 
-pub returns-in_err-list_threads : goal.returns-in_err-list_threads
-returns-in_err-list_threads c =
+pub returns-in_err-refresh : goal.returns-in_err-refresh
+returns-in_err-refresh c =
     let partly : IsPartlyTakenIn (parts_in c.args.items.now) c.args.self.now.view c.deliver.new.self.view = subst (λ parts. IsPartlyTakenIn parts c.args.self.now.view c.deliver.new.self.view) c.in_ok-delta.ensures.told c.deliver.ensures.partly in
-    copy_failed c.args.items.now c.from_residual-in_err-list_threads.result c.args.self.now _ c.from_residual-in_err-list_threads.ensures.0
+    copy_failed c.args.items.now c.from_residual-in_err-refresh.result c.args.self.now _ c.from_residual-in_err-refresh.ensures.0
     (λ run p are h. has_partly_copied c.views_tell_what_their_sets_tell.ensures.reported c.parts_of_items_are_of_the_run.ensures.set c.parts_of_items_are_of_the_run.ensures.of_run run p c.args.items.now c.args.self.now _ are h
-    c.from_residual-in_err-list_threads.result c.from_residual-in_err-list_threads.ensures.0 record { view = partly; list = c.deliver.ensures.list; shown = c.deliver.ensures.sent })
-    partly (c.deliver.ensures.list) c.deliver.ensures.sent c.deliver.ensures.cpu c.deliver.ensures.counts
-
-pub returns-in_err-refresh_list : goal.returns-in_err-refresh_list
-returns-in_err-refresh_list c =
-    let partly : IsPartlyTakenIn (parts_in c.args.items.now) c.args.self.now.view c.deliver.new.self.view = subst (λ parts. IsPartlyTakenIn parts c.args.self.now.view c.deliver.new.self.view) c.in_ok-delta.ensures.told c.deliver.ensures.partly in
-    copy_failed c.args.items.now c.from_residual-in_err-refresh_list.result c.args.self.now _ c.from_residual-in_err-refresh_list.ensures.0
-    (λ run p are h. has_partly_copied c.views_tell_what_their_sets_tell.ensures.reported c.parts_of_items_are_of_the_run.ensures.set c.parts_of_items_are_of_the_run.ensures.of_run run p c.args.items.now c.args.self.now _ are h
-    c.from_residual-in_err-refresh_list.result c.from_residual-in_err-refresh_list.ensures.0 record { view = partly; list = c.in_err-refresh_list.ensures.err ∙ c.deliver.ensures.list; shown = c.deliver.ensures.sent })
-    partly (c.in_err-refresh_list.ensures.err ∙ c.deliver.ensures.list) c.deliver.ensures.sent c.deliver.ensures.cpu c.deliver.ensures.counts
+    c.from_residual-in_err-refresh.result c.from_residual-in_err-refresh.ensures.0 record { view = partly; list = c.in_err-refresh.ensures.err ∙ c.deliver.ensures.list; shown = c.deliver.ensures.sent })
+    partly (c.in_err-refresh.ensures.err ∙ c.deliver.ensures.list) c.deliver.ensures.sent c.deliver.ensures.cpu c.deliver.ensures.counts
 
 pub returns : goal.returns
 returns c =
-    let touched = c.as_slice.ensures.value ∙ c.in_ok-list_threads.ensures in
     let taken = subst (λ parts. IsTakenIn parts c.args.self.now.view c.deliver.new.self.view) c.in_ok-delta.ensures.told c.in_ok-deliver.ensures.done in
-    let list = c.in_ok-refresh_list.ensures.ok ∙ (λ i. refreshed c.deliver.new.self.view (c.deliver.ensures.cpu i) (c.deliver.ensures.list i) (touched i)) in
+    let list = c.in_ok-refresh.ensures.ok ∙ (λ i. refreshed c.deliver.new.self.view (c.deliver.ensures.cpu i) (c.deliver.ensures.list i) (threads_in c.args.items.now)) in
     record {
       copies = λ run p are h.
           has_copied c.views_tell_what_their_sets_tell.ensures.reported c.parts_of_items_are_of_the_run.ensures.set c.parts_of_items_are_of_the_run.ensures.of_run run p c.args.items.now c.args.self.now _ are h c.in_ok-delta.delta c.in_ok-delta.ensures.told

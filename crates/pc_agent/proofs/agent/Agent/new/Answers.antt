@@ -1,6 +1,6 @@
-use Rattle.std.proofs.Common.{arith, refl, subst, sym}
-use Rattle.pc_run_queue.specs.Runs.{IsSettled}
-use Rattle.pc_agent.proofs.Delivered.{none_to_hold}
+use Rattle.std.proofs.Common.{refl, subst, sym}
+use Rattle.pc_agent.specs.Inner.Shortcuts.{AreTrue}
+use Rattle.pc_agent.proofs.Delivered.{none_runs}
 use Rattle.pc_agent.proofs.Taking.{view_of_nothing}
 use Rattle.pc_agent.proofs.agent.Agent.new.Goals as goal
 
@@ -12,8 +12,6 @@ returns-clause-fresh c run = record {
 }
 
 pub invariant_of-result : goal.invariant_of-result
-invariant_of-result c = record {
-  settled_is = λ e. subst (IsSettled c.new.result c.args.cpu) (sym c.new-2.ensures) refl;
-  runnable_has = none_to_hold c.views_tell_what_their_sets_tell.ensures.reported c.new.result c.new.ensures.nothing c.new.ensures.of_run c.args.cpu c.new-4.result c.new-4.ensures;
-  passed_over = λ t lt. absurd (omega (arith, lt));
-}
+invariant_of-result c =
+    let none = none_runs c.views_tell_what_their_sets_tell.ensures.reported c.new.result c.new.ensures.nothing c.new.ensures.of_run c.args.cpu in
+    record { shortcuts_hold = subst (AreTrue c.new-4.result c.new.result c.args.cpu) (sym c.new-2.ensures) (c.new-4.ensures c.new.result c.args.cpu none) }

@@ -19,4 +19,4 @@ returns c =
     }
 
 pub invariant_of-self : goal.invariant_of-self
-invariant_of-self c = record { settled_is = λ e. c.pick_from-answered.ensures.settled c.args.self.now.view c.args.self.now.cpu (c.args.self.now.settled_is e); runnable_has = c.args.self.now.runnable_has; passed_over = c.pick_from-answered.ensures.passed _ c.args.self.now.passed_over }
+invariant_of-self c = record { shortcuts_hold = c.pick_from-answered.ensures.kept c.args.self.now.view c.args.self.now.cpu c.args.self.now.shortcuts_hold }

@@ -1,6 +1,6 @@
-use Rattle.std.proofs.Common.{arith, refl, subst, sym}
-use Rattle.pc_run_queue.specs.Runs.{IsSettled}
-use Rattle.pc_agent.proofs.Delivered.{none_to_hold}
+use Rattle.std.proofs.Common.{refl, subst, sym}
+use Rattle.pc_agent.specs.Inner.Shortcuts.{AreTrue}
+use Rattle.pc_agent.proofs.Delivered.{none_runs}
 use Rattle.pc_agent.proofs.Taking.{view_of_nothing}
 use Rattle.pc_agent.proofs.agent.Agent.restart.Goals as goal
 
@@ -12,8 +12,7 @@ returns-clause-fresh c run = record {
 }
 
 pub invariant_of-self : goal.invariant_of-self
-invariant_of-self c = record {
-  settled_is = λ e. subst (IsSettled c.clear.new.self c.args.self.now.cpu) (sym c.new.ensures) refl;
-  runnable_has = none_to_hold c.views_tell_what_their_sets_tell.ensures.reported c.clear.new.self c.clear.ensures.nothing c.clear.ensures.of_run c.args.self.now.cpu c.new-2.result c.new-2.ensures;
-  passed_over = λ t lt. absurd (omega (arith, lt));
-}
+invariant_of-self c =
+    let cpu = c.args.self.now.cpu in
+    let none = none_runs c.views_tell_what_their_sets_tell.ensures.reported c.clear.new.self c.clear.ensures.nothing c.clear.ensures.of_run cpu in
+    record { shortcuts_hold = subst (AreTrue c.restart.new.self c.clear.new.self cpu) (sym c.new.ensures) (c.restart.ensures c.clear.new.self cpu none) }

@@ -1,7 +1,7 @@
 use Rattle.std.proofs.Common.{ap, ◌∙◌}
 use Rattle.pc_agent.proofs.Lists.{message_thread, tick_thread}
-use Rattle.pc_agent.proofs.queue.list_threads.Goals.{in-Thread+in_ok-push-in-Thread, in-Tick}
-use Rattle.pc_agent.proofs.queue.list_threads.Goals as goal
+use Rattle.pc_agent.proofs.shortcuts.list_threads.Goals.{in-Thread+in_ok-push-in-Thread, in-Tick}
+use Rattle.pc_agent.proofs.shortcuts.list_threads.Goals as goal
 
 pub loop-item-preserved : goal.loop-item-preserved
 loop-item-preserved c = elim c.match-item.branch [

@@ -1,0 +1,204 @@
+//! What an agent keeps so that its calls need not look for it.
+
+ghost use Rattle.std.specs.Prelude.{ℕ, ◌≡◌, ◌+◌, ◌&&◌, ◌∷◌, [], List, MatchOption, OnOk, OnErr, IsTrue};
+ghost use Rattle.pc_delta.specs.Exchange.{KeepsOthers};
+ghost use Rattle.pc_join.specs.NameSets.{FindsFrom};
+ghost use Rattle.pc_run_queue.specs.Runs.{IsSettled, refreshed, runs_in};
+ghost use Rattle.pc_agent.specs.PlainAgent.{is_wanted, threads_in};
+ghost use Rattle.pc_agent.specs.Running.{Finds};
+ghost use Rattle.pc_agent.specs.Inner.Shortcuts.{AreNoted, AreTrue, AreTrueOfAll, AreTrueOfNothing, StayTrue};
+ghost use Rattle.pc_agent.specs.Inner.Wanted.{AreShort};
+
+use crate::runnable::{keep_runnable, next_wanted};
+use crate::watch::{are_as_noted, note_told};
+use pc_delta::Part;
+use pc_join::{NameSet, OutOfMemory};
+use pc_messages::{Cpu, Item, Tid};
+use pc_run_queue::RunQueue;
+use pc_view::View;
+use std::alloc::Global;
+
+/// What could be found out from an agent's view, CPU and run list, and is kept to be quick. No call answers or does
+/// anything by it that it would not do without.
+///
+/// View and run list stand beside it, in the agent, which lends them to each call. What is true of it then is
+/// `AreTrue` (`specs/Inner/Shortcuts.antt`), a part of the agent's own invariant.
+#[derive(Drop)]
+pub(crate) struct Shortcuts {
+    /// Below this name no thread is wanted: each that the view reports ready and allowed here is in the run list.
+    /// A steal begins to look here. What the kernel says plays no part in it.
+    passed: u32,
+    /// The names of the threads that the view reports ready and allowed on the CPU: a steal looks at these alone, and
+    /// not at the view. None where memory ran out while they were kept; a steal then looks at all threads that the
+    /// view knows.
+    runnable: Option<NameSet>,
+    /// Whether it is known that a refresh that touches no thread would leave the run list as it is: then a refresh
+    /// looks at the touched threads alone.
+    settled: bool,
+    /// The threads of the run list of which the parts tell that the view is about to take in, each with its level.
+    noted: Vec<(Tid, u8)>,
+    /// The threads that the refresh under way touches. Like those that are noted, they stand here so that no call
+    /// takes memory for them anew.
+    touched: Vec<Tid>,
+}
+
+/// Lists the threads of the items, in their order, in place of what the list had; a tick has none.
+fn list_threads(threads: &mut Vec<Tid>, items: &[Item]) -> Result<(), OutOfMemory>
+    ensures { OnOk result (threads.new.items ≡ threads_in items.now) }
+{
+    threads.clear();
+    for item in items {
+        match item {
+            Item::Thread(message) => threads.push(message.thread)?,
+            Item::Tick(_) => {}
+        }
+    }
+    Ok(())
+}
+
+/// Refreshes a run list, of which it may be known that only the touched threads can change it.
+fn refresh_list(
+    list: &mut RunQueue,
+    settled: bool,
+    view: &View,
+    touched: &[Tid],
+    cpu: Cpu,
+) -> Result<(), OutOfMemory>
+    requires { IsTrue settled → IsSettled view.now cpu list.old }
+    ensures ok { OnOk result (list.new ≡ refreshed view.now cpu list.old touched.now) }
+    ensures err { OnErr result (list.new ≡ list.old) }
+    ensures settled { OnOk result (IsSettled view.now cpu list.new) }
+{
+    if settled {
+        list.refresh_settled(view, touched, cpu)
+    } else {
+        list.refresh(view, touched, cpu)
+    }
+}
+
+impl Shortcuts {
+    /// Those of an agent who knows nothing. It takes no memory.
+    pub(crate) fn new(alloc: Global) -> Shortcuts
+        ensures { AreTrueOfNothing result }
+    {
+        Shortcuts {
+            passed: 0,
+            runnable: Some(NameSet::new(alloc)),
+            settled: true,
+            noted: Vec::new(alloc),
+            touched: Vec::new(alloc),
+        }
+    }
+
+    /// Makes them those of an agent who knows nothing. It takes no memory.
+    pub(crate) fn restart(&mut self, alloc: Global)
+        ensures { AreTrueOfNothing self.new }
+    {
+        self.passed = 0;
+        self.runnable = Some(NameSet::new(alloc));
+        self.settled = true;
+    }
+
+    /// Keeps nothing: the next refresh and the next steals look for all.
+    pub(crate) fn forget(&mut self)
+        ensures { AreTrueOfAll self.new }
+    {
+        self.passed = 0;
+        self.runnable = None;
+        self.settled = false;
+    }
+
+    /// Notes what the view reports now of the threads of which the parts tell, before it takes the parts in.
+    pub(crate) fn note(&mut self, parts: &[Part], list: &RunQueue, view: &View, cpu: Cpu)
+        requires { AreTrue self.old view.now cpu list.now }
+        ensures { AreNoted parts.now self.new view.now cpu list.now }
+    {
+        self.passed = 0;
+        self.settled = note_told(&mut self.noted, self.settled, list, view, cpu, parts);
+    }
+
+    /// Looks at the threads anew of which the parts tell, which were noted, once the view has taken the parts in.
+    pub(crate) fn look_anew(&mut self, parts: &[Part], view: &View, cpu: Cpu)
+        ensures { (before : View) (list : List ℕ) → KeepsOthers parts.now before view.now
+            → AreNoted parts.now self.old before cpu list → AreTrue self.new view.now cpu list }
+    {
+        keep_runnable(&mut self.runnable, view, cpu, parts);
+        self.settled = are_as_noted(self.settled, view, cpu, self.noted.as_slice());
+    }
+
+    /// Refreshes the run list with the threads of the items. Where memory runs out, it is the old one.
+    pub(crate) fn refresh(
+        &mut self,
+        list: &mut RunQueue,
+        view: &View,
+        cpu: Cpu,
+        items: &[Item],
+    ) -> Result<(), OutOfMemory>
+        requires { AreTrue self.old view.now cpu list.old }
+        ensures ok { OnOk result (list.new ≡ refreshed view.now cpu list.old (threads_in items.now)) }
+        ensures err { OnErr result (list.new ≡ list.old) }
+        ensures kept { AreTrue self.new view.now cpu list.new }
+    {
+        list_threads(&mut self.touched, items)?;
+        self.passed = 0;
+        let settled = self.settled;
+        self.settled = false;
+        refresh_list(list, settled, view, self.touched.as_slice(), cpu)?;
+        self.settled = true;
+        Ok(())
+    }
+
+    /// Takes the first name out of the run list, which may be wanted again.
+    pub(crate) fn take_first(&mut self, list: &mut RunQueue) -> Option<Tid>
+        ensures first { MatchOption result ((list.old ≡ []) × (list.new ≡ [])) (λ name. list.old ≡ name ∷ list.new) }
+        ensures kept { StayTrue self.old list.old self.new list.new }
+    {
+        match list.take_first() {
+            None => None,
+            Some(name) => {
+                self.passed = name.index().min(self.passed);
+                Some(name)
+            }
+        }
+    }
+
+    /// Counts the run list as settled only where the thread that was put at its end belongs there.
+    pub(crate) fn keep_settled_if(&mut self, in_order: bool)
+        ensures { self.new ≡ record self.old { settled = self.old.settled && in_order } }
+    {
+        self.settled &= in_order;
+    }
+
+    /// The least thread that is wanted, to which all before are passed.
+    pub(crate) fn pass_over(&mut self, view: &View, list: &RunQueue, cpu: Cpu) -> Option<Tid>
+        requires { AreTrue self.old view.now cpu list.now }
+        ensures finds { Finds (is_wanted (runs_in view.now cpu) list.now) result }
+        ensures short { AreShort (is_wanted (runs_in view.now cpu) list.now) }
+        ensures kept { AreTrue self.new view.now cpu list.now }
+    {
+        let found = next_wanted(view, &self.runnable, list, cpu, self.passed);
+        self.passed = match found {
+            Some(name) => name.index(),
+            None => u32::MAX,
+        };
+        found
+    }
+
+    /// The least thread after this one that is wanted.
+    pub(crate) fn wanted_after(
+        &self,
+        view: &View,
+        list: &RunQueue,
+        cpu: Cpu,
+        thread: Tid,
+    ) -> Option<Tid>
+        requires kept { AreTrue self.now view.now cpu list.now }
+        requires short { AreShort (is_wanted (runs_in view.now cpu) list.now) }
+        ensures { FindsFrom (is_wanted (runs_in view.now cpu) list.now) (thread + 1) result }
+    {
+        match thread.index().checked_add(1) {
+            Some(from) => next_wanted(view, &self.runnable, list, cpu, from),
+            None => None,
+        }
+    }
+}
