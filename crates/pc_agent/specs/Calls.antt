@@ -1,5 +1,5 @@
--- What the calls of an agent do, whole: each names one of these. What is said of every run and plain agent that the agent
--- shows comes first, then what holds of every agent, also of one whose view is of no run.
+-- What the calls of an agent do, whole: each names one of these. What is said of every run and plain agent that the
+-- agent shows comes first, then what holds of every agent, also of one whose view is of no run.
 use Rattle.std.specs.Prelude.{ℕ, ◌≡◌, ◌<◌, List, [], ◌∷◌, ◌++◌, Result, Err, IfOk, IfErr, OnOk, OnErr}
 use Rattle.pc_join.specs.declared.join.OutOfMemory.{OutOfMemory as NoMemory}
 use Rattle.pc_messages.specs.Run.{Run, Extends}

@@ -21,7 +21,8 @@ IsDelivered run p set (Err fault) new = ShowsPart run p set new
 -- for every run that the delta is of, whatever set it tells and whatever the agent shows
 abbrev pub Delivers : List Part → Result (Unit {0}) NoMemory → Agent → Agent → Type 0
 Delivers delta result old new =
-    (run : Run) (p : PlainAgent) (set : Set) → ShowsDelta run set delta → ShowsAgent run p old → IsDelivered run p set result new
+    (run : Run) (p : PlainAgent) (set : Set) → ShowsDelta run set delta → ShowsAgent run p old
+    → IsDelivered run p set result new
 
 -- a delta that answers an asker, who knows a set of messages, was handed to the wire, which answered so
 pub record IsAnswerSent {W : Type 0} (Sends : Sending W) (view : View) (asked : Members)

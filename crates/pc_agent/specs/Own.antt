@@ -1,5 +1,5 @@
--- What calls do by the agent's own view, run list and count of sent items, and by what is read of the kernel: this holds of every
--- agent, also of one whose view is of no run.
+-- What calls do by the agent's own view, run list and count of sent items, and by what is read of the kernel: this
+-- holds of every agent, also of one whose view is of no run.
 use Rattle.std.specs.Prelude.{ℕ, ◌≡◌, ◌⊎◌, List, [], ◌∷◌, ◌++◌, length, Some, None, Result, Ok, Err}
 use Rattle.pc_messages.specs.declared.message.Item.{Item}
 use Rattle.pc_calls.specs.declared.call.Answer.TheVariants.{Done}
@@ -38,7 +38,8 @@ pub record HasPartlyCopied (items : List Item) (old new : Agent) : Type 0 where
   pub list : new.list ≡ old.list
   pub shown : new.shown ≡ old.shown
 
--- a publish of these items: the wire was given one part for each message, in order; memory may have run out before that, or in it
+-- a publish of these items: the wire was given one part for each message, in order; memory may have run out before
+-- that, or in it
 abbrev pub Publishes : {W : Type 0} → Sending W → List Item → Result ℕ SendFault → Agent → Agent → W → W → Type 0
 Publishes Sends items (Ok count) old new wire later =
     (count ≡ length items) × Sends wire (parts_in items) (Ok tt) later × HasCopied items old new count
@@ -65,7 +66,8 @@ pub record HasConsumed (old new : Agent) (before after : KernelRows) : Type 0 wh
   pub list : new.list ≡ old.list
   pub same : KnowsTheSame (consume_counted (Ok old.shown) old.counts) old new
 
--- a consume, by what the agent has sent and what is read of the kernel: so many items are removed; refused, nothing changes
+-- a consume, by what the agent has sent and what is read of the kernel: so many items are removed; refused,
+-- nothing changes
 abbrev pub ConsumesAsSeen : Agent → KernelRows → Result ℕ Refusal → Agent → KernelRows → Type 0
 ConsumesAsSeen old before (Ok count) new after =
     (refused (seen before) (removes_sent old) ≡ None) × (count ≡ old.shown) × HasConsumed old new before after
@@ -91,7 +93,8 @@ abbrev pub PicksAsSeen : ℕ → Agent → KernelRows → Result ℕ Refusal →
 PicksAsSeen aseq old before (Ok thread) new after =
     (pick_refused (seen before) (cpu_of old) aseq old.list ≡ None) × HasCommitted aseq thread old new before after
 PicksAsSeen aseq old before (Err refusal) new after =
-    (pick_refused (seen before) (cpu_of old) aseq old.list ≡ Some refusal) × HasCommittedNone refusal old new before after
+    (pick_refused (seen before) (cpu_of old) aseq old.list ≡ Some refusal)
+    × HasCommittedNone refusal old new before after
 
 -- the kernel accepted the call that takes the thread over, which goes to the end of the run list
 pub record HasTakenOver (takes : Call) (t : ℕ) (old new : List ℕ) (before after : KernelRows) : Type 0 where

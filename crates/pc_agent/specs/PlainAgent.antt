@@ -1,5 +1,6 @@
 -- One agent in plain words: what it has taken in, its run list, and how much of its queue it has sent.
-use Rattle.std.specs.Prelude.{ℕ, ◌==◌, not, ◌&&◌, Bool, true, false, List, [], ◌∷◌, ◌++◌, Option, is_some, is_none, if◌then◌else◌}
+use Rattle.std.specs.Prelude.{ℕ, ◌==◌, not, ◌&&◌, Bool, true, false, List, [], ◌∷◌, ◌++◌, Option, is_some, is_none}
+use Rattle.std.specs.Prelude.{if◌then◌else◌}
 use Rattle.std.specs.List.{filter_map}
 use Rattle.pc_messages.specs.Items.{thread_in, pairs_in}
 use Rattle.pc_messages.specs.Run.{Run}

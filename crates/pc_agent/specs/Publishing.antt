@@ -22,18 +22,21 @@ use Rattle.pc_agent.specs.Shows.{ShowsAgent, ShowsDelta, ShowsPart, cpu_of}
 -- for every plain kernel that the kernel shows, every run that goes on from its, and whatever the agent shows of it
 abbrev pub WhateverShown : KernelRows → Agent → (PlainKernel → Run → PlainAgent → Type 0) → Type 0
 WhateverShown kernel agent Says =
-    (P : PlainKernel) (run : Run) (p : PlainAgent) → Shows kernel P → Extends run (kinds P) → ShowsAgent run p agent → Says P run p
+    (P : PlainKernel) (run : Run) (p : PlainAgent) → Shows kernel P → Extends run (kinds P) → ShowsAgent run p agent
+    → Says P run p
 
--- the items are copied: the delta tells them, the view has them, the run list is refreshed; where memory ran out the view has
--- a part of them, and nothing else changed
+-- the items are copied: the delta tells them, the view has them, the run list is refreshed; where memory ran out the
+-- view has a part of them, and nothing else changed
 abbrev pub IsCopied : Run → PlainAgent → List Item → Result (List Part) NoMemory → ℕ → Agent → Type 0
-IsCopied run p items (Ok delta) cpu new = ShowsDelta run (pairs_in items) delta × ShowsAgent run (copied run cpu items p) new
+IsCopied run p items (Ok delta) cpu new =
+    ShowsDelta run (pairs_in items) delta × ShowsAgent run (copied run cpu items p) new
 IsCopied run p items (Err fault) cpu new = ShowsPart run p (pairs_in items) new
 
 -- for every run that the items are of, and whatever the agent shows of it
 abbrev pub Copies : List Item → Result (List Part) NoMemory → Agent → Agent → Type 0
 Copies items result old new =
-    (run : Run) (p : PlainAgent) → AreItemsOf run items → ShowsAgent run p old → IsCopied run p items result (cpu_of old) new
+    (run : Run) (p : PlainAgent) → AreItemsOf run items → ShowsAgent run p old
+    → IsCopied run p items result (cpu_of old) new
 
 -- what a wire says of a send: the wire before, the delta, the answer, the wire after
 abbrev pub Sending : Type 0 → Type 1
@@ -49,9 +52,10 @@ pub record IsHandedOn {W : Type 0} (Sends : Sending W) (run : Run) (items : List
 abbrev pub sent_after : Run → ℕ → List Item → PlainAgent → PlainAgent
 sent_after run cpu items p = record (copied run cpu items p) { shown = length items }
 
--- a publish of these items: what counts as sent is what the wire took; after a fault of the wire only the count of sent items
--- is as it was; memory may have run out before the send, or in it
-abbrev pub IsPublished : {W : Type 0} → Sending W → List Item → Run → PlainAgent → Result ℕ SendFault → ℕ → Agent → W → W → Type 0
+-- a publish of these items: what counts as sent is what the wire took; after a fault of the wire only the count of sent
+-- items is as it was; memory may have run out before the send, or in it
+abbrev pub IsPublished : {W : Type 0} → Sending W → List Item → Run → PlainAgent → Result ℕ SendFault → ℕ → Agent → W
+    → W → Type 0
 IsPublished Sends items run p (Ok count) cpu new wire later =
     (count ≡ length items)
     × IsHandedOn Sends run items (Ok tt) wire later

@@ -1,5 +1,6 @@
 -- What an agent does to have a thread run: it picks one of its run list, or takes one over.
-use Rattle.std.specs.Prelude.{ℕ, ◌<◌, ◌≡◌, Bool, true, false, List, [], ◌∷◌, ◌++◌, Option, Some, None, Result, Ok, Err, MatchBool, is_some}
+use Rattle.std.specs.Prelude.{ℕ, ◌<◌, ◌≡◌, Bool, true, false, List, [], ◌∷◌, ◌++◌, Option, Some, None, Result, Ok, Err}
+use Rattle.std.specs.Prelude.{MatchBool, is_some}
 use Rattle.pc_messages.specs.Run.{Run}
 use Rattle.pc_messages.specs.State.{state_of}
 use Rattle.pc_calls.specs.declared.call.Call.{Call}
@@ -24,7 +25,8 @@ left_by NothingReady names = []
 left_by refusal names = names
 
 -- the first thread of the run list that the kernel would commit is committed, and what follows it is left
-pub record IsCommitted (P : PlainKernel) (run : Run) (p : PlainAgent) (cpu n t : ℕ) (new : Agent) (kernel : KernelRows) : Type 0 where
+pub record IsCommitted (P : PlainKernel) (run : Run) (p : PlainAgent) (cpu n t : ℕ) (new : Agent)
+    (kernel : KernelRows) : Type 0 where
   pub rest : List ℕ
   pub first : ready_list (shown P) cpu n p.list ≡ t ∷ rest
   pub accepted : refused (shown P) (call.Commit cpu t n) ≡ None
@@ -36,7 +38,8 @@ abbrev pub IsPicked : ℕ → PlainKernel → Run → PlainAgent → Result ℕ 
 IsPicked n P run p (Ok t) cpu new kernel =
     (pick_refused (shown P) cpu n p.list ≡ None) × IsCommitted P run p cpu n t new kernel
 IsPicked n P run p (Err refusal) cpu new kernel =
-    (pick_refused (shown P) cpu n p.list ≡ Some refusal) × ShowsAgent run (record p { list = left_by refusal p.list }) new
+    (pick_refused (shown P) cpu n p.list ≡ Some refusal)
+    × ShowsAgent run (record p { list = left_by refusal p.list }) new
 
 -- the number passes the test, and no lesser one does
 pub record IsLeast (test : ℕ → Bool) (t : ℕ) : Type 0 where
@@ -57,11 +60,12 @@ abbrev pub take_refused : Reads → (ℕ → Call) → Option ℕ → Option Ref
 take_refused r takes None = Some NothingToSteal
 take_refused r takes (Some t) = refused r (takes t)
 
--- a steal for an idle CPU: of the threads that pass the test only the least is tried, by its call; Taken is what holds of a thread
--- that was taken over
+-- a steal for an idle CPU: of the threads that pass the test only the least is tried, by its call; Taken is what holds
+-- of a thread that was taken over
 abbrev pub TriesLeast : Reads → (ℕ → Bool) → (ℕ → Call) → (ℕ → Type 0) → Result ℕ CallFault → Type 0
 TriesLeast r test takes Taken (Ok t) = Finds test (Some t) × (refused r (takes t) ≡ None) × Taken t
-TriesLeast r test takes Taken (Err (Refused refusal)) = (t : Option ℕ) × Finds test t × (take_refused r takes t ≡ Some refusal)
+TriesLeast r test takes Taken (Err (Refused refusal)) =
+    (t : Option ℕ) × Finds test t × (take_refused r takes t ≡ Some refusal)
 TriesLeast r test takes Taken (Err OutOfMemory) = (t : ℕ) × Finds test (Some t)
 
 -- a steal: refused first where a thread runs on the CPU
@@ -74,14 +78,16 @@ abbrev pub takes_over : ℕ → PlainAgent → ℕ → Call
 takes_over cpu p t = takes_up_to (upto p.seen) cpu t
 
 -- the thread is taken over, and goes to the end of the run list
-pub record IsTakenOver (P : PlainKernel) (run : Run) (p : PlainAgent) (cpu t : ℕ) (new : Agent) (kernel : KernelRows) : Type 0 where
+pub record IsTakenOver (P : PlainKernel) (run : Run) (p : PlainAgent) (cpu t : ℕ) (new : Agent)
+    (kernel : KernelRows) : Type 0 where
   pub after : Shows kernel (after P (takes_over cpu p t))
   pub agent : ShowsAgent run (record p { list = p.list ++ t ∷ [] }) new
 
 -- a steal, by what the view of the agent's set in the run reports
 abbrev pub Steals : PlainKernel → Run → PlainAgent → Result ℕ CallFault → ℕ → Agent → KernelRows → Type 0
 Steals P run p result cpu new kernel =
-    StealsBy (shown P) cpu (may_steal (shown P) run cpu p) (takes_over cpu p) (λ t. IsTakenOver P run p cpu t new kernel) result
+    StealsBy (shown P) cpu (may_steal (shown P) run cpu p) (takes_over cpu p)
+    (λ t. IsTakenOver P run p cpu t new kernel) result
 
 -- the agent had seen the thread exactly: all its messages, the state that they report, and none of them waits
 pub record IsSeenExactly (P : PlainKernel) (run : Run) (p : PlainAgent) (t : ℕ) : Type 0 where

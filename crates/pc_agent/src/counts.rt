@@ -1,7 +1,8 @@
 //! What an agent counts.
 
 ghost use Rattle.std.specs.Prelude.{◌≡◌};
-ghost use Rattle.pc_agent.specs.Counts.{raised, none_counted, refusal_counted, consume_counted, pick_counted, steal_counted};
+ghost use Rattle.pc_agent.specs.Counts.{raised, none_counted, refusal_counted, consume_counted, pick_counted};
+ghost use Rattle.pc_agent.specs.Counts.{steal_counted};
 
 use pc_calls::{CallFault, Refusal};
 use pc_messages::Tid;

@@ -14,8 +14,8 @@ use pc_join::OutOfMemory;
 use pc_view::View;
 
 impl Agent {
-    /// Takes in what a delta tells. The run list stays as it is. Where memory runs out, a part of it may have been taken
-    /// in; delivering it again completes it.
+    /// Takes in what a delta tells. The run list stays as it is. Where memory runs out, a part of it may have been
+    /// taken in; delivering it again completes it.
     pub fn deliver(&mut self, delta: &Delta) -> Result<(), OutOfMemory>
         ensures { DoesDeliver delta.now result self.old self.new }
     {

@@ -10,7 +10,8 @@ use pc_view::views_stay_as_the_run_goes_on;
 
 /// What an agent shows of a run it shows of each run that goes on from it.
 pub fn agents_stay_as_the_run_goes_on()
-    ensures { (longer shorter : Run) (p : PlainAgent) (agent : Agent) → Extends longer shorter → ShowsAgent shorter p agent
+    ensures { (longer shorter : Run) (p : PlainAgent) (agent : Agent) → Extends longer shorter
+        → ShowsAgent shorter p agent
         → ShowsAgent longer p agent }
 {
     views_stay_as_the_run_goes_on();

@@ -68,11 +68,11 @@ fn pick_from(
 }
 
 impl Agent {
-    /// Commits the first thread of its run list that the kernel accepts, under the count of posts that it read. It takes
-    /// no memory.
+    /// Commits the first thread of its run list that the kernel accepts, under the count of posts that it read. It
+    /// takes no memory.
     ///
-    /// `Stale` with the count of now; `Busy` where a thread runs on its CPU; `NothingReady` where the kernel accepts none,
-    /// and the run list then is empty.
+    /// `Stale` with the count of now; `Busy` where a thread runs on its CPU; `NothingReady` where the kernel accepts
+    /// none, and the run list then is empty.
     pub fn pick(&mut self, kernel: &mut Kernel, aseq: u32) -> Result<Tid, Refusal>
         ensures { DoesPick aseq result self.old self.new kernel.old kernel.new }
     {

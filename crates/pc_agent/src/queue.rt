@@ -42,8 +42,8 @@ impl Agent {
         self.shown = items;
     }
 
-    /// Takes in all that its queue holds and sends it, and answers how many items that were. The items stay in the queue
-    /// until [`Agent::consume`].
+    /// Takes in all that its queue holds and sends it, and answers how many items that were. The items stay in the
+    /// queue until [`Agent::consume`].
     ///
     /// Where the wire refuses, or has no memory for the send, the view and the run list have changed all the same.
     pub fn publish<W: Wire>(&mut self, kernel: &Kernel, wire: &mut W) -> Result<u32, SendFault>
@@ -90,8 +90,8 @@ impl Agent {
         }
     }
 
-    /// Removes from its queue the items that it has sent, and answers how many. It takes no memory. `TooMany` comes where
-    /// more items count as sent than the queue holds.
+    /// Removes from its queue the items that it has sent, and answers how many. It takes no memory. `TooMany` comes
+    /// where more items count as sent than the queue holds.
     pub fn consume(&mut self, kernel: &mut Kernel) -> Result<u32, Refusal>
         ensures { DoesConsume result self.old self.new kernel.old kernel.new }
     {

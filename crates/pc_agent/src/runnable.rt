@@ -13,7 +13,8 @@ use pc_messages::{Cpu, Tid};
 use pc_run_queue::{RunQueue, runs_on};
 use pc_view::View;
 
-/// The least thread from one on that the view knows: none before it is wanted. The run list and the CPU stand in the clauses alone.
+/// The least thread from one on that the view knows: none before it is wanted. The run list and the CPU stand in the
+/// clauses alone.
 fn next_in_view(view: &View, list: &RunQueue, cpu: Cpu, from: u32) -> Option<Tid>
     ensures passed { IsNoneBefore (is_wanted (runs_in view.now cpu) list.now) from result }
     ensures short { AreShort (is_wanted (runs_in view.now cpu) list.now) }
@@ -46,8 +47,8 @@ fn next_known(view: &View, list: &RunQueue, cpu: Cpu, from: u32) -> Option<Tid>
     None
 }
 
-/// The least thread from one on that is wanted: of the names that are kept it is the least that is not in the run list, with no
-/// look at the view.
+/// The least thread from one on that is wanted: of the names that are kept it is the least that is not in the run list,
+/// with no look at the view.
 pub(crate) fn next_wanted(
     view: &View,
     runnable: &Option<NameSet>,
@@ -88,8 +89,8 @@ fn keep_told(names: &mut NameSet, view: &View, cpu: Cpu, parts: &[Part]) -> Resu
     Ok(())
 }
 
-/// The names that are kept, once the view has taken parts in: the threads that they tell of are looked at anew. None are kept
-/// where none were, or where memory runs out.
+/// The names that are kept, once the view has taken parts in: the threads that they tell of are looked at anew. None
+/// are kept where none were, or where memory runs out.
 pub(crate) fn keep_runnable(runnable: &mut Option<NameSet>, view: &View, cpu: Cpu, parts: &[Part])
     ensures { HoldsAllBut (tells_of parts.now) (runs_in view.now cpu) runnable.old
         → HoldsAll (runs_in view.now cpu) runnable.new }

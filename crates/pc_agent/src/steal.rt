@@ -29,8 +29,8 @@ fn idles(kernel: &Kernel, thread: Tid) -> bool
     }
 }
 
-/// The least thread that may be taken over: of those that are wanted, from the least on, the first that the kernel knows
-/// and has on no CPU. Each is looked at once.
+/// The least thread that may be taken over: of those that are wanted, from the least on, the first that the kernel
+/// knows and has on no CPU. Each is looked at once.
 fn candidate(
     view: &View,
     shortcuts: &Shortcuts,
@@ -92,9 +92,10 @@ fn take_least(
 }
 
 impl Agent {
-    /// Takes the least thread over that it may: one that its view reports ready and allowed on its CPU, that is not in its
-    /// run list, and that the kernel knows and has on no CPU; a thread of its own queue too, which is how a restarted agent
-    /// takes its threads back. The thread then belongs to the agent's queue and stands at the end of its run list.
+    /// Takes the least thread over that it may: one that its view reports ready and allowed on its CPU, that is not in
+    /// its run list, and that the kernel knows and has on no CPU; a thread of its own queue too, which is how a
+    /// restarted agent takes its threads back. The thread then belongs to the agent's queue and stands at the end of
+    /// its run list.
     ///
     /// `Busy` where a thread runs on its CPU; `NothingToSteal` where there is no such thread; then want of memory; then
     /// what the kernel refuses: `Dead`, `Stale` with the number of now, `Pending`. Only the least thread is tried.

@@ -12,7 +12,8 @@ use pc_view::View;
 /// So many threads are noted at the most: where parts tell of more, the list is sorted, which then takes little more.
 const MOST_NOTED: usize = 16;
 
-/// Notes a thread of the list, with its level; others need no note. False, where it could not run, or where no more are noted.
+/// Notes a thread of the list, with its level; others need no note. False, where it could not run, or where no more
+/// are noted.
 fn note(noted: &mut Vec<(Tid, u8)>, list: &RunQueue, view: &View, cpu: Cpu, thread: Tid) -> bool
     ensures others { IsTrue result → (t : ℕ) → has_name list.now t ≡ true → is_noted noted.new.items t ≡ false
         → (is_noted noted.old.items t ≡ false) × ((thread == t) ≡ false) }
@@ -30,10 +31,11 @@ fn note(noted: &mut Vec<(Tid, u8)>, list: &RunQueue, view: &View, cpu: Cpu, thre
     }
 }
 
-/// Notes the threads of the list of which the parts tell, each with its level, before the view takes the parts in. False, where
-/// the list was not known to be settled, or where not all of them are noted.
+/// Notes the threads of the list of which the parts tell, each with its level, before the view takes the parts in.
+/// False, where the list was not known to be settled, or where not all of them are noted.
 ///
-/// Most parts change neither whether a thread may run nor its level: a thread of the list that yields stays where it is.
+/// Most parts change neither whether a thread may run nor its level: a thread of the list that yields stays where
+/// it is.
 pub(crate) fn note_told(
     noted: &mut Vec<(Tid, u8)>,
     settled: bool,

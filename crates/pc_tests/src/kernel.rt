@@ -55,8 +55,8 @@ enum Step {
     Commits(u32),
     /// The CPU's agent falls asleep after so many posts.
     FallsAsleep(u8, u32),
-    /// A ready thread is created for queue 0, the thread with this number put on CPU 0 after so many posts, and CPU 1 asked
-    /// for as the home of t0; whether it moves.
+    /// A ready thread is created for queue 0, the thread with this number put on CPU 0 after so many posts, and CPU 1
+    /// asked for as the home of t0; whether it moves.
     Moves(u32, u32, bool),
     Runs(Option<Tid>),
     Sleeps(Cpu, bool),

@@ -1,5 +1,5 @@
-//! Tests of the libraries that agents stand on and of scripts, by their public names alone: a crate that has tests of its own is proved
-//! twice. `pc_tests_agents` has the others.
+//! Tests of the libraries that agents stand on and of scripts, by their public names alone: a crate that has tests of
+//! its own is proved twice. `pc_tests_agents` has the others.
 #![tactic(auto)]
 
 #[cfg(test)]

@@ -100,7 +100,8 @@ fn holds(queue: &mut CpuQueue, step: &Step<'_>) -> bool {
     }
 }
 
-/// The place of the first step that does not hold of a new queue with this room and so many posts, and the steps before it.
+/// The place of the first step that does not hold of a new queue with this room and so many posts, and the steps
+/// before it.
 fn first_wrong(alloc: Global, room: u32, posts: u32, steps: &[Step<'_>]) -> Option<usize> {
     if room < 1 || posts < 1 {
         return Some(0);
@@ -221,8 +222,8 @@ fn room_and_posts(rt: HostRuntime) {
     each_holds(&rt, rt.alloc(), 2, 3, &STEPS);
 }
 
-// A thread with several items held is pending until the last of them goes. Where room and posts are wanting together, the
-// room is told first.
+// A thread with several items held is pending until the last of them goes. Where room and posts are wanting together,
+// the room is told first.
 #[test]
 fn several_of_one_thread_and_a_full_queue_whose_posts_are_spent(rt: HostRuntime) {
     static SEVERAL: [Step<'static>; 10] = [

@@ -295,8 +295,8 @@ fn each_holds(rt: &impl Abort, alloc: Global, steps: &[Step<'_>]) {
     assert_eq!(rt; first_wrong(alloc, steps), None);
 }
 
-// Those that may run are listed once. Touched names stand at the end of a settled list of their level, which stays where
-// they may not run.
+// Those that may run are listed once. Touched names stand at the end of a settled list of their level, which stays
+// where they may not run.
 #[test]
 fn the_highest_level_comes_first(rt: HostRuntime) {
     static STEPS: [Step<'static>; 33] = [

@@ -146,8 +146,8 @@ fn nine(alloc: Global) -> Result<ThreadView, Fail> {
 /// So many messages arrive in a scattered order, behind one that is lacking.
 const FAR_APART: u32 = 400;
 
-/// A view of the messages from 2 on, each of which tells as many ticks as its number. Of two that arrive one after another the
-/// numbers are 149 apart, so that most stand among the others, with hundreds before and behind.
+/// A view of the messages from 2 on, each of which tells as many ticks as its number. Of two that arrive one after
+/// another the numbers are 149 apart, so that most stand among the others, with hundreds before and behind.
 fn scattered(alloc: Global) -> Result<ThreadView, Fail> {
     let mut view = ThreadView::of(alloc, 2, Kind::Preempted { ran: 2 });
     for turn in 1..FAR_APART {
@@ -381,8 +381,8 @@ fn tells_of(alloc: Global, view: &ThreadView, step: &Step) -> Result<bool, Fail>
     }
 }
 
-/// Closes a gap of a view with a far message: the number after it, and then the one that is lacking. Whether the view tells
-/// nothing else.
+/// Closes a gap of a view with a far message: the number after it, and then the one that is lacking. Whether the view
+/// tells nothing else.
 fn closes(view: &mut ThreadView, before: u32, lacking: u32, after: u32) -> Result<bool, Fail> {
     puts(view, (after, Says::Preempts(1)))?;
     let waits = tells(view, before, &[after, 9_000]);
@@ -390,7 +390,8 @@ fn closes(view: &mut ThreadView, before: u32, lacking: u32, after: u32) -> Resul
     Ok(waits && tells(view, after, &[9_000]))
 }
 
-/// Closes one gap after another of a view with a far message. The first pair of messages after which it tells anything else.
+/// Closes one gap after another of a view with a far message. The first pair of messages after which it tells
+/// anything else.
 fn first_open(view: &mut ThreadView) -> Result<Option<u32>, Fail> {
     for pair in 1..500u32 {
         if !closes(view, 2 * pair - 1, 2 * pair, 2 * pair + 1)? {
@@ -529,8 +530,8 @@ const TEN_TO_50: [u32; 41] = [
     34, 35, 36, 37, 38, 39, 40, 41, 42, 43, 44, 45, 46, 47, 48, 49, 50,
 ];
 
-// Each batch comes before those that are held, and the numbers of it stand close behind the first; what is held already, near
-// the front or not, changes nothing.
+// Each batch comes before those that are held, and the numbers of it stand close behind the first; what is held
+// already, near the front or not, changes nothing.
 #[test]
 fn late_batches_stand_in_ascending_order(rt: HostRuntime) -> Result<(), Fail> {
     const CASES: &[Case] = &[

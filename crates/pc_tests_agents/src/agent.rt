@@ -1,4 +1,5 @@
-//! Agents beside a kernel of two CPUs, with ample memory and a wire that keeps what it took: values written down by hand.
+//! Agents beside a kernel of two CPUs, with ample memory and a wire that keeps what it took: values written down
+//! by hand.
 
 use pc_agent::{Agent, Counts, KeptWire, MOST_COUNTED, SendFault};
 use pc_calls::{CallFault, Limits, Refusal};

@@ -1,4 +1,5 @@
-//! A book of two CPUs, with an agent for each unless a test says otherwise, and ample memory: values written down by hand.
+//! A book of two CPUs, with an agent for each unless a test says otherwise, and ample memory: values written down
+//! by hand.
 
 mod agents;
 mod drawn;
@@ -117,7 +118,8 @@ enum Step {
     Counts(u32),
     /// A thread is created, the first agent copies that, removes it, and has the thread run.
     RunsOne,
-    /// The thread leaves the CPU, the first agent copies and removes that, and the other takes it in and the thread over.
+    /// The thread leaves the CPU, the first agent copies and removes that, and the other takes it in and the
+    /// thread over.
     MovesOne,
     Peeks(u8, Result<(u32, usize), CallFault>),
     Asleep(u8, bool),

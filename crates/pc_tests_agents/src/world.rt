@@ -488,7 +488,8 @@ fn runs_as(world: &mut World, events: &[Event], wanted: &[Reply]) -> bool {
     }
 }
 
-/// Whether a new world replies so to a list of events, then to none of them, and has its second agent know the first message.
+/// Whether a new world replies so to a list of events, then to none of them, and has its second agent know the
+/// first message.
 fn begins_as(alloc: Global, events: &[Event], wanted: &[Reply]) -> bool {
     match new_world(alloc) {
         Some(mut world) => {

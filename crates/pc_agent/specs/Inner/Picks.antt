@@ -15,8 +15,8 @@ use Rattle.pc_agent.specs.Running.{left_by}
 abbrev pub unready_for : Reads → ℕ → ℕ → Option Refusal
 unready_for r cpu n = first_of ((not (n == aseq_read r cpu), Stale (aseq_read r cpu)) ∷ (is_some (on r cpu), Busy) ∷ [])
 
--- the first name of the list that the kernel commits is committed, and what follows it is left; where there is none, the list is
--- empty and the kernel as it was
+-- the first name of the list that the kernel commits is committed, and what follows it is left; where there is none,
+-- the list is empty and the kernel as it was
 abbrev pub CommitsFirst : ℕ → ℕ → Result ℕ Refusal → List ℕ → List ℕ → KernelRows → KernelRows → Type 0
 CommitsFirst cpu n (Ok t) names left old new =
     (ready_list (seen old) cpu n names ≡ t ∷ left) × Steps done (call.Commit cpu t n) (Ok tt) old new
@@ -29,4 +29,5 @@ Picks cpu n (Ok t) names left old new =
     (pick_refused (seen old) cpu n names ≡ None)
     × (ready_list (seen old) cpu n names ≡ t ∷ left)
     × Accepts (call.Commit cpu t n) Done old new
-Picks cpu n (Err refusal) names left old new = (pick_refused (seen old) cpu n names ≡ Some refusal) × (left ≡ left_by refusal names)
+Picks cpu n (Err refusal) names left old new =
+    (pick_refused (seen old) cpu n names ≡ Some refusal) × (left ≡ left_by refusal names)

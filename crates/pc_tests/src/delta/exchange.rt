@@ -76,7 +76,8 @@ enum Step {
     AnswersBeyond(usize, Option<Shape>),
     /// Both answers have the same parts.
     AnswersAlike,
-    /// The view that asks is equal to it once it took in the answer, has an equal digest, and the answer's copy the same parts.
+    /// The view that asks is equal to it once it took in the answer, has an equal digest, and the answer's copy the
+    /// same parts.
     Fills,
 }
 

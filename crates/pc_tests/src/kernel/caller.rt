@@ -32,7 +32,8 @@ fn run_and_move(
     home: Cpu,
     number: u32,
 ) -> Result<bool, CallFault>
-    ensures { let calls = Call.Env (EnvCall.Create queue true 3) ∷ Call.Commit queue runs aseq ∷ Call.Associate moves home number ∷ [] in
+    ensures { let calls = Call.Env (EnvCall.Create queue true 3) ∷ Call.Commit queue runs aseq
+        ∷ Call.Associate moves home number ∷ [] in
         IfOk result (λ _. Replays calls kernel.old kernel.new) }
 {
     match kernel.create(queue, 3, true) {

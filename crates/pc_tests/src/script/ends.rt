@@ -75,8 +75,8 @@ impl Write for Filling {
     }
 }
 
-/// How the script ends of a byte that a reader gives so often, and then fails or ends; how often the reader would give it
-/// still, and whether nothing was written.
+/// How the script ends of a byte that a reader gives so often, and then fails or ends; how often the reader would give
+/// it still, and whether nothing was written.
 fn read_over(
     alloc: Global,
     byte: u8,
@@ -95,8 +95,8 @@ const UNREAD: Result<Outcome, ScriptFault> = Err(ScriptFault::Read);
 
 pub(super) const UNWRITTEN: Result<Outcome, ScriptFault> = Err(ScriptFault::Write);
 
-/// What was read of line feeds: how the script ended, which reads gave nothing or failed and which came after one of these,
-/// whether any gave bytes, and how many bytes are left.
+/// What was read of line feeds: how the script ended, which reads gave nothing or failed and which came after one of
+/// these, whether any gave bytes, and how many bytes are left.
 type Reads = (Result<Outcome, ScriptFault>, (u32, u32), bool, usize);
 
 fn reads_of(alloc: Global, length: usize, fails: bool) -> Reads {
@@ -214,8 +214,8 @@ fn nothing_is_read_after_the_end_a_failed_read_or_the_greatest_length(rt: HostRu
     each_holds(&rt, rt.alloc(), &ROWS);
 }
 
-/// The first room with another output than the front of this that fills it, or another end than a failed write or, where
-/// all has room, a fault at line 6.
+/// The first room with another output than the front of this that fills it, or another end than a failed write or,
+/// where all has room, a fault at line 6.
 fn first_other_front(alloc: Global, script: &[u8], output: &[u8]) -> Option<usize> {
     for room in 0..output.len() {
         if !is_front(alloc, script, output, room, UNWRITTEN) {

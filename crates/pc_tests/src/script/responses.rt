@@ -132,7 +132,8 @@ fn is_answer(alloc: Global, refusal: &Refusal, text: &str) -> bool {
     is_written(alloc, Response::Refused(*refusal), text)
 }
 
-/// The place of the first refusal of which something else is written, to a question or to an event, or that is not counted.
+/// The place of the first refusal of which something else is written, to a question or to an event, or that is
+/// not counted.
 fn first_misnamed(alloc: Global) -> Option<usize> {
     for place in 0..REFUSALS {
         match refusal(place) {

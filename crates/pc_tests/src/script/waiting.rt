@@ -1,5 +1,5 @@
-//! Replies that wait until there are enough of them for a write: 8,192 bytes, which are 512 times `refused Stale 1` and its
-//! line feed.
+//! Replies that wait until there are enough of them for a write: 8,192 bytes, which are 512 times `refused Stale 1` and
+//! its line feed.
 
 use super::ends::{UNWRITTEN, is_front};
 use super::{FINISHED, ends_so, runs};
@@ -137,7 +137,8 @@ enum Row {
     Fills(usize, Result<Outcome, ScriptFault>),
     /// So many wakes of a machine whose memory runs out, how the script ends, and how many are answered.
     RunsOut(u32, Result<Outcome, ScriptFault>, u32),
-    /// So many wakes, the write that fails, how the script ends, how many writes there are, and the bytes that are taken.
+    /// So many wakes, the write that fails, how the script ends, how many writes there are, and the bytes that
+    /// are taken.
     Writes(u32, u32, Result<Outcome, ScriptFault>, u32, usize),
 }
 

@@ -1,4 +1,5 @@
-//! Lists of calls drawn at random, with fixed seeds: each is replayed on a new kernel, which answers the same and reads the same.
+//! Lists of calls drawn at random, with fixed seeds: each is replayed on a new kernel, which answers the same and reads
+//! the same.
 
 use super::{SMALL, Scene, copies, new_scene};
 use pc_agent::Agent;

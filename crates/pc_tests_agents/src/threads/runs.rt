@@ -209,8 +209,8 @@ fn three_threads_on_two_cpus(rt: HostRuntime) {
     comes_to(&rt, rt.alloc(), 2, &PLANS, &[], &FACTS);
 }
 
-// Each agent whose steal is refused asks 63 others, and each of these answers. Where all of that waited, one thread of three steps
-// was not done after 20 seconds.
+// Each agent whose steal is refused asks 63 others, and each of these answers. Where all of that waited, one thread of
+// three steps was not done after 20 seconds.
 #[test]
 fn a_thread_that_sixty_four_agents_would_have(rt: HostRuntime) {
     const FACTS: [Fact<'static>; 2] = [Fact::Totals([1, 5, 3, 6]), Fact::Rows(64)];

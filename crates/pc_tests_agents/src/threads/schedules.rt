@@ -13,8 +13,8 @@ use std::thread;
 use std::thread::Threads;
 use std::time::{Clock, Duration};
 
-/// Who is held at which point of its own, until who has come to which. The agents are 0, 1, .., and their points count from 1,
-/// three a turn: 4 is where the second turn begins.
+/// Who is held at which point of its own, until who has come to which. The agents are 0, 1, .., and their points count
+/// from 1, three a turn: 4 is where the second turn begins.
 type Hold = (usize, u64, usize, u64);
 
 /// The driver among those who come to points: its own are the steps that it has done.
@@ -195,12 +195,12 @@ const TWO: [Plan<'static>; 2] = [
     (1, 1, &[Step::Die(1)]),
 ];
 
-/// The first agent has a delta to take when its first turn ends, and a wake when its second one does; what it asked in that
-/// one was answered before it is told the wake.
+/// The first agent has a delta to take when its first turn ends, and a wake when its second one does; what it asked in
+/// that one was answered before it is told the wake.
 const ASKED: [Hold; 3] = [(0, 1, 1, 3), (0, 4, DRIVER, 1), (0, 5, 1, 4)];
 
-/// Where its third turn ends it was answered again: in between, the other agent was woken by the yield that this one told of, since
-/// one that has started again does not know whether the thread is ready.
+/// Where its third turn ends it was answered again: in between, the other agent was woken by the yield that this one
+/// told of, since one that has started again does not know whether the thread is ready.
 const ASKED_AGAIN: Hold = (0, 9, 1, 10);
 
 #[test]
@@ -217,7 +217,8 @@ fn an_answer_takes_the_place_of_what_waits(rt: HostRuntime) {
 
 #[test]
 fn what_was_answered_before_a_restart_is_kept(rt: HostRuntime) {
-    // The other agent restarts behind its answer, and before it is told of the yield, which no agent would know if both forgot it.
+    // The other agent restarts behind its answer, and before it is told of the yield, which no agent would know if both
+    // forgot it.
     const FACTS: [Fact<'static>; 1] = [Fact::Totals([2, 5, 3, 3])];
     let holds = [ASKED[0], ASKED[1], (0, 5, 1, 5), ASKED_AGAIN];
     let turns = [(0, 2), (0, 3), (1, 2)];
@@ -226,8 +227,8 @@ fn what_was_answered_before_a_restart_is_kept(rt: HostRuntime) {
 
 #[test]
 fn all_others_are_asked(rt: HostRuntime) {
-    // Two agents forget the thread, before either asks; the third one knows it. The second one is woken by the first, since the
-    // thread may run on its CPU too.
+    // Two agents forget the thread, before either asks; the third one knows it. The second one is woken by the first,
+    // since the thread may run on its CPU too.
     const PLANS: [Plan<'static>; 1] = [(0, 3, &[Step::Yield(1), Step::Die(1)])];
     const FACTS: [Fact<'static>; 1] = [Fact::Totals([1, 3, 2, 2])];
     let turns = [(0, 2), (1, 2)];

@@ -1,4 +1,5 @@
-//! Which settings are accepted, and what is answered to the others: each range from both sides, and each fault beside the next.
+//! Which settings are accepted, and what is answered to the others: each range from both sides, and each fault beside
+//! the next.
 
 use pc_threads::{Config, ConfigFault, Restart, Step, ThreadPlan};
 use std::alloc::Global;

@@ -22,7 +22,8 @@ fn add_line(line: &[u8], limits: &mut Option<Limits>, events: &mut Vec<Event>) -
     true
 }
 
-/// Takes the limits and the events that a script asks for, whose lines are parted by semicolons. Whether each is a command.
+/// Takes the limits and the events that a script asks for, whose lines are parted by semicolons. Whether each is
+/// a command.
 fn add_lines(script: &[u8], limits: &mut Option<Limits>, events: &mut Vec<Event>) -> bool {
     for line in script.split(|byte| *byte == b';') {
         if !add_line(line, limits, events) {
@@ -92,8 +93,8 @@ fn tells_all(view: &View, kernel: &Kernel) -> bool {
     true
 }
 
-/// Whether each view is of the kernel's run, and an agent who starts with nothing and takes in all that was sent and all that the
-/// queues hold knows each known thread to its last message.
+/// Whether each view is of the kernel's run, and an agent who starts with nothing and takes in all that was sent and
+/// all that the queues hold knows each known thread to its last message.
 fn is_whole(alloc: Global, world: &World) -> bool {
     let mut view = View::new(alloc);
     are_of_run(world)
@@ -158,8 +159,8 @@ impl Script {
             && stays_whole(self.alloc, self.limits, all.as_slice())
     }
 
-    /// How many runs disturb this event: one for each CPU, whose agent crashes after it, and one for a send, which is refused.
-    /// Nothing where one of them does not stay whole.
+    /// How many runs disturb this event: one for each CPU, whose agent crashes after it, and one for a send, which is
+    /// refused. Nothing where one of them does not stay whole.
     fn runs_at(&self, place: usize, event: &Event) -> Option<usize> {
         let mut runs = 0_usize;
         for cpu in 0..self.limits.cpus {
