@@ -127,9 +127,10 @@ def drawn_script(place: int) -> str:
     rough, lines = Rough(cpus), ["# drawn", f"enclave {cpus} 3 4 3 1000" if few else f"enclave {cpus} 32 100 32 1000"]
     for _ in range(chance.choice([2, 5, 10, 20])):
         words, cpu, other = turn(chance, rough), chance.randrange(cpus), chance.randrange(cpus)
+        leave, new = f"{chance.choice(LEAVE)} C RAN", f"create {other} {2**cpus - 1} ready"
         further = chance.choice([
-            [f"{chance.choice(LEAVE)} C RAN", "publish C", "consume C", "pick C ASEQ"],
-            [f"publish {other}", f"consume {other}", f"deliver C {rough.deltas}", "steal C"],
+            ["create Q MASK ready", leave, "publish C", "consume C", "pick C ASEQ", leave][:chance.choice([5, 6])],
+            [leave, new, f"publish {other}", f"consume {other}", f"deliver C {rough.deltas}", "steal C", "pick C ASEQ"],
             ["sleep C ASEQ"], ["associate T Q NUMBER"], [],
         ])
         words += [command(chance, rough, line.split(), cpu) for line in further]
