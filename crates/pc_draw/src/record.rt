@@ -25,8 +25,8 @@ struct Thread {
     waits: bool,
 }
 
-/// What was recorded last of the world. An event changes only the CPUs and the thread that it and its reply name: the
-/// world is asked of these alone.
+/// What was recorded last of the world. An event changes only the CPUs and the thread that it and its reply name, and
+/// the home that the thread had before: the world is asked of these alone.
 #[derive(Drop)]
 struct Last {
     threads: Vec<Thread>,
@@ -261,7 +261,12 @@ impl<W: Write> Observer<Session, W> for Recorder {
         machine: &Session,
         writer: &mut W,
     ) -> Result<(), ScriptFault> {
-        match self.keep(line.number, command, response, machine) {
+        let kept = self.keep(line.number, command, response, machine);
+        // A view is let go of here, or it would still stand while the next one is made.
+        if let Response::View(_) = response {
+            *response = Response::Opened;
+        }
+        match kept {
             Ok(()) => Ok(()),
             Err(_) => Err(ScriptFault::OutOfMemory),
         }

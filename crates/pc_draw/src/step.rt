@@ -41,7 +41,7 @@ pub(crate) struct Step {
     pub(crate) number: u32,
     pub(crate) command: Command,
     pub(crate) answer: Answer,
-    /// The home that its thread had before it, where it names a thread and no CPU, or moved one.
+    /// The home that its thread had before it, where there was one.
     pub(crate) home: Option<Cpu>,
     /// How many changes the steps up to this one made.
     pub(crate) changed: usize,

@@ -130,7 +130,12 @@ impl<W: Write> Observer<Session, W> for Comments {
         writer: &mut W,
     ) -> Result<(), ScriptFault> {
         let sentences = on_command(machine, command, response, &self.before);
-        write_told(line, response, &sentences, writer)
+        let told = write_told(line, response, &sentences, writer);
+        // A view is let go of here, or it would still stand while the next one is made.
+        if let Response::View(_) = response {
+            *response = Response::Opened;
+        }
+        told
     }
 
     fn faulted(&mut self, line: Line<'_>, writer: &mut W) -> Result<(), ScriptFault> {

@@ -176,11 +176,12 @@ MessageOf end' = ending.message_of end'
 
 -- `pc-sim replay`, `explain` and `draw`, by how they ended: what the writer behind the program's buffer has now is what
 -- it had, and behind that the output of the script by a session; or that with comments between; or the script's
--- picture; or, where memory ran out, the replies to the lines before one, whole, and of a picture nothing
+-- picture; or, where memory ran out, nothing, or the replies to the lines before one, whole, and of a picture nothing.
+-- After a read or a write that failed nothing is said
 abbrev pub AfterScript : Form → List ℕ → Option (List ℕ) → Option (List ℕ) → Ending → Type 0
 AfterScript form bytes old new end' = program.IsMade form bytes old new end'
 
 -- `pc-sim run`, by how it ended: behind what the writer had stands the report of a run that did what the settings ask
--- for, or nothing
+-- for, or nothing; after a read or a write that failed nothing is said
 abbrev pub AfterRun : Option Members → ReportForm → Option (List ℕ) → Option (List ℕ) → Ending → Type 0
 AfterRun settings form old new end' = program.IsReported settings form old new end'

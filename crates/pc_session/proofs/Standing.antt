@@ -10,7 +10,8 @@ use Rattle.pc_script.specs.declared.response.Response.TheVariants as response
 use Rattle.pc_world.specs.PlainWorld.{opened}
 use Rattle.pc_world.specs.Shows.{ShowsWorld, World}
 use Rattle.pc_session.specs.Session.{IsLimited, IsStep, one_more, none}
-use Rattle.pc_session.specs.Inner.Sessions.{Answers, Steps, StandsAfter}
+use Rattle.pc_session.specs.Inner.Sessions.{Answers, Steps}
+use Rattle.pc_session.specs.Standing.{StandsAfter}
 
 pub stands_at_start : (profile : Profile) → StandsAfter profile profile None [] []
 stands_at_start profile = (refl, (None, none, tt))

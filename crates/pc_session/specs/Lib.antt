@@ -5,3 +5,4 @@ pub mod Inner
 pub mod Reads
 pub mod Session
 pub mod ShownViews
+pub mod Standing

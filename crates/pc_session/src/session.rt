@@ -7,7 +7,8 @@ ghost use Rattle.pc_world.specs.PlainWorld.{PlainWorld};
 ghost use Rattle.pc_world.specs.Shows.{ShowsWorld};
 ghost use Rattle.pc_session.specs.Session.{IsSession, RanOut, TakesMemory, TakesMemoryIn};
 ghost use Rattle.pc_calls.specs.declared.limits.Profile.{Profile};
-ghost use Rattle.pc_session.specs.Inner.Sessions.{Answers, LeadsToWorld, StandsAfter, Steps, is_session, lent};
+ghost use Rattle.pc_session.specs.Inner.Sessions.{Answers, Steps, is_session};
+ghost use Rattle.pc_session.specs.Standing.{LeadsToWorld, StandsAfter, lent};
 
 use crate::reads::answer_of;
 use pc_calls::{LimitsFault, Profile};

@@ -1,19 +1,12 @@
--- What a session shows after its commands.
+-- What a session does with one command.
 use Rattle.std.specs.Prelude.{◌≡◌, List, Option, Some, None}
-use Rattle.std.specs.Borrow.{Bor}
 use Rattle.pc_calls.specs.declared.limits.Profile.{Profile}
 use Rattle.pc_script.specs.declared.command.Command.{Command}
 use Rattle.pc_script.specs.declared.response.Response.{Response}
 use Rattle.pc_world.specs.PlainWorld.{PlainWorld}
 use Rattle.pc_world.specs.Shows.{ShowsWorld, World}
-use Rattle.pc_session.specs.Session.{Session, IsStep, IsRun, IsSession, IsWorldStep}
-
--- before an accepted `enclave` there is no world
-abbrev pub ShowsSession : Option World → Session → Type 0
-ShowsSession None None = Unit {0}
-ShowsSession None (Some w) = ⊥
-ShowsSession (Some world) None = ⊥
-ShowsSession (Some world) (Some w) = ShowsWorld world w
+use Rattle.pc_session.specs.Session.{Session, IsStep, IsSession, IsWorldStep}
+use Rattle.pc_session.specs.Standing.{ShowsSession, StandsAfter}
 
 -- for every session that is shown before, the response is that of a step, whose result is shown after
 abbrev pub Steps : Profile → Command → Option World → Option World → Response → Type 0
@@ -25,20 +18,6 @@ abbrev pub Answers : Command → World → World → Response → Type 0
 Answers command old new told =
     (w : PlainWorld) → ShowsWorld old w → (w' : PlainWorld) × IsWorldStep w command told w' × ShowsWorld new w'
 
--- the limits are judged by the profile, and some session to which these commands lead, with these responses, is shown
-abbrev pub StandsAfter : Profile → Profile → Option World → List Command → List Response → Type 0
-StandsAfter profile judged world commands told =
-    (judged ≡ profile) × ((s : Session) × IsRun profile None commands told s × ShowsSession world s)
-
 pub is_session : (profile judged : Profile) (world : Option World) (commands : List Command) (told : List Response)
     → StandsAfter profile judged world commands told → IsSession profile commands told
 is_session profile judged world commands told (same, (s, run, shows)) = (s, run)
-
--- the world that a session lends
-abbrev pub lent : Option (Bor World) → Option World
-lent None = None
-lent (Some world) = Some world.now
-
--- the commands, with these responses, lead to a session that is shown
-abbrev pub LeadsToWorld : Profile → List Command → List Response → Option World → Type 0
-LeadsToWorld profile commands told world = (s : Session) × IsRun profile None commands told s × ShowsSession world s
