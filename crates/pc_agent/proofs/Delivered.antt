@@ -26,19 +26,19 @@ use Rattle.pc_agent.proofs.Taking.{view_of_nothing, view_takes, view_takes_some}
 
 -- a part of a delta
 takes_some : (run : Run) (p : PlainAgent) (set : Set) (old new : Agent) (delta : List Part) → ShowsDelta run set delta → ShowsAgent run p old → IsPartlyTakenIn delta old.view new.view
-    → new.list ≡ old.list → new.shown ≡ old.shown → ShowsPart run p set new
+    → new.list ≡ old.list → new.sent_items ≡ old.sent_items → ShowsPart run p set new
 takes_some run p set old new delta tells h partly list count =
-    let some = view_takes_some run p.seen set old.view new.view delta h.view partly tells in
-    (some.0, some.1, record { view = some.2; list = list ∙ h.list; shown = count ∙ h.shown })
+    let some = view_takes_some run p.known set old.view new.view delta h.view partly tells in
+    (some.0, some.1, record { view = some.2; list = list ∙ h.list; sent_items = count ∙ h.sent_items })
 
 pub delivered : (run : Run) (p : PlainAgent) (set : Set) (result : Result (Unit {0}) OutOfMemory) (old new : Agent) (delta : List Part) → ShowsDelta run set delta → ShowsAgent run p old
-    → OnOk result (IsTakenIn delta old.view new.view) → IsPartlyTakenIn delta old.view new.view → new.list ≡ old.list → new.shown ≡ old.shown → IsDelivered run p set result new
+    → OnOk result (IsTakenIn delta old.view new.view) → IsPartlyTakenIn delta old.view new.view → new.list ≡ old.list → new.sent_items ≡ old.sent_items → IsDelivered run p set result new
 delivered run p set (Ok done) old new delta tells h taken partly list count =
-    record { view = view_takes run p.seen set old.view new.view delta h.view taken tells; list = list ∙ h.list; shown = count ∙ h.shown }
+    record { view = view_takes run p.known set old.view new.view delta h.view taken tells; list = list ∙ h.list; sent_items = count ∙ h.sent_items }
 delivered run p set (Err fault) old new delta tells h taken partly list count = takes_some run p set old new delta tells h partly list count
 
 pub partly_delivered : (run : Run) (p : PlainAgent) (set : Set) (result : Result (Unit {0}) OutOfMemory) → IsErr result → (old new : Agent) (delta : List Part) → ShowsDelta run set delta → ShowsAgent run p old
-    → IsPartlyTakenIn delta old.view new.view → new.list ≡ old.list → new.shown ≡ old.shown → IsDelivered run p set result new
+    → IsPartlyTakenIn delta old.view new.view → new.list ≡ old.list → new.sent_items ≡ old.sent_items → IsDelivered run p set result new
 partly_delivered run p set (Ok done) e old new delta tells h partly list count = absurd (false≢true e)
 partly_delivered run p set (Err fault) e old new delta tells h partly list count = takes_some run p set old new delta tells h partly list count
 
@@ -48,7 +48,7 @@ takes_none parts view = record { between = record { at_least = λ m e. e; at_mos
 
 -- a copy for which there was no memory
 pub copy_failed : (items : List Item) (result : Result (List Part) OutOfMemory) (old new : Agent) → IsErr result → Copies items result old new → IsPartlyTakenIn (parts_in items) old.view new.view
-    → new.list ≡ old.list → new.shown ≡ old.shown → cpu_of new ≡ cpu_of old → new.counts ≡ old.counts → DoesCopy items result old new
+    → new.list ≡ old.list → new.sent_items ≡ old.sent_items → cpu_of new ≡ cpu_of old → new.counts ≡ old.counts → DoesCopy items result old new
 copy_failed items (Ok delta) old new e copies partly list sent cpu counts = absurd (false≢true e)
 copy_failed items (Err fault) old new e copies partly list sent cpu counts =
     record { copies = copies; told = tt; taken = tt; partly = partly; refreshed = tt; list_err = list; sent = sent; cpu = cpu; counts = counts }
@@ -71,20 +71,20 @@ module _ (reported : ReportsAreTold) (told : ItemsAreTold) (told_of_run : ItemsA
   items_tell = record { of_run = told_of_run run items are; told = told items }
 
   pub some_copied : HasPartlyCopied items old new → ShowsPart run p (pairs_in items) new
-  some_copied has = takes_some run p (pairs_in items) old new (parts_in items) items_tell h has.view has.list has.shown
+  some_copied has = takes_some run p (pairs_in items) old new (parts_in items) items_tell h has.view has.list has.sent_items
 
-  pub all_copied : (count : ℕ) → HasCopied items old new count → ShowsAgent run (record (copied run old.cpu items p) { shown = count }) new
+  pub all_copied : (count : ℕ) → HasCopied items old new count → ShowsAgent run (record (copied run old.cpu items p) { sent_items = count }) new
   all_copied count has =
-      let view = view_takes run p.seen (pairs_in items) old.view new.view (parts_in items) h.view has.view items_tell in
-      let state : (t : ℕ) → reported_in new.view t ≡ reports run (copied run old.cpu items p).seen t = λ t. reported run (copied run old.cpu items p).seen new.view t view.of_run view.seen in
-      record { view = view; list = has.list ∙ λ i. refreshed_as (λ t. state t i) old.cpu (h.list i) (threads_in items); shown = has.shown }
+      let view = view_takes run p.known (pairs_in items) old.view new.view (parts_in items) h.view has.view items_tell in
+      let state : (t : ℕ) → reported_in new.view t ≡ reports run (copied run old.cpu items p).known t = λ t. reported run (copied run old.cpu items p).known new.view t view.of_run view.known in
+      record { view = view; list = has.list ∙ λ i. refreshed_as (λ t. state t i) old.cpu (h.list i) (threads_in items); sent_items = has.sent_items }
 
   -- what else is as it was
-  counted : (count n : ℕ) → count ≡ n → ShowsAgent run (record (copied run old.cpu items p) { shown = count }) new → ShowsAgent run (record (copied run old.cpu items p) { shown = n }) new
-  counted count n e a = record { view = a.view; list = a.list; shown = a.shown ∙ e }
+  counted : (count n : ℕ) → count ≡ n → ShowsAgent run (record (copied run old.cpu items p) { sent_items = count }) new → ShowsAgent run (record (copied run old.cpu items p) { sent_items = n }) new
+  counted count n e a = record { view = a.view; list = a.list; sent_items = a.sent_items ∙ e }
 
-  pub has_copied : (delta : List Part) → delta ≡ parts_in items → HasCopied items old new old.shown → IsCopied run p items (Ok delta) old.cpu new
-  has_copied delta is has = (subst (ShowsDelta run (pairs_in items)) (sym is) items_tell, counted old.shown p.shown h.shown (all_copied old.shown has))
+  pub has_copied : (delta : List Part) → delta ≡ parts_in items → HasCopied items old new old.sent_items → IsCopied run p items (Ok delta) old.cpu new
+  has_copied delta is has = (subst (ShowsDelta run (pairs_in items)) (sym is) items_tell, counted old.sent_items p.sent_items h.sent_items (all_copied old.sent_items has))
 
   pub has_partly_copied : (result : Result (List Part) OutOfMemory) → IsErr result → HasPartlyCopied items old new → IsCopied run p items result old.cpu new
   has_partly_copied (Ok delta) e has = absurd (false≢true e)
@@ -92,12 +92,12 @@ module _ (reported : ReportsAreTold) (told : ItemsAreTold) (told_of_run : ItemsA
 
   pub published : {W : Type 0} (Sends : Sending W) (result : Result ℕ SendFault) (wire later : W) → Publishes Sends items result old new wire later → IsPublished Sends items run p result old.cpu new wire later
   published Sends (Ok count) wire later has = (has.0, record { shows = items_tell; sent = has.1 }, counted count (length items) has.0 (all_copied count has.2))
-  published Sends (Err fault.WireFault) wire later has = (record { shows = items_tell; sent = has.0 }, counted old.shown p.shown h.shown (all_copied old.shown has.1))
+  published Sends (Err fault.WireFault) wire later has = (record { shows = items_tell; sent = has.0 }, counted old.sent_items p.sent_items h.sent_items (all_copied old.sent_items has.1))
   published Sends (Err fault.OutOfMemory) wire later (inl some) = inl (some_copied some.0, some.1)
-  published Sends (Err fault.OutOfMemory) wire later (inr all) = inr (record { shows = items_tell; sent = all.0 }, counted old.shown p.shown h.shown (all_copied old.shown all.1))
+  published Sends (Err fault.OutOfMemory) wire later (inr all) = inr (record { shows = items_tell; sent = all.0 }, counted old.sent_items p.sent_items h.sent_items (all_copied old.sent_items all.1))
 
 -- by a view of nothing no thread may run
 pub none_runs : ReportsAreTold → (view : View) → IsVoid (pairs_of view) → ((run : Run) → IsOfRun run view) → (cpu t : ℕ) → runs_in view cpu t ≡ false
 none_runs reported view nothing of_run cpu t =
     let none = view_of_nothing (λ thread. []) view nothing (of_run (λ thread. [])) in
-    ap (λ state. may_run state cpu) (reported (λ thread. []) [] view t none.of_run none.seen)
+    ap (λ state. may_run state cpu) (reported (λ thread. []) [] view t none.of_run none.known)

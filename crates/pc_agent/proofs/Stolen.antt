@@ -118,12 +118,12 @@ module _ (view : View) (cpu : ℕ) (list left : List ℕ) (before after : Kernel
 module _ (reported : ReportsAreTold) (known : UptosAreTold) (old : Agent) (k : KernelRows) where
   module _ (P : PlainKernel) (run : Run) (p : PlainAgent) (shows : Shows k P) (h : ShowsAgent run p old) where
     test_same : may_take (seen k) (runs_in old.view old.cpu) old.list ≡ may_steal (shown P) run old.cpu p
-    test_same = λ i. may_take (shows.reads i) (λ t. may_run (reported run p.seen old.view t h.view.of_run h.view.seen i) old.cpu) (h.list i)
+    test_same = λ i. may_take (shows.reads i) (λ t. may_run (reported run p.known old.view t h.view.of_run h.view.known i) old.cpu) (h.list i)
 
     takes_same : takes_up_to (upto_of old.view) old.cpu ≡ takes_over old.cpu p
-    takes_same = λ i t. call.Associate t old.cpu (known run p.seen old.view t h.view.of_run h.view.seen i)
+    takes_same = λ i t. call.Associate t old.cpu (known run p.known old.view t h.view.of_run h.view.known i)
 
-    pub stolen : (result : Result ℕ CallFault) (new : Agent) (k2 : KernelRows) → StealsAsSeen old.view old.cpu result old.list new.list k k2 → new.view ≡ old.view → new.shown ≡ old.shown → Steals P run p result old.cpu new k2
+    pub stolen : (result : Result ℕ CallFault) (new : Agent) (k2 : KernelRows) → StealsAsSeen old.view old.cpu result old.list new.list k k2 → new.view ≡ old.view → new.sent_items ≡ old.sent_items → Steals P run p result old.cpu new k2
     stolen result new k2 steals view count =
         let Taken : ℕ → Type 0 = λ t. IsTakenOver P run p old.cpu t new k2 in
         let here = also (seen k) old.cpu (may_take (seen k) (runs_in old.view old.cpu) old.list) (takes_up_to (upto_of old.view) old.cpu) (λ t. HasTakenOver (takes_up_to (upto_of old.view) old.cpu t) t old.list new.list k k2) Taken result taken steals in
@@ -134,7 +134,7 @@ module _ (reported : ReportsAreTold) (known : UptosAreTold) (old : Agent) (k : K
         taken : (t : ℕ) → HasTakenOver (takes_up_to (upto_of old.view) old.cpu t) t old.list new.list k k2 → IsTakenOver P run p old.cpu t new k2
         taken t took = record {
           after = subst (λ takes. Shows k2 (after P (takes t))) takes_same (took.kernel P shows).1;
-          agent = record { view = subst (λ v. ShowsView run p.seen v) (sym view) h.view; list = took.list ∙ ap (λ l. l ++ t ∷ []) h.list; shown = count ∙ h.shown };
+          agent = record { view = subst (λ v. ShowsView run p.known v) (sym view) h.view; list = took.list ∙ ap (λ l. l ++ t ∷ []) h.list; sent_items = count ∙ h.sent_items };
         }
 
   pub exactly : AcceptedAssociatesAreExact → (result : Result ℕ CallFault) (left : List ℕ) (k2 : KernelRows) → StealsAsSeen old.view old.cpu result old.list left k k2
@@ -143,7 +143,7 @@ module _ (reported : ReportsAreTold) (known : UptosAreTold) (old : Agent) (k : K
   exactly law (Ok t) left k2 steals = λ P run p shows extends h.
       let took = taken_over old.view old.cpu old.list left k k2 t steals in
       let exact = law P t old.cpu (upto_of old.view t) (not_refused P (takes_up_to (upto_of old.view) old.cpu t) (took.kernel P shows).0) in
-      let whole : upto p.seen t ≡ length (kinds P t) = sym (known run p.seen old.view t h.view.of_run h.view.seen) ∙ exact.current in
+      let whole : upto p.known t ≡ length (kinds P t) = sym (known run p.known old.view t h.view.of_run h.view.known) ∙ exact.current in
       record {
         whole = whole;
         state = ap (λ m. state_of (take m (run t))) whole ∙ ap (λ l. state_of (take (length (kinds P t)) l)) (extends t).1 ∙ ap state_of (take-append_seam (kinds P t) (extends t).0);

@@ -16,7 +16,7 @@ use Rattle.pc_agent.proofs.Lists.{as_members-append}
 pub view_takes : (run : Run) (set gained : Set) (old new : View) (delta : List Part) → ShowsView run set old → IsTakenIn delta old new → ShowsDelta run gained delta → ShowsView run (set ++ gained) new
 view_takes run set gained old new delta was taken tells = record {
   of_run = taken.of_run run was.of_run tells.of_run;
-  seen = λ m. taken.union m ∙ ap (λ b. pairs_of old m || b) (tells.told m) ∙ ap (λ b. b || as_members gained m) (was.seen m) ∙ sym (as_members-append set gained m);
+  known = λ m. taken.union m ∙ ap (λ b. pairs_of old m || b) (tells.told m) ∙ ap (λ b. b || as_members gained m) (was.known m) ∙ sym (as_members-append set gained m);
 }
 
 -- the pairs of a list that a set has
@@ -90,12 +90,12 @@ pub view_takes_some : (run : Run) (set gained : Set) (old new : View) (delta : L
     → (some : Set) × IsBetween (as_members set) (as_members gained) (as_members some) × ShowsView run some new
 view_takes_some run set gained old new delta was taken tells =
     let between : IsBetween (as_members set) (as_members gained) (pairs_of new) = record {
-      at_least = λ m e. taken.between.at_least m (was.seen m ∙ e);
-      at_most = λ m e. ap (λ b. b || as_members gained m) (sym (was.seen m)) ∙ ap (λ b. pairs_of old m || b) (sym (tells.told m)) ∙ taken.between.at_most m e;
+      at_least = λ m e. taken.between.at_least m (was.known m ∙ e);
+      at_most = λ m e. ap (λ b. b || as_members gained m) (sym (was.known m)) ∙ ap (λ b. pairs_of old m || b) (sym (tells.told m)) ∙ taken.between.at_most m e;
     } in (
       some set gained (pairs_of new) between,
       some_between set gained (pairs_of new) between,
-      record { of_run = taken.of_run run was.of_run tells.of_run; seen = some_same set gained (pairs_of new) between },
+      record { of_run = taken.of_run run was.of_run tells.of_run; known = some_same set gained (pairs_of new) between },
     )
 
 -- a view of nothing is the view of no pair
@@ -106,4 +106,4 @@ none_has (t ∷ n ∷ []) = refl
 none_has (t ∷ n ∷ k ∷ m) = refl
 
 pub view_of_nothing : (run : Run) (view : View) → IsVoid (pairs_of view) → IsOfRun run view → ShowsView run [] view
-view_of_nothing run view nothing of_run = record { of_run = of_run; seen = λ m. nothing m ∙ sym (none_has m) }
+view_of_nothing run view nothing of_run = record { of_run = of_run; known = λ m. nothing m ∙ sym (none_has m) }

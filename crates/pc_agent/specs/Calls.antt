@@ -42,7 +42,7 @@ pub record DoesDeliver (delta : List Part) (result : Result (Unit {0}) NoMemory)
   pub done : OnOk result (IsTakenIn delta old.view new.view)
   pub partly : IsPartlyTakenIn delta old.view new.view
   pub list : new.list ≡ old.list
-  pub sent : new.shown ≡ old.shown
+  pub sent : new.sent_items ≡ old.sent_items
   pub cpu : cpu_of new ≡ cpu_of old
   pub counts : new.counts ≡ old.counts
 
@@ -54,14 +54,14 @@ pub record DoesCopy (items : List Item) (result : Result (List Part) NoMemory) (
   pub partly : IsPartlyTakenIn (parts_in items) old.view new.view
   pub refreshed : OnOk result (new.list ≡ runs.refreshed new.view (cpu_of old) old.list (threads_in items))
   pub list_err : OnErr result (new.list ≡ old.list)
-  pub sent : new.shown ≡ old.shown
+  pub sent : new.sent_items ≡ old.sent_items
   pub cpu : cpu_of new ≡ cpu_of old
   pub counts : new.counts ≡ old.counts
 
 -- so many items at the front of its queue count as sent
 pub record CountsAsSent (items : ℕ) (old new : Agent) : Type 0 where
-  pub shown : (run : Run) (p : PlainAgent) → ShowsAgent run p old → ShowsAgent run (record p { shown = items }) new
-  pub count : new.shown ≡ items
+  pub shows : (run : Run) (p : PlainAgent) → ShowsAgent run p old → ShowsAgent run (record p { sent_items = items }) new
+  pub count : new.sent_items ≡ items
   pub list : new.list ≡ old.list
   pub same : KnowsTheSame old.counts old new
 
@@ -79,8 +79,8 @@ pub record DoesPublish {W : Type 0} (Sends : Sending W) (faults : W → ℕ) (ke
 pub record DoesConsume (result : Result ℕ Refusal) (old new : Agent) (before after : KernelRows) : Type 0 where
   pub consumes : WhateverShown before old (λ P run p. IsConsumed P run p result (cpu_of old) new after)
   pub own : ConsumesAsSeen old before result new after
-  pub count : IfOk result (λ count. count ≡ old.shown)
-  pub nothing_sent : OnOk result (new.shown ≡ 0)
+  pub count : IfOk result (λ count. count ≡ old.sent_items)
+  pub nothing_sent : OnOk result (new.sent_items ≡ 0)
   pub kernel : OnOk result (Accepts (removes_sent old) Done before after)
   pub list : new.list ≡ old.list
   pub fault : refusal_in result ≡ steps.refused (seen before) (removes_sent old)
@@ -96,7 +96,7 @@ pub record DoesPick (aseq : ℕ) (result : Result ℕ Refusal) (old new : Agent)
   pub first : IfOk result (λ thread. ready_list (seen before) (cpu_of old) aseq old.list ≡ thread ∷ new.list)
   pub list_err : IfErr result (λ refusal. new.list ≡ left_by refusal old.list)
   pub kernel : IfOk result (λ thread. Accepts (call.Commit (cpu_of old) thread aseq) Done before after)
-  pub sent : new.shown ≡ old.shown
+  pub sent : new.sent_items ≡ old.sent_items
   pub same : KnowsTheSame (pick_counted result old.counts) old new
   pub goes_on : GoesOn result before after
 
@@ -108,6 +108,6 @@ pub record DoesSteal (result : Result ℕ CallFault) (old new : Agent) (before a
   pub kernel : IfOk result (λ thread. Accepts (takes_up_to (upto_of old.view) (cpu_of old) thread) Done before after)
   pub taken : IfOk result (λ thread. new.list ≡ old.list ++ thread ∷ [])
   pub list_err : OnErr result (new.list ≡ old.list)
-  pub sent : new.shown ≡ old.shown
+  pub sent : new.sent_items ≡ old.sent_items
   pub same : KnowsTheSame (steal_counted result old.counts) old new
   pub goes_on : GoesOn result before after

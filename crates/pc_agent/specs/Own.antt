@@ -30,13 +30,13 @@ use Rattle.pc_agent.specs.Shows.{cpu_of}
 pub record HasCopied (items : List Item) (old new : Agent) (count : ℕ) : Type 0 where
   pub view : IsTakenIn (parts_in items) old.view new.view
   pub list : new.list ≡ refreshed new.view (cpu_of old) old.list (threads_in items)
-  pub shown : new.shown ≡ count
+  pub sent_items : new.sent_items ≡ count
 
 -- a part of the messages may be taken in, and the agent is otherwise as it was
 pub record HasPartlyCopied (items : List Item) (old new : Agent) : Type 0 where
   pub view : IsPartlyTakenIn (parts_in items) old.view new.view
   pub list : new.list ≡ old.list
-  pub shown : new.shown ≡ old.shown
+  pub sent_items : new.sent_items ≡ old.sent_items
 
 -- a publish of these items: the wire was given one part for each message, in order; memory may have run out before
 -- that, or in it
@@ -44,10 +44,10 @@ abbrev pub Publishes : {W : Type 0} → Sending W → List Item → Result ℕ S
 Publishes Sends items (Ok count) old new wire later =
     (count ≡ length items) × Sends wire (parts_in items) (Ok tt) later × HasCopied items old new count
 Publishes Sends items (Err WireFault) old new wire later =
-    Sends wire (parts_in items) (Err WireFault) later × HasCopied items old new old.shown
+    Sends wire (parts_in items) (Err WireFault) later × HasCopied items old new old.sent_items
 Publishes Sends items (Err OutOfMemory) old new wire later =
     (HasPartlyCopied items old new × (later ≡ wire))
-    ⊎ (Sends wire (parts_in items) (Err OutOfMemory) later × HasCopied items old new old.shown)
+    ⊎ (Sends wire (parts_in items) (Err OutOfMemory) later × HasCopied items old new old.sent_items)
 
 -- the agent knows what it knew, and has counted so much
 pub record KnowsTheSame (counted : Counts) (old new : Agent) : Type 0 where
@@ -57,20 +57,20 @@ pub record KnowsTheSame (counted : Counts) (old new : Agent) : Type 0 where
 
 -- the call that removes from the agent's queue what it has sent
 abbrev pub removes_sent : Agent → Call
-removes_sent agent = call.Consume (cpu_of agent) agent.shown
+removes_sent agent = call.Consume (cpu_of agent) agent.sent_items
 
 -- the kernel accepted the call that removes what the agent has sent, and none of its queue counts as sent then
 pub record HasConsumed (old new : Agent) (before after : KernelRows) : Type 0 where
   pub kernel : Accepts (removes_sent old) Done before after
-  pub shown : new.shown ≡ 0
+  pub sent_items : new.sent_items ≡ 0
   pub list : new.list ≡ old.list
-  pub same : KnowsTheSame (consume_counted (Ok old.shown) old.counts) old new
+  pub same : KnowsTheSame (consume_counted (Ok old.sent_items) old.counts) old new
 
 -- a consume, by what the agent has sent and what is read of the kernel: so many items are removed; refused,
 -- nothing changes
 abbrev pub ConsumesAsSeen : Agent → KernelRows → Result ℕ Refusal → Agent → KernelRows → Type 0
 ConsumesAsSeen old before (Ok count) new after =
-    (refused (seen before) (removes_sent old) ≡ None) × (count ≡ old.shown) × HasConsumed old new before after
+    (refused (seen before) (removes_sent old) ≡ None) × (count ≡ old.sent_items) × HasConsumed old new before after
 ConsumesAsSeen old before (Err refusal) new after =
     (refused (seen before) (removes_sent old) ≡ Some refusal) × (after ≡ before) × (new ≡ old)
 
@@ -78,14 +78,14 @@ ConsumesAsSeen old before (Err refusal) new after =
 pub record HasCommitted (aseq thread : ℕ) (old new : Agent) (before after : KernelRows) : Type 0 where
   pub kernel : Accepts (call.Commit (cpu_of old) thread aseq) Done before after
   pub list : ready_list (seen before) (cpu_of old) aseq old.list ≡ thread ∷ new.list
-  pub shown : new.shown ≡ old.shown
+  pub sent_items : new.sent_items ≡ old.sent_items
   pub same : KnowsTheSame (pick_counted (Ok thread) old.counts) old new
 
 -- no thread was committed: the kernel is as it was, and the run list, or nothing of it, is left
 pub record HasCommittedNone (refusal : Refusal) (old new : Agent) (before after : KernelRows) : Type 0 where
   pub kernel : after ≡ before
   pub list : new.list ≡ left_by refusal old.list
-  pub shown : new.shown ≡ old.shown
+  pub sent_items : new.sent_items ≡ old.sent_items
   pub same : KnowsTheSame (pick_counted (Err refusal) old.counts) old new
 
 -- a pick under a count of posts, by the agent's run list and what is read of the kernel

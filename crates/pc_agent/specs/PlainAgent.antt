@@ -21,13 +21,13 @@ Set = List (ℕ × ℕ)
 
 -- one agent in plain words
 pub record PlainAgent : Type 0 where
-  pub seen : Set  -- what it has taken in
+  pub known : Set  -- what it has taken in
   pub list : List ℕ  -- its run list, the first name first
-  pub shown : ℕ  -- how many items at the front of its queue it has sent
+  pub sent_items : ℕ  -- how many items at the front of its queue it has sent
 
 -- an agent that starts, or starts again
 abbrev pub fresh : PlainAgent
-fresh = record { seen = []; list = []; shown = 0 }
+fresh = record { known = []; list = []; sent_items = 0 }
 
 -- the view of the set in the run reports the thread ready and allowed on the CPU
 abbrev pub runs_here : Run → Set → ℕ → ℕ → Bool
@@ -39,13 +39,13 @@ threads_in items = filter_map thread_in items
 
 -- the agent takes a set in
 abbrev pub taking_in : Set → PlainAgent → PlainAgent
-taking_in set p = record p { seen = p.seen ++ set }
+taking_in set p = record p { known = p.known ++ set }
 
 -- the agent of a CPU takes items in, and refreshes its run list, in which their threads are touched
 abbrev pub copied : Run → ℕ → List Item → PlainAgent → PlainAgent
 copied run cpu items p =
-    let set = p.seen ++ pairs_in items in
-    record p { seen = set; list = refreshed_as (reports run set) cpu p.list (threads_in items) }
+    let set = p.known ++ pairs_in items in
+    record p { known = set; list = refreshed_as (reports run set) cpu p.list (threads_in items) }
 
 -- the names from the first one on that passes the test
 abbrev pub from_first : (ℕ → Bool) → List ℕ → List ℕ
@@ -84,4 +84,4 @@ may_take r runs list t = is_wanted runs list t && is_idle r t
 
 -- by what the view of the agent's set in the run reports
 abbrev pub may_steal : Reads → Run → ℕ → PlainAgent → ℕ → Bool
-may_steal r run cpu p = may_take r (runs_here run p.seen cpu) p.list
+may_steal r run cpu p = may_take r (runs_here run p.known cpu) p.list

@@ -50,7 +50,7 @@ pub record IsHandedOn {W : Type 0} (Sends : Sending W) (run : Run) (items : List
 
 -- the agent, after it copied the items, and after it also sent them
 abbrev pub sent_after : Run → ℕ → List Item → PlainAgent → PlainAgent
-sent_after run cpu items p = record (copied run cpu items p) { shown = length items }
+sent_after run cpu items p = record (copied run cpu items p) { sent_items = length items }
 
 -- a publish of these items: what counts as sent is what the wire took; after a fault of the wire only the count of sent
 -- items is as it was; memory may have run out before the send, or in it
@@ -69,8 +69,8 @@ IsPublished Sends items run p (Err OutOfMemory) cpu new wire later =
 -- the items that the agent has sent leave its queue, as the kernel answers
 abbrev pub IsConsumed : PlainKernel → Run → PlainAgent → Result ℕ Refusal → ℕ → Agent → KernelRows → Type 0
 IsConsumed P run p (Ok count) cpu new kernel =
-    (count ≡ p.shown)
-    × (reply P (call.Consume cpu p.shown) ≡ Ok Done)
-    × Shows kernel (after P (call.Consume cpu p.shown))
-    × ShowsAgent run (record p { shown = 0 }) new
-IsConsumed P run p (Err refusal) cpu new kernel = reply P (call.Consume cpu p.shown) ≡ Err refusal
+    (count ≡ p.sent_items)
+    × (reply P (call.Consume cpu p.sent_items) ≡ Ok Done)
+    × Shows kernel (after P (call.Consume cpu p.sent_items))
+    × ShowsAgent run (record p { sent_items = 0 }) new
+IsConsumed P run p (Err refusal) cpu new kernel = reply P (call.Consume cpu p.sent_items) ≡ Err refusal

@@ -75,7 +75,7 @@ StealsBy r cpu test takes Taken result =
 
 -- the call by which an agent takes a thread over: up to where its set knows it
 abbrev pub takes_over : ℕ → PlainAgent → ℕ → Call
-takes_over cpu p t = takes_up_to (upto p.seen) cpu t
+takes_over cpu p t = takes_up_to (upto p.known) cpu t
 
 -- the thread is taken over, and goes to the end of the run list
 pub record IsTakenOver (P : PlainKernel) (run : Run) (p : PlainAgent) (cpu t : ℕ) (new : Agent)
@@ -91,6 +91,6 @@ Steals P run p result cpu new kernel =
 
 -- the agent had seen the thread exactly: all its messages, the state that they report, and none of them waits
 pub record IsSeenExactly (P : PlainKernel) (run : Run) (p : PlainAgent) (t : ℕ) : Type 0 where
-  pub whole : upto p.seen t ≡ number P t
-  pub state : reports run p.seen t ≡ state_of (kinds P t)
+  pub whole : upto p.known t ≡ number P t
+  pub state : reports run p.known t ≡ state_of (kinds P t)
   pub nothing_waits : is_pending (shown P) t ≡ false

@@ -13,7 +13,7 @@ use Rattle.pc_agent.specs.PlainAgent.{PlainAgent, Set}
 -- the view is that of the set in the run
 pub record ShowsView (run : Run) (set : Set) (view : View) : Type 0 where
   pub of_run : IsOfRun run view
-  pub seen : IsSameSet (pairs_of view) (as_members set)
+  pub known : IsSameSet (pairs_of view) (as_members set)
 
 -- the delta is of the run, and tells the set
 pub record ShowsDelta (run : Run) (set : Set) (delta : List Part) : Type 0 where
@@ -22,14 +22,14 @@ pub record ShowsDelta (run : Run) (set : Set) (delta : List Part) : Type 0 where
 
 -- the agent's view is that of the plain agent's set in the run, and it has its run list and its count of sent items
 pub record ShowsAgent (run : Run) (p : PlainAgent) (agent : Agent) : Type 0 where
-  pub view : ShowsView run p.seen agent.view
+  pub view : ShowsView run p.known agent.view
   pub list : agent.list ≡ p.list
-  pub shown : agent.shown ≡ p.shown
+  pub sent_items : agent.sent_items ≡ p.sent_items
 
 -- the agent has taken in a part of the set, and is otherwise as it was
 abbrev pub ShowsPart : Run → PlainAgent → Set → Agent → Type 0
-ShowsPart run p set agent = (some : Set) × IsBetween (as_members p.seen) (as_members set) (as_members some)
-    × ShowsAgent run (record p { seen = some }) agent
+ShowsPart run p set agent = (some : Set) × IsBetween (as_members p.known) (as_members set) (as_members some)
+    × ShowsAgent run (record p { known = some }) agent
 
 -- whose agent it is
 abbrev pub cpu_of : Agent → ℕ
@@ -45,7 +45,7 @@ list_of agent = agent.list
 
 -- how many items at the front of its queue an agent has sent
 abbrev pub sent_of : Agent → ℕ
-sent_of agent = agent.shown
+sent_of agent = agent.sent_items
 
 -- what an agent has counted
 abbrev pub counts_of : Agent → Counts

@@ -21,7 +21,7 @@ pub struct Agent {
     pub(crate) cpu: Cpu,
     pub(crate) view: View,
     pub(crate) list: RunQueue,
-    pub(crate) shown: u32,
+    pub(crate) sent_items: u32,
     pub(crate) counts: Counts,
     /// What makes its calls quick. Nothing that they do or answer depends on it.
     pub(crate) shortcuts: Shortcuts,
@@ -46,7 +46,7 @@ impl Agent {
             cpu,
             view: View::new(alloc),
             list: RunQueue::new(alloc),
-            shown: 0,
+            sent_items: 0,
             counts: Counts::new(),
             shortcuts: Shortcuts::new(alloc),
         }
@@ -62,7 +62,7 @@ impl Agent {
         views_tell_what_their_sets_tell();
         self.view.clear();
         self.list = RunQueue::new(self.alloc);
-        self.shown = 0;
+        self.sent_items = 0;
         self.shortcuts.restart(self.alloc);
     }
 
@@ -76,7 +76,7 @@ impl Agent {
     /// What it knows.
     pub fn view(&self) -> &View
         ensures same { result.now ≡ self.now.view }
-        ensures shows { (run : Run) (p : PlainAgent) → ShowsAgent run p self.now → ShowsView run p.seen result.now }
+        ensures shows { (run : Run) (p : PlainAgent) → ShowsAgent run p self.now → ShowsView run p.known result.now }
     {
         &self.view
     }
@@ -91,11 +91,11 @@ impl Agent {
     }
 
     /// How many items at the front of its queue it has sent.
-    pub fn shown(&self) -> u32
-        ensures same { result ≡ self.now.shown }
-        ensures shows { (run : Run) (p : PlainAgent) → ShowsAgent run p self.now → result ≡ p.shown }
+    pub fn sent_items(&self) -> u32
+        ensures same { result ≡ self.now.sent_items }
+        ensures shows { (run : Run) (p : PlainAgent) → ShowsAgent run p self.now → result ≡ p.sent_items }
     {
-        self.shown
+        self.sent_items
     }
 
     /// Gives what it knows, and ends. It takes no memory.

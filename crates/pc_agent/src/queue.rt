@@ -39,7 +39,7 @@ impl Agent {
     pub fn sent(&mut self, items: u32)
         ensures { CountsAsSent items self.old self.new }
     {
-        self.shown = items;
+        self.sent_items = items;
     }
 
     /// Takes in all that its queue holds and sends it, and answers how many items that were. The items stay in the
@@ -95,10 +95,10 @@ impl Agent {
     pub fn consume(&mut self, kernel: &mut Kernel) -> Result<u32, Refusal>
         ensures { DoesConsume result self.old self.new kernel.old kernel.new }
     {
-        let items = self.shown;
+        let items = self.sent_items;
         match kernel.consume(self.cpu, items) {
             Ok(()) => {
-                self.shown = 0;
+                self.sent_items = 0;
                 let answered = Ok(items);
                 self.counts.count_consume(&answered);
                 answered

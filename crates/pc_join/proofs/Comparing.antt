@@ -84,11 +84,11 @@ module _ {V : Type 0} (same : V → V → Bool) where
       ]))
 
   -- the same under each name, of what is the same
-  pub same_shown : (a b c d : ℕ → Option V) → ((q : ℕ) → a q ≡ c q) → ((q : ℕ) → b q ≡ d q) → HasSame same a b → HasSame same c d
-  same_shown a b c d e f h q = same_as (a q) (b q) (c q) (d q) (e q) (f q) (h q)
+  pub same_agent : (a b c d : ℕ → Option V) → ((q : ℕ) → a q ≡ c q) → ((q : ℕ) → b q ≡ d q) → HasSame same a b → HasSame same c d
+  same_agent a b c d e f h q = same_as (a q) (b q) (c q) (d q) (e q) (f q) (h q)
 
   pub shown_same : (a b c d : ℕ → Option V) (r : Bool) → ((q : ℕ) → a q ≡ c q) → ((q : ℕ) → b q ≡ d q) → IsTrue r ↔ HasSame same c d → IsTrue r ↔ HasSame same a b
-  shown_same a b c d r e f h = (λ t. same_shown c d a b (λ q. sym (e q)) (λ q. sym (f q)) (h.0 t), λ all. h.1 (same_shown a b c d e f all))
+  shown_same a b c d r e f h = (λ t. same_agent c d a b (λ q. sym (e q)) (λ q. sym (f q)) (h.0 t), λ all. h.1 (same_agent a b c d e f all))
 
   -- values that are found by an index
   place_or : (p : ℕ) (es : List (ℕ × V)) → p ≤ length es → (p ≡ 0) ⊎ ((v : V) × (first_value (entry_at es p) ≡ Some v))
@@ -241,8 +241,8 @@ module _ {V : Type 0} (same : V → V → Bool) where
       → IsTrue r ↔ HasSame same (value_at es) (value_at fs) → r ≡ is_same_by_name same a b
   maps_same es fs a b r e f h = same_bools r (is_same_by_name same a b)
       (λ t. each_same 0 0 (map.entries a) (map.entries b) (entries_ascend a) (entries_ascend b)
-      (same_shown (value_at es) (value_at fs) (value_at (map.entries a)) (value_at (map.entries b)) (in_map es a e) (in_map fs b f) (h.0 t)))
-      (λ t. h.1 (same_shown (value_at (map.entries a)) (value_at (map.entries b)) (value_at es) (value_at fs) (λ q. sym (in_map es a e q)) (λ q. sym (in_map fs b f q))
+      (same_agent (value_at es) (value_at fs) (value_at (map.entries a)) (value_at (map.entries b)) (in_map es a e) (in_map fs b f) (h.0 t)))
+      (λ t. h.1 (same_agent (value_at (map.entries a)) (value_at (map.entries b)) (value_at es) (value_at fs) (λ q. sym (in_map es a e q)) (λ q. sym (in_map fs b f q))
       (same_each (map.entries a) (map.entries b) t)))
     where
       in_map : (xs : List (ℕ × V)) (m : map.FinMap nat_cmp V) → map.from_entries xs ≡ m → (q : ℕ) → value_at xs q ≡ value_at (map.entries m) q

@@ -94,8 +94,8 @@ members_same a b same =
 
 same_has : (w : PlainWorld) (c other : ℕ) → (told : Response) × IsComparing w c other told
 same_has w c other =
-    let a = (w.agents c).seen in
-    let b = (w.agents other).seen in
+    let a = (w.agents c).known in
+    let b = (w.agents other).known in
     here_or_nowhere (are_cpus w c other) (IsSameness w c other)
     (response.Sameness (are_same a b), record { truth = are_same a b; same = (same_members a b, members_same a b); tells = refl })
 
@@ -118,7 +118,7 @@ knows_all reads set t = kernel.is_known reads t && has_upto set t (number_read r
 complete_has : (w : PlainWorld) (c t : ℕ) → (told : Response) × IsCompleting w c t told
 complete_has w c t =
     let reads = shown w.kernel in
-    let set = (w.agents c).seen in
+    let set = (w.agents c).known in
     here_or_nowhere (is_cpu reads c) (IsCompleteness w c t) (
       response.Truth (knows_all reads set t),
       record {
@@ -138,7 +138,7 @@ complete_has w c t =
 module _ (the_greatest : (set : Set) (t n : ℕ) → (n ≤ upto set t) ↔ ((m : ℕ) → 1 ≤ m → m ≤ n → IsTrue (has set t m))) where
   show_has : (w : PlainWorld) (c : ℕ) → (told : Response) × IsShowing w c told
   show_has w c =
-      let all = rows_of the_greatest (kinds w.kernel) (w.agents c).seen in
+      let all = rows_of the_greatest (kinds w.kernel) (w.agents c).known in
       here_or_nowhere (is_cpu (shown w.kernel) c) (IsShow w c) (response.View all.0, record { rows = all.0; tells = refl; shown = all.1 })
 
   pub read_has : (w : PlainWorld) (read : Read) → ((t : ℕ) → IsBegun (kinds w.kernel t)) → (told : Response) × IsRead w read told

@@ -62,7 +62,7 @@ show_told w c view rows reported here all =
     match_true (is_cpu (shown w.kernel) c) _ _ here.0 record {
       rows = rows;
       tells = refl;
-      shown = rows_shown view.threads (kinds w.kernel) (source_of (kinds w.kernel)) (w.agents c).seen (λ t told known. reported (kinds w.kernel) view t told here.1.of_run known) here.1.of_run here.1.seen rows
+      shown = rows_shown view.threads (kinds w.kernel) (source_of (kinds w.kernel)) (w.agents c).known (λ t told known. reported (kinds w.kernel) view t told here.1.of_run known) here.1.of_run here.1.known rows
           (subst (ShowsAll (map.get view.threads)) (sym all) (shows_all view.threads));
     }
 
@@ -77,8 +77,8 @@ same_told w c other view their truth here there exact unique =
     match_true (are_cpus w c other) _ _ (both (is_cpu (shown w.kernel) c) (is_cpu (shown w.kernel) other) here.0 there.0) record {
       truth = truth;
       same = (
-        λ t m. sym (here.1.seen m) ∙ ap (λ v. pairs_of v m) (exact.0 t) ∙ there.1.seen m,
-        λ s. exact.1 (unique (kinds w.kernel) view their here.1.of_run there.1.of_run (λ m. here.1.seen m ∙ s m ∙ sym (there.1.seen m))),
+        λ t m. sym (here.1.known m) ∙ ap (λ v. pairs_of v m) (exact.0 t) ∙ there.1.known m,
+        λ s. exact.1 (unique (kinds w.kernel) view their here.1.of_run there.1.of_run (λ m. here.1.known m ∙ s m ∙ sym (there.1.known m))),
       );
       tells = refl;
     }
@@ -124,7 +124,7 @@ module _ (prefix : (view : View) (thread n : ℕ) (told : Told) → thread_of vi
       → IsTrue truth ↔ IsComplete view (seen k) thread → IsCompleting w c thread (response.Truth truth)
   complete_told w k c thread view truth shows here exact =
       let same : IsTrue truth ↔ IsComplete view (shown w.kernel) thread = subst (λ r. IsTrue truth ↔ IsComplete view r thread) shows.reads exact in
-      let all = has_all (kinds w.kernel) (shown w.kernel) view (w.agents c).seen thread here.1.of_run here.1.seen in
+      let all = has_all (kinds w.kernel) (shown w.kernel) view (w.agents c).known thread here.1.of_run here.1.known in
       match_true (is_cpu (shown w.kernel) c) _ _ here.0 record { truth = truth; complete = (λ t. all.0 (same.0 t), λ g. same.1 (all.1 g)); tells = refl }
 
 pub complete_nowhere : (w : PlainWorld) (c thread : ℕ) → IsViewAt w c None → IsCompleting w c thread (response.Refused refusal.BadCpu)

@@ -38,7 +38,7 @@ IsAsleep w c told =
 pub record IsShow (w : PlainWorld) (c : ℕ) (told : Response) : Type 0 where
   pub rows : List ShownThread
   pub tells : told ≡ response.View rows
-  pub shown : IsShown (kinds w.kernel) (w.agents c).seen rows
+  pub shown : IsShown (kinds w.kernel) (w.agents c).known rows
 
 -- what `show` is answered
 abbrev pub IsShowing : PlainWorld → ℕ → Response → Type 0
@@ -47,7 +47,7 @@ IsShowing w c told = MatchBool (is_cpu (shown w.kernel) c) (IsShow w c told) (Is
 -- whether two agents have taken in the same messages
 pub record IsSameness (w : PlainWorld) (c other : ℕ) (told : Response) : Type 0 where
   pub truth : Bool
-  pub same : IsTrue truth ↔ IsSameSet (as_members (w.agents c).seen) (as_members (w.agents other).seen)
+  pub same : IsTrue truth ↔ IsSameSet (as_members (w.agents c).known) (as_members (w.agents other).known)
   pub tells : told ≡ response.Sameness truth
 
 -- what `same` is answered
@@ -62,7 +62,7 @@ pub record HasAll (reads : kernel.Reads) (set : Set) (thread : ℕ) : Type 0 whe
 -- whether an agent has taken in all messages of a thread
 pub record IsCompleteness (w : PlainWorld) (c thread : ℕ) (told : Response) : Type 0 where
   pub truth : Bool
-  pub complete : IsTrue truth ↔ HasAll (shown w.kernel) (w.agents c).seen thread
+  pub complete : IsTrue truth ↔ HasAll (shown w.kernel) (w.agents c).known thread
   pub tells : told ≡ response.Truth truth
 
 -- what `complete` is answered

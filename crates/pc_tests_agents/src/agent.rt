@@ -160,7 +160,7 @@ fn knows_nothing(alloc: Global, agent: &Agent) -> bool {
 
 /// Whether the agent is as a new or a restarted one of its CPU, but for its counts.
 fn is_fresh(alloc: Global, agent: &Agent, cpu: Cpu) -> bool {
-    agent.cpu() == cpu && knows_nothing(alloc, agent) && lists(agent, None) && agent.shown() == 0
+    agent.cpu() == cpu && knows_nothing(alloc, agent) && lists(agent, None) && agent.sent_items() == 0
 }
 
 /// Whether nothing was counted.
@@ -266,7 +266,7 @@ fn changes(agent: &mut Agent, act: &Act) -> bool {
 /// Whether that is told of the agent.
 fn tells(agent: &Agent, act: &Act) -> bool {
     match *act {
-        Act::Shows(wanted) => agent.shown() == wanted,
+        Act::Shows(wanted) => agent.sent_items() == wanted,
         Act::Lists(wanted) => lists(agent, wanted),
         Act::Knows(thread, wanted) => agent.view().knows(thread, 1) == wanted,
         Act::Uncounted => is_uncounted(agent),

@@ -72,7 +72,7 @@ module _ (pairs_law : (parts : List Part) → IsSameSet (set_of parts) (as_membe
           w',
           match_true (are_cpus w c asker) (steps.IsAnswered w c asker (replies.Answered index) w') (IsBadCpu w (replies.Answered index) w') (cpus w h) (record {
             set = gained;
-            answers = answer_set (kinds w.kernel) (w.agents c).seen (w.agents asker).seen agent.view others.view delta was.view.of_run was.view.seen asked.view.seen said.answers;
+            answers = answer_set (kinds w.kernel) (w.agents c).known (w.agents asker).known agent.view others.view delta was.view.of_run was.view.known asked.view.known said.answers;
             tells = ap replies.Answered (at_end ∙ sent_length (kinds w.kernel) w.sent (deltas_of old) h.sent);
             after = refl;
           }),

@@ -33,7 +33,7 @@ use Rattle.pc_world.specs.PlainWorld.{PlainWorld}
 use Rattle.pc_world.specs.Steps.{IsBadCpu, IsCommitted, IsConsumed, IsPicked, IsStolen, IsTakenOver, IsTried, Step}
 use Rattle.pc_world.specs.Inner.Laws.{KernelLaws}
 use Rattle.pc_world.proofs.Good.{IsGood}
-use Rattle.pc_world.proofs.Reaching.{shown_short}
+use Rattle.pc_world.proofs.Reaching.{counted_short}
 
 not_below : (a b : ℕ) → b ≤ a → nat_lt a b ≡ false
 not_below a b e = grind (arith, nat_tests)
@@ -58,16 +58,16 @@ neither false b x y e f = cc
 
 -- a consume
 module _ (laws : KernelLaws) (limits : Limits) (w : PlainWorld) (h : IsGood limits w) (c : ℕ) (there : is_cpu (shown w.kernel) c ≡ true) where
-  consume_accepted : refused (shown w.kernel) (call.Consume c (w.agents c).shown) ≡ None
+  consume_accepted : refused (shown w.kernel) (call.Consume c (w.agents c).sent_items) ≡ None
   consume_accepted =
       let held : length (reads.content_read (shown w.kernel) c) ≡ length (content w.kernel c) = ap length ((laws.reads w.kernel).content c there) in
-      let short = shown_short laws limits w h c in
-      let enough : nat_lt (length (reads.content_read (shown w.kernel) c)) (w.agents c).shown ≡ false = not_below (length (reads.content_read (shown w.kernel) c)) (w.agents c).shown (omega arith) in
-      neither (is_cpu (shown w.kernel) c) (nat_lt (length (reads.content_read (shown w.kernel) c)) (w.agents c).shown) refusals.BadCpu refusals.TooMany there enough
+      let short = counted_short laws limits w h c in
+      let enough : nat_lt (length (reads.content_read (shown w.kernel) c)) (w.agents c).sent_items ≡ false = not_below (length (reads.content_read (shown w.kernel) c)) (w.agents c).sent_items (omega arith) in
+      neither (is_cpu (shown w.kernel) c) (nat_lt (length (reads.content_read (shown w.kernel) c)) (w.agents c).sent_items) refusals.BadCpu refusals.TooMany there enough
 
-  pub consume_takes : (told : Reply) (new : PlainWorld) → Step w (event.Consume c) told new → told ≡ replies.Consumed (w.agents c).shown
+  pub consume_takes : (told : Reply) (new : PlainWorld) → Step w (event.Consume c) told new → told ≡ replies.Consumed (w.agents c).sent_items
   consume_takes told new s =
-      let did = MatchBool-at_true (IsConsumed w c (reply_of (refused (shown w.kernel) (call.Consume c (w.agents c).shown)) Done) told new) (IsBadCpu w told new) there s in
+      let did = MatchBool-at_true (IsConsumed w c (reply_of (refused (shown w.kernel) (call.Consume c (w.agents c).sent_items)) Done) told new) (IsBadCpu w told new) there s in
       (subst (λ o. IsConsumed w c (reply_of o Done) told new) consume_accepted did).0
 
 -- a steal
@@ -129,11 +129,11 @@ module _ (laws : KernelLaws) (limits : Limits) (w : PlainWorld) (h : IsGood limi
 
   pub exact_steal : (new : PlainWorld) (c t : ℕ) → Step w (event.Steal c) (replies.Associated c t) new → IsExactSteal w c t
   exact_steal new c t s =
-      let exact = laws.associates w.kernel t c (upto (w.agents c).seen t) (accepted_steal w new c t s) in
+      let exact = laws.associates w.kernel t c (upto (w.agents c).known t) (accepted_steal w new c t s) in
       record {
         whole = exact.current;
         state = ap state_of (ap (λ n. take n (kinds w.kernel t)) exact.current ∙ take_whole (kinds w.kernel t));
-        nothing_waits = nowhere t (upto (w.agents c).seen t) exact;
+        nothing_waits = nowhere t (upto (w.agents c).known t) exact;
       }
 
 -- a commit, and a pick

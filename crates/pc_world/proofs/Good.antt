@@ -19,7 +19,7 @@ use Rattle.pc_world.proofs.Pairs.{get_appended}
 
 -- how many items of a queue were eaten, or sent by its agent
 abbrev pub passed : PlainWorld → ℕ → ℕ
-passed w q = w.kernel.eaten q + (w.agents q).shown
+passed w q = w.kernel.eaten q + (w.agents q).sent_items
 
 -- the messages of the first so many items of a queue are in sets that were sent
 abbrev pub WereSent : PlainKernel → ℕ → ℕ → PlainWorld → Type 0
@@ -28,7 +28,7 @@ WereSent P q count w = (i : ℕ) (m : Message) → i < count → slice_get (item
 pub record IsGood (limits : Limits) (w : PlainWorld) : Type 0 where
   pub calls : List Call
   pub replayed : w.kernel ≡ replay (start limits) calls
-  pub seen : (c : ℕ) → LiesIn (kinds w.kernel) (w.agents c).seen
+  pub known : (c : ℕ) → LiesIn (kinds w.kernel) (w.agents c).known
   pub sent : (set : Set) → Contains w.sent set → LiesIn (kinds w.kernel) set
   pub few : (q : ℕ) → passed w q ≤ aseq w.kernel q
   pub front : (q : ℕ) → WereSent w.kernel q (passed w q) w
@@ -40,7 +40,7 @@ Moves P Q = (Q ≡ P) ⊎ ((call : Call) × (Q ≡ after P call))
 -- what an event does, in terms of the kernel before it
 pub record Goes (w new : PlainWorld) : Type 0 where
   pub kernel : Moves w.kernel new.kernel
-  pub seen : (c : ℕ) → LiesIn (kinds w.kernel) (new.agents c).seen
+  pub known : (c : ℕ) → LiesIn (kinds w.kernel) (new.agents c).known
   pub sent : (set : Set) → Contains new.sent set → LiesIn (kinds w.kernel) set
   pub few : (q : ℕ) → passed new q ≤ aseq w.kernel q
   pub front : (q : ℕ) → WereSent w.kernel q (passed new q) new
@@ -79,7 +79,7 @@ module _ (laws : KernelLaws) where
       record {
         calls = again.0;
         replayed = again.1;
-        seen = λ c t n e. longer_run (kinds Q) (kinds P) t n extends (goes.seen c t n e);
+        known = λ c t n e. longer_run (kinds Q) (kinds P) t n extends (goes.known c t n e);
         sent = λ set there t n e. longer_run (kinds Q) (kinds P) t n extends (goes.sent set there t n e);
         few = λ q.
             let more = moves_items P Q q goes.kernel in
@@ -99,13 +99,13 @@ module _ (laws : KernelLaws) where
 pub sent_still : (w new : PlainWorld) → ((set : Set) → Contains w.sent set → Contains new.sent set) → (t n : ℕ) → WasSent w t n → WasSent new t n
 sent_still w new more t n was = (was.0, more was.0 was.1, was.2)
 
-pub calm : (limits : Limits) (w new : PlainWorld) → IsGood limits w → Moves w.kernel new.kernel → ((c : ℕ) → LiesIn (kinds w.kernel) (new.agents c).seen)
+pub calm : (limits : Limits) (w new : PlainWorld) → IsGood limits w → Moves w.kernel new.kernel → ((c : ℕ) → LiesIn (kinds w.kernel) (new.agents c).known)
     → ((set : Set) → Contains w.sent set → Contains new.sent set) → ((set : Set) → Contains new.sent set → LiesIn (kinds w.kernel) set)
     → ((q : ℕ) → passed new q ≤ passed w q) → Goes w new
 calm limits w new h kernel seen more sent low =
     record {
       kernel = kernel;
-      seen = seen;
+      known = seen;
       sent = sent;
       few = λ q. let a = h.few q in let b = low q in omega arith;
       front = λ q i m below there. let b = low q in sent_still w new more m.thread m.number (h.front q i m (omega arith) there);
@@ -117,7 +117,7 @@ good_opened limits =
     record {
       calls = [];
       replayed = refl;
-      seen = λ c t n e. cc;
+      known = λ c t n e. cc;
       sent = λ set there t n e. absurd (none set there);
       few = λ q. omega arith;
       front = λ q i m low there. cc;

@@ -39,8 +39,8 @@ at_has : {X : Type 0} (F : X → Type 0) (f : ℕ → X) (c : ℕ) (x : X) → F
 at_has F f c x here there n = elim (n == c) as (λ b. F (if b then x else f n)) [ true ↦ here | false ↦ there n ]
 
 -- the agent of a CPU, and the others
-shown_at : (f : ℕ → PlainAgent) (c : ℕ) (p : PlainAgent) (q : ℕ) → ((q ≡ c) × ((at f c p q).shown ≡ p.shown)) ⊎ ((q ≡ c → ⊥) × ((at f c p q).shown ≡ (f q).shown))
-shown_at f c p q = elim (eqb_tells q c) [ inl e ↦ inl (e.1, rw e.0 refl) | inr e ↦ inr (e.1, rw e.0 refl) ]
+sent_items_at : (f : ℕ → PlainAgent) (c : ℕ) (p : PlainAgent) (q : ℕ) → ((q ≡ c) × ((at f c p q).sent_items ≡ p.sent_items)) ⊎ ((q ≡ c → ⊥) × ((at f c p q).sent_items ≡ (f q).sent_items))
+sent_items_at f c p q = elim (eqb_tells q c) [ inl e ↦ inl (e.1, rw e.0 refl) | inr e ↦ inr (e.1, rw e.0 refl) ]
 
 takes_le : (c n q : ℕ) → takes (call.Consume c n) q ≤ n
 takes_le c n q = elim (c == q) as (λ b. (if b then n else 0) ≤ n) [ true ↦ omega arith | false ↦ omega arith ]
@@ -78,8 +78,8 @@ module _ (laws : KernelLaws) (limits : Limits) (w : PlainWorld) (h : IsGood limi
   both_in_run : (a b : Set) → LiesIn run a → LiesIn run b → LiesIn run (a ++ b)
   both_in_run a b one other t n e = elim (has_append a b t n e) [ inl s ↦ one t n s | inr s ↦ other t n s ]
 
-  more_seen : (c : ℕ) (set : Set) → LiesIn run set → LiesIn run ((w.agents c).seen ++ set)
-  more_seen c set lies = both_in_run (w.agents c).seen set (h.seen c) lies
+  more_known : (c : ℕ) (set : Set) → LiesIn run set → LiesIn run ((w.agents c).known ++ set)
+  more_known c set lies = both_in_run (w.agents c).known set (h.known c) lies
 
   not_eaten : (made : Call) → ((q : ℕ) → takes made q ≡ 0) → (q : ℕ) → (after w.kernel made).eaten q ≡ w.kernel.eaten q
   not_eaten made none q =
@@ -89,7 +89,7 @@ module _ (laws : KernelLaws) (limits : Limits) (w : PlainWorld) (h : IsGood limi
       omega arith
 
   same : Goes w w
-  same = calm limits w w h (inl refl) h.seen (λ set there. there) h.sent (λ q. omega arith)
+  same = calm limits w w h (inl refl) h.known (λ set there. there) h.sent (λ q. omega arith)
 
   still : (new : PlainWorld) → new ≡ w → Goes w new
   still new e = subst (Goes w) (sym e) same
@@ -98,36 +98,36 @@ module _ (laws : KernelLaws) (limits : Limits) (w : PlainWorld) (h : IsGood limi
   refused_goes r told new said = still new said.same
 
   -- another agent on a CPU, who has taken in messages of the run, and another kernel
-  own : (c : ℕ) (p : PlainAgent) (Q : PlainKernel) → Moves w.kernel Q → LiesIn run p.seen → ((q : ℕ) → Q.eaten q + (at w.agents c p q).shown ≤ passed w q)
+  own : (c : ℕ) (p : PlainAgent) (Q : PlainKernel) → Moves w.kernel Q → LiesIn run p.known → ((q : ℕ) → Q.eaten q + (at w.agents c p q).sent_items ≤ passed w q)
       → Goes w (record (with_agent w c p) { kernel = Q })
   own c p Q moves seen low =
-      calm limits w (record (with_agent w c p) { kernel = Q }) h moves (at_has (λ a. LiesIn run a.seen) w.agents c p seen h.seen) (λ set there. there) h.sent low
+      calm limits w (record (with_agent w c p) { kernel = Q }) h moves (at_has (λ a. LiesIn run a.known) w.agents c p seen h.known) (λ set there. there) h.sent low
 
-  own_same : (c : ℕ) (p : PlainAgent) (Q : PlainKernel) → Moves w.kernel Q → ((q : ℕ) → Q.eaten q ≡ w.kernel.eaten q) → LiesIn run p.seen → p.shown ≤ (w.agents c).shown
+  own_same : (c : ℕ) (p : PlainAgent) (Q : PlainKernel) → Moves w.kernel Q → ((q : ℕ) → Q.eaten q ≡ w.kernel.eaten q) → LiesIn run p.known → p.sent_items ≤ (w.agents c).sent_items
       → Goes w (record (with_agent w c p) { kernel = Q })
   own_same c p Q moves eaten seen low = own c p Q moves seen (λ q.
       let e = eaten q in
-      elim (shown_at w.agents c p q) [
-        | inl s ↦ let here = s.1 in let is : (w.agents q).shown ≡ (w.agents c).shown = ap (λ n. (w.agents n).shown) s.0 in omega arith
+      elim (sent_items_at w.agents c p q) [
+        | inl s ↦ let here = s.1 in let is : (w.agents q).sent_items ≡ (w.agents c).sent_items = ap (λ n. (w.agents n).sent_items) s.0 in omega arith
         | inr s ↦ let there = s.1 in omega arith
       ])
 
-  own_agent : (c : ℕ) (p : PlainAgent) → LiesIn run p.seen → p.shown ≤ (w.agents c).shown → Goes w (with_agent w c p)
+  own_agent : (c : ℕ) (p : PlainAgent) → LiesIn run p.known → p.sent_items ≤ (w.agents c).sent_items → Goes w (with_agent w c p)
   own_agent c p seen low = own_same c p w.kernel (inl refl) (λ q. refl) seen low
 
   called : (made : Call) (new : PlainWorld) → ((q : ℕ) → takes made q ≡ 0) → new ≡ record w { kernel = after w.kernel made } → Goes w new
   called made new none is =
       subst (Goes w) (sym is)
-      (calm limits w (record w { kernel = after w.kernel made }) h (inr (made, refl)) h.seen (λ set there. there) h.sent
+      (calm limits w (record w { kernel = after w.kernel made }) h (inr (made, refl)) h.known (λ set there. there) h.sent
       (λ q. let e = not_eaten made none q in omega arith))
 
-  own_call : (made : Call) (c : ℕ) (p : PlainAgent) → ((q : ℕ) → takes made q ≡ 0) → LiesIn run p.seen → p.shown ≤ (w.agents c).shown
+  own_call : (made : Call) (c : ℕ) (p : PlainAgent) → ((q : ℕ) → takes made q ≡ 0) → LiesIn run p.known → p.sent_items ≤ (w.agents c).sent_items
       → Goes w (record (with_agent w c p) { kernel = after w.kernel made })
   own_call made c p none seen low = own_same c p (after w.kernel made) (inr (made, refl)) (not_eaten made none) seen low
 
   -- a publish
   copied_all_goes : (c : ℕ) → Goes w (copied_all w c)
-  copied_all_goes c = own_agent c (copied run c (content w.kernel c) (w.agents c)) (more_seen c (pairs_in (content w.kernel c)) (content_in_run c)) (omega arith)
+  copied_all_goes c = own_agent c (copied run c (content w.kernel c) (w.agents c)) (more_known c (pairs_in (content w.kernel c)) (content_in_run c)) (omega arith)
 
   published_goes : (c : ℕ) → Goes w (published w c)
   published_goes c =
@@ -148,16 +148,16 @@ module _ (laws : KernelLaws) (limits : Limits) (w : PlainWorld) (h : IsGood limi
       ] in
       record {
         kernel = inl refl;
-        seen = at_has (λ a. LiesIn run a.seen) w.agents c p (more_seen c (pairs_in items) (content_in_run c)) h.seen;
+        known = at_has (λ a. LiesIn run a.known) w.agents c p (more_known c (pairs_in items) (content_in_run c)) h.known;
         sent = λ set there. elim (Contains-push_cases w.sent (pairs_in items) set there) [
           | inl before ↦ h.sent set before
           | inr last ↦ subst (LiesIn run) last (content_in_run c)
         ];
-        few = λ q. elim (shown_at w.agents c p q) [
+        few = λ q. elim (sent_items_at w.agents c p q) [
           | inl s ↦ let here = s.1 in let is = s.0 in let eaten : P.eaten q ≡ P.eaten c = ap P.eaten is in let all : aseq P q ≡ aseq P c = ap (aseq P) is in omega arith
           | inr s ↦ let there = s.1 in let low = h.few q in omega arith
         ];
-        front = λ q. elim (shown_at w.agents c p q) [
+        front = λ q. elim (sent_items_at w.agents c p q) [
           | inl s ↦
               subst (λ n. WereSent P q n (published w c)) (ap (λ n. P.eaten q + n) (sym s.1))
               (subst (λ n. WereSent P n (P.eaten n + length items) (published w c)) (sym s.0) whole)
@@ -174,48 +174,48 @@ module _ (laws : KernelLaws) (limits : Limits) (w : PlainWorld) (h : IsGood limi
   consume_goes c (Err why) told new said = refused_goes why told new said
   consume_goes c (Ok answer) told new said =
       let p = w.agents c in
-      let made : Call = call.Consume c p.shown in
+      let made : Call = call.Consume c p.sent_items in
       subst (Goes w) (sym said.1)
-      (own c (record p { shown = 0 }) (after w.kernel made) (inr (made, refl)) (h.seen c) (λ q.
+      (own c (record p { sent_items = 0 }) (after w.kernel made) (inr (made, refl)) (h.known c) (λ q.
       let grown = laws.eaten w.kernel made q in
       let low = taken_le (refused (shown w.kernel) made) (takes made q) in
-      let most = takes_le c p.shown q in
-      elim (shown_at w.agents c (record p { shown = 0 }) q) [
-        | inl s ↦ let here = s.1 in let is : (w.agents q).shown ≡ p.shown = ap (λ n. (w.agents n).shown) s.0 in omega arith
-        | inr s ↦ let there = s.1 in let none = takes_none c p.shown q s.0 in omega arith
+      let most = takes_le c p.sent_items q in
+      elim (sent_items_at w.agents c (record p { sent_items = 0 }) q) [
+        | inl s ↦ let here = s.1 in let is : (w.agents q).sent_items ≡ p.sent_items = ap (λ n. (w.agents n).sent_items) s.0 in omega arith
+        | inr s ↦ let there = s.1 in let none = takes_none c p.sent_items q s.0 in omega arith
       ]))
 
   -- a delivery, and an answer
   deliver_goes : (c : ℕ) (o : Option Set) (told : Reply) (new : PlainWorld) → ((set : Set) → o ≡ Some set → LiesIn run set) → IsDelivered w c o told new → Goes w new
   deliver_goes c None told new lies said = refused_goes _ told new said
-  deliver_goes c (Some set) told new lies said = subst (Goes w) (sym said.1) (own_agent c (taking_in set (w.agents c)) (more_seen c set (lies set refl)) (omega arith))
+  deliver_goes c (Some set) told new lies said = subst (Goes w) (sym said.1) (own_agent c (taking_in set (w.agents c)) (more_known c set (lies set refl)) (omega arith))
 
   at_index : (k : ℕ) (set : Set) → slice_get w.sent k ≡ Some set → LiesIn run set
   at_index k set e = h.sent set (contained w.sent k set e)
 
-  sending_goes : (c : ℕ) (set : Set) → ((t n : ℕ) → has set t n ≡ true → has (w.agents c).seen t n ≡ true) → Goes w (sending w set)
+  sending_goes : (c : ℕ) (set : Set) → ((t n : ℕ) → has set t n ≡ true → has (w.agents c).known t n ≡ true) → Goes w (sending w set)
   sending_goes c set within =
-      calm limits w (sending w set) h (inl refl) h.seen (λ s there. Contains-append_left w.sent (set ∷ []) s there) (λ s there. elim (Contains-push_cases w.sent set s there) [
+      calm limits w (sending w set) h (inl refl) h.known (λ s there. Contains-append_left w.sent (set ∷ []) s there) (λ s there. elim (Contains-push_cases w.sent set s there) [
         | inl before ↦ h.sent s before
-        | inr last ↦ subst (LiesIn run) last (λ t n e. h.seen c t n (within t n e))
+        | inr last ↦ subst (LiesIn run) last (λ t n e. h.known c t n (within t n e))
       ]) (λ q. omega arith)
 
   -- a pick, and a steal
   commit_goes : (c n : ℕ) (names : List ℕ) (told : Reply) (new : PlainWorld) → IsCommitted w c n names told new → Goes w new
   commit_goes c n [] told new said = absurd said
   commit_goes c n (t ∷ rest) told new said =
-      subst (Goes w) (sym said.1) (own_call (call.Commit c t n) c (record (w.agents c) { list = rest }) (λ q. refl) (h.seen c) (omega arith))
+      subst (Goes w) (sym said.1) (own_call (call.Commit c t n) c (record (w.agents c) { list = rest }) (λ q. refl) (h.known c) (omega arith))
 
   pick_goes : (c n : ℕ) (o : Option Refusal) (told : Reply) (new : PlainWorld) → IsPicked w c n o told new → Goes w new
   pick_goes c n None told new said = commit_goes c n (ready_list (shown w.kernel) c n (w.agents c).list) told new said
   pick_goes c n (Some why) told new said =
-      subst (Goes w) (sym said.1) (own_agent c (record (w.agents c) { list = left_by why (w.agents c).list }) (h.seen c) (omega arith))
+      subst (Goes w) (sym said.1) (own_agent c (record (w.agents c) { list = left_by why (w.agents c).list }) (h.known c) (omega arith))
 
   take_goes : (c t : ℕ) (o : Option Refusal) (told : Reply) (new : PlainWorld) → IsTakenOver w c t o told new → Goes w new
   take_goes c t (Some why) told new said = refused_goes why told new said
   take_goes c t None told new said =
       subst (Goes w) (sym said.1)
-      (own_call (takes_over c (w.agents c) t) c (record (w.agents c) { list = (w.agents c).list ++ t ∷ [] }) (λ q. refl) (h.seen c) (omega arith))
+      (own_call (takes_over c (w.agents c) t) c (record (w.agents c) { list = (w.agents c).list ++ t ∷ [] }) (λ q. refl) (h.known c) (omega arith))
 
   try_goes : (c : ℕ) (o : Option ℕ) (told : Reply) (new : PlainWorld) → IsTried w c o told new → Goes w new
   try_goes c None told new said = refused_goes _ told new said
@@ -242,7 +242,7 @@ module _ (laws : KernelLaws) (limits : Limits) (w : PlainWorld) (h : IsGood limi
   step_goes (event.Config queue target) told new s = called (call.Config queue target) new (λ q. refl) s.after
   step_goes (event.Publish cpu fails) told new s = if_there (is_cpu (shown w.kernel) cpu) told new _ (publish_goes cpu fails told new) s
   step_goes (event.Consume cpu) told new s =
-      if_there (is_cpu (shown w.kernel) cpu) told new _ (consume_goes cpu (kernel.reply w.kernel (call.Consume cpu (w.agents cpu).shown)) told new) s
+      if_there (is_cpu (shown w.kernel) cpu) told new _ (consume_goes cpu (kernel.reply w.kernel (call.Consume cpu (w.agents cpu).sent_items)) told new) s
   step_goes (event.Deliver cpu k) told new s = if_there (is_cpu (shown w.kernel) cpu) told new _ (deliver_goes cpu (slice_get w.sent k) told new (at_index k)) s
   step_goes (event.Answer cpu asker) told new s =
       if_there (are_cpus w cpu asker) told new (IsAnswered w cpu asker told new) (λ a. subst (Goes w) (sym a.after) (sending_goes cpu a.set a.answers.within)) s
@@ -255,8 +255,8 @@ module _ (laws : KernelLaws) (limits : Limits) (w : PlainWorld) (h : IsGood limi
   widened_goes : (c : ℕ) (more : Set) (new : PlainWorld) → LiesIn run more → IsWidened w c more new → Goes w new
   widened_goes c more new lies said =
       subst (Goes w) (sym said.after)
-      (own_agent c (record (w.agents c) { seen = said.set }) (λ t n e. elim (or_both (has (w.agents c).seen t n) (has more t n) (said.between.at_most (t ∷ n ∷ []) e)) [
-        | inl before ↦ h.seen c t n before
+      (own_agent c (record (w.agents c) { known = said.set }) (λ t n e. elim (or_both (has (w.agents c).known t n) (has more t n) (said.between.at_most (t ∷ n ∷ []) e)) [
+        | inl before ↦ h.known c t n before
         | inr added ↦ lies t n added
       ]) (omega arith))
 

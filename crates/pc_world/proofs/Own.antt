@@ -91,10 +91,10 @@ module _ (goes : RunsGoOn) (old new : Parts) (c place : ℕ) (agent more : Agent
       let p = w.agents c in
       let P = w.kernel in
       let said = subst (λ n. IsConsumed P (kinds P) p (Ok items) n more new.kernel) is_own (of_world _ says w h) in
-      let w' : PlainWorld = record (with_agent w c (record p { shown = 0 })) { kernel = after P (call.Consume c p.shown) } in (
+      let w' : PlainWorld = record (with_agent w c (record p { sent_items = 0 })) { kernel = after P (call.Consume c p.sent_items) } in (
         w',
         on_cpu w (replies.Consumed items) w' _ h (subst (λ r. steps.IsConsumed w c r (replies.Consumed items) w') (sym said.1) (ap replies.Consumed said.0, refl)),
-        after_call w (after P (call.Consume c p.shown)) (record p { shown = 0 }) h said.2 (goes.calls P (call.Consume c p.shown)) said.3 sent,
+        after_call w (after P (call.Consume c p.sent_items)) (record p { sent_items = 0 }) h said.2 (goes.calls P (call.Consume c p.sent_items)) said.3 sent,
         kept_same old new sent,
       )
 
@@ -153,9 +153,9 @@ module _ (goes : RunsGoOn) (old new : Parts) (c place : ℕ) (agent more : Agent
       | inl part ↦
           let same : deltas_of new ≡ deltas_of old = ap sent_by part.1 ∙ sent in
           let some = part.0 in (
-            with_agent w c (record (w.agents c) { seen = some.0 }),
+            with_agent w c (record (w.agents c) { known = some.0 }),
             (plain_cpu old.kernel w.kernel c true h.kernel where_is.there, in_part w c fails _ (record { set = some.0; between = some.1; after = refl })),
-            after_own w (record (w.agents c) { seen = some.0 }) h kernel some.2 same,
+            after_own w (record (w.agents c) { known = some.0 }) h kernel some.2 same,
             kept_same old new same,
           )
       | inr whole ↦
@@ -184,9 +184,9 @@ module _ (goes : RunsGoOn) (old new : Parts) (c place : ℕ) (agent more : Agent
     deliver_ran_out fault says w h =
         let told = sent_at (kinds w.kernel) w.sent (deltas_of old) k delta h.sent asked in
         let some = says (kinds w.kernel) (w.agents c) told.0 told.2 (h.agents c agent there) in (
-          with_agent w c (record (w.agents c) { seen = some.0 }),
+          with_agent w c (record (w.agents c) { known = some.0 }),
           (plain_cpu old.kernel w.kernel c true h.kernel where_is.there, told.0, told.1, record { set = some.0; between = some.1; after = refl }),
-          after_own w (record (w.agents c) { seen = some.0 }) h kernel some.2 sent,
+          after_own w (record (w.agents c) { known = some.0 }) h kernel some.2 sent,
           kept_same old new sent,
         )
 
@@ -245,15 +245,15 @@ module _ (goes : RunsGoOn) (old new : Parts) (c place : ℕ) (agent more : Agent
       )
 
   pub steal_refused : (refusal : Refusal) → WhateverShown old.kernel agent (λ P run p. Steals P run p (Err (faults.Refused refusal)) (cpu_of agent) more new.kernel) → new.kernel ≡ old.kernel → deltas_of new ≡ deltas_of old
-      → more.view ≡ agent.view → more.list ≡ agent.list → more.shown ≡ agent.shown
+      → more.view ≡ agent.view → more.list ≡ agent.list → more.sent_items ≡ agent.sent_items
       → Handles (event.Steal c) (Ok (replies.Refused refusal)) old new
   steal_refused refusal says kernel sent view list count w h = by_test (is_some (on (shown w.kernel) c)) refl (said_stolen (Err (faults.Refused refusal)) says w h)
     where
-      same_shown : ShowsAgent (kinds w.kernel) (w.agents c) more
-      same_shown = let was = h.agents c agent there in record { view = subst (λ v. ShowsView (kinds w.kernel) (w.agents c).seen v) (sym view) was.view; list = list ∙ was.list; shown = count ∙ was.shown }
+      same_agent : ShowsAgent (kinds w.kernel) (w.agents c) more
+      same_agent = let was = h.agents c agent there in record { view = subst (λ v. ShowsView (kinds w.kernel) (w.agents c).known v) (sym view) was.view; list = list ∙ was.list; sent_items = count ∙ was.sent_items }
 
       rest : ShowsWorld new w × KeepsSent old new
-      rest = (after_none w h kernel same_shown sent, kept_same old new sent)
+      rest = (after_none w h kernel same_agent sent, kept_same old new sent)
 
       tried : (o : Option ℕ) → take_refused (shown w.kernel) (takes_over c (w.agents c)) o ≡ Some refusal → steps.IsTried w c o (replies.Refused refusal) w
       tried None e = record { refused = ap replies.Refused (let is : refusal ≡ refusals.NothingToSteal = cc in is); same = refl }
@@ -275,18 +275,18 @@ module _ (goes : RunsGoOn) (old new : Parts) (c place : ℕ) (agent more : Agent
       )
 
   pub steal_ran_out : (fault : NoMemory) → WhateverShown old.kernel agent (λ P run p. Steals P run p (Err faults.OutOfMemory) (cpu_of agent) more new.kernel) → new.kernel ≡ old.kernel → deltas_of new ≡ deltas_of old
-      → more.view ≡ agent.view → more.list ≡ agent.list → more.shown ≡ agent.shown → Handles (event.Steal c) (Err fault) old new
+      → more.view ≡ agent.view → more.list ≡ agent.list → more.sent_items ≡ agent.sent_items → Handles (event.Steal c) (Err fault) old new
   steal_ran_out fault says kernel sent view list count w h = by_test (is_some (on (shown w.kernel) c)) refl (said_stolen (Err faults.OutOfMemory) says w h)
     where
-      same_shown : ShowsAgent (kinds w.kernel) (w.agents c) more
-      same_shown = let was = h.agents c agent there in record { view = subst (λ v. ShowsView (kinds w.kernel) (w.agents c).seen v) (sym view) was.view; list = list ∙ was.list; shown = count ∙ was.shown }
+      same_agent : ShowsAgent (kinds w.kernel) (w.agents c) more
+      same_agent = let was = h.agents c agent there in record { view = subst (λ v. ShowsView (kinds w.kernel) (w.agents c).known v) (sym view) was.view; list = list ∙ was.list; sent_items = count ∙ was.sent_items }
 
       by_test : (b : Bool) → is_some (on (shown w.kernel) c) ≡ b → MatchBool b (◌≡◌ {A = Result ℕ faults.the_data} (Err faults.OutOfMemory) (Err (faults.Refused refusals.Busy))) (is_stolen w (Err faults.OutOfMemory))
           → (w'' : PlainWorld)
           × ((is_cpu (shown w.kernel) c ≡ true) × (is_some (on (shown w.kernel) c) ≡ false) × (t : ℕ) × Finds (stealable w c) (Some t) × (w'' ≡ w)) × ShowsWorld new w'' × KeepsSent old new
       by_test true e said = absurd (let none : ⊥ = cc in none)
       by_test false e said =
-          (w, (plain_cpu old.kernel w.kernel c true h.kernel where_is.there, e, said.0, said.1, refl), after_none w h kernel same_shown sent, kept_same old new sent)
+          (w, (plain_cpu old.kernel w.kernel c true h.kernel where_is.there, e, said.0, said.1, refl), after_none w h kernel same_agent sent, kept_same old new sent)
 
   pub crash_done : Steps done (call.Rouse c) (Ok tt) old.kernel new.kernel → ((run : Run) → ShowsAgent run fresh more) → deltas_of new ≡ deltas_of old → Handles (event.Crash c) (Ok replies.Done) old new
   crash_done roused starts sent w h =

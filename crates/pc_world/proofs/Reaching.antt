@@ -102,17 +102,17 @@ module _ (laws : KernelLaws) (limits : Limits) (w : PlainWorld) (h : IsGood limi
           let place = place_of (items_to w.kernel posted.0) (Thread at.1) posted.1 in
           at_pair (λ t n. Waits w t n ⊎ WasSent w t n) at.1 t n at.3 at.4 (found posted.0 place.0 at.1 place.1)
 
-  pub shown_sent : (c t n : ℕ) → has (pairs_in (take (w.agents c).shown (content w.kernel c))) t n ≡ true → WasSent w t n
-  shown_sent c t n e =
+  pub counted_sent : (c t n : ℕ) → has (pairs_in (take (w.agents c).sent_items (content w.kernel c))) t n ≡ true → WasSent w t n
+  counted_sent c t n e =
       let P = w.kernel in
-      let s = stands_at (take (w.agents c).shown (content P c)) t n e in
-      let taken = get_taken (w.agents c).shown (content P c) s.place (Thread s.message) s.there in
+      let s = stands_at (take (w.agents c).sent_items (content P c)) t n e in
+      let taken = get_taken (w.agents c).sent_items (content P c) s.place (Thread s.message) s.there in
       let low = taken.0 in
       at_pair (WasSent w) s.message t n s.thread s.number
       (h.front c (P.eaten c + s.place) s.message (omega arith) (sym (get_dropped (P.eaten c) (items_to P c) s.place) ∙ taken.1))
 
-  pub shown_short : (c : ℕ) → (w.agents c).shown ≤ length (content w.kernel c)
-  shown_short c =
+  pub counted_short : (c : ℕ) → (w.agents c).sent_items ≤ length (content w.kernel c)
+  counted_short c =
       let size : length (content w.kernel c) ≡ aseq w.kernel c - w.kernel.eaten c = length-drop (w.kernel.eaten c) (items_to w.kernel c) in
       let few = h.few c in
       omega arith

@@ -145,7 +145,7 @@ module _ (laws : KernelLaws) (limits : Limits) (w : PlainWorld) (h : IsGood limi
   consume_step : (c : ℕ) (r : Result Answer Refusal) → Can (IsConsumed w c r)
   consume_step c (Ok answer) =
       let p = w.agents c in
-      (replies.Consumed p.shown, record (with_agent w c (record p { shown = 0 })) { kernel = after w.kernel (call.Consume c p.shown) }, (refl, refl))
+      (replies.Consumed p.sent_items, record (with_agent w c (record p { sent_items = 0 })) { kernel = after w.kernel (call.Consume c p.sent_items) }, (refl, refl))
   consume_step c (Err why) = (replies.Refused why, w, record { refused = refl; same = refl })
 
   deliver_step : (c : ℕ) (o : Option Set) → Can (IsDelivered w c o)
@@ -154,7 +154,7 @@ module _ (laws : KernelLaws) (limits : Limits) (w : PlainWorld) (h : IsGood limi
 
   answer_step : (c asker : ℕ) → Can (IsAnswered w c asker)
   answer_step c asker =
-      let s = singles (kinds w.kernel) (w.agents c).seen (w.agents asker).seen (h.seen c) in
+      let s = singles (kinds w.kernel) (w.agents c).known (w.agents asker).known (h.known c) in
       let set : Set = pairs_of_parts s.parts in (
         replies.Answered (length w.sent),
         sending w set,
@@ -193,7 +193,7 @@ module _ (laws : KernelLaws) (limits : Limits) (w : PlainWorld) (h : IsGood limi
       let P = w.kernel in
       let dense : is_known P t ≡ nat_lt t (threads P) = subst (λ (P : PlainKernel). is_known P t ≡ nat_lt t (threads P)) (sym h.replayed) (laws.dense limits h.calls t) in
       let unknown : reads.is_known (shown P) t ≡ false = (laws.reads P).known t ∙ dense ∙ above_all t (threads P) high in
-      and_false (runs_here (kinds P) (w.agents c).seen c t && not (has_name (w.agents c).list t)) (reads.is_known (shown P) t) (is_none (reads.place (shown P) t)) unknown
+      and_false (runs_here (kinds P) (w.agents c).known c t && not (has_name (w.agents c).list t)) (reads.is_known (shown P) t) (is_none (reads.place (shown P) t)) unknown
 
   steal_step : (c : ℕ) (busy : Bool) → Can (IsStolen w c busy)
   steal_step c true = (replies.Refused refusals.Busy, w, record { refused = refl; same = refl })
@@ -220,7 +220,7 @@ module _ (laws : KernelLaws) (limits : Limits) (w : PlainWorld) (h : IsGood limi
   has_step (event.Config queue target) = (called (call.Config queue target), made_by (call.Config queue target), record { tells = refl; after = refl })
   has_step (event.Publish cpu fails) = on_cpu (is_cpu (shown w.kernel) cpu) (IsPublished w cpu fails) (publish_step cpu fails)
   has_step (event.Consume cpu) =
-      let r = kernel.reply w.kernel (call.Consume cpu (w.agents cpu).shown) in on_cpu (is_cpu (shown w.kernel) cpu) (IsConsumed w cpu r) (consume_step cpu r)
+      let r = kernel.reply w.kernel (call.Consume cpu (w.agents cpu).sent_items) in on_cpu (is_cpu (shown w.kernel) cpu) (IsConsumed w cpu r) (consume_step cpu r)
   has_step (event.Deliver cpu k) = on_cpu (is_cpu (shown w.kernel) cpu) (IsDelivered w cpu (slice_get w.sent k)) (deliver_step cpu (slice_get w.sent k))
   has_step (event.Answer cpu asker) = on_cpu (are_cpus w cpu asker) (IsAnswered w cpu asker) (answer_step cpu asker)
   has_step (event.Pick cpu n) =

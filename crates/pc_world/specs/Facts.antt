@@ -58,9 +58,9 @@ abbrev pub LiesIn : Run → Set → Type 0
 LiesIn run set = (t n : ℕ) → has set t n ≡ true → IsInRun run t n
 
 -- what the agents have taken in are messages of the kernel's run
-abbrev pub SeenLiesInTheRun : Type 0
-SeenLiesInTheRun =
-    (limits : Limits) (w : PlainWorld) (c : ℕ) → Reached limits w → LiesIn (kinds w.kernel) (w.agents c).seen
+abbrev pub KnownLiesInTheRun : Type 0
+KnownLiesInTheRun =
+    (limits : Limits) (w : PlainWorld) (c : ℕ) → Reached limits w → LiesIn (kinds w.kernel) (w.agents c).known
 
 -- what was sent are messages of the kernel's run
 abbrev pub SentLiesInTheRun : Type 0
@@ -83,15 +83,16 @@ NothingIsLost =
     → (Waits w t n ⊎ WasSent w t n) ↔ IsInRun (kinds w.kernel) t n
 
 -- the messages of the items that count as sent were sent
-abbrev pub ShownWasSent : Type 0
-ShownWasSent =
+abbrev pub CountedWasSent : Type 0
+CountedWasSent =
     (limits : Limits) (w : PlainWorld) (c t n : ℕ) → Reached limits w →
-    has (pairs_in (take (w.agents c).shown (content w.kernel c))) t n ≡ true → WasSent w t n
+    has (pairs_in (take (w.agents c).sent_items (content w.kernel c))) t n ≡ true → WasSent w t n
 
 -- an agent has sent no more items than its queue holds
-abbrev pub ShownIsThere : Type 0
-ShownIsThere =
-    (limits : Limits) (w : PlainWorld) (c : ℕ) → Reached limits w → (w.agents c).shown ≤ length (content w.kernel c)
+abbrev pub CountedIsThere : Type 0
+CountedIsThere =
+    (limits : Limits) (w : PlainWorld) (c : ℕ) → Reached limits w
+    → (w.agents c).sent_items ≤ length (content w.kernel c)
 
 -- the set has all that stands in queues and all that was sent
 abbrev pub HasAll : PlainWorld → Set → Type 0
@@ -108,13 +109,13 @@ abbrev pub ConsumesTakeWhatWasSent : Type 0
 ConsumesTakeWhatWasSent =
     (limits : Limits) (w new : PlainWorld) (c : ℕ) (told : Reply) → Reached limits w → is_cpu (shown w.kernel) c ≡ true
     →
-    Step w (Consume c) told new → told ≡ Consumed (w.agents c).shown
+    Step w (Consume c) told new → told ≡ Consumed (w.agents c).sent_items
 
 -- the agent knows all messages of the thread and reports the state that they report, and none of them stands in
 -- any queue
 pub record IsExactSteal (w : PlainWorld) (c t : ℕ) : Type 0 where
-  pub whole : upto (w.agents c).seen t ≡ number w.kernel t
-  pub state : reports (kinds w.kernel) (w.agents c).seen t ≡ state_of (kinds w.kernel t)
+  pub whole : upto (w.agents c).known t ≡ number w.kernel t
+  pub state : reports (kinds w.kernel) (w.agents c).known t ≡ state_of (kinds w.kernel t)
   pub nothing_waits : (q : ℕ) → waiting w.kernel t q ≡ []
 
 -- a steal that succeeds is exact

@@ -20,8 +20,8 @@ use Rattle.pc_world.specs.Steps.{Runs, are_cpus, stealable}
 -- the agent has taken in a part of the set, and nothing else changed
 pub record IsWidened (w : PlainWorld) (c : ℕ) (more : Set) (new : PlainWorld) : Type 0 where
   pub set : Set
-  pub between : IsBetween (as_members (w.agents c).seen) (as_members more) (as_members set)
-  pub after : new ≡ with_agent w c (record (w.agents c) { seen = set })
+  pub between : IsBetween (as_members (w.agents c).known) (as_members more) (as_members set)
+  pub after : new ≡ with_agent w c (record (w.agents c) { known = set })
 
 -- a call that takes memory, and is not refused
 abbrev pub RanOutInCall : PlainWorld → Call → Type 0

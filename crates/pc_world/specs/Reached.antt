@@ -14,7 +14,7 @@ use Rattle.pc_world.specs.Steps.{Step, are_cpus}
 -- an agent sends a part of what it has taken in, whatever it is: an answer to an older digest is one
 pub record IsSentLate (w : PlainWorld) (c : ℕ) (new : PlainWorld) : Type 0 where
   pub set : Set
-  pub within : (t n : ℕ) → has set t n ≡ true → has (w.agents c).seen t n ≡ true
+  pub within : (t n : ℕ) → has set t n ≡ true → has (w.agents c).known t n ≡ true
   pub after : new ≡ sending w set
 
 -- the event is an answer, and it is given to an older digest

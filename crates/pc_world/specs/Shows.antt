@@ -49,7 +49,7 @@ pub record IsReached (world : World) : Type 0 where
 -- the view of the agent of a CPU; none of a CPU that is not there
 abbrev pub IsViewAt : PlainWorld → ℕ → Option View → Type 0
 IsViewAt w c None = IsFalse (is_cpu (shown w.kernel) c)
-IsViewAt w c (Some view) = IsTrue (is_cpu (shown w.kernel) c) × ShowsView (kinds w.kernel) (w.agents c).seen view
+IsViewAt w c (Some view) = IsTrue (is_cpu (shown w.kernel) c) × ShowsView (kinds w.kernel) (w.agents c).known view
 
 -- for every plain world that is shown before, the reply is that of a step, whose result is shown after
 abbrev pub Does : (PlainWorld → Reply → PlainWorld → Type 0) → World → World → Reply → Type 0

@@ -45,15 +45,15 @@ OnCpu w c told new Holds = MatchBool (is_cpu (shown w.kernel) c) Holds (IsBadCpu
 abbrev pub IsConsumed : PlainWorld → ℕ → Result Answer Refusal → Reply → PlainWorld → Type 0
 IsConsumed w c (Ok answer) told new =
     let p = w.agents c in
-    (told ≡ reply.Consumed p.shown)
-    × (new ≡ record (with_agent w c (record p { shown = 0 }))
-    { kernel = kernel.after w.kernel (call.Consume c p.shown) })
+    (told ≡ reply.Consumed p.sent_items)
+    × (new ≡ record (with_agent w c (record p { sent_items = 0 }))
+    { kernel = kernel.after w.kernel (call.Consume c p.sent_items) })
 IsConsumed w c (Err r) told new = IsRefused w r told new
 
 -- a consume: of a CPU that is there, as many items as its agent has sent
 abbrev pub IsConsuming : ℕ → PlainWorld → Reply → PlainWorld → Type 0
 IsConsuming c w told new =
-    OnCpu w c told new (IsConsumed w c (kernel.reply w.kernel (call.Consume c (w.agents c).shown)) told new)
+    OnCpu w c told new (IsConsumed w c (kernel.reply w.kernel (call.Consume c (w.agents c).sent_items)) told new)
 
 -- the agent sends what its queue holds; where the send is refused, it has copied it all the same
 abbrev pub IsPublished : PlainWorld → ℕ → Bool → Reply → PlainWorld → Type 0
@@ -92,7 +92,7 @@ pub record IsAnswerSet (run : Run) (view digest set : Set) : Type 0 where
 -- one agent answers another's digest of this moment; which of the answers it sends is its choice
 pub record IsAnswered (w : PlainWorld) (c asker : ℕ) (told : Reply) (new : PlainWorld) : Type 0 where
   pub set : Set
-  pub answers : IsAnswerSet (kinds w.kernel) (w.agents c).seen (w.agents asker).seen set
+  pub answers : IsAnswerSet (kinds w.kernel) (w.agents c).known (w.agents asker).known set
   pub tells : told ≡ reply.Answered (length w.sent)
   pub after : new ≡ sending w set
 

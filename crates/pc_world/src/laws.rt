@@ -1,10 +1,10 @@
 //! What holds after every list of events, whatever they are: with crashes anywhere, deltas that are lost, late or
 //! repeated, answers to digests of long ago, and want of memory at any event.
 
-ghost use Rattle.pc_world.specs.Facts.{AllIsComplete, CommitsAreExact, ConsumesTakeWhatWasSent, EveryEventHasAStep};
-ghost use Rattle.pc_world.specs.Facts.{KernelsAreReplays, MessagesStayHome, NamesAreDense, NothingIsLost};
-ghost use Rattle.pc_world.specs.Facts.{PicksAreExact, RunsAreBegun, SeenLiesInTheRun, SentLiesInTheRun, ShownIsThere};
-ghost use Rattle.pc_world.specs.Facts.{ShownWasSent, SleepersHadNoPost, StealsAreExact, ThreadsArePlaced};
+ghost use Rattle.pc_world.specs.Facts.{AllIsComplete, CommitsAreExact, ConsumesTakeWhatWasSent, CountedIsThere};
+ghost use Rattle.pc_world.specs.Facts.{CountedWasSent, EveryEventHasAStep, KernelsAreReplays, KnownLiesInTheRun};
+ghost use Rattle.pc_world.specs.Facts.{MessagesStayHome, NamesAreDense, NothingIsLost, PicksAreExact, RunsAreBegun};
+ghost use Rattle.pc_world.specs.Facts.{SentLiesInTheRun, SleepersHadNoPost, StealsAreExact, ThreadsArePlaced};
 ghost use Rattle.pc_world.specs.Inner.Laws.{KernelLaws};
 
 use pc_kernel::laws::{
@@ -55,7 +55,7 @@ pub fn kernel_facts_hold()
 
 /// What an agent has taken in, and what was sent, are messages of the kernel's run.
 pub fn views_are_of_the_run()
-    ensures seen { SeenLiesInTheRun }
+    ensures known { KnownLiesInTheRun }
     ensures sent { SentLiesInTheRun }
 {
     kernel_laws();
@@ -66,8 +66,8 @@ pub fn views_are_of_the_run()
 /// sent knows every thread to its last message.
 pub fn nothing_is_lost()
     ensures all { NothingIsLost }
-    ensures shown { ShownWasSent }
-    ensures short { ShownIsThere }
+    ensures counted { CountedWasSent }
+    ensures short { CountedIsThere }
     ensures complete { AllIsComplete }
 {
     kernel_laws();

@@ -8,7 +8,7 @@ pub returns-clause-fresh : goal.returns-clause-fresh
 returns-clause-fresh c run = record {
   view = view_of_nothing run c.new.result c.new.ensures.nothing (c.new.ensures.of_run run);
   list = c.new-2.ensures;
-  shown = refl;
+  sent_items = refl;
 }
 
 pub invariant_of-result : goal.invariant_of-result

@@ -8,7 +8,7 @@ pub returns-clause-fresh : goal.returns-clause-fresh
 returns-clause-fresh c run = record {
   view = view_of_nothing run c.clear.new.self c.clear.ensures.nothing (c.clear.ensures.of_run run);
   list = c.new.ensures;
-  shown = refl;
+  sent_items = refl;
 }
 
 pub invariant_of-self : goal.invariant_of-self
