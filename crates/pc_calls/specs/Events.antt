@@ -1,13 +1,13 @@
 -- Which events are calls of the kernel, and what a call is replied.
 use Rattle.std.specs.Prelude.{Option, Some, None, Result, Ok, Err}
+use Rattle.pc_calls.specs.declared.call.AgentCall.TheVariants.{Associate, Commit, Sleep, Rouse, Config}
 use Rattle.pc_calls.specs.declared.call.Answer.{Answer}
 use Rattle.pc_calls.specs.declared.call.Answer.TheVariants as answer
 use Rattle.pc_calls.specs.declared.call.Call.{Call}
 use Rattle.pc_calls.specs.declared.call.Call.TheVariants as call
 use Rattle.pc_calls.specs.declared.event.Event.{Event}
-use Rattle.pc_calls.specs.declared.event.Event.TheVariants.{Env, Associate, Commit, Sleep, Rouse, Config, Publish}
-use Rattle.pc_calls.specs.declared.event.Event.TheVariants.{Consume, Deliver, Answer as AnswerDigest, Pick, Steal}
-use Rattle.pc_calls.specs.declared.event.Event.TheVariants.{Crash}
+use Rattle.pc_calls.specs.declared.event.Event.TheVariants.{Env, Agent, Publish, Consume, Deliver}
+use Rattle.pc_calls.specs.declared.event.Event.TheVariants.{Answer as AnswerDigest, Pick, Steal, Crash}
 use Rattle.pc_calls.specs.declared.event.Reply.{Reply}
 use Rattle.pc_calls.specs.declared.event.Reply.TheVariants as reply
 use Rattle.pc_calls.specs.declared.refusal.Refusal.{Refusal}
@@ -15,11 +15,7 @@ use Rattle.pc_calls.specs.declared.refusal.Refusal.{Refusal}
 -- the call of the kernel that an event is; none of an agent's own events
 abbrev pub call_of : Event → Option Call
 call_of (Env c) = Some (call.Env c)
-call_of (Associate thread queue number) = Some (call.Associate thread queue number)
-call_of (Commit cpu thread aseq) = Some (call.Commit cpu thread aseq)
-call_of (Sleep cpu aseq) = Some (call.Sleep cpu aseq)
-call_of (Rouse cpu) = Some (call.Rouse cpu)
-call_of (Config queue target) = Some (call.Config queue target)
+call_of (Agent c) = Some (call.Agent c)
 call_of (Publish cpu fails) = None
 call_of (Consume cpu) = None
 call_of (Deliver cpu delta) = None
@@ -32,11 +28,11 @@ call_of (Crash cpu) = None
 abbrev pub done_told : Call → Reply
 done_told (call.Env c) = reply.Done
 done_told (call.Consume cpu count) = reply.Done
-done_told (call.Associate thread queue number) = reply.Associated queue thread
-done_told (call.Commit cpu thread aseq) = reply.Committed cpu thread
-done_told (call.Sleep cpu aseq) = reply.Done
-done_told (call.Rouse cpu) = reply.Done
-done_told (call.Config queue target) = reply.Done
+done_told (call.Agent (Associate thread queue number)) = reply.Associated queue thread
+done_told (call.Agent (Commit cpu thread aseq)) = reply.Committed cpu thread
+done_told (call.Agent (Sleep cpu aseq)) = reply.Done
+done_told (call.Agent (Rouse cpu)) = reply.Done
+done_told (call.Agent (Config queue target)) = reply.Done
 
 -- what an accepted call is replied
 abbrev pub reply_to : Call → Answer → Reply

@@ -1,6 +1,7 @@
 -- What can be asked of a kernel and of agents, and what they answer, has one type each. Here stands what holds of these
 -- types whoever uses them: the ranges of limits in both profiles, which event is which call of the kernel, and what a
 -- call is replied.
+pub mod AgentCalls
 pub mod Conditions
 pub mod Events
 pub mod Limits

@@ -25,16 +25,10 @@ pub enum EnvCall {
     Tick { cpu: Cpu },
 }
 
-/// A call of the environment or of an agent.
+/// A call of an agent that goes by nothing that the agent keeps: neither its view, its run list, nor what it has sent.
+/// So an event is such a call as it stands.
 #[derive(Clone, Copy, Debug, PartialEq, Eq)]
-pub enum Call {
-    /// A call of the environment.
-    Env(EnvCall),
-    /// Removes so many of the first items of the CPU's queue.
-    Consume {
-        cpu: Cpu,
-        count: u32,
-    },
+pub enum AgentCall {
     /// Gives the thread another home queue. `number` is the thread's number that the caller last saw.
     Associate {
         thread: Tid,
@@ -62,6 +56,17 @@ pub enum Call {
         queue: Cpu,
         target: Option<Cpu>,
     },
+}
+
+/// A call of the environment or of an agent.
+#[derive(Clone, Copy, Debug, PartialEq, Eq)]
+pub enum Call {
+    /// A call of the environment.
+    Env(EnvCall),
+    /// A call of an agent, other than a consume.
+    Agent(AgentCall),
+    /// Removes so many of the first items of the CPU's queue.
+    Consume { cpu: Cpu, count: u32 },
 }
 
 /// What was posted: the queue, the agent that the post woke, the queue's count of posts after it (the ghOSt paper's

@@ -3,7 +3,7 @@
 ghost use Rattle.std.specs.Prelude.{◌≡◌};
 ghost use Rattle.pc_calls.specs.Events.{call_of, done_told, reply_to};
 
-use crate::call::{Answer, Call, EnvCall, Posted};
+use crate::call::{AgentCall, Answer, Call, EnvCall, Posted};
 use crate::refusal::Refusal;
 use pc_messages::{Cpu, Tid};
 
@@ -12,65 +12,24 @@ use pc_messages::{Cpu, Tid};
 pub enum Event {
     /// A call of the environment.
     Env(EnvCall),
-    /// As [`Call::Associate`].
-    Associate {
-        thread: Tid,
-        queue: Cpu,
-        number: u32,
-    },
-    /// As [`Call::Commit`].
-    Commit {
-        cpu: Cpu,
-        thread: Tid,
-        aseq: u32,
-    },
-    /// As [`Call::Sleep`].
-    Sleep {
-        cpu: Cpu,
-        aseq: u32,
-    },
-    /// As [`Call::Rouse`].
-    Rouse {
-        cpu: Cpu,
-    },
-    /// As [`Call::Config`].
-    Config {
-        queue: Cpu,
-        target: Option<Cpu>,
-    },
+    /// A call of an agent, whatever the agent keeps.
+    Agent(AgentCall),
     /// The agent takes in what its queue holds, and sends it. Where `fails` is set, its wire refuses the send.
-    Publish {
-        cpu: Cpu,
-        fails: bool,
-    },
+    Publish { cpu: Cpu, fails: bool },
     /// The agent removes from its queue the items that it has sent.
-    Consume {
-        cpu: Cpu,
-    },
+    Consume { cpu: Cpu },
     /// The agent takes in the sent delta with this index, from 0.
-    Deliver {
-        cpu: Cpu,
-        delta: u64,
-    },
+    Deliver { cpu: Cpu, delta: u64 },
     /// The agent sends what the asker's digest lacks.
-    Answer {
-        cpu: Cpu,
-        asker: Cpu,
-    },
-    /// The agent commits the first thread of its run list that the kernel accepts. `aseq` is as in [`Call::Commit`].
-    Pick {
-        cpu: Cpu,
-        aseq: u32,
-    },
+    Answer { cpu: Cpu, asker: Cpu },
+    /// The agent commits the first thread of its run list that the kernel accepts. `aseq` is as in
+    /// [`AgentCall::Commit`].
+    Pick { cpu: Cpu, aseq: u32 },
     /// The agent takes the least thread that its view reports ready and allowed on its CPU, that is not in its run
     /// list, and that the kernel knows and has on no CPU.
-    Steal {
-        cpu: Cpu,
-    },
+    Steal { cpu: Cpu },
     /// The agent starts again, with nothing, and is awake.
-    Crash {
-        cpu: Cpu,
-    },
+    Crash { cpu: Cpu },
 }
 
 /// What an event is answered.
@@ -104,19 +63,7 @@ impl Event {
     {
         match *self {
             Event::Env(call) => Some(Call::Env(call)),
-            Event::Associate {
-                thread,
-                queue,
-                number,
-            } => Some(Call::Associate {
-                thread,
-                queue,
-                number,
-            }),
-            Event::Commit { cpu, thread, aseq } => Some(Call::Commit { cpu, thread, aseq }),
-            Event::Sleep { cpu, aseq } => Some(Call::Sleep { cpu, aseq }),
-            Event::Rouse { cpu } => Some(Call::Rouse { cpu }),
-            Event::Config { queue, target } => Some(Call::Config { queue, target }),
+            Event::Agent(call) => Some(Call::Agent(call)),
             Event::Publish { .. }
             | Event::Consume { .. }
             | Event::Deliver { .. }
@@ -144,13 +91,16 @@ impl Call {
         ensures { result ≡ done_told self.now }
     {
         match *self {
-            Call::Associate { thread, queue, .. } => Reply::Associated { thread, queue },
-            Call::Commit { thread, cpu, .. } => Reply::Committed { thread, cpu },
-            Call::Env(_)
-            | Call::Consume { .. }
-            | Call::Sleep { .. }
-            | Call::Rouse { .. }
-            | Call::Config { .. } => Reply::Done,
+            Call::Agent(AgentCall::Associate { thread, queue, .. }) => Reply::Associated {
+                thread,
+                queue,
+            },
+            Call::Agent(AgentCall::Commit { thread, cpu, .. }) => Reply::Committed { thread, cpu },
+            Call::Agent(
+                AgentCall::Sleep { .. } | AgentCall::Rouse { .. } | AgentCall::Config { .. },
+            )
+            | Call::Env(_)
+            | Call::Consume { .. } => Reply::Done,
         }
     }
 }

@@ -11,7 +11,7 @@ mod event;
 mod limits;
 mod refusal;
 
-pub use call::{Answer, Call, EnvCall, Posted, Status};
+pub use call::{AgentCall, Answer, Call, EnvCall, Posted, Status};
 pub use event::{Event, Reply};
 pub use limits::{
     LimitField, Limits, LimitsFault, MOST_CPUS, MOST_NUMBERS, MOST_POSTS, MOST_ROOM, MOST_THREADS,

@@ -10,7 +10,9 @@ use Rattle.pc_calls.specs.declared.limits.Limits.{Limits}
 use Rattle.pc_calls.specs.declared.call.EnvCall.{EnvCall}
 use Rattle.pc_calls.specs.declared.call.EnvCall.TheVariants.{Create, Wake, Block, YieldNow, Preempt, Die, SetAffinity, SetPriority, Tick}
 use Rattle.pc_calls.specs.declared.call.Call.{Call}
-use Rattle.pc_calls.specs.declared.call.Call.TheVariants.{Env, Consume, Associate, Commit, Sleep, Rouse, Config}
+use Rattle.pc_calls.specs.declared.call.AgentCall.TheVariants.{Associate, Commit, Sleep, Rouse, Config}
+use Rattle.pc_calls.specs.declared.call.Call.TheVariants.{Env, Agent, Consume}
+use Rattle.pc_calls.specs.AgentCalls.{commits}
 use Rattle.pc_kernel.specs.PlainKernel.{PlainKernel, start, kinds, is_known, threads, content, place_of}
 use Rattle.pc_kernel.specs.Reads.{shown}
 use Rattle.pc_kernel.specs.Reads as reads
@@ -35,7 +37,7 @@ env_kept P (SetAffinity t mask) h n = affinity_kept P t mask h n.0 n.1.1.1.1.0
 env_kept P (SetPriority t level) h n = priority_kept P t level h n.0
 env_kept P (Tick cpu) h n = tick_kept P cpu h
 
-commit_call : (P : PlainKernel) (cpu t a : ℕ) → IsKept P → NoneHold (refusals (shown P) (Commit cpu t a)) → IsKept (changed P (Commit cpu t a))
+commit_call : (P : PlainKernel) (cpu t a : ℕ) → IsKept P → NoneHold (refusals (shown P) (commits cpu t a)) → IsKept (changed P (commits cpu t a))
 commit_call P cpu t a h n =
     let passes = commit_passes (shown P) cpu t a n in
     let known : is_known P t ≡ true = known_of P t passes.known in
@@ -51,15 +53,15 @@ call_kept P (Consume cpu count) h n =
     let size : length (reads.content_read (shown P) cpu) ≡ length (content P cpu) = ap length (shown-content P cpu (not_false (reads.is_cpu (shown P) cpu) n.0)) in
     let low : count ≤ length (reads.content_read (shown P) cpu) = ltb-false (length (reads.content_read (shown P) cpu)) count n.1.0 in
     consume_kept P cpu count h (subst (λ m. count ≤ m) size low)
-call_kept P (Associate t queue number) h n =
+call_kept P (Agent (Associate t queue number)) h n =
     let passes = associate_passes (shown P) t queue number n in
     associate_kept P t queue h passes.known passes.there passes.nothing_waits passes.idle
-call_kept P (Commit cpu t a) h n = commit_call P cpu t a h n
-call_kept P (Sleep cpu a) h n =
+call_kept P (Agent (Commit cpu t a)) h n = commit_call P cpu t a h n
+call_kept P (Agent (Sleep cpu a)) h n =
     sleep_kept P cpu a h (eqb-true a (reads.aseq_read (shown P) cpu) (not_false (a == reads.aseq_read (shown P) cpu) n.1.0) ∙ shown-aseq P cpu (not_false (reads.is_cpu (shown P) cpu) n.0))
-call_kept P (Rouse cpu) h n = rouse_kept P cpu h
-call_kept P (Config queue None) h n = config_none_kept P queue h
-call_kept P (Config queue (Some cpu)) h n = config_kept P queue cpu h
+call_kept P (Agent (Rouse cpu)) h n = rouse_kept P cpu h
+call_kept P (Agent (Config queue None)) h n = config_none_kept P queue h
+call_kept P (Agent (Config queue (Some cpu))) h n = config_kept P queue cpu h
 
 start_kept : (limits : Limits) → IsKept (start limits)
 start_kept limits =

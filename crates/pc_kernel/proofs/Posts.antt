@@ -13,7 +13,8 @@ use Rattle.pc_messages.specs.declared.message.Item.TheVariants.{Thread, Tick}
 use Rattle.pc_calls.specs.declared.call.EnvCall.{EnvCall}
 use Rattle.pc_calls.specs.declared.call.EnvCall.TheVariants as env
 use Rattle.pc_calls.specs.declared.call.Call.{Call}
-use Rattle.pc_calls.specs.declared.call.Call.TheVariants.{Env, Consume, Associate, Commit, Sleep, Rouse, Config}
+use Rattle.pc_calls.specs.declared.call.AgentCall.TheVariants.{Associate, Commit, Sleep, Rouse, Config}
+use Rattle.pc_calls.specs.declared.call.Call.TheVariants.{Env, Agent, Consume}
 use Rattle.pc_calls.specs.declared.limits.Limits.{Limits}
 use Rattle.pc_kernel.specs.PlainKernel.{PlainKernel, Post, start, items_to, item_to, threads}
 use Rattle.pc_kernel.specs.Facts.{messages}
@@ -140,12 +141,12 @@ env_told P (env.Tick cpu) h = tick_told P cpu h
 call_told : (P : PlainKernel) (call : Call) → IsToldOf P → IsToldOf (changed P call)
 call_told P (Env call) h = env_told P call h
 call_told P (Consume cpu count) h = told_same P (changed P (Consume cpu count)) refl h
-call_told P (Associate t queue n) h = told_same P (changed P (Associate t queue n)) refl h
-call_told P (Commit cpu t n) h = told_same P (changed P (Commit cpu t n)) refl h
-call_told P (Sleep cpu n) h = told_same P (changed P (Sleep cpu n)) refl h
-call_told P (Rouse cpu) h = told_same P (changed P (Rouse cpu)) refl h
-call_told P (Config queue None) h = told_same P (changed P (Config queue None)) refl h
-call_told P (Config queue (Some cpu)) h = told_same P (changed P (Config queue (Some cpu))) refl h
+call_told P (Agent (Associate t queue n)) h = told_same P (changed P (Agent (Associate t queue n))) refl h
+call_told P (Agent (Commit cpu t n)) h = told_same P (changed P (Agent (Commit cpu t n))) refl h
+call_told P (Agent (Sleep cpu n)) h = told_same P (changed P (Agent (Sleep cpu n))) refl h
+call_told P (Agent (Rouse cpu)) h = told_same P (changed P (Agent (Rouse cpu))) refl h
+call_told P (Agent (Config queue None)) h = told_same P (changed P (Agent (Config queue None))) refl h
+call_told P (Agent (Config queue (Some cpu))) h = told_same P (changed P (Agent (Config queue (Some cpu)))) refl h
 
 replay_told : (P : PlainKernel) (calls : List Call) → IsToldOf P → IsToldOf (replay P calls)
 replay_told P [] h = h
@@ -173,12 +174,12 @@ env_goes_on P call q =
 call_goes_on : (P : PlainKernel) (call : Call) (q : ℕ) → (more : List Item) × (items_to (changed P call) q ≡ items_to P q ++ more)
 call_goes_on P (Env call) q = env_goes_on P call q
 call_goes_on P (Consume cpu count) q = stays P q
-call_goes_on P (Associate t queue n) q = stays P q
-call_goes_on P (Commit cpu t n) q = stays P q
-call_goes_on P (Sleep cpu n) q = stays P q
-call_goes_on P (Rouse cpu) q = stays P q
-call_goes_on P (Config queue None) q = stays P q
-call_goes_on P (Config queue (Some cpu)) q = stays P q
+call_goes_on P (Agent (Associate t queue n)) q = stays P q
+call_goes_on P (Agent (Commit cpu t n)) q = stays P q
+call_goes_on P (Agent (Sleep cpu n)) q = stays P q
+call_goes_on P (Agent (Rouse cpu)) q = stays P q
+call_goes_on P (Agent (Config queue None)) q = stays P q
+call_goes_on P (Agent (Config queue (Some cpu))) q = stays P q
 
 pub goes_on : (P : PlainKernel) (call : Call) (q : ℕ) → (more : List Item) × (items_to (after P call) q ≡ items_to P q ++ more)
 goes_on P call q = after_has (λ Q. (more : List Item) × (items_to Q q ≡ items_to P q ++ more)) P call (stays P q) (λ _. call_goes_on P call q)
@@ -207,12 +208,12 @@ consume_eats P cpu count q = elim (eqb_tells cpu q) [
 call_eats : (P : PlainKernel) (call : Call) (q : ℕ) → (changed P call).eaten q ≡ P.eaten q + takes call q
 call_eats P (Env call) q = env_eats P call q
 call_eats P (Consume cpu count) q = consume_eats P cpu count q
-call_eats P (Associate t queue n) q = no_more (P.eaten q)
-call_eats P (Commit cpu t n) q = no_more (P.eaten q)
-call_eats P (Sleep cpu n) q = no_more (P.eaten q)
-call_eats P (Rouse cpu) q = no_more (P.eaten q)
-call_eats P (Config queue None) q = no_more (P.eaten q)
-call_eats P (Config queue (Some cpu)) q = no_more (P.eaten q)
+call_eats P (Agent (Associate t queue n)) q = no_more (P.eaten q)
+call_eats P (Agent (Commit cpu t n)) q = no_more (P.eaten q)
+call_eats P (Agent (Sleep cpu n)) q = no_more (P.eaten q)
+call_eats P (Agent (Rouse cpu)) q = no_more (P.eaten q)
+call_eats P (Agent (Config queue None)) q = no_more (P.eaten q)
+call_eats P (Agent (Config queue (Some cpu))) q = no_more (P.eaten q)
 
 pub eats : (P : PlainKernel) (call : Call) (q : ℕ) → (after P call).eaten q ≡ P.eaten q + taken (refused (shown P) call) (takes call q)
 eats P call q =

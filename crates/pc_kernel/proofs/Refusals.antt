@@ -1,7 +1,7 @@
 -- A call that the step accepts: none of its refusals' conditions holds.
 use Rattle.std.proofs.Common.{◌≡◌, ◌==◌, ℕ, not, is_some, true, false, List, [], ◌∷◌, Some, None, refl}
 use Rattle.pc_calls.specs.declared.call.Call.{Call}
-use Rattle.pc_calls.specs.declared.call.Call.TheVariants.{Associate, Commit}
+use Rattle.pc_calls.specs.AgentCalls.{associates, commits}
 use Rattle.pc_calls.specs.Conditions.{first_of}
 use Rattle.pc_kernel.specs.PlainKernel.{PlainKernel}
 use Rattle.pc_kernel.specs.Reads.{Reads, shown}
@@ -26,7 +26,7 @@ pub record AssociatePasses (r : Reads) (t queue n : ℕ) : Type 0 where
   pub nothing_waits : reads.is_pending r t ≡ false
   pub idle : is_some (reads.place r t) ≡ false
 
-pub associate_passes : (r : Reads) (t queue n : ℕ) → NoneHold (refusals r (Associate t queue n)) → AssociatePasses r t queue n
+pub associate_passes : (r : Reads) (t queue n : ℕ) → NoneHold (refusals r (associates t queue n)) → AssociatePasses r t queue n
 associate_passes r t queue n (known, (there, (alive, (current, (nothing_waits, (idle, end)))))) =
     record { known = known; there = there; alive = alive; current = current; nothing_waits = nothing_waits; idle = idle }
 
@@ -40,7 +40,7 @@ pub record CommitPasses (r : Reads) (c t n : ℕ) : Type 0 where
   pub allowed : not (reads.may_run_on r t c) ≡ false
   pub idle : is_some (reads.on r c) ≡ false
 
-pub commit_passes : (r : Reads) (c t n : ℕ) → NoneHold (refusals r (Commit c t n)) → CommitPasses r c t n
+pub commit_passes : (r : Reads) (c t n : ℕ) → NoneHold (refusals r (commits c t n)) → CommitPasses r c t n
 commit_passes r c t n (there, (known, (current, (ready, (at_home, (nowhere, (allowed, (idle, end)))))))) =
     record { there = there; known = known; current = current; ready = ready; at_home = at_home; nowhere = nowhere; allowed = allowed; idle = idle }
 

@@ -4,7 +4,7 @@ use Rattle.std.specs.Option.{option_map_or}
 use Rattle.pc_messages.specs.Mask.{allows}
 use Rattle.pc_messages.specs.State.{phase_of, mask_of}
 use Rattle.pc_messages.specs.declared.reported.Phase.TheVariants.{Ready, Dead}
-use Rattle.pc_calls.specs.declared.call.Call.TheVariants.{Associate, Commit}
+use Rattle.pc_calls.specs.AgentCalls.{associates, commits}
 use Rattle.pc_kernel.specs.PlainKernel.{PlainKernel, kinds, number, is_known, threads, content, aseq, place_of}
 use Rattle.pc_kernel.specs.Reads.{shown, is_pending, is_cpu}
 use Rattle.pc_kernel.specs.Reads as reads
@@ -45,9 +45,9 @@ ReadsArePlain = (P : PlainKernel) → ArePlainReads P
 -- an associate that is accepted is exact, on every plain kernel
 abbrev pub AcceptedAssociatesAreExact : Type 0
 AcceptedAssociatesAreExact =
-    (P : PlainKernel) (t q n : ℕ) → refused (shown P) (Associate t q n) ≡ None → IsExactAssociate P t n
+    (P : PlainKernel) (t q n : ℕ) → refused (shown P) (associates t q n) ≡ None → IsExactAssociate P t n
 
 -- a commit that is accepted is exact, on every plain kernel
 abbrev pub AcceptedCommitsAreExact : Type 0
 AcceptedCommitsAreExact =
-    (P : PlainKernel) (c t n : ℕ) → refused (shown P) (Commit c t n) ≡ None → IsExactCommit P c t n
+    (P : PlainKernel) (c t n : ℕ) → refused (shown P) (commits c t n) ≡ None → IsExactCommit P c t n

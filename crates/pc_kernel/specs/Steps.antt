@@ -14,7 +14,8 @@ use Rattle.pc_calls.specs.declared.call.EnvCall.{EnvCall}
 use Rattle.pc_calls.specs.declared.call.EnvCall.TheVariants.{Create, Wake, Block, YieldNow, Preempt, Die, SetAffinity}
 use Rattle.pc_calls.specs.declared.call.EnvCall.TheVariants.{SetPriority, Tick}
 use Rattle.pc_calls.specs.declared.call.Call.{Call}
-use Rattle.pc_calls.specs.declared.call.Call.TheVariants.{Env, Consume, Associate, Commit, Sleep, Rouse, Config}
+use Rattle.pc_calls.specs.declared.call.AgentCall.TheVariants.{Associate, Commit, Sleep, Rouse, Config}
+use Rattle.pc_calls.specs.declared.call.Call.TheVariants.{Env, Agent, Consume}
 use Rattle.pc_calls.specs.declared.call.Posted.{Posted}
 use Rattle.pc_calls.specs.declared.call.Answer.{Answer}
 use Rattle.pc_calls.specs.declared.call.Answer.TheVariants as answer
@@ -106,7 +107,7 @@ abbrev pub refusals : Reads → Call → List Condition
 refusals r (Env call) = env_refusals r call
 refusals r (Consume cpu count) =
     (not (is_cpu r cpu), refusal.BadCpu) ∷ (nat_lt (length (content_read r cpu)) count, refusal.TooMany) ∷ []
-refusals r (Associate t queue n) =
+refusals r (Agent (Associate t queue n)) =
     (not (is_known r t), refusal.UnknownThread)
     ∷ (not (is_cpu r queue), refusal.BadCpu)
     ∷ (is_dead (phase r t), refusal.Dead)
@@ -114,7 +115,7 @@ refusals r (Associate t queue n) =
     ∷ (is_pending r t, refusal.Pending)
     ∷ (is_some (place r t), refusal.Running (unwrap_or (place r t) 0))
     ∷ []
-refusals r (Commit cpu t n) =
+refusals r (Agent (Commit cpu t n)) =
     (not (is_cpu r cpu), refusal.BadCpu)
     ∷ (not (is_known r t), refusal.UnknownThread)
     ∷ (not (n == aseq_read r cpu), refusal.Stale (aseq_read r cpu))
@@ -124,11 +125,11 @@ refusals r (Commit cpu t n) =
     ∷ (not (may_run_on r t cpu), refusal.Forbidden)
     ∷ (is_some (on r cpu), refusal.Busy)
     ∷ []
-refusals r (Sleep cpu n) =
+refusals r (Agent (Sleep cpu n)) =
     (not (is_cpu r cpu), refusal.BadCpu) ∷ (not (n == aseq_read r cpu), refusal.Stale (aseq_read r cpu)) ∷ []
-refusals r (Rouse cpu) = (not (is_cpu r cpu), refusal.BadCpu) ∷ []
-refusals r (Config queue None) = (not (is_cpu r queue), refusal.BadCpu) ∷ []
-refusals r (Config queue (Some cpu)) = (not (is_cpu r queue) || not (is_cpu r cpu), refusal.BadCpu) ∷ []
+refusals r (Agent (Rouse cpu)) = (not (is_cpu r cpu), refusal.BadCpu) ∷ []
+refusals r (Agent (Config queue None)) = (not (is_cpu r queue), refusal.BadCpu) ∷ []
+refusals r (Agent (Config queue (Some cpu))) = (not (is_cpu r queue) || not (is_cpu r cpu), refusal.BadCpu) ∷ []
 
 -- the first refusal of a call, where one holds
 abbrev pub refused : Reads → Call → Option Refusal
@@ -193,12 +194,12 @@ posting P (Tick cpu) = record { before = P; queue = cpu; item = item.Tick cpu }
 abbrev pub changed : PlainKernel → Call → PlainKernel
 changed P (Env call) = let p = posting P call in posted p.before p.queue p.item
 changed P (Consume cpu count) = record P { eaten = at P.eaten cpu (P.eaten cpu + count) }
-changed P (Associate t queue n) = record P { home = at P.home t queue }
-changed P (Commit cpu t n) = record P { on = at P.on cpu (Some t) }
-changed P (Sleep cpu n) = record P { slept = at P.slept cpu (Some n) }
-changed P (Rouse cpu) = record P { slept = at P.slept cpu None }
-changed P (Config queue None) = record P { target = at P.target queue None }
-changed P (Config queue (Some cpu)) = record P { target = at P.target queue (Some cpu); slept = at P.slept cpu None }
+changed P (Agent (Associate t queue n)) = record P { home = at P.home t queue }
+changed P (Agent (Commit cpu t n)) = record P { on = at P.on cpu (Some t) }
+changed P (Agent (Sleep cpu n)) = record P { slept = at P.slept cpu (Some n) }
+changed P (Agent (Rouse cpu)) = record P { slept = at P.slept cpu None }
+changed P (Agent (Config queue None)) = record P { target = at P.target queue None }
+changed P (Agent (Config queue (Some cpu))) = record P { target = at P.target queue (Some cpu); slept = at P.slept cpu None }
 
 -- what an accepted call answers
 abbrev pub receipt : Posting → Posted
@@ -214,12 +215,8 @@ receipt p =
 -- what each accepted call answers
 abbrev pub accepted : PlainKernel → Call → Answer
 accepted P (Env call) = answer.Posted (receipt (posting P call))
+accepted P (Agent call) = answer.Done
 accepted P (Consume cpu count) = answer.Done
-accepted P (Associate t queue n) = answer.Done
-accepted P (Commit cpu t n) = answer.Done
-accepted P (Sleep cpu n) = answer.Done
-accepted P (Rouse cpu) = answer.Done
-accepted P (Config queue target) = answer.Done
 
 -- what a call answers that is refused so, or accepted
 abbrev pub reply_of : Option Refusal → Answer → Result Answer Refusal

@@ -13,6 +13,6 @@ pub mod worked;
 
 pub use kernel::Kernel;
 pub use pc_calls::{
-    Answer, Call, CallFault, EnvCall, LimitField, Limits, LimitsFault, Posted, Profile, Refusal,
-    Status,
+    AgentCall, Answer, Call, CallFault, EnvCall, LimitField, Limits, LimitsFault, Posted, Profile,
+    Refusal, Status,
 };

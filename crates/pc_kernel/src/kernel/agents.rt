@@ -6,6 +6,7 @@ use pc_calls::{Answer, Call, Refusal};
 use pc_messages::{Cpu, Tid};
 
 impl Kernel {
+    ghost use Rattle.pc_calls.specs.AgentCalls.{associates, commits, sleeps, rouses, configures};
     ghost use Rattle.pc_kernel.specs.Answers.{Answered, done};
 
     /// Removes the first items of the CPU's queue.
@@ -24,7 +25,7 @@ impl Kernel {
     /// Gives a thread another home queue (the ghOSt paper's ASSOCIATE_QUEUE). The caller names the thread's last number
     /// as it knows it.
     pub fn associate(&mut self, thread: Tid, queue: Cpu, number: u32) -> Result<(), Refusal>
-        ensures { Answered done (Call.Associate thread queue number) result self.old self.new }
+        ensures { Answered done (associates thread queue number) result self.old self.new }
     {
         match self.tables.associate_fault(thread, queue, number) {
             Some(refusal) => Err(refusal),
@@ -38,7 +39,7 @@ impl Kernel {
     /// Puts a thread on the CPU, where the CPU's agent has read all posts to its queue (the ghOSt paper's transaction
     /// under an Aseq).
     pub fn commit(&mut self, cpu: Cpu, thread: Tid, aseq: u32) -> Result<(), Refusal>
-        ensures { Answered done (Call.Commit cpu thread aseq) result self.old self.new }
+        ensures { Answered done (commits cpu thread aseq) result self.old self.new }
     {
         match self.tables.commit_fault(cpu, thread, aseq) {
             Some(refusal) => Err(refusal),
@@ -51,7 +52,7 @@ impl Kernel {
 
     /// Puts the CPU's agent to sleep, where it has read all posts to its queue.
     pub fn sleep(&mut self, cpu: Cpu, aseq: u32) -> Result<(), Refusal>
-        ensures { Answered done (Call.Sleep cpu aseq) result self.old self.new }
+        ensures { Answered done (sleeps cpu aseq) result self.old self.new }
     {
         match self.tables.sleep_fault(cpu, aseq) {
             Some(refusal) => Err(refusal),
@@ -64,7 +65,7 @@ impl Kernel {
 
     /// Wakes the CPU's agent.
     pub fn rouse(&mut self, cpu: Cpu) -> Result<(), Refusal>
-        ensures { Answered done (Call.Rouse cpu) result self.old self.new }
+        ensures { Answered done (rouses cpu) result self.old self.new }
     {
         match self.tables.rouse_fault(cpu) {
             Some(refusal) => Err(refusal),
@@ -77,7 +78,7 @@ impl Kernel {
 
     /// Sets which agent the queue wakes, if any (the ghOSt paper's CONFIG_QUEUE_WAKEUP). That agent is awake at once.
     pub fn config_wakeup(&mut self, queue: Cpu, target: Option<Cpu>) -> Result<(), Refusal>
-        ensures { Answered done (Call.Config queue target) result self.old self.new }
+        ensures { Answered done (configures queue target) result self.old self.new }
     {
         match self.tables.config_fault(queue, &target) {
             Some(refusal) => Err(refusal),

@@ -4,10 +4,10 @@ ghost use Rattle.std.specs.Prelude.{◌≡◌, Err};
 ghost use Rattle.std.specs.Result.{result_map_both};
 
 use crate::kernel::Kernel;
-use pc_calls::{Answer, Call, CallFault, EnvCall, Posted, Refusal};
+use pc_calls::{AgentCall, Answer, Call, CallFault, EnvCall, Posted, Refusal};
 
 impl Kernel {
-    ghost use Rattle.pc_kernel.specs.Answers.{AnsweredInMemory, itself};
+    ghost use Rattle.pc_kernel.specs.Answers.{Answered, AnsweredInMemory, done, itself};
 
     /// Makes the call.
     // Inlined: a caller with calls of one kind then chooses among the kinds once, and the answer is not handed on
@@ -19,16 +19,8 @@ impl Kernel {
     {
         match call {
             Call::Env(call) => posted(self.apply_env(call)),
+            Call::Agent(call) => done(self.apply_agent(call)),
             Call::Consume { cpu, count } => done(self.consume(cpu, count)),
-            Call::Associate {
-                thread,
-                queue,
-                number,
-            } => done(self.associate(thread, queue, number)),
-            Call::Commit { cpu, thread, aseq } => done(self.commit(cpu, thread, aseq)),
-            Call::Sleep { cpu, aseq } => done(self.sleep(cpu, aseq)),
-            Call::Rouse { cpu } => done(self.rouse(cpu)),
-            Call::Config { queue, target } => done(self.config_wakeup(queue, target)),
         }
     }
 
@@ -48,6 +40,25 @@ impl Kernel {
             EnvCall::SetAffinity { thread, mask } => self.set_affinity(thread, mask),
             EnvCall::SetPriority { thread, level } => self.set_priority(thread, level),
             EnvCall::Tick { cpu } => self.tick(cpu),
+        }
+    }
+
+    /// Makes the agent's call.
+    // Inlined as `apply` is.
+    #[inline(always)]
+    fn apply_agent(&mut self, call: AgentCall) -> Result<(), Refusal>
+        ensures { Answered done (Call.Agent call) result self.old self.new }
+    {
+        match call {
+            AgentCall::Associate {
+                thread,
+                queue,
+                number,
+            } => self.associate(thread, queue, number),
+            AgentCall::Commit { cpu, thread, aseq } => self.commit(cpu, thread, aseq),
+            AgentCall::Sleep { cpu, aseq } => self.sleep(cpu, aseq),
+            AgentCall::Rouse { cpu } => self.rouse(cpu),
+            AgentCall::Config { queue, target } => self.config_wakeup(queue, target),
         }
     }
 }

@@ -2,6 +2,7 @@
 
 ghost use Rattle.std.specs.Prelude.{◌≡◌, ◌<◌, Some, length, slice_get, IfOk};
 ghost use Rattle.std.specs.Result.{result_err};
+ghost use Rattle.pc_calls.specs.AgentCalls.{associates, commits, sleeps, rouses, configures};
 ghost use Rattle.pc_calls.specs.Conditions.{first_of};
 
 use crate::tables::Tables;
@@ -29,7 +30,7 @@ impl Tables {
 
     /// Why a thread gets no other home queue.
     pub(crate) fn associate_fault(&self, thread: Tid, queue: Cpu, number: u32) -> Option<Refusal>
-        ensures { result ≡ refused (seen self.now) (Call.Associate thread queue number) }
+        ensures { result ≡ refused (seen self.now) (associates thread queue number) }
     {
         let entry = match self.thread(thread) {
             None => return Some(Refusal::UnknownThread),
@@ -56,7 +57,7 @@ impl Tables {
 
     /// Why a thread is not put on the CPU.
     pub(crate) fn commit_fault(&self, cpu: Cpu, thread: Tid, aseq: u32) -> Option<Refusal>
-        ensures { result ≡ refused (seen self.now) (Call.Commit cpu thread aseq) }
+        ensures { result ≡ refused (seen self.now) (commits cpu thread aseq) }
     {
         let core = match self.cpu(cpu) {
             None => return Some(Refusal::BadCpu),
@@ -91,7 +92,7 @@ impl Tables {
 
     /// Why the CPU's agent does not sleep.
     pub(crate) fn sleep_fault(&self, cpu: Cpu, aseq: u32) -> Option<Refusal>
-        ensures { result ≡ refused (seen self.now) (Call.Sleep cpu aseq) }
+        ensures { result ≡ refused (seen self.now) (sleeps cpu aseq) }
     {
         match self.cpu(cpu) {
             None => Some(Refusal::BadCpu),
@@ -102,7 +103,7 @@ impl Tables {
 
     /// Why the CPU's agent is not woken.
     pub(crate) fn rouse_fault(&self, cpu: Cpu) -> Option<Refusal>
-        ensures { result ≡ refused (seen self.now) (Call.Rouse cpu) }
+        ensures { result ≡ refused (seen self.now) (rouses cpu) }
     {
         if cpu.index() < self.cpus() {
             None
@@ -113,7 +114,7 @@ impl Tables {
 
     /// Why a queue gets no such target.
     pub(crate) fn config_fault(&self, queue: Cpu, target: &Option<Cpu>) -> Option<Refusal>
-        ensures { result ≡ refused (seen self.now) (Call.Config queue target.now) }
+        ensures { result ≡ refused (seen self.now) (configures queue target.now) }
     {
         if queue.index() >= self.cpus() {
             return Some(Refusal::BadCpu);

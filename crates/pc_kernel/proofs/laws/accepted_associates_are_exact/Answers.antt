@@ -2,7 +2,7 @@ use Rattle.std.proofs.Common.{◌≡◌, ◌==◌, ◌∙◌, true, Some, is_som
 use Rattle.std.proofs.lemmas.Bool.{eqb-true}
 use Rattle.pc_messages.specs.State.{phase_of}
 use Rattle.pc_messages.specs.declared.reported.Phase.TheVariants.{Dead}
-use Rattle.pc_calls.specs.declared.call.Call.TheVariants.{Associate}
+use Rattle.pc_calls.specs.AgentCalls.{associates}
 use Rattle.pc_kernel.specs.PlainKernel.{is_known, place_of}
 use Rattle.pc_kernel.specs.Reads.{shown}
 use Rattle.pc_kernel.specs.Reads as reads
@@ -14,7 +14,7 @@ use Rattle.pc_kernel.proofs.laws.accepted_associates_are_exact.Goals as goal
 
 pub returns : goal.returns
 returns c P t q n accepted =
-    let passes = associate_passes (shown P) t q n (none_hold (refusals (shown P) (Associate t q n)) accepted) in
+    let passes = associate_passes (shown P) t q n (none_hold (refusals (shown P) (associates t q n)) accepted) in
     let known : is_known P t ≡ true = known_of P t passes.known in
     record {
       known = known;

@@ -3,7 +3,7 @@ use Rattle.std.specs.Option.{option_map_or}
 use Rattle.std.proofs.lemmas.Bool.{eqb-true}
 use Rattle.pc_messages.specs.Mask.{allows}
 use Rattle.pc_messages.specs.State.{phase_of, mask_of}
-use Rattle.pc_calls.specs.declared.call.Call.TheVariants.{Commit}
+use Rattle.pc_calls.specs.AgentCalls.{commits}
 use Rattle.pc_kernel.specs.PlainKernel.{is_known, place_of, kinds}
 use Rattle.pc_kernel.specs.Reads.{shown}
 use Rattle.pc_kernel.specs.Reads as reads
@@ -15,7 +15,7 @@ use Rattle.pc_kernel.proofs.laws.accepted_commits_are_exact.Goals as goal
 
 pub returns : goal.returns
 returns c P cpu t n accepted =
-    let passes = commit_passes (shown P) cpu t n (none_hold (refusals (shown P) (Commit cpu t n)) accepted) in
+    let passes = commit_passes (shown P) cpu t n (none_hold (refusals (shown P) (commits cpu t n)) accepted) in
     let there : reads.is_cpu (shown P) cpu ≡ true = not_false (reads.is_cpu (shown P) cpu) passes.there in
     let known : is_known P t ≡ true = known_of P t passes.known in
     record {

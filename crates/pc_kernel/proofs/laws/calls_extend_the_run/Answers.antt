@@ -5,7 +5,8 @@ use Rattle.pc_messages.specs.Run.{Extends}
 use Rattle.pc_calls.specs.declared.call.Call.{Call}
 use Rattle.pc_calls.specs.declared.call.EnvCall.{EnvCall}
 use Rattle.pc_calls.specs.declared.call.EnvCall.TheVariants.{Create, Wake, Block, YieldNow, Preempt, Die, SetAffinity, SetPriority, Tick}
-use Rattle.pc_calls.specs.declared.call.Call.TheVariants.{Env, Consume, Associate, Commit, Sleep, Rouse, Config}
+use Rattle.pc_calls.specs.declared.call.AgentCall.TheVariants.{Associate, Commit, Sleep, Rouse, Config}
+use Rattle.pc_calls.specs.declared.call.Call.TheVariants.{Env, Agent, Consume}
 use Rattle.pc_kernel.specs.PlainKernel.{PlainKernel, Post, kinds, kind_in}
 use Rattle.pc_kernel.specs.Steps.{changed, posting}
 use Rattle.pc_kernel.proofs.Posting.{kinds-posted}
@@ -34,12 +35,12 @@ env_extends P call t =
 extended : (P : PlainKernel) (call : Call) → Extends (kinds (changed P call)) (kinds P)
 extended P (Env call) = env_extends P call
 extended P (Consume cpu count) = extends_itself P
-extended P (Associate t queue n) = extends_itself P
-extended P (Commit cpu t n) = extends_itself P
-extended P (Sleep cpu n) = extends_itself P
-extended P (Rouse cpu) = extends_itself P
-extended P (Config queue None) = extends_itself P
-extended P (Config queue (Some cpu)) = extends_itself P
+extended P (Agent (Associate t queue n)) = extends_itself P
+extended P (Agent (Commit cpu t n)) = extends_itself P
+extended P (Agent (Sleep cpu n)) = extends_itself P
+extended P (Agent (Rouse cpu)) = extends_itself P
+extended P (Agent (Config queue None)) = extends_itself P
+extended P (Agent (Config queue (Some cpu))) = extends_itself P
 
 pub returns : goal.returns
 returns c P call = after_has (λ Q. Extends (kinds Q) (kinds P)) P call (extends_itself P) (λ _. extended P call)
