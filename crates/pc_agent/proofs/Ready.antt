@@ -1,11 +1,11 @@
 -- The names of a run list that the kernel would commit, and a pick of the first.
 use Rattle.std.proofs.Common.{ℕ, ◌≡◌, ◌==◌, not, Bool, true, false, List, [], ◌∷◌, Option, Some, None, Result, Ok, Err, IfOk, IfErr, OnErr, is_some, refl, sym, ap, ◌∙◌, subst}
 use Rattle.pc_messages.specs.Run.{Run}
+use Rattle.pc_calls.specs.AgentCalls.{commits}
 use Rattle.pc_calls.specs.Conditions.{first_of, refusal_in}
 use Rattle.pc_calls.specs.declared.call.Answer.{Answer}
 use Rattle.pc_calls.specs.declared.call.Answer.TheVariants.{Done}
 use Rattle.pc_calls.specs.declared.call.Call.{Call}
-use Rattle.pc_calls.specs.declared.call.Call.TheVariants as call
 use Rattle.pc_calls.specs.declared.refusal.Refusal.{Refusal}
 use Rattle.pc_calls.specs.declared.refusal.Refusal.TheVariants.{Stale, Busy, NothingReady}
 use Rattle.pc_kernel.specs.Answers.{Accepts, Replies, Shows, Steps, done}
@@ -64,7 +64,7 @@ module _ (r : Reads) (cpu n : ℕ) (names : List ℕ) where
 
 pub looked : (cpu n : ℕ) (result : Result ℕ Refusal) (names left : List ℕ) (old new : KernelRows) → unready_for (seen old) cpu n ≡ None → CommitsFirst cpu n result names left old new → Picks cpu n result names left old new
 looked cpu n (Ok t) names left old new ready first =
-    (looked_at (seen old) cpu n names ready ∙ ap (λ l. first_of ((is_empty_list l, NothingReady) ∷ [])) first.0, first.0, accepts (call.Commit cpu t n) old new first.1)
+    (looked_at (seen old) cpu n names ready ∙ ap (λ l. first_of ((is_empty_list l, NothingReady) ∷ [])) first.0, first.0, accepts (commits cpu t n) old new first.1)
 looked cpu n (Err refusal) names left old new ready first =
     (looked_at (seen old) cpu n names ready ∙ ap (λ l. first_of ((is_empty_list l, NothingReady) ∷ [])) first.1 ∙ ap Some (sym first.0), first.2 ∙ ap (λ why. left_by why names) (sym first.0))
 
@@ -82,7 +82,7 @@ module _ (cpu n : ℕ) (names left : List ℕ) (old new : KernelRows) where
   pick_left (Ok t) picks = tt
   pick_left (Err refusal) picks = picks.1
 
-  pub pick_accepted : (result : Result ℕ Refusal) → Picks cpu n result names left old new → IfOk result (λ t. Accepts (call.Commit cpu t n) Done old new)
+  pub pick_accepted : (result : Result ℕ Refusal) → Picks cpu n result names left old new → IfOk result (λ t. Accepts (commits cpu t n) Done old new)
   pick_accepted (Ok t) picks = picks.2
   pick_accepted (Err refusal) picks = tt
 
@@ -103,7 +103,7 @@ picked P run p n (Ok t) old new k k2 shows h picks view count =
       record {
         rest = new.list;
         first = sym (λ i. ready_list (shows.reads i) old.cpu n (h.list i)) ∙ picks.1;
-        accepted = not_refused P (call.Commit old.cpu t n) took.0;
+        accepted = not_refused P (commits old.cpu t n) took.0;
         after = took.1;
         agent = record { view = subst (λ v. ShowsView run p.known v) (sym view) h.view; list = refl; sent_items = count ∙ h.sent_items };
       },

@@ -3,8 +3,8 @@ use Rattle.std.proofs.Common.{ℕ, ◌≡◌, Bool, true, false, List, [], ◌�
 use Rattle.std.proofs.Math.Seq.{take-append_seam}
 use Rattle.pc_messages.specs.Run.{Run}
 use Rattle.pc_messages.specs.State.{state_of}
+use Rattle.pc_calls.specs.AgentCalls.{associates}
 use Rattle.pc_calls.specs.declared.call.Call.{Call}
-use Rattle.pc_calls.specs.declared.call.Call.TheVariants as call
 use Rattle.pc_calls.specs.declared.call.Answer.TheVariants.{Done}
 use Rattle.pc_calls.specs.declared.refusal.Refusal.{Refusal}
 use Rattle.pc_calls.specs.declared.refusal.Refusal.TheVariants.{Busy, NothingToSteal}
@@ -71,18 +71,18 @@ module _ (view : View) (cpu : ℕ) (old : List ℕ) (before : KernelRows) (idle 
     none_left new = for_idle view cpu (Err OutOfMemory) old new before before idle (t, found)
 
     module _ (n : ℕ) (is : n ≡ upto_of view t) (new : List ℕ) (after : KernelRows) where
-      pub was_taken : None ≡ refused (seen before) (call.Associate t cpu n) → Steps done (call.Associate t cpu n) (Ok tt) before after → new ≡ old ++ t ∷ [] → StealsAsSeen view cpu (Ok t) old new before after
+      pub was_taken : None ≡ refused (seen before) (associates t cpu n) → Steps done (associates t cpu n) (Ok tt) before after → new ≡ old ++ t ∷ [] → StealsAsSeen view cpu (Ok t) old new before after
       was_taken accepted steps list =
-          let same : call.Associate t cpu n ≡ takes_up_to (upto_of view) cpu t = ap (λ m. call.Associate t cpu m) is in
+          let same : associates t cpu n ≡ takes_up_to (upto_of view) cpu t = ap (λ m. associates t cpu m) is in
           for_idle view cpu (Ok t) old new before after idle (
             found,
             ap (λ takes. refused (seen before) takes) (sym same) ∙ sym accepted,
-            record { kernel = subst (λ takes. Accepts takes Done before after) same (accepts (call.Associate t cpu n) before after steps); list = list },
+            record { kernel = subst (λ takes. Accepts takes Done before after) same (accepts (associates t cpu n) before after steps); list = list },
           )
 
-      pub was_not_taken : (refusal : Refusal) → Some refusal ≡ refused (seen before) (call.Associate t cpu n) → StealsAsSeen view cpu (Err (Refused refusal)) old new before after
+      pub was_not_taken : (refusal : Refusal) → Some refusal ≡ refused (seen before) (associates t cpu n) → StealsAsSeen view cpu (Err (Refused refusal)) old new before after
       was_not_taken refusal why =
-          for_idle view cpu (Err (Refused refusal)) old new before after idle (Some t, found, ap (λ m. refused (seen before) (call.Associate t cpu m)) (sym is) ∙ sym why)
+          for_idle view cpu (Err (Refused refusal)) old new before after idle (Some t, found, ap (λ m. refused (seen before) (associates t cpu m)) (sym is) ∙ sym why)
 
 -- what follows of a thread that was taken over
 also : (r : Reads) (cpu : ℕ) (test : ℕ → Bool) (takes : ℕ → Call) (Taken More : ℕ → Type 0) (result : Result ℕ CallFault) → ((t : ℕ) → Taken t → More t) → StealsBy r cpu test takes Taken result → StealsBy r cpu test takes More result
@@ -121,7 +121,7 @@ module _ (reported : ReportsAreTold) (known : UptosAreTold) (old : Agent) (k : K
     test_same = λ i. may_take (shows.reads i) (λ t. may_run (reported run p.known old.view t h.view.of_run h.view.known i) old.cpu) (h.list i)
 
     takes_same : takes_up_to (upto_of old.view) old.cpu ≡ takes_over old.cpu p
-    takes_same = λ i t. call.Associate t old.cpu (known run p.known old.view t h.view.of_run h.view.known i)
+    takes_same = λ i t. associates t old.cpu (known run p.known old.view t h.view.of_run h.view.known i)
 
     pub stolen : (result : Result ℕ CallFault) (new : Agent) (k2 : KernelRows) → StealsAsSeen old.view old.cpu result old.list new.list k k2 → new.view ≡ old.view → new.sent_items ≡ old.sent_items → Steals P run p result old.cpu new k2
     stolen result new k2 steals view count =

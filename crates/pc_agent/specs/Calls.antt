@@ -4,9 +4,9 @@ use Rattle.std.specs.Prelude.{ℕ, ◌≡◌, ◌<◌, List, [], ◌∷◌, ◌+
 use Rattle.pc_join.specs.declared.join.OutOfMemory.{OutOfMemory as NoMemory}
 use Rattle.pc_messages.specs.Run.{Run, Extends}
 use Rattle.pc_messages.specs.declared.message.Item.{Item}
+use Rattle.pc_calls.specs.AgentCalls.{commits}
 use Rattle.pc_calls.specs.Conditions.{refusal_in}
 use Rattle.pc_calls.specs.declared.call.Answer.TheVariants.{Done}
-use Rattle.pc_calls.specs.declared.call.Call.TheVariants as call
 use Rattle.pc_calls.specs.declared.refusal.CallFault.{CallFault}
 use Rattle.pc_calls.specs.declared.refusal.Refusal.{Refusal}
 use Rattle.pc_kernel.specs.Answers.{Accepts}
@@ -95,7 +95,7 @@ pub record DoesPick (aseq : ℕ) (result : Result ℕ Refusal) (old new : Agent)
   pub refused : refusal_in result ≡ pick_refused (seen before) (cpu_of old) aseq old.list
   pub first : IfOk result (λ thread. ready_list (seen before) (cpu_of old) aseq old.list ≡ thread ∷ new.list)
   pub list_err : IfErr result (λ refusal. new.list ≡ left_by refusal old.list)
-  pub kernel : IfOk result (λ thread. Accepts (call.Commit (cpu_of old) thread aseq) Done before after)
+  pub kernel : IfOk result (λ thread. Accepts (commits (cpu_of old) thread aseq) Done before after)
   pub sent : new.sent_items ≡ old.sent_items
   pub same : KnowsTheSame (pick_counted result old.counts) old new
   pub goes_on : GoesOn result before after

@@ -2,6 +2,7 @@
 -- holds of every agent, also of one whose view is of no run.
 use Rattle.std.specs.Prelude.{ℕ, ◌≡◌, ◌⊎◌, List, [], ◌∷◌, ◌++◌, length, Some, None, Result, Ok, Err}
 use Rattle.pc_messages.specs.declared.message.Item.{Item}
+use Rattle.pc_calls.specs.AgentCalls.{commits}
 use Rattle.pc_calls.specs.declared.call.Answer.TheVariants.{Done}
 use Rattle.pc_calls.specs.declared.call.Call.{Call}
 use Rattle.pc_calls.specs.declared.call.Call.TheVariants as call
@@ -76,7 +77,7 @@ ConsumesAsSeen old before (Err refusal) new after =
 
 -- the kernel accepted the call that commits the thread, the first that it would commit, and what follows it is left
 pub record HasCommitted (aseq thread : ℕ) (old new : Agent) (before after : KernelRows) : Type 0 where
-  pub kernel : Accepts (call.Commit (cpu_of old) thread aseq) Done before after
+  pub kernel : Accepts (commits (cpu_of old) thread aseq) Done before after
   pub list : ready_list (seen before) (cpu_of old) aseq old.list ≡ thread ∷ new.list
   pub sent_items : new.sent_items ≡ old.sent_items
   pub same : KnowsTheSame (pick_counted (Ok thread) old.counts) old new

@@ -5,8 +5,8 @@ use Rattle.std.specs.List.{filter_map}
 use Rattle.pc_messages.specs.Items.{thread_in, pairs_in}
 use Rattle.pc_messages.specs.Run.{Run}
 use Rattle.pc_messages.specs.declared.message.Item.{Item}
+use Rattle.pc_calls.specs.AgentCalls.{commits}
 use Rattle.pc_calls.specs.Conditions.{first_of}
-use Rattle.pc_calls.specs.declared.call.Call.TheVariants as call
 use Rattle.pc_calls.specs.declared.refusal.Refusal.{Refusal}
 use Rattle.pc_calls.specs.declared.refusal.Refusal.TheVariants as refusal
 use Rattle.pc_kernel.specs.Reads.{Reads, is_known, place, aseq_read, on}
@@ -54,7 +54,7 @@ from_first test (t ∷ ts) = if test t then t ∷ ts else from_first test ts
 
 -- the names of a run list from the first one on that the kernel would commit
 abbrev pub ready_list : Reads → ℕ → ℕ → List ℕ → List ℕ
-ready_list r cpu n names = from_first (λ t. is_none (refused r (call.Commit cpu t n))) names
+ready_list r cpu n names = from_first (λ t. is_none (refused r (commits cpu t n))) names
 
 -- no name is in the list
 abbrev pub is_empty_list : List ℕ → Bool

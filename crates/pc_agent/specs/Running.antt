@@ -3,8 +3,8 @@ use Rattle.std.specs.Prelude.{ℕ, ◌<◌, ◌≡◌, Bool, true, false, List, 
 use Rattle.std.specs.Prelude.{MatchBool, is_some}
 use Rattle.pc_messages.specs.Run.{Run}
 use Rattle.pc_messages.specs.State.{state_of}
+use Rattle.pc_calls.specs.AgentCalls.{associates, commits}
 use Rattle.pc_calls.specs.declared.call.Call.{Call}
-use Rattle.pc_calls.specs.declared.call.Call.TheVariants as call
 use Rattle.pc_calls.specs.declared.refusal.Refusal.{Refusal}
 use Rattle.pc_calls.specs.declared.refusal.Refusal.TheVariants.{Busy, NothingReady, NothingToSteal}
 use Rattle.pc_calls.specs.declared.refusal.CallFault.{CallFault}
@@ -29,8 +29,8 @@ pub record IsCommitted (P : PlainKernel) (run : Run) (p : PlainAgent) (cpu n t :
     (kernel : KernelRows) : Type 0 where
   pub rest : List ℕ
   pub first : ready_list (shown P) cpu n p.list ≡ t ∷ rest
-  pub accepted : refused (shown P) (call.Commit cpu t n) ≡ None
-  pub after : Shows kernel (after P (call.Commit cpu t n))
+  pub accepted : refused (shown P) (commits cpu t n) ≡ None
+  pub after : Shows kernel (after P (commits cpu t n))
   pub agent : ShowsAgent run (record p { list = rest }) new
 
 -- a pick under a count of posts
@@ -53,7 +53,7 @@ Finds test (Some t) = IsLeast test t
 
 -- the call that takes a thread over for a CPU, under the number up to which it is known
 abbrev pub takes_up_to : (ℕ → ℕ) → ℕ → ℕ → Call
-takes_up_to known cpu t = call.Associate t cpu (known t)
+takes_up_to known cpu t = associates t cpu (known t)
 
 -- why no thread is taken over by these calls, where this is the least that may be
 abbrev pub take_refused : Reads → (ℕ → Call) → Option ℕ → Option Refusal

@@ -199,7 +199,8 @@ changed P (Agent (Commit cpu t n)) = record P { on = at P.on cpu (Some t) }
 changed P (Agent (Sleep cpu n)) = record P { slept = at P.slept cpu (Some n) }
 changed P (Agent (Rouse cpu)) = record P { slept = at P.slept cpu None }
 changed P (Agent (Config queue None)) = record P { target = at P.target queue None }
-changed P (Agent (Config queue (Some cpu))) = record P { target = at P.target queue (Some cpu); slept = at P.slept cpu None }
+changed P (Agent (Config queue (Some cpu))) =
+    record P { target = at P.target queue (Some cpu); slept = at P.slept cpu None }
 
 -- what an accepted call answers
 abbrev pub receipt : Posting → Posted

@@ -93,8 +93,8 @@ LastCpu = replies (start (limited MOST_CPUS MOST_THREADS MOST_NUMBERS MOST_ROOM 
 -- a queue wakes whom it is configured to wake, who is awake at once; or nobody
 abbrev pub Targets : Type 0
 Targets = replies (start small)
-    (sleeps 1 0 ∷ configures 0 (Some 1) ∷ sleeps 1 0 ∷ Env (Create 0 true 3) ∷ configures 0 None ∷ sleeps 1 0 ∷ Env (Tick 0)
-    ∷ rouses 2 ∷ [])
+    (sleeps 1 0 ∷ configures 0 (Some 1) ∷ sleeps 1 0 ∷ Env (Create 0 true 3) ∷ configures 0 None
+    ∷ sleeps 1 0 ∷ Env (Tick 0) ∷ rouses 2 ∷ [])
     ≡ Ok Done ∷ Ok Done ∷ Ok Done ∷ sent 0 1 0 1 (Some 1) ∷ Ok Done ∷ Ok Done
     ∷ ticked 0 2 ∷ Err refusal.BadCpu ∷ []
 
@@ -114,8 +114,8 @@ Sleepers = replies (start small) (Env (Create 0 false 3) ∷ sleeps 0 0 ∷ slee
 -- of several refusals the first in the written order is answered
 abbrev pub Refusals : Type 0
 Refusals = replies (start small)
-    (Env (Create 0 true 3) ∷ Env (Create 0 false 3) ∷ Env (Create 0 true 3) ∷ commits 0 1 3 ∷ commits 0 0 3 ∷ commits 0 0 3
-    ∷ commits 0 2 3
+    (Env (Create 0 true 3) ∷ Env (Create 0 false 3) ∷ Env (Create 0 true 3) ∷ commits 0 1 3 ∷ commits 0 0 3
+    ∷ commits 0 0 3 ∷ commits 0 2 3
     ∷ associates 0 1 1 ∷ Consume 0 3 ∷ associates 0 1 1 ∷ associates 9 1 1 ∷ associates 0 2 1 ∷ [])
     ≡ sent 0 1 0 1 None ∷ sent 1 1 0 2 None ∷ sent 2 1 0 3 None ∷ Err refusal.NotReady ∷ Ok Done
     ∷ Err (refusal.Running 0)

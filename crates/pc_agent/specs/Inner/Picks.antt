@@ -1,8 +1,8 @@
 -- A pick, before it is counted.
 use Rattle.std.specs.Prelude.{ℕ, ◌==◌, ◌≡◌, not, List, [], ◌∷◌, Option, Some, None, Result, Ok, Err, is_some}
+use Rattle.pc_calls.specs.AgentCalls.{commits}
 use Rattle.pc_calls.specs.Conditions.{first_of}
 use Rattle.pc_calls.specs.declared.call.Answer.TheVariants.{Done}
-use Rattle.pc_calls.specs.declared.call.Call.TheVariants as call
 use Rattle.pc_calls.specs.declared.refusal.Refusal.{Refusal}
 use Rattle.pc_calls.specs.declared.refusal.Refusal.TheVariants.{Stale, Busy, NothingReady}
 use Rattle.pc_kernel.specs.Answers.{Accepts, Steps, done}
@@ -19,7 +19,7 @@ unready_for r cpu n = first_of ((not (n == aseq_read r cpu), Stale (aseq_read r 
 -- the list is empty and the kernel as it was
 abbrev pub CommitsFirst : ℕ → ℕ → Result ℕ Refusal → List ℕ → List ℕ → KernelRows → KernelRows → Type 0
 CommitsFirst cpu n (Ok t) names left old new =
-    (ready_list (seen old) cpu n names ≡ t ∷ left) × Steps done (call.Commit cpu t n) (Ok tt) old new
+    (ready_list (seen old) cpu n names ≡ t ∷ left) × Steps done (commits cpu t n) (Ok tt) old new
 CommitsFirst cpu n (Err refusal) names left old new =
     (refusal ≡ NothingReady) × (ready_list (seen old) cpu n names ≡ []) × (left ≡ [])
 
@@ -28,6 +28,6 @@ abbrev pub Picks : ℕ → ℕ → Result ℕ Refusal → List ℕ → List ℕ 
 Picks cpu n (Ok t) names left old new =
     (pick_refused (seen old) cpu n names ≡ None)
     × (ready_list (seen old) cpu n names ≡ t ∷ left)
-    × Accepts (call.Commit cpu t n) Done old new
+    × Accepts (commits cpu t n) Done old new
 Picks cpu n (Err refusal) names left old new =
     (pick_refused (seen old) cpu n names ≡ Some refusal) × (left ≡ left_by refusal names)
