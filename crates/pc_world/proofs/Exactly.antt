@@ -8,8 +8,10 @@ use Rattle.pc_messages.specs.Items.{is_of, message_in}
 use Rattle.pc_messages.specs.State.{state_of}
 use Rattle.pc_messages.specs.declared.message.Item.{Item}
 use Rattle.pc_messages.specs.declared.message.Item.TheVariants as item
+use Rattle.pc_calls.specs.AgentCalls.{commits}
 use Rattle.pc_calls.specs.Conditions.{first_of}
 use Rattle.pc_calls.specs.Events.{told_of}
+use Rattle.pc_calls.specs.declared.call.AgentCall.TheVariants as agent_call
 use Rattle.pc_calls.specs.declared.call.Answer.TheVariants.{Done}
 use Rattle.pc_calls.specs.declared.call.Call.TheVariants as call
 use Rattle.pc_calls.specs.declared.event.Event.TheVariants as event
@@ -152,18 +154,18 @@ module _ (laws : KernelLaws) (w new : PlainWorld) (c t n : ℕ) where
   abbrev committed : Reply
   committed = replies.Committed c t
 
-  accepted_commit : (o : Option Refusal) → committed ≡ told_of (call.Commit c t n) (reply_of o Done) → o ≡ None
+  accepted_commit : (o : Option Refusal) → committed ≡ told_of (commits c t n) (reply_of o Done) → o ≡ None
   accepted_commit None e = refl
   accepted_commit (Some why) e = absurd (no_refusal_committed t c why e)
 
-  pub exact_commit : Step w (event.Commit c t n) committed new → IsExactCommit w.kernel c t n
-  exact_commit s = laws.commits w.kernel c t n (accepted_commit (refused (shown w.kernel) (call.Commit c t n)) s.tells)
+  pub exact_commit : Step w (event.Agent (agent_call.Commit c t n)) committed new → IsExactCommit w.kernel c t n
+  exact_commit s = laws.commits w.kernel c t n (accepted_commit (refused (shown w.kernel) (commits c t n)) s.tells)
 
   picked_first : (names : List ℕ) → ready_list (shown w.kernel) c n (w.agents c).list ≡ names → IsCommitted w c n names committed new → IsExactCommit w.kernel c t n
   picked_first [] e said = absurd said
   picked_first (u ∷ rest) e said =
-      let passes = first_passes (λ u. is_none (refused (shown w.kernel) (call.Commit c u n))) (w.agents c).list u rest e in
-      subst (λ u. IsExactCommit w.kernel c u n) (same_committed t u c said.0) (laws.commits w.kernel c u n (none_is (refused (shown w.kernel) (call.Commit c u n)) passes))
+      let passes = first_passes (λ u. is_none (refused (shown w.kernel) (commits c u n))) (w.agents c).list u rest e in
+      subst (λ u. IsExactCommit w.kernel c u n) (same_committed t u c said.0) (laws.commits w.kernel c u n (none_is (refused (shown w.kernel) (commits c u n)) passes))
 
   picked_unless : (o : Option Refusal) → IsPicked w c n o committed new → IsExactCommit w.kernel c t n
   picked_unless None said = picked_first (ready_list (shown w.kernel) c n (w.agents c).list) refl said

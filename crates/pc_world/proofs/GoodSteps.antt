@@ -8,6 +8,7 @@ use Rattle.pc_messages.specs.Items.{pairs_in}
 use Rattle.pc_messages.specs.Run.{Run}
 use Rattle.pc_messages.specs.declared.message.Message.{Message}
 use Rattle.pc_messages.specs.declared.message.Item.TheVariants.{Thread}
+use Rattle.pc_calls.specs.AgentCalls.{commits, rouses}
 use Rattle.pc_calls.specs.declared.call.Answer.{Answer}
 use Rattle.pc_calls.specs.declared.call.Call.{Call}
 use Rattle.pc_calls.specs.declared.call.Call.TheVariants as call
@@ -204,7 +205,7 @@ module _ (laws : KernelLaws) (limits : Limits) (w : PlainWorld) (h : IsGood limi
   commit_goes : (c n : ℕ) (names : List ℕ) (told : Reply) (new : PlainWorld) → IsCommitted w c n names told new → Goes w new
   commit_goes c n [] told new said = absurd said
   commit_goes c n (t ∷ rest) told new said =
-      subst (Goes w) (sym said.1) (own_call (call.Commit c t n) c (record (w.agents c) { list = rest }) (λ q. refl) (h.known c) (omega arith))
+      subst (Goes w) (sym said.1) (own_call (commits c t n) c (record (w.agents c) { list = rest }) (λ q. refl) (h.known c) (omega arith))
 
   pick_goes : (c n : ℕ) (o : Option Refusal) (told : Reply) (new : PlainWorld) → IsPicked w c n o told new → Goes w new
   pick_goes c n None told new said = commit_goes c n (ready_list (shown w.kernel) c n (w.agents c).list) told new said
@@ -225,8 +226,8 @@ module _ (laws : KernelLaws) (limits : Limits) (w : PlainWorld) (h : IsGood limi
   steal_goes c true told new said = refused_goes _ told new said
   steal_goes c false told new said = try_goes c said.0 told new said.2
 
-  crash_goes : (c : ℕ) (new : PlainWorld) → new ≡ record (with_agent w c fresh) { kernel = after w.kernel (call.Rouse c) } → Goes w new
-  crash_goes c new is = subst (Goes w) (sym is) (own_call (call.Rouse c) c fresh (λ q. refl) (λ t n e. cc) (omega arith))
+  crash_goes : (c : ℕ) (new : PlainWorld) → new ≡ record (with_agent w c fresh) { kernel = after w.kernel (rouses c) } → Goes w new
+  crash_goes c new is = subst (Goes w) (sym is) (own_call (rouses c) c fresh (λ q. refl) (λ t n e. cc) (omega arith))
 
   -- on a CPU that is there, or refused
   if_there : (there : Bool) (told : Reply) (new : PlainWorld) (Holds : Type 0) → (Holds → Goes w new) → MatchBool there Holds (IsBadCpu w told new) → Goes w new
@@ -235,11 +236,7 @@ module _ (laws : KernelLaws) (limits : Limits) (w : PlainWorld) (h : IsGood limi
 
   step_goes : (e : Event) (told : Reply) (new : PlainWorld) → Step w e told new → Goes w new
   step_goes (event.Env c) told new s = called (call.Env c) new (λ q. refl) s.after
-  step_goes (event.Associate t queue n) told new s = called (call.Associate t queue n) new (λ q. refl) s.after
-  step_goes (event.Commit cpu t n) told new s = called (call.Commit cpu t n) new (λ q. refl) s.after
-  step_goes (event.Sleep cpu n) told new s = called (call.Sleep cpu n) new (λ q. refl) s.after
-  step_goes (event.Rouse cpu) told new s = called (call.Rouse cpu) new (λ q. refl) s.after
-  step_goes (event.Config queue target) told new s = called (call.Config queue target) new (λ q. refl) s.after
+  step_goes (event.Agent c) told new s = called (call.Agent c) new (λ q. refl) s.after
   step_goes (event.Publish cpu fails) told new s = if_there (is_cpu (shown w.kernel) cpu) told new _ (publish_goes cpu fails told new) s
   step_goes (event.Consume cpu) told new s =
       if_there (is_cpu (shown w.kernel) cpu) told new _ (consume_goes cpu (kernel.reply w.kernel (call.Consume cpu (w.agents cpu).sent_items)) told new) s
@@ -267,11 +264,7 @@ module _ (laws : KernelLaws) (limits : Limits) (w : PlainWorld) (h : IsGood limi
 
   ran_out_goes : (e : Event) (new : PlainWorld) → RanOut w e new → Goes w new
   ran_out_goes (event.Env c) new s = still new s.1
-  ran_out_goes (event.Associate t queue n) new s = still new s.1
-  ran_out_goes (event.Commit cpu t n) new s = still new s.1
-  ran_out_goes (event.Sleep cpu n) new s = still new s.1
-  ran_out_goes (event.Rouse cpu) new s = still new s.1
-  ran_out_goes (event.Config queue target) new s = still new s.1
+  ran_out_goes (event.Agent c) new s = still new s.1
   ran_out_goes (event.Publish cpu fails) new s = publish_ran_out_goes cpu fails new s.1
   ran_out_goes (event.Consume cpu) new s = absurd s
   ran_out_goes (event.Deliver cpu k) new s = widened_goes cpu s.1 new (at_index k s.1 s.2) s.3
@@ -282,11 +275,7 @@ module _ (laws : KernelLaws) (limits : Limits) (w : PlainWorld) (h : IsGood limi
 
   late_goes : (e : Event) (new : PlainWorld) → IsAnsweredLate w e new → Goes w new
   late_goes (event.Env c) new s = absurd s
-  late_goes (event.Associate t queue n) new s = absurd s
-  late_goes (event.Commit cpu t n) new s = absurd s
-  late_goes (event.Sleep cpu n) new s = absurd s
-  late_goes (event.Rouse cpu) new s = absurd s
-  late_goes (event.Config queue target) new s = absurd s
+  late_goes (event.Agent c) new s = absurd s
   late_goes (event.Publish cpu fails) new s = absurd s
   late_goes (event.Consume cpu) new s = absurd s
   late_goes (event.Deliver cpu k) new s = absurd s

@@ -1,5 +1,6 @@
 -- A world that events lead to is still one after a further event.
 use Rattle.std.proofs.Common.{◌≡◌, List, [], ◌∷◌, ◌++◌, Some, None, Result, Ok, Err, refl, sym, ◌∙◌, ap, subst, inl, inr}
+use Rattle.pc_calls.specs.declared.call.AgentCall.TheVariants as agent_call
 use Rattle.pc_calls.specs.declared.call.Call.{Call}
 use Rattle.pc_calls.specs.declared.call.Call.TheVariants as call
 use Rattle.pc_calls.specs.declared.call.EnvCall.{EnvCall}
@@ -36,12 +37,12 @@ env_limits P (env.Tick cpu) = refl
 changed_limits : (P : PlainKernel) (made : Call) → (changed P made).limits ≡ P.limits
 changed_limits P (call.Env made) = env_limits P made
 changed_limits P (call.Consume cpu count) = refl
-changed_limits P (call.Associate t queue n) = refl
-changed_limits P (call.Commit cpu t n) = refl
-changed_limits P (call.Sleep cpu n) = refl
-changed_limits P (call.Rouse cpu) = refl
-changed_limits P (call.Config queue None) = refl
-changed_limits P (call.Config queue (Some cpu)) = refl
+changed_limits P (call.Agent (agent_call.Associate t queue n)) = refl
+changed_limits P (call.Agent (agent_call.Commit cpu t n)) = refl
+changed_limits P (call.Agent (agent_call.Sleep cpu n)) = refl
+changed_limits P (call.Agent (agent_call.Rouse cpu)) = refl
+changed_limits P (call.Agent (agent_call.Config queue None)) = refl
+changed_limits P (call.Agent (agent_call.Config queue (Some cpu))) = refl
 
 after_limits : (P : PlainKernel) (made : Call) → (after P made).limits ≡ P.limits
 after_limits P made = elim (refused (shown P) made) as (λ o. (after_of o (changed P made) P).limits ≡ P.limits) [ None ↦ changed_limits P made | Some why ↦ refl ]

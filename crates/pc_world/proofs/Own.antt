@@ -3,6 +3,7 @@ use Rattle.std.proofs.Common.{◌≡◌, ℕ, Bool, true, false, List, [], ◌�
 use Rattle.std.proofs.lemmas.Bool.Decides.{eqb_tells}
 use Rattle.pc_messages.specs.Items.{pairs_in}
 use Rattle.pc_messages.specs.Run.{Run, Extends}
+use Rattle.pc_calls.specs.AgentCalls.{commits, rouses}
 use Rattle.pc_calls.specs.declared.call.Answer.TheVariants.{Done}
 use Rattle.pc_calls.specs.declared.call.Call.TheVariants as call
 use Rattle.pc_calls.specs.declared.event.Event.TheVariants as event
@@ -196,11 +197,11 @@ module _ (goes : RunsGoOn) (old new : Parts) (c place : ℕ) (agent more : Agent
       let p = w.agents c in
       let P = w.kernel in
       let said = subst (λ m. IsPicked n P (kinds P) p (Ok t) m more new.kernel) is_own (of_world _ says w h) in
-      let w' : PlainWorld = record (with_agent w c (record p { list = said.1.rest })) { kernel = after P (call.Commit c t n) } in (
+      let w' : PlainWorld = record (with_agent w c (record p { list = said.1.rest })) { kernel = after P (commits c t n) } in (
         w',
         on_cpu w (replies.Committed c t) w' _ h
             (subst (λ o. steps.IsPicked w c n o (replies.Committed c t) w') (sym said.0) (subst (λ l. steps.IsCommitted w c n l (replies.Committed c t) w') (sym said.1.first) (refl, refl))),
-        after_call w (after P (call.Commit c t n)) (record p { list = said.1.rest }) h said.1.after (goes.calls P (call.Commit c t n)) said.1.agent sent,
+        after_call w (after P (commits c t n)) (record p { list = said.1.rest }) h said.1.after (goes.calls P (commits c t n)) said.1.agent sent,
         kept_same old new sent,
       )
 
@@ -288,14 +289,14 @@ module _ (goes : RunsGoOn) (old new : Parts) (c place : ℕ) (agent more : Agent
       by_test false e said =
           (w, (plain_cpu old.kernel w.kernel c true h.kernel where_is.there, e, said.0, said.1, refl), after_none w h kernel same_agent sent, kept_same old new sent)
 
-  pub crash_done : Steps done (call.Rouse c) (Ok tt) old.kernel new.kernel → ((run : Run) → ShowsAgent run fresh more) → deltas_of new ≡ deltas_of old → Handles (event.Crash c) (Ok replies.Done) old new
+  pub crash_done : Steps done (rouses c) (Ok tt) old.kernel new.kernel → ((run : Run) → ShowsAgent run fresh more) → deltas_of new ≡ deltas_of old → Handles (event.Crash c) (Ok replies.Done) old new
   crash_done roused starts sent w h =
       let P = w.kernel in
-      let did = was_done P (refused (shown P) (call.Rouse c)) old.kernel new.kernel (changed P (call.Rouse c)) P (roused P h.kernel) in
-      let w' : PlainWorld = record (with_agent w c fresh) { kernel = after P (call.Rouse c) } in (
+      let did = was_done P (refused (shown P) (rouses c)) old.kernel new.kernel (changed P (rouses c)) P (roused P h.kernel) in
+      let w' : PlainWorld = record (with_agent w c fresh) { kernel = after P (rouses c) } in (
         w',
         on_cpu w replies.Done w' _ h (refl, refl),
-        after_call w (after P (call.Rouse c)) fresh h did.1 (goes.calls P (call.Rouse c)) (starts (kinds P)) sent,
+        after_call w (after P (rouses c)) fresh h did.1 (goes.calls P (rouses c)) (starts (kinds P)) sent,
         kept_same old new sent,
       )
 

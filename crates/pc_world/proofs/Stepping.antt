@@ -5,6 +5,7 @@ use Rattle.std.proofs.lemmas.Bool.Decides.{nat_tests}
 use Rattle.std.proofs.lemmas.List.Elements.{All-cons, All-nil}
 use Rattle.pc_messages.specs.Run.{Run, kind_at}
 use Rattle.pc_messages.specs.declared.kind.Kind.{Kind}
+use Rattle.pc_calls.specs.AgentCalls.{commits, rouses}
 use Rattle.pc_calls.specs.Conditions.{first_of}
 use Rattle.pc_calls.specs.Events.{told_of}
 use Rattle.pc_calls.specs.declared.call.Answer.{Answer}
@@ -169,7 +170,7 @@ module _ (laws : KernelLaws) (limits : Limits) (w : PlainWorld) (h : IsGood limi
   commit_step : (c n : ℕ) (names : List ℕ) → is_empty_list names ≡ false → Can (IsCommitted w c n names)
   commit_step c n [] some = cc
   commit_step c n (t ∷ rest) some =
-      (replies.Committed c t, record (with_agent w c (record (w.agents c) { list = rest })) { kernel = after w.kernel (call.Commit c t n) }, (refl, refl))
+      (replies.Committed c t, record (with_agent w c (record (w.agents c) { list = rest })) { kernel = after w.kernel (commits c t n) }, (refl, refl))
 
   pick_step : (c n : ℕ) (o : Option Refusal) → pick_refused (shown w.kernel) c n (w.agents c).list ≡ o → Can (IsPicked w c n o)
   pick_step c n None e =
@@ -202,8 +203,8 @@ module _ (laws : KernelLaws) (limits : Limits) (w : PlainWorld) (h : IsGood limi
       let tried = try_step c least.0 in
       (tried.0, tried.1, (least.0, least.1, tried.2))
 
-  crash_step : (c : ℕ) → Can (λ told new. (told ≡ replies.Done) × (new ≡ record (with_agent w c fresh) { kernel = after w.kernel (call.Rouse c) }))
-  crash_step c = (replies.Done, record (with_agent w c fresh) { kernel = after w.kernel (call.Rouse c) }, (refl, refl))
+  crash_step : (c : ℕ) → Can (λ told new. (told ≡ replies.Done) × (new ≡ record (with_agent w c fresh) { kernel = after w.kernel (rouses c) }))
+  crash_step c = (replies.Done, record (with_agent w c fresh) { kernel = after w.kernel (rouses c) }, (refl, refl))
 
   abbrev called : Call → Reply
   called made = told_of made (kernel.reply w.kernel made)
@@ -213,11 +214,7 @@ module _ (laws : KernelLaws) (limits : Limits) (w : PlainWorld) (h : IsGood limi
 
   pub has_step : (e : Event) → Can (Step w e)
   has_step (event.Env c) = (called (call.Env c), made_by (call.Env c), record { tells = refl; after = refl })
-  has_step (event.Associate t queue n) = (called (call.Associate t queue n), made_by (call.Associate t queue n), record { tells = refl; after = refl })
-  has_step (event.Commit cpu t n) = (called (call.Commit cpu t n), made_by (call.Commit cpu t n), record { tells = refl; after = refl })
-  has_step (event.Sleep cpu n) = (called (call.Sleep cpu n), made_by (call.Sleep cpu n), record { tells = refl; after = refl })
-  has_step (event.Rouse cpu) = (called (call.Rouse cpu), made_by (call.Rouse cpu), record { tells = refl; after = refl })
-  has_step (event.Config queue target) = (called (call.Config queue target), made_by (call.Config queue target), record { tells = refl; after = refl })
+  has_step (event.Agent c) = (called (call.Agent c), made_by (call.Agent c), record { tells = refl; after = refl })
   has_step (event.Publish cpu fails) = on_cpu (is_cpu (shown w.kernel) cpu) (IsPublished w cpu fails) (publish_step cpu fails)
   has_step (event.Consume cpu) =
       let r = kernel.reply w.kernel (call.Consume cpu (w.agents cpu).sent_items) in on_cpu (is_cpu (shown w.kernel) cpu) (IsConsumed w cpu r) (consume_step cpu r)
@@ -228,4 +225,4 @@ module _ (laws : KernelLaws) (limits : Limits) (w : PlainWorld) (h : IsGood limi
   has_step (event.Steal cpu) =
       let busy = is_some (on (shown w.kernel) cpu) in on_cpu (is_cpu (shown w.kernel) cpu) (IsStolen w cpu busy) (steal_step cpu busy)
   has_step (event.Crash cpu) =
-      on_cpu (is_cpu (shown w.kernel) cpu) (λ told new. (told ≡ replies.Done) × (new ≡ record (with_agent w cpu fresh) { kernel = after w.kernel (call.Rouse cpu) })) (crash_step cpu)
+      on_cpu (is_cpu (shown w.kernel) cpu) (λ told new. (told ≡ replies.Done) × (new ≡ record (with_agent w cpu fresh) { kernel = after w.kernel (rouses cpu) })) (crash_step cpu)

@@ -3,9 +3,10 @@ use Rattle.std.specs.Prelude.{ℕ, ◌≤◌, ◌≡◌, ◌⊎◌, ◌↔◌, t
 use Rattle.pc_messages.specs.Items.{pairs_in}
 use Rattle.pc_messages.specs.Run.{Run, IsBegun}
 use Rattle.pc_messages.specs.State.{state_of}
+use Rattle.pc_calls.specs.declared.call.AgentCall.TheVariants.{Commit}
 use Rattle.pc_calls.specs.declared.call.Call.{Call}
 use Rattle.pc_calls.specs.declared.event.Event.{Event}
-use Rattle.pc_calls.specs.declared.event.Event.TheVariants.{Commit, Consume, Pick, Steal}
+use Rattle.pc_calls.specs.declared.event.Event.TheVariants.{Agent, Consume, Pick, Steal}
 use Rattle.pc_calls.specs.declared.event.Reply.{Reply}
 use Rattle.pc_calls.specs.declared.event.Reply.TheVariants.{Associated, Committed, Consumed}
 use Rattle.pc_calls.specs.declared.limits.Limits.{Limits}
@@ -127,7 +128,7 @@ StealsAreExact =
 -- a commit that succeeds is exact, whatever world it is done in
 abbrev pub CommitsAreExact : Type 0
 CommitsAreExact =
-    (w new : PlainWorld) (c t n : ℕ) → Step w (Commit c t n) (Committed c t) new → IsExactCommit w.kernel c t n
+    (w new : PlainWorld) (c t n : ℕ) → Step w (Agent (Commit c t n)) (Committed c t) new → IsExactCommit w.kernel c t n
 
 -- a pick that succeeds is an exact commit
 abbrev pub PicksAreExact : Type 0

@@ -2,6 +2,7 @@
 use Rattle.std.specs.Prelude.{ℕ, ◌≡◌, ◌&&◌, Bool, true, false, List, [], ◌∷◌, ◌++◌, length, Option, Some, None, Result}
 use Rattle.std.specs.Prelude.{Ok, Err, All, MatchBool, MatchOption, slice_get, is_some}
 use Rattle.pc_messages.specs.Run.{Run}
+use Rattle.pc_calls.specs.AgentCalls.{commits, rouses}
 use Rattle.pc_calls.specs.declared.call.Answer.{Answer}
 use Rattle.pc_calls.specs.declared.call.Call.{Call}
 use Rattle.pc_calls.specs.declared.call.Call.TheVariants as call
@@ -110,7 +111,7 @@ IsCommitted w c n [] told new = ⊥
 IsCommitted w c n (t ∷ rest) told new =
     (told ≡ reply.Committed c t)
     × (new ≡ record (with_agent w c (record (w.agents c) { list = rest }))
-    { kernel = kernel.after w.kernel (call.Commit c t n) })
+    { kernel = kernel.after w.kernel (commits c t n) })
 
 -- a pick, refused or not; where no name could be committed, the run list is empty
 abbrev pub IsPicked : PlainWorld → ℕ → ℕ → Option Refusal → Reply → PlainWorld → Type 0
@@ -155,7 +156,7 @@ IsStealing c w told new = OnCpu w c told new (IsStolen w c (is_some (on (shown w
 abbrev pub IsCrashing : ℕ → PlainWorld → Reply → PlainWorld → Type 0
 IsCrashing c w told new =
     OnCpu w c told new
-    ((told ≡ reply.Done) × (new ≡ record (with_agent w c fresh) { kernel = kernel.after w.kernel (call.Rouse c) }))
+    ((told ≡ reply.Done) × (new ≡ record (with_agent w c fresh) { kernel = kernel.after w.kernel (rouses c) }))
 
 -- an event that is no call of the kernel
 abbrev pub IsOwnStep : PlainWorld → Event → Reply → PlainWorld → Type 0

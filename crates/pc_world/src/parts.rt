@@ -1,13 +1,12 @@
 //! What a world keeps, and what each event does to it.
 
 ghost use Rattle.std.specs.Prelude.{◌≡◌, false, MatchOption, Some, length, slice_get, option_copied};
-ghost use Rattle.pc_calls.specs.Events.{call_of};
 ghost use Rattle.pc_kernel.specs.Reads.{seen, is_cpu};
 ghost use Rattle.pc_world.specs.Inner.Agents.{AreOwn};
 ghost use Rattle.pc_world.specs.Inner.Laws.{RunsGoOn};
 
 use pc_agent::{Agent, KeptWire, SendFault, agents_stay_as_the_run_goes_on};
-use pc_calls::{Call, CallFault, EnvCall, Event, Refusal, Reply};
+use pc_calls::{AgentCall, Call, CallFault, EnvCall, Event, Refusal, Reply};
 use pc_delta::Delta;
 use pc_delta::laws::{parts_stay_as_the_run_goes_on, sets_are_pairs};
 use pc_join::OutOfMemory;
@@ -69,14 +68,7 @@ impl Parts {
             Event::Steal { cpu } => self.steal(cpu),
             Event::Crash { cpu } => self.crash(cpu),
             Event::Env(call) => self.post(call),
-            Event::Associate { .. }
-            | Event::Commit { .. }
-            | Event::Sleep { .. }
-            | Event::Rouse { .. }
-            | Event::Config { .. } => match event.call() {
-                Some(call) => self.call(event, call),
-                None => unreachable!(),
-            },
+            Event::Agent(call) => self.call(call),
         }
     }
 
@@ -103,12 +95,12 @@ impl Parts {
         }
     }
 
-    /// An event that is this call of the kernel.
-    fn call(&mut self, event: Event, call: Call) -> Result<Reply, OutOfMemory>
-        requires { call_of event ≡ Some call }
-        ensures { Handles event result self.old self.new }
+    /// An agent makes this call.
+    fn call(&mut self, call: AgentCall) -> Result<Reply, OutOfMemory>
+        ensures { Handles (Event.Agent call) result self.old self.new }
     {
         runs_go_on();
+        let call = Call::Agent(call);
         match self.kernel.apply(call) {
             Ok(answer) => Ok(call.reply(answer)),
             Err(CallFault::Refused(refusal)) => Ok(Reply::Refused(refusal)),

@@ -1,18 +1,24 @@
-use Rattle.std.proofs.Common.{◌≡◌, None, Err, refl, sym, subst, ap, ◌∙◌}
+use Rattle.std.proofs.Common.{Err, refl, subst, ap, ◌∙◌}
+use Rattle.pc_calls.specs.declared.call.Call.TheVariants.{Agent}
+use Rattle.pc_calls.specs.declared.event.Event.TheVariants as events
 use Rattle.pc_kernel.specs.Answers.{StepsInMemory, itself}
-use Rattle.pc_kernel.specs.Reads.{shown}
-use Rattle.pc_kernel.specs.Steps.{refused}
-use Rattle.pc_world.specs.RanOut.{RanOutInCall}
-use Rattle.pc_world.proofs.Calls.{call_done, call_ran_out}
+use Rattle.pc_world.proofs.Calls.{call_done, call_ran_out, call_refused}
 use Rattle.pc_world.proofs.parts.Parts.call.Goals as goal
 
 pub returns-in-Ok : goal.returns-in-Ok
 returns-in-Ok c =
-    call_done c.runs_go_on.ensures c.args.self.now _ c.args.event c.args.call c.requires refl refl c.in-Ok.answer c.reply.result c.reply.ensures c.in-Ok.ensures.answered.step
+    call_done c.runs_go_on.ensures c.args.self.now _ (events.Agent c.args.call) (Agent c.args.call) refl refl refl c.in-Ok.answer c.reply.result c.reply.ensures c.in-Ok.ensures.answered.step
 
+pub returns-in-Err-Refused : goal.returns-in-Err-Refused
+returns-in-Err-Refused c =
+    rw c.in-Err-Refused.refusal-is (call_refused c.runs_go_on.ensures c.args.self.now _ (events.Agent c.args.call) (Agent c.args.call) refl refl refl c.in-Err-Refused.refusal
+    (subst (λ r. StepsInMemory itself (Agent c.args.call) r c.args.self.now.kernel c.apply.new.self) (c.in-Err-Refused.is ∙ ap Err c.in-Err-Refused.field-0-is) c.apply.ensures.answered.step))
+
+-- no call of an agent takes memory
 pub returns-in-Err-OutOfMemory : goal.returns-in-Err-OutOfMemory
 returns-in-Err-OutOfMemory c =
-    let env = c.apply.ensures.environment (c.in-Err-OutOfMemory.is ∙ ap Err c.in-Err-OutOfMemory.field-0-is) in
-    call_ran_out c.runs_go_on.ensures c.args.self.now _ c.args.event c.args.call c.requires refl refl _
-    (λ w none. subst (RanOutInCall w) (sym env.1) (subst (λ d. refused (shown w.kernel) d ≡ None) env.1 none))
-    (subst (λ r. StepsInMemory itself c.args.call r c.args.self.now.kernel c.apply.new.self) (c.in-Err-OutOfMemory.is ∙ ap Err c.in-Err-OutOfMemory.field-0-is) c.apply.ensures.answered.step)
+    let fault = c.in-Err-OutOfMemory.is ∙ ap Err c.in-Err-OutOfMemory.field-0-is in
+    let env = c.apply.ensures.environment fault in
+    call_ran_out c.runs_go_on.ensures c.args.self.now _ (events.Agent c.args.call) (Agent c.args.call) refl refl refl _
+    (λ w none. cc env.1)
+    (subst (λ r. StepsInMemory itself (Agent c.args.call) r c.args.self.now.kernel c.apply.new.self) fault c.apply.ensures.answered.step)
