@@ -4,6 +4,7 @@ use Rattle.std.specs.Option.{IfSome}
 use Rattle.std.specs.Str.{bytes_eq}
 use Rattle.std.proofs.lemmas.Bool.{true≢false}
 use Rattle.std.proofs.lemmas.Fmt.{decimal_injective, decimal_digit, first_decimal}
+use Rattle.pc_calls.specs.declared.call.AgentCall.TheVariants as agent_call
 use Rattle.pc_calls.specs.declared.call.EnvCall.TheVariants as env
 use Rattle.pc_calls.specs.declared.event.Event.TheVariants as event
 use Rattle.pc_script.specs.Grammar.{Field, Processors, Processor, Queue, Level, Count, Mask, Index, Thread, State, Target, Failure, field_words, state_word, target_word, thread_name, IsInRange, words_of, AreInRange, row_of, Spells}
@@ -173,11 +174,11 @@ verb_for (command.Event (event.Env (env.Die a b))) = record { word = verb.Die; n
 verb_for (command.Event (event.Env (env.SetAffinity a b))) = record { word = verb.Affinity; named = refl; kinded = refl; same = refl }
 verb_for (command.Event (event.Env (env.SetPriority a b))) = record { word = verb.Priority; named = refl; kinded = refl; same = refl }
 verb_for (command.Event (event.Env (env.Tick a))) = record { word = verb.Tick; named = refl; kinded = refl; same = refl }
-verb_for (command.Event (event.Associate a b c)) = record { word = verb.Associate; named = refl; kinded = refl; same = refl }
-verb_for (command.Event (event.Commit a b c)) = record { word = verb.Commit; named = refl; kinded = refl; same = refl }
-verb_for (command.Event (event.Sleep a b)) = record { word = verb.Sleep; named = refl; kinded = refl; same = refl }
-verb_for (command.Event (event.Rouse a)) = record { word = verb.Rouse; named = refl; kinded = refl; same = refl }
-verb_for (command.Event (event.Config a b)) = record { word = verb.Config; named = refl; kinded = refl; same = refl }
+verb_for (command.Event (event.Agent (agent_call.Associate a b c))) = record { word = verb.Associate; named = refl; kinded = refl; same = refl }
+verb_for (command.Event (event.Agent (agent_call.Commit a b c))) = record { word = verb.Commit; named = refl; kinded = refl; same = refl }
+verb_for (command.Event (event.Agent (agent_call.Sleep a b))) = record { word = verb.Sleep; named = refl; kinded = refl; same = refl }
+verb_for (command.Event (event.Agent (agent_call.Rouse a))) = record { word = verb.Rouse; named = refl; kinded = refl; same = refl }
+verb_for (command.Event (event.Agent (agent_call.Config a b))) = record { word = verb.Config; named = refl; kinded = refl; same = refl }
 verb_for (command.Event (event.Publish a b)) = record { word = verb.Publish; named = refl; kinded = refl; same = refl }
 verb_for (command.Event (event.Consume a)) = record { word = verb.Consume; named = refl; kinded = refl; same = refl }
 verb_for (command.Event (event.Deliver a b)) = record { word = verb.Deliver; named = refl; kinded = refl; same = refl }

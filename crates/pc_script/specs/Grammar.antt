@@ -1,6 +1,8 @@
 -- The words of commands. A line of a script asks for a command where its words are the command's.
 use Rattle.std.specs.Prelude.{◌≡◌, ℕ, ◌^◌, ◌<◌, ◌⊎◌, Bool, true, false, List, [], ◌∷◌, ◌++◌, slice_get, codes, decimal}
 use Rattle.std.specs.Prelude.{Option, Some, None, IfSome}
+use Rattle.pc_calls.specs.declared.call.AgentCall.{AgentCall}
+use Rattle.pc_calls.specs.declared.call.AgentCall.TheVariants as agent_call
 use Rattle.pc_calls.specs.declared.call.EnvCall.{EnvCall}
 use Rattle.pc_calls.specs.declared.call.EnvCall.TheVariants as env
 use Rattle.pc_calls.specs.declared.event.Event.{Event}
@@ -111,15 +113,19 @@ call_row (env.SetAffinity thread mask) = row (codes "affinity") (Thread thread �
 call_row (env.SetPriority thread level) = row (codes "priority") (Thread thread ∷ Level level ∷ [])
 call_row (env.Tick cpu) = row (codes "tick") (Processor cpu ∷ [])
 
+-- calls of agents
+abbrev pub agent_row : AgentCall → Row
+agent_row (agent_call.Associate thread queue number) =
+    row (codes "associate") (Thread thread ∷ Queue queue ∷ Count number ∷ [])
+agent_row (agent_call.Commit cpu thread aseq) = row (codes "commit") (Processor cpu ∷ Thread thread ∷ Count aseq ∷ [])
+agent_row (agent_call.Sleep cpu aseq) = row (codes "sleep") (Processor cpu ∷ Count aseq ∷ [])
+agent_row (agent_call.Rouse cpu) = row (codes "rouse") (Processor cpu ∷ [])
+agent_row (agent_call.Config queue target) = row (codes "config") (Queue queue ∷ Target target ∷ [])
+
 -- events
 abbrev pub event_row : Event → Row
 event_row (event.Env call) = call_row call
-event_row (event.Associate thread queue number) =
-    row (codes "associate") (Thread thread ∷ Queue queue ∷ Count number ∷ [])
-event_row (event.Commit cpu thread aseq) = row (codes "commit") (Processor cpu ∷ Thread thread ∷ Count aseq ∷ [])
-event_row (event.Sleep cpu aseq) = row (codes "sleep") (Processor cpu ∷ Count aseq ∷ [])
-event_row (event.Rouse cpu) = row (codes "rouse") (Processor cpu ∷ [])
-event_row (event.Config queue target) = row (codes "config") (Queue queue ∷ Target target ∷ [])
+event_row (event.Agent call) = agent_row call
 event_row (event.Publish cpu fails) = row (codes "publish") (Processor cpu ∷ Failure fails ∷ [])
 event_row (event.Consume cpu) = row (codes "consume") (Processor cpu ∷ [])
 event_row (event.Deliver cpu delta) = row (codes "deliver") (Processor cpu ∷ Index delta ∷ [])

@@ -14,7 +14,7 @@ use crate::fields::{
 };
 use crate::trouble::{Trouble, failure_trouble, one_too_many, trouble_with};
 use crate::words::Words;
-use pc_calls::{EnvCall, Event, Limits};
+use pc_calls::{AgentCall, EnvCall, Event, Limits};
 
 /// The first word of a command.
 #[derive(Clone, Copy, Debug, PartialEq, Eq)]
@@ -110,11 +110,12 @@ macro_rules! table {
                 Command::Event(Event::Env(EnvCall::SetPriority { thread, level })),
             Tick(Processor(cpu)) => Command::Event(Event::Env(EnvCall::Tick { cpu })),
             Associate(Thread(thread), Queue(queue), Count(number)) =>
-                Command::Event(Event::Associate { thread, queue, number }),
-            Commit(Processor(cpu), Thread(thread), Count(aseq)) => Command::Event(Event::Commit { cpu, thread, aseq }),
-            Sleep(Processor(cpu), Count(aseq)) => Command::Event(Event::Sleep { cpu, aseq }),
-            Rouse(Processor(cpu)) => Command::Event(Event::Rouse { cpu }),
-            Config(Queue(queue), Target(target)) => Command::Event(Event::Config { queue, target }),
+                Command::Event(Event::Agent(AgentCall::Associate { thread, queue, number })),
+            Commit(Processor(cpu), Thread(thread), Count(aseq)) =>
+                Command::Event(Event::Agent(AgentCall::Commit { cpu, thread, aseq })),
+            Sleep(Processor(cpu), Count(aseq)) => Command::Event(Event::Agent(AgentCall::Sleep { cpu, aseq })),
+            Rouse(Processor(cpu)) => Command::Event(Event::Agent(AgentCall::Rouse { cpu })),
+            Config(Queue(queue), Target(target)) => Command::Event(Event::Agent(AgentCall::Config { queue, target })),
             Publish(Processor(cpu), Failure(fails)) => Command::Event(Event::Publish { cpu, fails }),
             Consume(Processor(cpu)) => Command::Event(Event::Consume { cpu }),
             Deliver(Processor(cpu), Index(delta)) => Command::Event(Event::Deliver { cpu, delta }),

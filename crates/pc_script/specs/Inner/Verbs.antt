@@ -1,5 +1,6 @@
 -- The first words of commands, and the fields after each.
 use Rattle.std.specs.Prelude.{ℕ, Bool, false, List, [], ◌∷◌, Option, None, zero, suc}
+use Rattle.pc_calls.specs.declared.call.AgentCall.TheVariants as agent_call
 use Rattle.pc_calls.specs.declared.call.EnvCall.TheVariants as env
 use Rattle.pc_calls.specs.declared.event.Event.TheVariants as event
 use Rattle.pc_script.specs.Grammar.{Field, Processors, Processor, Queue, Level, Count, Mask, Index, Thread, State}
@@ -64,11 +65,12 @@ back verb.Die f = command.Event (event.Env (env.Die (number_at 0 f) (number_at 1
 back verb.Affinity f = command.Event (event.Env (env.SetAffinity (number_at 0 f) (number_at 1 f)))
 back verb.Priority f = command.Event (event.Env (env.SetPriority (number_at 0 f) (number_at 1 f)))
 back verb.Tick f = command.Event (event.Env (env.Tick (number_at 0 f)))
-back verb.Associate f = command.Event (event.Associate (number_at 0 f) (number_at 1 f) (number_at 2 f))
-back verb.Commit f = command.Event (event.Commit (number_at 0 f) (number_at 1 f) (number_at 2 f))
-back verb.Sleep f = command.Event (event.Sleep (number_at 0 f) (number_at 1 f))
-back verb.Rouse f = command.Event (event.Rouse (number_at 0 f))
-back verb.Config f = command.Event (event.Config (number_at 0 f) (target_in (field_at 1 f)))
+back verb.Associate f =
+    command.Event (event.Agent (agent_call.Associate (number_at 0 f) (number_at 1 f) (number_at 2 f)))
+back verb.Commit f = command.Event (event.Agent (agent_call.Commit (number_at 0 f) (number_at 1 f) (number_at 2 f)))
+back verb.Sleep f = command.Event (event.Agent (agent_call.Sleep (number_at 0 f) (number_at 1 f)))
+back verb.Rouse f = command.Event (event.Agent (agent_call.Rouse (number_at 0 f)))
+back verb.Config f = command.Event (event.Agent (agent_call.Config (number_at 0 f) (target_in (field_at 1 f))))
 back verb.Publish f = command.Event (event.Publish (number_at 0 f) (failure_in (field_at 1 f)))
 back verb.Consume f = command.Event (event.Consume (number_at 0 f))
 back verb.Deliver f = command.Event (event.Deliver (number_at 0 f) (number_at 1 f))
