@@ -4,7 +4,8 @@ use Rattle.std.proofs.lemmas.Bool.{ltb-true, lt-ltb}
 use Rattle.std.proofs.lemmas.List.Sums.{sum_by-cons}
 use Rattle.std.proofs.lemmas.Bool.Decides.{eqb_tells, nat_tests}
 use Rattle.pc_calls.specs.declared.call.Call.{Call}
-use Rattle.pc_calls.specs.declared.call.Call.TheVariants.{Env, Consume, Associate, Commit, Sleep, Rouse, Config}
+use Rattle.pc_calls.specs.declared.call.AgentCall.TheVariants.{Associate, Commit, Sleep, Rouse, Config}
+use Rattle.pc_calls.specs.declared.call.Call.TheVariants.{Env, Agent, Consume}
 use Rattle.pc_calls.specs.declared.call.EnvCall.{EnvCall}
 use Rattle.pc_calls.specs.declared.call.EnvCall.TheVariants.{Create, Wake, Block, YieldNow, Preempt, Die, SetAffinity, SetPriority, Tick}
 use Rattle.pc_calls.specs.declared.call.Answer.{Answer}
@@ -86,12 +87,12 @@ limits_changed P (Env (SetAffinity t mask)) = refl
 limits_changed P (Env (SetPriority t level)) = refl
 limits_changed P (Env (Tick cpu)) = refl
 limits_changed P (Consume cpu count) = refl
-limits_changed P (Associate t queue number) = refl
-limits_changed P (Commit cpu t aseq) = refl
-limits_changed P (Sleep cpu aseq) = refl
-limits_changed P (Rouse cpu) = refl
-limits_changed P (Config queue None) = refl
-limits_changed P (Config queue (Some cpu)) = refl
+limits_changed P (Agent (Associate t queue number)) = refl
+limits_changed P (Agent (Commit cpu t aseq)) = refl
+limits_changed P (Agent (Sleep cpu aseq)) = refl
+limits_changed P (Agent (Rouse cpu)) = refl
+limits_changed P (Agent (Config queue None)) = refl
+limits_changed P (Agent (Config queue (Some cpu))) = refl
 
 eaten_env : (P : PlainKernel) (call : EnvCall) → (changed P (Env call)).eaten ≡ P.eaten
 eaten_env P (Create queue ready mask) = refl
@@ -120,12 +121,12 @@ eaten_call P (Consume cpu count) n =
       | inr h ↦ search (h.0, h.1, arith, nat_tests)
     ])
     (ltb-true cpu P.limits.cpus (not_false (reads.is_cpu (shown P) cpu) n.0))
-eaten_call P (Associate t queue number) n = omega arith
-eaten_call P (Commit cpu t aseq) n = omega arith
-eaten_call P (Sleep cpu aseq) n = omega arith
-eaten_call P (Rouse cpu) n = omega arith
-eaten_call P (Config queue None) n = omega arith
-eaten_call P (Config queue (Some cpu)) n = omega arith
+eaten_call P (Agent (Associate t queue number)) n = omega arith
+eaten_call P (Agent (Commit cpu t aseq)) n = omega arith
+eaten_call P (Agent (Sleep cpu aseq)) n = omega arith
+eaten_call P (Agent (Rouse cpu)) n = omega arith
+eaten_call P (Agent (Config queue None)) n = omega arith
+eaten_call P (Agent (Config queue (Some cpu))) n = omega arith
 
 -- all that was eaten is what the listed calls consumed
 eaten_all : (P : PlainKernel) (listed : List (Call × Answer)) → AreAccepted P listed
@@ -184,20 +185,20 @@ one_each by few (entry ∷ listed) =
 one_committed : (call : Call) → committed_by call ≤ 1
 one_committed (Env call) = omega arith
 one_committed (Consume cpu count) = omega arith
-one_committed (Associate t queue number) = omega arith
-one_committed (Commit cpu t aseq) = omega arith
-one_committed (Sleep cpu aseq) = omega arith
-one_committed (Rouse cpu) = omega arith
-one_committed (Config queue target) = omega arith
+one_committed (Agent (Associate t queue number)) = omega arith
+one_committed (Agent (Commit cpu t aseq)) = omega arith
+one_committed (Agent (Sleep cpu aseq)) = omega arith
+one_committed (Agent (Rouse cpu)) = omega arith
+one_committed (Agent (Config queue target)) = omega arith
 
 one_taken_over : (call : Call) → taken_over_by call ≤ 1
 one_taken_over (Env call) = omega arith
 one_taken_over (Consume cpu count) = omega arith
-one_taken_over (Associate t queue number) = omega arith
-one_taken_over (Commit cpu t aseq) = omega arith
-one_taken_over (Sleep cpu aseq) = omega arith
-one_taken_over (Rouse cpu) = omega arith
-one_taken_over (Config queue target) = omega arith
+one_taken_over (Agent (Associate t queue number)) = omega arith
+one_taken_over (Agent (Commit cpu t aseq)) = omega arith
+one_taken_over (Agent (Sleep cpu aseq)) = omega arith
+one_taken_over (Agent (Rouse cpu)) = omega arith
+one_taken_over (Agent (Config queue target)) = omega arith
 
 -- a list of less than 2^64 calls has less than 2^64 commits, and as few threads are taken over
 pub committed_few : (listed : List (Call × Answer)) → in_all committed_by listed ≤ length listed

@@ -6,7 +6,8 @@ use Rattle.pc_messages.specs.declared.kind.Kind.TheVariants as kind
 use Rattle.pc_messages.specs.State.{phase_of}
 use Rattle.pc_messages.specs.declared.reported.Phase.TheVariants.{Ready}
 use Rattle.pc_calls.specs.declared.call.Call.{Call}
-use Rattle.pc_calls.specs.declared.call.Call.TheVariants.{Env, Consume, Associate, Commit, Sleep, Rouse, Config}
+use Rattle.pc_calls.specs.declared.call.AgentCall.TheVariants.{Associate, Commit, Sleep, Rouse, Config}
+use Rattle.pc_calls.specs.declared.call.Call.TheVariants.{Env, Agent, Consume}
 use Rattle.pc_calls.specs.declared.call.EnvCall.{EnvCall}
 use Rattle.pc_calls.specs.declared.call.EnvCall.TheVariants.{Create, Wake, Block, YieldNow, Preempt, Die, SetAffinity, SetPriority, Tick}
 use Rattle.pc_calls.specs.declared.call.Answer.{Answer}
@@ -103,12 +104,12 @@ env_counted P (Tick cpu) h n = same_count (threads (changed P (Env (Tick cpu))))
 call_counted : (P : PlainKernel) (call : Call) → IsKept P → NoneHold (refusals (shown P) call) → threads (changed P call) ≡ threads P + created_by call
 call_counted P (Env call) h n = env_counted P call h n
 call_counted P (Consume cpu count) h n = omega arith
-call_counted P (Associate t queue number) h n = omega arith
-call_counted P (Commit cpu t aseq) h n = omega arith
-call_counted P (Sleep cpu aseq) h n = omega arith
-call_counted P (Rouse cpu) h n = omega arith
-call_counted P (Config queue None) h n = omega arith
-call_counted P (Config queue (Some cpu)) h n = omega arith
+call_counted P (Agent (Associate t queue number)) h n = omega arith
+call_counted P (Agent (Commit cpu t aseq)) h n = omega arith
+call_counted P (Agent (Sleep cpu aseq)) h n = omega arith
+call_counted P (Agent (Rouse cpu)) h n = omega arith
+call_counted P (Agent (Config queue None)) h n = omega arith
+call_counted P (Agent (Config queue (Some cpu))) h n = omega arith
 
 replay_last : (P : PlainKernel) (calls : List Call) (call : Call) → replay P (calls ++ call ∷ []) ≡ after (replay P calls) call
 replay_last P [] call = refl

@@ -1,7 +1,8 @@
 -- What the listed calls of a book add up to.
 use Rattle.std.specs.Prelude.{ℕ, List, sum_by}
+use Rattle.pc_calls.specs.declared.call.AgentCall.TheVariants.{Associate, Commit}
 use Rattle.pc_calls.specs.declared.call.Call.{Call}
-use Rattle.pc_calls.specs.declared.call.Call.TheVariants.{Env, Consume, Associate, Commit}
+use Rattle.pc_calls.specs.declared.call.Call.TheVariants.{Env, Agent, Consume}
 use Rattle.pc_calls.specs.declared.call.EnvCall.TheVariants.{Create, Block, YieldNow, Preempt, Die, Tick}
 use Rattle.pc_calls.specs.declared.call.Answer.{Answer}
 use Rattle.pc_calls.specs.declared.limits.Limits.{Limits}
@@ -28,12 +29,12 @@ ran_by call = 0
 
 -- how many threads it commits
 abbrev pub committed_by : Call → ℕ
-committed_by (Commit cpu thread aseq) = 1
+committed_by (Agent (Commit cpu thread aseq)) = 1
 committed_by call = 0
 
 -- how many threads it gives another queue
 abbrev pub taken_over_by : Call → ℕ
-taken_over_by (Associate thread queue number) = 1
+taken_over_by (Agent (Associate thread queue number)) = 1
 taken_over_by call = 0
 
 -- how many items it removes

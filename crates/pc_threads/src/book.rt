@@ -2,6 +2,7 @@
 
 ghost use Rattle.std.specs.Prelude.{ℕ, ◌≡◌, ◌<◌, ◌↔◌, ◌⊎◌, ◌∷◌, ◌++◌, [], Some, None, Err, IfOk, IfErr, IfSome, OnOk};
 ghost use Rattle.std.specs.Prelude.{OnErr, IsFalse, vec_len, vec_capacity};
+ghost use Rattle.pc_calls.specs.AgentCalls.{rouses, sleeps};
 ghost use Rattle.pc_calls.specs.Conditions.{refusal_in};
 ghost use Rattle.pc_calls.specs.Limits.{bad_field};
 ghost use Rattle.pc_calls.specs.declared.limits.Profile.TheVariants as profile;
@@ -11,7 +12,7 @@ mod agents;
 mod settling;
 
 use pc_calls::{
-    Answer, Call, CallFault, EnvCall, LimitField, Limits, LimitsFault, Posted, Refusal,
+    AgentCall, Answer, Call, CallFault, EnvCall, LimitField, Limits, LimitsFault, Posted, Refusal,
 };
 use pc_kernel::Kernel;
 use pc_kernel::laws::{messages_stay_home, sleepers_had_no_post, threads_are_placed};
@@ -137,15 +138,15 @@ impl Book {
 
     /// Puts the CPU's agent to sleep, where it has read all posts to its queue.
     pub fn sleep(&mut self, cpu: Cpu, aseq: u32) -> Result<(), CallFault>
-        ensures listed { OnOk result (Lists (Call.Sleep cpu aseq) Answer.Done self.old self.new) }
+        ensures listed { OnOk result (Lists (sleeps cpu aseq) Answer.Done self.old self.new) }
         ensures fault { IfSome (answered result)
-            (λ answer. refusal_in answer ≡ refused (seen self.old.kernel) (Call.Sleep cpu aseq)) }
+            (λ answer. refusal_in answer ≡ refused (seen self.old.kernel) (sleeps cpu aseq)) }
         ensures extends { OnOk result (Extends (run_of self.new) (run_of self.old)) }
         ensures limits { self.new.kernel.limits ≡ self.old.kernel.limits }
         ensures err { OnErr result (self.new ≡ self.old) }
     {
         self.is_replay();
-        match self.make(&Call::Sleep { cpu, aseq }) {
+        match self.make(&Call::Agent(AgentCall::Sleep { cpu, aseq })) {
             Ok(Answer::Done) => Ok(()),
             Ok(Answer::Posted(_)) => unreachable!(),
             Err(fault) => Err(fault),
@@ -154,15 +155,15 @@ impl Book {
 
     /// Wakes the CPU's agent.
     pub fn rouse(&mut self, cpu: Cpu) -> Result<(), CallFault>
-        ensures listed { OnOk result (Lists (Call.Rouse cpu) Answer.Done self.old self.new) }
+        ensures listed { OnOk result (Lists (rouses cpu) Answer.Done self.old self.new) }
         ensures fault { IfSome (answered result)
-            (λ answer. refusal_in answer ≡ refused (seen self.old.kernel) (Call.Rouse cpu)) }
+            (λ answer. refusal_in answer ≡ refused (seen self.old.kernel) (rouses cpu)) }
         ensures extends { OnOk result (Extends (run_of self.new) (run_of self.old)) }
         ensures limits { self.new.kernel.limits ≡ self.old.kernel.limits }
         ensures err { OnErr result (self.new ≡ self.old) }
     {
         self.is_replay();
-        match self.make(&Call::Rouse { cpu }) {
+        match self.make(&Call::Agent(AgentCall::Rouse { cpu })) {
             Ok(Answer::Done) => Ok(()),
             Ok(Answer::Posted(_)) => unreachable!(),
             Err(fault) => Err(fault),

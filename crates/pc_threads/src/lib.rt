@@ -11,7 +11,9 @@ mod runner;
 mod settings;
 
 pub use book::{Book, RunFault, settle};
-pub use pc_calls::{Answer, Call, CallFault, EnvCall, Limits, LimitsFault, Posted, Refusal};
+pub use pc_calls::{
+    AgentCall, Answer, Call, CallFault, EnvCall, Limits, LimitsFault, Posted, Refusal,
+};
 pub use report::{LoadReport, Row};
 pub use runner::{Driven, Gate, OpenGate, Point, run_agents};
 pub use settings::{

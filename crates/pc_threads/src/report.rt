@@ -8,7 +8,7 @@ mod row;
 mod weights;
 
 use crate::book::Book;
-use pc_calls::{Answer, Call};
+use pc_calls::{AgentCall, Answer, Call};
 use pc_view::View;
 pub use row::Row;
 pub(crate) use weights::weights_of;
@@ -58,7 +58,7 @@ fn count_one(call: &Call) -> Counted
                 ran: weights.ran,
             }
         }
-        Call::Commit { .. } => Counted {
+        Call::Agent(AgentCall::Commit { .. }) => Counted {
             messages: 0,
             commits: 1,
             ran: 0,

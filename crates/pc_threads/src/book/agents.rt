@@ -1,6 +1,7 @@
 //! What an agent does with the kernel of a book: each of its calls that is accepted is listed.
 
 ghost use Rattle.std.specs.Prelude.{◌≡◌, ◌≢◌, Err, IfOk, IfSome, OnErr};
+ghost use Rattle.pc_calls.specs.AgentCalls.{commits};
 ghost use Rattle.pc_calls.specs.declared.call.Answer.TheVariants.{Done};
 ghost use Rattle.pc_calls.specs.declared.call.Call.TheVariants as call;
 ghost use Rattle.pc_messages.specs.Run.{Extends};
@@ -13,7 +14,7 @@ ghost use Rattle.pc_agent.specs.Shows.{counts_of, cpu_of, list_of, sent_of, view
 
 use crate::book::{Book, list};
 use pc_agent::Agent;
-use pc_calls::{Answer, Call, CallFault, Refusal};
+use pc_calls::{AgentCall, Answer, Call, CallFault, Refusal};
 use pc_messages::Tid;
 
 impl Book {
@@ -55,7 +56,7 @@ impl Book {
     /// for the list the agent is not asked, and is as it was.
     pub fn pick(&mut self, agent: &mut Agent, aseq: u32) -> Result<Tid, CallFault>
         ensures listed { IfOk result
-            (λ thread. Lists (call.Commit (cpu_of agent.old) thread aseq) Done self.old self.new) }
+            (λ thread. Lists (commits (cpu_of agent.old) thread aseq) Done self.old self.new) }
         ensures picks { IfSome (answered result) (λ answer. WhateverShown self.old.kernel agent.old (λ P run p.
             IsPicked aseq P run p answer (cpu_of agent.old) agent.new self.new.kernel)) }
         ensures own { IfSome (answered result)
@@ -74,7 +75,7 @@ impl Book {
         let cpu = agent.cpu();
         match agent.pick(&mut self.kernel, aseq) {
             Ok(thread) => {
-                let committed = Call::Commit { cpu, thread, aseq };
+                let committed = Call::Agent(AgentCall::Commit { cpu, thread, aseq });
                 list(&mut self.calls, &committed, &Answer::Done);
                 Ok(thread)
             }
@@ -110,11 +111,11 @@ impl Book {
         match agent.steal(&mut self.kernel) {
             Ok(thread) => {
                 let number = agent.view().upto(thread);
-                let associated = Call::Associate {
+                let associated = Call::Agent(AgentCall::Associate {
                     thread,
                     queue,
                     number,
-                };
+                });
                 list(&mut self.calls, &associated, &Answer::Done);
                 Ok(thread)
             }

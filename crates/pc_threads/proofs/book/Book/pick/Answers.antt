@@ -1,13 +1,13 @@
 use Rattle.std.proofs.Common.{◌≡◌}
+use Rattle.pc_calls.specs.AgentCalls.{commits}
 use Rattle.pc_calls.specs.declared.call.Answer.TheVariants.{Done}
-use Rattle.pc_calls.specs.declared.call.Call.TheVariants as call
 use Rattle.pc_agent.specs.Shows.{cpu_of}
 use Rattle.pc_threads.proofs.Listing.{put}
 use Rattle.pc_threads.proofs.book.Book.pick.Goals as goal
 
 pub invariant_of-self-in-Ok : goal.invariant_of-self-in-Ok
 invariant_of-self-in-Ok c =
-    let made : call.Commit (cpu_of c.args.agent.now) c.in-Ok.thread c.args.aseq ≡ call.Commit c.cpu-cpu.result c.in-Ok.thread c.args.aseq = cc c.cpu-cpu.ensures in
+    let made : commits (cpu_of c.args.agent.now) c.in-Ok.thread c.args.aseq ≡ commits c.cpu-cpu.result c.in-Ok.thread c.args.aseq = cc c.cpu-cpu.ensures in
     put c.self.inside.kernel c.pick.new.kernel c.self.inside.calls.items c.reserve.new.self.items c.list.new.calls.items _ _ Done made c.reserve.ensures.items
     c.list.ensures c.in-Ok.ensures.goes_on.limits c.in-Ok.ensures.kernel c.self.invariant
 

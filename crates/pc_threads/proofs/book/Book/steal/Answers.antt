@@ -1,6 +1,6 @@
 use Rattle.std.proofs.Common.{◌≡◌, ◌∙◌, ap, sym, subst, Err}
+use Rattle.pc_calls.specs.AgentCalls.{associates}
 use Rattle.pc_calls.specs.declared.call.Answer.TheVariants.{Done}
-use Rattle.pc_calls.specs.declared.call.Call.TheVariants as call
 use Rattle.pc_view.specs.Prefixes.{upto_of}
 use Rattle.pc_agent.specs.Own.{StealsAsSeen}
 use Rattle.pc_agent.specs.Shows.{cpu_of, list_of, view_of}
@@ -12,7 +12,7 @@ pub invariant_of-self-in-Ok : goal.invariant_of-self-in-Ok
 invariant_of-self-in-Ok c =
     let number : upto_of (view_of c.args.agent.now) c.in-Ok.thread ≡ c.upto-number.result =
     ap (λ view. upto_of view c.in-Ok.thread) (sym (c.view.ensures.same ∙ c.in-Ok.ensures.same.view)) ∙ sym c.upto-number.ensures in
-    let made : call.Associate c.in-Ok.thread (cpu_of c.args.agent.now) (upto_of (view_of c.args.agent.now) c.in-Ok.thread) ≡ call.Associate c.in-Ok.thread c.cpu-queue.result c.upto-number.result = cc (number, c.cpu-queue.ensures) in
+    let made : associates c.in-Ok.thread (cpu_of c.args.agent.now) (upto_of (view_of c.args.agent.now) c.in-Ok.thread) ≡ associates c.in-Ok.thread c.cpu-queue.result c.upto-number.result = cc (number, c.cpu-queue.ensures) in
     put c.self.inside.kernel c.steal.new.kernel c.self.inside.calls.items c.reserve.new.self.items c.list.new.calls.items _ _ Done made c.reserve.ensures.items
     c.list.ensures c.in-Ok.ensures.goes_on.limits c.in-Ok.ensures.kernel c.self.invariant
 
