@@ -1,7 +1,7 @@
 //! What is remembered of a world before a command, so that it can be told what the command changed.
 
 use crate::news::News;
-use pc_calls::Event;
+use pc_calls::{AgentCall, Event};
 use pc_messages::Cpu;
 use pc_script::Command;
 use pc_view::View;
@@ -32,7 +32,9 @@ impl Before {
     /// What the sentences on this event need.
     fn of_event(world: &World, event: &Event) -> Before {
         match event {
-            Event::Associate { thread, .. } => Before::Home(world.kernel().queue_of(*thread)),
+            Event::Agent(AgentCall::Associate { thread, .. }) => Before::Home(
+                world.kernel().queue_of(*thread),
+            ),
             Event::Deliver { cpu, delta } => news(world, *cpu, *delta),
             Event::Crash { cpu } => match world.view(*cpu) {
                 Some(view) => Before::Known(threads_of(view)),

@@ -4,7 +4,7 @@ use crate::before::Before;
 use crate::news::News;
 use crate::sentences::Sentences;
 use crate::words::Count;
-use pc_calls::Event;
+use pc_calls::{AgentCall, Event};
 use pc_delta::Delta;
 use pc_messages::{Cpu, Tid};
 use pc_world::World;
@@ -160,18 +160,20 @@ pub(super) fn consumed(text: &mut Sentences, cpu: Cpu, items: u32) -> fmt::Resul
 /// An agent sleeps, is awake, or is chosen for a queue.
 pub(super) fn marked(text: &mut Sentences, event: &Event) -> fmt::Result {
     match event {
-        Event::Sleep { cpu, .. } => {
+        Event::Agent(AgentCall::Sleep { cpu, .. }) => {
             let agent = cpu.index();
             writeln!(text, "Agent {agent} sleeps until a post wakes it.")
         }
-        Event::Rouse { cpu } => {
+        Event::Agent(AgentCall::Rouse { cpu }) => {
             let agent = cpu.index();
             writeln!(text, "Agent {agent} is awake.")
         }
-        Event::Config {
-            queue,
-            target: Some(cpu),
-        } => {
+        Event::Agent(
+            AgentCall::Config {
+                queue,
+                target: Some(cpu),
+            },
+        ) => {
             let queue = queue.index();
             let agent = cpu.index();
             writeln!(
@@ -179,10 +181,12 @@ pub(super) fn marked(text: &mut Sentences, event: &Event) -> fmt::Result {
                 "Posts to queue {queue} wake agent {agent} from now on, which is awake."
             )
         }
-        Event::Config {
-            queue,
-            target: None,
-        } => {
+        Event::Agent(
+            AgentCall::Config {
+                queue,
+                target: None,
+            },
+        ) => {
             let queue = queue.index();
             writeln!(text, "Posts to queue {queue} wake nobody from now on.")
         }

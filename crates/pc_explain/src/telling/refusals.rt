@@ -3,7 +3,7 @@
 use crate::advice::{Closed, reason, remedy};
 use crate::sentences::Sentences;
 use crate::words::Count;
-use pc_calls::{Event, LimitField, Refusal};
+use pc_calls::{AgentCall, Event, LimitField, Refusal};
 use pc_messages::Cpu;
 use pc_world::World;
 use std::fmt::{self, Write};
@@ -62,10 +62,10 @@ fn there_is(text: &mut Sentences, refusal: &Refusal, world: &World) -> fmt::Resu
 /// A number that is old.
 fn stale(text: &mut Sentences, event: Option<&Event>, now: u32) -> fmt::Result {
     match event {
-        Some(Event::Commit { cpu, .. }) => old_posts(text, *cpu, "commit", now),
-        Some(Event::Sleep { cpu, .. }) => old_posts(text, *cpu, "sleep", now),
+        Some(Event::Agent(AgentCall::Commit { cpu, .. })) => old_posts(text, *cpu, "commit", now),
+        Some(Event::Agent(AgentCall::Sleep { cpu, .. })) => old_posts(text, *cpu, "sleep", now),
         Some(Event::Pick { cpu, .. }) => old_posts(text, *cpu, "pick", now),
-        Some(Event::Associate { thread, .. }) => {
+        Some(Event::Agent(AgentCall::Associate { thread, .. })) => {
             let thread = thread.index();
             writeln!(
                 text,
