@@ -6,7 +6,7 @@ ghost use Rattle.pc_script.specs.declared.outcome.Outcome.{Outcome};
 
 use crate::lanes::{Change, MOST_LANES};
 use crate::words::Summary;
-use pc_calls::{EnvCall, Event, Refusal, Reply};
+use pc_calls::{AgentCall, EnvCall, Event, Refusal, Reply};
 use pc_messages::{Cpu, Tid};
 use pc_script::{Command, Outcome, Response};
 use std::alloc::{AllocError, Global};
@@ -155,11 +155,8 @@ impl Step {
 pub(crate) fn cpu_of(event: &Event) -> Option<Cpu> {
     match event {
         Event::Env(call) => cpu_of_call(call),
-        Event::Associate { queue, .. } | Event::Config { queue, .. } => Some(*queue),
-        Event::Commit { cpu, .. }
-        | Event::Sleep { cpu, .. }
-        | Event::Rouse { cpu }
-        | Event::Publish { cpu, .. }
+        Event::Agent(call) => Some(cpu_of_agent_call(call)),
+        Event::Publish { cpu, .. }
         | Event::Consume { cpu }
         | Event::Deliver { cpu, .. }
         | Event::Answer { cpu, .. }
@@ -182,12 +179,22 @@ fn cpu_of_call(call: &EnvCall) -> Option<Cpu> {
     }
 }
 
+/// The CPU that a call of an agent names: its own, or whose queue the call is about.
+fn cpu_of_agent_call(call: &AgentCall) -> Cpu {
+    match call {
+        AgentCall::Associate { queue, .. } | AgentCall::Config { queue, .. } => *queue,
+        AgentCall::Commit { cpu, .. } | AgentCall::Sleep { cpu, .. } | AgentCall::Rouse { cpu } => {
+            *cpu
+        }
+    }
+}
+
 /// The CPUs beside that one at which an event may change something: the queue of a post, the agent that it woke, and
 /// the agent that a queue is set to wake.
 pub(crate) fn other_cpus(event: &Event, reply: &Reply) -> [Option<Cpu>; 2] {
     match (event, reply) {
         (_, Reply::Posted(posted)) => [Some(posted.queue), posted.woken],
-        (Event::Config { target, .. }, _) => [*target, None],
+        (Event::Agent(AgentCall::Config { target, .. }), _) => [*target, None],
         _ => [None, None],
     }
 }
