@@ -16,6 +16,7 @@ import re
 import subprocess
 import sys
 import tempfile
+import time
 import types
 import unittest
 from collections import Counter
@@ -487,6 +488,21 @@ class Texts(unittest.TestCase):
             self.assertEqual(made.script, ENCLAVE.format(1, 1) + "\n")
             self.assertEqual(made.settings, "cpus = 1\n")
             self.assertEqual(made.told[0], "0 events, 1 CPUs, 0 threads, 1 commands")
+
+    def test_a_text_that_is_no_recording(self) -> None:
+        for text in ("hello\n", "hello", "# a comment\nhello\n", "ffff8 f+0x1 ([kernel])\n" * 3, " ffff8 f+0x1 ([kernel])\n"):
+            made = self.make(text, status=1)
+            none = "this is no recording: no line of it is an event of perf script"
+            self.assertEqual(made.told, [none if "\nffff" not in text else f"line 1 is no event of perf script: {text.splitlines()[0]}"])
+            self.assertEqual((made.script, made.settings), ("", ""))
+
+    def test_a_long_line_takes_no_long_time(self) -> None:
+        """Each of these took a time that grew with the square of its length, or would if read from each place anew."""
+        blanks, stamps, calls = "x" + " " * 200_000, "[1] 1.000000: " * 2_000, " ffff8 f" + "(" * 200_000
+        began = time.monotonic()
+        for line in (blanks, stamps, calls, blanks + stamps):
+            self.make(line + "\n" + switch(10, 0, 7, "S", 8), status=1)
+        self.assertLess(time.monotonic() - began, 20)
 
     def test_a_bad_line_is_named(self) -> None:
         good = switch(10, 0, 7, "S", 8)

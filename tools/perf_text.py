@@ -15,7 +15,7 @@ DROPPED = {BY_HEAD: "threads that are told by pids of another namespace", BY_WAK
 
 
 class BadLine(Exception):
-    """A line that is no event, with its number."""
+    """A line that is no event, with its number; or that no line is one."""
 
 
 class Event(NamedTuple):
@@ -34,8 +34,11 @@ class Event(NamedTuple):
 
 # Reading the text
 
-HEAD = re.compile(r" *(\S.*?) +(?:\d+/)?(-?\d+) +\[(\d+)\] +(\d+)\.(\d{6,9}): +(.*)")
-CALL_CHAIN = re.compile(r"\s+[0-9a-f]+ \S.*\(.*\)")
+# The pid in front of an event, and its CPU and time. One pattern for all of the head would look at a long line again from
+# each of its blanks.
+PID = re.compile(r"(?:\d+/)?(-?\d+)")
+STAMP = re.compile(r"\[(\d+)\] +(\d+)\.(\d{6,9}): +")
+CALL_CHAIN = re.compile(r"\s+[0-9a-f]+ \S")
 LOST = re.compile(r"PERF_RECORD_LOST(?:_SAMPLES)?\s+lost (\d+)")
 
 SWITCHED = re.compile(
@@ -48,6 +51,26 @@ WOKEN_SHORT = re.compile(r"(.*):(\d+) \[-?\d+\](?: success=\d+)? CPU:(\d+)\s*")
 FORKED = re.compile(r"comm=(.*) pid=(\d+) child_comm=(.*) child_pid=(\d+)\s*")
 MOVED = re.compile(r"comm=(.*) pid=(\d+) prio=-?\d+ orig_cpu=(\d+) dest_cpu=(\d+)\s*")
 EXITED = re.compile(r"comm=(.*) pid=(\d+) prio=-?\d+(?: .*)?")
+
+
+def head_of(line: str) -> tuple[str, int, int, int, str] | None:
+    """The command, pid, CPU and time (in nanoseconds) of an event, and what follows; nothing of a line that is none."""
+    begin = len(line) - len(line.lstrip(" "))
+    for stamp in STAMP.finditer(line):
+        front = line[begin : stamp.start()]
+        comm, blank, pid = front.rstrip(" ").rpartition(" ")
+        found = PID.fullmatch(pid)
+        if found and blank and front.endswith(" ") and not comm[0].isspace():
+            cpu, seconds, fraction = stamp.groups()
+            time = int(seconds + fraction.ljust(9, "0"))
+            return comm.rstrip(" "), int(found[1]), int(cpu), time, line[stamp.end() :]
+    return None
+
+
+def is_of_call_chain(line: str) -> bool:
+    """Whether the line is an address, a symbol, and in parentheses a file."""
+    found = CALL_CHAIN.match(line)
+    return found is not None and line.endswith(")") and "(" in line[found.end() : -1]
 
 
 def matched(text: str, *forms: re.Pattern[str]) -> tuple[str, ...]:
@@ -113,18 +136,17 @@ class Recording:
 
     def take(self, line: str) -> None:
         """Takes in a line that is not empty, or raises ValueError."""
-        head = HEAD.fullmatch(line)
+        head = head_of(line)
         if not head:
-            if not CALL_CHAIN.fullmatch(line):
+            if not is_of_call_chain(line):
                 raise ValueError
             self.passed["lines of call chains"] += 1
             return
-        comm, pid, cpu, seconds, fraction, text = head.groups()
-        time = int(seconds + fraction.ljust(9, "0"))
+        comm, pid, cpu, time, text = head
         if lost := LOST.match(text):
             self.passed["events lost by perf"] += int(lost[1])
         else:
-            self.take_event(comm, int(pid), int(cpu), time, text)
+            self.take_event(comm, pid, cpu, time, text)
         self.read += 1
 
     def take_event(self, comm: str, current: int, cpu: int, time: int, text: str) -> None:
@@ -162,7 +184,7 @@ def plain(text: str) -> str:
 
 
 def read_recording(lines: Iterable[str], limit: int | None) -> Recording:
-    """Reads at most `limit` events. A last line that has no line feed, or is no event, was cut short."""
+    """Reads at most `limit` events. A last line that has no line feed, or is no event, was cut short: not if it is all."""
     recording = Recording()
     numbered = enumerate(lines, 1)
     for number, line in numbered:
@@ -180,6 +202,8 @@ def read_recording(lines: Iterable[str], limit: int | None) -> Recording:
             if any(rest.strip() for _, rest in numbered):
                 raise BadLine(f"line {number} is no event of perf script: {plain(text.strip()[:100])}") from None
             recording.passed["a last line that was cut short"] += 1
+    if recording.passed and not recording.read and limit != 0:
+        raise BadLine("this is no recording: no line of it is an event of perf script")
     without_repeats(recording)
     recording.events = from_the_start(recording.events)
     for name, count in recording.other_kinds.items():
