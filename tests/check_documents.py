@@ -10,6 +10,7 @@
   refusals     docs/FORMATS.md and docs/GLOSSARY.md have an item for each refusal
   advice       docs/GLOSSARY.md has the words of pc_explain on each refusal: why, and what would be accepted
   examples     each example's script has its output beside it, and examples/README.md names all of them
+  versions     the program, its case and CHANGELOG.md tell one version, and README.md the kit that is on the path
   widths       no line of a document, of .rt or of specs/ is wider than 120 columns
   files        each file of docs/, examples/, tools/, tests/ and bench/ is named by some other file
   numbers      nothing is cited by a number: no theorem, request, row or issue
@@ -20,6 +21,7 @@ none failed. The last four are those of tests/tidy.py.
 """
 import pathlib
 import re
+import shutil
 import subprocess
 import sys
 from dataclasses import dataclass, field
@@ -505,6 +507,17 @@ class Checker:
                 beside = any(example.with_suffix(suffix).is_file() for suffix in inputs)
                 self.expect(beside, f"examples/{name}", "it has no script or settings beside it")
 
+    def check_versions(self):
+        source = (ROOT / "crates/pc_program/src/command_line.rt").read_text()
+        version = re.search(r'^const VERSION: &str = "(.*)";$', source, re.M)[1]
+        self.expect((ROOT / "tests/cases/the-version/stdout").read_text() == f"pc-sim {version}\n", "tests/cases/the-version", f"not {version}")
+        told = re.search(r"\bversion ([\d.]+\d)|^## \[([\d.]+)\]", (ROOT / "CHANGELOG.md").read_text(), re.M)
+        self.expect((told[1] or told[2]) == version, "CHANGELOG.md", f"its first version is not {version}")
+        kit = re.search(r"`(rattle-kit-[^`]*)`", (ROOT / "README.md").read_text())[1]
+        if shutil.which("rt"):
+            found = subprocess.run(["rt", "version"], capture_output=True, text=True, check=True).stdout.strip()
+            self.expect(found == kit, "README.md", f"the kit here is {found}, not {kit}")
+
     # tests/tidy.py
 
     def add(self, checked, findings):
@@ -537,6 +550,7 @@ def main():
         checker.check_refusals,
         checker.check_advice,
         checker.check_examples,
+        checker.check_versions,
         checker.check_widths,
         checker.check_files,
         checker.check_numbers,

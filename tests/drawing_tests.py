@@ -52,6 +52,31 @@ ROWS = {
 }
 
 
+# What the legend says, from top to bottom, and what the titles of such marks say in a picture where each command has a column of its own.
+LEGEND = [
+    ("a thread runs on the CPU, in one of eight colours and with its name where there is room", [r"t(?:0|8|16) on CPU .*"]),
+    ("a thread ran for a part of it, or several did, the darker the longer (where a column is of several commands)", []),
+    ("the CPU is idle while ready threads wait, there or elsewhere, whatever their masks", [r"CPU \d+ idle while .*"]),
+    ("ready: threads at home there wait for a CPU; the more, the higher", [WAITING + r" for CPU .*"]),
+    ("queue: items that the agent has not removed; the more, the higher", [r"\d+ items? in queue .*"]),
+    ("the CPU's agent sleeps", [r"agent \d+ asleep, .*"]),
+    ("an item is posted to the queue (bars by their count where a column is of several commands)", [r"line \d+: (?:create|wake|tick) .*"]),
+    ("an agent takes in what another one sent (a grey strip where a column is of several commands)", [r"line \d+: deliver .*"] * 2),
+    ("a thread's home is another queue: by a steal (thick), or by an associate (thin)", [r"t[19] stolen .*", r"t[19] moved .*"]),
+    ("a command is refused (a white strip where a column is of several commands)", [r"line \d+: .*: refused .*"]),
+    ("the CPU's agent crashes, and starts again with nothing", [r"crash \d+, line .*"]),
+]
+LAST_WORDS = "Where the pointer rests on a mark, its lines are told."
+SINGLE_WORDS = "Lines of the script from left to right, a column for each command. A lane for each CPU."
+REPORT_WORDS = "What each agent counted; all bars have one scale. Where the pointer rests on a bar, its count is told."
+COUNTS = {
+    "taken": "items consumed", "commits": "threads committed", "steals": "threads taken over", "stale": "picks and steals refused as stale",
+    "pending": "steals refused as messages were pending", "other": "picks and steals refused otherwise",
+}
+# Where an element is, and not how it looks.
+PLACES = {"x", "y", "x1", "y1", "x2", "y2", "width", "height", "d"}
+
+
 @dataclass
 class Story:
     """What happens in a script, from its lines and their answers."""
@@ -269,6 +294,25 @@ def edges_of(element: ElementTree.Element) -> tuple[float, float]:
     return float(element.get("x")), float(element.get("x")) + float(element.get("width"))
 
 
+@dataclass(frozen=True)
+class Words:
+    """Visible words of a picture, and where they begin (or, of the names of rows, end)."""
+
+    x: int
+    y: int
+    text: str
+
+
+def words_in(root: ElementTree.Element) -> list[Words]:
+    return [Words(int(it.get("x")), int(it.get("y")), it.text) for it in root if it.tag == SVG + "text"]
+
+
+def look_of(element: ElementTree.Element) -> tuple[object, ...]:
+    """How an element looks, wherever it is and however long: its kind, its colours and lines, and of a path the strokes but for their lengths."""
+    strokes = re.sub(r"\d+", "", (element.get("d") or "").partition("l")[2]) if element.tag == SVG + "path" else ""
+    return (element.tag, frozenset(it for it in element.items() if it[0] not in PLACES), strokes)
+
+
 class Drawings(unittest.TestCase):
     program = PROGRAM
 
@@ -407,6 +451,101 @@ class Drawings(unittest.TestCase):
             with self.subTest(file=file.name):
                 self.assertGreater(self.shown_bars(front_of(file.read_text(), MOST_SINGLE)).total(), 0)
 
+    def legend_in(self, root: ElementTree.Element) -> list[list[ElementTree.Element]]:
+        """Holds the legend's words against those that it has to have. The marks in front of each of its lines."""
+        told = words_in(root)
+        begin = next(place for place, words in enumerate(told) if words.text == LEGEND[0][0])
+        self.assertEqual([words.text for words in told[begin:]], [meaning for meaning, _ in LEGEND] + [LAST_WORDS])
+        heights = [words.y for words in told[begin:]]
+        self.assertEqual(heights, sorted(set(heights)))
+        marks: list[list[ElementTree.Element]] = []
+        for place, element in enumerate(root):
+            if element.tag == SVG + "text" and element.text in [meaning for meaning, _ in LEGEND]:
+                front = place
+                while root[front - 1].tag in SHAPES and not (root[front - 1][0].text or ""):
+                    front -= 1
+                marks.append(list(root)[front:place])
+        return marks
+
+    def words_are_told(self, script: str) -> Counter[str]:
+        """Holds every visible word of a script's picture against what replay answers. Counts the looks that were held against the legend."""
+        output = self.answers(script)
+        story, commands = story_of(script, output), list(answered(script, output))
+        root = self.draw(script, int("fault line" in output))
+        told, wide = words_in(root), max(4, min(24, 1200 // max(1, len(commands))))
+        cpus = next((int(words[1]) for _, words, answer in commands if words[0] == "enclave" and answer == "ok"), 0)
+        fault = re.search(r"^fault line (\d+)$", output, re.MULTILINE)
+        heading = f"commands {story.commands}, refused {story.refused}" + (f", {fault[0]}" if fault else "")
+        self.assertEqual([words.text for words in told[:2]], [heading, SINGLE_WORDS])
+        lanes = [words for words in told if words.x == 4]
+        self.assertEqual([words.text for words in lanes], [f"CPU {cpu}" for cpu in range(cpus)])
+        rows = [words for words in told if words.x == LEFT - 6]
+        self.assertEqual([words.text for words in rows], ["ready", "queue", "posts"] * cpus)
+        for lane, three in zip(lanes, zip(rows[::3], rows[1::3], rows[2::3])):
+            self.assertTrue(lane.y < three[0].y < three[1].y < three[2].y < lane.y + 64)
+        self.axis_is_told([words for words in told if words.y == 56 and words.text.isdigit()], [number for number, _, _ in commands], wide)
+        ends = [words.text for words in told if words.y == 56 and not words.text.isdigit()]
+        self.assertEqual(ends, [fault[0]] if fault else [])
+        self.names_are_in_bars(root, [words for words in told if re.fullmatch(r"t\d+", words.text)])
+        looks: Counter[str] = Counter()
+        for (meaning, patterns), marks in zip(LEGEND, self.legend_in(root), strict=True):
+            for pattern, mark in zip(patterns, marks):
+                for element in root[1:]:
+                    if element.tag == mark.tag and re.fullmatch(pattern, element[0].text or ""):
+                        looks[meaning] += look_of(element) == look_of(mark)
+        return looks
+
+    def axis_is_told(self, numbers: list[Words], lines: list[int], wide: int) -> None:
+        """Each number on the axis is that of the line whose command stands in the column below; the first is there, and they are far enough apart."""
+        columns = [(words.x + 3 - LEFT - wide // 2) // wide for words in numbers]
+        self.assertEqual([int(words.text) for words in numbers], [lines[column] for column in columns])
+        self.assertEqual(columns[:1], [0] if lines else [])
+        for one, other in zip(numbers, numbers[1:]):
+            self.assertGreaterEqual(other.x - one.x, 50)
+
+    def names_are_in_bars(self, root: ElementTree.Element, names: list[Words]) -> None:
+        """A thread's name stands in a bar of that thread."""
+        bars = [(re.match(r"(t\d+) on CPU", element[0].text or ""), element) for element in root[1:] if element.tag == SVG + "rect"]
+        for words in names:
+            inside = [
+                found[1] for found, bar in bars
+                if found and edges_of(bar)[0] <= words.x <= edges_of(bar)[1] and 0 <= words.y - float(bar.get("y")) <= float(bar.get("height"))
+            ]
+            self.assertEqual(inside, [words.text])
+
+    def test_the_words_of_a_picture_are_those_that_replay_answers(self) -> None:
+        looks: Counter[str] = Counter()
+        scripts = [drawn_script(place) for place in range(DRAWN)]
+        for place, script in enumerate(scripts):
+            for _ in range(MENDED):
+                script = mended(script, self.answers(script))
+            with self.subTest(place=place):
+                looks += self.words_are_told(script)
+        for file in SCRIPTS:
+            with self.subTest(file=file.name):
+                looks += self.words_are_told(front_of(file.read_text(), MOST_SINGLE))
+        for meaning, patterns in LEGEND:
+            if patterns:
+                self.assertGreater(looks[meaning], 10, f"no mark looks as the legend's: {meaning}")
+
+    def test_the_words_of_a_report_are_its_counts(self) -> None:
+        for file in SETTINGS:
+            with self.subTest(file=file.name):
+                totals = self.run_program("run", str(file)).stdout.split()
+                root = self.parsed(self.run_program("run", "--draw", str(file)).stdout)
+                told = [words.text for words in words_in(root)]
+                heading = ", ".join(f"{name} {number}" for name, number in zip(totals[::2], totals[1::2]))
+                self.assertEqual(told[:2], [heading, REPORT_WORDS])
+                titles = [re.fullmatch(r"CPU (\d+): (\d+) (.*)", title) for title in self.titles(root)]
+                counts = [found.groups() for found in titles if found]
+                wanted: list[str] = []
+                for place, (cpu, count, meaning) in enumerate(counts):
+                    name, means = list(COUNTS.items())[place % 6]
+                    self.assertEqual((int(cpu), meaning), (place // 6, means))
+                    wanted += [f"CPU {cpu}"] * (place % 6 == 0) + [name, count]
+                self.assertEqual(told[2:], wanted)
+                self.assertTrue(counts)
+
     def test_many_threads_and_cpus_stay_small(self) -> None:
         script = self.many(64, 10_000)
         run = self.run_program("draw", text=script)
@@ -452,7 +591,7 @@ class Drawings(unittest.TestCase):
         self.assertEqual(self.run_program("draw", "-", text=ENCLAVE).stdout, by_name)
         self.assertEqual(self.title(self.parsed(by_name)), "commands 1, refused 0")
         run = self.run_program("draw", "no-such-file")
-        self.assertEqual((run.returncode, run.stdout, run.stderr), (1, "", "pc-sim: cannot read\n"))
+        self.assertEqual((run.returncode, run.stdout, run.stderr), (1, "", 'pc-sim: cannot read\npc-sim: "no-such-file": No such file or directory (os error 2)\n'))
 
     def test_a_report_is_drawn(self) -> None:
         for file in SETTINGS:
@@ -465,7 +604,7 @@ class Drawings(unittest.TestCase):
 
     def test_settings_with_a_fault_are_not_drawn(self) -> None:
         run = self.run_program("run", "--draw", text="cpus = 0\n")
-        self.assertEqual((run.returncode, run.stdout, run.stderr), (1, "", "pc-sim: settings BadCpus\n"))
+        self.assertEqual((run.returncode, run.stdout, run.stderr), (1, "", "pc-sim: settings BadCpus\npc-sim: cpus 0: 1 to 64 are wanted\n"))
 
 
 def main() -> int:

@@ -2,6 +2,7 @@
 import mmap
 import os
 import pathlib
+import re
 import select
 import shutil
 import signal
@@ -21,13 +22,20 @@ COUNTS = struct.Struct("QQQQQQQQ")
 SECONDS = 60
 
 
+# How the program ends, and of a file or settings a second line: which, and why.
+ENDING = re.compile(rb"(pc-sim: [^\n]*\n)(?:pc-sim: [^\n]*\n)?")
+
+
 class NoCompiler(Exception):
     """There is no C compiler, or the library does not go with the program."""
 
 
 @dataclass
 class Run:
-    """How a run ended: its status, below 0 that of a signal, None where it was ended because its time was over."""
+    """How a run ended: its status, below 0 that of a signal, None where it was ended because its time was over.
+
+    Of standard error the line that names the ending, if there is but one line behind it that says why; else all of it.
+    """
 
     status: int | None
     out: bytes
@@ -122,7 +130,13 @@ class Machine:
             took = time.perf_counter() - began
         for file in (out, err):
             file.seek(0)
-        return Run(status, out.read(), err.read(), took, *COUNTS.unpack(counts[:])[:6])
+        return Run(status, out.read(), ending_of(err.read()), took, *COUNTS.unpack(counts[:])[:6])
+
+
+def ending_of(text):
+    """The line of standard error that names how the program ended, without the one that says why."""
+    found = ENDING.fullmatch(text)
+    return found[1] if found else text
 
 
 def ended(child, seconds):

@@ -5,7 +5,7 @@ import os
 import pathlib
 import subprocess
 
-from machine import SECONDS, Run, Subject, ended, told
+from machine import SECONDS, Run, Subject, ended, ending_of, told
 from settings import ONE_TOTALS, ROWS, written
 from subjects import OPENING, drawn, examples, explained
 
@@ -153,7 +153,7 @@ def run_with_output(program, subject, how, broken):
         out = {"closed": subprocess.DEVNULL, "full": full, "broken": broken}[how]
         child = subprocess.Popen(words, cwd=subject.folder, stdin=given, stdout=out, stderr=subprocess.PIPE)
         status = ended(child, SECONDS)
-        return Run(status, b"", child.stderr.read(), 0, 0, 0, 0, 0, 0, 0)
+        return Run(status, b"", ending_of(child.stderr.read()), 0, 0, 0, 0, 0, 0, 0)
 
 
 def disturb_streams(machine, tally, folder, most):

@@ -4,7 +4,7 @@ import pathlib
 import subprocess
 import sys
 
-from machine import HERE, ROOT, Subject
+from machine import HERE, ROOT, Subject, ending_of
 from settings import faulty
 
 GENERATED = ["first-run", "kernel-calls", "late", "late-batches", "scattered", "answer-half", "rounds", "steals", "day", "restarts"]
@@ -71,7 +71,7 @@ def cases(folder):
         if words[:1] == ["run"] and status == 0:
             continue
         out = None if (case / "stdout-is-not-fixed").exists() else content(case / "stdout")
-        yield Subject(f"case {case.name}", words, given(case, folder), case, out, content(case / "stderr"), status)
+        yield Subject(f"case {case.name}", words, given(case, folder), case, out, ending_of(content(case / "stderr")), status)
 
 
 def malformed(folder):

@@ -10,6 +10,7 @@ use Rattle.pc_program.specs.ReportText.{IsReport, rows_text, totals_text}
 use Rattle.pc_program.specs.Runs.{DoesWhatIsSpelled}
 use Rattle.pc_program.specs.declared.ending.Ending.{Ending}
 use Rattle.pc_program.specs.declared.ending.Ending.TheVariants.{CannotRead, Finished}
+use Rattle.pc_program.specs.declared.ending.Failure.TheVariants as failure
 use Rattle.pc_program.specs.declared.report.ReportForm.{ReportForm}
 use Rattle.pc_program.specs.declared.report.ReportForm.TheVariants.{Totals, EachCpu, Picture}
 
@@ -20,7 +21,7 @@ kept Picture report old mid new writes keeps = (writes.0, writes.1, Appends-kept
 
 pub reported : {B : Type 0} (settings : Option Members) (form : ReportForm) (old mid new : Option (List ℕ)) (report : LoadReport) (ending : Ending)
     → TellsItsBook report → AddsUp report → DoesWhatIsSpelled settings report → IsReport form report old mid → Keeps mid new
-    → (ending ≡ CannotRead) ⊎ ((ending ≡ Finished) × B) → IsReported settings form old new ending
+    → (ending ≡ CannotRead failure.Write) ⊎ ((ending ≡ Finished) × B) → IsReported settings form old new ending
 reported settings form old mid new report ending tells adds_up does writes keeps (inl failed) =
     subst (λ e. IsReported settings form old new e) (sym failed) tt
 reported settings form old mid new report ending tells adds_up does writes keeps (inr flushed) =

@@ -1,5 +1,5 @@
 -- How the program ends, and what it says then.
-use Rattle.std.specs.Prelude.{ℕ, List, Option, Some, None, Result, Ok, Err, codes}
+use Rattle.std.specs.Prelude.{ℕ, List, Option, Some, None, Result, Ok, Err, codes, Unit, ⊥}
 use Rattle.pc_script.specs.declared.outcome.Outcome.{Outcome}
 use Rattle.pc_script.specs.declared.outcome.Outcome.TheVariants as outcome
 use Rattle.pc_script.specs.declared.outcome.ScriptFault.{ScriptFault}
@@ -11,6 +11,8 @@ use Rattle.pc_program.specs.declared.ending.BadSettings.{BadSettings}
 use Rattle.pc_program.specs.declared.ending.BadSettings.TheVariants as bad
 use Rattle.pc_program.specs.declared.ending.Unsettled.{Unsettled}
 use Rattle.pc_program.specs.declared.ending.Unsettled.TheVariants as why
+use Rattle.pc_program.specs.declared.ending.Failure.{Failure}
+use Rattle.pc_program.specs.declared.ending.Failure.TheVariants as failure
 use Rattle.pc_program.specs.declared.ending.Ending.{Ending}
 use Rattle.pc_program.specs.declared.ending.Ending.TheVariants.{Finished, FaultLine, DrawnToFault, CannotRead}
 use Rattle.pc_program.specs.declared.ending.Ending.TheVariants.{BadCommandLine, OutOfMemory, Settings, Run, CannotStart}
@@ -23,9 +25,9 @@ use Rattle.pc_program.specs.declared.settings.SettingsFault.TheVariants as setti
 abbrev pub ending_of : Result Outcome ScriptFault → Ending
 ending_of (Ok outcome.Finished) = Finished
 ending_of (Ok (outcome.FaultLine line)) = FaultLine
-ending_of (Err fault.Read) = CannotRead
-ending_of (Err fault.TooLong) = CannotRead
-ending_of (Err fault.Write) = CannotRead
+ending_of (Err fault.Read) = CannotRead failure.Read
+ending_of (Err fault.TooLong) = CannotRead failure.TooLong
+ending_of (Err fault.Write) = CannotRead failure.Write
 ending_of (Err fault.OutOfMemory) = OutOfMemory
 
 -- how it ends after the drawing of a script
@@ -58,14 +60,29 @@ ending_of_run run.OutOfMemory = OutOfMemory
 abbrev pub ending_of_run_text : RunTextFault → Ending
 ending_of_run_text (text.Settings fault) = ending_of_settings fault
 ending_of_run_text (text.Run fault) = ending_of_run fault
-ending_of_run_text text.Write = CannotRead
+ending_of_run_text text.Write = CannotRead failure.Write
+
+-- it is for want of memory, or since a text cannot be read; nothing was written
+abbrev pub IsUnread : Ending → Type 0
+IsUnread Finished = ⊥
+IsUnread FaultLine = ⊥
+IsUnread DrawnToFault = ⊥
+IsUnread (CannotRead failure.Read) = Unit {0}
+IsUnread (CannotRead failure.TooLong) = Unit {0}
+IsUnread (CannotRead failure.NotUtf8) = Unit {0}
+IsUnread (CannotRead failure.Write) = ⊥
+IsUnread BadCommandLine = ⊥
+IsUnread OutOfMemory = Unit {0}
+IsUnread (Settings fault) = ⊥
+IsUnread (Run fault) = ⊥
+IsUnread CannotStart = ⊥
 
 -- its exit status
 abbrev pub status_of : Ending → ℕ
 status_of Finished = 0
 status_of FaultLine = 1
 status_of DrawnToFault = 1
-status_of CannotRead = 1
+status_of (CannotRead failed) = 1
 status_of BadCommandLine = 2
 status_of OutOfMemory = 4
 status_of (Settings fault) = 1
@@ -94,7 +111,7 @@ abbrev pub message_of : Ending → Option (List ℕ)
 message_of Finished = None
 message_of FaultLine = None
 message_of DrawnToFault = Some (codes "pc-sim: a line of the script is no command, and the picture ends there")
-message_of CannotRead = Some (codes "pc-sim: cannot read")
+message_of (CannotRead failed) = Some (codes "pc-sim: cannot read")
 message_of BadCommandLine = Some (codes "pc-sim: bad command line")
 message_of OutOfMemory = Some (codes "pc-sim: out of memory")
 message_of (Settings fault) = Some (settings_message fault)

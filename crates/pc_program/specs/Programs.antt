@@ -1,10 +1,11 @@
 -- What the program wrote, by how it ended.
-use Rattle.std.specs.Prelude.{ℕ, ◌≡◌, ◌⊎◌, List, Option, Err}
+use Rattle.std.specs.Prelude.{ℕ, ◌≡◌, ◌⊎◌, ◌<◌, List, Option, Err, length}
 use Rattle.std.specs.Io.KnownBytes.{Appends, Keeps}
 use Rattle.toml.specs.Data.{Members}
 use Rattle.pc_draw.specs.Pictures.{IsPictureOf}
 use Rattle.pc_explain.specs.Comments.{without_comments}
 use Rattle.pc_script.specs.Scripts.{IsOutput, IsOutputUntil}
+use Rattle.pc_script.specs.declared.input.TheConstants.{MOST_BYTES}
 use Rattle.pc_script.specs.declared.outcome.Outcome.TheVariants as outcome
 use Rattle.pc_threads.specs.Reports.{AddsUp, TellsItsBook}
 use Rattle.pc_threads.specs.declared.report.LoadReport.{LoadReport}
@@ -16,6 +17,7 @@ use Rattle.pc_program.specs.SettingsText.{Reads}
 use Rattle.pc_program.specs.declared.ending.Ending.{Ending}
 use Rattle.pc_program.specs.declared.ending.Ending.TheVariants.{Finished, FaultLine, DrawnToFault, CannotRead}
 use Rattle.pc_program.specs.declared.ending.Ending.TheVariants.{BadCommandLine, OutOfMemory, Settings, Run, CannotStart}
+use Rattle.pc_program.specs.declared.ending.Failure.TheVariants as failure
 use Rattle.pc_program.specs.declared.forms.Form.{Form}
 use Rattle.pc_program.specs.declared.forms.Form.TheVariants.{Replies, Explained, Picture}
 use Rattle.pc_program.specs.declared.report.ReportForm.{ReportForm}
@@ -31,7 +33,10 @@ IsAnswered plain text old new FaultLine =
     × Appends old new written
 IsAnswered plain text old new OutOfMemory =
     Keeps old new ⊎ ((written : List ℕ) × IsOutputUntil IsSession RanOut text (plain written) × Appends old new written)
-IsAnswered plain text old new CannotRead = Unit {0}
+IsAnswered plain text old new (CannotRead failure.Read) = Keeps old new
+IsAnswered plain text old new (CannotRead failure.TooLong) = (MOST_BYTES < length text) × Keeps old new
+IsAnswered plain text old new (CannotRead failure.NotUtf8) = ⊥
+IsAnswered plain text old new (CannotRead failure.Write) = Unit {0}
 IsAnswered plain text old new DrawnToFault = ⊥
 IsAnswered plain text old new BadCommandLine = ⊥
 IsAnswered plain text old new (Settings bad) = ⊥
@@ -46,7 +51,10 @@ IsDrawn text old new DrawnToFault =
     (line : ℕ) × (written : List ℕ) × IsPictureOf IsSession text (outcome.FaultLine line) written
     × Appends old new written
 IsDrawn text old new OutOfMemory = Keeps old new
-IsDrawn text old new CannotRead = Unit {0}
+IsDrawn text old new (CannotRead failure.Read) = Keeps old new
+IsDrawn text old new (CannotRead failure.TooLong) = (MOST_BYTES < length text) × Keeps old new
+IsDrawn text old new (CannotRead failure.NotUtf8) = ⊥
+IsDrawn text old new (CannotRead failure.Write) = Unit {0}
 IsDrawn text old new FaultLine = ⊥
 IsDrawn text old new BadCommandLine = ⊥
 IsDrawn text old new (Settings bad) = ⊥
@@ -69,7 +77,10 @@ IsReported settings form old new (Settings bad) =
 IsReported settings form old new (Run why) = SpellsSettings settings × Keeps old new
 IsReported settings form old new CannotStart = SpellsSettings settings × Keeps old new
 IsReported settings form old new OutOfMemory = Keeps old new
-IsReported settings form old new CannotRead = Unit {0}
+IsReported settings form old new (CannotRead failure.Read) = ⊥
+IsReported settings form old new (CannotRead failure.TooLong) = ⊥
+IsReported settings form old new (CannotRead failure.NotUtf8) = ⊥
+IsReported settings form old new (CannotRead failure.Write) = Unit {0}
 IsReported settings form old new FaultLine = ⊥
 IsReported settings form old new DrawnToFault = ⊥
 IsReported settings form old new BadCommandLine = ⊥

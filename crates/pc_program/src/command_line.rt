@@ -61,8 +61,8 @@ impl From<AllocError> for CommandFault {
     }
 }
 
-/// The version of the program, and the kit that proved and built it.
-const VERSION: &str = "0.9.0 (rattle-kit-13f logic dac8208d650f15bf)";
+/// The version of the program. It cannot know which kit built it, so it does not say so.
+const VERSION: &str = "0.9.0";
 
 const ABOUT: &str =
     "A model of per-CPU ghOSt scheduling: a kernel, agents, and what each agent knows";

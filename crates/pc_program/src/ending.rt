@@ -18,8 +18,8 @@ pub enum Ending {
     FaultLine,
     /// The same of a script that was drawn: the picture says which, and goes up to it.
     DrawnToFault,
-    /// A file, a read or a write failed, or the text is too long.
-    CannotRead,
+    /// This failed of reading a text, or of writing what was made of it.
+    CannotRead(Failure),
     /// The words of the command line are no command.
     BadCommandLine,
     /// A growth was refused.
@@ -30,6 +30,19 @@ pub enum Ending {
     Run(Unsettled),
     /// A thread could not be started.
     CannotStart,
+}
+
+/// What failed where a text cannot be read, or what was made of it cannot be written.
+#[derive(Clone, Copy, Debug, PartialEq, Eq)]
+pub enum Failure {
+    /// A file cannot be opened, or a read failed.
+    Read,
+    /// The text is too long.
+    TooLong,
+    /// The settings are no UTF-8.
+    NotUtf8,
+    /// A write failed.
+    Write,
 }
 
 /// What is wrong with settings, by name.
@@ -71,8 +84,10 @@ impl Ending {
     {
         match self {
             Ending::Finished => 0,
-            Ending::FaultLine | Ending::DrawnToFault | Ending::CannotRead | Ending::Settings(_) =>
-                1,
+            Ending::FaultLine
+            | Ending::DrawnToFault
+            | Ending::CannotRead(_)
+            | Ending::Settings(_) => 1,
             Ending::BadCommandLine => 2,
             Ending::Run(_) => 3,
             Ending::OutOfMemory | Ending::CannotStart => 4,
@@ -88,7 +103,7 @@ impl Ending {
             Ending::DrawnToFault => {
                 Some("pc-sim: a line of the script is no command, and the picture ends there")
             }
-            Ending::CannotRead => Some("pc-sim: cannot read"),
+            Ending::CannotRead(_) => Some("pc-sim: cannot read"),
             Ending::BadCommandLine => Some("pc-sim: bad command line"),
             Ending::OutOfMemory => Some("pc-sim: out of memory"),
             Ending::CannotStart => Some("pc-sim: cannot start"),
@@ -197,7 +212,7 @@ impl From<RunTextFault> for Ending {
         match fault {
             RunTextFault::Settings(fault) => Ending::from(fault),
             RunTextFault::Run(fault) => Ending::from(fault),
-            RunTextFault::Write => Ending::CannotRead,
+            RunTextFault::Write => Ending::CannotRead(Failure::Write),
         }
     }
 }
@@ -213,8 +228,9 @@ impl From<Result<Outcome, ScriptFault>> for Ending {
             Ok(Outcome::Finished) => Ending::Finished,
             Ok(Outcome::FaultLine(_)) => Ending::FaultLine,
             Err(ScriptFault::OutOfMemory) => Ending::OutOfMemory,
-            Err(ScriptFault::Read | ScriptFault::TooLong | ScriptFault::Write) =>
-                Ending::CannotRead,
+            Err(ScriptFault::Read) => Ending::CannotRead(Failure::Read),
+            Err(ScriptFault::TooLong) => Ending::CannotRead(Failure::TooLong),
+            Err(ScriptFault::Write) => Ending::CannotRead(Failure::Write),
         }
     }
 }

@@ -11,7 +11,7 @@ ghost use Rattle.pc_explain.specs.Comments.{without_comments};
 ghost use Rattle.pc_session.specs.Session.{IsSession, RanOut};
 ghost use Rattle.pc_program.specs.Programs.{IsAnswered, IsDrawn, IsMade, IsReported};
 
-use crate::ending::Ending;
+use crate::ending::{Ending, Failure};
 use crate::report::ReportForm;
 use crate::run_text::run_config;
 use pc_draw::draw_script;
@@ -82,8 +82,8 @@ fn picture<R: Read, W: Write>(alloc: Global, reader: &mut R, writer: &mut W) -> 
 
 /// Reads a script, makes this of it, writes it, and tells how it ended. Nothing is flushed.
 ///
-/// A text that cannot be read, or is too long, and a write that fails are `CannotRead`; want of memory is
-/// `OutOfMemory`, behind what was made so far, and of a picture nothing was written.
+/// A text that cannot be read, or is too long, and a write that fails are `CannotRead`, which says which; want of
+/// memory is `OutOfMemory`, behind what was made so far, and of a picture nothing was written.
 pub fn make<R: Read, W: Write>(alloc: Global, form: Form, reader: &mut R, writer: &mut W) -> Ending
     ensures { IfSome (R.remaining reader.old)
         (λ text. IsMade form text (W.contents writer.old) (W.contents writer.new) result) }
@@ -98,17 +98,18 @@ pub fn make<R: Read, W: Write>(alloc: Global, form: Form, reader: &mut R, writer
 /// Flushes what was written before it ended so. That this fails is told before all else.
 fn flushed<W: Write + Drop>(writer: &mut BufWriter<W>, ending: Ending) -> Ending
     ensures kept { Keeps (writer_contents W.contents writer.old) (writer_contents W.contents writer.new) }
-    ensures flushed { (result ≡ Ending.CannotRead) ⊎ ((result ≡ ending) × (writer_buffer writer.new ≡ [])) }
+    ensures flushed { (result ≡ Ending.CannotRead Failure.Write)
+        ⊎ ((result ≡ ending) × (writer_buffer writer.new ≡ [])) }
 {
     match writer.flush() {
         Ok(()) => ending,
-        Err(_) => Ending::CannotRead,
+        Err(_) => Ending::CannotRead(Failure::Write),
     }
 }
 
 /// Makes what is asked for of the text that a reader gives, writes it, and flushes it, whatever the ending.
 ///
-/// Endings are those of [`make`]; where the flush fails it is `CannotRead`, whatever else there was.
+/// Endings are those of [`make`]; where the flush fails it is `CannotRead`, by a write, whatever else there was.
 pub fn make_flushed<R: Read, W: Write + Drop>(
     alloc: Global,
     form: Form,
@@ -117,7 +118,7 @@ pub fn make_flushed<R: Read, W: Write + Drop>(
 ) -> Ending
     ensures told { IfSome (R.remaining reader.old) (λ text.
         IsMade form text (writer_contents W.contents writer.old) (writer_contents W.contents writer.new) result) }
-    ensures flushed { (result ≡ Ending.CannotRead) ⊎ (writer_buffer writer.new ≡ []) }
+    ensures flushed { (result ≡ Ending.CannotRead Failure.Write) ⊎ (writer_buffer writer.new ≡ []) }
 {
     let ending = make(alloc, form, reader, writer);
     flushed(writer, ending)
@@ -125,8 +126,8 @@ pub fn make_flushed<R: Read, W: Write + Drop>(
 
 /// Runs agents by a settings text, writes the report, and flushes it, whatever the ending.
 ///
-/// Endings are those of the faults of [`run_config`]; where the flush fails it is `CannotRead`, whatever else there
-/// was. It may wait without end, as a run may.
+/// Endings are those of the faults of [`run_config`]; where the flush fails it is `CannotRead`, by a write, whatever
+/// else there was. It may wait without end, as a run may.
 pub fn run_flushed<R: Threads + Wait + Sync, S: Write + Copy + Sync, W: Write + Drop>(
     rt: &R,
     alloc: Global,
@@ -137,7 +138,7 @@ pub fn run_flushed<R: Threads + Wait + Sync, S: Write + Copy + Sync, W: Write + 
 ) -> Ending
     ensures told { IsReported (parse_document text.now) form (writer_contents W.contents writer.old)
         (writer_contents W.contents writer.new) result }
-    ensures flushed { (result ≡ Ending.CannotRead) ⊎ (writer_buffer writer.new ≡ []) }
+    ensures flushed { (result ≡ Ending.CannotRead Failure.Write) ⊎ (writer_buffer writer.new ≡ []) }
 {
     match run_config(rt, alloc, text, form, screen, writer) {
         Ok(_report) => flushed(writer, Ending::Finished),

@@ -13,9 +13,11 @@ mod run_text;
 mod settings;
 
 pub use command_line::{Command, CommandFault, read_command};
-pub use ending::{BadSettings, Ending, Unsettled};
+pub use ending::{BadSettings, Ending, Failure, Unsettled};
 pub use forms::{Form, make, make_flushed, run_flushed, run_script};
-pub use input::read_settings;
+pub use input::{MOST_SETTINGS, read_settings};
 pub use report::ReportForm;
 pub use run_text::{RunTextFault, run_config};
-pub use settings::{Field, SettingsFault, read_config, steps_are_read_as_written};
+pub use settings::{
+    Field, SettingsFault, read_config, steps_are_read_as_written, write_trouble,
+};

@@ -14,6 +14,7 @@ ghost use Rattle.pc_program.specs.Inner.Readings.{read_restart, read_table, read
 mod draft;
 mod keys;
 mod steps;
+mod trouble;
 
 use draft::Draft;
 use keys::{draft_of, integer_at, restart_of, tables_at};
@@ -24,6 +25,7 @@ use steps::step_in;
 pub use steps::steps_are_read_as_written;
 use thiserror::Error;
 use toml::{Table, Value};
+pub use trouble::write_trouble;
 
 /// A key of the settings.
 #[derive(Clone, Copy, Debug, PartialEq, Eq)]

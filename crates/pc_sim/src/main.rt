@@ -3,28 +3,43 @@
 //! runs on.
 #![tactic(auto)]
 
+mod met;
+mod streams;
+
+use met::{Met, Said, Source, say_failure};
 use pc_program::{
-    Command, CommandFault, Ending, Form, ReportForm, make_flushed, read_command, read_settings,
-    run_flushed,
+    Command, CommandFault, Ending, Failure, Form, MOST_SETTINGS, ReportForm, make_flushed,
+    read_command, read_settings, run_flushed, write_trouble,
 };
+use pc_script::MOST_BYTES;
 use std::alloc::Global;
 use std::env;
 use std::fs::File;
-use std::io::{self, BufWriter, ErrorKind, IsTerminal, Read, Stderr, Write};
+use std::io::{self, BufWriter, IsTerminal, Read, Stderr, Write};
 use std::process::ExitCode;
 use std::sync::Wait;
 use std::thread::Threads;
+use streams::Noted;
 
-/// Makes what is asked for of the text that a reader gives, through a buffer of its own.
-fn make_buffered<R: Read, W: Write + Drop>(
+/// Makes what is asked for of the text that a stream gives, through a buffer of its own.
+fn make_buffered<R: Read + Drop, W: Write + Drop>(
     alloc: Global,
     form: Form,
-    reader: &mut R,
+    reader: R,
     writer: W,
-) -> Ending {
-    match BufWriter::new(alloc, writer) {
-        Ok(mut writer) => make_flushed(alloc, form, reader, &mut writer),
-        Err(_) => Ending::OutOfMemory,
+) -> Met {
+    let mut reader = Noted::new(reader);
+    let Ok(mut writer) = BufWriter::new(alloc, Noted::new(writer)) else {
+        return Met::ended(Ending::OutOfMemory);
+    };
+    let ending = make_flushed(alloc, form, &mut reader, &mut writer);
+    let said = match ending {
+        Ending::CannotRead(Failure::Write) => writer.get_ref().fault(),
+        _ => reader.fault(),
+    };
+    Met {
+        ending,
+        said: Said(said),
     }
 }
 
@@ -47,67 +62,56 @@ fn words_of<R: env::Env + Alloc>(rt: &R) -> io::Result<Vec<String<R::A>, R::A>> 
 }
 
 /// What the command line asks for.
-fn command_of(rt: &HostRuntime) -> Result<Command, Ending> {
+fn command_of(rt: &HostRuntime) -> Result<Command, Met> {
     let words = match words_of(rt) {
         Ok(words) => words,
-        Err(error) if error.kind() == ErrorKind::OutOfMemory => return Err(Ending::OutOfMemory),
-        Err(_) => return Err(Ending::BadCommandLine),
+        Err(error) => return Err(Met::unworded(error)),
     };
     match read_command(rt.alloc(), words.as_slice()) {
         Ok(command) => Ok(command),
-        Err(CommandFault::OutOfMemory) => Err(Ending::OutOfMemory),
-        Err(CommandFault::Clap(error)) if error.use_stderr() => Err(Ending::BadCommandLine),
+        Err(CommandFault::OutOfMemory) => Err(Met::ended(Ending::OutOfMemory)),
+        Err(CommandFault::Clap(error)) if error.use_stderr() => {
+            Err(Met::ended(Ending::BadCommandLine))
+        }
         Err(CommandFault::Clap(help)) => match help.print(rt) {
-            Ok(()) => Err(Ending::Finished),
-            Err(_) => Err(Ending::CannotRead),
+            Ok(()) => Err(Met::ended(Ending::Finished)),
+            Err(error) => Err(Met::unwritten(error)),
         },
     }
 }
 
-/// Reads the command line and does what it asks for, but for a run, of which the settings are read.
-fn begin(rt: &HostRuntime) -> Rest {
-    match command_of(rt) {
-        Err(ending) => Rest::Ended(ending),
-        Ok(Command::Replay { file }) => Rest::Ended(make_of_file(rt, Form::Replies, file)),
-        Ok(Command::Explain { file }) => Rest::Ended(make_of_file(rt, Form::Explained, file)),
-        Ok(Command::Draw { file }) => Rest::Ended(make_of_file(rt, Form::Picture, file)),
-        Ok(Command::Run { file, form }) => match settings_of(rt, file) {
-            Ok(text) => Rest::Run { text, form },
-            Err(ending) => Rest::Ended(ending),
-        },
-    }
-}
-
-/// Makes what is asked for of the text of the file, or else of the standard input.
-fn make_of_file(rt: &HostRuntime, form: Form, file: Option<String>) -> Ending {
-    match file {
-        None => make_buffered(rt.alloc(), form, &mut rt.stdin(), rt.stdout()),
+/// Makes what is asked for of the text of the file, or else of the standard input, and says how that ended.
+fn make_of_file(rt: &HostRuntime, form: Form, source: &Source) -> Met {
+    match &source.0 {
+        None => make_buffered(rt.alloc(), form, rt.stdin(), rt.stdout()),
         Some(name) => match File::open(rt, name.as_str()) {
-            Ok(mut file) => make_buffered(rt.alloc(), form, &mut file, rt.stdout()),
-            Err(error) if error.kind() == ErrorKind::OutOfMemory => Ending::OutOfMemory,
-            Err(_) => Ending::CannotRead,
+            Ok(file) => make_buffered(rt.alloc(), form, file, rt.stdout()),
+            Err(error) => Met::unopened(error),
         },
+    }
+}
+
+/// The settings text that a stream gives.
+fn settings_in<R: Read + Drop>(alloc: Global, reader: R) -> Result<String, Met> {
+    let mut reader = Noted::new(reader);
+    match read_settings(alloc, &mut reader) {
+        Ok(text) => Ok(text),
+        Err(ending) => Err(Met {
+            ending,
+            said: Said(reader.fault()),
+        }),
     }
 }
 
 /// The settings text of the file, or else of the standard input.
-fn settings_of(rt: &HostRuntime, file: Option<String>) -> Result<String, Ending> {
-    match file {
-        None => read_settings(rt.alloc(), &mut rt.stdin()),
+fn settings_of(rt: &HostRuntime, source: &Source) -> Result<String, Met> {
+    match &source.0 {
+        None => settings_in(rt.alloc(), rt.stdin()),
         Some(name) => match File::open(rt, name.as_str()) {
-            Ok(mut file) => read_settings(rt.alloc(), &mut file),
-            Err(error) if error.kind() == ErrorKind::OutOfMemory => Err(Ending::OutOfMemory),
-            Err(_) => Err(Ending::CannotRead),
+            Ok(file) => settings_in(rt.alloc(), file),
+            Err(error) => Err(Met::unopened(error)),
         },
     }
-}
-
-/// What is left to do when the command line was read.
-enum Rest {
-    /// Nothing.
-    Ended(Ending),
-    /// A run of agents by this settings text.
-    Run { text: String, form: ReportForm },
 }
 
 /// Standard error, where a person reads it at a terminal.
@@ -128,11 +132,55 @@ fn run_settings<R: Threads + Wait + Sync, S: Write + Copy + Sync, W: Write + Dro
     form: ReportForm,
     screen: Option<S>,
     writer: W,
-) -> Ending {
-    match BufWriter::new(alloc, writer) {
-        Ok(mut writer) => run_flushed(rt, alloc, text, form, screen, &mut writer),
-        Err(_) => Ending::OutOfMemory,
+) -> Met {
+    let Ok(mut writer) = BufWriter::new(alloc, Noted::new(writer)) else {
+        return Met::ended(Ending::OutOfMemory);
+    };
+    let ending = run_flushed(rt, alloc, text, form, screen, &mut writer);
+    Met {
+        ending,
+        said: Said(writer.get_ref().fault()),
     }
+}
+
+/// Says on standard error how the program ends, and answers its exit status.
+fn end(rt: &HostRuntime, met: &Met, source: &Source, most: usize) -> ExitCode {
+    if let Some(message) = met.ending.message() {
+        // Nothing can be said of an error on standard error itself.
+        let _ = eprintln!(rt; "{message}");
+    }
+    match met.ending {
+        Ending::CannotRead(failure) => say_failure(rt, failure, met.said, source, most),
+        Ending::BadCommandLine if met.said.0.is_some() => {
+            let _ = eprintln!(rt; "pc-sim: a word of it is no UTF-8");
+        }
+        _ => {}
+    }
+    ExitCode::from(met.ending.status())
+}
+
+/// Makes what is asked for of a script.
+fn make_script(rt: &HostRuntime, form: Form, file: Option<String>) -> ExitCode {
+    let source = Source(file);
+    let met = make_of_file(rt, form, &source);
+    end(rt, &met, &source, MOST_BYTES)
+}
+
+/// Runs agents in threads by the settings of the file, or else of the standard input.
+fn run(rt: &HostRuntime, form: ReportForm, file: Option<String>) -> ExitCode {
+    let source = Source(file);
+    let text = match settings_of(rt, &source) {
+        Ok(text) => text,
+        Err(met) => return end(rt, &met, &source, MOST_SETTINGS),
+    };
+    let screen = screen_of(rt);
+    let met = run_settings(rt, rt.alloc(), text.as_str(), form, screen, rt.stdout());
+    let status = end(rt, &met, &source, MOST_SETTINGS);
+    if let Ending::Settings(_) = met.ending {
+        // Nothing can be said of an error on standard error itself.
+        let _ = write_trouble(rt.alloc(), text.as_str(), &mut rt.stderr());
+    }
+    status
 }
 
 /// The size in bytes of a block that is large.
@@ -147,18 +195,13 @@ fn settle_heap(alloc: Global) {
 
 fn main(rt: HostRuntime) -> ExitCode {
     settle_heap(rt.alloc());
-    let ending = match begin(&rt) {
-        Rest::Ended(ending) => ending,
-        Rest::Run { text, form } => {
-            let screen = screen_of(&rt);
-            run_settings(&rt, rt.alloc(), text.as_str(), form, screen, rt.stdout())
-        }
-    };
-    if let Some(message) = ending.message() {
-        // Nothing can be said of an error on standard error itself.
-        let _ = eprintln!(rt; "{message}");
+    match command_of(&rt) {
+        Ok(Command::Replay { file }) => make_script(&rt, Form::Replies, file),
+        Ok(Command::Explain { file }) => make_script(&rt, Form::Explained, file),
+        Ok(Command::Draw { file }) => make_script(&rt, Form::Picture, file),
+        Ok(Command::Run { file, form }) => run(&rt, form, file),
+        Err(met) => end(&rt, &met, &Source(None), MOST_BYTES),
     }
-    ExitCode::from(ending.status())
 }
 
 #[cfg(test)]

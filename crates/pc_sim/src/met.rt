@@ -1,0 +1,96 @@
+//! What the program met, and what it says of it beside the line that names it.
+
+use pc_program::{Ending, Failure};
+use std::fmt::{self, Display, Formatter, Write};
+use std::io::{self, ErrorKind};
+
+/// How the program ends, and what the system said of the file or stream that failed.
+#[derive(Drop)]
+pub(crate) struct Met {
+    pub(crate) ending: Ending,
+    pub(crate) said: Said,
+}
+
+/// What the system said of a file or a stream that failed, if anything.
+#[derive(Clone, Copy)]
+pub(crate) struct Said(pub(crate) Option<io::Error>);
+
+/// Where the text comes from that the program reads: a file of this name, or the standard input.
+#[derive(Drop)]
+pub(crate) struct Source(pub(crate) Option<String>);
+
+impl Display for Said {
+    fn fmt<W: Write>(&self, f: &mut Formatter<W>) -> fmt::Result {
+        match &self.0 {
+            Some(error) => write!(f, "{error}"),
+            None => f.write_str("it failed"),
+        }
+    }
+}
+
+impl Display for Source {
+    fn fmt<W: Write>(&self, f: &mut Formatter<W>) -> fmt::Result {
+        match &self.0 {
+            // In quotes, so that the name of a file makes no second line and moves no cursor.
+            Some(name) => write!(f, "{name:?}"),
+            None => f.write_str("the standard input"),
+        }
+    }
+}
+
+impl Met {
+    /// It ends so, and the system said nothing.
+    pub(crate) fn ended(ending: Ending) -> Met {
+        Met {
+            ending,
+            said: Said(None),
+        }
+    }
+
+    /// A file could not be opened, since of this.
+    pub(crate) fn unopened(error: io::Error) -> Met {
+        if error.kind() == ErrorKind::OutOfMemory {
+            return Met::ended(Ending::OutOfMemory);
+        }
+        Met {
+            ending: Ending::CannotRead(Failure::Read),
+            said: Said(Some(error)),
+        }
+    }
+
+    /// The words of the command line could not be had, since of this.
+    pub(crate) fn unworded(error: io::Error) -> Met {
+        if error.kind() == ErrorKind::OutOfMemory {
+            return Met::ended(Ending::OutOfMemory);
+        }
+        Met {
+            ending: Ending::BadCommandLine,
+            said: Said(Some(error)),
+        }
+    }
+
+    /// What was asked for could not be written, since of this.
+    pub(crate) fn unwritten(error: io::Error) -> Met {
+        Met {
+            ending: Ending::CannotRead(Failure::Write),
+            said: Said(Some(error)),
+        }
+    }
+}
+
+/// Says on standard error of what file or stream it was that reading or writing failed, and why. Nothing can be said of
+/// an error on standard error itself.
+pub(crate) fn say_failure(
+    rt: &HostRuntime,
+    failure: Failure,
+    said: Said,
+    source: &Source,
+    most: usize,
+) {
+    let _ = match failure {
+        Failure::Read => eprintln!(rt; "pc-sim: {source}: {said}"),
+        Failure::TooLong => eprintln!(rt; "pc-sim: {source}: it has more than {most} bytes"),
+        Failure::NotUtf8 => eprintln!(rt; "pc-sim: {source}: it is no UTF-8"),
+        Failure::Write => eprintln!(rt; "pc-sim: the standard output: {said}"),
+    };
+}
