@@ -9,7 +9,8 @@
   crates       docs/ARCHITECTURE.md has each crate, and what it stands on, as crates.txt has it
   refusals     docs/FORMATS.md and docs/GLOSSARY.md have an item for each refusal
   advice       docs/GLOSSARY.md has the words of pc_explain on each refusal: why, and what would be accepted
-  examples     each example's script has its output beside it, and examples/README.md names all of them
+  examples     each example's script has its output beside it, and examples/README.md names all of them; the code that
+               the root of a crate shows is code of a test, line for line
   versions     the program, its case and CHANGELOG.md tell one version, and README.md the kit that is on the path
   widths       no line of a document, of .rt or of specs/ is wider than 120 columns
   files        each file of docs/, examples/, tools/, tests/ and bench/ is named by some other file
@@ -507,6 +508,15 @@ class Checker:
                 beside = any(example.with_suffix(suffix).is_file() for suffix in inputs)
                 self.expect(beside, f"examples/{name}", "it has no script or settings beside it")
 
+    def check_shown_code(self):
+        tests = {path: [line.strip() for line in path.read_text().splitlines()] for path in sorted(ROOT.glob("crates/pc_*/src/**/*.rt"))}
+        tests = {path: "\n".join(lines) for path, lines in tests.items() if "#[test]" in lines}
+        for root in sorted(ROOT.glob("crates/*/src/lib.rt")):
+            docs = "\n".join(line[3:].strip() for line in root.read_text().splitlines() if line.startswith("//!"))
+            for block in docs.split("```")[1::2]:
+                stands = any(block.strip() in text for text in tests.values())
+                self.expect(stands, str(root.relative_to(ROOT)), "the code that it shows is in no test")
+
     def check_versions(self):
         source = (ROOT / "crates/pc_program/src/command_line.rt").read_text()
         version = re.search(r'^const VERSION: &str = "(.*)";$', source, re.M)[1]
@@ -550,6 +560,7 @@ def main():
         checker.check_refusals,
         checker.check_advice,
         checker.check_examples,
+        checker.check_shown_code,
         checker.check_versions,
         checker.check_widths,
         checker.check_files,

@@ -3,6 +3,15 @@
 //! What is written is what the script's run writes, with comments between: before each reply the line that it answers,
 //! with its number, and after it what changed, or why it was refused and what would be accepted. Without the comments
 //! it is exactly what the run writes. The sentences themselves are tested, not proved.
+//!
+//! A script that is explained over memory:
+//!
+//! ```
+//! fn explained(alloc: Global, script: &[u8], written: &mut Vec<u8>) -> Result<Outcome, ScriptFault> {
+//!     let mut reader = script;
+//!     explain_script(alloc, &mut reader, written)
+//! }
+//! ```
 #![tactic(auto)]
 
 mod advice;

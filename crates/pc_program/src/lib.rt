@@ -1,6 +1,16 @@
 //! What `pc-sim` does, whatever gives its texts and takes its answers: it replays scripts of events on the kernel model
 //! and its agents, explains or draws them, or runs agents in threads. Whoever calls it has the files, the streams and
 //! the exit.
+//!
+//! A script over memory, of which the third line is not answered, since the second is a fault:
+//!
+//! ```
+//! let mut reader = b"enclave 2 8 100 16 1000\ntick 0 0\nstatus t0\n".as_slice();
+//! let mut writer = Vec::new(alloc);
+//! let ended = run_script(alloc, &mut reader, &mut writer);
+//! assert_eq!(rt; ended, Ok(Outcome::FaultLine(2)));
+//! assert_eq!(rt; writer.as_slice(), b"ok\nfault line 2\n".as_slice());
+//! ```
 #![tactic(auto)]
 
 mod command_line;

@@ -3,6 +3,17 @@
 //! An agent keeps its own run queue in user space and commits its first thread that the kernel accepts (the ghOSt
 //! paper's per-CPU model). What the list is after each call is a list of names; `specs/Runs.antt` defines what a
 //! refresh makes of it.
+//!
+//! A list after a refresh:
+//!
+//! ```
+//! fn listed(alloc: Global, view: &View) -> Result<Option<Tid>, Fail> {
+//!     let mut list = RunQueue::new(alloc);
+//!     // Of the touched threads those that are ready and allowed on CPU 1 enter, the highest level first.
+//!     list.refresh(view, &[Tid(0)], Cpu(1))?;
+//!     Ok(list.first())
+//! }
+//! ```
 #![tactic(auto)]
 
 mod levels;

@@ -6,7 +6,8 @@
 //! reply may be `version 2`, by which the script is of profile Two.
 //!
 //! The words of each command stand in the table of `specs/Grammar.antt`, the texts of what is answered in
-//! `specs/Responses.antt`. What the commands do is left to a [`Machine`]: the program gives one.
+//! `specs/Responses.antt`. What the commands do is left to a [`Machine`]: the program gives one. [`walk`] is the one
+//! loop over a script's lines, of which an [`Observer`] is told; [`run_script`] has the one that writes the replies.
 #![tactic(auto)]
 
 mod command;

@@ -7,6 +7,8 @@ mod calls;
 #[cfg(test)]
 mod delta;
 #[cfg(test)]
+mod examples;
+#[cfg(test)]
 mod join;
 #[cfg(test)]
 mod kernel;

@@ -160,7 +160,10 @@ fn knows_nothing(alloc: Global, agent: &Agent) -> bool {
 
 /// Whether the agent is as a new or a restarted one of its CPU, but for its counts.
 fn is_fresh(alloc: Global, agent: &Agent, cpu: Cpu) -> bool {
-    agent.cpu() == cpu && knows_nothing(alloc, agent) && lists(agent, None) && agent.sent_items() == 0
+    agent.cpu() == cpu
+        && knows_nothing(alloc, agent)
+        && lists(agent, None)
+        && agent.sent_items() == 0
 }
 
 /// Whether nothing was counted.

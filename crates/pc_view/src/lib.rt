@@ -2,6 +2,16 @@
 //!
 //! A view holds a set of messages, as pairs of a thread's name and a number. What it tells of a thread depends only
 //! on that set and on the run that the messages are of (`specs/Views.antt`).
+//!
+//! Two views, of which one takes in what the other knows:
+//!
+//! ```
+//! fn merged(view: &mut View, other: &View) -> Result<u32, Fail> {
+//!     // In either order, and again, the same comes of it.
+//!     view.merge(other)?;
+//!     Ok(view.upto(Tid(0)))
+//! }
+//! ```
 #![tactic(auto)]
 
 mod auditing;
