@@ -62,7 +62,7 @@ LEGEND = [
     ("the CPU's agent sleeps", [r"agent \d+ asleep, .*"]),
     ("an item is posted to the queue (bars by their count where a column is of several commands)", [r"line \d+: (?:create|wake|tick) .*"]),
     ("an agent takes in what another one sent (a grey strip where a column is of several commands)", [r"line \d+: deliver .*"] * 2),
-    ("a thread's home is another queue: by a steal (thick), or by an associate (thin)", [r"t[19] stolen .*", r"t[19] moved .*"]),
+    ("a thread's home is another queue: a steal (thick), an associate (thin), or moves of several commands (a blue strip)", [r"t[19] stolen .*", r"t[19] moved .*"]),
     ("a command is refused (a white strip where a column is of several commands)", [r"line \d+: .*: refused .*"]),
     ("the CPU's agent crashes, and starts again with nothing", [r"crash \d+, line .*"]),
 ]
@@ -582,6 +582,25 @@ class Drawings(unittest.TestCase):
             posts[cpu] += 2
             thread, delta = thread + 1, delta + 1
         return "\n".join(lines) + "\n"
+
+    def test_moves_of_many_commands_are_drawn_to_the_end(self) -> None:
+        """Of many moves and crashes 500 are drawn over the whole width, all are counted, and no arrow lies on a crash."""
+        lines, moves = ["enclave 2 4096 100000 4096 100000", "create 0 3 ready", "publish 0", "consume 0"], 1_800
+        for place in range(moves):
+            lines += [f"associate t0 {(place + 1) % 2} 1"] + ["crash 1"] * (place % 3 == 0)
+        root = self.draw("\n".join(lines) + "\n")
+        self.assertEqual(self.title(root), f"commands {len(lines)}, refused 0")
+        told = [element[0].text or "" if element.tag in SHAPES else element.text for element in root]
+        arrows = [place for place, text in enumerate(told) if re.fullmatch(r"t0 moved from queue . to queue ., .*", text)]
+        crashes = [place for place, text in enumerate(told) if re.fullmatch(r"crash 1, line \d+", text)]
+        self.assertEqual((len(arrows), len(crashes)), (500, 500))
+        self.assertLess(arrows[-1], crashes[0])
+        self.assertEqual(self.sum_of(root, r"\d+ moves? of threads to queue .*"), moves)
+        for marks in (arrows, crashes):
+            numbers = [int(re.search(r"line (\d+)", told[place])[1]) for place in marks]
+            gaps = [other - one for one, other in zip([0] + numbers, numbers + [len(lines)])]
+            self.assertLess(max(gaps), 20)
+        self.assertIn(f"600 crashes and {moves} moves of threads: of more than 500 so many are drawn, evenly", told)
 
     def test_a_file_and_a_dash(self) -> None:
         with tempfile.TemporaryDirectory() as name:

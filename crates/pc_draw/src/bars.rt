@@ -32,6 +32,7 @@ struct Tally {
     is_asleep: bool,
     posts: u32,
     deltas: u32,
+    moves: u32,
     refusals: u32,
 }
 
@@ -47,6 +48,7 @@ const NOTHING: Tally = Tally {
     is_asleep: false,
     posts: 0,
     deltas: 0,
+    moves: 0,
     refusals: 0,
 };
 
@@ -165,6 +167,7 @@ impl Tally {
             Row::Queue => counted(self.items, is_dense),
             Row::Posts => counted_if(self.posts, is_dense),
             Row::Deltas => counted_if(self.deltas, is_dense),
+            Row::Moves => counted_if(self.moves, is_dense),
             Row::Refusals => counted_if(self.refusals, is_dense),
         }
     }
@@ -247,6 +250,11 @@ impl Bars {
                     && let Some(tally) = self.tallies.get_mut(cpu.index() as usize)
                 {
                     tally.deltas = tally.deltas.saturating_add(1);
+                }
+            }
+            Answer::Event(Reply::Associated { queue, .. }) => {
+                if let Some(tally) = self.tallies.get_mut(queue.index() as usize) {
+                    tally.moves = tally.moves.saturating_add(1);
                 }
             }
             Answer::Refused(_) => {

@@ -82,7 +82,7 @@ const ENTRIES: [Entry; 11] = [
     Entry {
         sample: Sample::Home,
         height: 22,
-        meaning: "a thread's home is another queue: by a steal (thick), or by an associate (thin)",
+        meaning: "a thread's home is another queue: a steal (thick), an associate (thin), or moves of several commands (a blue strip)",
     },
     Entry {
         sample: Sample::Refused,

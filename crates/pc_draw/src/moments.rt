@@ -1,11 +1,11 @@
 //! What a script's picture shows of single steps: posts, deltas, moves of threads, refusals and crashes.
 //!
 //! Where a column is of several steps, only crashes and moves are shown here, and of each no more than
-//! [`MOST_MOMENTS`]: words tell how many there are, and how many refused commands are of no CPU. The others are counted
-//! in rows.
+//! [`MOST_MOMENTS`], which lie over the whole width: words tell how many there are, and how many refused commands are
+//! of no CPU. Moves and the others are counted in rows.
 
 use crate::layout::{Layout, TOP};
-use crate::step::{Answer, Reason, Sent, Step};
+use crate::step::{Answer, Reason, Sent, Step, Story};
 use pc_calls::{Event, Posted, Refusal, Reply};
 use pc_messages::Cpu;
 use pc_pen::{Canvas, Quoted, SMALL, arrow, bold_cross, hollow_cross, outline, stroke, words};
@@ -21,12 +21,41 @@ const THIN: &str = "stroke=\"#777\"";
 /// The style of a post's tick.
 pub(crate) const POST: &str = "stroke=\"#000\" stroke-width=\"2\"";
 
+/// How many there are of something, and how many there were so far.
+#[derive(Clone, Copy)]
+struct Sample {
+    all: u32,
+    so_far: u32,
+}
+
+impl Sample {
+    /// None was there so far.
+    const fn of(all: u32) -> Sample {
+        Sample { all, so_far: 0 }
+    }
+
+    /// Takes the next one, and answers whether it is drawn: all are, or as many as may be, evenly among all.
+    fn takes(&mut self) -> bool {
+        let before = self.drawn();
+        self.so_far = self.so_far.saturating_add(1);
+        self.all <= MOST_MOMENTS || self.drawn() > before
+    }
+
+    /// How many are drawn of those so far, where not all are.
+    fn drawn(&self) -> u64 {
+        u64::from(self.so_far)
+            .saturating_mul(u64::from(MOST_MOMENTS))
+            .checked_div(u64::from(self.all))
+            .unwrap_or(0)
+    }
+}
+
 /// What was shown so far.
 #[derive(Drop)]
 pub(crate) struct Moments {
     layout: Layout,
-    crashes: u32,
-    moves: u32,
+    crashes: Sample,
+    moves: Sample,
     /// How many refused commands were of no lane, where a column is of several steps.
     unplaced: u32,
 }
@@ -65,13 +94,30 @@ fn say_refusal(canvas: &mut Canvas, refusal: Refusal) {
     };
 }
 
+/// The CPU whose agent crashed at a step.
+fn crash_of(step: &Step) -> Option<Cpu> {
+    match (step.command, step.answer) {
+        (Command::Event(Event::Crash { cpu }), Answer::Event(_)) => Some(cpu),
+        _ => None,
+    }
+}
+
 impl Moments {
-    /// Before the first step.
-    pub(crate) fn new(layout: Layout) -> Moments {
+    /// Before the first of these steps.
+    pub(crate) fn new(layout: Layout, story: &Story) -> Moments {
+        let mut crashes = 0u32;
+        let mut moves = 0u32;
+        for step in story.steps.as_slice() {
+            if crash_of(step).is_some() {
+                crashes = crashes.saturating_add(1);
+            } else if let Answer::Event(Reply::Associated { .. }) = step.answer {
+                moves = moves.saturating_add(1);
+            }
+        }
         Moments {
             layout,
-            crashes: 0,
-            moves: 0,
+            crashes: Sample::of(crashes),
+            moves: Sample::of(moves),
             unplaced: 0,
         }
     }
@@ -110,15 +156,15 @@ impl Moments {
             );
             canvas.done();
         }
-        if !self.layout.is_dense || self.crashes.max(self.moves) <= MOST_MOMENTS {
+        let crashes = self.crashes.all;
+        let moves = self.moves.all;
+        if !self.layout.is_dense || crashes.max(moves) <= MOST_MOMENTS {
             return;
         }
-        let crashes = self.crashes;
-        let moves = self.moves;
         words(canvas, 440, 20, SMALL);
         let _ = write!(
             canvas,
-            "{crashes} crashes and {moves} moves of threads: the first {MOST_MOMENTS} of each are drawn"
+            "{crashes} crashes and {moves} moves of threads: of more than {MOST_MOMENTS} so many are drawn, evenly"
         );
         canvas.done();
     }
@@ -134,7 +180,6 @@ impl Moments {
         canvas: &mut Canvas,
     ) {
         match (event, reply, home) {
-            (Event::Crash { cpu }, _, _) => self.crash(index, line, *cpu, canvas),
             (_, Reply::Associated { thread, queue }, Some(home)) => {
                 let is_steal = matches!(event, Event::Steal { .. });
                 self.change_home(index, line, thread.index(), home, *queue, is_steal, canvas);
@@ -178,15 +223,18 @@ impl Moments {
         canvas.done();
     }
 
-    /// An agent crashed.
-    fn crash(&mut self, index: u32, line: Line<'_>, cpu: Cpu, canvas: &mut Canvas) {
-        self.crashes = self.crashes.saturating_add(1);
-        if self.layout.is_dense && self.crashes > MOST_MOMENTS {
+    /// Draws the crash that a step is, if it is one. Crashes come last, so that no arrow hides one.
+    pub(crate) fn crash(&mut self, index: u32, step: &Step, canvas: &mut Canvas) {
+        let Some(cpu) = crash_of(step) else {
+            return;
+        };
+        let is_drawn = self.crashes.takes();
+        if self.layout.is_dense && !is_drawn {
             return;
         }
         bold_cross(canvas, self.layout.middle(index), self.height_in(cpu, 17));
         let cpu = cpu.index();
-        let number = line.number;
+        let number = step.number;
         let _ = write!(canvas, "crash {cpu}, line {number}");
         canvas.done();
     }
@@ -202,8 +250,8 @@ impl Moments {
         is_steal: bool,
         canvas: &mut Canvas,
     ) {
-        self.moves = self.moves.saturating_add(1);
-        if self.layout.is_dense && self.moves > MOST_MOMENTS {
+        let is_drawn = self.moves.takes();
+        if self.layout.is_dense && !is_drawn {
             return;
         }
         let half = if is_steal { 3 } else { 1 };

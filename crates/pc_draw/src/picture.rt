@@ -55,7 +55,7 @@ fn write_moments<W: Write>(
 ) -> io::Result<()>
     ensures { OnOk result (Marks (W.contents writer.old) (W.contents writer.new)) }
 {
-    let mut moments = Moments::new(*layout);
+    let mut moments = Moments::new(*layout, story);
     let mut index = 0u32;
     let mut number = 0u32;
     for text in lines_of(Some(text)) {
@@ -76,10 +76,30 @@ fn write_moments<W: Write>(
             index = index.saturating_add(1);
         }
     }
+    write_crashes(&mut moments, story, canvas, writer)?;
     canvas.clear();
     moments.end(canvas);
     draw_legend(canvas, layout.legend());
     canvas.write_to(writer)
+}
+
+/// Writes the crashes of all steps.
+fn write_crashes<W: Write>(
+    moments: &mut Moments,
+    story: &Story,
+    canvas: &mut Canvas,
+    writer: &mut W,
+) -> io::Result<()>
+    ensures { OnOk result (Marks (W.contents writer.old) (W.contents writer.new)) }
+{
+    let mut index = 0u32;
+    for step in story.steps.as_slice() {
+        canvas.clear();
+        moments.crash(index, step, canvas);
+        canvas.write_to(writer)?;
+        index = index.saturating_add(1);
+    }
+    Ok(())
 }
 
 /// Writes the marks.

@@ -22,12 +22,14 @@ pub(crate) enum Row {
     Posts,
     /// How many deltas were taken in, likewise.
     Deltas,
+    /// How many threads came to have this queue as their home, likewise.
+    Moves,
     /// How many commands were refused, likewise.
     Refusals,
 }
 
 /// All rows.
-pub(crate) const ROWS: [Row; 8] = [
+pub(crate) const ROWS: [Row; 9] = [
     Row::Asleep,
     Row::Runs,
     Row::Idle,
@@ -35,6 +37,7 @@ pub(crate) const ROWS: [Row; 8] = [
     Row::Queue,
     Row::Posts,
     Row::Deltas,
+    Row::Moves,
     Row::Refusals,
 ];
 
@@ -139,6 +142,7 @@ pub(crate) fn draw_strip(
         Row::Queue => draw_queue(canvas, &span, strip),
         Row::Posts => draw_posts(canvas, &span, strip),
         Row::Deltas => draw_deltas(canvas, &span, strip),
+        Row::Moves => draw_moves(canvas, &span, strip),
         Row::Refusals => draw_refusals(canvas, &span, strip),
     }
 }
@@ -257,6 +261,16 @@ fn draw_deltas(canvas: &mut Canvas, span: &Span, strip: &Strip) {
     let cpu = span.cpu;
     let lines = span.lines;
     let _ = write!(canvas, "{deltas} taken in by agent {cpu}, {lines}");
+    canvas.done();
+}
+
+fn draw_moves(canvas: &mut Canvas, span: &Span, strip: &Strip) {
+    let y = span.y.saturating_add(30);
+    bar(canvas, span.x, y, span.width, 2, "fill=\"#0072B2\"");
+    let moves = Count(u64::from(strip.total), "move");
+    let cpu = span.cpu;
+    let lines = span.lines;
+    let _ = write!(canvas, "{moves} of threads to queue {cpu}, {lines}");
     canvas.done();
 }
 

@@ -8,4 +8,5 @@ pub loop-text-preserved-then-step-number : goal.loop-text-preserved-then-step-nu
 loop-text-preserved-then-step-number g c = Marks-trans _ _ _ c.loop-text.invariant c.in_ok-write_to.ensures.marks
 
 pub returns : goal.returns
-returns g c = Marks-trans_ok c.write_to-2.result _ _ _ c.loop-text.invariant c.write_to-2.ensures.marks
+returns g c =
+    Marks-trans_ok c.write_to-2.result _ _ _ (Marks-trans _ _ _ c.loop-text.invariant c.in_ok-write_crashes.ensures) c.write_to-2.ensures.marks
