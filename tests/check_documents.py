@@ -40,6 +40,8 @@ INNER_NAME = re.compile(r"\bghost (\w+)[ :=]|\bconst ([A-Z_]+):|^    (?:pub )?(\
 RECORD = re.compile(r"^pub record (\w+)(?:.*\n)*?.*\bwhere\n((?: +.*\n)*)", re.M)
 # Names that are std's, and words of the language.
 FOREIGN = {"Err", "Ok", "IsStrictlyIncreasing"}
+# A caller's crate, to copy: it promises nothing of the program.
+EXAMPLE = "pc_example"
 
 # Errors that may be want of memory.
 WANTING = re.compile(
@@ -361,7 +363,7 @@ class Checker:
         for crate in self.crates.values():
             for function in crate.functions:
                 key = (function.crate, function.owner, function.name)
-                if function.has_contract and crate.exported(function):
+                if function.has_contract and crate.exported(function) and function.crate != EXAMPLE:
                     self.expect(key in self.named, "docs/PROMISES.md", f"it does not name `{function}`, which has a public contract")
 
     # What want of memory leaves
@@ -393,7 +395,7 @@ class Checker:
         """Whether a call is public and may want memory. The methods of `Join` are told of each type that has them."""
         if function.of_trait == "Join":
             return function.owner != "Join" and function.owner in crate.exports and function.may_want_memory()
-        return crate.exported(function) and function.may_want_memory()
+        return crate.exported(function) and function.may_want_memory() and function.crate != EXAMPLE
 
     def check_tests_of(self, where, cell):
         """What names the tests: single calls and cases in backquotes, parts of the harness in italics."""
