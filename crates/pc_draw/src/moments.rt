@@ -94,10 +94,13 @@ fn say_refusal(canvas: &mut Canvas, refusal: Refusal) {
     };
 }
 
-/// The CPU whose agent crashed at a step.
-fn crash_of(step: &Step) -> Option<Cpu> {
-    match (step.command, step.answer) {
-        (Command::Event(Event::Crash { cpu }), Answer::Event(_)) => Some(cpu),
+/// The index of the CPU whose agent crashed at a step.
+fn crash_of(step: &Step) -> Option<u8> {
+    let (Answer::Event(_), Command::Event(event)) = (step.answer, step.command) else {
+        return None;
+    };
+    match event {
+        Event::Crash { cpu } => Some(cpu.index()),
         _ => None,
     }
 }
@@ -232,8 +235,7 @@ impl Moments {
         if self.layout.is_dense && !is_drawn {
             return;
         }
-        bold_cross(canvas, self.layout.middle(index), self.height_in(cpu, 17));
-        let cpu = cpu.index();
+        bold_cross(canvas, self.layout.middle(index), self.height_in(Cpu(cpu), 17));
         let number = step.number;
         let _ = write!(canvas, "crash {cpu}, line {number}");
         canvas.done();
