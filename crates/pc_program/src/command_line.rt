@@ -95,7 +95,7 @@ const AFTER_EXPLAIN: &str = "\
 Example:
   pc-sim explain examples/commits-and-sleepers.script
 
-The lines that begin with `#` are comments; the others are what `pc-sim replay` writes.
+The lines that begin with `#` are comments; without them (grep -av '^#') it is what `pc-sim replay` writes.
 Exit status: 0 finished; 1 a line is no command, or a read or a write failed; 4 memory is wanting.
 What is written is described in docs/FORMATS.md.";
 
