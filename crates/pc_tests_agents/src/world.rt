@@ -161,6 +161,8 @@ enum Step {
     Cpus(u8),
     Sleeps(u8, bool),
     HasView(u8, bool),
+    /// How many names the run list of the CPU's agent has, and how many items it has sent.
+    Lists(u8, Option<(usize, u32)>),
 }
 
 // Without contracts, as the functions below, so that a test's proof does not carry those of the world.
@@ -177,6 +179,13 @@ fn replies(world: &mut World, event: Event, wanted: Reply) -> bool {
 
 fn has_view(world: &World, cpu: u8) -> bool {
     world.view(Cpu(cpu)).is_some()
+}
+
+fn lists(world: &World, cpu: u8) -> Option<(usize, u32)> {
+    match world.agent(Cpu(cpu)) {
+        Some(agent) => Some((agent.run_list().len(), agent.sent_items())),
+        None => None,
+    }
 }
 
 fn knows(world: &World, cpu: u8, number: u32) -> bool {
@@ -218,6 +227,7 @@ fn tells(world: &World, step: &Step) -> bool {
         Step::Cpus(wanted) => world.kernel().cpus() == wanted,
         Step::Sleeps(cpu, wanted) => world.kernel().is_asleep(Cpu(cpu)) == wanted,
         Step::HasView(cpu, wanted) => has_view(world, cpu) == wanted,
+        Step::Lists(cpu, wanted) => lists(world, cpu) == wanted,
         _ => false,
     }
 }
@@ -267,6 +277,24 @@ fn a_message_is_early(rt: HostRuntime) {
         Step::Reports(1, Some(Phase::Ready)),
         Step::Sent(2),
         Step::Threads(1),
+    ];
+    comes_out(&rt, rt.alloc(), &steps);
+}
+
+// The first publish lists the thread and counts its message as sent, until a consume; a crash forgets both.
+#[test]
+fn an_agent_lists_threads_and_counts_what_it_sent(rt: HostRuntime) {
+    let steps = [
+        Step::Does(create(0, true), posted(0, 1, 0, 1)),
+        Step::Lists(0, Some((0, 0))),
+        Step::Does(publish(0), published(0, 1)),
+        Step::Lists(0, Some((1, 1))),
+        Step::Lists(1, Some((0, 0))),
+        Step::Lists(2, None),
+        Step::Does(consume(0), consumed(1)),
+        Step::Lists(0, Some((1, 0))),
+        Step::Does(crash(0), Reply::Done),
+        Step::Lists(0, Some((0, 0))),
     ];
     comes_out(&rt, rt.alloc(), &steps);
 }

@@ -1,12 +1,10 @@
--- What a new world shows, and what it tells of an agent's view.
-use Rattle.std.proofs.Common.{◌≡◌, ℕ, zero, suc, ◌+◌, ◌<◌, true, ◌⊎◌, List, [], ◌∷◌, ◌++◌, length, Some, slice_get, refl, sym, ◌∙◌, ap, subst, length-append, inl, inr, arith}
-use Rattle.std.proofs.lemmas.Bool.{lt-ltb}
-use Rattle.std.proofs.lemmas.Option.{same_Some, slice_get_within}
+-- What a new world shows.
+use Rattle.std.proofs.Common.{◌≡◌, ℕ, zero, suc, ◌+◌, ◌⊎◌, List, [], ◌∷◌, ◌++◌, length, Some, slice_get, refl, sym, ◌∙◌, ap, subst, length-append, inl, inr}
+use Rattle.std.proofs.lemmas.Option.{same_Some}
 use Rattle.pc_messages.specs.Run.{Run}
 use Rattle.pc_calls.specs.declared.limits.Limits.{Limits}
 use Rattle.pc_kernel.specs.Answers.{Shows}
 use Rattle.pc_kernel.specs.PlainKernel.{start, kinds}
-use Rattle.pc_kernel.specs.Reads.{shown, is_cpu}
 use Rattle.pc_agent.specs.declared.agent.Agent.{Agent}
 use Rattle.pc_agent.specs.PlainAgent.{fresh}
 use Rattle.pc_agent.specs.Shows.{ShowsAgent, cpu_of}
@@ -43,10 +41,3 @@ new_world world limits count kernel agents sent = record {
   agents = λ c agent e. agents.fresh c agent e (kinds (start limits));
   sent = subst (AreSent (kinds (start limits)) []) (sym sent) tt;
 }
-
-pub view_there : (world : Parts) (c : ℕ) (agent : Agent) → slice_get world.agents.items c ≡ Some agent → (w : PlainWorld) → ShowsWorld world w → (is_cpu (shown w.kernel) c ≡ true) × ShowsAgent (kinds w.kernel) (w.agents c) agent
-view_there world c agent there w h =
-    let many : length world.agents.items ≡ world.kernel.limits.cpus = world.as_many in
-    let low : c < length world.agents.items = slice_get_within world.agents.items c agent there in
-    let inside : c < world.kernel.limits.cpus = omega arith in
-    (ap (λ r. is_cpu r c) (sym h.kernel.reads) ∙ lt-ltb c world.kernel.limits.cpus inside, h.agents c agent there)

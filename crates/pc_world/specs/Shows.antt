@@ -46,6 +46,11 @@ pub record IsReached (world : World) : Type 0 where
   pub reached : Reached world.kernel.limits plain
   pub shows : ShowsWorld world plain
 
+-- the agent of a CPU; none of a CPU that is not there
+abbrev pub IsAgentAt : PlainWorld → ℕ → Option Agent → Type 0
+IsAgentAt w c None = IsFalse (is_cpu (shown w.kernel) c)
+IsAgentAt w c (Some agent) = IsTrue (is_cpu (shown w.kernel) c) × ShowsAgent (kinds w.kernel) (w.agents c) agent
+
 -- the view of the agent of a CPU; none of a CPU that is not there
 abbrev pub IsViewAt : PlainWorld → ℕ → Option View → Type 0
 IsViewAt w c None = IsFalse (is_cpu (shown w.kernel) c)

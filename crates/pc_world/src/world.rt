@@ -10,7 +10,7 @@ ghost use Rattle.pc_world.specs.Steps.{Step};
 use crate::agents::new_agents;
 use crate::laws::kernel_laws;
 use crate::parts::Parts;
-use pc_agent::KeptWire;
+use pc_agent::{Agent, KeptWire};
 use pc_calls::{Event, LimitField, Limits, LimitsFault, Posted, Profile, Refusal, Reply};
 use pc_delta::Delta;
 use pc_join::OutOfMemory;
@@ -53,8 +53,8 @@ fn add<T: Drop>(items: &mut Vec<T>, item: T) -> Result<(), OutOfMemory>
 }
 
 impl World {
-    ghost use Rattle.pc_world.specs.Shows.{AreSent, Does, IsReached, IsViewAt, KeepsSent, RunsInPart, RunsThrough};
-    ghost use Rattle.pc_world.specs.Shows.{ShowsWorld, LeavesWhenRanOut, deltas_of};
+    ghost use Rattle.pc_world.specs.Shows.{AreSent, Does, IsAgentAt, IsReached, IsViewAt, KeepsSent, RunsInPart};
+    ghost use Rattle.pc_world.specs.Shows.{RunsThrough, ShowsWorld, LeavesWhenRanOut, deltas_of};
     ghost use Rattle.pc_world.specs.Inner.Handling.{StepsInPart, StepsInto};
 
     /// The world at the start, with limits of profile One.
@@ -106,11 +106,18 @@ impl World {
         &self.parts.kernel
     }
 
+    /// The CPU's agent; none of a CPU that is not there.
+    pub fn agent(&self, cpu: Cpu) -> Option<&Agent>
+        ensures { (w : PlainWorld) → ShowsWorld self.now w → IsAgentAt w cpu (option_copied result) }
+    {
+        self.parts.agent(cpu)
+    }
+
     /// The view of the CPU's agent; none of a CPU that is not there.
     pub fn view(&self, cpu: Cpu) -> Option<&View>
         ensures { (w : PlainWorld) → ShowsWorld self.now w → IsViewAt w cpu (option_copied result) }
     {
-        match self.parts.agent(cpu) {
+        match self.agent(cpu) {
             Some(agent) => Some(agent.view()),
             None => None,
         }
