@@ -8,7 +8,7 @@
   names        each `Type::name`, `Module.word` and path of a file in any other document is there
   crates       docs/ARCHITECTURE.md has each crate, and what it stands on, as crates.txt has it
   refusals     docs/FORMATS.md and docs/GLOSSARY.md have an item for each refusal
-  advice       docs/GLOSSARY.md has the words of pc_explain on each refusal: why, and what would be accepted
+  advice       docs/GLOSSARY.md has the words of pc_explain on why each refusal comes
   examples     each example's script has its output beside it, and examples/README.md names all of them; the code that
                the root of a crate shows is code of a test, line for line
   versions     the program, its case and CHANGELOG.md tell one version, and README.md the kit that is on the path
@@ -478,21 +478,18 @@ class Checker:
                 self.expect(refusal in told, f"docs/{name}.md", f"it has no item for `{refusal}`")
 
     def check_advice(self):
-        """The refusals that an explained script tells of, and those of docs/GLOSSARY.md: the same names, reasons and remedies."""
-        text = (ROOT / "crates/pc_explain/src/advice.rt").read_text()
-        columns = []
-        for name in ("reason", "remedy"):
-            bodies = re.findall(r"fn " + name + r"\(.*?\n(?:    )?\}", text, re.S)
-            columns.append(dict(re.findall(r"::(\w+)(?:\(_\))? =>\s*(?:\{\s*)?\"([^\"]*)\"", "".join(bodies))))
+        """The refusals that an explained script tells of, and those of docs/GLOSSARY.md: the same names and reasons."""
+        text = (ROOT / "crates/pc_explain/src/reasons.rt").read_text()
+        bodies = re.findall(r"fn reason\(.*?\n(?:    )?\}", text, re.S)
+        reasons = dict(re.findall(r"::(\w+)(?:\(_\))? =>\s*(?:\{\s*)?\"([^\"]*)\"", "".join(bodies)))
         glossary = {}
         for item in items_of("docs/GLOSSARY.md", ["why", "accepted"]):
             if item.heading == "## Refusals" and {"why", "accepted"} <= set(item.below):
-                glossary[SPAN.match(item.text)[1]] = [item.below["why"], item.below["accepted"]]
+                glossary[SPAN.match(item.text)[1]] = item.below["why"]
         where = "docs/GLOSSARY.md"
-        self.expect(set(glossary) == set(columns[0]) == set(columns[1]), where, "its refusals are not those of crates/pc_explain/src/advice.rt")
+        self.expect(set(glossary) == set(reasons), where, "its refusals are not those of crates/pc_explain/src/reasons.rt")
         for name, told in glossary.items():
-            for column, cell in zip(columns, told):
-                self.expect(column.get(name) == cell, where, f"`{name}` has not the words `{column.get(name)}` of crates/pc_explain/src/advice.rt")
+            self.expect(reasons.get(name) == told, where, f"`{name}` has not the words `{reasons.get(name)}` of crates/pc_explain/src/reasons.rt")
 
     def check_examples(self):
         inputs = {".script", ".toml"}

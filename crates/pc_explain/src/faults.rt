@@ -3,13 +3,25 @@
 
 use crate::sentences::Sentences;
 use crate::words::Quoted;
-use pc_script::{Trouble, Verb, Wanted, trouble_in};
+use pc_script::{Trouble, Verb, Wanted, first_word, trouble_in};
 use std::fmt::{self, Write};
 
 /// Tells why a line is no command.
 pub(crate) fn tell_fault(text: &mut Sentences, line: &[u8]) {
     // Sentences take any text: what goes past their room is left out.
     let _ = fault(text, line);
+    let _ = spaces(text, line);
+}
+
+/// Tells of a `#` or a tab that is taken for a part of a word.
+fn spaces(text: &mut Sentences, line: &[u8]) -> fmt::Result {
+    if begins_with_mark(line) {
+        writeln!(text, "A comment's # is the first byte of its line.")?;
+    }
+    if line.contains(&b'\t') {
+        writeln!(text, "A tab is no space: it is a part of its word.")?;
+    }
+    Ok(())
 }
 
 fn fault(text: &mut Sentences, line: &[u8]) -> fmt::Result {
@@ -45,6 +57,14 @@ fn fault(text: &mut Sentences, line: &[u8]) -> fmt::Result {
             form(text, verb)
         }
         None => Ok(()),
+    }
+}
+
+/// Whether the first word begins with a `#`.
+fn begins_with_mark(line: &[u8]) -> bool {
+    match first_word(line) {
+        Some((word, _)) => matches!(word.first(), Some(b'#')),
+        None => false,
     }
 }
 

@@ -1,8 +1,8 @@
 //! What happens at each line of a script, in plain sentences.
 //!
 //! What is written is what the script's run writes, with comments between: before each reply the line that it answers,
-//! with its number, and after it what changed, or why it was refused and what would be accepted. Without the comments
-//! it is exactly what the run writes. The sentences themselves are tested, not proved.
+//! with its number, and after it what changed, or why it was refused and what would make it accepted. Without the
+//! comments it is exactly what the run writes. The sentences themselves are tested, not proved.
 //!
 //! A script that is explained over memory:
 //!
@@ -20,6 +20,7 @@ mod comment;
 mod explain;
 mod faults;
 mod news;
+mod reasons;
 mod sentences;
 mod telling;
 mod words;

@@ -64,15 +64,29 @@ impl News {
                         news.add(message.thread, message.number, message.number);
                     }
                 }
-                Part::Folded { thread, upto, .. } => {
-                    let known = view.upto(*thread);
-                    if known < *upto {
-                        news.add(*thread, known + 1, *upto);
-                    }
-                }
+                Part::Folded { thread, upto, .. } => news.add_unknown(view, *thread, *upto),
             }
         }
         news
+    }
+
+    /// Adds those of the first messages of a thread, up to a number, that a view does not know.
+    fn add_unknown(&mut self, view: &View, thread: Tid, upto: u32) {
+        let mut from = view.upto(thread).saturating_add(1);
+        if let Some(held) = view.thread(thread) {
+            for (number, _) in held.early() {
+                if *number > upto {
+                    break;
+                }
+                if from < *number {
+                    self.add(thread, from, *number - 1);
+                }
+                from = number.saturating_add(1);
+            }
+        }
+        if from <= upto {
+            self.add(thread, from, upto);
+        }
     }
 
     /// Whether there are no messages.

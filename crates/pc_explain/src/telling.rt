@@ -4,7 +4,9 @@ mod agents;
 mod calls;
 mod questions;
 mod refusals;
+mod steps;
 
+use crate::advice::Deed;
 use crate::before::Before;
 use crate::sentences::Sentences;
 use crate::words::Count;
@@ -35,7 +37,7 @@ fn told(
     match (command, response) {
         (Command::Enclave(limits), Response::Opened) => opened(text, limits),
         (Command::Event(event), Response::Event(Reply::Refused(refusal))) => {
-            refusals::refused(text, Some(event), refusal, world)
+            refusals::refused(text, &Deed::of(event), refusal, world)
         }
         (Command::Event(event), Response::Event(reply)) => done(text, event, reply, before, world),
         (Command::Read(question), _) => questions::answered(text, question, response, world),

@@ -5,7 +5,7 @@ mod rows;
 use pc_explain::explain_script;
 use pc_script::{Outcome, ScriptFault, lines_of, run_script};
 use pc_session::Session;
-use rows::{AGENTS, CALLS, EVERYTHING, FAULTS, REFUSALS, WORD_TOO_MANY};
+use rows::{AGENTS, CALLS, EVERYTHING, FAULTS, REFUSALS, TRUTHS, WORD_TOO_MANY};
 use std::alloc::{AllocError, Global};
 use std::process::Abort;
 
@@ -56,6 +56,11 @@ fn what_agents_do_is_told(rt: HostRuntime) {
 #[test]
 fn refusals_are_told(rt: HostRuntime) {
     each_is_told(&rt, rt.alloc(), REFUSALS.as_slice());
+}
+
+#[test]
+fn what_is_told_is_true(rt: HostRuntime) {
+    each_is_told(&rt, rt.alloc(), TRUTHS.as_slice());
 }
 
 #[test]

@@ -147,7 +147,7 @@ pub(super) fn consumed(text: &mut Sentences, cpu: Cpu, items: u32) -> fmt::Resul
     if items == 0 {
         return writeln!(
             text,
-            "Queue {agent} holds nothing that agent {agent} has sent, so all stays there."
+            "Agent {agent} counts no item of queue {agent} as sent, so all stays there."
         );
     }
     let removed = Count(u64::from(items), "item");
@@ -162,7 +162,10 @@ pub(super) fn marked(text: &mut Sentences, event: &Event) -> fmt::Result {
     match event {
         Event::Agent(AgentCall::Sleep { cpu, .. }) => {
             let agent = cpu.index();
-            writeln!(text, "Agent {agent} sleeps until a post wakes it.")
+            writeln!(
+                text,
+                "Agent {agent} sleeps until it is woken: by a post to a queue that wakes it, or by a rouse, a config or a crash."
+            )
         }
         Event::Agent(AgentCall::Rouse { cpu }) => {
             let agent = cpu.index();

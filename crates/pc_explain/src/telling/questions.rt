@@ -1,5 +1,6 @@
 //! The sentences on questions.
 
+use crate::advice::Deed;
 use crate::sentences::Sentences;
 use crate::telling::refusals;
 use crate::words::Count;
@@ -20,7 +21,9 @@ pub(super) fn answered(
     world: Option<&World>,
 ) -> fmt::Result {
     match (question, response) {
-        (_, Response::Refused(refusal)) => refusals::refused(text, None, refusal, world),
+        (_, Response::Refused(refusal)) => {
+            refusals::refused(text, &Deed::Ask(*question), refusal, world)
+        }
         (_, Response::NoEnclave) => refusals::no_enclave(text),
         (
             Read::Status { .. },

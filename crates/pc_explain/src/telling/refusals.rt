@@ -1,24 +1,102 @@
 //! The sentences on refusals.
 
-use crate::advice::{Closed, reason, remedy};
+use crate::advice::{Ahead, Deed, Plan};
+use crate::reasons::{Closed, reason};
 use crate::sentences::Sentences;
+use crate::telling::steps::advised;
 use crate::words::Count;
-use pc_calls::{AgentCall, Event, LimitField, Refusal};
-use pc_messages::Cpu;
+use pc_calls::{LimitField, Refusal};
+use pc_messages::{Cpu, Tid};
 use pc_world::World;
 use std::fmt::{self, Write};
 
-/// A refusal of an event, or of a question.
+/// A refusal of what a line asks for: why, how much there is of what it names, and what would make it accepted.
 pub(super) fn refused(
     text: &mut Sentences,
-    event: Option<&Event>,
+    deed: &Deed,
     refusal: &Refusal,
     world: Option<&World>,
 ) -> fmt::Result {
-    if let Refusal::Stale(now) = refusal {
-        return stale(text, event, *now);
+    why(text, deed, refusal)?;
+    match world {
+        Some(world) => {
+            tried(text, deed, refusal, world)?;
+            there_is(text, refusal, world)?;
+            advised(text, world, deed)
+        }
+        None => Ok(()),
     }
-    advised(text, reason(*refusal), remedy(*refusal))?;
+}
+
+/// Why it is refused.
+fn why(text: &mut Sentences, deed: &Deed, refusal: &Refusal) -> fmt::Result {
+    match (refusal, deed) {
+        (
+            Refusal::Stale(now),
+            Deed::Commit { cpu, .. } | Deed::Sleep { cpu } | Deed::Pick { cpu },
+        ) => { old_posts(text, *cpu, *now) }
+        (Refusal::Stale(now), Deed::Associate { thread, .. }) => {
+            let thread = thread.index();
+            writeln!(
+                text,
+                "The number is wrong: the thread's last message is {now}, as status t{thread} tells."
+            )
+        }
+        _ => {
+            let reason = reason(*refusal);
+            writeln!(text, "Refused: {reason}.")
+        }
+    }
+}
+
+/// A count of posts that is old.
+fn old_posts(text: &mut Sentences, cpu: Cpu, now: u32) -> fmt::Result {
+    let queue = cpu.index();
+    match now {
+        0 => writeln!(
+            text,
+            "The count of posts is wrong: no post was made to queue {queue}."
+        ),
+        1 => writeln!(
+            text,
+            "The count of posts is wrong: 1 post was made to queue {queue}, as its answer (a1) tells."
+        ),
+        _ => writeln!(
+            text,
+            "The count of posts is wrong: {now} posts were made to queue {queue}, as the answer to the last one (a{now}) tells."
+        ),
+    }
+}
+
+/// Which thread a steal tried.
+fn tried(text: &mut Sentences, deed: &Deed, refusal: &Refusal, world: &World) -> fmt::Result {
+    let (Refusal::Stale(_) | Refusal::Pending | Refusal::Dead, Deed::Steal { cpu }) = (
+        refusal, deed,
+    ) else {
+        return Ok(());
+    };
+    match Ahead::new(world, &Plan::new()).tried(*cpu) {
+        Some(thread) => tried_thread(text, *cpu, thread, world),
+        None => Ok(()),
+    }
+}
+
+/// The thread that a steal tried, and what its agent knows of it.
+fn tried_thread(text: &mut Sentences, cpu: Cpu, thread: Tid, world: &World) -> fmt::Result {
+    let upto = match world.view(cpu) {
+        Some(view) => view.upto(thread),
+        None => 0,
+    };
+    let agent = cpu.index();
+    let thread = thread.index();
+    writeln!(
+        text,
+        "It tried thread t{thread}, of which agent {agent} knows all messages up to {upto}."
+    )
+}
+
+/// How much there is of what was asked for, or where it is.
+fn there_is(text: &mut Sentences, refusal: &Refusal, world: &World) -> fmt::Result {
     match refusal {
         Refusal::Running(cpu) => {
             let cpu = cpu.index();
@@ -28,21 +106,6 @@ pub(super) fn refused(
             let queue = queue.index();
             writeln!(text, "Its messages go to queue {queue}.")
         }
-        _ => match world {
-            Some(world) => there_is(text, refusal, world),
-            None => Ok(()),
-        },
-    }
-}
-
-/// The table's words.
-fn advised(text: &mut Sentences, reason: &str, remedy: &str) -> fmt::Result {
-    writeln!(text, "Refused: {reason}. Accepted: {remedy}.")
-}
-
-/// How much there is of what was asked for.
-fn there_is(text: &mut Sentences, refusal: &Refusal, world: &World) -> fmt::Result {
-    match refusal {
         Refusal::BadCpu | Refusal::MaskTooWide => {
             let cpus = Count(u64::from(world.kernel().cpus()), "CPU");
             writeln!(text, "The enclave has {cpus}, counted from 0.")
@@ -59,57 +122,10 @@ fn there_is(text: &mut Sentences, refusal: &Refusal, world: &World) -> fmt::Resu
     }
 }
 
-/// A number that is old.
-fn stale(text: &mut Sentences, event: Option<&Event>, now: u32) -> fmt::Result {
-    match event {
-        Some(Event::Agent(AgentCall::Commit { cpu, .. })) => old_posts(text, *cpu, "commit", now),
-        Some(Event::Agent(AgentCall::Sleep { cpu, .. })) => old_posts(text, *cpu, "sleep", now),
-        Some(Event::Pick { cpu, .. }) => old_posts(text, *cpu, "pick", now),
-        Some(Event::Agent(AgentCall::Associate { thread, .. })) => {
-            let thread = thread.index();
-            writeln!(
-                text,
-                "The number is old: the thread's last message is {now}. Look again (status t{thread}), and associate under {now}."
-            )
-        }
-        Some(Event::Steal { cpu }) => {
-            let agent = cpu.index();
-            writeln!(
-                text,
-                "Agent {agent} does not know the thread's last message, which is {now}. Deliver it to the agent, and steal again."
-            )
-        }
-        _ => advised(
-            text,
-            reason(Refusal::Stale(now)),
-            remedy(Refusal::Stale(now)),
-        ),
-    }
-}
-
-/// A count of posts that is old.
-fn old_posts(text: &mut Sentences, cpu: Cpu, verb: &str, now: u32) -> fmt::Result {
-    let queue = cpu.index();
-    if now == 1 {
-        write!(
-            text,
-            "The count of posts is old: 1 post was made to queue {queue}."
-        )?;
-    } else {
-        write!(
-            text,
-            "The count of posts is old: {now} posts were made to queue {queue}."
-        )?;
-    }
-    writeln!(
-        text,
-        " Read it again (publish {queue}), and {verb} under {now}."
-    )
-}
-
-/// The table's words on what a session answers.
+/// Why a session answers no command, or not this one.
 fn closed(text: &mut Sentences, why: Closed) -> fmt::Result {
-    advised(text, why.reason(), why.remedy())
+    let reason = why.reason();
+    writeln!(text, "Refused: {reason}.")
 }
 
 /// There is no kernel yet.

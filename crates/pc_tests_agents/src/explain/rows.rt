@@ -48,7 +48,7 @@ ok t0 c0
 #    Thread t0 runs on CPU 0 now.
 # 4: sleep 0 1
 ok
-#    Agent 0 sleeps until a post wakes it.
+#    Agent 0 sleeps until it is woken: by a post to a queue that wakes it, or by a rouse, a config or a crash.
 # 5: yield 0 5
 ok t0 n2 q0 a2 wake 0
 #    Thread t0 leaves CPU 0, which is idle now, after 5 ticks, and stays ready: it yielded.
@@ -259,7 +259,8 @@ ok 2
 #    Agent 0 removes from queue 0 the 2 items that it has sent.
 # 6: steal 1
 refused NothingToSteal
-#    Refused: the view reports no thread ready and allowed here that is outside the run list and idle. Accepted: the same once the agent was told of such a thread.
+#    Refused: the view reports no thread ready and allowed here that is outside the run list and idle.
+#    Accepted: `deliver 1 0`, then `steal 1`.
 # 7: answer 0 1
 ok d1
 #    Agent 0 answers agent 1 with all that it knows and agent 1 does not.
@@ -277,6 +278,161 @@ ok d2 items 0
 # 11: pick 1 0
 ok t0 c1
 #    Thread t0 is the first of agent 1's run list that may run here: it runs on CPU 1 now.
+",
+        Outcome::Finished,
+    ),
+];
+
+/// What an agent no longer knows of itself, what nothing wakes, what an agent knew before it was told all, and which
+/// thread a steal tried.
+pub(super) static TRUTHS: [Told; 4] = [
+    (
+        b"enclave 2 8 100 16 1000
+create 0 3 ready
+publish 0
+crash 0
+consume 0
+",
+        b"# 1: enclave 2 8 100 16 1000
+ok
+#    The kernel starts: 2 CPUs, each with a queue and an agent; at most 8 threads, 100 messages of each, 16 items in a queue, 1000 posts to one.
+# 2: create 0 3 ready
+ok t0 n1 q0 a1 wake -
+#    There is a new thread t0, ready, which may run on CPUs 0, 1.
+#    Message 1 of the thread stands in queue 0, which had 1 post so far.
+# 3: publish 0
+ok d0 items 1
+#    Agent 0 takes in what queue 0 holds: 1 item, which a consume may remove now.
+#    Delta 0 is sent, and tells t0 1.
+# 4: crash 0
+ok
+#    Agent 0 starts again, awake: it forgets what it knew of 1 thread, and its run list.
+#    Queue 0, and what the agent sent to others, stay.
+# 5: consume 0
+ok 0
+#    Agent 0 counts no item of queue 0 as sent, so all stays there.
+",
+        Outcome::Finished,
+    ),
+    (
+        b"enclave 2 8 100 16 1000
+config 0 -
+sleep 0 0
+tick 0
+",
+        b"# 1: enclave 2 8 100 16 1000
+ok
+#    The kernel starts: 2 CPUs, each with a queue and an agent; at most 8 threads, 100 messages of each, 16 items in a queue, 1000 posts to one.
+# 2: config 0 -
+ok
+#    Posts to queue 0 wake nobody from now on.
+# 3: sleep 0 0
+ok
+#    Agent 0 sleeps until it is woken: by a post to a queue that wakes it, or by a rouse, a config or a crash.
+# 4: tick 0
+ok - q0 a1 wake -
+#    The timer of CPU 0 went off.
+#    A tick stands in queue 0, which had 1 post so far.
+",
+        Outcome::Finished,
+    ),
+    (
+        b"enclave 2 8 100 16 1000
+create 0 3 blocked
+publish 0
+consume 0
+wake t0
+publish 0
+consume 0
+priority t0 3
+deliver 1 1
+publish 0
+answer 0 1
+deliver 1 3
+",
+        b"# 1: enclave 2 8 100 16 1000
+ok
+#    The kernel starts: 2 CPUs, each with a queue and an agent; at most 8 threads, 100 messages of each, 16 items in a queue, 1000 posts to one.
+# 2: create 0 3 blocked
+ok t0 n1 q0 a1 wake -
+#    There is a new thread t0, blocked, which may run on CPUs 0, 1.
+#    Message 1 of the thread stands in queue 0, which had 1 post so far.
+# 3: publish 0
+ok d0 items 1
+#    Agent 0 takes in what queue 0 holds: 1 item, which a consume may remove now.
+#    Delta 0 is sent, and tells t0 1.
+# 4: consume 0
+ok 1
+#    Agent 0 removes from queue 0 the 1 item that it has sent.
+# 5: wake t0
+ok t0 n2 q0 a2 wake -
+#    Thread t0 was blocked, and is ready.
+#    Message 2 of the thread stands in queue 0, which had 2 posts so far.
+# 6: publish 0
+ok d1 items 1
+#    Agent 0 takes in what queue 0 holds: 1 item, which a consume may remove now.
+#    Delta 1 is sent, and tells t0 2.
+# 7: consume 0
+ok 1
+#    Agent 0 removes from queue 0 the 1 item that it has sent.
+# 8: priority t0 3
+ok t0 n3 q0 a3 wake -
+#    Thread t0 has level 3 from now on.
+#    Message 3 of the thread stands in queue 0, which had 3 posts so far.
+# 9: deliver 1 1
+ok
+#    Agent 1 now knows t0 2.
+# 10: publish 0
+ok d2 items 1
+#    Agent 0 takes in what queue 0 holds: 1 item, which a consume may remove now.
+#    Delta 2 is sent, and tells t0 3.
+# 11: answer 0 1
+ok d3
+#    Agent 0 answers agent 1 with all that it knows and agent 1 does not.
+#    Delta 3 is sent, and tells t0 1 to 3.
+# 12: deliver 1 3
+ok
+#    Agent 1 now knows t0 1, t0 3.
+",
+        Outcome::Finished,
+    ),
+    (
+        b"enclave 2 8 100 16 1000
+create 0 3 ready
+publish 0
+deliver 1 0
+steal 1
+priority t0 1
+steal 1
+",
+        b"# 1: enclave 2 8 100 16 1000
+ok
+#    The kernel starts: 2 CPUs, each with a queue and an agent; at most 8 threads, 100 messages of each, 16 items in a queue, 1000 posts to one.
+# 2: create 0 3 ready
+ok t0 n1 q0 a1 wake -
+#    There is a new thread t0, ready, which may run on CPUs 0, 1.
+#    Message 1 of the thread stands in queue 0, which had 1 post so far.
+# 3: publish 0
+ok d0 items 1
+#    Agent 0 takes in what queue 0 holds: 1 item, which a consume may remove now.
+#    Delta 0 is sent, and tells t0 1.
+# 4: deliver 1 0
+ok
+#    Agent 1 now knows t0 1.
+# 5: steal 1
+refused Pending
+#    Refused: the thread's queue holds a message of it, which would be left behind there.
+#    It tried thread t0, of which agent 1 knows all messages up to 1.
+#    Accepted: `consume 0`, then `steal 1`.
+# 6: priority t0 1
+ok t0 n2 q0 a2 wake -
+#    Thread t0 has level 1 from now on.
+#    Message 2 of the thread stands in queue 0, which had 2 posts so far.
+# 7: steal 1
+refused Stale 2
+#    Refused: the caller did not know of the last post, or of the thread's last message; it tells the number of now.
+#    It tried thread t0, of which agent 1 knows all messages up to 1.
+#    Accepted: `publish 0`, then `deliver 1 1`, then `consume 0`, then `steal 1`.
 ",
         Outcome::Finished,
     ),
@@ -310,32 +466,39 @@ ok - q0 a2 wake -
 #    A tick stands in queue 0, which had 2 posts so far.
 # 4: commit 0 t0 1
 refused Stale 2
-#    The count of posts is old: 2 posts were made to queue 0. Read it again (publish 0), and commit under 2.
+#    The count of posts is wrong: 2 posts were made to queue 0, as the answer to the last one (a2) tells.
+#    Accepted: `commit 0 t0 2`.
 # 5: commit 1 t0 0
 refused NotYours 0
-#    Refused: the thread's home is another queue, which it names. Accepted: that queue's CPU, or the same once the thread is associated to this one.
+#    Refused: the thread's home is another queue, which it names.
 #    Its messages go to queue 0.
+#    Accepted: `publish 0`, then `consume 0`, then `associate t0 1 1`, then `commit 1 t0 0`.
 # 6: deliver 0 1
 refused NoDelta
-#    Refused: no delta with this index was sent. Accepted: an index below the count of sent deltas.
+#    Refused: no delta with this index was sent.
 #    So far there are 0 deltas, counted from 0.
+#    Accepted: `publish 0` 2 times, then `deliver 0 1`.
 # 7: wake t1
 refused UnknownThread
-#    Refused: no thread has the name. Accepted: a name that a create answered.
+#    Refused: no thread has the name.
 #    The enclave has 1 thread, counted from t0.
+#    No agent can make it accepted before the environment acts: `create 0 1 blocked`, then `wake t1`.
 # 8: wake t0
 refused NotBlocked
-#    Refused: only a blocked thread waits. Accepted: a thread that is blocked.
+#    Refused: only a blocked thread waits.
+#    No agent can make it accepted before the environment acts: `commit 0 t0 2`, then `block 0 0`, then `wake t0`.
 # 9: associate t0 1 0
 refused Stale 1
-#    The number is old: the thread's last message is 1. Look again (status t0), and associate under 1.
+#    The number is wrong: the thread's last message is 1, as status t0 tells.
+#    Accepted: `publish 0`, then `consume 0`, then `associate t0 1 1`.
 # 10: tick 2
 refused BadCpu
-#    Refused: the CPU, the queue, the queue's target or the asker is not below the count of CPUs. Accepted: a number below the count of CPUs.
+#    Refused: the CPU, the queue, the queue's target or the asker is not below the count of CPUs.
 #    The enclave has 2 CPUs, counted from 0.
+#    Nothing makes it accepted.
 # 11: enclave 1 1 1 1 1
 refused HaveEnclave
-#    Refused: an enclave was accepted before. Accepted: any other command.
+#    Refused: an enclave was accepted before, and there is only one.
 ",
         Outcome::Finished,
     ),
@@ -345,10 +508,10 @@ enclave 65 1 1 1 1
 ",
         b"# 1: show 0
 refused NoEnclave
-#    Refused: no enclave was accepted yet. Accepted: an enclave, whose line comes before every other command.
+#    Refused: no enclave was accepted yet; its line comes before every other command.
 # 2: enclave 65 1 1 1 1
 refused BadLimits cpus
-#    Refused: the limit that it names is out of its range. Accepted: the same with this limit in its range.
+#    Refused: the limit that it names is out of its range.
 #    CPUS is 1 to 64.
 ",
         Outcome::Finished,
@@ -356,7 +519,7 @@ refused BadLimits cpus
 ];
 
 /// Each kind of fault.
-pub(super) static FAULTS: [Told; 9] = [
+pub(super) static FAULTS: [Told; 11] = [
     (
         b"create 0 3O ready
 ",
@@ -423,6 +586,26 @@ fault line 1
         b"# 1: Wake t0
 fault line 1
 #    Word 1, `Wake`: the name of a command was wanted.
+",
+        Outcome::FaultLine(1),
+    ),
+    (
+        b" # x
+",
+        b"# 1:  # x
+fault line 1
+#    Word 1, `#`: the name of a command was wanted.
+#    A comment's # is the first byte of its line.
+",
+        Outcome::FaultLine(1),
+    ),
+    (
+        b"tick\t0
+",
+        b"# 1: tick\t0
+fault line 1
+#    Word 1, `tick?0`: the name of a command was wanted.
+#    A tab is no space: it is a part of its word.
 ",
         Outcome::FaultLine(1),
     ),

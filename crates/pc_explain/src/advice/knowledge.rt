@@ -1,0 +1,413 @@
+//! What agents will know once some steps are done, and which threads their run lists will have.
+
+use crate::advice::ahead::{Ahead, Queued};
+use crate::advice::choices::MOST_THREADS;
+use crate::advice::deed::Deed;
+use crate::advice::lacks::{Lack, publish};
+use crate::advice::plan::Plan;
+use pc_calls::EnvCall;
+use pc_delta::{Delta, Part};
+use pc_messages::{Cpu, Item, Kind, Phase, Tid};
+
+/// The most items of a queue, deltas, parts of one, and messages of a thread that are looked through.
+const MOST_LOOKED: usize = 256;
+
+/// What the first messages of a thread report, up to which an agent knows all.
+#[derive(Clone, Copy)]
+pub(super) struct Known {
+    pub(super) upto: u32,
+    phase: Option<Phase>,
+    /// The bits of the mask.
+    mask: u64,
+}
+
+/// What a message changes.
+#[derive(Clone, Copy)]
+struct Change {
+    phase: Option<Phase>,
+    mask: Option<u64>,
+}
+
+impl Known {
+    /// Takes the next message.
+    fn take(&mut self, change: Change) {
+        self.upto = self.upto.saturating_add(1);
+        if change.phase.is_some() {
+            self.phase = change.phase;
+        }
+        if let Some(mask) = change.mask {
+            self.mask = mask;
+        }
+    }
+
+    /// Whether the thread waits or runs, and may run on the CPU.
+    fn runs_on(&self, cpu: Cpu) -> bool {
+        self.phase == Some(Phase::Ready) && self.mask & crate::advice::ahead::bit_of(cpu) != 0
+    }
+}
+
+/// What a message of this kind changes.
+fn change_of_kind(kind: &Kind) -> Change {
+    let (phase, mask) = match kind {
+        Kind::Created { ready, mask } => {
+            let phase = if *ready { Phase::Ready } else { Phase::Blocked };
+            (Some(phase), Some(mask.bits()))
+        }
+        Kind::Wakeup | Kind::Yield { .. } | Kind::Preempted { .. } => (Some(Phase::Ready), None),
+        Kind::Blocked { .. } => (Some(Phase::Blocked), None),
+        Kind::Dead { .. } => (Some(Phase::Dead), None),
+        Kind::Affinity { mask } => (None, Some(mask.bits())),
+        Kind::Priority { .. } => (None, None),
+    };
+    Change { phase, mask }
+}
+
+/// What the message changes that a call posts.
+fn change_of_call(call: &EnvCall) -> Change {
+    let (phase, mask) = match *call {
+        EnvCall::Create { ready, mask, .. } => {
+            let phase = if ready { Phase::Ready } else { Phase::Blocked };
+            (Some(phase), Some(mask))
+        }
+        EnvCall::Wake { .. } | EnvCall::YieldNow { .. } | EnvCall::Preempt { .. } => {
+            (Some(Phase::Ready), None)
+        }
+        EnvCall::Block { .. } => (Some(Phase::Blocked), None),
+        EnvCall::Die { .. } => (Some(Phase::Dead), None),
+        EnvCall::SetAffinity { mask, .. } => (None, Some(mask)),
+        EnvCall::SetPriority { .. } | EnvCall::Tick { .. } => (None, None),
+    };
+    Change { phase, mask }
+}
+
+/// Whether the delta tells the message.
+fn tells(delta: &Delta, thread: Tid, number: u32) -> bool {
+    delta.parts().iter().any(|part| match part {
+        Part::One(message) => {
+            message.thread.index() == thread.index() && message.number == number
+        }
+        Part::Folded {
+            thread: told,
+            upto,
+            ..
+        } => told.index() == thread.index() && number <= *upto,
+    })
+}
+
+/// The place of a message among the items from a place on.
+fn place_of(items: &[Item], thread: Tid, number: u32, from: usize) -> Option<usize> {
+    let place = items.iter().position(|item| match item {
+        Item::Thread(message) => {
+            message.thread.index() == thread.index() && message.number == number
+        }
+        Item::Tick(_) => false,
+    })?;
+    Some(from.saturating_add(place))
+}
+
+impl Ahead<'_> {
+    /// Whether there is so little of everything that all may be looked through.
+    pub(super) fn is_small(&self) -> bool {
+        let kernel = self.world.kernel();
+        let sent = self.world.sent();
+        self.threads() <= MOST_THREADS
+            && sent.len() <= MOST_LOOKED
+            && sent.iter().all(|delta| delta.parts().len() <= MOST_LOOKED)
+            && (0..kernel.cpus()).all(|index| match kernel.queued(Cpu(index)) {
+                Some((front, back)) => front.len() <= MOST_LOOKED && back.len() <= MOST_LOOKED,
+                None => true,
+            })
+            && (0..kernel.threads()).all(|index| match kernel.status(Tid(index)) {
+                Some(status) => status.number as usize <= MOST_LOOKED,
+                None => true,
+            })
+    }
+
+    /// How many deltas are sent.
+    pub(super) fn deltas(&self) -> u64 {
+        let mut count = self.world.sent().len() as u64;
+        for step in self.plan.steps() {
+            if let Deed::Publish { .. } | Deed::Answer { .. } = step.deed {
+                count = count.saturating_add(step.times);
+            }
+        }
+        count
+    }
+
+    /// Whether the message stands in the queue before some step.
+    fn stands(&self, queue: Cpu, thread: Tid, number: u32, before: usize) -> bool {
+        let mut queued = self.stands_at_first(queue, thread, number);
+        for step in self.plan.before(before) {
+            if step.posts_to(queue) && step.is_of(thread) && step.number == number {
+                queued = Queued::Unsent;
+            } else {
+                queued.take(step, queue);
+            }
+        }
+        queued != Queued::Gone
+    }
+
+    /// Whether the message stands in the queue before all steps.
+    fn stands_at_first(&self, queue: Cpu, thread: Tid, number: u32) -> Queued {
+        let Some((front, back)) = self.world.kernel().queued(queue) else {
+            return Queued::Gone;
+        };
+        let place = match place_of(front, thread, number, 0) {
+            Some(place) => Some(place),
+            None => place_of(back, thread, number, front.len()),
+        };
+        self.queued_at(queue, place)
+    }
+
+    /// Whether the agent knows the message before some step, but for deltas that it takes in.
+    fn knows_by_itself(&self, cpu: Cpu, thread: Tid, number: u32, before: usize) -> bool {
+        if let Some(view) = self.world.view(cpu)
+            && view.knows(thread, number)
+        {
+            return true;
+        }
+        let steps = self.plan.before(before).iter().enumerate();
+        for (place, step) in steps {
+            if step.is_publish(cpu) && self.stands(cpu, thread, number, place) {
+                return true;
+            }
+        }
+        false
+    }
+
+    /// Whether the agent knows the message before some step.
+    fn knows(&self, cpu: Cpu, thread: Tid, number: u32, before: usize) -> bool {
+        if self.knows_by_itself(cpu, thread, number, before) {
+            return true;
+        }
+        for step in self.plan.before(before) {
+            if let Deed::Deliver { cpu: own, delta } = step.deed
+                && own.index() == cpu.index()
+                && self.delta_tells(delta, thread, number)
+            {
+                return true;
+            }
+        }
+        false
+    }
+
+    /// Whether the delta with this index tells the message.
+    fn delta_tells(&self, index: u64, thread: Tid, number: u32) -> bool {
+        let sent = self.world.sent();
+        match usize::try_from(index) {
+            Ok(place) if place < sent.len() => tells(&sent[place], thread, number),
+            _ => self.step_tells(index, thread, number),
+        }
+    }
+
+    /// Whether the delta with this index, which one of the steps sends, tells the message.
+    fn step_tells(&self, index: u64, thread: Tid, number: u32) -> bool {
+        let mut next = self.world.sent().len() as u64;
+        for (place, step) in self.plan.steps().iter().enumerate() {
+            match step.deed {
+                Deed::Publish { cpu, .. } if next == index => {
+                    return self.stands(cpu, thread, number, place);
+                }
+                Deed::Answer { cpu, .. } if next == index => {
+                    return self.knows_by_itself(cpu, thread, number, place);
+                }
+                Deed::Publish { .. } | Deed::Answer { .. } => {
+                    next = next.saturating_add(step.times);
+                }
+                _ => {}
+            }
+        }
+        false
+    }
+
+    /// What the message changes.
+    fn change_at(&self, thread: Tid, number: u32) -> Change {
+        let none = Change {
+            phase: None,
+            mask: None,
+        };
+        let place = number.saturating_sub(1) as usize;
+        if let Some(kinds) = self.world.kernel().history(thread)
+            && let Some(kind) = kinds.get(place)
+        {
+            return change_of_kind(kind);
+        }
+        for step in self.plan.steps() {
+            if let Deed::Env(call) = step.deed
+                && step.is_of(thread)
+                && step.number == number
+            {
+                return change_of_call(&call);
+            }
+        }
+        none
+    }
+
+    /// What the agent knows of the thread before some step.
+    pub(super) fn known(&self, cpu: Cpu, thread: Tid, before: usize) -> Known {
+        let mut known = self.known_at_first(cpu, thread);
+        let last = self.last_number(thread);
+        for number in known.upto.saturating_add(1)..=last {
+            if !self.knows(cpu, thread, number, before) {
+                break;
+            }
+            known.take(self.change_at(thread, number));
+        }
+        known
+    }
+
+    /// What the agent knows of the thread before all steps.
+    fn known_at_first(&self, cpu: Cpu, thread: Tid) -> Known {
+        let nothing = Known {
+            upto: 0,
+            phase: None,
+            mask: 0,
+        };
+        let Some(view) = self.world.view(cpu) else {
+            return nothing;
+        };
+        match view.reported(thread) {
+            Some(reported) => Known {
+                upto: view.upto(thread),
+                phase: Some(reported.phase),
+                mask: reported.mask.bits(),
+            },
+            None => nothing,
+        }
+    }
+
+    /// Whether the thread is in the run list of the CPU's agent.
+    pub(super) fn is_listed(&self, cpu: Cpu, thread: Tid) -> bool {
+        let mut listed = match self.world.agent(cpu) {
+            Some(agent) => has(agent.run_list(), thread),
+            None => false,
+        };
+        for (place, step) in self.plan.steps().iter().enumerate() {
+            if step.is_publish(cpu) {
+                let after = place.saturating_add(1);
+                let touched = listed || self.is_queued_at(cpu, thread, place);
+                listed = touched && self.known(cpu, thread, after).runs_on(cpu);
+            } else if step.is_steal(cpu) && step.is_of(thread) {
+                listed = true;
+            }
+        }
+        listed
+    }
+
+    /// Whether a message of the thread stands in the queue before some step: then the last one does.
+    fn is_queued_at(&self, queue: Cpu, thread: Tid, before: usize) -> bool {
+        match self.place_at(thread, before) {
+            Some((home, queued)) => home.index() == queue.index() && queued != Queued::Gone,
+            None => false,
+        }
+    }
+
+    /// The thread that a steal of the CPU's agent tries.
+    pub(super) fn candidate(&self, cpu: Cpu) -> Option<Tid> {
+        for index in 0..self.threads().min(MOST_TRIED) {
+            let thread = Tid(index);
+            if let Some(standing) = self.standing(thread)
+                && standing.on.is_none()
+                && self.known(cpu, thread, Plan::MOST).runs_on(cpu)
+                && !self.is_listed(cpu, thread)
+            {
+                return Some(thread);
+            }
+        }
+        None
+    }
+
+    /// The thread that a refused steal of the CPU's agent tried; none where it is not among the first, or the run list
+    /// is long.
+    pub(crate) fn tried(&self, cpu: Cpu) -> Option<Tid> {
+        match self.world.agent(cpu) {
+            Some(agent) if agent.run_list().len() <= MOST_LISTED => self.candidate(cpu),
+            _ => None,
+        }
+    }
+
+    /// By which deed the agent learns a message that it does not know, or what leads there.
+    pub(super) fn lack_of_message_at(&self, cpu: Cpu, thread: Tid, number: u32) -> Lack {
+        let Some(standing) = self.standing(thread) else {
+            return Lack::Unsought;
+        };
+        if self.last_message(thread) == Queued::Unsent {
+            return Lack::needs(publish(standing.home));
+        }
+        let (reach, best) = self.best_delta(cpu, thread, number);
+        if let Some(delta) = best
+            && reach >= standing.number
+        {
+            return Lack::needs(Deed::Deliver { cpu, delta });
+        }
+        if let Some(other) = self.agent_who_knows(cpu, thread, number, standing.number) {
+            return Lack::needs(Deed::Answer {
+                cpu: other,
+                asker: cpu,
+            });
+        }
+        match best {
+            Some(delta) => Lack::needs(Deed::Deliver { cpu, delta }),
+            None => Lack::needs(publish(standing.home)),
+        }
+    }
+
+    /// The delta by which the agent knows the most of the thread without a gap, where one tells the number; and up to
+    /// which number.
+    fn best_delta(&self, cpu: Cpu, thread: Tid, number: u32) -> (u32, Option<u64>) {
+        let mut best = None;
+        let mut most = 0;
+        for delta in 0..self.deltas() {
+            let reach = self.reach(cpu, thread, number, delta);
+            if reach > most {
+                most = reach;
+                best = Some(delta);
+            }
+        }
+        (most, best)
+    }
+
+    /// Up to which number the agent knows the thread without a gap once it takes the delta in; 0 where that tells
+    /// nothing of this number.
+    fn reach(&self, cpu: Cpu, thread: Tid, number: u32, delta: u64) -> u32 {
+        let last = self.last_number(thread);
+        let mut reach = 0;
+        for next in number..=last {
+            let told = self.delta_tells(delta, thread, next);
+            if !told && (next == number || !self.knows(cpu, thread, next, Plan::MOST)) {
+                break;
+            }
+            reach = next;
+        }
+        reach
+    }
+
+    /// Another agent that knows all these messages of the thread.
+    fn agent_who_knows(&self, cpu: Cpu, thread: Tid, first: u32, last: u32) -> Option<Cpu> {
+        for index in 0..self.world.kernel().cpus() {
+            let other = Cpu(index);
+            let knows_all = index != cpu.index()
+                && (first..=last).all(|number| self.knows_by_itself(
+                    other,
+                    thread,
+                    number,
+                    Plan::MOST,
+                ));
+            if knows_all {
+                return Some(other);
+            }
+        }
+        None
+    }
+}
+
+/// The most threads among which the one is looked for that a steal tries.
+const MOST_TRIED: u32 = 1_024;
+
+/// The most names of a run list among which the others are looked for.
+const MOST_LISTED: usize = 1_024;
+
+/// Whether the name is among the others.
+fn has(names: &[Tid], name: Tid) -> bool {
+    names.iter().any(|other| other.index() == name.index())
+}
