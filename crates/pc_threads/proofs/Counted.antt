@@ -46,7 +46,7 @@ some_on None e = cc
 some_on (Some x) e = refl
 
 -- a thread that is on a CPU is known
-running_known : (P : PlainKernel) → IsKept P → (c t : ℕ) → P.on c ≡ Some t → is_known P t ≡ true
+pub running_known : (P : PlainKernel) → IsKept P → (c t : ℕ) → P.on c ≡ Some t → is_known P t ≡ true
 running_known P h c t e = elim (is_known P t) as (λ b. is_known P t ≡ b → is_known P t ≡ true) [
   | true ↦ λ s. s
   | false ↦ λ s.
@@ -101,7 +101,7 @@ env_counted P (SetPriority t level) h n =
     (threads-posted_known P (P.home t) record { thread = t; number = length (kinds P t) + 1; kind = kind.Priority level } (known_of P t n.0))
 env_counted P (Tick cpu) h n = same_count (threads (changed P (Env (Tick cpu)))) (threads P) (threads-posted_tick P cpu cpu)
 
-call_counted : (P : PlainKernel) (call : Call) → IsKept P → NoneHold (refusals (shown P) call) → threads (changed P call) ≡ threads P + created_by call
+pub call_counted : (P : PlainKernel) (call : Call) → IsKept P → NoneHold (refusals (shown P) call) → threads (changed P call) ≡ threads P + created_by call
 call_counted P (Env call) h n = env_counted P call h n
 call_counted P (Consume cpu count) h n = omega arith
 call_counted P (Agent (Associate t queue number)) h n = omega arith
@@ -111,7 +111,7 @@ call_counted P (Agent (Rouse cpu)) h n = omega arith
 call_counted P (Agent (Config queue None)) h n = omega arith
 call_counted P (Agent (Config queue (Some cpu))) h n = omega arith
 
-replay_last : (P : PlainKernel) (calls : List Call) (call : Call) → replay P (calls ++ call ∷ []) ≡ after (replay P calls) call
+pub replay_last : (P : PlainKernel) (calls : List Call) (call : Call) → replay P (calls ++ call ∷ []) ≡ after (replay P calls) call
 replay_last P [] call = refl
 replay_last P (first ∷ calls) call = replay_last (after P first) calls call
 

@@ -5,6 +5,7 @@ pub mod Listing
 pub mod Lives
 pub mod Merged
 pub mod Reported
+pub mod Running
 pub mod Settled
 pub mod Sound
 pub mod Steps

@@ -3,12 +3,13 @@ use Rattle.std.proofs.Common.{ℕ, suc, zero, ◌≡◌, ◌+◌, ◌*◌, ◌-�
 use Rattle.std.specs.Option.{option_map}
 use Rattle.std.proofs.Math.ListN.{set}
 use Rattle.std.proofs.lemmas.Option.{slice_get-map}
-use Rattle.std.proofs.lemmas.List.Sums.{sum_by-cons, sum_by-le}
+use Rattle.std.proofs.lemmas.List.Sums.{sum_by-append, sum_by-cons, sum_by-le}
 use Rattle.pc_threads.specs.declared.settings.plans.Step.{Step}
+use Rattle.pc_threads.specs.declared.settings.plans.Step.TheVariants.{Die}
 use Rattle.pc_threads.specs.declared.settings.plans.ThreadPlan.{ThreadPlan}
 use Rattle.pc_threads.specs.declared.settings.plans.TheConstants.{MOST_STEPS}
-use Rattle.pc_threads.specs.Settings.{IsPlan, IsSound, Plan, Settings, is_block, messages_in, messages_of, plan_of, ran_in, steps_in, ticks}
-use Rattle.pc_threads.specs.Inner.Driving.{IsOneFewer, left_of, one, sum_in, told_in}
+use Rattle.pc_threads.specs.Settings.{IsLife, IsPlan, IsSound, Plan, Settings, is_block, is_die, messages_in, messages_of, plan_of, ran_in, steps_in, ticks}
+use Rattle.pc_threads.specs.Inner.Driving.{IsOneFewer, died_in, left_of, one, sum_in, told_in}
 use Rattle.pc_threads.specs.Inner.Shares.{HasPosted, Spent}
 
 drop_next : (by : Step → ℕ) (steps : List Step) (n : ℕ) (step : Step) → slice_get steps n ≡ Some step → sum_by by (drop (suc n) steps) + by step ≡ sum_by by (drop n steps)
@@ -144,38 +145,71 @@ steps_few plans few =
     let less = steps_less plans in
     omega (arith, less, few)
 
+lives_on : (steps : List Step) → All (λ step. is_die step ≡ false) steps → sum_by died_in steps ≡ 0
+lives_on [] all = refl
+lives_on (step ∷ steps) all =
+    let rest = lives_on steps (λ k d low. all (suc k) d (omega arith)) in
+    let here : died_in step ≡ 0 = ap (λ b. if b then 1 else 0) (all zero step (omega arith)) in
+    let more : sum_by died_in (step ∷ steps) ≡ died_in step + sum_by died_in steps = sum_by-cons died_in step steps in
+    omega (arith, rest, here, more)
+
+dies_once : (steps : List Step) → IsLife steps → sum_by died_in steps ≡ 1
+dies_once steps life =
+    let before = lives_on life.before life.goes_on in
+    let last : sum_by died_in (Die life.ticks ∷ []) ≡ 1 = refl in
+    let whole : sum_by died_in steps ≡ sum_by died_in life.before + sum_by died_in (Die life.ticks ∷ []) = ap (sum_by died_in) life.ends ∙ sum_by-append died_in life.before (Die life.ticks ∷ []) in
+    omega (arith, before, last, whole)
+
+-- each thread dies once
+pub deaths_in : (cpus : ℕ) (plans : List Plan) → All (IsPlan cpus) plans → sum_in died_in plans ≡ length plans
+deaths_in cpus [] all = refl
+deaths_in cpus (plan ∷ plans) all =
+    let rest = deaths_in cpus plans (λ k d low. all (suc k) d (omega arith)) in
+    let here = dies_once plan.steps (all zero plan (omega arith)).life in
+    let more : sum_in died_in (plan ∷ plans) ≡ sum_by died_in plan.steps + sum_in died_in plans = sum_by-cons (λ (p : Plan). sum_by died_in p.steps) plan plans in
+    omega (arith, rest, here, more)
+
 -- what was left then and is not left now was posted
 pub record IsOnTheWay (plans : List Plan) (then' now : List ℕ) (before after : Spent) : Type 0 where
   pub cpus : after.cpus ≡ before.cpus
   pub created : after.created ≡ before.created
   pub told : after.told + left_of told_in plans now ≡ before.told + left_of told_in plans then'
   pub ran : after.ran + left_of ticks plans now ≡ before.ran + left_of ticks plans then'
+  pub left : after.left + left_of one plans now ≡ before.left + left_of one plans then'
+  pub died : after.died + left_of died_in plans now ≡ before.died + left_of died_in plans then'
 
 pub on_at_once : (plans : List Plan) (now : List ℕ) (spent : Spent) → IsOnTheWay plans now now spent spent
-on_at_once plans now spent = record { cpus = refl; created = refl; told = refl; ran = refl }
+on_at_once plans now spent = record { cpus = refl; created = refl; told = refl; ran = refl; left = refl; died = refl }
 
 pub on_further : (plans : List Plan) (first then' now : List ℕ) (start before after : Spent) (step : Step) → IsOnTheWay plans first then' start before
-    → IsOneFewer plans step then' now → HasPosted 0 (told_in step) (ticks step) before after → IsOnTheWay plans first now start after
-on_further plans first then' now start before after step way one posted =
-    let told = one told_in in
-    let ran = one ticks in
+    → IsOneFewer plans step then' now → HasPosted 0 (told_in step) (ticks step) 1 (died_in step) before after → IsOnTheWay plans first now start after
+on_further plans first then' now start before after step way less posted =
+    let told = less told_in in
+    let ran = less ticks in
+    let left = less one in
+    let died = less died_in in
     record {
       cpus = omega (arith, way.cpus, posted.cpus_stay);
       created = omega (arith, way.created, posted.created_more);
       told = omega (arith, way.told, posted.told_more, told);
       ran = omega (arith, way.ran, posted.ran_more, ran);
+      left = omega (arith, way.left, posted.left_more, left);
+      died = omega (arith, way.died, posted.died_more, died);
     }
 
 pub on_the_end : (plans : List Plan) (first now : List ℕ) (before after : Spent) → IsOnTheWay plans first now before after → left_of one plans now ≡ 0
-    → HasPosted 0 (left_of told_in plans first) (left_of ticks plans first) before after
+    → HasPosted 0 (left_of told_in plans first) (left_of ticks plans first) (left_of one plans first) (left_of died_in plans first) before after
 on_the_end plans first now before after way none =
     let told = none_left told_in plans now none in
     let ran = none_left ticks plans now none in
+    let died = none_left died_in plans now none in
     record {
       cpus_stay = way.cpus;
       created_more = omega (arith, way.created);
       told_more = omega (arith, way.told, told);
       ran_more = omega (arith, way.ran, ran);
+      left_more = omega (arith, way.left, none);
+      died_more = omega (arith, way.died, died);
     }
 
 -- a list that is filled from nothing

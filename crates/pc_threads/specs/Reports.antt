@@ -3,7 +3,7 @@ use Rattle.std.specs.Prelude.{◌≡◌, length, nat_abs, sum_by}
 use Rattle.pc_kernel.specs.Reads.{seen}
 use Rattle.pc_threads.specs.declared.report.LoadReport.{LoadReport}
 use Rattle.pc_threads.specs.Pages.{run_of}
-use Rattle.pc_threads.specs.Settings.{Settings, messages_in, ran_in}
+use Rattle.pc_threads.specs.Settings.{Settings, messages_in, ran_in, steps_in}
 use Rattle.pc_threads.specs.Settling.{IsViewOfAll}
 use Rattle.pc_threads.specs.Totals.{committed_by, consumed_by, in_all, limits_on, ran_by, taken_over_by, told_by}
 
@@ -27,4 +27,5 @@ pub record DoesAll (settings : Settings) (report : LoadReport) : Type 0 where
   pub limits : report.book.kernel.limits ≡ limits_on (nat_abs settings.cpus)
   pub threads : report.threads ≡ length settings.threads
   pub messages : report.messages ≡ messages_in settings.threads
+  pub commits : report.commits ≡ steps_in settings.threads
   pub ran : report.ran ≡ ran_in settings.threads

@@ -1,5 +1,6 @@
 -- What the listed calls of a book add up to.
-use Rattle.std.specs.Prelude.{ℕ, List, sum_by}
+use Rattle.std.specs.Prelude.{ℕ, List, count_by, is_some, sum_by}
+use Rattle.std.specs.List.{range_with_len}
 use Rattle.pc_calls.specs.declared.call.AgentCall.TheVariants.{Associate, Commit}
 use Rattle.pc_calls.specs.declared.call.Call.{Call}
 use Rattle.pc_calls.specs.declared.call.Call.TheVariants.{Env, Agent, Consume}
@@ -7,6 +8,7 @@ use Rattle.pc_calls.specs.declared.call.EnvCall.TheVariants.{Create, Block, Yiel
 use Rattle.pc_calls.specs.declared.call.Answer.{Answer}
 use Rattle.pc_calls.specs.declared.limits.Limits.{Limits}
 use Rattle.pc_calls.specs.declared.limits.TheConstants.{MOST_THREADS, MOST_NUMBERS, MOST_ROOM, MOST_POSTS}
+use Rattle.pc_kernel.specs.PlainKernel.{PlainKernel}
 
 -- how many threads a call creates
 abbrev pub created_by : Call → ℕ
@@ -27,6 +29,19 @@ ran_by (Env (Preempt cpu ran)) = ran
 ran_by (Env (Die cpu ran)) = ran
 ran_by call = 0
 
+-- how many threads leave their CPU by it
+abbrev pub left_by : Call → ℕ
+left_by (Env (Block cpu ran)) = 1
+left_by (Env (YieldNow cpu ran)) = 1
+left_by (Env (Preempt cpu ran)) = 1
+left_by (Env (Die cpu ran)) = 1
+left_by call = 0
+
+-- how many of them die
+abbrev pub died_by : Call → ℕ
+died_by (Env (Die cpu ran)) = 1
+died_by call = 0
+
 -- how many threads it commits
 abbrev pub committed_by : Call → ℕ
 committed_by (Agent (Commit cpu thread aseq)) = 1
@@ -45,6 +60,10 @@ consumed_by call = 0
 -- what the listed calls come to, by what each comes to
 abbrev pub in_all : (Call → ℕ) → List (Call × Answer) → ℕ
 in_all by listed = sum_by (λ entry. by entry.0) listed
+
+-- on how many CPUs a thread runs
+abbrev pub running_on : PlainKernel → ℕ
+running_on P = count_by (λ cpu. is_some (P.on cpu)) (range_with_len 0 P.limits.cpus)
 
 -- the limits of a run on so many CPUs
 abbrev pub limits_on : ℕ → Limits

@@ -1,7 +1,7 @@
 //! A kernel that is called by many, and the list of what it was called.
 
-ghost use Rattle.std.specs.Prelude.{ℕ, ◌≡◌, ◌<◌, ◌↔◌, ◌⊎◌, ◌∷◌, ◌++◌, [], Some, None, Err, IfOk, IfErr, IfSome, OnOk};
-ghost use Rattle.std.specs.Prelude.{OnErr, IsFalse, vec_len, vec_capacity};
+ghost use Rattle.std.specs.Prelude.{ℕ, ◌≡◌, ◌+◌, ◌<◌, ◌↔◌, ◌⊎◌, ◌∷◌, ◌++◌, [], Some, None, Err, IfOk, IfErr, IfSome};
+ghost use Rattle.std.specs.Prelude.{OnErr, OnOk, IsFalse, vec_len, vec_capacity};
 ghost use Rattle.pc_calls.specs.AgentCalls.{rouses, sleeps};
 ghost use Rattle.pc_calls.specs.Conditions.{refusal_in};
 ghost use Rattle.pc_calls.specs.Limits.{bad_field};
@@ -50,6 +50,7 @@ impl Book {
     ghost use Rattle.pc_kernel.specs.Reads.{seen, aseq_read, is_cpu};
     ghost use Rattle.pc_kernel.specs.Steps.{refused};
     ghost use Rattle.pc_threads.specs.Pages.{IsReplay, Lists, answered, replayed, run_of};
+    ghost use Rattle.pc_threads.specs.Totals.{committed_by, in_all, left_by, running_on};
 
     /// The book of a kernel at the start, with limits of profile One.
     pub fn new(alloc: Global, limits: Limits) -> Result<Book, LimitsFault>
@@ -79,17 +80,19 @@ impl Book {
 
     /// What holds after every list of calls holds of the replay of the listed ones, which the kernel shows: messages
     /// that were not consumed stay home, threads are placed, and sleepers that their own queue wakes had no post since
-    /// they slept. It does nothing.
+    /// they slept. As often as a thread was committed, one left its CPU or runs there still. It does nothing.
     pub fn facts_hold(&self)
         ensures shown { Shows self.now.kernel (replayed self.now) }
         ensures home { (t : ℕ) → IsAtHome (replayed self.now) t }
         ensures placed { (c t : ℕ) → IsPlaced (replayed self.now) c t }
         ensures rested { (c : ℕ) → HadNoPost (replayed self.now) c }
+        ensures balanced { in_all committed_by self.now.calls
+            ≡ in_all left_by self.now.calls + running_on (replayed self.now) }
     {
         messages_stay_home();
         threads_are_placed();
         sleepers_had_no_post();
-        let _ = &self.kernel;
+        self.is_replay();
     }
 
     /// The kernel.

@@ -5,7 +5,7 @@ ghost use Rattle.pc_calls.specs.declared.limits.TheConstants.{MOST_CPUS};
 ghost use Rattle.pc_kernel.specs.Reads.{seen};
 ghost use Rattle.pc_threads.specs.Inner.Blanks.{AreBlanksOf};
 ghost use Rattle.pc_threads.specs.Reports.{AddsUp, DoesAll, TellsItsBook};
-ghost use Rattle.pc_threads.specs.Totals.{created_by, in_all, told_by};
+ghost use Rattle.pc_threads.specs.Totals.{committed_by, created_by, died_by, in_all, left_by, told_by};
 
 mod channels;
 mod desk;
@@ -31,7 +31,7 @@ use channels::Channels;
 use desk::Desk;
 use driver::create_all;
 pub use gate::{Driven, Gate, OpenGate, Point};
-use ledgers::{Names, Seven};
+use ledgers::{Names, Nine};
 use opening::{Blanks, Opened, new_book, open};
 use scope::{Ended, scoped};
 use std::alloc::Global;
@@ -44,6 +44,14 @@ use threads::Joined;
 /// The known threads are those that the book's calls created.
 fn known_are_created(book: &Book)
     ensures { (seen book.now.kernel).threads ≡ in_all created_by book.now.calls }
+{
+    book.is_replay();
+}
+
+/// Where as many threads died as were created, each was committed as often as it left its CPU.
+fn none_runs_in_the_end(book: &Book)
+    ensures { in_all created_by book.now.calls ≡ in_all died_by book.now.calls →
+        in_all committed_by book.now.calls ≡ in_all left_by book.now.calls }
 {
     book.is_replay();
 }
@@ -73,11 +81,13 @@ where
     N::Created: Send + Sync,
     N::Told: Send + Sync,
     N::Ran: Send + Sync,
+    N::Left: Send + Sync,
+    N::Died: Send + Sync,
     N::Committed: Send + Sync,
     N::TakenOver: Send + Sync,
     N::Consumed: Send + Sync,
-    requires named { AreBlanksOf N.Cpus.Ledger N.Created.Ledger N.Told.Ledger N.Ran.Ledger
-        N.Committed.Ledger N.TakenOver.Ledger N.Consumed.Ledger blanks }
+    requires named { AreBlanksOf N.Cpus.Ledger N.Created.Ledger N.Told.Ledger N.Ran.Ledger N.Left.Ledger
+        N.Died.Ledger N.Committed.Ledger N.TakenOver.Ledger N.Consumed.Ledger blanks }
     requires all { pos blanks.committed.parts ≡ config.now.cpus }
     ensures tells { IfOk result TellsItsBook }
     ensures adds_up { IfOk result AddsUp }
@@ -107,6 +117,7 @@ where
     let Desk { tallied, .. } = desk;
     let book = tallied.into_inner().close(purse, pool);
     known_are_created(&book);
+    none_runs_in_the_end(&book);
     // The proof speaks of the report by its name.
     let report = report_of(alloc, book, joined)?;
     Ok(report)
@@ -121,17 +132,20 @@ fn run_with<
     E: Ledger + Send + Sync,
     F: Ledger + Send + Sync,
     H: Ledger + Send + Sync,
+    I: Ledger + Send + Sync,
+    J: Ledger + Send + Sync,
     R: Threads + Wait + Sync,
     G: Gate + Sync,
 >(rt: &R, alloc: Global, config: &Config, gate: &G, blanks: Blanks) -> Result<LoadReport, RunFault>
-    requires named { AreBlanksOf A.Ledger B.Ledger C.Ledger D.Ledger E.Ledger F.Ledger H.Ledger blanks }
+    requires named { AreBlanksOf A.Ledger B.Ledger C.Ledger D.Ledger E.Ledger F.Ledger H.Ledger I.Ledger J.Ledger
+        blanks }
     requires all { pos blanks.committed.parts ≡ config.now.cpus }
     ensures tells { IfOk result TellsItsBook }
     ensures adds_up { IfOk result AddsUp }
     ensures all { IfOk result (DoesAll config.now) }
     ensures rows { IfOk result (λ report. pos (vec_len report.rows) ≡ config.now.cpus) }
 {
-    run_named::<Seven<A, B, C, D, E, F, H>, R, G>(rt, alloc, config, gate, blanks)
+    run_named::<Nine<A, B, C, D, E, F, H, I, J>, R, G>(rt, alloc, config, gate, blanks)
 }
 
 /// Runs an agent for each CPU in a thread of its own, over one kernel behind one lock, until all threads are dead; then
@@ -159,11 +173,13 @@ pub fn run_agents<R: Threads + Wait + Sync, G: Gate + Sync>(
         created: Blank::new(1),
         told: Blank::new(1),
         ran: Blank::new(1),
+        left: Blank::new(1),
+        died: Blank::new(1),
         committed: Blank::new(agents),
         taken_over: Blank::new(agents),
         consumed: Blank::new(agents),
     };
-    run_with::<Brand, Brand, Brand, Brand, Brand, Brand, Brand, R, G>(
+    run_with::<Brand, Brand, Brand, Brand, Brand, Brand, Brand, Brand, Brand, R, G>(
         rt, alloc, config, gate, blanks,
     )
 }

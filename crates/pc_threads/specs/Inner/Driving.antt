@@ -4,7 +4,7 @@ use Rattle.pc_calls.specs.declared.call.EnvCall.{EnvCall}
 use Rattle.pc_calls.specs.declared.call.EnvCall.TheVariants.{YieldNow, Block, Preempt, Die}
 use Rattle.pc_threads.specs.declared.settings.plans.Step.{Step}
 use Rattle.pc_threads.specs.declared.settings.plans.Step.TheVariants as step
-use Rattle.pc_threads.specs.Settings.{Plan, is_block}
+use Rattle.pc_threads.specs.Settings.{Plan, is_block, is_die}
 
 -- by how many steps each thread has done
 abbrev pub left_of : (Step → ℕ) → List Plan → List ℕ → ℕ
@@ -18,6 +18,10 @@ one step = 1
 -- a step's messages: its own, and behind a block that of the wakeup
 abbrev pub told_in : Step → ℕ
 told_in step = 1 + (if is_block step then 1 else 0)
+
+-- how many threads die by a step
+abbrev pub died_in : Step → ℕ
+died_in step = if is_die step then 1 else 0
 
 -- how a thread leaves a CPU by a step
 abbrev pub leaving : ℕ → Step → EnvCall

@@ -2,19 +2,25 @@
 use Rattle.std.specs.Prelude.{ℕ, ◌+◌, ◌≡◌, List, length, sum_by}
 use Rattle.pc_threads.specs.declared.report.row.Row.{Row}
 
--- what the driver has: its CPUs, and the threads, messages of threads and ticks that it posted
+-- what the driver has: its CPUs, and what it posted: threads, messages of threads, ticks, how often a thread left its
+-- CPU, and how many threads died
 pub record Spent : Type 0 where
   pub cpus : ℕ
   pub created : ℕ
   pub told : ℕ
   pub ran : ℕ
+  pub left : ℕ
+  pub died : ℕ
 
--- so many threads were created, so many messages of threads posted, and they told so many ticks
-pub record HasPosted (threads messages ticks : ℕ) (old new : Spent) : Type 0 where
+-- so many threads were created, so many messages of threads posted, which told so many ticks, so many times a thread
+-- left its CPU, and so many threads died
+pub record HasPosted (threads messages ticks leavings deaths : ℕ) (old new : Spent) : Type 0 where
   pub cpus_stay : new.cpus ≡ old.cpus
   pub created_more : new.created ≡ old.created + threads
   pub told_more : new.told ≡ old.told + messages
   pub ran_more : new.ran ≡ old.ran + ticks
+  pub left_more : new.left ≡ old.left + leavings
+  pub died_more : new.died ≡ old.died + deaths
 
 -- how many agents do not run, and what they did
 pub record Done : Type 0 where

@@ -2,10 +2,10 @@
 
 ghost use Rattle.std.specs.Prelude.{ℕ, ◌≡◌, ◌+◌, ◌<◌, ◌^◌, All, IfOk, IfSome, OnOk, if◌then◌else◌, length, map, sum_by};
 ghost use Rattle.pc_calls.specs.declared.call.Call.TheVariants.{Env};
-ghost use Rattle.pc_threads.specs.Inner.Driving.{IsOneFewer, leaving, left_of, one, told_in};
+ghost use Rattle.pc_threads.specs.Inner.Driving.{IsOneFewer, died_in, leaving, left_of, one, sum_in, told_in};
 ghost use Rattle.pc_threads.specs.Inner.Shares.{HasPosted};
 ghost use Rattle.pc_threads.specs.Settings.{IsPlan, is_block, plan_of, steps_in, ticks};
-ghost use Rattle.pc_threads.specs.Totals.{created_by, ran_by, told_by};
+ghost use Rattle.pc_threads.specs.Totals.{created_by, died_by, left_by, ran_by, told_by};
 
 use crate::book::RunFault;
 use crate::runner::channels::Notice;
@@ -14,7 +14,7 @@ use crate::runner::faults::Quit;
 use crate::runner::gate::{Driven, Gate};
 use crate::runner::ledgers::{Names, Purse};
 use crate::runner::tallied::Tallied;
-use crate::settings::{Step, ThreadPlan};
+use crate::settings::{Config, Step, ThreadPlan};
 use pc_calls::{CallFault, EnvCall, Posted, Refusal};
 use pc_messages::{Cpu, Tid};
 use std::alloc::{AllocError, Global};
@@ -26,6 +26,8 @@ fn creation(plan: &ThreadPlan) -> EnvCall
     ensures created { created_by (Env result) ≡ 1 }
     ensures told { told_by (Env result) ≡ 1 }
     ensures ran { ran_by (Env result) ≡ 0 }
+    ensures left { left_by (Env result) ≡ 0 }
+    ensures died { died_by (Env result) ≡ 0 }
 {
     EnvCall::Create {
         queue: Cpu(plan.queue as u8),
@@ -41,7 +43,7 @@ pub(crate) fn create_all<N: Names>(
     purse: &mut Purse<N>,
 ) -> Result<(), RunFault>
     requires { (cpus : ℕ) × (cpus < 2 ^ 8) × All (IsPlan cpus) (map plan_of plans.now) }
-    ensures { OnOk result (HasPosted (length plans.now) (length plans.now) 0 purse.old purse.new) }
+    ensures { OnOk result (HasPosted (length plans.now) (length plans.now) 0 0 0 purse.old purse.new) }
 {
     for plan in plans {
         tallied.post(purse, creation(plan))?;
@@ -51,13 +53,13 @@ pub(crate) fn create_all<N: Names>(
 
 /// How many steps each thread has done.
 #[derive(Drop)]
-pub(crate) struct Progress {
+struct Progress {
     done: Vec<usize>,
 }
 
 impl Progress {
     /// No thread has done a step.
-    pub(crate) fn new(alloc: Global, plans: &[ThreadPlan]) -> Result<Progress, AllocError>
+    fn new(alloc: Global, plans: &[ThreadPlan]) -> Result<Progress, AllocError>
         ensures { IfOk result (λ progress. (by : Step → ℕ) → left_of by (map plan_of plans.now) progress.done.items
             ≡ sum_by (λ plan. sum_by by plan.steps) (map plan_of plans.now)) }
     {
@@ -99,6 +101,8 @@ fn call_of(cpu: Cpu, step: &Step) -> EnvCall
     ensures created { created_by (Env result) ≡ 0 }
     ensures told { told_by (Env result) ≡ 1 }
     ensures ran { ran_by (Env result) ≡ ticks step.now }
+    ensures left { left_by (Env result) ≡ 1 }
+    ensures died { died_by (Env result) ≡ died_in step.now }
 {
     match *step {
         Step::Yield(ran) => EnvCall::YieldNow { cpu, ran },
@@ -118,7 +122,8 @@ fn leave<N: Names>(
 ) -> Result<Left, RunFault>
     ensures fewer { IfOk result (λ left.
         IsOneFewer (map plan_of plans.now) left.step progress.old.done.items progress.new.done.items) }
-    ensures posted { IfOk result (λ left. HasPosted 0 1 (ticks left.step) purse.old purse.new) }
+    ensures posted { IfOk result (λ left.
+        HasPosted 0 1 (ticks left.step) 1 (died_in left.step) purse.old purse.new) }
 {
     let Some(thread) = tallied.book.kernel().running(cpu) else {
         return Err(RunFault::Driver(Refusal::IdleCpu));
@@ -155,7 +160,7 @@ fn wake<N: Names, R: Wait>(
     purse: &mut Purse<N>,
     thread: Tid,
 ) -> Result<(), RunFault>
-    ensures { OnOk result (HasPosted 0 1 0 purse.old purse.new) }
+    ensures { OnOk result (HasPosted 0 1 0 0 0 purse.old purse.new) }
 {
     match desk.tallied.lock(rt).post(purse, EnvCall::Wake { thread }) {
         Ok(posted) => tell_woken(rt, desk, &posted),
@@ -174,7 +179,8 @@ fn leave_locked<N: Names, R: Wait>(
 ) -> Result<Left, RunFault>
     ensures fewer { IfOk result (λ left.
         IsOneFewer (map plan_of plans.now) left.step progress.old.done.items progress.new.done.items) }
-    ensures posted { IfOk result (λ left. HasPosted 0 1 (ticks left.step) purse.old purse.new) }
+    ensures posted { IfOk result (λ left.
+        HasPosted 0 1 (ticks left.step) 1 (died_in left.step) purse.old purse.new) }
 {
     let mut tallied = desk.tallied.lock(rt);
     leave(plans, &mut *tallied, purse, progress, cpu)
@@ -187,7 +193,7 @@ fn wake_blocked<N: Names, R: Wait>(
     purse: &mut Purse<N>,
     left: &Left,
 ) -> Result<(), RunFault>
-    ensures { OnOk result (HasPosted 0 (if is_block left.now.step then 1 else 0) 0 purse.old purse.new) }
+    ensures { OnOk result (HasPosted 0 (if is_block left.now.step then 1 else 0) 0 0 0 purse.old purse.new) }
 {
     match left.step {
         Step::Block(_) => wake(rt, desk, purse, left.thread),
@@ -206,7 +212,8 @@ fn step<N: Names, R: Wait>(
 ) -> Result<Step, RunFault>
     ensures fewer { IfOk result (λ step.
         IsOneFewer (map plan_of plans.now) step progress.old.done.items progress.new.done.items) }
-    ensures posted { IfOk result (λ step. HasPosted 0 (told_in step) (ticks step) purse.old purse.new) }
+    ensures posted { IfOk result (λ step.
+        HasPosted 0 (told_in step) (ticks step) 1 (died_in step) purse.old purse.new) }
 {
     let left = leave_locked(rt, plans, desk, purse, progress, cpu)?;
     tell_woken(rt, desk, &left.posted)?;
@@ -224,8 +231,8 @@ fn next_commit<N: Names, R: Wait>(rt: &R, desk: &Desk<N>) -> Result<Cpu, RunFaul
     }
 }
 
-/// Does all steps of all threads, each where an agent has committed its thread.
-pub(crate) fn drive<N: Names, R: Wait, G: Gate>(
+/// Does all steps that are left, each where an agent has committed its thread.
+fn drive<N: Names, R: Wait, G: Gate>(
     rt: &R,
     gate: &G,
     plans: &[ThreadPlan],
@@ -236,7 +243,9 @@ pub(crate) fn drive<N: Names, R: Wait, G: Gate>(
 ) -> Result<(), RunFault>
     requires { left_of one (map plan_of plans.now) progress.old.done.items ≡ steps }
     ensures { OnOk result (HasPosted 0 (left_of told_in (map plan_of plans.now) progress.old.done.items)
-        (left_of ticks (map plan_of plans.now) progress.old.done.items) purse.old purse.new) }
+        (left_of ticks (map plan_of plans.now) progress.old.done.items)
+        (left_of one (map plan_of plans.now) progress.old.done.items)
+        (left_of died_in (map plan_of plans.now) progress.old.done.items) purse.old purse.new) }
 {
     let mut driven = Driven::new();
     for _step in 0..steps {
@@ -249,7 +258,7 @@ pub(crate) fn drive<N: Names, R: Wait, G: Gate>(
 }
 
 /// How many steps there are.
-pub(crate) fn count_steps(plans: &[ThreadPlan]) -> u64
+fn count_steps(plans: &[ThreadPlan]) -> u64
     requires { steps_in (map plan_of plans.now) < 2 ^ 64 }
     ensures { result ≡ steps_in (map plan_of plans.now) }
 {
@@ -258,4 +267,22 @@ pub(crate) fn count_steps(plans: &[ThreadPlan]) -> u64
         steps += plan.steps.len() as u64;
     }
     steps
+}
+
+/// Does all steps of all threads.
+pub(crate) fn drive_all<N: Names, R: Wait, G: Gate>(
+    rt: &R,
+    gate: &G,
+    config: &Config,
+    desk: &Desk<N>,
+    purse: &mut Purse<N>,
+) -> Result<(), RunFault>
+    ensures { OnOk result (HasPosted 0 (sum_in told_in config.now.threads) (sum_in ticks config.now.threads)
+        (sum_in one config.now.threads) (sum_in died_in config.now.threads) purse.old purse.new) }
+{
+    config.is_sound();
+    let plans = config.threads();
+    let mut progress = Progress::new(desk.alloc, plans)?;
+    let steps = count_steps(plans);
+    drive(rt, gate, plans, steps, desk, purse, &mut progress)
 }

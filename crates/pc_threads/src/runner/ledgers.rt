@@ -17,6 +17,10 @@ pub(crate) trait Names {
     type Told: Ledger;
     /// Ticks that they tell.
     type Ran: Ledger;
+    /// How often a thread left its CPU.
+    type Left: Ledger;
+    /// Threads that died.
+    type Died: Ledger;
     /// Threads committed.
     type Committed: Ledger;
     /// Threads given another queue.
@@ -25,11 +29,20 @@ pub(crate) trait Names {
     type Consumed: Ledger;
 }
 
-/// Seven ledgers.
-pub(crate) struct Seven<A, B, C, D, E, F, G>(PhantomData<(A, B, C, D, E, F, G)>);
+/// Nine ledgers.
+pub(crate) struct Nine<A, B, C, D, E, F, G, H, I>(PhantomData<(A, B, C, D, E, F, G, H, I)>);
 
-impl<A: Ledger, B: Ledger, C: Ledger, D: Ledger, E: Ledger, F: Ledger, G: Ledger> Names
-    for Seven<A, B, C, D, E, F, G> {
+impl<
+    A: Ledger,
+    B: Ledger,
+    C: Ledger,
+    D: Ledger,
+    E: Ledger,
+    F: Ledger,
+    G: Ledger,
+    H: Ledger,
+    I: Ledger,
+> Names for Nine<A, B, C, D, E, F, G, H, I> {
     type Cpus = A;
 
     type Created = B;
@@ -38,11 +51,15 @@ impl<A: Ledger, B: Ledger, C: Ledger, D: Ledger, E: Ledger, F: Ledger, G: Ledger
 
     type Ran = D;
 
-    type Committed = E;
+    type Left = E;
 
-    type TakenOver = F;
+    type Died = F;
 
-    type Consumed = G;
+    type Committed = G;
+
+    type TakenOver = H;
+
+    type Consumed = I;
 }
 
 /// What the driver has posted, and on how many CPUs.
@@ -52,6 +69,8 @@ pub(crate) struct Purse<N: Names> {
     pub(crate) created: Share<N::Created>,
     pub(crate) told: Share<N::Told>,
     pub(crate) ran: Share<N::Ran>,
+    pub(crate) left: Share<N::Left>,
+    pub(crate) died: Share<N::Died>,
 }
 
 impl<N: Names> Model for Purse<N> {
@@ -60,10 +79,17 @@ impl<N: Names> Model for Purse<N> {
 
     ghost Value = { Spent };
 
-    ghost view = { λ p.
-        record { cpus = p.cpus.amount; created = p.created.amount; told = p.told.amount; ran = p.ran.amount } };
+    ghost view = { λ p. record {
+      cpus = p.cpus.amount;
+      created = p.created.amount;
+      told = p.told.amount;
+      ran = p.ran.amount;
+      left = p.left.amount;
+      died = p.died.amount;
+    } };
 
-    ghost invariant = { λ p. (p.cpus.parts ≡ 1) × (p.created.parts ≡ 1) × (p.told.parts ≡ 1) × (p.ran.parts ≡ 1) };
+    ghost invariant = { λ p. (p.cpus.parts ≡ 1) × (p.created.parts ≡ 1) × (p.told.parts ≡ 1) × (p.ran.parts ≡ 1)
+        × (p.left.parts ≡ 1) × (p.died.parts ≡ 1) };
 }
 
 /// What the agents that do not run have done: a part of each ledger stands for each agent.

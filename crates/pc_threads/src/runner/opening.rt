@@ -40,13 +40,15 @@ pub(crate) fn new_book(alloc: Global, cpus: u8) -> Result<Book, RunFault>
     }
 }
 
-/// Seven ledgers that no type stands for yet.
+/// Nine ledgers that no type stands for yet.
 #[derive(Drop)]
 pub(crate) struct Blanks {
     pub(crate) cpus: Blank,
     pub(crate) created: Blank,
     pub(crate) told: Blank,
     pub(crate) ran: Blank,
+    pub(crate) left: Blank,
+    pub(crate) died: Blank,
     pub(crate) committed: Blank,
     pub(crate) taken_over: Blank,
     pub(crate) consumed: Blank,
@@ -63,15 +65,17 @@ pub(crate) struct Opened<N: Names> {
 /// Opens the ledgers over a new book.
 pub(crate) fn open<N: Names>(book: Book, cpus: u8, blanks: Blanks) -> Opened<N>
     requires new { (book.calls ≡ []) × (book.kernel.limits ≡ limits_on cpus) }
-    requires named { AreBlanksOf N.Cpus.Ledger N.Created.Ledger N.Told.Ledger N.Ran.Ledger
-        N.Committed.Ledger N.TakenOver.Ledger N.Consumed.Ledger blanks }
+    requires named { AreBlanksOf N.Cpus.Ledger N.Created.Ledger N.Told.Ledger N.Ran.Ledger N.Left.Ledger
+        N.Died.Ledger N.Committed.Ledger N.TakenOver.Ledger N.Consumed.Ledger blanks }
     ensures nothing { result.pool ≡ idle blanks.committed.parts }
-    ensures none { result.purse ≡ record { cpus = cpus; created = 0; told = 0; ran = 0 } }
+    ensures none { result.purse ≡ record { cpus = cpus; created = 0; told = 0; ran = 0; left = 0; died = 0 } }
 {
     let (mut all_cpus, mut cpus_share) = blanks.cpus.open::<N::Cpus>();
     let (created, created_share) = blanks.created.open::<N::Created>();
     let (told, told_share) = blanks.told.open::<N::Told>();
     let (ran, ran_share) = blanks.ran.open::<N::Ran>();
+    let (left, left_share) = blanks.left.open::<N::Left>();
+    let (died, died_share) = blanks.died.open::<N::Died>();
     let (committed, committed_share) = blanks.committed.open::<N::Committed>();
     let (taken_over, taken_over_share) = blanks.taken_over.open::<N::TakenOver>();
     let (consumed, consumed_share) = blanks.consumed.open::<N::Consumed>();
@@ -83,6 +87,8 @@ pub(crate) fn open<N: Names>(book: Book, cpus: u8, blanks: Blanks) -> Opened<N>
             created,
             told,
             ran,
+            left,
+            died,
             committed,
             taken_over,
             consumed,
@@ -92,6 +98,8 @@ pub(crate) fn open<N: Names>(book: Book, cpus: u8, blanks: Blanks) -> Opened<N>
             created: created_share,
             told: told_share,
             ran: ran_share,
+            left: left_share,
+            died: died_share,
         },
         pool: Pool {
             committed: committed_share,

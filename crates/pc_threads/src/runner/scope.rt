@@ -1,14 +1,14 @@
 //! All threads of a run: the agents' and the driver's.
 
 ghost use Rattle.std.specs.Prelude.{pos, ◌≡◌, ◌+◌, IfOk, OnOk, length};
-ghost use Rattle.pc_threads.specs.Inner.Driving.{sum_in, told_in};
+ghost use Rattle.pc_threads.specs.Inner.Driving.{died_in, one, sum_in, told_in};
 ghost use Rattle.pc_threads.specs.Inner.Ends.{HasEnded};
 ghost use Rattle.pc_threads.specs.Inner.Shares.{HasPosted, idle};
 ghost use Rattle.pc_threads.specs.Settings.{ticks};
 
 use crate::book::RunFault;
 use crate::runner::desk::Desk;
-use crate::runner::driver::{Progress, count_steps, drive};
+use crate::runner::driver::drive_all;
 use crate::runner::gate::Gate;
 use crate::runner::ledgers::{Names, Pool, Purse};
 use crate::runner::threads::{Joined, join_all, start_all};
@@ -35,6 +35,8 @@ where
     N::Created: Send + Sync,
     N::Told: Send + Sync,
     N::Ran: Send + Sync,
+    N::Left: Send + Sync,
+    N::Died: Send + Sync,
     N::Committed: Send + Sync,
     N::TakenOver: Send + Sync,
     N::Consumed: Send + Sync,
@@ -43,14 +45,10 @@ where
     ensures nothing { OnOk result (pool.new ≡ idle 0) }
     ensures started { OnOk result (length handles.new.items ≡ length handles.old.items + pool.old.agents) }
     ensures posted { OnOk result (HasPosted 0 (sum_in told_in config.now.threads) (sum_in ticks config.now.threads)
-        purse.old purse.new) }
+        (sum_in one config.now.threads) (sum_in died_in config.now.threads) purse.old purse.new) }
 {
-    config.is_sound();
-    let plans = config.threads();
-    let mut progress = Progress::new(desk.alloc, plans)?;
-    let steps = count_steps(plans);
     start_all(scope, rt, gate, config, desk, pool, handles)?;
-    drive(rt, gate, plans, steps, desk, purse, &mut progress)
+    drive_all(rt, gate, config, desk, purse)
 }
 
 /// What the threads leave when all have ended.
@@ -76,6 +74,8 @@ where
     N::Created: Send + Sync,
     N::Told: Send + Sync,
     N::Ran: Send + Sync,
+    N::Left: Send + Sync,
+    N::Died: Send + Sync,
     N::Committed: Send + Sync,
     N::TakenOver: Send + Sync,
     N::Consumed: Send + Sync,
@@ -120,6 +120,8 @@ where
     N::Created: Send + Sync,
     N::Told: Send + Sync,
     N::Ran: Send + Sync,
+    N::Left: Send + Sync,
+    N::Died: Send + Sync,
     N::Committed: Send + Sync,
     N::TakenOver: Send + Sync,
     N::Consumed: Send + Sync,

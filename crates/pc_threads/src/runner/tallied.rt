@@ -4,8 +4,8 @@ ghost use Rattle.std.specs.Prelude.{◌≡◌, ◌<◌, ◌≤◌, ◌+◌, ◌-
 ghost use Rattle.pc_calls.specs.declared.call.Call.TheVariants.{Env};
 ghost use Rattle.pc_threads.specs.Pages.{Pages};
 ghost use Rattle.pc_threads.specs.Inner.Shares.{HasPosted};
-ghost use Rattle.pc_threads.specs.Totals.{committed_by, consumed_by, created_by, in_all, limits_on, ran_by};
-ghost use Rattle.pc_threads.specs.Totals.{taken_over_by, told_by};
+ghost use Rattle.pc_threads.specs.Totals.{committed_by, consumed_by, created_by, died_by, in_all, left_by, limits_on};
+ghost use Rattle.pc_threads.specs.Totals.{ran_by, taken_over_by, told_by};
 
 use crate::book::Book;
 use crate::report::weights_of;
@@ -23,6 +23,8 @@ pub(crate) struct Tallied<N: Names> {
     pub(crate) created: ledger::Book<N::Created>,
     pub(crate) told: ledger::Book<N::Told>,
     pub(crate) ran: ledger::Book<N::Ran>,
+    pub(crate) left: ledger::Book<N::Left>,
+    pub(crate) died: ledger::Book<N::Died>,
     pub(crate) committed: ledger::Book<N::Committed>,
     pub(crate) taken_over: ledger::Book<N::TakenOver>,
     pub(crate) consumed: ledger::Book<N::Consumed>,
@@ -30,6 +32,8 @@ pub(crate) struct Tallied<N: Names> {
     ghost created_is: { created.total ≡ in_all created_by book.calls },
     ghost told_is: { told.total ≡ in_all told_by book.calls },
     ghost ran_is: { ran.total ≡ in_all ran_by book.calls },
+    ghost left_is: { left.total ≡ in_all left_by book.calls },
+    ghost died_is: { died.total ≡ in_all died_by book.calls },
     ghost committed_is: { committed.total ≡ in_all committed_by book.calls },
     ghost taken_over_is: { taken_over.total ≡ in_all taken_over_by book.calls },
     ghost consumed_is: { consumed.total ≡ in_all consumed_by book.calls },
@@ -69,13 +73,15 @@ impl<N: Names> Tallied<N> {
     /// Makes the call of the environment, by the driver.
     pub(crate) fn post(&mut self, purse: &mut Purse<N>, call: EnvCall) -> Result<Posted, CallFault>
         ensures { OnOk result (HasPosted (created_by (Env call)) (told_by (Env call)) (ran_by (Env call))
-            purse.old purse.new) }
+            (left_by (Env call)) (died_by (Env call)) purse.old purse.new) }
     {
         let weights = weights_of(&call);
         let posted = self.book.post(call)?;
         self.created.add(&mut purse.created, weights.created);
         self.told.add(&mut purse.told, weights.told);
         self.ran.add(&mut purse.ran, weights.ran);
+        self.left.add(&mut purse.left, weights.left);
+        self.died.add(&mut purse.died, weights.died);
         Ok(posted)
     }
 
@@ -177,6 +183,8 @@ impl<N: Names> Tallied<N> {
         requires created { N.Created.parts ≡ 1 }
         requires told { N.Told.parts ≡ 1 }
         requires ran { N.Ran.parts ≡ 1 }
+        requires left { N.Left.parts ≡ 1 }
+        requires died { N.Died.parts ≡ 1 }
         requires committed { N.Committed.parts ≡ pool.agents }
         requires taken_over { N.TakenOver.parts ≡ pool.agents }
         requires consumed { N.Consumed.parts ≡ pool.agents }
@@ -184,6 +192,8 @@ impl<N: Names> Tallied<N> {
         ensures created { in_all created_by result.calls ≡ purse.created }
         ensures told { in_all told_by result.calls ≡ purse.told }
         ensures ran { in_all ran_by result.calls ≡ purse.ran }
+        ensures left { in_all left_by result.calls ≡ purse.left }
+        ensures died { in_all died_by result.calls ≡ purse.died }
         ensures committed { in_all committed_by result.calls ≡ pool.committed }
         ensures taken_over { in_all taken_over_by result.calls ≡ pool.taken_over }
         ensures consumed { in_all consumed_by result.calls ≡ pool.consumed }
@@ -195,6 +205,8 @@ impl<N: Names> Tallied<N> {
         all.created.audit(&mut purse.created);
         all.told.audit(&mut purse.told);
         all.ran.audit(&mut purse.ran);
+        all.left.audit(&mut purse.left);
+        all.died.audit(&mut purse.died);
         all.committed.audit(&mut pool.committed);
         all.taken_over.audit(&mut pool.taken_over);
         all.consumed.audit(&mut pool.consumed);

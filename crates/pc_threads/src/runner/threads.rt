@@ -67,6 +67,8 @@ where
     N::Created: Send + Sync,
     N::Told: Send + Sync,
     N::Ran: Send + Sync,
+    N::Left: Send + Sync,
+    N::Died: Send + Sync,
     N::Committed: Send + Sync,
     N::TakenOver: Send + Sync,
     N::Consumed: Send + Sync,

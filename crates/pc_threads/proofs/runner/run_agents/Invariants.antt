@@ -13,10 +13,16 @@ abbrev pub ghosts-run_with-D-Ledger : goal.ghosts-run_with-D-Ledger
 ghosts-run_with-D-Ledger g a = record { name = a.blanks.ran.name; parts = a.blanks.ran.parts }
 
 abbrev pub ghosts-run_with-E-Ledger : goal.ghosts-run_with-E-Ledger
-ghosts-run_with-E-Ledger g a = record { name = a.blanks.committed.name; parts = a.blanks.committed.parts }
+ghosts-run_with-E-Ledger g a = record { name = a.blanks.left.name; parts = a.blanks.left.parts }
 
 abbrev pub ghosts-run_with-F-Ledger : goal.ghosts-run_with-F-Ledger
-ghosts-run_with-F-Ledger g a = record { name = a.blanks.taken_over.name; parts = a.blanks.taken_over.parts }
+ghosts-run_with-F-Ledger g a = record { name = a.blanks.died.name; parts = a.blanks.died.parts }
 
 abbrev pub ghosts-run_with-H-Ledger : goal.ghosts-run_with-H-Ledger
-ghosts-run_with-H-Ledger g a = record { name = a.blanks.consumed.name; parts = a.blanks.consumed.parts }
+ghosts-run_with-H-Ledger g a = record { name = a.blanks.committed.name; parts = a.blanks.committed.parts }
+
+abbrev pub ghosts-run_with-I-Ledger : goal.ghosts-run_with-I-Ledger
+ghosts-run_with-I-Ledger g a = record { name = a.blanks.taken_over.name; parts = a.blanks.taken_over.parts }
+
+abbrev pub ghosts-run_with-J-Ledger : goal.ghosts-run_with-J-Ledger
+ghosts-run_with-J-Ledger g a = record { name = a.blanks.consumed.name; parts = a.blanks.consumed.parts }

@@ -15,7 +15,8 @@ pub report_of-requires-clause-counted : goal.report_of-requires-clause-counted
 report_of-requires-clause-counted g c =
     let threads = c.args.config.now.threads in
     let count : length c.threads.result.now ≡ length threads = sym (length-map c.threads.result.now plan_of) ∙ ap (λ (plans : List Plan). length plans) c.threads.ensures in
-    let all = all_posted c.cpus-cpus.result (length c.threads.result.now) threads c.open-tallied.result.purse c.create_all.new.purse c.in_ok-purse.field-0.purse count c.open-tallied.ensures.none
+    let sound = c.is_sound.ensures in
+    let all = all_posted c.cpus-cpus.result sound.cpus (length c.threads.result.now) threads c.open-tallied.result.purse c.create_all.new.purse c.in_ok-purse.field-0.purse sound.threads count c.open-tallied.ensures.none
     c.in_ok-create_all.ensures c.in_ok-purse.ensures.ends.posted in
     omega (arith, c.close-book.ensures.told, ap (λ (s : Spent). s.told) c.in_ok-purse.purse-is, all.told_all, messages_few c.args.config.now c.is_sound.ensures)
 
@@ -24,8 +25,10 @@ returns-clause-all g c =
     let threads = c.args.config.now.threads in
     let spent = c.in_ok-purse.field-0.purse in
     let count : length c.threads.result.now ≡ length threads = sym (length-map c.threads.result.now plan_of) ∙ ap (λ (plans : List Plan). length plans) c.threads.ensures in
-    let all = all_posted c.cpus-cpus.result (length c.threads.result.now) threads c.open-tallied.result.purse c.create_all.new.purse spent count c.open-tallied.ensures.none
+    let sound = c.is_sound.ensures in
+    let all = all_posted c.cpus-cpus.result sound.cpus (length c.threads.result.now) threads c.open-tallied.result.purse c.create_all.new.purse spent sound.threads count c.open-tallied.ensures.none
     c.in_ok-create_all.ensures c.in_ok-purse.ensures.ends.posted in
     does_all c.args.config.now c.in_ok-report.report c.close-book.result c.cpus-cpus.result spent c.cpus-cpus.ensures all c.close-book.ensures.limits
     (omega (arith, c.close-book.ensures.created, ap (λ (s : Spent). s.created) c.in_ok-purse.purse-is)) (omega (arith, c.close-book.ensures.told, ap (λ (s : Spent). s.told) c.in_ok-purse.purse-is))
-    (omega (arith, c.close-book.ensures.ran, ap (λ (s : Spent). s.ran) c.in_ok-purse.purse-is)) c.known_are_created.ensures c.in_ok-report.ensures.book c.in_ok-report.ensures.tells
+    (omega (arith, c.close-book.ensures.ran, ap (λ (s : Spent). s.ran) c.in_ok-purse.purse-is)) (omega (arith, c.close-book.ensures.left, ap (λ (s : Spent). s.left) c.in_ok-purse.purse-is))
+    (omega (arith, c.close-book.ensures.died, ap (λ (s : Spent). s.died) c.in_ok-purse.purse-is)) c.none_runs_in_the_end.ensures c.known_are_created.ensures c.in_ok-report.ensures.book c.in_ok-report.ensures.tells

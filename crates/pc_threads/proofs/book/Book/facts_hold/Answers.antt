@@ -1,4 +1,5 @@
 use Rattle.pc_threads.specs.Pages.{calls_of}
+use Rattle.pc_threads.proofs.Running.{balanced}
 use Rattle.pc_threads.proofs.book.Book.facts_hold.Goals as goal
 
 pub returns-clause-home : goal.returns-clause-home
@@ -9,3 +10,6 @@ returns-clause-placed c cpu t = c.threads_are_placed.ensures c.args.self.now.ker
 
 pub returns-clause-rested : goal.returns-clause-rested
 returns-clause-rested c cpu = c.sleepers_had_no_post.ensures c.args.self.now.kernel.limits (calls_of c.args.self.now.calls) cpu
+
+pub returns-clause-balanced : goal.returns-clause-balanced
+returns-clause-balanced c = balanced c.args.self.now c.is_replay.ensures

@@ -2,7 +2,7 @@ use Rattle.std.proofs.Common.{◌∙◌, ◌<◌, ◌^◌, map, sym, subst}
 use Rattle.pc_threads.specs.Inner.Driving.{one}
 use Rattle.pc_threads.specs.Settings.{plan_of, steps_in}
 use Rattle.pc_threads.proofs.Steps.{messages_few, ones_in, steps_few}
-use Rattle.pc_threads.proofs.runner.scope.start_and_drive.Goals as goal
+use Rattle.pc_threads.proofs.runner.driver.drive_all.Goals as goal
 
 pub count_steps-steps-requires : goal.count_steps-steps-requires
 count_steps-steps-requires g c =
