@@ -9,3 +9,4 @@ pub mod Running
 pub mod Settled
 pub mod Sound
 pub mod Steps
+pub mod Turns

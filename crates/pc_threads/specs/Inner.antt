@@ -3,3 +3,4 @@ pub mod Driving
 pub mod Ends
 pub mod Merging
 pub mod Shares
+pub mod Turns

@@ -1,9 +1,11 @@
 //! What lies under the lock of a run: the book, with ledgers of what its calls come to.
 
-ghost use Rattle.std.specs.Prelude.{◌≡◌, ◌<◌, ◌≤◌, ◌+◌, ◌-◌, ◌*◌, ◌^◌, OnOk};
+ghost use Rattle.std.specs.Prelude.{ℕ, ◌≡◌, ◌<◌, ◌≤◌, ◌+◌, ◌-◌, ◌*◌, ◌^◌, IfOk, OnErr, OnOk, if◌then◌else◌};
 ghost use Rattle.pc_calls.specs.declared.call.Call.TheVariants.{Env};
 ghost use Rattle.pc_threads.specs.Pages.{Pages};
+ghost use Rattle.pc_agent.specs.Shows.{cpu_of};
 ghost use Rattle.pc_threads.specs.Inner.Shares.{HasPosted};
+ghost use Rattle.pc_threads.specs.Inner.Turns.{ListsUnder, commits_of};
 ghost use Rattle.pc_threads.specs.Totals.{committed_by, consumed_by, created_by, died_by, in_all, left_by, limits_on};
 ghost use Rattle.pc_threads.specs.Totals.{ran_by, taken_over_by, told_by};
 
@@ -58,6 +60,18 @@ enum Tried {
     Nothing,
 }
 
+impl Tried {
+    /// Whether a thread was committed.
+    fn has_committed(&self) -> bool
+        ensures { commits_of self.now ≡ (if result then 1 else 0) }
+    {
+        match self {
+            Tried::Committed => true,
+            Tried::Lacks | Tried::Nothing => false,
+        }
+    }
+}
+
 /// No count of a book's calls reaches the greatest value of an agent's.
 fn are_bounded(book: &Book)
     ensures committed { in_all committed_by book.now.calls < 2 ^ 64 }
@@ -86,7 +100,11 @@ impl<N: Names> Tallied<N> {
     }
 
     /// The agent removes what it has sent.
-    pub(crate) fn consume(&mut self, worker: &mut Worker<N>) -> Result<u32, CallFault> {
+    pub(crate) fn consume(&mut self, worker: &mut Worker<N>) -> Result<u32, CallFault>
+        ensures cpu { cpu_of worker.new.agent ≡ cpu_of worker.old.agent }
+        ensures under { OnOk result ((aseq : ℕ) →
+            ListsUnder (cpu_of worker.old.agent) aseq 0 0 self.old.book.calls self.new.book.calls) }
+    {
         match self.book.consume(&mut worker.agent) {
             Ok(count) => {
                 are_bounded(&self.book);
@@ -99,7 +117,12 @@ impl<N: Names> Tallied<N> {
     }
 
     /// The agent commits a thread of its run list.
-    fn pick(&mut self, worker: &mut Worker<N>, aseq: u32) -> Result<Tid, CallFault> {
+    fn pick(&mut self, worker: &mut Worker<N>, aseq: u32) -> Result<Tid, CallFault>
+        ensures cpu { cpu_of worker.new.agent ≡ cpu_of worker.old.agent }
+        ensures under { OnOk result
+            (ListsUnder (cpu_of worker.old.agent) aseq 1 0 self.old.book.calls self.new.book.calls) }
+        ensures err { OnErr result (self.new.book ≡ self.old.book) }
+    {
         match self.book.pick(&mut worker.agent, aseq) {
             Ok(thread) => {
                 are_bounded(&self.book);
@@ -112,7 +135,12 @@ impl<N: Names> Tallied<N> {
     }
 
     /// The agent takes a thread over.
-    fn steal(&mut self, worker: &mut Worker<N>) -> Result<Tid, CallFault> {
+    fn steal(&mut self, worker: &mut Worker<N>) -> Result<Tid, CallFault>
+        ensures cpu { cpu_of worker.new.agent ≡ cpu_of worker.old.agent }
+        ensures under { OnOk result ((aseq : ℕ) →
+            ListsUnder (cpu_of worker.old.agent) aseq 0 0 self.old.book.calls self.new.book.calls) }
+        ensures err { OnErr result (self.new.book ≡ self.old.book) }
+    {
         match self.book.steal(&mut worker.agent) {
             Ok(thread) => {
                 are_bounded(&self.book);
@@ -125,7 +153,11 @@ impl<N: Names> Tallied<N> {
     }
 
     /// The agent takes a thread over and picks again.
-    fn steal_and_pick(&mut self, worker: &mut Worker<N>, aseq: u32) -> Result<Tried, CallFault> {
+    fn steal_and_pick(&mut self, worker: &mut Worker<N>, aseq: u32) -> Result<Tried, CallFault>
+        ensures cpu { cpu_of worker.new.agent ≡ cpu_of worker.old.agent }
+        ensures under { IfOk result (λ tried. ListsUnder (cpu_of worker.old.agent) aseq (commits_of tried) 0
+            self.old.book.calls self.new.book.calls) }
+    {
         match self.steal(worker) {
             Ok(_) => {}
             Err(CallFault::Refused(Refusal::Stale(_) | Refusal::Pending | Refusal::Dead)) => {
@@ -142,7 +174,11 @@ impl<N: Names> Tallied<N> {
     }
 
     /// The agent picks, and where nothing is ready takes a thread over and picks again.
-    fn commit(&mut self, worker: &mut Worker<N>, aseq: u32) -> Result<Tried, CallFault> {
+    fn commit(&mut self, worker: &mut Worker<N>, aseq: u32) -> Result<Tried, CallFault>
+        ensures cpu { cpu_of worker.new.agent ≡ cpu_of worker.old.agent }
+        ensures under { IfOk result (λ tried. ListsUnder (cpu_of worker.old.agent) aseq (commits_of tried) 0
+            self.old.book.calls self.new.book.calls) }
+    {
         match self.pick(worker, aseq) {
             Ok(_) => Ok(Tried::Committed),
             Err(CallFault::Refused(Refusal::NothingReady)) => self.steal_and_pick(worker, aseq),
@@ -152,7 +188,10 @@ impl<N: Names> Tallied<N> {
     }
 
     /// Puts the CPU's agent to sleep, where it has read all posts to its queue.
-    fn sleep(&mut self, cpu: Cpu, aseq: u32) -> Result<bool, CallFault> {
+    fn sleep(&mut self, cpu: Cpu, aseq: u32) -> Result<bool, CallFault>
+        ensures { IfOk result (λ asleep. ListsUnder cpu aseq 0 (if asleep then 1 else 0)
+            self.old.book.calls self.new.book.calls) }
+    {
         match self.book.sleep(cpu, aseq) {
             Ok(()) => Ok(true),
             Err(CallFault::Refused(Refusal::Stale(_))) => Ok(false),
@@ -160,13 +199,18 @@ impl<N: Names> Tallied<N> {
         }
     }
 
-    /// All that an agent does in one section of the lock after it read its queue.
-    pub(crate) fn act(&mut self, worker: &mut Worker<N>, aseq: u32) -> Result<Acted, CallFault> {
+    /// All that an agent does in one section of the lock after it read its queue under this count of posts: whatever was
+    /// posted since, its commit and its sleep are under that count.
+    pub(crate) fn act(&mut self, worker: &mut Worker<N>, aseq: u32) -> Result<Acted, CallFault>
+        ensures under { IfOk result (λ acted. ListsUnder (cpu_of worker.old.agent) aseq
+            (if acted.committed then 1 else 0) (if acted.asleep then 1 else 0)
+            self.old.book.calls self.new.book.calls) }
+    {
         self.consume(worker)?;
         let tried = self.commit(worker, aseq)?;
         let asleep = self.sleep(worker.agent.cpu(), aseq)?;
         Ok(Acted {
-            committed: tried == Tried::Committed,
+            committed: tried.has_committed(),
             lacks: tried == Tried::Lacks,
             asleep,
         })
