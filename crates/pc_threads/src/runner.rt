@@ -15,7 +15,6 @@ mod gate;
 mod inbox;
 mod inbox_wire;
 mod ledgers;
-mod mailbox;
 mod opening;
 mod scope;
 mod slot;

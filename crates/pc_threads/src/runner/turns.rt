@@ -82,7 +82,8 @@ fn take_note<N: Names, R: Wait>(
     let cpu = worker.agent.cpu();
     let inbox = desk.channels.of(cpu)?;
     let received = inbox.take(rt)?;
-    for delta in inbox.news(rt) {
+    for _ in 0..inbox.news() {
+        let delta = inbox.take_news(rt)?;
         worker.deliver(&delta)?;
     }
     match received {
