@@ -16,6 +16,7 @@ mod inbox;
 mod inbox_wire;
 mod ledgers;
 mod opening;
+mod restarts;
 mod scope;
 mod slot;
 mod tallied;
@@ -96,7 +97,7 @@ where
     config.is_sound();
     let cpus = config.cpus();
     let book = new_book(alloc, cpus)?;
-    let channels = Channels::new(alloc, cpus)?;
+    let channels = Channels::new(alloc, config)?;
     let Opened {
         mut tallied,
         mut purse,

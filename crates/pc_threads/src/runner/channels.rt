@@ -2,6 +2,8 @@
 
 use crate::runner::faults::Quit;
 use crate::runner::inbox::{Inbox, Note};
+use crate::runner::restarts::restarts_later;
+use crate::settings::Config;
 use crossbeam_channel::{Receiver, SendError, Sender};
 use pc_delta::{Delta, Digest};
 use pc_messages::{Cpu, Phase};
@@ -40,11 +42,13 @@ pub(crate) struct Channels {
 }
 
 impl Channels {
-    /// The channels of so many agents.
-    pub(crate) fn new(alloc: Global, cpus: u8) -> Result<Channels, AllocError> {
+    /// The channels of the agents of a run.
+    pub(crate) fn new(alloc: Global, config: &Config) -> Result<Channels, AllocError> {
+        let cpus = config.cpus();
         let mut inboxes = Vec::with_capacity(alloc, cpus as usize)?;
-        for _ in 0..cpus {
-            inboxes.push(Inbox::new(alloc, cpus)?)?;
+        for cpu in 0..cpus {
+            let restarts = restarts_later(config, Cpu(cpu), 0);
+            inboxes.push(Inbox::new(alloc, cpus, restarts)?)?;
         }
         let (to_driver, at_driver) = crossbeam_channel::unbounded(alloc)?;
         Ok(Channels {

@@ -6,6 +6,7 @@ use crossbeam_channel::{Receiver, SendError, Sender};
 use pc_delta::{Delta, Digest};
 use pc_messages::Cpu;
 use std::alloc::{AllocError, Global};
+use std::sync::atomic::{AtomicBool, Ordering};
 use std::sync::{Arc, Wait};
 
 /// So much news waits at most before its owner is told.
@@ -47,7 +48,8 @@ struct Waiting {
 ///
 /// What others have learnt waits in a channel of its own, and all of it is taken ahead of each note. It wakes the owner
 /// only where it may tell of a thread to take, or where much waits, and where no other note does: a note for each would
-/// have each agent do a turn for each message of the run.
+/// have each agent do a turn for each message of the run. An agent that is still to restart does that: its turns have to
+/// come.
 #[derive(Drop)]
 pub(crate) struct Inbox {
     to: Sender<Note>,
@@ -55,13 +57,15 @@ pub(crate) struct Inbox {
     /// What others have learnt.
     news_to: Sender<Arc<Delta, Global>>,
     news_at: Receiver<Arc<Delta, Global>>,
+    /// Whether the owner is still to restart.
+    restarts: AtomicBool,
     /// By the CPUs of those that ask and answer.
     waiting: Vec<Waiting>,
 }
 
 impl Inbox {
-    /// The inbox of one of so many agents.
-    pub(crate) fn new(alloc: Global, cpus: u8) -> Result<Inbox, AllocError> {
+    /// The inbox of one of so many agents, which may be still to restart.
+    pub(crate) fn new(alloc: Global, cpus: u8, restarts: bool) -> Result<Inbox, AllocError> {
         let (to, at) = crossbeam_channel::unbounded(alloc)?;
         let (news_to, news_at) = crossbeam_channel::unbounded(alloc)?;
         let mut waiting = Vec::with_capacity(alloc, cpus as usize)?;
@@ -76,6 +80,7 @@ impl Inbox {
             at,
             news_to,
             news_at,
+            restarts: AtomicBool::new(restarts),
             waiting,
         })
     }
@@ -91,7 +96,7 @@ impl Inbox {
     }
 
     /// Leaves what another agent has learnt, and wakes the owner where that is urgent or much waits. A note that waits
-    /// already does so too: the owner takes all news behind the note.
+    /// already does so too: the owner takes all news behind the note. One that is still to restart is woken for each.
     pub(crate) fn inform<R: Wait>(
         &self,
         rt: &R,
@@ -100,10 +105,15 @@ impl Inbox {
     ) -> Result<(), Quit> {
         send(rt, &self.news_to, delta)?;
         let wakes = urgent || self.news_to.len() >= MOST_UNTOLD;
-        if wakes && self.to.is_empty() {
+        if self.restarts.load(Ordering::SeqCst) || (wakes && self.to.is_empty()) {
             return self.tell(rt, Note::News);
         }
         Ok(())
+    }
+
+    /// The owner restarts no more.
+    pub(crate) fn restarts_no_more(&self) {
+        self.restarts.store(false, Ordering::SeqCst);
     }
 
     /// Asks the owner for what the agent of this CPU lacks.

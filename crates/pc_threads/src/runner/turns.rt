@@ -11,6 +11,7 @@ use crate::runner::gate::{Gate, Point};
 use crate::runner::inbox::Received;
 use crate::runner::inbox_wire::InboxWire;
 use crate::runner::ledgers::Names;
+use crate::runner::restarts::{restarts_at, restarts_later};
 use crate::runner::worker::Worker;
 use crate::settings::Config;
 use pc_messages::{Cpu, Item};
@@ -139,10 +140,14 @@ fn turns<N: Names, R: Wait, G: Gate>(
     desk: &Desk<N>,
     worker: &mut Worker<N>,
 ) -> Result<(), Quit> {
+    let cpu = worker.agent.cpu();
     let mut number: u32 = 0;
     for _ in rt.forever() {
         number = number.saturating_add(1);
-        let restarts = restarts_at(config, worker.agent.cpu(), number);
+        let restarts = restarts_at(config, cpu, number);
+        if restarts && !restarts_later(config, cpu, number) {
+            desk.channels.of(cpu)?.restarts_no_more();
+        }
         if turn(rt, gate, desk, worker, restarts)? {
             return Ok(());
         }
@@ -175,10 +180,4 @@ pub(crate) fn serve<N: Names, R: Wait, G: Gate>(
             .report(rt, Notice::Quitted(worker.agent.cpu().index(), quit));
     }
     Served { worker, quit }
-}
-
-/// Whether the CPU's agent restarts before that turn.
-fn restarts_at(config: &Config, cpu: Cpu, turn: u32) -> bool {
-    config.restarts().iter().any(|restart| restart.cpu == cpu.index() as i64
-        && restart.turn == turn as i64)
 }
