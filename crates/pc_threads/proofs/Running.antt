@@ -14,7 +14,8 @@ use Rattle.pc_messages.specs.declared.reported.Phase.{Phase}
 use Rattle.pc_messages.specs.declared.reported.Phase.TheVariants as phase
 use Rattle.pc_messages.proofs.States.{last_given-push, or_else}
 use Rattle.pc_calls.specs.declared.call.Call.{Call}
-use Rattle.pc_calls.specs.declared.call.Call.TheVariants.{Env, Consume, Associate, Commit, Sleep, Rouse, Config}
+use Rattle.pc_calls.specs.declared.call.AgentCall.TheVariants.{Associate, Commit, Sleep, Rouse, Config}
+use Rattle.pc_calls.specs.declared.call.Call.TheVariants.{Env, Agent, Consume}
 use Rattle.pc_calls.specs.declared.call.EnvCall.{EnvCall}
 use Rattle.pc_calls.specs.declared.call.EnvCall.TheVariants.{Create, Wake, Block, YieldNow, Preempt, Die, SetAffinity, SetPriority, Tick}
 use Rattle.pc_calls.specs.declared.call.Answer.{Answer}
@@ -141,16 +142,16 @@ env_balanced P (Tick cpu) n = refl
 call_balanced : (P : PlainKernel) (call : Call) → NoneHold (refusals (shown P) call) → IsBalanced P call
 call_balanced P (Env call) n = env_balanced P call n
 call_balanced P (Consume cpu count) n = refl
-call_balanced P (Associate t queue number) n = refl
-call_balanced P (Commit cpu t aseq) n =
+call_balanced P (Agent (Associate t queue number)) n = refl
+call_balanced P (Agent (Commit cpu t aseq)) n =
     let passes = commit_passes (shown P) cpu t aseq n in
     let idle : is_some (P.on cpu) ≡ false = ap is_some (sym (shown-on P cpu (not_false (reads.is_cpu (shown P) cpu) passes.there))) ∙ passes.idle in
     let one = came_one P.on cpu t P.limits.cpus idle (low_of P cpu passes.there) in
     omega (arith, one)
-call_balanced P (Sleep cpu aseq) n = refl
-call_balanced P (Rouse cpu) n = refl
-call_balanced P (Config queue None) n = refl
-call_balanced P (Config queue (Some cpu)) n = refl
+call_balanced P (Agent (Sleep cpu aseq)) n = refl
+call_balanced P (Agent (Rouse cpu)) n = refl
+call_balanced P (Agent (Config queue None)) n = refl
+call_balanced P (Agent (Config queue (Some cpu))) n = refl
 
 -- which threads are dead, and how many of the first so many
 abbrev is_gone : PlainKernel → ℕ → Bool
@@ -247,12 +248,12 @@ env_dies P (Tick cpu) m h most n =
 call_dies : (P : PlainKernel) (call : Call) (m : ℕ) → IsKept P → threads (changed P call) ≤ m → NoneHold (refusals (shown P) call) → Dies P call m
 call_dies P (Env call) m h most n = env_dies P call m h most n
 call_dies P (Consume cpu count) m h most n = omega arith
-call_dies P (Associate t queue number) m h most n = omega arith
-call_dies P (Commit cpu t aseq) m h most n = omega arith
-call_dies P (Sleep cpu aseq) m h most n = omega arith
-call_dies P (Rouse cpu) m h most n = omega arith
-call_dies P (Config queue None) m h most n = omega arith
-call_dies P (Config queue (Some cpu)) m h most n = omega arith
+call_dies P (Agent (Associate t queue number)) m h most n = omega arith
+call_dies P (Agent (Commit cpu t aseq)) m h most n = omega arith
+call_dies P (Agent (Sleep cpu aseq)) m h most n = omega arith
+call_dies P (Agent (Rouse cpu)) m h most n = omega arith
+call_dies P (Agent (Config queue None)) m h most n = omega arith
+call_dies P (Agent (Config queue (Some cpu))) m h most n = omega arith
 
 -- what all listed calls do
 all_balanced : (P : PlainKernel) (listed : List (Call × Answer)) → AreAccepted P listed

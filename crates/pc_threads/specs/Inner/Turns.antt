@@ -1,7 +1,8 @@
 -- What an agent calls in one section of the lock.
 use Rattle.std.specs.Prelude.{ℕ, ◌≡◌, List, ◌++◌, All}
 use Rattle.pc_calls.specs.declared.call.Call.{Call}
-use Rattle.pc_calls.specs.declared.call.Call.TheVariants.{Env, Consume, Associate, Commit, Sleep, Rouse, Config}
+use Rattle.pc_calls.specs.declared.call.AgentCall.TheVariants.{Associate, Commit, Sleep, Rouse, Config}
+use Rattle.pc_calls.specs.declared.call.Call.TheVariants.{Env, Agent, Consume}
 use Rattle.pc_calls.specs.declared.call.Answer.{Answer}
 use Rattle.pc_threads.specs.declared.runner.tallied.Tried.{Tried}
 use Rattle.pc_threads.specs.declared.runner.tallied.Tried.TheVariants.{Committed, Lacks, Nothing}
@@ -11,15 +12,15 @@ use Rattle.pc_threads.specs.Totals.{committed_by, in_all}
 abbrev pub IsUnder : ℕ → ℕ → Call → Type 0
 IsUnder cpu aseq (Env call) = ⊥
 IsUnder cpu aseq (Consume c count) = c ≡ cpu
-IsUnder cpu aseq (Associate thread queue number) = queue ≡ cpu
-IsUnder cpu aseq (Commit c thread posts) = (c ≡ cpu) × (posts ≡ aseq)
-IsUnder cpu aseq (Sleep c posts) = (c ≡ cpu) × (posts ≡ aseq)
-IsUnder cpu aseq (Rouse c) = ⊥
-IsUnder cpu aseq (Config queue target) = ⊥
+IsUnder cpu aseq (Agent (Associate thread queue number)) = queue ≡ cpu
+IsUnder cpu aseq (Agent (Commit c thread posts)) = (c ≡ cpu) × (posts ≡ aseq)
+IsUnder cpu aseq (Agent (Sleep c posts)) = (c ≡ cpu) × (posts ≡ aseq)
+IsUnder cpu aseq (Agent (Rouse c)) = ⊥
+IsUnder cpu aseq (Agent (Config queue target)) = ⊥
 
 -- how many agents it puts to sleep
 abbrev pub slept_by : Call → ℕ
-slept_by (Sleep cpu aseq) = 1
+slept_by (Agent (Sleep cpu aseq)) = 1
 slept_by call = 0
 
 -- how many threads were committed where that was tried

@@ -48,8 +48,8 @@ struct Waiting {
 ///
 /// What others have learnt waits in a channel of its own, and all of it is taken ahead of each note. It wakes the owner
 /// only where it may tell of a thread to take, or where much waits, and where no other note does: a note for each would
-/// have each agent do a turn for each message of the run. An agent that is still to restart does that: its turns have to
-/// come.
+/// have each agent do a turn for each message of the run. An agent that is still to restart does that: its turns have
+/// to come.
 #[derive(Drop)]
 pub(crate) struct Inbox {
     to: Sender<Note>,

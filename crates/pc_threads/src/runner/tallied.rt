@@ -199,8 +199,8 @@ impl<N: Names> Tallied<N> {
         }
     }
 
-    /// All that an agent does in one section of the lock after it read its queue under this count of posts: whatever was
-    /// posted since, its commit and its sleep are under that count.
+    /// All that an agent does in one section of the lock after it read its queue under this count of posts: whatever
+    /// was posted since, its commit and its sleep are under that count.
     pub(crate) fn act(&mut self, worker: &mut Worker<N>, aseq: u32) -> Result<Acted, CallFault>
         ensures under { IfOk result (λ acted. ListsUnder (cpu_of worker.old.agent) aseq
             (if acted.committed then 1 else 0) (if acted.asleep then 1 else 0)
