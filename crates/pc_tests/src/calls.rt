@@ -1,8 +1,9 @@
 //! Tests: the calls that events are, what a call is replied, and the ranges of limits.
 
 use pc_calls::{
-    Answer, Call, CallFault, EnvCall, Event, LimitField, Limits, MOST_CPUS, MOST_NUMBERS,
-    MOST_POSTS, MOST_ROOM, MOST_THREADS, MOST_THREADS_TWO, Posted, Profile, Refusal, Reply,
+    AgentCall, Answer, Call, CallFault, EnvCall, Event, LimitField, Limits, MOST_CPUS,
+    MOST_NUMBERS, MOST_POSTS, MOST_ROOM, MOST_THREADS, MOST_THREADS_TWO, Posted, Profile, Refusal,
+    Reply,
 };
 use pc_messages::{Cpu, Tid};
 
@@ -100,41 +101,28 @@ const QUEUE: Cpu = Cpu(2);
 
 const THREAD: Tid = Tid(3);
 
-const ASSOCIATE: Call = Call::Associate {
+const ASSOCIATE: AgentCall = AgentCall::Associate {
     thread: THREAD,
     queue: QUEUE,
     number: 5,
 };
 
-const COMMIT: Call = Call::Commit {
+const COMMIT: AgentCall = AgentCall::Commit {
     cpu: CPU,
     thread: THREAD,
     aseq: 6,
+};
+
+const SLEEP: AgentCall = AgentCall::Sleep { cpu: CPU, aseq: 7 };
+
+const ROUSE: AgentCall = AgentCall::Rouse { cpu: CPU };
+
+const CONFIG: AgentCall = AgentCall::Config {
+    queue: QUEUE,
+    target: Some(CPU),
 };
 
 const WAKE: EnvCall = EnvCall::Wake { thread: THREAD };
-
-const ASSOCIATES: Event = Event::Associate {
-    thread: THREAD,
-    queue: QUEUE,
-    number: 5,
-};
-
-const COMMITS: Event = Event::Commit {
-    cpu: CPU,
-    thread: THREAD,
-    aseq: 6,
-};
-
-const CONFIGURED: Event = Event::Config {
-    queue: QUEUE,
-    target: Some(CPU),
-};
-
-const CONFIGURES: Call = Call::Config {
-    queue: QUEUE,
-    target: Some(CPU),
-};
 
 /// So many events are looked at.
 const EVENTS: usize = 14;
@@ -142,14 +130,11 @@ const EVENTS: usize = 14;
 /// The event with this place, and the call that it is.
 const fn event(place: usize) -> Option<(Event, Option<Call>)> {
     Some(match place {
-        0 => (ASSOCIATES, Some(ASSOCIATE)),
-        1 => (COMMITS, Some(COMMIT)),
-        2 => (
-            Event::Sleep { cpu: CPU, aseq: 7 },
-            Some(Call::Sleep { cpu: CPU, aseq: 7 }),
-        ),
-        3 => (Event::Rouse { cpu: CPU }, Some(Call::Rouse { cpu: CPU })),
-        4 => (CONFIGURED, Some(CONFIGURES)),
+        0 => (Event::Agent(ASSOCIATE), Some(Call::Agent(ASSOCIATE))),
+        1 => (Event::Agent(COMMIT), Some(Call::Agent(COMMIT))),
+        2 => (Event::Agent(SLEEP), Some(Call::Agent(SLEEP))),
+        3 => (Event::Agent(ROUSE), Some(Call::Agent(ROUSE))),
+        4 => (Event::Agent(CONFIG), Some(Call::Agent(CONFIG))),
         5 => (Event::Env(WAKE), Some(Call::Env(WAKE))),
         6 => (
             Event::Publish {
@@ -213,10 +198,10 @@ const RECEIPT: Posted = Posted {
     woken: None,
 };
 
-const UNSET: Call = Call::Config {
+const UNSET: Call = Call::Agent(AgentCall::Config {
     queue: QUEUE,
     target: None,
-};
+});
 
 const ASSOCIATED: Reply = Reply::Associated {
     thread: THREAD,
@@ -234,10 +219,10 @@ const CALLS: usize = 7;
 /// The call with this place, its answer, and what it is replied.
 const fn call(place: usize) -> Option<(Call, Answer, Reply)> {
     Some(match place {
-        0 => (ASSOCIATE, Answer::Done, ASSOCIATED),
-        1 => (COMMIT, Answer::Done, COMMITTED),
-        2 => (Call::Sleep { cpu: CPU, aseq: 7 }, Answer::Done, Reply::Done),
-        3 => (Call::Rouse { cpu: CPU }, Answer::Done, Reply::Done),
+        0 => (Call::Agent(ASSOCIATE), Answer::Done, ASSOCIATED),
+        1 => (Call::Agent(COMMIT), Answer::Done, COMMITTED),
+        2 => (Call::Agent(SLEEP), Answer::Done, Reply::Done),
+        3 => (Call::Agent(ROUSE), Answer::Done, Reply::Done),
         4 => (UNSET, Answer::Done, Reply::Done),
         5 => (
             Call::Consume { cpu: CPU, count: 1 },

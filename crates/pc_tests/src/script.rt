@@ -10,7 +10,7 @@ mod troubles;
 mod waiting;
 mod walking;
 
-use pc_calls::{EnvCall, Event, LimitField, Posted, Profile, Refusal, Reply, Status};
+use pc_calls::{AgentCall, EnvCall, Event, LimitField, Posted, Profile, Refusal, Reply, Status};
 use pc_messages::{Cpu, Level, Mask, Phase, Reported, Tid};
 use pc_script::{
     Command, EarlyNumbers, Machine, Outcome, Read as Question, Response, ScriptFault, ShownThread,
@@ -98,8 +98,11 @@ fn called(call: EnvCall) -> Reply {
 fn happened(event: Event) -> Reply {
     match event {
         Event::Env(call) => called(call),
-        Event::Associate { thread, queue, .. } => Reply::Associated { thread, queue },
-        Event::Commit { cpu, thread, .. } => Reply::Committed { thread, cpu },
+        Event::Agent(AgentCall::Associate { thread, queue, .. }) => Reply::Associated {
+            thread,
+            queue,
+        },
+        Event::Agent(AgentCall::Commit { cpu, thread, .. }) => Reply::Committed { thread, cpu },
         Event::Publish { cpu, .. } => Reply::Published {
             delta: 0,
             items: u32::from(cpu.index()),

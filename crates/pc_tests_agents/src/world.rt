@@ -2,7 +2,7 @@
 
 mod disturbed;
 
-use pc_calls::{EnvCall, LimitField, Limits, LimitsFault, Posted, Profile, Refusal};
+use pc_calls::{AgentCall, EnvCall, LimitField, Limits, LimitsFault, Posted, Profile, Refusal};
 use pc_messages::{Cpu, Phase, Tid};
 use pc_view::View;
 use pc_world::{Event, Reply, World};
@@ -120,26 +120,26 @@ const fn answer(cpu: u8, asker: u8) -> Event {
 
 /// t0 gets the second CPU's queue as its home, under its first number.
 const fn move_to_second() -> Event {
-    Event::Associate {
+    Event::Agent(AgentCall::Associate {
         thread: Tid(0),
         queue: Cpu(1),
         number: 1,
-    }
+    })
 }
 
 const fn commit(cpu: u8, aseq: u32) -> Event {
-    Event::Commit {
+    Event::Agent(AgentCall::Commit {
         cpu: Cpu(cpu),
         thread: Tid(0),
         aseq,
-    }
+    })
 }
 
 const fn sleep(cpu: u8, aseq: u32) -> Event {
-    Event::Sleep {
+    Event::Agent(AgentCall::Sleep {
         cpu: Cpu(cpu),
         aseq,
-    }
+    })
 }
 
 const fn nowhere() -> Reply {
@@ -354,12 +354,12 @@ fn what_the_agents_refuse(rt: HostRuntime) {
 fn calls_without_an_answer(rt: HostRuntime) {
     let steps = [
         Step::Does(sleep(1, 0), Reply::Done),
-        Step::Does(Event::Rouse { cpu: Cpu(1) }, Reply::Done),
+        Step::Does(Event::Agent(AgentCall::Rouse { cpu: Cpu(1) }), Reply::Done),
         Step::Does(
-            Event::Config {
+            Event::Agent(AgentCall::Config {
                 queue: Cpu(0),
                 target: None,
-            },
+            }),
             Reply::Done,
         ),
     ];

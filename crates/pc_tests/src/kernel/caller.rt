@@ -1,10 +1,11 @@
 //! Callers of the kernel, by the public words alone.
 
 ghost use Rattle.std.specs.Prelude.{[], ◌∷◌, IfOk, true};
+ghost use Rattle.pc_calls.specs.AgentCalls.{associates, commits};
 ghost use Rattle.pc_kernel.specs.Answers.{Replays};
 
 use super::{SMALL, Step, Way, each_holds};
-use pc_kernel::{Answer, Call, CallFault, EnvCall, Kernel, LimitsFault};
+use pc_kernel::{AgentCall, Answer, Call, CallFault, EnvCall, Kernel, LimitsFault};
 use pc_messages::{Cpu, Tid};
 use std::alloc::Global;
 
@@ -32,8 +33,8 @@ fn run_and_move(
     home: Cpu,
     number: u32,
 ) -> Result<bool, CallFault>
-    ensures { let calls = Call.Env (EnvCall.Create queue true 3) ∷ Call.Commit queue runs aseq
-        ∷ Call.Associate moves home number ∷ [] in
+    ensures { let calls = Call.Env (EnvCall.Create queue true 3) ∷ commits queue runs aseq
+        ∷ associates moves home number ∷ [] in
         IfOk result (λ _. Replays calls kernel.old kernel.new) }
 {
     match kernel.create(queue, 3, true) {
@@ -87,11 +88,11 @@ const CREATE: Call = Call::Env(EnvCall::Create {
 
 const TICK: Call = Call::Env(EnvCall::Tick { cpu: Cpu(0) });
 
-const COMMIT: Call = Call::Commit {
+const COMMIT: Call = Call::Agent(AgentCall::Commit {
     cpu: Cpu(0),
     thread: Tid(0),
     aseq: 2,
-};
+});
 
 /// Whether the last of three calls is done.
 fn third_is_done(alloc: Global) -> Result<bool, LimitsFault> {

@@ -1,7 +1,7 @@
 //! Each call by its own name.
 
 use super::{Step, Way, caller, each_holds, posted, reads};
-use pc_kernel::{Call, CallFault, EnvCall, Kernel, Posted, Refusal, Status};
+use pc_kernel::{AgentCall, Call, CallFault, EnvCall, Kernel, Posted, Refusal, Status};
 use pc_messages::{Cpu, Phase, Tid};
 use std::alloc::Global;
 use std::process::Abort;
@@ -40,15 +40,17 @@ fn creates(kernel: &mut Kernel, way: Way, queue: u8, ready: bool) -> bool {
 fn does(kernel: &mut Kernel, call: Call) -> Result<(), Refusal> {
     match call {
         Call::Consume { cpu, count } => kernel.consume(cpu, count),
-        Call::Associate {
-            thread,
-            queue,
-            number,
-        } => kernel.associate(thread, queue, number),
-        Call::Commit { cpu, thread, aseq } => kernel.commit(cpu, thread, aseq),
-        Call::Sleep { cpu, aseq } => kernel.sleep(cpu, aseq),
-        Call::Rouse { cpu } => kernel.rouse(cpu),
-        Call::Config { queue, target } => kernel.config_wakeup(queue, target),
+        Call::Agent(
+            AgentCall::Associate {
+                thread,
+                queue,
+                number,
+            },
+        ) => kernel.associate(thread, queue, number),
+        Call::Agent(AgentCall::Commit { cpu, thread, aseq }) => kernel.commit(cpu, thread, aseq),
+        Call::Agent(AgentCall::Sleep { cpu, aseq }) => kernel.sleep(cpu, aseq),
+        Call::Agent(AgentCall::Rouse { cpu }) => kernel.rouse(cpu),
+        Call::Agent(AgentCall::Config { queue, target }) => kernel.config_wakeup(queue, target),
         Call::Env(_) => Err(Refusal::BadCpu),
     }
 }
@@ -161,16 +163,16 @@ const TICKED: Posted = Posted {
     woken: None,
 };
 
-const AIMS: Call = Call::Config {
+const AIMS: Call = Call::Agent(AgentCall::Config {
     queue: CPU,
     target: Some(OTHER),
-};
+});
 
-const MOVES: Call = Call::Associate {
+const MOVES: Call = Call::Agent(AgentCall::Associate {
     thread: Tid(0),
     queue: OTHER,
     number: 1,
-};
+});
 
 // The agent that a queue wakes from now on is awake; the one that it no longer wakes sleeps on.
 #[test]
@@ -183,7 +185,7 @@ fn what_agents_ask(rt: HostRuntime) {
     const ROUSED: [Step; 4] = [
         Step::FallsAsleep(1, 0),
         Step::Sleeps(OTHER, true),
-        Step::Does(Call::Rouse { cpu: OTHER }, Ok(())),
+        Step::Does(Call::Agent(AgentCall::Rouse { cpu: OTHER }), Ok(())),
         Step::Sleeps(OTHER, false),
     ];
     const AIMED: [Step; 5] = [

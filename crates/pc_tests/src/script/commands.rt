@@ -1,6 +1,6 @@
 //! Lines that spell a command, with the greatest and the least numbers, and lines that spell none.
 
-use pc_calls::{EnvCall, Event, Limits};
+use pc_calls::{AgentCall, EnvCall, Event, Limits};
 use pc_messages::{Cpu, Tid};
 use pc_script::{Command, Read, Wish, asked};
 use std::process::Abort;
@@ -25,6 +25,11 @@ const fn event(event: Event) -> Wish {
 /// The command of a call of the environment.
 const fn env(call: EnvCall) -> Wish {
     event(Event::Env(call))
+}
+
+/// The command of a call of an agent.
+const fn agent(call: AgentCall) -> Wish {
+    event(Event::Agent(call))
 }
 
 const fn read(question: Read) -> Wish {
@@ -111,25 +116,25 @@ fn enclaves_and_calls_of_the_environment_are_read(rt: HostRuntime) {
 
 #[test]
 fn calls_of_agents_and_questions_are_read(rt: HostRuntime) {
-    let associate = Event::Associate {
+    let associate = AgentCall::Associate {
         thread: LAST_THREAD,
         queue: LAST,
         number: 16,
     };
-    let commit = Event::Commit {
+    let commit = AgentCall::Commit {
         cpu: LAST,
         thread: Tid(7),
         aseq: 4_294_967_295,
     };
-    let sleep = Event::Sleep {
+    let sleep = AgentCall::Sleep {
         cpu: Cpu(1),
         aseq: 4_294_967_295,
     };
-    let set = Event::Config {
+    let set = AgentCall::Config {
         queue: Cpu(0),
         target: Some(LAST),
     };
-    let unset = Event::Config {
+    let unset = AgentCall::Config {
         queue: LAST,
         target: None,
     };
@@ -142,12 +147,12 @@ fn calls_of_agents_and_questions_are_read(rt: HostRuntime) {
         thread: LAST_THREAD,
     };
     let rows = [
-        (b"associate t4294967295 255 16".as_slice(), event(associate)),
-        (b"commit 255 t7 4294967295", event(commit)),
-        (b"sleep 1 4294967295", event(sleep)),
-        (b"rouse 0", event(Event::Rouse { cpu: Cpu(0) })),
-        (b"config 0 255", event(set)),
-        (b"config 255 -", event(unset)),
+        (b"associate t4294967295 255 16".as_slice(), agent(associate)),
+        (b"commit 255 t7 4294967295", agent(commit)),
+        (b"sleep 1 4294967295", agent(sleep)),
+        (b"rouse 0", agent(AgentCall::Rouse { cpu: Cpu(0) })),
+        (b"config 0 255", agent(set)),
+        (b"config 255 -", agent(unset)),
         (b"consume 255", event(Event::Consume { cpu: LAST })),
         (b"status t10", read(Read::Status { thread: Tid(10) })),
         (b"asleep 0", read(Read::Asleep { cpu: Cpu(0) })),

@@ -2,7 +2,7 @@
 
 use super::{CREATE, PREEMPT, SMALL, Step, new_scene, posted, refused};
 use pc_messages::{Cpu, Tid};
-use pc_threads::{Answer, Call, Refusal};
+use pc_threads::{AgentCall, Answer, Call, Refusal};
 use std::alloc::Global;
 
 const CONSUME: Call = Call::Consume {
@@ -10,24 +10,24 @@ const CONSUME: Call = Call::Consume {
     count: 1,
 };
 
-const COMMIT: Call = Call::Commit {
+const COMMIT: Call = Call::Agent(AgentCall::Commit {
     cpu: Cpu(0),
     thread: Tid(0),
     aseq: 1,
-};
+});
 
-const SLEEP: Call = Call::Sleep {
+const SLEEP: Call = Call::Agent(AgentCall::Sleep {
     cpu: Cpu(0),
     aseq: 1,
-};
+});
 
-const ROUSE: Call = Call::Rouse { cpu: Cpu(0) };
+const ROUSE: Call = Call::Agent(AgentCall::Rouse { cpu: Cpu(0) });
 
-const ASSOCIATE: Call = Call::Associate {
+const ASSOCIATE: Call = Call::Agent(AgentCall::Associate {
     thread: Tid(0),
     queue: Cpu(1),
     number: 2,
-};
+});
 
 /// Whether the steps come out as they should, and these calls are then the last ones listed, from this place on.
 fn lists_after(alloc: Global, steps: &[Step], from: usize, listed: &[(Call, Answer)]) -> bool {

@@ -4,7 +4,7 @@ use crate::threads::posted;
 use crate::threads::runs::{Fact, comes_to, first_wrong, gated_run};
 use crate::threads::settings::Plan;
 use pc_messages::{Cpu, Tid};
-use pc_threads::{Answer, Call, Driven, EnvCall, Gate, LoadReport, Point, Posted, Step};
+use pc_threads::{AgentCall, Answer, Call, Driven, EnvCall, Gate, LoadReport, Point, Posted, Step};
 use std::alloc::Global;
 use std::process::Abort;
 use std::sync::Wait;
@@ -117,12 +117,15 @@ const fn consume(count: u32) -> (Call, Answer) {
 
 const fn commit(aseq: u32) -> (Call, Answer) {
     let (cpu, thread) = (Cpu(0), Tid(0));
-    (Call::Commit { cpu, thread, aseq }, Answer::Done)
+    (
+        Call::Agent(AgentCall::Commit { cpu, thread, aseq }),
+        Answer::Done,
+    )
 }
 
 const fn sleep(aseq: u32) -> (Call, Answer) {
     let cpu = Cpu(0);
-    (Call::Sleep { cpu, aseq }, Answer::Done)
+    (Call::Agent(AgentCall::Sleep { cpu, aseq }), Answer::Done)
 }
 
 /// A step whose message wakes the agent.

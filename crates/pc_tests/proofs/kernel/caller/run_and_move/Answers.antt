@@ -1,6 +1,7 @@
 use Rattle.std.proofs.Common.{true, [], ◌∷◌, Ok}
+use Rattle.pc_calls.specs.AgentCalls.{associates, commits}
 use Rattle.pc_calls.specs.declared.call.Call.{Call}
-use Rattle.pc_calls.specs.declared.call.Call.TheVariants.{Env, Associate, Commit}
+use Rattle.pc_calls.specs.declared.call.Call.TheVariants.{Env}
 use Rattle.pc_calls.specs.declared.call.EnvCall.TheVariants.{Create}
 use Rattle.pc_calls.specs.declared.call.Posted.{Posted}
 use Rattle.pc_calls.specs.declared.call.Answer.TheVariants as answer
@@ -19,8 +20,8 @@ both first second posted old middle new h g =
 pub returns-in-Ok-associate : goal.returns-in-Ok-associate
 returns-in-Ok-associate c =
     let create = Env (Create c.args.queue true 3) in
-    let commit = Commit c.args.queue c.args.runs c.args.aseq in
-    let associate = Associate c.args.moves c.args.home c.args.number in
+    let commit = commits c.args.queue c.args.runs c.args.aseq in
+    let associate = associates c.args.moves c.args.home c.args.number in
     let k = c.args.kernel.now in
     let a = c.create.new.self in
     let b = c.commit.new.self in
@@ -32,8 +33,8 @@ returns-in-Ok-associate c =
 pub returns-in-Err-associate : goal.returns-in-Err-associate
 returns-in-Err-associate c =
     let create = Env (Create c.args.queue true 3) in
-    let commit = Commit c.args.queue c.args.runs c.args.aseq in
-    let associate = Associate c.args.moves c.args.home c.args.number in
+    let commit = commits c.args.queue c.args.runs c.args.aseq in
+    let associate = associates c.args.moves c.args.home c.args.number in
     let refusal = c.in-Err-associate.field-0 in
     let k = c.args.kernel.now in
     let a = c.create.new.self in
