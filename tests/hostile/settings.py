@@ -256,12 +256,18 @@ def spoilt(chance, text):
     return "".join(words).encode("latin-1" if chance.random() < 0.5 else "utf-8")
 
 
+MANY_RESTARTS = 32  # So many agents that restart may ask and answer each other for minutes.
+
+
 def may_wait(text):
-    """Whether every agent restarts: what all of them forget may be known to none, and then the run waits."""
+    """Whether a run may wait without end, as docs/FORMATS.md says: several agents restart, and some thread may run only on their CPUs, or
+    many do."""
     try:
         settings = tomllib.loads(text.decode())
-        # A drawn count of CPUs may be one that no memory holds a set of.
-        return settings["cpus"] <= len(settings["restart"]) and {row["cpu"] for row in settings["restart"]} >= set(range(settings["cpus"]))
+        restarting = {row["cpu"] for row in settings["restart"]}
+        mask = sum(1 << cpu for cpu in restarting if 0 <= cpu < 64)
+        bound = any(thread["mask"] & ~mask == 0 for thread in settings.get("thread", []))
+        return len(restarting) >= MANY_RESTARTS or len(restarting) >= 2 and bound
     except (ValueError, KeyError, TypeError):
         return False
 
