@@ -2,7 +2,9 @@
 //! by hand.
 
 mod agents;
+mod asking;
 mod drawn;
+mod holds;
 mod refusals;
 mod runs;
 mod schedules;

@@ -52,6 +52,14 @@ pub(crate) enum Fact<'a> {
     EachCounts([u64; 6]),
     /// Some agent took a thread over.
     SomeSteal,
+    /// Some agent's pick or steal was refused as stale.
+    SomeStale,
+    /// No steal was refused as messages were pending.
+    NonePending,
+    /// How many calls woke an agent that started again.
+    Rouses(usize),
+    /// Fewer calls than that are listed.
+    FewerCalls(usize),
     /// The calls that the book lists.
     Calls(&'a [(Call, Answer)]),
     /// The first calls that the book lists.
@@ -89,8 +97,18 @@ fn is_so_of(rows: &[Row], fact: &Fact<'_>) -> bool {
         Fact::FirstCounts(wanted) => has_counted(rows.first(), wanted),
         Fact::EachCounts(wanted) => each_counted(rows, wanted),
         Fact::SomeSteal => rows.iter().any(|row| row.steals >= 1),
+        Fact::SomeStale => rows.iter().any(|row| row.stale >= 1),
+        Fact::NonePending => rows.iter().all(|row| row.pending == 0),
         _ => false,
     }
+}
+
+/// How many of the calls wake an agent that started again.
+fn rouses(calls: &[(Call, Answer)]) -> usize {
+    calls
+        .iter()
+        .filter(|entry| matches!(entry.0, Call::Rouse { .. }))
+        .count()
 }
 
 fn begins_with(calls: &[(Call, Answer)], wanted: &[(Call, Answer)]) -> bool {
@@ -104,6 +122,8 @@ fn is_so(report: &LoadReport, fact: &Fact<'_>) -> bool {
         Fact::Knows(thread, number) => report.view.knows(Tid(thread), number),
         Fact::Calls(wanted) => report.book.calls() == wanted,
         Fact::FirstCalls(wanted) => begins_with(report.book.calls(), wanted),
+        Fact::Rouses(wanted) => rouses(report.book.calls()) == wanted,
+        Fact::FewerCalls(most) => report.book.calls().len() < most,
         _ => is_so_of(report.rows.as_slice(), fact),
     }
 }
@@ -234,61 +254,95 @@ fn a_restarted_agent_takes_its_thread_back(rt: HostRuntime) {
     comes_to(&rt, rt.alloc(), 2, &PLANS, &[(0, 2)], &FACTS);
 }
 
-/// Gives every run up.
+/// Gives every run up, where this agent comes.
 #[derive(Drop)]
-struct ShutGate;
+struct ShutGate {
+    cpu: Cpu,
+}
 
 impl Gate for ShutGate {
-    fn pass(&self, _cpu: Cpu, _point: Point) -> bool {
-        false
+    fn pass(&self, cpu: Cpu, _point: Point) -> bool {
+        cpu != self.cpu
     }
 }
 
-/// How a run of one agent is given up.
+/// How a run of so many agents is given up by this one.
 fn given_up<R: Threads + Wait + Sync>(
     rt: &R,
     alloc: Global,
+    cpus: i64,
     plans: &[Plan<'_>],
+    cpu: Cpu,
 ) -> Option<RunFault> {
-    gated_run(rt, alloc, 1, plans, &[], &ShutGate)?.err()
+    gated_run(rt, alloc, cpus, plans, &[], &ShutGate { cpu })?.err()
 }
 
 #[test]
 fn a_gate_gives_the_run_up(rt: HostRuntime) {
     const PLANS: [Plan<'static>; 1] = [(0, 1, &[Step::Yield(1), Step::Die(2)])];
     assert_eq!(rt;
-        given_up(&rt, rt.alloc(), &PLANS),
+        given_up(&rt, rt.alloc(), 1, &PLANS, Cpu(0)),
         Some(RunFault::GaveUp(Cpu(0)))
     );
 }
 
-/// Holds one agent at a point until the other one has decided, for 10,000 turns of a millisecond.
+// The driver is told by the agent where there is something to do, and by its thread's end where there is nothing.
+#[test]
+fn who_gave_the_run_up_is_told(rt: HostRuntime) {
+    const PLANS: [Plan<'static>; 1] = [(2, 4, &[Step::Yield(1), Step::Die(2)])];
+    assert_eq!(rt;
+        given_up(&rt, rt.alloc(), 3, &PLANS, Cpu(2)),
+        Some(RunFault::GaveUp(Cpu(2)))
+    );
+    assert_eq!(rt;
+        given_up(&rt, rt.alloc(), 3, &[], Cpu(1)),
+        Some(RunFault::GaveUp(Cpu(1)))
+    );
+}
+
+/// Holds one agent at a point until the other one has decided, and the other one where its turns begin until this one
+/// has come to that point: each for 10,000 turns of a millisecond.
 #[derive(Drop)]
 struct Holding<'a, R: Clock> {
     rt: &'a R,
     held: Cpu,
     at: Point,
+    /// 1 where the held agent has come to the point.
+    come: AtomicU64,
+    /// 1 where the other agent has decided.
     decided: AtomicU64,
 }
 
-impl<'a, R: Clock> Gate for Holding<'a, R> {
-    fn pass(&self, cpu: Cpu, point: Point) -> bool {
-        if cpu != self.held {
-            if point == Point::Answered {
-                self.decided.store(1, Ordering::SeqCst);
-            }
-            return true;
-        }
-        if point != self.at {
-            return true;
-        }
+impl<'a, R: Clock> Holding<'a, R> {
+    /// Whether that is so in time.
+    fn waits(&self, is_so: &AtomicU64) -> bool {
         for _ in 0..10_000 {
-            if self.decided.load(Ordering::SeqCst) == 1 {
+            if is_so.load(Ordering::SeqCst) == 1 {
                 return true;
             }
             thread::sleep(self.rt, Duration::from_millis(1));
         }
         false
+    }
+}
+
+impl<'a, R: Clock> Gate for Holding<'a, R> {
+    fn pass(&self, cpu: Cpu, point: Point) -> bool {
+        if cpu == self.held {
+            if point != self.at {
+                return true;
+            }
+            self.come.store(1, Ordering::SeqCst);
+            return self.waits(&self.decided);
+        }
+        match point {
+            Point::Turn => self.waits(&self.come),
+            Point::Copied => true,
+            Point::Answered => {
+                self.decided.store(1, Ordering::SeqCst);
+                true
+            }
+        }
     }
 }
 
@@ -303,6 +357,7 @@ fn held_run<R: Threads + Wait + Clock + Sync>(
         rt,
         held,
         at,
+        come: AtomicU64::new(0),
         decided: AtomicU64::new(0),
     };
     gated_run(rt, alloc, 2, &[LIFE], &[], &gate)?.ok()

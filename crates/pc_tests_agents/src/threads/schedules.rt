@@ -1,114 +1,11 @@
 //! Runs in an order that a gate forces: what is listed, and what is asked and answered around restarts.
 
+use crate::threads::holds::{DRIVER, Hold, comes_to_held};
 use crate::threads::posted;
-use crate::threads::runs::{Fact, comes_to, first_wrong, gated_run};
+use crate::threads::runs::{Fact, comes_to};
 use crate::threads::settings::Plan;
 use pc_messages::{Cpu, Tid};
-use pc_threads::{AgentCall, Answer, Call, Driven, EnvCall, Gate, LoadReport, Point, Posted, Step};
-use std::alloc::Global;
-use std::process::Abort;
-use std::sync::Wait;
-use std::sync::atomic::{AtomicU64, Ordering};
-use std::thread;
-use std::thread::Threads;
-use std::time::{Clock, Duration};
-
-/// Who is held at which point of its own, until who has come to which. The agents are 0, 1, .., and their points count
-/// from 1, three a turn: 4 is where the second turn begins.
-type Hold = (usize, u64, usize, u64);
-
-/// The driver among those who come to points: its own are the steps that it has done.
-const DRIVER: usize = 3;
-
-/// Holds agents at points, each for 10,000 turns of a millisecond.
-#[derive(Drop)]
-struct Forced<'a, R: Clock> {
-    rt: &'a R,
-    holds: &'a [Hold],
-    /// How many points the agents and the driver have come to.
-    points: [AtomicU64; 4],
-}
-
-impl<'a, R: Clock> Forced<'a, R> {
-    /// Somebody comes to the next point, which this is.
-    fn comes(&self, who: usize) -> u64 {
-        match self.points.get(who) {
-            Some(points) => points.fetch_add(1, Ordering::SeqCst).wrapping_add(1),
-            None => 0,
-        }
-    }
-
-    fn has_come(&self, who: usize, point: u64) -> bool {
-        match self.points.get(who) {
-            Some(points) => points.load(Ordering::SeqCst) >= point,
-            None => false,
-        }
-    }
-
-    /// Whether the other comes to its point in time.
-    fn waits(&self, other: usize, point: u64) -> bool {
-        for _ in 0..10_000 {
-            if self.has_come(other, point) {
-                return true;
-            }
-            thread::sleep(self.rt, Duration::from_millis(1));
-        }
-        false
-    }
-}
-
-impl<'a, R: Clock> Gate for Forced<'a, R> {
-    fn pass(&self, cpu: Cpu, _point: Point) -> bool {
-        let held = cpu.index() as usize;
-        let place = self.comes(held);
-        for hold in self.holds {
-            if hold.0 == held && hold.1 == place && !self.waits(hold.2, hold.3) {
-                return false;
-            }
-        }
-        true
-    }
-
-    fn driven(&self, _so_far: Driven) {
-        self.comes(DRIVER);
-    }
-}
-
-/// A run of these settings in which agents are held so.
-fn forced_run<R: Threads + Wait + Clock + Sync>(
-    rt: &R,
-    alloc: Global,
-    cpus: i64,
-    plans: &[Plan<'_>],
-    turns: &[(i64, i64)],
-    holds: &[Hold],
-) -> Option<LoadReport> {
-    let gate = Forced {
-        rt,
-        holds,
-        points: [
-            AtomicU64::new(0),
-            AtomicU64::new(0),
-            AtomicU64::new(0),
-            AtomicU64::new(0),
-        ],
-    };
-    gated_run(rt, alloc, cpus, plans, turns, &gate)?.ok()
-}
-
-/// The facts are so after a run of these settings in which agents are held so.
-fn comes_to_held<R: Abort + Threads + Wait + Clock + Sync>(
-    rt: &R,
-    alloc: Global,
-    cpus: i64,
-    plans: &[Plan<'_>],
-    turns: &[(i64, i64)],
-    holds: &[Hold],
-    facts: &[Fact<'_>],
-) {
-    let wrong = first_wrong(forced_run(rt, alloc, cpus, plans, turns, holds), facts);
-    assert_eq!(rt; wrong, Some(None));
-}
+use pc_threads::{AgentCall, Answer, Call, EnvCall, Posted, Step};
 
 const fn consume(count: u32) -> (Call, Answer) {
     let cpu = Cpu(0);
@@ -220,11 +117,11 @@ fn an_answer_takes_the_place_of_what_waits(rt: HostRuntime) {
 
 #[test]
 fn what_was_answered_before_a_restart_is_kept(rt: HostRuntime) {
-    // The other agent restarts behind its answer, and before it is told of the yield, which no agent would know if both
-    // forgot it.
+    // The other agent, which is told all while it is still to restart, does so behind its answer, and before it is told
+    // of the yield, which no agent would know if both forgot it.
     const FACTS: [Fact<'static>; 1] = [Fact::Totals([2, 5, 3, 3])];
-    let holds = [ASKED[0], ASKED[1], (0, 5, 1, 5), ASKED_AGAIN];
-    let turns = [(0, 2), (0, 3), (1, 2)];
+    let holds = [ASKED[0], ASKED[1], (0, 5, 1, 8), (0, 9, 1, 13)];
+    let turns = [(0, 2), (0, 3), (1, 3)];
     comes_to_held(&rt, rt.alloc(), 2, &TWO, &turns, &holds, &FACTS);
 }
 

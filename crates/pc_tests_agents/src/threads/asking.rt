@@ -1,0 +1,150 @@
+//! Runs in an order that a gate forces: who is told, asked and answered what, and when.
+
+use crate::threads::holds::{DRIVER, Order, comes_to_ordered};
+use crate::threads::runs::{Fact, comes_to};
+use crate::threads::settings::Plan;
+use pc_threads::Step;
+
+/// A thread of the first queue that may run on the first two CPUs, and does two steps.
+const TWO_STEPS: [Plan<'static>; 1] = [(0, 3, &[Step::Yield(1), Step::Die(1)])];
+
+/// The same with one step.
+const ONE_STEP: [Plan<'static>; 1] = [(0, 3, &[Step::Die(1)])];
+
+/// In these orders the first agent has told of the thread and committed it before the second one begins. That one, in
+/// its second turn, would have the thread once it has left the CPU, before the first one has read that.
+const STALE: Order<'static> = Order {
+    cpus: 3,
+    plans: &TWO_STEPS,
+    turns: &[],
+    // The third agent knows no more than the second one, and answers nothing. It is the only one that can wake the
+    // second one for its third turn.
+    holds: &[(1, 1, 0, 3), (1, 4, DRIVER, 1), (0, 4, 1, 7)],
+    rests: &[],
+};
+
+#[test]
+fn a_stale_steal_is_counted_and_all_are_asked(rt: HostRuntime) {
+    const FACTS: [Fact<'static>; 2] = [Fact::Totals([1, 3, 2, 2]), Fact::SomeStale];
+    comes_to_ordered(&rt, rt.alloc(), &STALE, &FACTS);
+}
+
+// The second agent has asked in its second turn, has learnt nothing since, and starts again before its third one. Only
+// where it then asks as one who knows nothing is it told of the thread again, and has something to ask in its fourth.
+#[test]
+fn an_agent_that_starts_again_asks_anew(rt: HostRuntime) {
+    const ORDER: Order<'static> = Order {
+        turns: &[(1, 3)],
+        holds: &[(1, 1, 0, 3), (1, 4, DRIVER, 1), (0, 4, 1, 13)],
+        ..STALE
+    };
+    const FACTS: [Fact<'static>; 2] = [Fact::Totals([1, 3, 2, 2]), Fact::Rouses(1)];
+    comes_to_ordered(&rt, rt.alloc(), &ORDER, &FACTS);
+}
+
+// All steps are done, and the end is not told yet: only what was asked wakes the second agent for its third turn.
+#[test]
+fn a_steal_of_a_dead_thread_asks(rt: HostRuntime) {
+    const ORDER: Order<'static> = Order {
+        cpus: 2,
+        plans: &ONE_STEP,
+        turns: &[],
+        holds: &[
+            (1, 1, 0, 3),
+            (1, 4, DRIVER, 1),
+            (0, 4, 1, 6),
+            (DRIVER, 1, 1, 7),
+        ],
+        rests: &[],
+    };
+    comes_to_ordered(&rt, rt.alloc(), &ORDER, &[Fact::Totals([1, 2, 1, 1])]);
+}
+
+// The first agent is held where it has decided: the thread runs, and nothing of it waits. The second one looks then.
+#[test]
+fn what_is_decided_is_done_by_then(rt: HostRuntime) {
+    const ORDER: Order<'static> = Order {
+        cpus: 2,
+        plans: &ONE_STEP,
+        turns: &[],
+        holds: &[(1, 1, 0, 3), (0, 3, 1, 6)],
+        rests: &[],
+    };
+    const FACTS: [Fact<'static>; 2] = [Fact::Totals([1, 2, 1, 1]), Fact::NonePending];
+    comes_to_ordered(&rt, rt.alloc(), &ORDER, &FACTS);
+}
+
+// The first agent is held where it has copied, and the second one, which waits for news then, does no second turn.
+#[test]
+fn nothing_is_sent_before_it_is_told_to_be_copied(rt: HostRuntime) {
+    const ORDER: Order<'static> = Order {
+        cpus: 2,
+        plans: &ONE_STEP,
+        turns: &[],
+        holds: &[(1, 1, 0, 2), (0, 2, 1, 3)],
+        rests: &[(0, 2, 1, 3)],
+    };
+    comes_to_ordered(&rt, rt.alloc(), &ORDER, &[Fact::Totals([1, 2, 1, 1])]);
+}
+
+// The driver is held behind its first step, until the agent that it woke begins its second turn.
+#[test]
+fn a_wake_is_told_with_its_step(rt: HostRuntime) {
+    const ORDER: Order<'static> = Order {
+        cpus: 1,
+        plans: &[(0, 1, &[Step::Yield(1), Step::Die(1)])],
+        turns: &[],
+        holds: &[(DRIVER, 1, 0, 4)],
+        rests: &[],
+    };
+    comes_to_ordered(&rt, rt.alloc(), &ORDER, &[Fact::Totals([1, 3, 2, 2])]);
+}
+
+// Each agent has a restart to come that does not, so what the other one publishes wakes it. Each publishes four times.
+// The driver stops a while behind its first step: where empty deltas were sent, agents would wake each other meanwhile.
+#[test]
+fn nothing_is_sent_where_nothing_was_read(rt: HostRuntime) {
+    const ORDER: Order<'static> = Order {
+        cpus: 2,
+        plans: &[
+            (0, 1, &[Step::Yield(1), Step::Die(1)]),
+            (1, 2, &[Step::Yield(1), Step::Die(1)]),
+        ],
+        turns: &[(0, 1_000_000), (1, 1_000_000)],
+        holds: &[],
+        rests: &[(DRIVER, 1, 0, 60), (DRIVER, 1, 1, 60)],
+    };
+    const FACTS: [Fact<'static>; 2] = [Fact::Totals([2, 6, 4, 4]), Fact::FewerCalls(100)];
+    comes_to_ordered(&rt, rt.alloc(), &ORDER, &FACTS);
+}
+
+// The thread runs on the first CPU alone, so nothing else gives the second agent turns.
+#[test]
+fn restarts_come_where_there_is_nothing_to_do(rt: HostRuntime) {
+    const STEPS: [Step; 21] = [
+        Step::Yield(1),
+        Step::Yield(1),
+        Step::Yield(1),
+        Step::Yield(1),
+        Step::Yield(1),
+        Step::Yield(1),
+        Step::Yield(1),
+        Step::Yield(1),
+        Step::Yield(1),
+        Step::Yield(1),
+        Step::Yield(1),
+        Step::Yield(1),
+        Step::Yield(1),
+        Step::Yield(1),
+        Step::Yield(1),
+        Step::Yield(1),
+        Step::Yield(1),
+        Step::Yield(1),
+        Step::Yield(1),
+        Step::Yield(1),
+        Step::Die(1),
+    ];
+    const FACTS: [Fact<'static>; 1] = [Fact::Rouses(4)];
+    const TURNS: [(i64, i64); 4] = [(1, 2), (1, 3), (1, 5), (1, 20)];
+    comes_to(&rt, rt.alloc(), 2, &[(0, 1, &STEPS)], &TURNS, &FACTS);
+}
