@@ -3,7 +3,7 @@
 use super::settings::{Plan, config};
 use pc_messages::{Cpu, Tid};
 use pc_threads::{
-    Answer, Call, Gate, LoadReport, OpenGate, Point, Row, RunFault, Step, run_agents,
+    AgentCall, Answer, Call, Gate, LoadReport, OpenGate, Point, Row, RunFault, Step, run_agents,
 };
 use std::alloc::Global;
 use std::process::Abort;
@@ -107,7 +107,7 @@ fn is_so_of(rows: &[Row], fact: &Fact<'_>) -> bool {
 fn rouses(calls: &[(Call, Answer)]) -> usize {
     calls
         .iter()
-        .filter(|entry| matches!(entry.0, Call::Rouse { .. }))
+        .filter(|entry| matches!(entry.0, Call::Agent(AgentCall::Rouse { .. })))
         .count()
 }
 
