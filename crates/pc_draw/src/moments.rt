@@ -235,7 +235,11 @@ impl Moments {
         if self.layout.is_dense && !is_drawn {
             return;
         }
-        bold_cross(canvas, self.layout.middle(index), self.height_in(Cpu(cpu), 17));
+        bold_cross(
+            canvas,
+            self.layout.middle(index),
+            self.height_in(Cpu(cpu), 17),
+        );
         let number = step.number;
         let _ = write!(canvas, "crash {cpu}, line {number}");
         canvas.done();

@@ -28,6 +28,4 @@ pub use forms::{Form, make, make_flushed, run_flushed, run_script};
 pub use input::{MOST_SETTINGS, read_settings};
 pub use report::ReportForm;
 pub use run_text::{RunTextFault, run_config};
-pub use settings::{
-    Field, SettingsFault, read_config, steps_are_read_as_written, write_trouble,
-};
+pub use settings::{Field, SettingsFault, read_config, steps_are_read_as_written, write_trouble};

@@ -14,7 +14,9 @@ use toml::{Table, Value};
 
 /// What is said of a key that has to be an integer, a list of tables, and a list of texts.
 const INTEGER: &str = "an integer is wanted";
+
 const TABLES: &str = "a list of tables is wanted";
+
 const TEXTS: &str = "a list of texts is wanted";
 
 /// Writes on one line what the first fault of the settings is: the thread or the restart (by its place, from 0), the
@@ -34,11 +36,7 @@ pub fn write_trouble<W: Write>(alloc: Global, text: &str, writer: &mut W) -> io:
 }
 
 /// Where a text ceases to be TOML, and why.
-fn write_no_toml<W: Write>(
-    text: &str,
-    error: &toml::de::Error,
-    writer: &mut W,
-) -> io::Result<()> {
+fn write_no_toml<W: Write>(text: &str, error: &toml::de::Error, writer: &mut W) -> io::Result<()> {
     let Some(span) = error.span() else {
         return Ok(());
     };
@@ -111,7 +109,11 @@ fn found_at(table: &Table, key: &str) -> &'static str {
 /// What is wrong at the first key of this name that is absent, or has another type.
 fn write_field<W: Write>(table: &Table, field: Field, writer: &mut W) -> io::Result<()> {
     match field {
-        Field::Cpus => writeln!(writer, "cpus: {INTEGER}, and there is {}", found_at(table, "cpus")),
+        Field::Cpus => writeln!(
+            writer,
+            "cpus: {INTEGER}, and there is {}",
+            found_at(table, "cpus")
+        ),
         Field::Threads => write_list(table, "thread", writer),
         Field::Restarts => write_list(table, "restart", writer),
         Field::Queue => write_key(table, "thread", "queue", writer),
@@ -128,9 +130,16 @@ fn write_list<W: Write>(table: &Table, key: &str, writer: &mut W) -> io::Result<
     match items.iter().position(|item| !item.is_table()) {
         Some(place) => {
             let found = items[place].type_str();
-            writeln!(writer, "{key} {place}: a table is wanted, and there is {found}")
+            writeln!(
+                writer,
+                "{key} {place}: a table is wanted, and there is {found}"
+            )
         }
-        None => writeln!(writer, "{key}: {TABLES}, and there is {}", found_at(table, key)),
+        None => writeln!(
+            writer,
+            "{key}: {TABLES}, and there is {}",
+            found_at(table, key)
+        ),
     }
 }
 
@@ -140,7 +149,10 @@ fn write_key<W: Write>(table: &Table, list: &str, key: &str, writer: &mut W) -> 
         if let Some(item) = item.as_table() {
             if integer_at(item, key).is_none() {
                 let found = found_at(item, key);
-                return writeln!(writer, "{list} {place}: {key}: {INTEGER}, and there is {found}");
+                return writeln!(
+                    writer,
+                    "{list} {place}: {key}: {INTEGER}, and there is {found}"
+                );
             }
         }
     }
@@ -154,11 +166,17 @@ fn write_steps<W: Write>(table: &Table, writer: &mut W) -> io::Result<()> {
             let steps = items_at(thread, "steps");
             if let Some(step) = steps.iter().position(|step| !step.is_str()) {
                 let found = steps[step].type_str();
-                return writeln!(writer, "thread {place}: step {step}: a text is wanted, and there is {found}");
+                return writeln!(
+                    writer,
+                    "thread {place}: step {step}: a text is wanted, and there is {found}"
+                );
             }
             let found = found_at(thread, "steps");
             if found != "array" {
-                return writeln!(writer, "thread {place}: steps: {TEXTS}, and there is {found}");
+                return writeln!(
+                    writer,
+                    "thread {place}: steps: {TEXTS}, and there is {found}"
+                );
             }
         }
     }
@@ -193,7 +211,11 @@ fn cpus_of(table: &Table) -> i64 {
 
 /// What is wrong with the count of CPUs.
 fn write_cpus<W: Write>(table: &Table, writer: &mut W) -> io::Result<()> {
-    writeln!(writer, "cpus {}: 1 to {MOST_CPUS} are wanted", cpus_of(table))
+    writeln!(
+        writer,
+        "cpus {}: 1 to {MOST_CPUS} are wanted",
+        cpus_of(table)
+    )
 }
 
 /// What is wrong with a thread that is spelled.
@@ -204,14 +226,24 @@ fn write_thread<W: Write>(table: &Table, place: usize, writer: &mut W) -> io::Re
     let cpus = cpus_of(table);
     let queue = integer_at(thread, "queue").unwrap_or(0);
     if queue < 0 || cpus <= queue {
-        return writeln!(writer, "thread {place}: queue {queue}: there are CPUs 0 to {}", cpus.saturating_sub(1));
+        return writeln!(
+            writer,
+            "thread {place}: queue {queue}: there are CPUs 0 to {}",
+            cpus.saturating_sub(1)
+        );
     }
     let mask = integer_at(thread, "mask").unwrap_or(0);
     if mask <= 0 {
-        return writeln!(writer, "thread {place}: mask {mask}: the sum of CPUs is wanted, of which CPU 0 is 1, CPU 1 is 2, CPU 2 is 4");
+        return writeln!(
+            writer,
+            "thread {place}: mask {mask}: the sum of CPUs is wanted, of which CPU 0 is 1, CPU 1 is 2, CPU 2 is 4"
+        );
     }
     if is_past(mask, cpus) {
-        return writeln!(writer, "thread {place}: mask {mask}: it has a CPU past the {cpus} that there are");
+        return writeln!(
+            writer,
+            "thread {place}: mask {mask}: it has a CPU past the {cpus} that there are"
+        );
     }
     write_life(place, items_at(thread, "steps"), writer)
 }
@@ -230,11 +262,20 @@ fn is_die(step: &Value) -> bool {
 fn write_life<W: Write>(place: usize, steps: &[Value], writer: &mut W) -> io::Result<()> {
     let count = steps.len();
     if count == 0 || MOST_STEPS < count {
-        return writeln!(writer, "thread {place}: {count} steps: 1 to {MOST_STEPS} are wanted");
+        return writeln!(
+            writer,
+            "thread {place}: {count} steps: 1 to {MOST_STEPS} are wanted"
+        );
     }
     match steps.iter().position(is_die) {
-        Some(step) => writeln!(writer, "thread {place}: step {step} of {count} is a die: only the last one may be"),
-        None => writeln!(writer, "thread {place}: the last of its {count} steps has to be a die"),
+        Some(step) => writeln!(
+            writer,
+            "thread {place}: step {step} of {count} is a die: only the last one may be"
+        ),
+        None => writeln!(
+            writer,
+            "thread {place}: the last of its {count} steps has to be a die"
+        ),
     }
 }
 
@@ -250,11 +291,21 @@ fn write_restart<W: Write>(table: &Table, place: usize, writer: &mut W) -> io::R
     let cpus = cpus_of(table);
     let cpu = integer_at(restart, "cpu").unwrap_or(0);
     if cpu < 0 || cpus <= cpu {
-        return writeln!(writer, "restart {place}: cpu {cpu}: there are CPUs 0 to {}", cpus.saturating_sub(1));
+        return writeln!(
+            writer,
+            "restart {place}: cpu {cpu}: there are CPUs 0 to {}",
+            cpus.saturating_sub(1)
+        );
     }
     if cpus < 2 {
-        return writeln!(writer, "restart {place}: there is no other agent to learn from: 2 CPUs are wanted at least");
+        return writeln!(
+            writer,
+            "restart {place}: there is no other agent to learn from: 2 CPUs are wanted at least"
+        );
     }
     let turn = integer_at(restart, "turn").unwrap_or(0);
-    writeln!(writer, "restart {place}: turn {turn}: 1 to {MOST_TURN} is wanted")
+    writeln!(
+        writer,
+        "restart {place}: turn {turn}: 1 to {MOST_TURN} is wanted"
+    )
 }
