@@ -5,7 +5,8 @@
 
 Scripts are drawn in small worlds, where refusals are common. Behind each refused line the script is gone on with by the steps that the explanation
 tells: all are accepted. Where it says that no agent can make the line accepted, or that nothing does, single deeds of agents are tried, and pairs
-of them: behind none is the line accepted, whatever its number. The last line is 'N passed, M failed'.
+of them: behind none is the line accepted, with the number of now. Where several deeds are told, a single one hardly ever does as well. The last
+line is 'N passed, M failed'.
 """
 from __future__ import annotations
 
@@ -50,7 +51,7 @@ COMMON = {
     "associate Dead", "associate Pending", "associate Running", "associate Stale", "associate UnknownThread", "block IdleCpu", "commit Busy",
     "commit Forbidden", "commit NotReady", "commit NotYours", "commit Running", "commit Stale", "create NamesSpent", "create QueueFull",
     "deliver NoDelta", "pick Busy", "pick NothingReady", "pick Stale", "publish WireFault", "sleep Stale", "steal Busy", "steal NothingToSteal",
-    "steal Pending", "steal Stale", "wake Dead", "wake NotBlocked", "affinity OnForbiddenCpu", "tick QueueFull",
+    "steal Pending", "steal Stale", "wake Dead", "wake NotBlocked", "tick QueueFull",
 }
 
 
@@ -126,7 +127,7 @@ def drawn_script(place: int) -> str:
             ["create Q MASK ready", leave, "publish C", "consume C", "pick C ASEQ", leave][:chance.choice([1, 5, 6])],
             [leave, new, f"publish {other}", f"consume {other}", f"deliver C {rough.deltas}", "steal C", "pick C ASEQ"][chance.choice([0, 1, 2]):],
             ["commit C T ASEQ"], ["associate T Q NUMBER"], ["commit C T ASEQ", "associate T Q NUMBER"], ["steal C", "pick C ASEQ"],
-            [leave, "wake T", "affinity T MASK"], ["deliver C K", "steal C"], ["crash C", "publish C", "steal C"], ["publish C fail", "tick C"],
+            [leave, "wake T", "affinity T MASK"], ["affinity T MASK", "priority T LEVEL"], ["deliver C K", "steal C"], ["crash C", "publish C", "steal C"], ["publish C fail", "tick C"],
         ])
         words += [command(chance, rough, line.split(), cpu) for line in further]
         lines += [b" ".join(line).decode() for line in words]
@@ -175,13 +176,20 @@ class World:
             deeds += [f"answer {cpu} {other}" for other in cpus if other != cpu]
         return deeds
 
-    def numbered(self, line: str) -> str:
-        """The line with the number of now."""
+    def calls(self) -> list[str]:
+        """What the environment may do."""
+        cpus, threads, all_cpus = range(self.cpus), range(len(self.messages)), 2**self.cpus - 1
+        calls = [f"{leave} {cpu} 0" for leave in ("block", "preempt", "die") for cpu in cpus] + [f"tick {cpu}" for cpu in cpus]
+        calls += [f"create {cpu} {all_cpus} {state}" for cpu in cpus for state in ("ready", "blocked")]
+        return calls + [f"{call} t{thread}{word}" for thread in threads for call, word in (("wake", ""), ("affinity", f" {all_cpus}"), ("priority", " 1"))]
+
+    def numbered(self, line: str, more: int) -> str:
+        """The line with the number of now, or of so many posts more."""
         words = line.split()
         if words[0] in BY_POSTS and int(words[1]) < self.cpus:
-            words[-1] = str(self.posts[int(words[1])])
+            words[-1] = str(self.posts[int(words[1])] + more)
         elif words[0] in BY_MESSAGES and int(words[1][1:]) < len(self.messages):
-            words[-1] = str(self.messages[int(words[1][1:])])
+            words[-1] = str(self.messages[int(words[1][1:])] + more)
         return " ".join(words)
 
 
@@ -215,15 +223,22 @@ class Advice(unittest.TestCase):
         self.steps_are_accepted([it for it in told if it.steps and it.acted()])
         chance = random.Random("searched")
         hopeless = [it for it in told if it.form in ("environment", "no agent", "never")]
-        self.no_deed_helps(chance.sample(hopeless, min(SEARCHED, len(hopeless))), 1)
+        wrong, count = self.helped(chance.sample(hopeless, min(SEARCHED, len(hopeless))), 1)
+        self.hold("an agent can", wrong, count)
+        never = [it for it in hopeless if it.form == "never"]
+        wrong, count = self.helped(chance.sample(never, min(SEARCHED, len(never))), 1, True)
+        self.hold("the environment can", wrong, count)
         idle = [it for it in hopeless if it.form != "never" and it.line.split()[0] in ("pick", "steal", "commit", "block")]
-        self.no_deed_helps(sorted(idle, key=lambda it: it.number)[:PAIRED], 2)
+        wrong, count = self.helped(sorted(idle, key=lambda it: it.number)[:PAIRED], 2)
+        self.hold("two deeds of agents can", wrong, count)
         longer = [it for it in told if it.form == "agents" and len(it.acted() or ()) > 2]
-        self.no_deed_helps(chance.sample(longer, min(SEARCHED // 2, len(longer))), 1)
+        wrong, count = self.helped(chance.sample(longer, min(SEARCHED, len(longer))), 1)
+        self.assertLess(len(wrong) * 20, min(SEARCHED, len(longer)), f"a single deed would do; the first: {wrong[:1]}")
 
     def hold(self, what: str, wrong: list[str], count: int) -> None:
         """There are some, and none of them is wrong."""
-        self.assertFalse(wrong, f"{len(wrong)} of {count}: {what}; the first: " + "\n".join(wrong[:3]))
+        if wrong:
+            self.fail(f"{len(wrong)} of {count}: {what}; the first:\n" + "\n".join(wrong[:3]))
         self.assertGreater(count, 0, what)
 
     def forms_are_common(self, told: list[Told]) -> None:
@@ -247,20 +262,21 @@ class Advice(unittest.TestCase):
                 wrong.append(f"{it.sort}: not of the line: {it.steps}")
         self.hold("a step is refused, or not of its form", wrong, len(told))
 
-    def no_deed_helps(self, told: list[Told], many: int) -> None:
-        """So many deeds of agents do not make the line accepted, whatever its number."""
+    def helped(self, told: list[Told], many: int, is_environments: bool = False) -> tuple[list[str], int]:
+        """Which of the lines are accepted behind so many deeds of agents, or calls of the environment, and how many lists of them were tried."""
         worlds = [it.begin() for it in told]
         asked = ["\n".join([*lines, *World.questions(lines)]) + "\n" for lines in worlds]
         tried, wrong = [], []
         for it, lines, output in zip(told, worlds, self.run_all("replay", asked)):
             world = World(lines, answers_of(output))
-            for deeds in itertools.product(world.deeds(), repeat=many):
-                tried.append((it, [*lines, *deeds, world.numbered(it.line)]))
+            for deeds in itertools.product(world.calls() if is_environments else world.deeds(), repeat=many):
+                for more in range(is_environments + 1):
+                    tried.append((it, [*lines, *deeds, world.numbered(it.line, more)]))
         for (it, lines), output in zip(tried, self.run_all("replay", ["\n".join(lines) + "\n" for _, lines in tried])):
             answers = answers_of(output)[-many - 1:]
             if not any(answer.startswith("refused") for answer in answers):
                 wrong.append(f"{it.sort}, {it.form}: {it.steps}, and {lines[-many - 1:]} is accepted\n" + "\n".join(it.begin()))
-        self.hold("agents can", wrong, len(tried))
+        return wrong, len(tried)
 
 
 def main() -> int:

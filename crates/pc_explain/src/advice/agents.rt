@@ -8,7 +8,16 @@ use pc_calls::EnvCall;
 use pc_messages::{Cpu, Phase, Tid};
 use pc_world::World;
 
+/// The most threads, and the most deltas, among which all deeds are tried for a steal.
+const MOST_TRIED_THREADS: u32 = 16;
+
+const MOST_TRIED_DELTAS: u64 = 64;
+
+/// The most names of a run list that are looked at before all else.
+const MOST_TRIED_NAMES: usize = 64;
+
 impl Ahead<'_> {
+    /// An associate lacks nothing where the thread is alive, runs nowhere, and has no message in its queue.
     pub(super) fn lack_of_associate(&self, thread: Tid, queue: Cpu) -> Lack {
         if !self.is_cpu(queue) {
             return Lack::Never;
@@ -77,6 +86,9 @@ impl Ahead<'_> {
         if self.running(cpu).is_some() {
             return Lack::needs(preempt(cpu));
         }
+        if self.begins_runnable(cpu) {
+            return Lack::Nothing;
+        }
         if !self.is_small() {
             return Lack::Unsought;
         }
@@ -124,19 +136,30 @@ impl Ahead<'_> {
         })
     }
 
+    /// Whether a thread waits for the CPU, and has its home there.
+    fn would_be_committed(&self, cpu: Cpu, thread: Tid) -> bool {
+        match self.standing(thread) {
+            Some(standing) => standing.is_runnable(cpu) && standing.is_home(cpu),
+            None => false,
+        }
+    }
+
+    /// Whether the run list of the CPU's agent has a thread that would be committed, among its first ones. Where a
+    /// step makes the list anew, it is not looked at.
+    fn begins_runnable(&self, cpu: Cpu) -> bool {
+        let Some(agent) = self.world.agent(cpu) else {
+            return false;
+        };
+        let is_old = !self.plan.steps().iter().any(|step| step.is_publish(cpu));
+        let mut firsts = agent.run_list().iter().take(MOST_TRIED_NAMES);
+        is_old && firsts.any(|name| self.would_be_committed(cpu, *name))
+    }
+
     /// Whether the run list of the CPU's agent has a thread that would be committed.
     fn lists_runnable(&self, cpu: Cpu) -> bool {
-        for index in 0..self.threads() {
-            let thread = Tid(index);
-            if let Some(standing) = self.standing(thread)
-                && standing.is_runnable(cpu)
-                && standing.is_home(cpu)
-                && self.is_listed(cpu, thread)
-            {
-                return true;
-            }
-        }
-        false
+        (0..self.threads()).any(|index| {
+            self.would_be_committed(cpu, Tid(index)) && self.is_listed(cpu, Tid(index))
+        })
     }
 
     /// The same, once a deed is done.
@@ -179,9 +202,70 @@ impl Ahead<'_> {
         if !self.is_small() {
             return Lack::Unsought;
         }
+        if self.steals(cpu) {
+            return Lack::Nothing;
+        }
+        if let Some(goal) = self.one_for_steal(cpu) {
+            return Lack::Needs(goal);
+        }
         match self.candidate(cpu) {
             Some(thread) => self.lack_of_candidate(cpu, thread),
             None => self.lack_of_any_candidate(cpu),
+        }
+    }
+
+    /// Whether the thread that a steal of the agent tries is known to its last message, which stands in no queue.
+    fn steals(&self, cpu: Cpu) -> bool {
+        match self.candidate(cpu) {
+            Some(thread) => {
+                self.known(cpu, thread, Plan::MOST).upto >= self.last_number(thread)
+                    && self.last_message(thread) == Queued::Gone
+            }
+            None => false,
+        }
+    }
+
+    /// The same, once a deed is done.
+    fn steals_after(&self, cpu: Cpu, goal: &Goal) -> bool {
+        let plan = self.plan.with(self.step_of(goal));
+        steals(self.world, &plan, cpu)
+    }
+
+    /// One deed behind which a steal lacks nothing: all are tried, where there are few.
+    fn one_for_steal(&self, cpu: Cpu) -> Option<Goal> {
+        if self.threads() > MOST_TRIED_THREADS || self.deltas() > MOST_TRIED_DELTAS {
+            return None;
+        }
+        for delta in 0..self.deltas() {
+            let goal = Goal::once(Deed::Deliver { cpu, delta });
+            if self.steals_after(cpu, &goal) {
+                return Some(goal);
+            }
+        }
+        for index in 0..self.world.kernel().cpus() {
+            let goal = Goal::once(Deed::Consume { cpu: Cpu(index) });
+            if self.steals_after(cpu, &goal) {
+                return Some(goal);
+            }
+        }
+        let goal = self.out_of_the_way(cpu)?;
+        if self.steals_after(cpu, &goal) {
+            Some(goal)
+        } else {
+            None
+        }
+    }
+
+    /// The thread that a steal tries is put on the CPU of its home, so that the steal tries another one.
+    fn out_of_the_way(&self, cpu: Cpu) -> Option<Goal> {
+        let thread = self.candidate(cpu)?;
+        let home = self.standing(thread)?.home;
+        if home.index() == cpu.index() {
+            return None;
+        }
+        match self.lack_of_commit(home, thread) {
+            Lack::Nothing => Some(Goal::once(Deed::Commit { cpu: home, thread })),
+            _ => None,
         }
     }
 
@@ -257,6 +341,11 @@ impl Ahead<'_> {
 /// Whether the run list of the CPU's agent has a thread that would be committed, once the steps are done.
 fn lists_runnable(world: &World, plan: &Plan, cpu: Cpu) -> bool {
     Ahead::new(world, plan).lists_runnable(cpu)
+}
+
+/// Whether a steal of the CPU's agent lacks nothing, once the steps are done.
+fn steals(world: &World, plan: &Plan, cpu: Cpu) -> bool {
+    Ahead::new(world, plan).steals(cpu)
 }
 
 /// How the agent comes to try a thread, once the steps are done, where it is in its run list then.

@@ -1,6 +1,6 @@
 //! What the environment's calls lack to be accepted.
 
-use crate::advice::ahead::Ahead;
+use crate::advice::ahead::{Ahead, bit_of};
 use crate::advice::deed::Deed;
 use crate::advice::lacks::{Goal, Lack, preempt};
 use pc_calls::EnvCall;
@@ -93,9 +93,7 @@ impl Ahead<'_> {
         };
         match (standing.phase, standing.on) {
             (Phase::Dead, _) => Lack::Never,
-            (_, Some(cpu)) if mask & crate::advice::ahead::bit_of(cpu) == 0 => {
-                Lack::Needs(Goal::once(preempt(cpu)))
-            }
+            (_, Some(cpu)) if mask & bit_of(cpu) == 0 => { Lack::Needs(Goal::once(preempt(cpu))) }
             _ => self.lack_of_message(thread),
         }
     }

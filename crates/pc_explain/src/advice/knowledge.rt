@@ -1,6 +1,6 @@
 //! What agents will know once some steps are done, and which threads their run lists will have.
 
-use crate::advice::ahead::{Ahead, Queued};
+use crate::advice::ahead::{Ahead, Queued, bit_of};
 use crate::advice::choices::MOST_THREADS;
 use crate::advice::deed::Deed;
 use crate::advice::lacks::{Lack, publish};
@@ -42,7 +42,7 @@ impl Known {
 
     /// Whether the thread waits or runs, and may run on the CPU.
     fn runs_on(&self, cpu: Cpu) -> bool {
-        self.phase == Some(Phase::Ready) && self.mask & crate::advice::ahead::bit_of(cpu) != 0
+        self.phase == Some(Phase::Ready) && self.mask & bit_of(cpu) != 0
     }
 }
 

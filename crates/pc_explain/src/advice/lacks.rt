@@ -1,6 +1,6 @@
 //! What a deed lacks to be accepted, and what both the environment's calls and agents may lack.
 
-use crate::advice::ahead::{Ahead, Queued};
+use crate::advice::ahead::{Ahead, Queued, bit_of};
 use crate::advice::deed::Deed;
 use pc_calls::EnvCall;
 use pc_messages::{Cpu, Tid};
@@ -204,7 +204,7 @@ pub(super) fn created(queue: Cpu, ready: bool, cpu: Cpu) -> Deed {
     Deed::Env(EnvCall::Create {
         queue,
         ready,
-        mask: crate::advice::ahead::bit_of(cpu),
+        mask: bit_of(cpu),
     })
 }
 
