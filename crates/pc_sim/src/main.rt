@@ -166,19 +166,12 @@ fn make_script(rt: &HostRuntime, form: Form, file: Option<String>) -> ExitCode {
     end(rt, &met, &source, MOST_BYTES)
 }
 
-/// Runs agents in threads by the settings of the file, or else of the standard input.
-fn run(rt: &HostRuntime, form: ReportForm, file: Option<String>) -> ExitCode {
-    let source = Source(file);
-    let text = match settings_of(rt, &source) {
-        Ok(text) => text,
-        Err(met) => return end(rt, &met, &source, MOST_SETTINGS),
-    };
-    let screen = screen_of(rt);
-    let met = run_settings(rt, rt.alloc(), text.as_str(), form, screen, rt.stdout());
-    let status = end(rt, &met, &source, MOST_SETTINGS);
+/// The same of a run by a settings text. Of settings that have a fault it says which.
+fn end_run(rt: &HostRuntime, met: &Met, source: &Source, text: &str) -> ExitCode {
+    let status = end(rt, met, source, MOST_SETTINGS);
     if let Ending::Settings(_) = met.ending {
         // Nothing can be said of an error on standard error itself.
-        let _ = write_trouble(rt.alloc(), text.as_str(), &mut rt.stderr());
+        let _ = write_trouble(rt.alloc(), text, &mut rt.stderr());
     }
     status
 }
@@ -199,7 +192,18 @@ fn main(rt: HostRuntime) -> ExitCode {
         Ok(Command::Replay { file }) => make_script(&rt, Form::Replies, file),
         Ok(Command::Explain { file }) => make_script(&rt, Form::Explained, file),
         Ok(Command::Draw { file }) => make_script(&rt, Form::Picture, file),
-        Ok(Command::Run { file, form }) => run(&rt, form, file),
+        Ok(Command::Run { file, form }) => {
+            let source = Source(file);
+            match settings_of(&rt, &source) {
+                Ok(text) => {
+                    let text = text.as_str();
+                    let screen = screen_of(&rt);
+                    let met = run_settings(&rt, rt.alloc(), text, form, screen, rt.stdout());
+                    end_run(&rt, &met, &source, text)
+                }
+                Err(met) => end(&rt, &met, &source, MOST_SETTINGS),
+            }
+        }
         Err(met) => end(&rt, &met, &Source(None), MOST_BYTES),
     }
 }
