@@ -135,7 +135,7 @@ class Lines(unittest.TestCase):
         self.assertEqual(self.at_a_terminal(SHORT), (0, SHORT_REPORT, b""))
 
     def test_what_else_is_said_at_a_terminal_stays(self):
-        self.assertEqual(self.at_a_terminal("cpus = 0\n"), (1, b"", b"pc-sim: settings BadCpus\r\n"))
+        self.assertEqual(self.at_a_terminal("cpus = 0\n"), (1, b"", b"pc-sim: settings BadCpus\r\npc-sim: cpus 0: 1 to 64 are wanted\r\n"))
 
     def test_a_terminal_that_goes_away_is_passed_over(self):
         screen, line = pty.openpty()
