@@ -18,6 +18,26 @@ fn first_message() -> Result<Message, MaskFault> {
     })
 }
 
+/// What it says.
+fn created() -> Result<Kind, MaskFault> {
+    let mask = Mask::new(3, 2)?;
+    Ok(Kind::Created { mask, ready: true })
+}
+
+/// Takes in a message of t0.
+fn learns(view: &mut View, number: u32, kind: Kind) -> Result<(), Fail> {
+    let message = Message {
+        thread: Tid(0),
+        number,
+        kind,
+    };
+    if !message.is_well_formed() {
+        return Err("not well formed".into());
+    }
+    view.insert(message)?;
+    Ok(())
+}
+
 /// Who runs on CPU 0 when a thread was created and committed there.
 fn committed(alloc: Global) -> Result<Option<Tid>, Fail> {
     let limits = Limits {
@@ -42,15 +62,12 @@ fn merged(view: &mut View, other: &View) -> Result<u32, Fail> {
     Ok(view.upto(Tid(0)))
 }
 
-/// A view that took in the two messages, each in a view of its own.
-fn known_by_both(alloc: Global, second: Message) -> Result<u32, Fail> {
+/// How many of two messages are known where a view of the second takes in one of the first.
+fn known_by_both(alloc: Global) -> Result<u32, Fail> {
     let mut view = View::new(alloc);
     let mut other = View::new(alloc);
-    let first = first_message()?;
-    if first.is_well_formed() && second.is_well_formed() {
-        view.insert(second)?;
-        other.insert(first)?;
-    }
+    learns(&mut view, 2, Kind::Wakeup)?;
+    learns(&mut other, 1, created()?)?;
     merged(&mut view, &other)
 }
 
@@ -62,12 +79,7 @@ fn a_kernel_commits_a_thread(rt: HostRuntime) -> Result<(), Fail> {
 
 #[test]
 fn two_views_are_merged(rt: HostRuntime) -> Result<(), Fail> {
-    let woken = Message {
-        thread: Tid(0),
-        number: 2,
-        kind: Kind::Wakeup,
-    };
-    assert_eq!(rt; known_by_both(rt.alloc(), woken)?, 2);
+    assert_eq!(rt; known_by_both(rt.alloc())?, 2);
     Ok(())
 }
 
@@ -109,10 +121,7 @@ fn listed(alloc: Global, view: &View) -> Result<Option<Tid>, Fail> {
 /// The same by a view of t0's first message.
 fn listed_first(alloc: Global) -> Result<Option<Tid>, Fail> {
     let mut view = View::new(alloc);
-    let first = first_message()?;
-    if first.is_well_formed() {
-        view.insert(first)?;
-    }
+    learns(&mut view, 1, created()?)?;
     listed(alloc, &view)
 }
 

@@ -94,15 +94,20 @@ fn called(call: EnvCall) -> Reply {
     }
 }
 
+/// What is replied to a call of an agent.
+fn agreed(call: AgentCall) -> Reply {
+    match call {
+        AgentCall::Associate { thread, queue, .. } => Reply::Associated { thread, queue },
+        AgentCall::Commit { cpu, thread, .. } => Reply::Committed { thread, cpu },
+        _ => Reply::Done,
+    }
+}
+
 /// What is replied to an event.
 fn happened(event: Event) -> Reply {
     match event {
         Event::Env(call) => called(call),
-        Event::Agent(AgentCall::Associate { thread, queue, .. }) => Reply::Associated {
-            thread,
-            queue,
-        },
-        Event::Agent(AgentCall::Commit { cpu, thread, .. }) => Reply::Committed { thread, cpu },
+        Event::Agent(call) => agreed(call),
         Event::Publish { cpu, .. } => Reply::Published {
             delta: 0,
             items: u32::from(cpu.index()),

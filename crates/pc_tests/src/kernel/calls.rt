@@ -37,20 +37,24 @@ fn creates(kernel: &mut Kernel, way: Way, queue: u8, ready: bool) -> bool {
     posts(kernel, way, create) == Ok(posted(0, 1, queue, 1))
 }
 
+fn agent_does(kernel: &mut Kernel, call: AgentCall) -> Result<(), Refusal> {
+    match call {
+        AgentCall::Associate {
+            thread,
+            queue,
+            number,
+        } => kernel.associate(thread, queue, number),
+        AgentCall::Commit { cpu, thread, aseq } => kernel.commit(cpu, thread, aseq),
+        AgentCall::Sleep { cpu, aseq } => kernel.sleep(cpu, aseq),
+        AgentCall::Rouse { cpu } => kernel.rouse(cpu),
+        AgentCall::Config { queue, target } => kernel.config_wakeup(queue, target),
+    }
+}
+
 fn does(kernel: &mut Kernel, call: Call) -> Result<(), Refusal> {
     match call {
         Call::Consume { cpu, count } => kernel.consume(cpu, count),
-        Call::Agent(
-            AgentCall::Associate {
-                thread,
-                queue,
-                number,
-            },
-        ) => kernel.associate(thread, queue, number),
-        Call::Agent(AgentCall::Commit { cpu, thread, aseq }) => kernel.commit(cpu, thread, aseq),
-        Call::Agent(AgentCall::Sleep { cpu, aseq }) => kernel.sleep(cpu, aseq),
-        Call::Agent(AgentCall::Rouse { cpu }) => kernel.rouse(cpu),
-        Call::Agent(AgentCall::Config { queue, target }) => kernel.config_wakeup(queue, target),
+        Call::Agent(call) => agent_does(kernel, call),
         Call::Env(_) => Err(Refusal::BadCpu),
     }
 }
