@@ -10,6 +10,7 @@ use Rattle.pc_delta.specs.declared.part.Part.{Part}
 use Rattle.pc_delta.specs.Parts.{tells_of, thread_of_part}
 use Rattle.pc_delta.specs.Exchange.{KeepsOthers}
 use Rattle.pc_delta.proofs.Lists.{left_item}
+use Rattle.pc_policy.specs.Rankings.{Ranking}
 use Rattle.pc_run_queue.specs.Names.{has_name}
 use Rattle.pc_run_queue.specs.Runs.{IsSettled}
 use Rattle.pc_run_queue.proofs.Settled.{StandsAsBefore, reported_as_before, settled_where_same}
@@ -33,34 +34,34 @@ pub one_listed_less : (parts : List Part) (i : ℕ) (part : Part) (list : List �
 one_listed_less parts i part list e lt absent t listed = one_less parts i part t e lt (differs list (thread_of_part part) t absent listed)
 
 -- a thread that is noted
-same_name : (new old : View) (cpu name t : ℕ) → (name == t) ≡ true → StandsAsBefore old new cpu name → StandsAsBefore old new cpu t
-same_name new old cpu name t e h = elim (eqb_tells name t) [
-  | inl k ↦ subst (StandsAsBefore old new cpu) k.1 h
+same_name : (ranks : Ranking) (new old : View) (cpu name t : ℕ) → (name == t) ≡ true → StandsAsBefore ranks old new cpu name → StandsAsBefore ranks old new cpu t
+same_name ranks new old cpu name t e h = elim (eqb_tells name t) [
+  | inl k ↦ subst (StandsAsBefore ranks old new cpu) k.1 h
   | inr k ↦ absurd (false≢true (sym k.0 ∙ e))
 ]
 
-noted_same : (old new : View) (cpu : ℕ) (noted : List (ℕ × ℕ)) (t : ℕ) → AreAsNoted old cpu noted → AreAsNoted new cpu noted → is_noted noted t ≡ true → StandsAsBefore old new cpu t
-noted_same old new cpu [] t was now e = absurd (false≢true e)
-noted_same old new cpu (row ∷ rows) t was now e =
-    by_test (row.0 == t) refl (noted_same old new cpu rows t (All-tail (IsAsNoted old cpu) row rows was) (All-tail (IsAsNoted new cpu) row rows now))
+noted_same : (ranks : Ranking) (old new : View) (cpu : ℕ) (noted : List (ℕ × ℕ)) (t : ℕ) → AreAsNoted ranks old cpu noted → AreAsNoted ranks new cpu noted → is_noted noted t ≡ true → StandsAsBefore ranks old new cpu t
+noted_same ranks old new cpu [] t was now e = absurd (false≢true e)
+noted_same ranks old new cpu (row ∷ rows) t was now e =
+    by_test (row.0 == t) refl (noted_same ranks old new cpu rows t (All-tail (IsAsNoted ranks old cpu) row rows was) (All-tail (IsAsNoted ranks new cpu) row rows now))
   where
-    then : IsAsNoted old cpu row
-    then = All-head (IsAsNoted old cpu) row rows was
+    then : IsAsNoted ranks old cpu row
+    then = All-head (IsAsNoted ranks old cpu) row rows was
 
-    since : IsAsNoted new cpu row
-    since = All-head (IsAsNoted new cpu) row rows now
+    since : IsAsNoted ranks new cpu row
+    since = All-head (IsAsNoted ranks new cpu) row rows now
 
-    by_test : (b : Bool) → (row.0 == t) ≡ b → (is_noted rows t ≡ true → StandsAsBefore old new cpu t) → StandsAsBefore old new cpu t
-    by_test true f ih = same_name new old cpu row.0 t f (since.0 ∙ sym then.0, since.1 ∙ sym then.1)
+    by_test : (b : Bool) → (row.0 == t) ≡ b → (is_noted rows t ≡ true → StandsAsBefore ranks old new cpu t) → StandsAsBefore ranks old new cpu t
+    by_test true f ih = same_name ranks new old cpu row.0 t f (since ∙ sym then)
     by_test false f ih = ih (sym (ap (λ b. b || is_noted rows t) f) ∙ e)
 
-pub still_settled : (parts : List Part) (old new : View) (cpu : ℕ) (list : List ℕ) (noted : List (ℕ × ℕ)) → KeepsOthers parts old new
-    → TellsOfNoOther parts list noted → AreAsNoted old cpu noted → AreAsNoted new cpu noted → IsSettled old cpu list → IsSettled new cpu list
-still_settled parts old new cpu list noted keeps others was now h = settled_where_same old new cpu list (λ t listed. by_test t (is_noted noted t) refl listed) h
+pub still_settled : (ranks : Ranking) (parts : List Part) (old new : View) (cpu : ℕ) (list : List ℕ) (noted : List (ℕ × ℕ)) → KeepsOthers parts old new
+    → TellsOfNoOther parts list noted → AreAsNoted ranks old cpu noted → AreAsNoted ranks new cpu noted → IsSettled ranks old cpu list → IsSettled ranks new cpu list
+still_settled ranks parts old new cpu list noted keeps others was now h = settled_where_same ranks old new cpu list (λ t listed. by_test t (is_noted noted t) refl listed) h
   where
-    by_test : (t : ℕ) (b : Bool) → is_noted noted t ≡ b → has_name list t ≡ true → StandsAsBefore old new cpu t
-    by_test t true e listed = noted_same old new cpu noted t was now e
-    by_test t false e listed = reported_as_before old new cpu t (ap state_told (keeps t (others t listed e)))
+    by_test : (t : ℕ) (b : Bool) → is_noted noted t ≡ b → has_name list t ≡ true → StandsAsBefore ranks old new cpu t
+    by_test t true e listed = noted_same ranks old new cpu noted t was now e
+    by_test t false e listed = reported_as_before ranks old new cpu t (ap state_told (keeps t (others t listed e)))
 
 -- one more thread that is noted
 neither : (a b : Bool) → (a || b) ≡ false → (a ≡ false) × (b ≡ false)

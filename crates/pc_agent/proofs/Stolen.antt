@@ -24,7 +24,7 @@ use Rattle.pc_agent.specs.Own.{HasTakenOver, StealsAsSeen}
 use Rattle.pc_agent.specs.PlainAgent.{PlainAgent, may_steal, may_take}
 use Rattle.pc_agent.specs.Publishing.{WhateverShown}
 use Rattle.pc_agent.specs.Running.{Finds, IsSeenExactly, IsTakenOver, Steals, StealsBy, TriesLeast, takes_over, takes_up_to}
-use Rattle.pc_agent.specs.Shows.{ShowsAgent, ShowsView}
+use Rattle.pc_agent.specs.Shows.{ShowsAgent, ShowsView, ranking_of}
 use Rattle.pc_agent.proofs.Delivered.{ReportsAreTold, UptosAreTold}
 use Rattle.pc_agent.proofs.Ready.{accepts, not_refused}
 
@@ -123,8 +123,8 @@ module _ (reported : ReportsAreTold) (known : UptosAreTold) (old : Agent) (k : K
     takes_same : takes_up_to (upto_of old.view) old.cpu ≡ takes_over old.cpu p
     takes_same = λ i t. associates t old.cpu (known run p.known old.view t h.view.of_run h.view.known i)
 
-    pub stolen : (result : Result ℕ CallFault) (new : Agent) (k2 : KernelRows) → StealsAsSeen old.view old.cpu result old.list new.list k k2 → new.view ≡ old.view → new.sent_items ≡ old.sent_items → Steals P run p result old.cpu new k2
-    stolen result new k2 steals view count =
+    pub stolen : (result : Result ℕ CallFault) (new : Agent) (k2 : KernelRows) → StealsAsSeen old.view old.cpu result old.list new.list k k2 → new.view ≡ old.view → new.sent_items ≡ old.sent_items → ranking_of new ≡ ranking_of old → Steals P run p result old.cpu new k2
+    stolen result new k2 steals view count ranks =
         let Taken : ℕ → Type 0 = λ t. IsTakenOver P run p old.cpu t new k2 in
         let here = also (seen k) old.cpu (may_take (seen k) (runs_in old.view old.cpu) old.list) (takes_up_to (upto_of old.view) old.cpu) (λ t. HasTakenOver (takes_up_to (upto_of old.view) old.cpu t) t old.list new.list k k2) Taken result taken steals in
         let by_reads = subst (λ r. StealsBy r old.cpu (may_take (seen k) (runs_in old.view old.cpu) old.list) (takes_up_to (upto_of old.view) old.cpu) Taken result) shows.reads here in
@@ -134,7 +134,7 @@ module _ (reported : ReportsAreTold) (known : UptosAreTold) (old : Agent) (k : K
         taken : (t : ℕ) → HasTakenOver (takes_up_to (upto_of old.view) old.cpu t) t old.list new.list k k2 → IsTakenOver P run p old.cpu t new k2
         taken t took = record {
           after = subst (λ takes. Shows k2 (after P (takes t))) takes_same (took.kernel P shows).1;
-          agent = record { view = subst (λ v. ShowsView run p.known v) (sym view) h.view; list = took.list ∙ ap (λ l. l ++ t ∷ []) h.list; sent_items = count ∙ h.sent_items };
+          agent = record { view = subst (λ v. ShowsView run p.known v) (sym view) h.view; list = took.list ∙ ap (λ l. l ++ t ∷ []) h.list; sent_items = count ∙ h.sent_items; ranks = ranks ∙ h.ranks };
         }
 
   pub exactly : AcceptedAssociatesAreExact → (result : Result ℕ CallFault) (left : List ℕ) (k2 : KernelRows) → StealsAsSeen old.view old.cpu result old.list left k k2

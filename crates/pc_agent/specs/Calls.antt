@@ -28,7 +28,7 @@ use Rattle.pc_agent.specs.Own.{Publishes, KnowsTheSame, ConsumesAsSeen, PicksAsS
 use Rattle.pc_agent.specs.PlainAgent.{PlainAgent, threads_in, pick_refused, ready_list}
 use Rattle.pc_agent.specs.Publishing.{Copies, Sending, WhateverShown, IsConsumed, IsPublished}
 use Rattle.pc_agent.specs.Running.{IsPicked, IsSeenExactly, Steals, left_by, takes_up_to}
-use Rattle.pc_agent.specs.Shows.{ShowsAgent, cpu_of}
+use Rattle.pc_agent.specs.Shows.{ShowsAgent, cpu_of, ranking_of}
 
 -- the kernel's limits are the same, its run is extended, and where the call failed nothing of it changed
 pub record GoesOn {A E : Type 0} (result : Result A E) (old new : KernelRows) : Type 0 where
@@ -44,6 +44,7 @@ pub record DoesDeliver (delta : List Part) (result : Result (Unit {0}) NoMemory)
   pub list : new.list ≡ old.list
   pub sent : new.sent_items ≡ old.sent_items
   pub cpu : cpu_of new ≡ cpu_of old
+  pub ranks : ranking_of new ≡ ranking_of old
   pub counts : new.counts ≡ old.counts
 
 -- items were taken in, which the delta tells; where memory ran out, a part of them may have been
@@ -52,10 +53,12 @@ pub record DoesCopy (items : List Item) (result : Result (List Part) NoMemory) (
   pub told : IfOk result (λ delta. delta ≡ parts_in items)
   pub taken : OnOk result (IsTakenIn (parts_in items) old.view new.view)
   pub partly : IsPartlyTakenIn (parts_in items) old.view new.view
-  pub refreshed : OnOk result (new.list ≡ runs.refreshed new.view (cpu_of old) old.list (threads_in items))
+  pub refreshed : OnOk result (new.list
+      ≡ runs.refreshed (ranking_of old) new.view (cpu_of old) old.list (threads_in items))
   pub list_err : OnErr result (new.list ≡ old.list)
   pub sent : new.sent_items ≡ old.sent_items
   pub cpu : cpu_of new ≡ cpu_of old
+  pub ranks : ranking_of new ≡ ranking_of old
   pub counts : new.counts ≡ old.counts
 
 -- so many items at the front of its queue count as sent
@@ -73,6 +76,7 @@ pub record DoesPublish {W : Type 0} (Sends : Sending W) (faults : W → ℕ) (ke
   pub own : Publishes Sends (content_read (seen kernel) (cpu_of old)) result old new wire later
   pub fault : result ≡ Err WireFault → faults wire < faults later
   pub cpu : cpu_of new ≡ cpu_of old
+  pub ranks : ranking_of new ≡ ranking_of old
   pub counts : new.counts ≡ old.counts
 
 -- what was sent is removed from the queue, as the kernel answers

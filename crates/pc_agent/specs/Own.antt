@@ -25,19 +25,21 @@ use Rattle.pc_agent.specs.Counts.{consume_counted, pick_counted}
 use Rattle.pc_agent.specs.PlainAgent.{may_take, pick_refused, ready_list, threads_in}
 use Rattle.pc_agent.specs.Publishing.{Sending}
 use Rattle.pc_agent.specs.Running.{StealsBy, left_by, takes_up_to}
-use Rattle.pc_agent.specs.Shows.{cpu_of}
+use Rattle.pc_agent.specs.Shows.{cpu_of, ranking_of}
 
 -- the items' messages are taken in, the run list is refreshed with their threads, and so many items count as sent
 pub record HasCopied (items : List Item) (old new : Agent) (count : ℕ) : Type 0 where
   pub view : IsTakenIn (parts_in items) old.view new.view
-  pub list : new.list ≡ refreshed new.view (cpu_of old) old.list (threads_in items)
+  pub list : new.list ≡ refreshed (ranking_of old) new.view (cpu_of old) old.list (threads_in items)
   pub sent_items : new.sent_items ≡ count
+  pub ranks : ranking_of new ≡ ranking_of old
 
 -- a part of the messages may be taken in, and the agent is otherwise as it was
 pub record HasPartlyCopied (items : List Item) (old new : Agent) : Type 0 where
   pub view : IsPartlyTakenIn (parts_in items) old.view new.view
   pub list : new.list ≡ old.list
   pub sent_items : new.sent_items ≡ old.sent_items
+  pub ranks : ranking_of new ≡ ranking_of old
 
 -- a publish of these items: the wire was given one part for each message, in order; memory may have run out before
 -- that, or in it
@@ -50,10 +52,11 @@ Publishes Sends items (Err OutOfMemory) old new wire later =
     (HasPartlyCopied items old new × (later ≡ wire))
     ⊎ (Sends wire (parts_in items) (Err OutOfMemory) later × HasCopied items old new old.sent_items)
 
--- the agent knows what it knew, and has counted so much
+-- the agent knows what it knew, ranks as it did, and has counted so much
 pub record KnowsTheSame (counted : Counts) (old new : Agent) : Type 0 where
   pub view : new.view ≡ old.view
   pub cpu : cpu_of new ≡ cpu_of old
+  pub ranks : ranking_of new ≡ ranking_of old
   pub counts : new.counts ≡ counted
 
 -- the call that removes from the agent's queue what it has sent

@@ -12,6 +12,7 @@ use Rattle.pc_calls.specs.declared.refusal.Refusal.TheVariants as refusal
 use Rattle.pc_kernel.specs.Reads.{Reads, is_known, place, aseq_read, on}
 use Rattle.pc_kernel.specs.Steps.{refused}
 use Rattle.pc_view.specs.Prefixes.{reports}
+use Rattle.pc_policy.specs.Rankings.{Ranking}
 use Rattle.pc_run_queue.specs.Names.{has_name}
 use Rattle.pc_run_queue.specs.Runs.{may_run, refreshed_as}
 
@@ -24,10 +25,11 @@ pub record PlainAgent : Type 0 where
   pub known : Set  -- what it has taken in
   pub list : List ℕ  -- its run list, the first name first
   pub sent_items : ℕ  -- how many items at the front of its queue it has sent
+  pub ranks : Ranking  -- how it ranks threads
 
--- an agent that starts, or starts again
-abbrev pub fresh : PlainAgent
-fresh = record { known = []; list = []; sent_items = 0 }
+-- an agent of this ranking that starts, or starts again
+abbrev pub fresh : Ranking → PlainAgent
+fresh ranks = record { known = []; list = []; sent_items = 0; ranks = ranks }
 
 -- the view of the set in the run reports the thread ready and allowed on the CPU
 abbrev pub runs_here : Run → Set → ℕ → ℕ → Bool
@@ -45,7 +47,7 @@ taking_in set p = record p { known = p.known ++ set }
 abbrev pub copied : Run → ℕ → List Item → PlainAgent → PlainAgent
 copied run cpu items p =
     let set = p.known ++ pairs_in items in
-    record p { known = set; list = refreshed_as (reports run set) cpu p.list (threads_in items) }
+    record p { known = set; list = refreshed_as p.ranks (reports run set) cpu p.list (threads_in items) }
 
 -- the names from the first one on that passes the test
 abbrev pub from_first : (ℕ → Bool) → List ℕ → List ℕ

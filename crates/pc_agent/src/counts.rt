@@ -2,7 +2,7 @@
 
 ghost use Rattle.std.specs.Prelude.{◌≡◌};
 ghost use Rattle.pc_agent.specs.Counts.{raised, none_counted, refusal_counted, consume_counted, pick_counted};
-ghost use Rattle.pc_agent.specs.Counts.{steal_counted};
+ghost use Rattle.pc_agent.specs.Counts.{named_counted, steal_counted};
 
 use pc_calls::{CallFault, Refusal};
 use pc_messages::Tid;
@@ -23,8 +23,17 @@ pub struct Counts {
     pub stale: u64,
     /// Steals refused as messages of the thread were pending.
     pub pending: u64,
-    /// Picks and steals refused otherwise; want of memory is not counted.
+    /// Picks and steals refused otherwise, those that have a count of their own below among them; want of memory is not
+    /// counted.
     pub other: u64,
+    /// Picks and steals refused as a thread runs on the CPU.
+    pub busy: u64,
+    /// Picks refused as no name of the run list may be committed.
+    pub nothing_ready: u64,
+    /// Steals refused as there is no thread to choose.
+    pub nothing_to_steal: u64,
+    /// Steals refused as the thread is dead.
+    pub dead: u64,
 }
 
 /// A count after some more.
@@ -46,6 +55,10 @@ impl Counts {
             stale: 0,
             pending: 0,
             other: 0,
+            busy: 0,
+            nothing_ready: 0,
+            nothing_to_steal: 0,
+            dead: 0,
         }
     }
 
@@ -86,7 +99,23 @@ impl Counts {
         match refusal {
             Refusal::Stale(_) => self.stale = raised_by(self.stale, 1),
             Refusal::Pending => self.pending = raised_by(self.pending, 1),
-            _ => self.other = raised_by(self.other, 1),
+            _ => {
+                self.other = raised_by(self.other, 1);
+                self.count_by_name(refusal);
+            }
+        }
+    }
+
+    /// Counts a refusal by its name, where that has a count of its own.
+    fn count_by_name(&mut self, refusal: &Refusal)
+        ensures { self.new ≡ named_counted refusal.now self.old }
+    {
+        match refusal {
+            Refusal::Busy => self.busy = raised_by(self.busy, 1),
+            Refusal::NothingReady => self.nothing_ready = raised_by(self.nothing_ready, 1),
+            Refusal::NothingToSteal => self.nothing_to_steal = raised_by(self.nothing_to_steal, 1),
+            Refusal::Dead => self.dead = raised_by(self.dead, 1),
+            _ => {}
         }
     }
 }

@@ -20,10 +20,12 @@ impl Agent {
         ensures { DoesDeliver delta.now result self.old self.new }
     {
         let parts = delta.parts();
-        self.shortcuts.note(parts, &self.list, &self.view, self.cpu);
+        self.shortcuts
+            .note(parts, &self.list, &self.policy, &self.view, self.cpu);
         match take_in(&mut self.view, delta) {
             Ok(()) => {
-                self.shortcuts.look_anew(parts, &self.view, self.cpu);
+                self.shortcuts
+                    .look_anew(parts, &self.policy, &self.view, self.cpu);
                 Ok(())
             }
             Err(fault) => {

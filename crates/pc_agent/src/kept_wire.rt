@@ -9,7 +9,7 @@ use pc_delta::Delta;
 use std::alloc::Global;
 
 /// The most parts that the deltas of a wire in memory have together: a send that would pass this wants memory. A part
-/// takes 48 bytes, so a wire keeps 3 GiB of them at the most, whatever is sent.
+/// takes 40 bytes, so a wire keeps 2.5 GiB of them at the most, whatever is sent.
 pub const MOST_KEPT: u64 = 1 << 26;
 
 /// A wire that keeps what it took, in order, so that each delta can be delivered late, again or never (own). While it

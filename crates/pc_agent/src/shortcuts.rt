@@ -3,25 +3,27 @@
 ghost use Rattle.std.specs.Prelude.{ℕ, ◌≡◌, ◌+◌, ◌&&◌, ◌∷◌, [], List, MatchOption, OnOk, OnErr, IsTrue};
 ghost use Rattle.pc_delta.specs.Exchange.{KeepsOthers};
 ghost use Rattle.pc_join.specs.NameSets.{FindsFrom};
+ghost use Rattle.pc_policy.specs.Rankings.{Ranking, ranks_of};
 ghost use Rattle.pc_run_queue.specs.Runs.{IsSettled, refreshed, runs_in};
 ghost use Rattle.pc_agent.specs.PlainAgent.{is_wanted, threads_in};
 ghost use Rattle.pc_agent.specs.Running.{Finds};
 ghost use Rattle.pc_agent.specs.Inner.Shortcuts.{AreNoted, AreTrue, AreTrueOfAll, AreTrueOfNothing, StayTrue};
-ghost use Rattle.pc_agent.specs.Inner.Wanted.{AreShort};
+ghost use Rattle.pc_agent.specs.Inner.Wanted.{AreShort, HoldsAll, IsNoneWantedBelow};
 
 use crate::runnable::{keep_runnable, next_wanted};
 use crate::watch::{are_as_noted, note_told};
 use pc_delta::Part;
 use pc_join::{NameSet, OutOfMemory};
 use pc_messages::{Cpu, Item, Tid};
+use pc_policy::Order;
 use pc_run_queue::RunQueue;
 use pc_view::View;
 use std::alloc::Global;
 
-/// What could be found out from an agent's view, CPU and run list, and is kept to be quick. No call answers or does
-/// anything by it that it would not do without.
+/// What could be found out from an agent's policy, view, CPU and run list, and is kept to be quick. No call answers or
+/// does anything by it that it would not do without.
 ///
-/// View and run list stand beside it, in the agent, which lends them to each call. What is true of it then is
+/// Policy, view and run list stand beside it, in the agent, which lends them to each call. What is true of it then is
 /// `AreTrue` (`specs/Inner/Shortcuts.antt`), a part of the agent's own invariant.
 #[derive(Drop)]
 pub(crate) struct Shortcuts {
@@ -35,8 +37,8 @@ pub(crate) struct Shortcuts {
     /// Whether it is known that a refresh that touches no thread would leave the run list as it is: then a refresh
     /// looks at the touched threads alone.
     settled: bool,
-    /// The threads of the run list of which the parts tell that the view is about to take in, each with its level.
-    noted: Vec<(Tid, u8)>,
+    /// The threads of the run list of which the parts tell that the view is about to take in, each with its rank.
+    noted: Vec<(Tid, u64)>,
     /// The threads that the refresh under way touches. Like those that are noted, they stand here so that no call
     /// takes memory for them anew.
     touched: Vec<Tid>,
@@ -60,19 +62,20 @@ fn list_threads(threads: &mut Vec<Tid>, items: &[Item]) -> Result<(), OutOfMemor
 fn refresh_list(
     list: &mut RunQueue,
     settled: bool,
+    policy: &Order,
     view: &View,
     touched: &[Tid],
     cpu: Cpu,
 ) -> Result<(), OutOfMemory>
-    requires { IsTrue settled → IsSettled view.now cpu list.old }
-    ensures ok { OnOk result (list.new ≡ refreshed view.now cpu list.old touched.now) }
+    requires { IsTrue settled → IsSettled (ranks_of policy.now) view.now cpu list.old }
+    ensures ok { OnOk result (list.new ≡ refreshed (ranks_of policy.now) view.now cpu list.old touched.now) }
     ensures err { OnErr result (list.new ≡ list.old) }
-    ensures settled { OnOk result (IsSettled view.now cpu list.new) }
+    ensures settled { OnOk result (IsSettled (ranks_of policy.now) view.now cpu list.new) }
 {
     if settled {
-        list.refresh_settled(view, touched, cpu)
+        list.refresh_settled(policy, view, touched, cpu)
     } else {
-        list.refresh(view, touched, cpu)
+        list.refresh(policy, view, touched, cpu)
     }
 }
 
@@ -109,41 +112,59 @@ impl Shortcuts {
     }
 
     /// Notes what the view reports now of the threads of which the parts tell, before it takes the parts in.
-    pub(crate) fn note(&mut self, parts: &[Part], list: &RunQueue, view: &View, cpu: Cpu)
-        requires { AreTrue self.old view.now cpu list.now }
-        ensures { AreNoted parts.now self.new view.now cpu list.now }
+    pub(crate) fn note(
+        &mut self,
+        parts: &[Part],
+        list: &RunQueue,
+        policy: &Order,
+        view: &View,
+        cpu: Cpu,
+    )
+        requires { AreTrue (ranks_of policy.now) self.old view.now cpu list.now }
+        ensures { AreNoted (ranks_of policy.now) parts.now self.new view.now cpu list.now }
     {
         self.passed = 0;
-        self.settled = note_told(&mut self.noted, self.settled, list, view, cpu, parts);
+        self.settled = note_told(
+            &mut self.noted,
+            self.settled,
+            list,
+            policy,
+            view,
+            cpu,
+            parts,
+        );
     }
 
     /// Looks at the threads anew of which the parts tell, which were noted, once the view has taken the parts in.
-    pub(crate) fn look_anew(&mut self, parts: &[Part], view: &View, cpu: Cpu)
+    pub(crate) fn look_anew(&mut self, parts: &[Part], policy: &Order, view: &View, cpu: Cpu)
         ensures { (before : View) (list : List ℕ) → KeepsOthers parts.now before view.now
-            → AreNoted parts.now self.old before cpu list → AreTrue self.new view.now cpu list }
+            → AreNoted (ranks_of policy.now) parts.now self.old before cpu list
+            → AreTrue (ranks_of policy.now) self.new view.now cpu list }
     {
         keep_runnable(&mut self.runnable, view, cpu, parts);
-        self.settled = are_as_noted(self.settled, view, cpu, self.noted.as_slice());
+        self.settled = are_as_noted(self.settled, policy, view, cpu, self.noted.as_slice());
     }
 
     /// Refreshes the run list with the threads of the items. Where memory runs out, it is the old one.
     pub(crate) fn refresh(
         &mut self,
         list: &mut RunQueue,
+        policy: &Order,
         view: &View,
         cpu: Cpu,
         items: &[Item],
     ) -> Result<(), OutOfMemory>
-        requires { AreTrue self.old view.now cpu list.old }
-        ensures ok { OnOk result (list.new ≡ refreshed view.now cpu list.old (threads_in items.now)) }
+        requires { AreTrue (ranks_of policy.now) self.old view.now cpu list.old }
+        ensures ok { OnOk result
+            (list.new ≡ refreshed (ranks_of policy.now) view.now cpu list.old (threads_in items.now)) }
         ensures err { OnErr result (list.new ≡ list.old) }
-        ensures kept { AreTrue self.new view.now cpu list.new }
+        ensures kept { AreTrue (ranks_of policy.now) self.new view.now cpu list.new }
     {
         list_threads(&mut self.touched, items)?;
         self.passed = 0;
         let settled = self.settled;
         self.settled = false;
-        refresh_list(list, settled, view, self.touched.as_slice(), cpu)?;
+        refresh_list(list, settled, policy, view, self.touched.as_slice(), cpu)?;
         self.settled = true;
         Ok(())
     }
@@ -171,10 +192,12 @@ impl Shortcuts {
 
     /// The least thread that is wanted, to which all before are passed.
     pub(crate) fn pass_over(&mut self, view: &View, list: &RunQueue, cpu: Cpu) -> Option<Tid>
-        requires { AreTrue self.old view.now cpu list.now }
+        requires runnable { HoldsAll (runs_in view.now cpu) self.old.runnable }
+        requires passed { IsNoneWantedBelow self.old.passed (runs_in view.now cpu) list.now }
         ensures finds { Finds (is_wanted (runs_in view.now cpu) list.now) result }
         ensures short { AreShort (is_wanted (runs_in view.now cpu) list.now) }
-        ensures kept { AreTrue self.new view.now cpu list.now }
+        ensures kept { (ranks : Ranking) → AreTrue ranks self.old view.now cpu list.now
+            → AreTrue ranks self.new view.now cpu list.now }
     {
         let found = next_wanted(view, &self.runnable, list, cpu, self.passed);
         self.passed = match found {
@@ -192,7 +215,7 @@ impl Shortcuts {
         cpu: Cpu,
         thread: Tid,
     ) -> Option<Tid>
-        requires kept { AreTrue self.now view.now cpu list.now }
+        requires runnable { HoldsAll (runs_in view.now cpu) self.now.runnable }
         requires short { AreShort (is_wanted (runs_in view.now cpu) list.now) }
         ensures { FindsFrom (is_wanted (runs_in view.now cpu) list.now) (thread + 1) result }
     {

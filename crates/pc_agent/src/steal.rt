@@ -2,13 +2,14 @@
 
 ghost use Rattle.std.specs.Prelude.{◌≡◌, OnErr};
 ghost use Rattle.pc_kernel.specs.Reads.{seen};
+ghost use Rattle.pc_policy.specs.Rankings.{ranks_of};
 ghost use Rattle.pc_run_queue.specs.Runs.{runs_in};
 ghost use Rattle.pc_agent.specs.Calls.{DoesSteal, GoesOn};
 ghost use Rattle.pc_agent.specs.Own.{StealsAsSeen};
 ghost use Rattle.pc_agent.specs.PlainAgent.{is_idle, is_wanted, may_take};
 ghost use Rattle.pc_agent.specs.Running.{Finds};
 ghost use Rattle.pc_agent.specs.Inner.Shortcuts.{AreTrue};
-ghost use Rattle.pc_agent.specs.Inner.Wanted.{AreShort};
+ghost use Rattle.pc_agent.specs.Inner.Wanted.{AreShort, HoldsAll};
 
 use crate::agent::Agent;
 use crate::shortcuts::Shortcuts;
@@ -16,6 +17,7 @@ use pc_calls::{CallFault, Refusal};
 use pc_kernel::Kernel;
 use pc_kernel::laws::accepted_associates_are_exact;
 use pc_messages::{Cpu, Tid};
+use pc_policy::Order;
 use pc_run_queue::RunQueue;
 use pc_view::{View, views_tell_what_their_sets_tell};
 
@@ -39,7 +41,7 @@ fn candidate(
     kernel: &Kernel,
     least: Option<Tid>,
 ) -> Option<Tid>
-    requires kept { AreTrue shortcuts.now view.now cpu list.now }
+    requires runnable { HoldsAll (runs_in view.now cpu) shortcuts.now.runnable }
     requires least { Finds (is_wanted (runs_in view.now cpu) list.now) least }
     requires short { AreShort (is_wanted (runs_in view.now cpu) list.now) }
     ensures { Finds (may_take (seen kernel.now) (runs_in view.now cpu) list.now) result }
@@ -56,17 +58,18 @@ fn candidate(
 
 /// A steal for a CPU, by what a view tells, into a run list, which stays settled where the thread belongs at its end.
 fn take_least(
+    policy: &Order,
     view: &View,
     shortcuts: &mut Shortcuts,
     list: &mut RunQueue,
     kernel: &mut Kernel,
     cpu: Cpu,
 ) -> Result<Tid, CallFault>
-    requires { AreTrue shortcuts.old view.now cpu list.old }
+    requires { AreTrue (ranks_of policy.now) shortcuts.old view.now cpu list.old }
     ensures takes { StealsAsSeen view.now cpu result list.old list.new kernel.old kernel.new }
     ensures goes_on { GoesOn result kernel.old kernel.new }
     ensures left { OnErr result (list.new ≡ list.old) }
-    ensures kept { AreTrue shortcuts.new view.now cpu list.new }
+    ensures kept { AreTrue (ranks_of policy.now) shortcuts.new view.now cpu list.new }
 {
     if kernel.running(cpu).is_some() {
         return Err(CallFault::Refused(Refusal::Busy));
@@ -76,7 +79,7 @@ fn take_least(
         return Err(CallFault::Refused(Refusal::NothingToSteal));
     };
     // The name is pushed before the kernel is asked: once it has accepted, nothing may fail.
-    let Ok(in_order) = list.push_in_order(view, thread) else {
+    let Ok(in_order) = list.push_in_order(policy, view, cpu, thread) else {
         return Err(CallFault::OutOfMemory);
     };
     match kernel.associate(thread, cpu, view.upto(thread)) {
@@ -105,6 +108,7 @@ impl Agent {
         accepted_associates_are_exact();
         views_tell_what_their_sets_tell();
         let answered = take_least(
+            &self.policy,
             &self.view,
             &mut self.shortcuts,
             &mut self.list,

@@ -4,5 +4,7 @@ pub mod Order
 pub mod Ends
 pub mod Sorting
 pub mod Passes
+pub mod Sorts
 pub mod Settled
 pub mod Inserting
+pub mod Levels

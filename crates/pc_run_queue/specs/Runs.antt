@@ -1,11 +1,14 @@
--- Which threads may run, as a view tells, and the run list after a refresh.
-use Rattle.std.specs.Prelude.{ℕ, ◌≡◌, ◌&&◌, Bool, true, false, List, [], filter, Option, Some, None}
+-- Which threads may run and how they are ranked, as a view tells, and the run list after a refresh.
+use Rattle.std.specs.Prelude.{ℕ, ◌≡◌, ◌&&◌, Bool, true, false, List, [], filter, Option, Some, None, is_some}
+use Rattle.std.specs.Prelude.{if◌then◌else◌, unwrap_or}
 use Rattle.pc_messages.specs.Mask.{allows}
 use Rattle.pc_messages.specs.declared.reported.Phase.{Phase}
 use Rattle.pc_messages.specs.declared.reported.Phase.TheVariants as phase
 use Rattle.pc_messages.specs.declared.reported.Reported.{Reported}
 use Rattle.pc_view.specs.declared.view.View.{View}
 use Rattle.pc_view.specs.Prefixes.{reported_in}
+use Rattle.pc_policy.specs.Rankings.{Ranking}
+use Rattle.pc_policy.specs.Ranks.{by_rank}
 use Rattle.pc_run_queue.specs.Names.{with_new, by_level}
 
 -- the phase is Ready
@@ -19,34 +22,62 @@ abbrev pub may_run : Option Reported → ℕ → Bool
 may_run None cpu = false
 may_run (Some r) cpu = is_ready r.phase && allows r.mask cpu
 
--- the level of a thread of this state
-abbrev pub level_told : Option Reported → ℕ
-level_told None = 0
-level_told (Some r) = r.level
+-- the rank on the CPU of a thread of this state: none, where it may not run there, or the ranking leaves it out
+abbrev pub rank_told : Ranking → ℕ → ℕ → Option Reported → Option ℕ
+rank_told ranks cpu t None = None
+rank_told ranks cpu t (Some r) = if may_run (Some r) cpu then ranks cpu t r else None
 
 -- the view reports the thread ready, with a mask that allows the CPU
 abbrev pub runs_in : View → ℕ → ℕ → Bool
 runs_in view cpu t = may_run (reported_in view t) cpu
 
--- the level that the view reports of the thread
-abbrev pub level_in : View → ℕ → ℕ
-level_in view t = level_told (reported_in view t)
+-- the rank on the CPU of a thread, by what the view reports of it
+abbrev pub rank_in : Ranking → View → ℕ → ℕ → Option ℕ
+rank_in ranks view cpu t = rank_told ranks cpu t (reported_in view t)
 
--- the old names that pass the test, in order, then the touched ones that do and are absent, each at its first place: of
--- all these the highest level first, those of one level in this order
-abbrev pub refreshed_by : (ℕ → Bool) → (ℕ → ℕ) → List ℕ → List ℕ → List ℕ
-refreshed_by test level old touched = by_level level (with_new test (filter test old) touched)
+-- there is a rank
+abbrev pub is_ranked : (ℕ → Option ℕ) → ℕ → Bool
+is_ranked rank t = is_some (rank t)
 
--- that, by the state that is reported of each thread: ready, with a mask that allows the CPU
-abbrev pub refreshed_as : (ℕ → Option Reported) → ℕ → List ℕ → List ℕ → List ℕ
-refreshed_as reported cpu old touched =
-    refreshed_by (λ t. may_run (reported t) cpu) (λ t. level_told (reported t)) old touched
+-- the rank of a thread that has one
+abbrev pub rank_of : (ℕ → Option ℕ) → ℕ → ℕ
+rank_of rank t = unwrap_or (rank t) 0
+
+-- the view gives the thread a rank on the CPU
+abbrev pub ranked_in : Ranking → View → ℕ → ℕ → Bool
+ranked_in ranks view cpu t = is_ranked (rank_in ranks view cpu) t
+
+-- that rank, 0 where there is none
+abbrev pub rank_known : Ranking → View → ℕ → ℕ → ℕ
+rank_known ranks view cpu t = rank_of (rank_in ranks view cpu) t
+
+-- the old names that have a rank, in order, then the touched ones that have one and are absent, each at its first
+-- place: of all these the least rank first, those of one rank in this order
+abbrev pub refreshed_by : (ℕ → Option ℕ) → List ℕ → List ℕ → List ℕ
+refreshed_by rank old touched =
+    by_rank (rank_of rank) (with_new (is_ranked rank) (filter (is_ranked rank) old) touched)
+
+-- that, by the state that is reported of each thread: ranked, where it is ready, with a mask that allows the CPU
+abbrev pub refreshed_as : Ranking → (ℕ → Option Reported) → ℕ → List ℕ → List ℕ → List ℕ
+refreshed_as ranks reported cpu old touched = refreshed_by (λ t. rank_told ranks cpu t (reported t)) old touched
 
 -- that, by what the view reports
-abbrev pub refreshed : View → ℕ → List ℕ → List ℕ → List ℕ
-refreshed view cpu old touched = refreshed_as (reported_in view) cpu old touched
+abbrev pub refreshed : Ranking → View → ℕ → List ℕ → List ℕ → List ℕ
+refreshed ranks view cpu old touched = refreshed_as ranks (reported_in view) cpu old touched
 
--- a refresh that touches no name leaves the list as it is: each of its names may run, and none stands behind one of a
--- lower level
-abbrev pub IsSettled : View → ℕ → List ℕ → Type 0
-IsSettled view cpu list = refreshed view cpu list [] ≡ list
+-- a refresh that touches no name leaves the list as it is: each of its names has a rank, and none stands behind one of
+-- a greater rank
+abbrev pub IsSettled : Ranking → View → ℕ → List ℕ → Type 0
+IsSettled ranks view cpu list = refreshed ranks view cpu list [] ≡ list
+
+-- the level of a thread of this state
+abbrev pub level_told : Option Reported → ℕ
+level_told None = 0
+level_told (Some r) = r.level
+
+-- the old names that may run, in order, then the touched ones that may and are absent, each at its first place: of all
+-- these the highest level first, those of one level in this order
+abbrev pub level_refreshed_as : (ℕ → Option Reported) → ℕ → List ℕ → List ℕ → List ℕ
+level_refreshed_as reported cpu old touched =
+    let runs = λ (t : ℕ). may_run (reported t) cpu in
+    by_level (λ t. level_told (reported t)) (with_new runs (filter runs old) touched)

@@ -10,14 +10,15 @@
 //! fn listed(alloc: Global, view: &View) -> Result<Option<Tid>, Fail> {
 //!     let mut list = RunQueue::new(alloc);
 //!     // Of the touched threads those that are ready and allowed on CPU 1 enter, the highest level first.
-//!     list.refresh(view, &[Tid(0)], Cpu(1))?;
+//!     list.refresh(&Order::Levels, view, &[Tid(0)], Cpu(1))?;
 //!     Ok(list.first())
 //! }
 //! ```
 #![tactic(auto)]
 
-mod levels;
+pub mod laws;
+mod ranks;
 mod run_queue;
 
-pub use levels::{level_on, runs_on};
+pub use ranks::{rank_on, runs_on};
 pub use run_queue::RunQueue;

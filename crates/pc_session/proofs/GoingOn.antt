@@ -14,7 +14,8 @@ use Rattle.pc_script.specs.declared.response.Response.{Response}
 use Rattle.pc_script.specs.declared.response.Response.TheVariants as response
 use Rattle.pc_agent.specs.PlainAgent.{Set}
 use Rattle.pc_world.specs.Facts.{EveryEventHasAStep, RunsAreBegun}
-use Rattle.pc_world.specs.PlainWorld.{PlainWorld, opened}
+use Rattle.pc_policy.specs.Rankings.{by_levels}
+use Rattle.pc_world.specs.PlainWorld.{PlainWorld, opened, opened_by}
 use Rattle.pc_world.specs.Reached.{Leads, LeadsTo, Reached}
 use Rattle.pc_world.specs.Steps.{Step}
 use Rattle.pc_session.specs.GoingOn.{SessionsGoOn}
@@ -28,7 +29,7 @@ leads_on w new last (e ∷ events) event (next, first, rest) step = (next, first
 
 reached_on : (limits : Limits) (w new : PlainWorld) (event : Event) (told : Reply) → Reached limits w → Step w event told new → Reached limits new
 reached_on limits w new event told reached step =
-    record { events = reached.events ++ event ∷ []; leads = leads_on (opened limits) w new reached.events event reached.leads (inl (told, step)) }
+    record { ranks = reached.ranks; events = reached.events ++ event ∷ []; leads = leads_on (opened_by reached.ranks limits) w new reached.events event reached.leads (inl (told, step)) }
 
 -- the world of a session, where there is one, is one that events lead to
 abbrev StandsWell : Session → Type 0
@@ -41,7 +42,7 @@ keeps_reached limits w new (OneEvent event) told reached (reply, step, tells) = 
 keeps_reached limits w new (Read read) told reached (tells, same) = subst (Reached limits) (sym same) reached
 
 opens_well : (o : Option LimitField) (limits : Limits) (told : Response) (new : Session) → IsLimited o limits told new → StandsWell new
-opens_well None limits told new (tells, is) = subst StandsWell (sym is) (limits, record { events = []; leads = refl })
+opens_well None limits told new (tells, is) = subst StandsWell (sym is) (limits, record { ranks = λ c. by_levels; events = []; leads = refl })
 opens_well (Some field) limits told new (tells, is) = subst StandsWell (sym is) tt
 
 begins_well : (profile : Profile) (command : Command) (told : Response) (new : Session) → IsOpening profile command told new → StandsWell new

@@ -1,8 +1,11 @@
 //! The examples that the roots of crates show, line for line: `tests/check_documents.py` holds them against these.
 
+ghost use Rattle.std.specs.Prelude.{Some};
+
 use pc_delta::{Delta, Digest, delta_since, take_in};
 use pc_kernel::{Kernel, Limits};
-use pc_messages::{Cpu, Kind, Mask, MaskFault, Message, Tid};
+use pc_messages::{Cpu, Kind, Mask, MaskFault, Message, Reported, Tid};
+use pc_policy::{Order, Policy};
 use pc_run_queue::RunQueue;
 use pc_view::View;
 use std::alloc::Global;
@@ -114,7 +117,26 @@ fn a_digest_is_answered(rt: HostRuntime) -> Result<(), Fail> {
 fn listed(alloc: Global, view: &View) -> Result<Option<Tid>, Fail> {
     let mut list = RunQueue::new(alloc);
     // Of the touched threads those that are ready and allowed on CPU 1 enter, the highest level first.
-    list.refresh(view, &[Tid(0)], Cpu(1))?;
+    list.refresh(&Order::Levels, view, &[Tid(0)], Cpu(1))?;
+    Ok(list.first())
+}
+
+/// The thread with the least name first.
+#[derive(Drop)]
+struct LeastName;
+
+impl Policy for LeastName {
+    ghost ranking = { λ policy cpu t r. Some t };
+
+    fn rank(&self, _cpu: Cpu, thread: Tid, _reported: &Reported) -> Option<u64> {
+        Some(thread.index() as u64)
+    }
+}
+
+/// The first thread of the list of CPU 1 by that policy.
+fn least_listed(alloc: Global, view: &View) -> Result<Option<Tid>, Fail> {
+    let mut list = RunQueue::new(alloc);
+    list.refresh(&LeastName, view, &[Tid(1), Tid(0)], Cpu(1))?;
     Ok(list.first())
 }
 
@@ -123,6 +145,19 @@ fn listed_first(alloc: Global) -> Result<Option<Tid>, Fail> {
     let mut view = View::new(alloc);
     learns(&mut view, 1, created()?)?;
     listed(alloc, &view)
+}
+
+/// The same by the policy of one's own.
+fn least_first(alloc: Global) -> Result<Option<Tid>, Fail> {
+    let mut view = View::new(alloc);
+    learns(&mut view, 1, created()?)?;
+    least_listed(alloc, &view)
+}
+
+#[test]
+fn a_policy_of_ones_own_is_taken(rt: HostRuntime) -> Result<(), Fail> {
+    assert_eq!(rt; least_first(rt.alloc())?, Some(Tid(0)));
+    Ok(())
 }
 
 #[test]

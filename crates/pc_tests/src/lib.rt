@@ -17,6 +17,8 @@ mod messages;
 #[cfg(test)]
 mod names;
 #[cfg(test)]
+mod policies;
+#[cfg(test)]
 mod queue;
 #[cfg(test)]
 mod run_queue;

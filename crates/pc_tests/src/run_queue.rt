@@ -2,6 +2,7 @@
 
 use pc_join::OutOfMemory;
 use pc_messages::{Cpu, Kind, Level, Mask, Message, Tid};
+use pc_policy::Order;
 use pc_run_queue::RunQueue;
 use pc_view::View;
 use std::alloc::{AllocError, Global};
@@ -148,7 +149,7 @@ fn refreshes(
     touched: &[u32],
 ) -> Result<(), OutOfMemory> {
     let names = names(alloc, touched)?;
-    queue.refresh(view, names.as_slice(), Cpu(cpu))
+    queue.refresh(&Order::Levels, view, names.as_slice(), Cpu(cpu))
 }
 
 /// A refresh, and then one of the settled list.
@@ -159,8 +160,8 @@ fn refresh_twice(
     then: &[Tid],
     cpu: Cpu,
 ) -> Result<(), OutOfMemory> {
-    queue.refresh(view, first, cpu)?;
-    queue.refresh_settled(view, then, cpu)
+    queue.refresh(&Order::Levels, view, first, cpu)?;
+    queue.refresh_settled(&Order::Levels, view, then, cpu)
 }
 
 fn settles(
@@ -178,13 +179,14 @@ fn settles(
 /// A refresh, of which the first name leaves and is touched again.
 fn take_and_touch(
     queue: &mut RunQueue,
+    policy: &Order,
     view: &View,
     first: &[Tid],
     cpu: Cpu,
 ) -> Result<(), OutOfMemory> {
-    queue.refresh(view, first, cpu)?;
+    queue.refresh(policy, view, first, cpu)?;
     match queue.take_first() {
-        Some(name) => queue.refresh_settled(view, &[name], cpu),
+        Some(name) => queue.refresh_settled(policy, view, &[name], cpu),
         None => Ok(()),
     }
 }
@@ -197,7 +199,7 @@ fn retouches(
     touched: &[u32],
 ) -> Result<(), OutOfMemory> {
     let names = names(alloc, touched)?;
-    take_and_touch(queue, view, names.as_slice(), Cpu(cpu))
+    take_and_touch(queue, &Order::Levels, view, names.as_slice(), Cpu(cpu))
 }
 
 fn puts(queue: &mut RunQueue, name: u32) -> bool {
@@ -211,7 +213,7 @@ fn puts_in_order(queue: &mut RunQueue, view: &View, name: u32, wanted: bool) -> 
     if queue.has(Tid(name)) {
         return false;
     }
-    queue.push_in_order(view, Tid(name)) == Ok(wanted)
+    queue.push_in_order(&Order::Levels, view, Cpu(0), Tid(name)) == Ok(wanted)
 }
 
 /// Whether the name is gone then.
@@ -230,7 +232,7 @@ fn is_name(name: Option<Tid>, wanted: Option<u32>) -> bool {
 }
 
 /// Whether these are the names.
-fn are_names(names: &[Tid], wanted: &[u32]) -> bool {
+pub fn are_names(names: &[Tid], wanted: &[u32]) -> bool {
     for (place, number) in wanted.iter().enumerate() {
         if names.get(place).copied() != Some(Tid(*number)) {
             return false;

@@ -387,6 +387,10 @@ const NONE: Counts = Counts {
     stale: 0,
     pending: 0,
     other: 0,
+    busy: 0,
+    nothing_ready: 0,
+    nothing_to_steal: 0,
+    dead: 0,
 };
 
 const PENDING: Result<Tid, CallFault> = Err(CallFault::Refused(Refusal::Pending));
@@ -495,6 +499,7 @@ fn a_thread_is_stolen_once_nothing_of_it_waits(rt: HostRuntime) {
         steals: 1,
         pending: 1,
         other: 1,
+        nothing_to_steal: 1,
         ..NONE
     };
     const STEPS: [Step; 10] = [
@@ -567,6 +572,8 @@ fn each_count_is_raised(rt: HostRuntime) {
         stale: 1,
         pending: 1,
         other: 1,
+        busy: 1,
+        ..NONE
     };
     const STEPS: [Step; 12] = [
         Step::First(Act::Publishes(Ok(1))),

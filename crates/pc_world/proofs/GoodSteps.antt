@@ -43,6 +43,12 @@ at_has F f c x here there n = elim (n == c) as (λ b. F (if b then x else f n)) 
 sent_items_at : (f : ℕ → PlainAgent) (c : ℕ) (p : PlainAgent) (q : ℕ) → ((q ≡ c) × ((at f c p q).sent_items ≡ p.sent_items)) ⊎ ((q ≡ c → ⊥) × ((at f c p q).sent_items ≡ (f q).sent_items))
 sent_items_at f c p q = elim (eqb_tells q c) [ inl e ↦ inl (e.1, rw e.0 refl) | inr e ↦ inr (e.1, rw e.0 refl) ]
 
+ranks_at : (f : ℕ → PlainAgent) (c : ℕ) (p : PlainAgent) → p.ranks ≡ (f c).ranks → (q : ℕ) → (at f c p q).ranks ≡ (f q).ranks
+ranks_at f c p e q = elim (eqb_tells q c) [
+  | inl same ↦ rw same.0 (e ∙ ap (λ n. (f n).ranks) (sym same.1))
+  | inr other ↦ rw other.0 refl
+]
+
 takes_le : (c n q : ℕ) → takes (call.Consume c n) q ≤ n
 takes_le c n q = elim (c == q) as (λ b. (if b then n else 0) ≤ n) [ true ↦ omega arith | false ↦ omega arith ]
 
@@ -90,7 +96,7 @@ module _ (laws : KernelLaws) (limits : Limits) (w : PlainWorld) (h : IsGood limi
       omega arith
 
   same : Goes w w
-  same = calm limits w w h (inl refl) h.known (λ set there. there) h.sent (λ q. omega arith)
+  same = calm limits w w h (inl refl) h.known (λ set there. there) h.sent (λ q. omega arith) (λ c. refl)
 
   still : (new : PlainWorld) → new ≡ w → Goes w new
   still new e = subst (Goes w) (sym e) same
@@ -99,36 +105,36 @@ module _ (laws : KernelLaws) (limits : Limits) (w : PlainWorld) (h : IsGood limi
   refused_goes r told new said = still new said.same
 
   -- another agent on a CPU, who has taken in messages of the run, and another kernel
-  own : (c : ℕ) (p : PlainAgent) (Q : PlainKernel) → Moves w.kernel Q → LiesIn run p.known → ((q : ℕ) → Q.eaten q + (at w.agents c p q).sent_items ≤ passed w q)
+  own : (c : ℕ) (p : PlainAgent) (Q : PlainKernel) → Moves w.kernel Q → LiesIn run p.known → ((q : ℕ) → Q.eaten q + (at w.agents c p q).sent_items ≤ passed w q) → p.ranks ≡ (w.agents c).ranks
       → Goes w (record (with_agent w c p) { kernel = Q })
-  own c p Q moves seen low =
-      calm limits w (record (with_agent w c p) { kernel = Q }) h moves (at_has (λ a. LiesIn run a.known) w.agents c p seen h.known) (λ set there. there) h.sent low
+  own c p Q moves seen low ranks =
+      calm limits w (record (with_agent w c p) { kernel = Q }) h moves (at_has (λ a. LiesIn run a.known) w.agents c p seen h.known) (λ set there. there) h.sent low (ranks_at w.agents c p ranks)
 
-  own_same : (c : ℕ) (p : PlainAgent) (Q : PlainKernel) → Moves w.kernel Q → ((q : ℕ) → Q.eaten q ≡ w.kernel.eaten q) → LiesIn run p.known → p.sent_items ≤ (w.agents c).sent_items
+  own_same : (c : ℕ) (p : PlainAgent) (Q : PlainKernel) → Moves w.kernel Q → ((q : ℕ) → Q.eaten q ≡ w.kernel.eaten q) → LiesIn run p.known → p.sent_items ≤ (w.agents c).sent_items → p.ranks ≡ (w.agents c).ranks
       → Goes w (record (with_agent w c p) { kernel = Q })
-  own_same c p Q moves eaten seen low = own c p Q moves seen (λ q.
+  own_same c p Q moves eaten seen low ranks = own c p Q moves seen (λ q.
       let e = eaten q in
       elim (sent_items_at w.agents c p q) [
         | inl s ↦ let here = s.1 in let is : (w.agents q).sent_items ≡ (w.agents c).sent_items = ap (λ n. (w.agents n).sent_items) s.0 in omega arith
         | inr s ↦ let there = s.1 in omega arith
-      ])
+      ]) ranks
 
-  own_agent : (c : ℕ) (p : PlainAgent) → LiesIn run p.known → p.sent_items ≤ (w.agents c).sent_items → Goes w (with_agent w c p)
-  own_agent c p seen low = own_same c p w.kernel (inl refl) (λ q. refl) seen low
+  own_agent : (c : ℕ) (p : PlainAgent) → LiesIn run p.known → p.sent_items ≤ (w.agents c).sent_items → p.ranks ≡ (w.agents c).ranks → Goes w (with_agent w c p)
+  own_agent c p seen low ranks = own_same c p w.kernel (inl refl) (λ q. refl) seen low ranks
 
   called : (made : Call) (new : PlainWorld) → ((q : ℕ) → takes made q ≡ 0) → new ≡ record w { kernel = after w.kernel made } → Goes w new
   called made new none is =
       subst (Goes w) (sym is)
       (calm limits w (record w { kernel = after w.kernel made }) h (inr (made, refl)) h.known (λ set there. there) h.sent
-      (λ q. let e = not_eaten made none q in omega arith))
+      (λ q. let e = not_eaten made none q in omega arith) (λ c. refl))
 
-  own_call : (made : Call) (c : ℕ) (p : PlainAgent) → ((q : ℕ) → takes made q ≡ 0) → LiesIn run p.known → p.sent_items ≤ (w.agents c).sent_items
+  own_call : (made : Call) (c : ℕ) (p : PlainAgent) → ((q : ℕ) → takes made q ≡ 0) → LiesIn run p.known → p.sent_items ≤ (w.agents c).sent_items → p.ranks ≡ (w.agents c).ranks
       → Goes w (record (with_agent w c p) { kernel = after w.kernel made })
-  own_call made c p none seen low = own_same c p (after w.kernel made) (inr (made, refl)) (not_eaten made none) seen low
+  own_call made c p none seen low ranks = own_same c p (after w.kernel made) (inr (made, refl)) (not_eaten made none) seen low ranks
 
   -- a publish
   copied_all_goes : (c : ℕ) → Goes w (copied_all w c)
-  copied_all_goes c = own_agent c (copied run c (content w.kernel c) (w.agents c)) (more_known c (pairs_in (content w.kernel c)) (content_in_run c)) (omega arith)
+  copied_all_goes c = own_agent c (copied run c (content w.kernel c) (w.agents c)) (more_known c (pairs_in (content w.kernel c)) (content_in_run c)) (omega arith) refl
 
   published_goes : (c : ℕ) → Goes w (published w c)
   published_goes c =
@@ -164,6 +170,7 @@ module _ (laws : KernelLaws) (limits : Limits) (w : PlainWorld) (h : IsGood limi
               (subst (λ n. WereSent P n (P.eaten n + length items) (published w c)) (sym s.0) whole)
           | inr s ↦ λ i m low there. let is = s.1 in sent_still w (published w c) more m.thread m.number (h.front q i m (omega arith) there)
         ];
+        ranked = ranks_at w.agents c p refl;
       }
 
   publish_goes : (c : ℕ) (fails : Bool) (told : Reply) (new : PlainWorld) → IsPublished w c fails told new → Goes w new
@@ -184,12 +191,12 @@ module _ (laws : KernelLaws) (limits : Limits) (w : PlainWorld) (h : IsGood limi
       elim (sent_items_at w.agents c (record p { sent_items = 0 }) q) [
         | inl s ↦ let here = s.1 in let is : (w.agents q).sent_items ≡ p.sent_items = ap (λ n. (w.agents n).sent_items) s.0 in omega arith
         | inr s ↦ let there = s.1 in let none = takes_none c p.sent_items q s.0 in omega arith
-      ]))
+      ]) refl)
 
   -- a delivery, and an answer
   deliver_goes : (c : ℕ) (o : Option Set) (told : Reply) (new : PlainWorld) → ((set : Set) → o ≡ Some set → LiesIn run set) → IsDelivered w c o told new → Goes w new
   deliver_goes c None told new lies said = refused_goes _ told new said
-  deliver_goes c (Some set) told new lies said = subst (Goes w) (sym said.1) (own_agent c (taking_in set (w.agents c)) (more_known c set (lies set refl)) (omega arith))
+  deliver_goes c (Some set) told new lies said = subst (Goes w) (sym said.1) (own_agent c (taking_in set (w.agents c)) (more_known c set (lies set refl)) (omega arith) refl)
 
   at_index : (k : ℕ) (set : Set) → slice_get w.sent k ≡ Some set → LiesIn run set
   at_index k set e = h.sent set (contained w.sent k set e)
@@ -199,24 +206,24 @@ module _ (laws : KernelLaws) (limits : Limits) (w : PlainWorld) (h : IsGood limi
       calm limits w (sending w set) h (inl refl) h.known (λ s there. Contains-append_left w.sent (set ∷ []) s there) (λ s there. elim (Contains-push_cases w.sent set s there) [
         | inl before ↦ h.sent s before
         | inr last ↦ subst (LiesIn run) last (λ t n e. h.known c t n (within t n e))
-      ]) (λ q. omega arith)
+      ]) (λ q. omega arith) (λ d. refl)
 
   -- a pick, and a steal
   commit_goes : (c n : ℕ) (names : List ℕ) (told : Reply) (new : PlainWorld) → IsCommitted w c n names told new → Goes w new
   commit_goes c n [] told new said = absurd said
   commit_goes c n (t ∷ rest) told new said =
-      subst (Goes w) (sym said.1) (own_call (commits c t n) c (record (w.agents c) { list = rest }) (λ q. refl) (h.known c) (omega arith))
+      subst (Goes w) (sym said.1) (own_call (commits c t n) c (record (w.agents c) { list = rest }) (λ q. refl) (h.known c) (omega arith) refl)
 
   pick_goes : (c n : ℕ) (o : Option Refusal) (told : Reply) (new : PlainWorld) → IsPicked w c n o told new → Goes w new
   pick_goes c n None told new said = commit_goes c n (ready_list (shown w.kernel) c n (w.agents c).list) told new said
   pick_goes c n (Some why) told new said =
-      subst (Goes w) (sym said.1) (own_agent c (record (w.agents c) { list = left_by why (w.agents c).list }) (h.known c) (omega arith))
+      subst (Goes w) (sym said.1) (own_agent c (record (w.agents c) { list = left_by why (w.agents c).list }) (h.known c) (omega arith) refl)
 
   take_goes : (c t : ℕ) (o : Option Refusal) (told : Reply) (new : PlainWorld) → IsTakenOver w c t o told new → Goes w new
   take_goes c t (Some why) told new said = refused_goes why told new said
   take_goes c t None told new said =
       subst (Goes w) (sym said.1)
-      (own_call (takes_over c (w.agents c) t) c (record (w.agents c) { list = (w.agents c).list ++ t ∷ [] }) (λ q. refl) (h.known c) (omega arith))
+      (own_call (takes_over c (w.agents c) t) c (record (w.agents c) { list = (w.agents c).list ++ t ∷ [] }) (λ q. refl) (h.known c) (omega arith) refl)
 
   try_goes : (c : ℕ) (o : Option ℕ) (told : Reply) (new : PlainWorld) → IsTried w c o told new → Goes w new
   try_goes c None told new said = refused_goes _ told new said
@@ -226,8 +233,8 @@ module _ (laws : KernelLaws) (limits : Limits) (w : PlainWorld) (h : IsGood limi
   steal_goes c true told new said = refused_goes _ told new said
   steal_goes c false told new said = try_goes c said.0 told new said.2
 
-  crash_goes : (c : ℕ) (new : PlainWorld) → new ≡ record (with_agent w c fresh) { kernel = after w.kernel (rouses c) } → Goes w new
-  crash_goes c new is = subst (Goes w) (sym is) (own_call (rouses c) c fresh (λ q. refl) (λ t n e. cc) (omega arith))
+  crash_goes : (c : ℕ) (new : PlainWorld) → new ≡ record (with_agent w c (fresh (w.agents c).ranks)) { kernel = after w.kernel (rouses c) } → Goes w new
+  crash_goes c new is = subst (Goes w) (sym is) (own_call (rouses c) c (fresh (w.agents c).ranks) (λ q. refl) (λ t n e. cc) (omega arith) refl)
 
   -- on a CPU that is there, or refused
   if_there : (there : Bool) (told : Reply) (new : PlainWorld) (Holds : Type 0) → (Holds → Goes w new) → MatchBool there Holds (IsBadCpu w told new) → Goes w new
@@ -255,7 +262,7 @@ module _ (laws : KernelLaws) (limits : Limits) (w : PlainWorld) (h : IsGood limi
       (own_agent c (record (w.agents c) { known = said.set }) (λ t n e. elim (or_both (has (w.agents c).known t n) (has more t n) (said.between.at_most (t ∷ n ∷ []) e)) [
         | inl before ↦ h.known c t n before
         | inr added ↦ lies t n added
-      ]) (omega arith))
+      ]) (omega arith) refl)
 
   publish_ran_out_goes : (c : ℕ) (fails : Bool) (new : PlainWorld) → RanOutInPublish w c fails new → Goes w new
   publish_ran_out_goes c true new part = widened_goes c (pairs_in (content w.kernel c)) new (content_in_run c) part

@@ -1,5 +1,5 @@
 -- A world that events lead to is still one after a further event.
-use Rattle.std.proofs.Common.{◌≡◌, List, [], ◌∷◌, ◌++◌, Some, None, Result, Ok, Err, refl, sym, ◌∙◌, ap, subst, inl, inr}
+use Rattle.std.proofs.Common.{ℕ, ◌≡◌, List, [], ◌∷◌, ◌++◌, Some, None, Result, Ok, Err, refl, sym, ◌∙◌, ap, subst, inl, inr}
 use Rattle.pc_calls.specs.declared.call.AgentCall.TheVariants as agent_call
 use Rattle.pc_calls.specs.declared.call.Call.{Call}
 use Rattle.pc_calls.specs.declared.call.Call.TheVariants as call
@@ -15,12 +15,13 @@ use Rattle.pc_kernel.specs.Reads.{Reads, shown}
 use Rattle.pc_kernel.specs.Rows.{KernelRows}
 use Rattle.pc_kernel.specs.Steps.{after, after_of, changed, posting, refused, replay}
 use Rattle.pc_world.specs.declared.parts.Parts.{Parts}
-use Rattle.pc_world.specs.PlainWorld.{PlainWorld, opened}
+use Rattle.pc_policy.specs.Rankings.{Ranking}
+use Rattle.pc_world.specs.PlainWorld.{PlainWorld, opened_by}
 use Rattle.pc_world.specs.Reached.{Leads, LeadsTo, Reached}
 use Rattle.pc_world.specs.Shows.{IsReached, KeepsSent, ShowsWorld}
 use Rattle.pc_world.specs.Inner.Handling.{Handles, Outcome}
 use Rattle.pc_world.specs.Inner.Laws.{KernelLaws}
-use Rattle.pc_world.proofs.Reaching.{reached_good}
+use Rattle.pc_world.proofs.Reaching.{reached_good, reached_ranked}
 
 -- no call changes the limits
 env_limits : (P : PlainKernel) (made : EnvCall) → (posting P made).before.limits ≡ P.limits
@@ -63,23 +64,36 @@ leads_to : (w : PlainWorld) (event : Event) (result : Result Reply OutOfMemory) 
 leads_to w event (Ok told) new done = inl (told, done)
 leads_to w event (Err fault) new left = inr (inr left)
 
-pub reached_start : (world : Parts) (limits : Limits) → ShowsWorld world (opened limits) → IsReached world
-reached_start world limits shows =
+pub reached_start : (world : Parts) (ranks : ℕ → Ranking) (limits : Limits) → ShowsWorld world (opened_by ranks limits) → IsReached world
+reached_start world ranks limits shows =
     let same : world.kernel.limits ≡ limits = shown_limits world.kernel (start limits) shows.kernel in
-    record { plain = opened limits; reached = subst (λ l. Reached l (opened limits)) (sym same) record { events = []; leads = refl }; shows = shows }
+    record {
+      plain = opened_by ranks limits;
+      reached = record { ranks = ranks; events = []; leads = ap (opened_by ranks) (sym same) };
+      shows = shows;
+      ranks = λ c agent there. (shows.agents c agent there).ranks;
+    }
 
 pub reached_on : (laws : KernelLaws) (event : Event) (result : Result Reply OutOfMemory) (old new : Parts) → Handles event result old new → IsReached old → IsReached new
 reached_on laws event result old new handles h =
     let limits : Limits = old.kernel.limits in
+    let ranks : ℕ → Ranking = h.reached.ranks in
     let did = handles h.plain h.shows in
-    let again : Reached limits did.0 = record {
-      events = h.reached.events ++ event ∷ [];
-      leads = leads_more (opened limits) h.reached.events h.plain did.0 event h.reached.leads (leads_to h.plain event result did.0 did.1);
-    } in
+    let leads = leads_more (opened_by ranks limits) h.reached.events h.plain did.0 event h.reached.leads (leads_to h.plain event result did.0 did.1) in
+    let again : Reached limits did.0 = record { ranks = ranks; events = h.reached.events ++ event ∷ []; leads = leads } in
     let good = reached_good laws limits did.0 again in
     let same : new.kernel.limits ≡ limits =
     shown_limits new.kernel did.0.kernel did.2.kernel ∙ ap (λ (P : PlainKernel). P.limits) good.replayed ∙ replay_limits (start limits) good.calls in
-    record { plain = did.0; reached = subst (λ l. Reached l did.0) (sym same) again; shows = did.2 }
+    record {
+      plain = did.0;
+      reached = record {
+        ranks = ranks;
+        events = h.reached.events ++ event ∷ [];
+        leads = subst (λ l. Leads (opened_by ranks l) (h.reached.events ++ event ∷ []) did.0) (sym same) leads;
+      };
+      shows = did.2;
+      ranks = λ c agent there. (did.2.agents c agent there).ranks ∙ reached_ranked laws limits did.0 c again;
+    }
 
 -- what was sent stays sent
 pub keeps_sent : (event : Event) (result : Result Reply OutOfMemory) (old new : Parts) → Handles event result old new → IsReached old → KeepsSent old new

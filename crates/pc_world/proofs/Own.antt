@@ -27,7 +27,7 @@ use Rattle.pc_agent.specs.Exchanging.{Delivers}
 use Rattle.pc_agent.specs.PlainAgent.{PlainAgent, copied, fresh, taking_in}
 use Rattle.pc_agent.specs.Publishing.{IsConsumed, IsPublished, WhateverShown, sent_after}
 use Rattle.pc_agent.specs.Running.{Finds, IsPicked, IsTakenOver, Steals, TriesLeast, left_by, takes_over, take_refused}
-use Rattle.pc_agent.specs.Shows.{ShowsAgent, ShowsView, cpu_of}
+use Rattle.pc_agent.specs.Shows.{ShowsAgent, ShowsView, cpu_of, ranking_of}
 use Rattle.pc_agent.specs.Wires.{Keeps, sent_by}
 use Rattle.pc_world.specs.declared.parts.Parts.{Parts}
 use Rattle.pc_world.specs.PlainWorld.{PlainWorld, copied_all, published, with_agent}
@@ -246,12 +246,12 @@ module _ (goes : RunsGoOn) (old new : Parts) (c place : ℕ) (agent more : Agent
       )
 
   pub steal_refused : (refusal : Refusal) → WhateverShown old.kernel agent (λ P run p. Steals P run p (Err (faults.Refused refusal)) (cpu_of agent) more new.kernel) → new.kernel ≡ old.kernel → deltas_of new ≡ deltas_of old
-      → more.view ≡ agent.view → more.list ≡ agent.list → more.sent_items ≡ agent.sent_items
+      → more.view ≡ agent.view → more.list ≡ agent.list → more.sent_items ≡ agent.sent_items → ranking_of more ≡ ranking_of agent
       → Handles (event.Steal c) (Ok (replies.Refused refusal)) old new
-  steal_refused refusal says kernel sent view list count w h = by_test (is_some (on (shown w.kernel) c)) refl (said_stolen (Err (faults.Refused refusal)) says w h)
+  steal_refused refusal says kernel sent view list count ranks w h = by_test (is_some (on (shown w.kernel) c)) refl (said_stolen (Err (faults.Refused refusal)) says w h)
     where
       same_agent : ShowsAgent (kinds w.kernel) (w.agents c) more
-      same_agent = let was = h.agents c agent there in record { view = subst (λ v. ShowsView (kinds w.kernel) (w.agents c).known v) (sym view) was.view; list = list ∙ was.list; sent_items = count ∙ was.sent_items }
+      same_agent = let was = h.agents c agent there in record { view = subst (λ v. ShowsView (kinds w.kernel) (w.agents c).known v) (sym view) was.view; list = list ∙ was.list; sent_items = count ∙ was.sent_items; ranks = ranks ∙ was.ranks }
 
       rest : ShowsWorld new w × KeepsSent old new
       rest = (after_none w h kernel same_agent sent, kept_same old new sent)
@@ -276,11 +276,11 @@ module _ (goes : RunsGoOn) (old new : Parts) (c place : ℕ) (agent more : Agent
       )
 
   pub steal_ran_out : (fault : NoMemory) → WhateverShown old.kernel agent (λ P run p. Steals P run p (Err faults.OutOfMemory) (cpu_of agent) more new.kernel) → new.kernel ≡ old.kernel → deltas_of new ≡ deltas_of old
-      → more.view ≡ agent.view → more.list ≡ agent.list → more.sent_items ≡ agent.sent_items → Handles (event.Steal c) (Err fault) old new
-  steal_ran_out fault says kernel sent view list count w h = by_test (is_some (on (shown w.kernel) c)) refl (said_stolen (Err faults.OutOfMemory) says w h)
+      → more.view ≡ agent.view → more.list ≡ agent.list → more.sent_items ≡ agent.sent_items → ranking_of more ≡ ranking_of agent → Handles (event.Steal c) (Err fault) old new
+  steal_ran_out fault says kernel sent view list count ranks w h = by_test (is_some (on (shown w.kernel) c)) refl (said_stolen (Err faults.OutOfMemory) says w h)
     where
       same_agent : ShowsAgent (kinds w.kernel) (w.agents c) more
-      same_agent = let was = h.agents c agent there in record { view = subst (λ v. ShowsView (kinds w.kernel) (w.agents c).known v) (sym view) was.view; list = list ∙ was.list; sent_items = count ∙ was.sent_items }
+      same_agent = let was = h.agents c agent there in record { view = subst (λ v. ShowsView (kinds w.kernel) (w.agents c).known v) (sym view) was.view; list = list ∙ was.list; sent_items = count ∙ was.sent_items; ranks = ranks ∙ was.ranks }
 
       by_test : (b : Bool) → is_some (on (shown w.kernel) c) ≡ b → MatchBool b (◌≡◌ {A = Result ℕ faults.the_data} (Err faults.OutOfMemory) (Err (faults.Refused refusals.Busy))) (is_stolen w (Err faults.OutOfMemory))
           → (w'' : PlainWorld)
@@ -289,14 +289,15 @@ module _ (goes : RunsGoOn) (old new : Parts) (c place : ℕ) (agent more : Agent
       by_test false e said =
           (w, (plain_cpu old.kernel w.kernel c true h.kernel where_is.there, e, said.0, said.1, refl), after_none w h kernel same_agent sent, kept_same old new sent)
 
-  pub crash_done : Steps done (rouses c) (Ok tt) old.kernel new.kernel → ((run : Run) → ShowsAgent run fresh more) → deltas_of new ≡ deltas_of old → Handles (event.Crash c) (Ok replies.Done) old new
+  pub crash_done : Steps done (rouses c) (Ok tt) old.kernel new.kernel → ((run : Run) → ShowsAgent run (fresh (ranking_of agent)) more) → deltas_of new ≡ deltas_of old → Handles (event.Crash c) (Ok replies.Done) old new
   crash_done roused starts sent w h =
       let P = w.kernel in
       let did = was_done P (refused (shown P) (rouses c)) old.kernel new.kernel (changed P (rouses c)) P (roused P h.kernel) in
-      let w' : PlainWorld = record (with_agent w c fresh) { kernel = after P (rouses c) } in (
+      let w' : PlainWorld = record (with_agent w c (fresh (w.agents c).ranks)) { kernel = after P (rouses c) } in (
         w',
         on_cpu w replies.Done w' _ h (refl, refl),
-        after_call w (after P (rouses c)) fresh h did.1 (goes.calls P (rouses c)) (starts (kinds P)) sent,
+        after_call w (after P (rouses c)) (fresh (w.agents c).ranks) h did.1 (goes.calls P (rouses c))
+            (subst (λ ranks. ShowsAgent (kinds P) (fresh ranks) more) (h.agents c agent there).ranks (starts (kinds P))) sent,
         kept_same old new sent,
       )
 

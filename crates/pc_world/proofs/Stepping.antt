@@ -203,8 +203,8 @@ module _ (laws : KernelLaws) (limits : Limits) (w : PlainWorld) (h : IsGood limi
       let tried = try_step c least.0 in
       (tried.0, tried.1, (least.0, least.1, tried.2))
 
-  crash_step : (c : ℕ) → Can (λ told new. (told ≡ replies.Done) × (new ≡ record (with_agent w c fresh) { kernel = after w.kernel (rouses c) }))
-  crash_step c = (replies.Done, record (with_agent w c fresh) { kernel = after w.kernel (rouses c) }, (refl, refl))
+  crash_step : (c : ℕ) → Can (λ told new. (told ≡ replies.Done) × (new ≡ record (with_agent w c (fresh (w.agents c).ranks)) { kernel = after w.kernel (rouses c) }))
+  crash_step c = (replies.Done, record (with_agent w c (fresh (w.agents c).ranks)) { kernel = after w.kernel (rouses c) }, (refl, refl))
 
   abbrev called : Call → Reply
   called made = told_of made (kernel.reply w.kernel made)
@@ -225,4 +225,4 @@ module _ (laws : KernelLaws) (limits : Limits) (w : PlainWorld) (h : IsGood limi
   has_step (event.Steal cpu) =
       let busy = is_some (on (shown w.kernel) cpu) in on_cpu (is_cpu (shown w.kernel) cpu) (IsStolen w cpu busy) (steal_step cpu busy)
   has_step (event.Crash cpu) =
-      on_cpu (is_cpu (shown w.kernel) cpu) (λ told new. (told ≡ replies.Done) × (new ≡ record (with_agent w cpu fresh) { kernel = after w.kernel (rouses cpu) })) (crash_step cpu)
+      on_cpu (is_cpu (shown w.kernel) cpu) (λ told new. (told ≡ replies.Done) × (new ≡ record (with_agent w cpu (fresh (w.agents cpu).ranks)) { kernel = after w.kernel (rouses cpu) })) (crash_step cpu)

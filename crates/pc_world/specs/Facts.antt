@@ -1,8 +1,9 @@
 -- What holds of every world that events lead to, and of every step.
-use Rattle.std.specs.Prelude.{ℕ, ◌≤◌, ◌≡◌, ◌⊎◌, ◌↔◌, true, nat_lt, List, [], length, take, Contains}
+use Rattle.std.specs.Prelude.{ℕ, ◌≤◌, ◌≡◌, ◌⊎◌, ◌↔◌, true, nat_lt, List, [], ◌++◌, length, take, Contains}
 use Rattle.pc_messages.specs.Items.{pairs_in}
 use Rattle.pc_messages.specs.Run.{Run, IsBegun}
 use Rattle.pc_messages.specs.State.{state_of}
+use Rattle.pc_messages.specs.declared.message.Item.{Item}
 use Rattle.pc_calls.specs.declared.call.AgentCall.TheVariants.{Commit}
 use Rattle.pc_calls.specs.declared.call.Call.{Call}
 use Rattle.pc_calls.specs.declared.event.Event.{Event}
@@ -17,7 +18,9 @@ use Rattle.pc_kernel.specs.PlainKernel.{start, kinds, number, is_known, threads,
 use Rattle.pc_kernel.specs.Reads.{shown, is_cpu}
 use Rattle.pc_kernel.specs.Steps.{replay}
 use Rattle.pc_view.specs.Prefixes.{reports, upto}
-use Rattle.pc_agent.specs.PlainAgent.{Set}
+use Rattle.pc_policy.specs.Rankings.{by_levels}
+use Rattle.pc_run_queue.specs.Runs.{level_refreshed_as}
+use Rattle.pc_agent.specs.PlainAgent.{PlainAgent, Set, copied, threads_in}
 use Rattle.pc_world.specs.PlainWorld.{PlainWorld}
 use Rattle.pc_world.specs.Reached.{Reached}
 use Rattle.pc_world.specs.Steps.{Step}
@@ -139,3 +142,20 @@ abbrev pub EveryEventHasAStep : Type 0
 EveryEventHasAStep =
     (limits : Limits) (w : PlainWorld) (event : Event) → Reached limits w → (told : Reply) × (new : PlainWorld)
     × Step w event told new
+
+-- each agent ranks as it did at the start, also after crashes
+abbrev pub RankingsStay : Type 0
+RankingsStay =
+    (limits : Limits) (w : PlainWorld) (c : ℕ) (reached : Reached limits w) → (w.agents c).ranks ≡ reached.ranks c
+
+-- the agent of a CPU takes items in, and refreshes its run list with their threads, the highest level first
+abbrev pub level_copied : Run → ℕ → List Item → PlainAgent → PlainAgent
+level_copied run cpu items p =
+    let set = p.known ++ pairs_in items in
+    record p { known = set; list = level_refreshed_as (reports run set) cpu p.list (threads_in items) }
+
+-- an agent that ranks by levels copies so
+abbrev pub LevelsCopyByLevel : Type 0
+LevelsCopyByLevel =
+    (run : Run) (cpu : ℕ) (items : List Item) (p : PlainAgent) → p.ranks ≡ by_levels
+    → copied run cpu items p ≡ level_copied run cpu items p

@@ -152,11 +152,12 @@ IsStolen w c false told new = (least : Option ℕ) × Finds (stealable w c) leas
 abbrev pub IsStealing : ℕ → PlainWorld → Reply → PlainWorld → Type 0
 IsStealing c w told new = OnCpu w c told new (IsStolen w c (is_some (on (shown w.kernel) c)) told new)
 
--- the agent starts again with nothing, and is awake
+-- the agent starts again with nothing but its ranking, and is awake
 abbrev pub IsCrashing : ℕ → PlainWorld → Reply → PlainWorld → Type 0
 IsCrashing c w told new =
     OnCpu w c told new
-    ((told ≡ reply.Done) × (new ≡ record (with_agent w c fresh) { kernel = kernel.after w.kernel (rouses c) }))
+    ((told ≡ reply.Done)
+    × (new ≡ record (with_agent w c (fresh (w.agents c).ranks)) { kernel = kernel.after w.kernel (rouses c) }))
 
 -- an event that is no call of the kernel
 abbrev pub IsOwnStep : PlainWorld → Event → Reply → PlainWorld → Type 0

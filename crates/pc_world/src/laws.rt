@@ -1,10 +1,12 @@
 //! What holds after every list of events, whatever they are: with crashes anywhere, deltas that are lost, late or
 //! repeated, answers to digests of long ago, and want of memory at any event.
 
+ghost use Rattle.pc_world.specs.Callers.{WhatAStealTookIsReported, WhoHasAllIsComplete};
 ghost use Rattle.pc_world.specs.Facts.{AllIsComplete, CommitsAreExact, ConsumesTakeWhatWasSent, CountedIsThere};
 ghost use Rattle.pc_world.specs.Facts.{CountedWasSent, EveryEventHasAStep, KernelsAreReplays, KnownLiesInTheRun};
 ghost use Rattle.pc_world.specs.Facts.{MessagesStayHome, NamesAreDense, NothingIsLost, PicksAreExact, RunsAreBegun};
-ghost use Rattle.pc_world.specs.Facts.{SentLiesInTheRun, SleepersHadNoPost, StealsAreExact, ThreadsArePlaced};
+ghost use Rattle.pc_world.specs.Facts.{LevelsCopyByLevel, RankingsStay, SentLiesInTheRun, SleepersHadNoPost};
+ghost use Rattle.pc_world.specs.Facts.{StealsAreExact, ThreadsArePlaced};
 ghost use Rattle.pc_world.specs.Inner.Laws.{KernelLaws};
 
 use pc_kernel::laws::{
@@ -13,7 +15,8 @@ use pc_kernel::laws::{
     queues_lose_only_what_was_posted, reads_are_plain, runs_are_begun, sleepers_had_no_post,
     threads_are_placed,
 };
-use pc_view::upto_is_the_greatest;
+use pc_run_queue::laws::levels_come_by_level;
+use pc_view::{upto_is_the_greatest, views_tell_what_their_sets_tell};
 
 /// The laws of the kernel.
 pub(crate) fn kernel_laws()
@@ -103,4 +106,37 @@ pub fn every_event_has_a_step()
     ensures { EveryEventHasAStep }
 {
     kernel_laws();
+}
+
+/// Each agent ranks threads as it did at the start, on a CPU that is there or not: a crash keeps its ranking.
+pub fn rankings_stay()
+    ensures { RankingsStay }
+{
+    kernel_laws();
+}
+
+/// An agent that ranks by levels refreshes its run list with the threads of what it copies, the highest level first.
+pub fn agents_by_levels_copy_by_level()
+    ensures { LevelsCopyByLevel }
+{
+    levels_come_by_level();
+}
+
+/// An agent that has taken in all that waits in queues and all that was sent is complete for each thread that the
+/// kernel knows, as `complete` (`pc_view`) tells of its view.
+pub fn who_has_all_is_complete()
+    ensures { WhoHasAllIsComplete }
+{
+    nothing_is_lost();
+    reads_are_plain();
+    views_tell_what_their_sets_tell();
+}
+
+/// Of the thread that a steal takes, the thief's view reports what the kernel reports.
+pub fn what_a_steal_took_is_reported()
+    ensures { WhatAStealTookIsReported }
+{
+    steals_are_exact();
+    reads_are_plain();
+    views_tell_what_their_sets_tell();
 }

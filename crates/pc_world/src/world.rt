@@ -4,7 +4,7 @@ ghost use Rattle.std.specs.Prelude.{◌≡◌, Some, None, IfOk, OnOk, OnErr, �
 ghost use Rattle.pc_calls.specs.Limits.{bad_field};
 ghost use Rattle.pc_kernel.specs.Answers.{Shows};
 ghost use Rattle.pc_kernel.specs.PlainKernel.{kinds};
-ghost use Rattle.pc_world.specs.PlainWorld.{PlainWorld, opened};
+ghost use Rattle.pc_world.specs.PlainWorld.{PlainWorld, opened, opened_by, ranks_at};
 ghost use Rattle.pc_world.specs.Steps.{Step};
 
 use crate::agents::new_agents;
@@ -16,6 +16,7 @@ use pc_delta::Delta;
 use pc_join::OutOfMemory;
 use pc_kernel::Kernel;
 use pc_messages::{Cpu, Tid};
+use pc_policy::Order;
 use pc_view::View;
 use std::alloc::Global;
 use std::marker::Model;
@@ -57,7 +58,7 @@ impl World {
     ghost use Rattle.pc_world.specs.Shows.{RunsThrough, ShowsWorld, LeavesWhenRanOut, deltas_of};
     ghost use Rattle.pc_world.specs.Inner.Handling.{StepsInPart, StepsInto};
 
-    /// The world at the start, with limits of profile One.
+    /// The world at the start, with limits of profile One. Each agent runs the thread of the highest level first.
     pub fn new(alloc: Global, limits: Limits) -> Result<World, LimitsFault>
         ensures ok { IfOk result (λ world. ShowsWorld world (opened limits)) }
         ensures within { IfOk result (λ _. bad_field Profile.One limits ≡ None) }
@@ -68,7 +69,7 @@ impl World {
         Self::new_in(alloc, Profile::One, limits)
     }
 
-    /// The world at the start, with limits of the profile.
+    /// The world at the start, with limits of the profile. Each agent runs the thread of the highest level first.
     pub fn new_in(alloc: Global, profile: Profile, limits: Limits) -> Result<World, LimitsFault>
         ensures ok { IfOk result (λ world. ShowsWorld world (opened limits)) }
         ensures within { IfOk result (λ _. bad_field profile limits ≡ None) }
@@ -76,9 +77,26 @@ impl World {
             → bad_field profile limits ≡ Some field }
         ensures memory_last { result ≡ Err LimitsFault.OutOfMemory → bad_field profile limits ≡ None }
     {
+        Self::new_by(alloc, profile, limits, &[])
+    }
+
+    /// The world at the start, with limits of the profile, and with the policies of CPUs 0, 1, ..: an agent for whose
+    /// CPU none is given runs the thread of the highest level first, and policies of further CPUs are not looked at.
+    pub fn new_by(
+        alloc: Global,
+        profile: Profile,
+        limits: Limits,
+        policies: &[Order],
+    ) -> Result<World, LimitsFault>
+        ensures ok { IfOk result (λ world. ShowsWorld world (opened_by (ranks_at policies.now) limits)) }
+        ensures within { IfOk result (λ _. bad_field profile limits ≡ None) }
+        ensures refused { (field : LimitField) → result ≡ Err (LimitsFault.BadLimits field)
+            → bad_field profile limits ≡ Some field }
+        ensures memory_last { result ≡ Err LimitsFault.OutOfMemory → bad_field profile limits ≡ None }
+    {
         match Kernel::new_in(alloc, profile, limits) {
             Err(fault) => Err(fault),
-            Ok(kernel) => match new_agents(alloc, kernel.cpus()) {
+            Ok(kernel) => match new_agents(alloc, kernel.cpus(), policies) {
                 Err(_) => Err(LimitsFault::OutOfMemory),
                 Ok(agents) => Ok(World {
                     parts: Parts {
@@ -92,7 +110,8 @@ impl World {
         }
     }
 
-    /// A list of events leads from the start to what the world shows. It does nothing.
+    /// A list of events leads from the start to what the world shows, and each agent ranks as at the start. It does
+    /// nothing.
     pub fn is_reached(&self)
         ensures { IsReached self.now }
     {

@@ -1,12 +1,9 @@
 use Rattle.std.proofs.Common.{Err, ◌≡◌, is_some, refl, sym, subst, ap, ◌∙◌}
 use Rattle.pc_calls.specs.declared.refusal.Refusal.TheVariants.{Busy}
 use Rattle.pc_calls.specs.declared.refusal.CallFault.TheVariants.{Refused}
-use Rattle.pc_kernel.specs.Reads.{seen}
-use Rattle.pc_run_queue.specs.Names.{has_name}
-use Rattle.pc_run_queue.specs.Runs.{runs_in}
+use Rattle.pc_policy.specs.Rankings.{ranks_of}
 use Rattle.pc_agent.specs.Inner.Shortcuts.{AreTrue}
-use Rattle.pc_agent.specs.PlainAgent.{is_idle}
-use Rattle.pc_agent.proofs.Pushed.{may_run_that, pushed}
+use Rattle.pc_agent.proofs.Pushed.{pushed}
 use Rattle.pc_agent.proofs.Stolen.{for_busy, none_found, put_back, was_not_taken, was_taken}
 use Rattle.pc_agent.proofs.steal.take_least.Goals as goal
 
@@ -31,13 +28,22 @@ returns-in-Err-clause-takes c =
 pub returns-in-Ok-associate-clause-kept : goal.returns-in-Ok-associate-clause-kept
 returns-in-Ok-associate-clause-kept c =
     let thread = c.in-Some.thread in
-    let runs = runs_in c.args.view.now c.args.cpu in
-    let may = may_run_that (runs thread) (has_name c.args.list.now thread) (is_idle (seen c.args.kernel.now) thread) c.in-Some.ensures.passes in
-    pushed c.pass_over-least.new.self c.args.view.now c.args.cpu c.args.list.now thread c.pass_over-least.ensures.kept c.keep_settled_if.new.self c.in-Ok.in_order c.push_in_order.new.self
-    c.keep_settled_if.ensures c.in-Ok.ensures.ok (λ o settled. c.in-Ok.ensures.settled o c.args.cpu may settled)
+    let ranks = ranks_of c.args.policy.now in
+    pushed ranks c.pass_over-least.new.self c.args.view.now c.args.cpu c.args.list.now thread (c.pass_over-least.ensures.kept ranks c.requires) c.keep_settled_if.new.self c.in-Ok.in_order c.push_in_order.new.self
+    c.keep_settled_if.ensures c.in-Ok.ensures.ok (λ o settled. c.in-Ok.ensures.settled o settled)
 
 pub returns-in-Err-clause-kept : goal.returns-in-Err-clause-kept
-returns-in-Err-clause-kept c = subst (AreTrue c.pass_over-least.new.self c.args.view.now c.args.cpu) (sym left) c.pass_over-least.ensures.kept
+returns-in-Err-clause-kept c = subst (AreTrue (ranks_of c.args.policy.now) c.pass_over-least.new.self c.args.view.now c.args.cpu) (sym left) (c.pass_over-least.ensures.kept (ranks_of c.args.policy.now) c.requires)
   where
     left : c.take_last.new.self ≡ c.args.list.now
     left = put_back c.take_last.result c.args.list.now c.push_in_order.new.self c.take_last.new.self c.in-Some.thread c.take_last.ensures c.in-Ok.ensures.ok
+
+pub candidate-requires-clause-runnable : goal.candidate-requires-clause-runnable
+candidate-requires-clause-runnable c = (c.pass_over-least.ensures.kept (ranks_of c.args.policy.now) c.requires).runnable
+
+pub returns-in_default-clause-kept : goal.returns-in_default-clause-kept
+returns-in_default-clause-kept c = c.pass_over-least.ensures.kept (ranks_of c.args.policy.now) c.requires
+
+pub returns-in_default-push_in_order-clause-kept : goal.returns-in_default-push_in_order-clause-kept
+returns-in_default-push_in_order-clause-kept c =
+    subst (AreTrue (ranks_of c.args.policy.now) c.pass_over-least.new.self c.args.view.now c.args.cpu) (sym c.in_default-push_in_order.ensures.err) (c.pass_over-least.ensures.kept (ranks_of c.args.policy.now) c.requires)

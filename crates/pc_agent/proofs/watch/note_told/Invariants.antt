@@ -1,5 +1,6 @@
 use Rattle.std.proofs.Common.{ℕ, ◌≡◌, true, false, drop}
 use Rattle.pc_delta.specs.Parts.{tells_of}
+use Rattle.pc_policy.specs.Rankings.{ranks_of}
 use Rattle.pc_run_queue.specs.Names.{has_name}
 use Rattle.pc_agent.specs.Inner.Settled.{AreAsNoted, is_noted}
 use Rattle.pc_agent.proofs.watch.note_told.Given as goal
@@ -8,5 +9,5 @@ use Rattle.pc_agent.proofs.watch.note_told.Given as goal
 abbrev pub invariant-loop-part : goal.invariant-loop-part
 invariant-loop-part l = record {
   others : (t : ℕ) → has_name l.list t ≡ true → is_noted l.noted.items t ≡ false → tells_of l.parts t ≡ tells_of (drop l.part-index l.parts) t;
-  was : AreAsNoted l.view l.cpu l.noted.items;
+  was : AreAsNoted (ranks_of l.policy) l.view l.cpu l.noted.items;
 }

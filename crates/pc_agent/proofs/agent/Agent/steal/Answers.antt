@@ -8,13 +8,13 @@ returns c =
     let answered = c.take_least-answered.result in
     let law = c.views_tell_what_their_sets_tell.ensures in
     record {
-      steals = λ P run p shows extends h. stolen law.reported law.upto c.args.self.now c.args.kernel.now P run p shows h answered _ c.take_least-answered.new.kernel did.takes refl refl;
+      steals = λ P run p shows extends h. stolen law.reported law.upto c.args.self.now c.args.kernel.now P run p shows h answered _ c.take_least-answered.new.kernel did.takes refl refl refl;
       own = did.takes;
       exact = exactly law.reported law.upto c.args.self.now c.args.kernel.now c.accepted_associates_are_exact.ensures answered _ _ did.takes;
       kernel = steal_accepted c.args.self.now.view c.args.self.now.cpu c.args.self.now.list _ c.args.kernel.now _ answered did.takes;
       taken = steal_listed c.args.self.now.view c.args.self.now.cpu c.args.self.now.list _ c.args.kernel.now _ answered did.takes;
       list_err = did.left;
       sent = refl;
-      same = record { view = refl; cpu = refl; counts = c.count_steal.ensures };
+      same = record { view = refl; cpu = refl; ranks = refl; counts = c.count_steal.ensures };
       goes_on = did.goes_on;
     }

@@ -14,11 +14,11 @@ returns-in-Refused c =
     steal_refused c.runs_go_on.ensures c.args.self.now _ c.args.cpu c.in-Some.place c.index_mut.result.now c.steal.new.self c.in-Some.ensures c.index_mut.ensures.value refl c.in-Refused.refusal
     (subst (λ r. WhateverShown c.args.self.now.kernel c.index_mut.result.now (λ P run p. Steals P run p r (cpu_of c.index_mut.result.now) c.steal.new.self c.steal.new.kernel)) (c.in-Err.is ∙ ap Err c.in-Refused.is) c.steal.ensures.steals)
     (subst (λ r. OnErr r (c.steal.new.kernel ≡ c.args.self.now.kernel)) c.in-Err.is c.steal.ensures.goes_on.err) refl c.steal.ensures.same.view
-    (subst (λ r. OnErr r (c.steal.new.self.list ≡ c.index_mut.result.now.list)) c.in-Err.is c.steal.ensures.list_err) c.steal.ensures.sent
+    (subst (λ r. OnErr r (c.steal.new.self.list ≡ c.index_mut.result.now.list)) c.in-Err.is c.steal.ensures.list_err) c.steal.ensures.sent c.steal.ensures.same.ranks
 
 pub returns-in-OutOfMemory : goal.returns-in-OutOfMemory
 returns-in-OutOfMemory c =
     steal_ran_out c.runs_go_on.ensures c.args.self.now _ c.args.cpu c.in-Some.place c.index_mut.result.now c.steal.new.self c.in-Some.ensures c.index_mut.ensures.value refl _
     (subst (λ r. WhateverShown c.args.self.now.kernel c.index_mut.result.now (λ P run p. Steals P run p r (cpu_of c.index_mut.result.now) c.steal.new.self c.steal.new.kernel)) (c.in-Err.is ∙ ap Err c.in-OutOfMemory.is) c.steal.ensures.steals)
     (subst (λ r. OnErr r (c.steal.new.kernel ≡ c.args.self.now.kernel)) c.in-Err.is c.steal.ensures.goes_on.err) refl c.steal.ensures.same.view
-    (subst (λ r. OnErr r (c.steal.new.self.list ≡ c.index_mut.result.now.list)) c.in-Err.is c.steal.ensures.list_err) c.steal.ensures.sent
+    (subst (λ r. OnErr r (c.steal.new.self.list ≡ c.index_mut.result.now.list)) c.in-Err.is c.steal.ensures.list_err) c.steal.ensures.sent c.steal.ensures.same.ranks

@@ -1,0 +1,6 @@
+use Rattle.pc_policy.specs.Rankings.{ranks_of}
+use Rattle.pc_tests.proofs.run_queue.take_and_touch.Goals as goal
+
+pub refresh_settled-requires : goal.refresh_settled-requires
+refresh_settled-requires c =
+    c.take_first.ensures.settled (ranks_of c.args.policy.now) c.args.view.now c.args.cpu c.in_ok-refresh.ensures.settled
