@@ -18,7 +18,7 @@ use crate::faults::tell_fault;
 use crate::sentences::Sentences;
 use crate::telling::tell;
 use pc_script::{Command, Line, Observer, Outcome, Response, ScriptFault, read_text, walk};
-use pc_session::Session;
+use pc_session::{Session, let_view_go};
 use std::alloc::Global;
 use std::io::{Read, Write};
 
@@ -131,10 +131,7 @@ impl<W: Write> Observer<Session, W> for Comments {
     ) -> Result<(), ScriptFault> {
         let sentences = on_command(machine, command, response, &self.before);
         let told = write_told(line, response, &sentences, writer);
-        // A view is let go of here, or it would still stand while the next one is made.
-        if let Response::View(_) = response {
-            *response = Response::Opened;
-        }
+        let_view_go(response);
         told
     }
 

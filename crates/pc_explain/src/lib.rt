@@ -14,7 +14,6 @@
 //! ```
 #![tactic(auto)]
 
-mod advice;
 mod before;
 mod comment;
 mod explain;

@@ -6,10 +6,10 @@ mod questions;
 mod refusals;
 mod steps;
 
-use crate::advice::Deed;
 use crate::before::Before;
 use crate::sentences::Sentences;
 use crate::words::Count;
+use pc_advice::Deed;
 use pc_calls::{Event, Limits, Reply};
 use pc_script::{Command, Response};
 use pc_world::World;

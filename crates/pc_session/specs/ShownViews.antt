@@ -6,6 +6,8 @@ use Rattle.pc_messages.specs.Run.{Run}
 use Rattle.pc_messages.specs.State.{state_of}
 use Rattle.pc_join.specs.Sets.{has}
 use Rattle.pc_script.specs.declared.lists.ShownThread.{ShownThread}
+use Rattle.pc_script.specs.declared.response.Response.{Response}
+use Rattle.pc_script.specs.declared.response.Response.TheVariants.{Opened, View}
 use Rattle.pc_agent.specs.PlainAgent.{Set}
 
 -- upto is the greatest number such that the set has the thread's numbers from 1 to it, or 0
@@ -27,3 +29,8 @@ pub record IsShown (run : Run) (set : Set) (rows : List ShownThread) : Type 0 wh
   pub ascending : IsStrictlyIncreasing (map (λ row. row.thread) rows)
   pub each : All (IsShownThread run set) rows
   pub every : (t n : ℕ) → has set t n ≡ true → list_any (λ row. row.thread == t) rows ≡ true
+
+-- the response without what it tells of a view: `ok` in the place of one, and any other response as it is
+abbrev pub without_view : Response → Response
+without_view (View rows) = Opened
+without_view other = other

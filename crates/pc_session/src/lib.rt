@@ -20,3 +20,4 @@ mod show;
 
 pub use reads::answer_of;
 pub use session::Session;
+pub use show::let_view_go;

@@ -1,11 +1,12 @@
-//! What `show` tells of a view.
+//! What `show` tells of a view, and how it is let go of.
 
 ghost use Rattle.std.specs.Prelude.{◌≡◌, map as map_list, IfOk};
 ghost use Rattle.std.specs.FinMap as map;
 ghost use Rattle.pc_session.specs.Inner.Showing.{row_told, rows_told};
+ghost use Rattle.pc_session.specs.ShownViews.{without_view};
 
 use pc_messages::{Kind, Tid};
-use pc_script::{EarlyNumbers, ShownThread, ShownThreads};
+use pc_script::{EarlyNumbers, Response, ShownThread, ShownThreads};
 use pc_thread_view::ThreadView;
 use pc_view::View;
 use std::alloc::{AllocError, Global};
@@ -42,4 +43,14 @@ pub fn shown_threads(alloc: Global, view: &View) -> Result<ShownThreads, AllocEr
         rows.push(row_of(alloc, thread, known)?)?;
     }
     Ok(rows)
+}
+
+/// Lets go of what a response tells of a view, where it does, or it would still stand while the next one is made. An
+/// observer of a walk calls this once it has told the response. Any other response stays as it is.
+pub fn let_view_go(response: &mut Response)
+    ensures { response.new ≡ without_view response.old }
+{
+    if let Response::View(_) = response {
+        *response = Response::Opened;
+    }
 }

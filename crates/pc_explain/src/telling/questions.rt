@@ -1,9 +1,9 @@
 //! The sentences on questions.
 
-use crate::advice::Deed;
 use crate::sentences::Sentences;
 use crate::telling::refusals;
 use crate::words::Count;
+use pc_advice::Deed;
 use pc_calls::Status;
 use pc_messages::{Cpu, Phase, Tid};
 use pc_script::{Read, Response, ShownThread, ShownThreads};

@@ -1,10 +1,10 @@
 //! The sentences on refusals.
 
-use crate::advice::{Ahead, Deed, Plan};
 use crate::reasons::{Closed, reason};
 use crate::sentences::Sentences;
 use crate::telling::steps::advised;
 use crate::words::Count;
+use pc_advice::{Deed, tried_by_steal};
 use pc_calls::{LimitField, Refusal};
 use pc_messages::{Cpu, Tid};
 use pc_world::World;
@@ -75,7 +75,7 @@ fn tried(text: &mut Sentences, deed: &Deed, refusal: &Refusal, world: &World) ->
     ) else {
         return Ok(());
     };
-    match Ahead::new(world, &Plan::new()).tried(*cpu) {
+    match tried_by_steal(world, *cpu) {
         Some(thread) => tried_thread(text, *cpu, thread, world),
         None => Ok(()),
     }

@@ -1,7 +1,7 @@
 //! The sentence on what would make a refused line accepted: its steps, as a script spells them.
 
-use crate::advice::{Advice, Deed, Plan, Step, advise};
 use crate::sentences::Sentences;
+use pc_advice::{Advice, Deed, Plan, Step, advise};
 use pc_calls::EnvCall;
 use pc_script::Read;
 use pc_world::World;
@@ -25,18 +25,23 @@ fn steps(text: &mut Sentences, plan: &Plan) -> fmt::Result {
         "Accepted: "
     };
     for step in plan.steps() {
-        write!(text, "{before}{step}")?;
+        let spelled = Spelled(*step);
+        write!(text, "{before}{spelled}")?;
         before = ", then ";
     }
     writeln!(text, ".")
 }
 
-impl fmt::Display for Step {
+/// A step as a script spells it, and how often it stands there.
+#[derive(Clone, Copy)]
+struct Spelled(Step);
+
+impl fmt::Display for Spelled {
     fn fmt<W: fmt::Write>(&self, f: &mut fmt::Formatter<W>) -> fmt::Result {
         write!(f, "`")?;
-        write_deed(f, &self.deed, self.number)?;
+        write_deed(f, &self.0.deed, self.0.number)?;
         write!(f, "`")?;
-        let times = self.times;
+        let times = self.0.times;
         if times == 1 {
             Ok(())
         } else {

@@ -1,31 +1,50 @@
 //! What a line of a script asks for.
 
+ghost use Rattle.std.specs.Prelude.{◌≡◌};
+ghost use Rattle.pc_advice.specs.Advices.{IsAskedBy, is_environments};
+
 use pc_calls::{AgentCall, EnvCall, Event};
 use pc_messages::{Cpu, Tid};
 use pc_script::Read;
 
 /// What a line asks for, but for the number by which an agent shows what it knows: it is always the one of now.
 #[derive(Clone, Copy)]
-pub(crate) enum Deed {
+pub enum Deed {
+    /// A call of the environment.
     Env(EnvCall),
+    /// An agent gives a thread this queue as its home.
     Associate { thread: Tid, queue: Cpu },
+    /// The CPU's agent puts a thread on it.
     Commit { cpu: Cpu, thread: Tid },
+    /// The CPU's agent goes to sleep.
     Sleep { cpu: Cpu },
+    /// The CPU's agent is roused.
     Rouse { cpu: Cpu },
+    /// Posts to a queue wake this CPU's agent from now on, or none.
     Config { queue: Cpu, target: Option<Cpu> },
+    /// The CPU's agent sends what is in its queue, or fails at it.
     Publish { cpu: Cpu, fails: bool },
+    /// The CPU's agent removes what it has sent.
     Consume { cpu: Cpu },
+    /// The CPU's agent takes in a delta, which are counted from 0.
     Deliver { cpu: Cpu, delta: u64 },
+    /// The CPU's agent sends what the asker does not know.
     Answer { cpu: Cpu, asker: Cpu },
+    /// The CPU's agent puts a thread of its run list on it.
     Pick { cpu: Cpu },
+    /// The CPU's agent gives a thread of another queue this one as its home.
     Steal { cpu: Cpu },
+    /// The CPU's agent crashes, and starts again with nothing.
     Crash { cpu: Cpu },
+    /// A question.
     Ask(Read),
 }
 
 impl Deed {
-    /// What the event is.
-    pub(crate) fn of(event: &Event) -> Deed {
+    /// What a line asks for whose event this is. It takes no memory.
+    pub fn of(event: &Event) -> Deed
+        ensures { IsAskedBy event.now result }
+    {
         match *event {
             Event::Env(call) => Deed::Env(call),
             Event::Agent(call) => Deed::of_call(&call),
@@ -40,7 +59,9 @@ impl Deed {
     }
 
     /// What an agent's call on the kernel is.
-    fn of_call(call: &AgentCall) -> Deed {
+    fn of_call(call: &AgentCall) -> Deed
+        ensures { IsAskedBy (Event.Agent call.now) result }
+    {
         match *call {
             AgentCall::Associate { thread, queue, .. } => Deed::Associate { thread, queue },
             AgentCall::Commit { cpu, thread, .. } => Deed::Commit { cpu, thread },
@@ -51,7 +72,9 @@ impl Deed {
     }
 
     /// Whether it is the environment's.
-    pub(crate) fn is_environments(&self) -> bool {
+    pub(crate) fn is_environments(&self) -> bool
+        ensures { result ≡ is_environments self.now }
+    {
         matches!(self, Deed::Env(_))
     }
 }

@@ -1,10 +1,10 @@
 //! What agents will know once some steps are done, and which threads their run lists will have.
 
-use crate::advice::ahead::{Ahead, Queued, bit_of};
-use crate::advice::choices::MOST_THREADS;
-use crate::advice::deed::Deed;
-use crate::advice::lacks::{Lack, publish};
-use crate::advice::plan::Plan;
+use crate::ahead::{Ahead, Queued, bit_of};
+use crate::choices::MOST_THREADS;
+use crate::deed::Deed;
+use crate::lacks::{Lack, publish};
+use crate::plan::Plan;
 use pc_calls::EnvCall;
 use pc_delta::{Delta, Part};
 use pc_messages::{Cpu, Item, Kind, Phase, Tid};
@@ -14,8 +14,8 @@ const MOST_LOOKED: usize = 256;
 
 /// What the first messages of a thread report, up to which an agent knows all.
 #[derive(Clone, Copy)]
-pub(super) struct Known {
-    pub(super) upto: u32,
+pub(crate) struct Known {
+    pub(crate) upto: u32,
     phase: Option<Phase>,
     /// The bits of the mask.
     mask: u64,
@@ -107,7 +107,7 @@ fn place_of(items: &[Item], thread: Tid, number: u32, from: usize) -> Option<usi
 
 impl Ahead<'_> {
     /// Whether there is so little of everything that all may be looked through.
-    pub(super) fn is_small(&self) -> bool {
+    pub(crate) fn is_small(&self) -> bool {
         let kernel = self.world.kernel();
         let sent = self.world.sent();
         self.threads() <= MOST_THREADS
@@ -124,7 +124,7 @@ impl Ahead<'_> {
     }
 
     /// How many deltas are sent.
-    pub(super) fn deltas(&self) -> u64 {
+    pub(crate) fn deltas(&self) -> u64 {
         let mut count = self.world.sent().len() as u64;
         for step in self.plan.steps() {
             if let Deed::Publish { .. } | Deed::Answer { .. } = step.deed {
@@ -244,7 +244,7 @@ impl Ahead<'_> {
     }
 
     /// What the agent knows of the thread before some step.
-    pub(super) fn known(&self, cpu: Cpu, thread: Tid, before: usize) -> Known {
+    pub(crate) fn known(&self, cpu: Cpu, thread: Tid, before: usize) -> Known {
         let mut known = self.known_at_first(cpu, thread);
         let last = self.last_number(thread);
         for number in known.upto.saturating_add(1)..=last {
@@ -277,7 +277,7 @@ impl Ahead<'_> {
     }
 
     /// Whether the thread is in the run list of the CPU's agent.
-    pub(super) fn is_listed(&self, cpu: Cpu, thread: Tid) -> bool {
+    pub(crate) fn is_listed(&self, cpu: Cpu, thread: Tid) -> bool {
         let mut listed = match self.world.agent(cpu) {
             Some(agent) => has(agent.run_list(), thread),
             None => false,
@@ -303,7 +303,7 @@ impl Ahead<'_> {
     }
 
     /// The thread that a steal of the CPU's agent tries.
-    pub(super) fn candidate(&self, cpu: Cpu) -> Option<Tid> {
+    pub(crate) fn candidate(&self, cpu: Cpu) -> Option<Tid> {
         for index in 0..self.threads().min(MOST_TRIED) {
             let thread = Tid(index);
             if let Some(standing) = self.standing(thread)
@@ -327,7 +327,7 @@ impl Ahead<'_> {
     }
 
     /// By which deed the agent learns a message that it does not know, or what leads there.
-    pub(super) fn lack_of_message_at(&self, cpu: Cpu, thread: Tid, number: u32) -> Lack {
+    pub(crate) fn lack_of_message_at(&self, cpu: Cpu, thread: Tid, number: u32) -> Lack {
         let Some(standing) = self.standing(thread) else {
             return Lack::Unsought;
         };

@@ -1,9 +1,9 @@
 //! What agents lack for what they ask of the kernel, for a pick and for a steal.
 
-use crate::advice::ahead::{Ahead, Queued, Standing, bit_of};
-use crate::advice::deed::Deed;
-use crate::advice::lacks::{Goal, Lack, preempt, publish};
-use crate::advice::plan::Plan;
+use crate::ahead::{Ahead, Queued, Standing, bit_of};
+use crate::deed::Deed;
+use crate::lacks::{Goal, Lack, preempt, publish};
+use crate::plan::Plan;
 use pc_calls::EnvCall;
 use pc_messages::{Cpu, Phase, Tid};
 use pc_world::World;
@@ -18,7 +18,7 @@ const MOST_TRIED_NAMES: usize = 64;
 
 impl Ahead<'_> {
     /// An associate lacks nothing where the thread is alive, runs nowhere, and has no message in its queue.
-    pub(super) fn lack_of_associate(&self, thread: Tid, queue: Cpu) -> Lack {
+    pub(crate) fn lack_of_associate(&self, thread: Tid, queue: Cpu) -> Lack {
         if !self.is_cpu(queue) {
             return Lack::Never;
         }
@@ -39,7 +39,7 @@ impl Ahead<'_> {
 
     /// A commit lacks nothing where the thread is ready, runs nowhere, may run here and has its home here, and the CPU
     /// is idle. The environment's deeds come first, since a home that has no post left would have to be left for them.
-    pub(super) fn lack_of_commit(&self, cpu: Cpu, thread: Tid) -> Lack {
+    pub(crate) fn lack_of_commit(&self, cpu: Cpu, thread: Tid) -> Lack {
         if !self.is_cpu(cpu) {
             return Lack::Never;
         }
@@ -79,7 +79,7 @@ impl Ahead<'_> {
     }
 
     /// A pick lacks nothing where the CPU is idle and its run list has a thread that waits and has its home here.
-    pub(super) fn lack_of_pick(&self, cpu: Cpu) -> Lack {
+    pub(crate) fn lack_of_pick(&self, cpu: Cpu) -> Lack {
         if !self.is_cpu(cpu) {
             return Lack::Never;
         }
@@ -192,7 +192,7 @@ impl Ahead<'_> {
 
     /// A steal lacks nothing where the CPU is idle and the agent knows all messages of the thread that it would try,
     /// of which none stands in a queue.
-    pub(super) fn lack_of_steal(&self, cpu: Cpu) -> Lack {
+    pub(crate) fn lack_of_steal(&self, cpu: Cpu) -> Lack {
         if !self.is_cpu(cpu) {
             return Lack::Never;
         }

@@ -1,14 +1,14 @@
 //! What the environment's calls lack to be accepted.
 
-use crate::advice::ahead::{Ahead, bit_of};
-use crate::advice::deed::Deed;
-use crate::advice::lacks::{Goal, Lack, preempt};
+use crate::ahead::{Ahead, bit_of};
+use crate::deed::Deed;
+use crate::lacks::{Goal, Lack, preempt};
 use pc_calls::EnvCall;
 use pc_messages::{Cpu, Level, Mask, Phase, Tid};
 
 impl Ahead<'_> {
     /// What a call lacks that is made so often.
-    pub(super) fn lack_of_call(&self, call: &EnvCall, times: u64) -> Lack {
+    pub(crate) fn lack_of_call(&self, call: &EnvCall, times: u64) -> Lack {
         match *call {
             EnvCall::Create { queue, mask, .. } => self.lack_of_create(queue, mask, times),
             EnvCall::Wake { thread } => self.lack_of_wake(thread),

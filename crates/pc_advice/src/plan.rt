@@ -2,22 +2,24 @@
 
 ghost use Rattle.std.specs.Prelude.{◌≤◌};
 
-use crate::advice::deed::Deed;
+use crate::deed::Deed;
 use pc_messages::{Cpu, Tid};
 
 /// One step.
 #[derive(Clone, Copy)]
-pub(crate) struct Step {
-    pub(crate) deed: Deed,
-    /// How often it is done.
-    pub(crate) times: u64,
+pub struct Step {
+    /// What is done.
+    pub deed: Deed,
+    /// How often it is done, one after another.
+    pub times: u64,
     /// The thread whose message it posts, whose home it changes, or that it puts on a CPU. Of several that are created
     /// the first.
     pub(crate) thread: Option<Tid>,
     /// The queue to which it posts.
     pub(crate) queue: Option<Cpu>,
-    /// The number of the message that it posts, or else the number by which it shows what its agent knows.
-    pub(crate) number: u32,
+    /// The number of the message that it posts, or else the number by which it shows what its agent knows: of the
+    /// thread's messages for an associate, of posts to the queue for a commit, a sleep and a pick; 0 where it has none.
+    pub number: u32,
 }
 
 impl Step {
@@ -67,18 +69,23 @@ impl Step {
 
 /// Steps, in their order.
 #[derive(Clone, Copy)]
-pub(crate) struct Plan {
+pub struct Plan {
     steps: [Step; Plan::MOST],
     count: usize,
     ghost within: { count ≤ 24 },
 }
 
 impl Plan {
+    ghost use Rattle.std.specs.Prelude.{◌≡◌, ◌+◌, ◌<◌, ◌↔◌, [], ◌∷◌, ◌++◌, IsTrue, length, take};
+    ghost use Rattle.pc_advice.specs.Advices.{NeedsEnvironment, steps_of};
+
     /// The most steps.
-    pub(crate) const MOST: usize = 24;
+    pub const MOST: usize = 24;
 
     /// No step.
-    pub(crate) fn new() -> Plan {
+    pub(crate) fn new() -> Plan
+        ensures { result.count ≡ 0 }
+    {
         let none = Step {
             deed: Deed::Rouse { cpu: Cpu(0) },
             times: 0,
@@ -92,8 +99,18 @@ impl Plan {
         }
     }
 
+    /// Whether there is no room for a further step.
+    pub(crate) fn is_full(&self) -> bool
+        ensures { IsTrue result ↔ (24 ≤ self.now.count) }
+    {
+        self.count >= Plan::MOST
+    }
+
     /// Adds a step at the end, where there is room.
-    pub(crate) fn push(&mut self, step: Step) {
+    pub(crate) fn push(&mut self, step: Step)
+        ensures count { self.old.count < 24 → self.new.count ≡ self.old.count + 1 }
+        ensures steps { self.old.count < 24 → steps_of self.new ≡ steps_of self.old ++ step ∷ [] }
+    {
         if self.count < Plan::MOST {
             self.steps[self.count] = step;
             self.count += 1;
@@ -101,25 +118,36 @@ impl Plan {
     }
 
     /// The same with a further step, where there is room.
-    pub(crate) fn with(&self, step: Step) -> Plan {
+    pub(crate) fn with(&self, step: Step) -> Plan
+        ensures count { self.now.count < 24 → result.count ≡ self.now.count + 1 }
+        ensures steps { self.now.count < 24 → steps_of result ≡ steps_of self.now ++ step ∷ [] }
+    {
         let mut plan = *self;
         plan.push(step);
         plan
     }
 
-    /// All steps.
-    pub(crate) fn steps(&self) -> &[Step] {
+    /// All steps, in their order, of which there are at most [`Plan::MOST`]. It takes no memory.
+    pub fn steps(&self) -> &[Step]
+        ensures steps { result.now ≡ steps_of self.now }
+        ensures few { length result.now ≤ 24 }
+    {
         &self.steps[..self.count]
     }
 
     /// The steps before a place.
-    pub(crate) fn before(&self, place: usize) -> &[Step] {
+    pub(crate) fn before(&self, place: usize) -> &[Step]
+        ensures { result.now ≡ take place (steps_of self.now) }
+    {
         &self.steps[..place.min(self.count)]
     }
 
-    /// Whether the environment has to do one of the steps before the last.
-    pub(crate) fn needs_environment(&self) -> bool {
-        self.before(self.count.saturating_sub(1))
+    /// Whether the environment has to do one of the steps before the last. It takes no memory.
+    pub fn needs_environment(&self) -> bool
+        ensures { IsTrue result ↔ NeedsEnvironment (steps_of self.now) }
+    {
+        let last = self.steps().len().saturating_sub(1);
+        self.before(last)
             .iter()
             .any(|step| step.deed.is_environments())
     }

@@ -1,7 +1,9 @@
 //! What a deed lacks to be accepted, and what both the environment's calls and agents may lack.
 
-use crate::advice::ahead::{Ahead, Queued, bit_of};
-use crate::advice::deed::Deed;
+ghost use Rattle.std.specs.Prelude.{◌≡◌};
+
+use crate::ahead::{Ahead, Queued, bit_of};
+use crate::deed::Deed;
 use pc_calls::EnvCall;
 use pc_messages::{Cpu, Tid};
 use pc_script::Read;
@@ -15,7 +17,9 @@ pub(crate) struct Goal {
 
 impl Goal {
     /// A deed that is done once.
-    pub(crate) fn once(deed: Deed) -> Goal {
+    pub(crate) fn once(deed: Deed) -> Goal
+        ensures { (result.deed ≡ deed) × (result.times ≡ 1) }
+    {
         Goal { deed, times: 1 }
     }
 }
@@ -38,12 +42,12 @@ pub(crate) enum Lack {
 
 impl Lack {
     /// This deed has to come first.
-    pub(super) fn needs(deed: Deed) -> Lack {
+    pub(crate) fn needs(deed: Deed) -> Lack {
         Lack::Needs(Goal::once(deed))
     }
 
     /// This deed has to come first, or another one of the environment.
-    pub(super) fn chooses(deed: Deed) -> Lack {
+    pub(crate) fn chooses(deed: Deed) -> Lack {
         Lack::Chooses(Goal::once(deed))
     }
 
@@ -58,12 +62,12 @@ impl Lack {
 }
 
 /// The CPU's agent publishes.
-pub(super) fn publish(cpu: Cpu) -> Deed {
+pub(crate) fn publish(cpu: Cpu) -> Deed {
     Deed::Publish { cpu, fails: false }
 }
 
 /// The thread on the CPU is taken off it.
-pub(super) fn preempt(cpu: Cpu) -> Deed {
+pub(crate) fn preempt(cpu: Cpu) -> Deed {
     Deed::Env(EnvCall::Preempt { cpu, ran: 0 })
 }
 
@@ -135,13 +139,13 @@ impl Ahead<'_> {
     }
 
     /// How many posts a queue may still have.
-    pub(super) fn posts_left(&self, queue: Cpu) -> u64 {
+    pub(crate) fn posts_left(&self, queue: Cpu) -> u64 {
         let limit = self.world.kernel().limits().posts;
         u64::from(limit.saturating_sub(self.held(queue).posts))
     }
 
     /// What a queue lacks for so many posts.
-    pub(super) fn lack_of_posts(&self, queue: Cpu, posts: u64) -> Lack {
+    pub(crate) fn lack_of_posts(&self, queue: Cpu, posts: u64) -> Lack {
         if self.posts_left(queue) < posts {
             return Lack::Never;
         }
@@ -154,7 +158,7 @@ impl Ahead<'_> {
     }
 
     /// The first queue that may have so many posts at a time; the given one comes first.
-    pub(super) fn queue_for(&self, first: Cpu, posts: u64) -> Option<Cpu> {
+    pub(crate) fn queue_for(&self, first: Cpu, posts: u64) -> Option<Cpu> {
         if self.is_cpu(first) && posts <= self.posts_left(first) {
             return Some(first);
         }
@@ -167,7 +171,7 @@ impl Ahead<'_> {
     }
 
     /// What removes the thread's last message from its home queue; none where it does not stand there.
-    pub(super) fn removal(&self, thread: Tid, home: Cpu) -> Option<Deed> {
+    pub(crate) fn removal(&self, thread: Tid, home: Cpu) -> Option<Deed> {
         match self.last_message(thread) {
             Queued::Gone => None,
             Queued::Sent => Some(emptying(home, true)),
@@ -177,7 +181,7 @@ impl Ahead<'_> {
 
     /// What there is to do where no thread has the name: creating threads up to it, by which the last one waits for the
     /// CPU, or is blocked.
-    pub(super) fn lack_of_name(&self, thread: Tid, ready: bool, cpu: Cpu) -> Lack {
+    pub(crate) fn lack_of_name(&self, thread: Tid, ready: bool, cpu: Cpu) -> Lack {
         let limits = self.world.kernel().limits();
         let Some(missing) = thread.index().checked_sub(self.threads()) else {
             return Lack::Nothing;
@@ -200,7 +204,7 @@ impl Ahead<'_> {
 }
 
 /// A new thread, which may run on this CPU alone.
-pub(super) fn created(queue: Cpu, ready: bool, cpu: Cpu) -> Deed {
+pub(crate) fn created(queue: Cpu, ready: bool, cpu: Cpu) -> Deed {
     Deed::Env(EnvCall::Create {
         queue,
         ready,

@@ -1,8 +1,10 @@
 //! A world as it will be once some steps are done: threads, CPUs and queues.
 
-use crate::advice::deed::Deed;
-use crate::advice::lacks::Goal;
-use crate::advice::plan::{Plan, Step};
+ghost use Rattle.std.specs.Prelude.{◌≡◌};
+
+use crate::deed::Deed;
+use crate::lacks::Goal;
+use crate::plan::{Plan, Step};
 use pc_agent::Agent;
 use pc_calls::EnvCall;
 use pc_messages::{Cpu, Item, Phase, Tid};
@@ -14,36 +16,36 @@ const MOST_ITEMS: usize = 256;
 /// A world, and steps that will be done.
 #[derive(Clone, Copy)]
 pub(crate) struct Ahead<'a> {
-    pub(super) world: &'a World,
-    pub(super) plan: &'a Plan,
+    pub(crate) world: &'a World,
+    pub(crate) plan: &'a Plan,
 }
 
 /// How a thread stands.
 #[derive(Clone, Copy)]
-pub(super) struct Standing {
+pub(crate) struct Standing {
     /// The number of its last message.
-    pub(super) number: u32,
-    pub(super) phase: Phase,
+    pub(crate) number: u32,
+    pub(crate) phase: Phase,
     /// The bits of its mask.
-    pub(super) mask: u64,
-    pub(super) home: Cpu,
+    pub(crate) mask: u64,
+    pub(crate) home: Cpu,
     /// The CPU on which it runs.
-    pub(super) on: Option<Cpu>,
+    pub(crate) on: Option<Cpu>,
 }
 
 impl Standing {
     /// Whether it may run on the CPU.
-    pub(super) fn may_run_on(&self, cpu: Cpu) -> bool {
+    pub(crate) fn may_run_on(&self, cpu: Cpu) -> bool {
         self.mask & bit_of(cpu) != 0
     }
 
     /// Whether its home is the CPU's queue.
-    pub(super) fn is_home(&self, cpu: Cpu) -> bool {
+    pub(crate) fn is_home(&self, cpu: Cpu) -> bool {
         self.home.index() == cpu.index()
     }
 
     /// Whether it waits for a CPU, and may run on this one.
-    pub(super) fn is_runnable(&self, cpu: Cpu) -> bool {
+    pub(crate) fn is_runnable(&self, cpu: Cpu) -> bool {
         self.phase == Phase::Ready && self.on.is_none() && self.may_run_on(cpu)
     }
 
@@ -81,13 +83,13 @@ impl Standing {
 
 /// What a queue holds.
 #[derive(Clone, Copy)]
-pub(super) struct Held {
+pub(crate) struct Held {
     /// How many posts it had.
-    pub(super) posts: u32,
+    pub(crate) posts: u32,
     /// How many items it holds.
-    pub(super) items: u64,
+    pub(crate) items: u64,
     /// How many of the first its agent has sent.
-    pub(super) sent: u64,
+    pub(crate) sent: u64,
 }
 
 impl Held {
@@ -109,7 +111,7 @@ impl Held {
 
 /// Whether a message stands in a queue.
 #[derive(Clone, Copy, PartialEq, Eq)]
-pub(super) enum Queued {
+pub(crate) enum Queued {
     /// It does not.
     Gone,
     /// It does, and the queue's agent has sent it: a consume removes it.
@@ -120,7 +122,7 @@ pub(super) enum Queued {
 
 impl Queued {
     /// Does a step with the queue in which it may stand.
-    pub(super) fn take(&mut self, step: &Step, queue: Cpu) {
+    pub(crate) fn take(&mut self, step: &Step, queue: Cpu) {
         match self {
             Queued::Unsent if step.is_publish(queue) => *self = Queued::Sent,
             Queued::Sent if step.is_consume(queue) => *self = Queued::Gone,
@@ -130,7 +132,7 @@ impl Queued {
 }
 
 /// The CPU's bit in a mask.
-pub(super) fn bit_of(cpu: Cpu) -> u64 {
+pub(crate) fn bit_of(cpu: Cpu) -> u64 {
     1u64.checked_shl(u32::from(cpu.index())).unwrap_or(0)
 }
 
@@ -155,7 +157,9 @@ impl<'a> Ahead<'a> {
     }
 
     /// The step that a deed is now.
-    pub(crate) fn step_of(&self, goal: &Goal) -> Step {
+    pub(crate) fn step_of(&self, goal: &Goal) -> Step
+        ensures { (result.deed ≡ goal.now.deed) × (result.times ≡ goal.now.times) }
+    {
         let thread = self.thread_of(&goal.deed);
         let queue = self.queue_of(&goal.deed, &thread);
         let number = self.number_in(&goal.deed, &thread);
@@ -233,7 +237,7 @@ impl<'a> Ahead<'a> {
     }
 
     /// The number of the thread's last message; 0 of a thread that is not there.
-    pub(super) fn last_number(&self, thread: Tid) -> u32 {
+    pub(crate) fn last_number(&self, thread: Tid) -> u32 {
         match self.standing(thread) {
             Some(standing) => standing.number,
             None => 0,
@@ -241,12 +245,12 @@ impl<'a> Ahead<'a> {
     }
 
     /// Whether the CPU is there.
-    pub(super) fn is_cpu(&self, cpu: Cpu) -> bool {
+    pub(crate) fn is_cpu(&self, cpu: Cpu) -> bool {
         cpu.index() < self.world.kernel().cpus()
     }
 
     /// How many threads there are.
-    pub(super) fn threads(&self) -> u32 {
+    pub(crate) fn threads(&self) -> u32 {
         let mut count = self.world.kernel().threads();
         for step in self.plan.steps() {
             if let Deed::Env(EnvCall::Create { .. }) = step.deed {
@@ -257,7 +261,7 @@ impl<'a> Ahead<'a> {
     }
 
     /// How the thread stands; none of a thread that is not there.
-    pub(super) fn standing(&self, thread: Tid) -> Option<Standing> {
+    pub(crate) fn standing(&self, thread: Tid) -> Option<Standing> {
         let mut standing = self.standing_at_first(thread)?;
         for step in self.plan.steps() {
             if step.is_of(thread) {
@@ -304,7 +308,7 @@ impl<'a> Ahead<'a> {
     }
 
     /// The thread that runs on the CPU.
-    pub(super) fn running(&self, cpu: Cpu) -> Option<Tid> {
+    pub(crate) fn running(&self, cpu: Cpu) -> Option<Tid> {
         let mut running = self.world.kernel().running(cpu);
         for step in self.plan.steps() {
             match step.deed {
@@ -324,7 +328,7 @@ impl<'a> Ahead<'a> {
     }
 
     /// What the queue holds.
-    pub(super) fn held(&self, queue: Cpu) -> Held {
+    pub(crate) fn held(&self, queue: Cpu) -> Held {
         let kernel = self.world.kernel();
         let items = match kernel.queued(queue) {
             Some((front, back)) => (front.len() as u64).saturating_add(back.len() as u64),
@@ -346,7 +350,7 @@ impl<'a> Ahead<'a> {
     }
 
     /// The home of the thread before some step, and whether its last message stands there.
-    pub(super) fn place_at(&self, thread: Tid, before: usize) -> Option<(Cpu, Queued)> {
+    pub(crate) fn place_at(&self, thread: Tid, before: usize) -> Option<(Cpu, Queued)> {
         let mut home = self.standing_at_first(thread)?.home;
         let mut queued = self.queued_at_first(thread, home);
         for step in self.plan.before(before) {
@@ -365,7 +369,7 @@ impl<'a> Ahead<'a> {
     }
 
     /// Whether the thread's last message stands in its home queue now.
-    pub(super) fn last_message(&self, thread: Tid) -> Queued {
+    pub(crate) fn last_message(&self, thread: Tid) -> Queued {
         match self.place_at(thread, Plan::MOST) {
             Some((_, queued)) => queued,
             None => Queued::Gone,
@@ -388,7 +392,7 @@ impl<'a> Ahead<'a> {
     }
 
     /// Whether an item that stood at a place of the queue before all steps was sent.
-    pub(super) fn queued_at(&self, queue: Cpu, place: Option<usize>) -> Queued {
+    pub(crate) fn queued_at(&self, queue: Cpu, place: Option<usize>) -> Queued {
         match (place, self.world.agent(queue)) {
             (None, _) => Queued::Gone,
             (Some(place), Some(agent)) if is_sent(agent, place) => Queued::Sent,

@@ -1,18 +1,18 @@
 //! Which thread and which CPU an advice names, where several would do.
 
-use crate::advice::ahead::{Ahead, Queued, Standing, bit_of};
-use crate::advice::deed::Deed;
-use crate::advice::lacks::{Lack, created, preempt};
+use crate::ahead::{Ahead, Queued, Standing, bit_of};
+use crate::deed::Deed;
+use crate::lacks::{Lack, created, preempt};
 use pc_calls::EnvCall;
 use pc_messages::{Cpu, Phase, Tid};
 
 /// The most threads among which a choice is made.
-pub(super) const MOST_THREADS: u32 = 64;
+pub(crate) const MOST_THREADS: u32 = 64;
 
 impl Ahead<'_> {
     /// The CPU on which a thread that waits may run and then be blocked: it has a post left for that. An idle one comes
     /// first, and of these its home.
-    pub(super) fn cpu_to_block_on(&self, standing: &Standing) -> Option<Cpu> {
+    pub(crate) fn cpu_to_block_on(&self, standing: &Standing) -> Option<Cpu> {
         let mut best = None;
         let mut most = 0u8;
         for index in 0..self.world.kernel().cpus() {
@@ -35,7 +35,7 @@ impl Ahead<'_> {
     }
 
     /// What an idle CPU lacks for a thread to leave it: a thread that runs there and may have a further message.
-    pub(super) fn lack_of_runner(&self, cpu: Cpu) -> Lack {
+    pub(crate) fn lack_of_runner(&self, cpu: Cpu) -> Lack {
         // Who runs here has its home here, and leaves by a post to it.
         if self.posts_left(cpu) == 0 {
             return Lack::Never;
@@ -72,7 +72,7 @@ impl Ahead<'_> {
     }
 
     /// How many deeds give a thread its home at the CPU's queue.
-    pub(super) fn moves(&self, thread: Tid, standing: &Standing, cpu: Cpu) -> u8 {
+    pub(crate) fn moves(&self, thread: Tid, standing: &Standing, cpu: Cpu) -> u8 {
         if standing.is_home(cpu) {
             return 0;
         }
@@ -85,7 +85,7 @@ impl Ahead<'_> {
 
     /// What there is to do where no thread waits that may run on a CPU, and the environment has to act. It is to be
     /// one whose home may be the CPU's queue, or not. So many posts follow the last one.
-    pub(super) fn lack_of_runnable(&self, cpu: Cpu, at_home: bool, posts: u64) -> Lack {
+    pub(crate) fn lack_of_runnable(&self, cpu: Cpu, at_home: bool, posts: u64) -> Lack {
         if self.threads() < self.world.kernel().limits().threads {
             let queue = if at_home {
                 self.queue_for(cpu, posts)
