@@ -41,6 +41,9 @@ LEFT = 72
 DRAWN, MENDED = 300, 3
 LINES = r"lines? (\d+)(?: to (\d+))?"
 WAITING = r"(\d+) ready threads? waits?"
+# What spells no numbers, and what does.
+NO_NUMBERS = ["", " ", "a", "-", "3-", "-3", "7-3", "+1", "1-+2", "01", "1-02", "1-2-3", "1--2", "1,2", " 1", "1 ", "0x1", "1.5", "4294967296", "1-4294967296"]
+NUMBERS = ["0", "3", "3-3", "0-63", "9-10", "4294967295", "0-4294967295"]
 # What the titles of bars say. What is shown at a CPU is one of these: who runs, how many threads wait there, how many items its queue
 # holds, whether its agent sleeps, and, while it idles, how many threads wait anywhere.
 ROWS = {
@@ -245,6 +248,33 @@ class Watched:
 
 
 @dataclass(frozen=True)
+class Part:
+    """A part of a picture: the CPUs, and the lines, from the first to the last."""
+
+    cpus: tuple[int, int] | None = None
+    lines: tuple[int, int] | None = None
+
+    def flags(self) -> list[str]:
+        return [word for flag, it in (("--cpus", self.cpus), ("--lines", self.lines)) if it for word in (flag, f"{it[0]}-{it[1]}")]
+
+    def has_cpu(self, cpu: int) -> bool:
+        return not self.cpus or self.cpus[0] <= cpu <= self.cpus[1]
+
+    def has_line(self, number: int) -> bool:
+        return not self.lines or self.lines[0] <= number <= self.lines[1]
+
+
+WHOLE = Part()
+
+
+def drawn_part(place: int, cpus: int, lines: int) -> Part:
+    """A part by chance of a picture with so many CPUs and lines, or a few more."""
+    chance = random.Random(f"part {place}")
+    some = [tuple(sorted((chance.randrange(cpus + 1), chance.randrange(cpus + 1)))), tuple(sorted((chance.randint(1, lines + 2), chance.randint(1, lines + 2))))]
+    return Part(*chance.choice([some, some, [some[0], None], [None, some[1]]]))
+
+
+@dataclass(frozen=True)
 class Bar:
     """A bar over some columns, from the first to before the end: its row, its CPU, what it shows, and the lines that its title tells."""
 
@@ -319,8 +349,8 @@ class Drawings(unittest.TestCase):
     def run_program(self, *words: str, text: str = "") -> subprocess.CompletedProcess[str]:
         return subprocess.run([str(self.program), *words], input=text, capture_output=True, text=True, timeout=SECONDS)
 
-    def draw(self, script: str, status: int = 0) -> ElementTree.Element:
-        run = self.run_program("draw", text=script)
+    def draw(self, script: str, status: int = 0, flags: tuple[str, ...] = ()) -> ElementTree.Element:
+        run = self.run_program("draw", *flags, text=script)
         self.assertEqual(run.returncode, status)
         return self.parsed(run.stdout)
 
@@ -425,14 +455,15 @@ class Drawings(unittest.TestCase):
                     self.assertEqual(self.told(root, r"t\d+ on CPU \d+, lines \d+ to \d+"), story.runs)
                     self.assertEqual(len(self.told(root, r"crash\b.*, line \d+.*")), story.crashes)
 
-    def shown_bars(self, script: str) -> Counter[str]:
-        """Holds the bars of a script's picture against what the script itself answers to questions. Counts the bars of each row."""
+    def shown_bars(self, script: str, part: Part = WHOLE) -> Counter[str]:
+        """Holds the bars of a part of a script's picture against what the script itself answers to questions. Counts the bars of each row."""
         watched = Watched(script)
-        steps = watched.steps(self.answers(watched.script))
-        run = self.run_program("draw", text=script)
+        steps = [step for step in watched.steps(self.answers(watched.script)) if part.has_line(step[0])]
+        run = self.run_program("draw", *part.flags(), text=script)
         drawn = bars_in(self.parsed(run.stdout), len(steps))
-        self.assertEqual(drawn - bars_of(steps, watched.cpus), Counter(), "drawn, and not so")
-        self.assertEqual(bars_of(steps, watched.cpus) - drawn, Counter(), "so, and not drawn")
+        wanted = Counter({bar: times for bar, times in bars_of(steps, watched.cpus).items() if part.has_cpu(bar.cpu)})
+        self.assertEqual(drawn - wanted, Counter(), "drawn, and not so")
+        self.assertEqual(wanted - drawn, Counter(), "so, and not drawn")
         return Counter(bar.row for bar in drawn.elements())
 
     def test_bars_show_what_the_questions_of_drawn_scripts_answer(self) -> None:
@@ -450,6 +481,101 @@ class Drawings(unittest.TestCase):
         for file in SCRIPTS:
             with self.subTest(file=file.name):
                 self.assertGreater(self.shown_bars(front_of(file.read_text(), MOST_SINGLE)).total(), 0)
+
+    def test_bars_of_parts_show_what_the_questions_answer(self) -> None:
+        rows: Counter[str] = Counter()
+        for place in range(DRAWN):
+            script = drawn_script(place)
+            for _ in range(MENDED):
+                script = mended(script, self.answers(script))
+            part = drawn_part(place, Watched(script).cpus, script.count("\n"))
+            with self.subTest(place=place, part=part):
+                rows += self.shown_bars(script, part)
+        for row in ROWS:
+            self.assertGreater(rows[row], DRAWN // 10, f"hardly any part has a bar of the row {row}")
+
+    def test_a_part_begins_with_how_things_stand_there(self) -> None:
+        script = ENCLAVE + "create 0 3 ready\ncreate 0 3 ready\npublish 0\ncommit 0 t0 2\nsleep 1 0\ntick 1\ntick 1\nblock 0 5\n"
+        root = self.draw(script, flags=("--lines", "7-8"))
+        self.assertEqual(self.title(root), "commands 9, refused 0")
+        bars = Counter({
+            Bar("runs", 0, 0, (0, 2), (7, 8)): 1, Bar("ready", 0, 1, (0, 2), (7, 8)): 1, Bar("queue", 0, 2, (0, 2), (7, 8)): 1,
+            Bar("queue", 1, 1, (0, 1), (7, 8)): 1, Bar("queue", 1, 2, (1, 2), (8, 8)): 1, Bar("idle", 1, 1, (0, 2), (7, 8)): 1,
+        })
+        self.assertEqual(bars_in(root, 2), bars)
+        self.assertEqual(self.told(root, r"line \d+: .*"), Counter(["line 7: tick 1", "line 8: tick 1"]))
+
+    def test_a_part_has_the_lanes_that_are_asked_for(self) -> None:
+        script = "enclave 4 8 100 16 1000\n" + "".join(f"create {cpu} 15 ready\n" for cpu in range(4))
+        for word, lanes in (("0-3", [0, 1, 2, 3]), ("1-2", [1, 2]), ("2", [2]), ("3-9", [3]), ("4", []), ("4-4294967295", [])):
+            root = self.draw(script, flags=("--cpus", word))
+            self.assertEqual(self.title(root), "commands 5, refused 0")
+            self.assertEqual([words.text for words in words_in(root) if words.x == 4], [f"CPU {cpu}" for cpu in lanes])
+            self.assertEqual(sorted(self.told(root, r"\d+ items? in queue .*")), [f"1 item in queue {cpu}, " + (f"lines {cpu + 2} to 5" if cpu < 3 else "line 5") for cpu in lanes])
+            self.assertEqual(sorted(self.told(root, r"line \d+: create .*")), [f"line {cpu + 2}: create {cpu} 15 ready" for cpu in lanes])
+
+    def test_what_leads_to_another_lane_ends_at_the_edge_of_a_part(self) -> None:
+        script = "enclave 3 8 100 16 1000\ncreate 0 7 ready\npublish 0\nconsume 0\ndeliver 2 0\nsteal 2\ncrash 0\n"
+        stolen, taken_in = "t0 stolen from queue 0 to queue 2, line 6: steal 2", "line 5: deliver 2 0"
+        for word, thefts, marks, crashes in (("0", 1, 1, 1), ("1", 0, 0, 0), ("2", 1, 2, 0), ("0-2", 1, 2, 1)):
+            root = self.draw(script, flags=("--cpus", word))
+            titles = Counter(self.titles(root))
+            self.assertEqual((titles[stolen], titles[taken_in], titles["crash 0, line 7"]), (thefts, marks, crashes), word)
+        edges = {word: next(it for it in self.draw(script, flags=("--cpus", word)) if it.tag == SVG + "line" and it[0].text == taken_in) for word in ("0", "2")}
+        self.assertEqual((int(edges["0"].get("y2")), int(edges["2"].get("y1"))), (144, 80))
+        line = next(it for it in self.draw(script, flags=("--lines", "5-6")) if it.tag == SVG + "line" and it[0].text == taken_in)
+        self.assertEqual((int(line.get("x1")), int(line.get("x2"))), (LEFT, LEFT + 12))
+
+    def test_a_part_tells_what_it_is_of(self) -> None:
+        script = "enclave 2 8 100 64 1000\n" + "tick 0\n" * 30 + "walk\n"
+        parts = {
+            ("--cpus", "1"): "CPU 1", ("--cpus", "0-1"): "CPUs 0 to 1", ("--lines", "3"): "line 3", ("--lines", "3-22"): "lines 3 to 22",
+            ("--cpus", "1-1", "--lines", "4-99"): "CPU 1, lines 4 to 99", ("--lines", "20-40", "--cpus", "0-7"): "CPUs 0 to 7, lines 20 to 40",
+        }
+        for flags, said in parts.items():
+            root, told = self.draw(script, 1, flags), words_in(self.draw(script, 1, flags))
+            self.assertEqual(self.title(root), "commands 31, refused 0, fault line 32")
+            self.assertEqual([words.text for words in told[:3]], ["commands 31, refused 0, fault line 32", SINGLE_WORDS, f"Only a part of it: {said}."])
+            first, last = re.fullmatch(r"(?:CPU.*?(?:, |$))?(?:lines? (\d+)(?: to (\d+))?)?", said).groups()
+            lines = range(int(first or 1), min(31, int(last or first or 31)) + 1)
+            numbers = [words for words in told if words.y == 72 and words.text.isdigit()]
+            self.axis_is_told(numbers, list(lines), max(4, min(24, 1200 // len(lines))))
+            ends = [words.text for words in told[1:] if words.text.startswith("fault")]
+            self.assertEqual(ends, ["fault line 32"] if not first or int(last or first) >= 32 else [])
+
+    def test_a_part_may_have_no_step(self) -> None:
+        for flags in (("--lines", "9-10"), ("--lines", "0"), ("--lines", "2", "--cpus", "7")):
+            root = self.draw("# one\n\n" + ENCLAVE + "tick 0\n", flags=flags)
+            self.assertEqual(self.title(root), "commands 2, refused 0")
+            self.assertEqual(self.told(root, r".*lines? \d+.*"), Counter())
+
+    def test_a_part_that_is_all_shows_all(self) -> None:
+        for file in SCRIPTS:
+            with self.subTest(file=file.name):
+                script = file.read_text()
+                part = self.draw(script, flags=("--cpus", "0-63", "--lines", "1-4294967295"))
+                whole = self.draw(script)
+                self.assertEqual(self.titles(part), self.titles(whole))
+                said = [words.text for words in words_in(part)]
+                self.assertEqual(said.pop(2), "Only a part of it: CPUs 0 to 63, lines 1 to 4294967295.")
+                self.assertEqual(said, [words.text for words in words_in(whole)])
+
+    def test_words_that_spell_no_numbers_are_a_bad_command_line(self) -> None:
+        bad = [["--cpus"], ["--lines"], ["--cpus", "-3"], ["--cpus", "1", "--cpus", "1"], *([f"{flag}={word}"] for flag in ("--cpus", "--lines") for word in NO_NUMBERS)]
+        for words in [["draw", *words] for words in bad] + [["replay", "--cpus", "1"], ["run", "--lines", "1"]]:
+            run = self.run_program(*words, text=ENCLAVE)
+            self.assertEqual((run.returncode, run.stdout, run.stderr), (2, "", "pc-sim: bad command line\n"), words)
+        for words in [["draw", flag, word] for flag in ("--cpus", "--lines") for word in NUMBERS]:
+            self.assertEqual(self.run_program(*words, text=ENCLAVE).returncode, 0, words)
+        for flag in ("--cpus", "--lines"):
+            self.assertEqual(self.run_program("draw", f"{flag}=1", text=ENCLAVE).stdout, self.run_program("draw", flag, "1-1", text=ENCLAVE).stdout)
+
+    def test_a_name_that_has_no_room_is_in_the_title(self) -> None:
+        many = "enclave 1 16 100 32 1000\n" + "create 0 1 ready\n" * 11 + "commit 0 t10 11\n"
+        for script, names in ((many + "block 0 5\n", []), (many + "tick 0\nblock 0 5\n", ["t10"])):
+            root = self.draw(script)
+            self.assertEqual(len(self.told(root, r"t10 on CPU 0, lines 13 to 1[45]")), 1)
+            self.assertEqual([words.text for words in words_in(root) if re.fullmatch(r"t\d+", words.text)], names)
 
     def legend_in(self, root: ElementTree.Element) -> list[list[ElementTree.Element]]:
         """Holds the legend's words against those that it has to have. The marks in front of each of its lines."""

@@ -187,7 +187,7 @@ impl Bars {
         }
     }
 
-    /// Takes a step, which is counted from 0, after which this goes on, and draws the bars that end before its column.
+    /// Takes a step that is drawn, after which this goes on, and draws the bars that end before its column.
     pub(crate) fn take(&mut self, index: u32, step: &Step, scene: &Scene, canvas: &mut Canvas) {
         let column = self.layout.column_of(index);
         if column != self.column {
@@ -213,7 +213,8 @@ impl Bars {
         self.column = self.layout.columns;
         self.first = self.last;
         let mut place = 0usize;
-        for cpu in 0..self.layout.lanes {
+        for lane in 0..self.layout.lanes {
+            let cpu = self.layout.first_cpu.saturating_add(lane);
             for row in &ROWS {
                 self.show(place, cpu, *row, Shown { value: 0, most: 0 }, canvas);
                 place = place.saturating_add(1);
@@ -224,10 +225,10 @@ impl Bars {
     /// Counts what goes on.
     fn count(&mut self, scene: &Scene) {
         let waits = scene.waits();
-        let lanes = self.layout.lanes as usize;
+        let cpus = self.layout.cpus as usize;
         let mut cpu = 0usize;
         for tally in self.tallies.iter_mut() {
-            if cpu < lanes {
+            if cpu < cpus {
                 tally.count(&scene.lane(cpu), waits);
             }
             cpu = cpu.saturating_add(1);
@@ -272,7 +273,8 @@ impl Bars {
         let steps = self.steps;
         let is_dense = self.layout.is_dense;
         let mut place = 0usize;
-        for cpu in 0..self.layout.lanes {
+        for lane in 0..self.layout.lanes {
+            let cpu = self.layout.first_cpu.saturating_add(lane);
             let tally = match self.tallies.get(cpu as usize) {
                 Some(tally) => *tally,
                 None => NOTHING,

@@ -1,8 +1,8 @@
 //! What a script's picture shows of no step: its ground, its words and its axis.
 
-use crate::layout::{LEFT, Layout, TOP};
+use crate::layout::{LEFT, Layout};
 use crate::step::{Step, Story};
-use crate::words::FaultLine;
+use crate::words::{FaultLine, Of};
 use pc_pen::{Canvas, HEADING, SMALL, background, stroke, words};
 use pc_script::Outcome;
 use std::fmt::Write;
@@ -19,15 +19,16 @@ const DISTANCES: [u32; 22] = [
     200_000, 500_000, 1_000_000, 2_000_000, 5_000_000, 10_000_000,
 ];
 
-/// Draws the ground of a script's picture: its words, its lanes, and its axis.
-pub(crate) fn draw_ground(canvas: &mut Canvas, layout: &Layout, story: &Story) {
+/// Draws the ground of a script's picture, of which these steps are drawn: its words, its lanes, and its axis.
+pub(crate) fn draw_ground(canvas: &mut Canvas, layout: &Layout, story: &Story, steps: &[Step]) {
     background(canvas, layout.width(), layout.height());
     canvas.done();
     head_words(canvas, layout, story);
-    for cpu in 0..layout.lanes {
-        lane_ground(canvas, layout, cpu);
+    part_words(canvas, layout);
+    for lane in 0..layout.lanes {
+        lane_ground(canvas, layout, layout.first_cpu.saturating_add(lane));
     }
-    axis(canvas, layout, story.steps.as_slice());
+    axis(canvas, layout, steps);
     fault(canvas, layout, story.outcome);
 }
 
@@ -57,9 +58,20 @@ fn head_words(canvas: &mut Canvas, layout: &Layout, story: &Story) {
     canvas.done();
 }
 
-/// The name of a lane, and of its rows.
+/// The words that tell which part is drawn, where it is not all.
+fn part_words(canvas: &mut Canvas, layout: &Layout) {
+    if layout.part.is_all() {
+        return;
+    }
+    words(canvas, 8, 54, SMALL);
+    let part = Of(layout.part);
+    let _ = write!(canvas, "Only a part of it: {part}.");
+    canvas.done();
+}
+
+/// The name of a CPU's lane, and of its rows.
 fn lane_ground(canvas: &mut Canvas, layout: &Layout, cpu: u32) {
-    let y = layout.y(cpu);
+    let y = layout.lane_top(cpu);
     let end = layout.x(layout.columns);
     stroke(canvas, 4, y, end, y, "stroke=\"#bbb\"");
     let _ = write!(canvas, "CPU {cpu}");
@@ -103,7 +115,8 @@ fn distance(layout: &Layout) -> u32 {
 /// The numbers of the lines, and thin lines at their steps.
 fn axis(canvas: &mut Canvas, layout: &Layout, steps: &[Step]) {
     let distance = distance(layout);
-    let bottom = layout.y(layout.lanes);
+    let top = layout.top();
+    let bottom = layout.bottom();
     for label in 0..MOST_LABELS {
         let index = label.saturating_mul(distance);
         let Some(step) = steps.get(index as usize) else {
@@ -114,7 +127,7 @@ fn axis(canvas: &mut Canvas, layout: &Layout, steps: &[Step]) {
         stroke(
             canvas,
             x,
-            TOP.saturating_sub(4),
+            top.saturating_sub(4),
             x,
             bottom,
             "stroke=\"#ddd\"",
@@ -124,7 +137,7 @@ fn axis(canvas: &mut Canvas, layout: &Layout, steps: &[Step]) {
         words(
             canvas,
             x.saturating_sub(3),
-            TOP.saturating_sub(8),
+            top.saturating_sub(8),
             "font-size=\"10\" fill=\"#444\"",
         );
         let _ = write!(canvas, "{number}");
@@ -132,19 +145,23 @@ fn axis(canvas: &mut Canvas, layout: &Layout, steps: &[Step]) {
     }
 }
 
-/// The line that is a fault.
+/// The line that is a fault, where it is of the part that is drawn.
 fn fault(canvas: &mut Canvas, layout: &Layout, outcome: Outcome) {
     let Outcome::FaultLine(number) = outcome else {
         return;
     };
+    if !layout.part.has_line(number) {
+        return;
+    }
+    let top = layout.top();
     let x = layout.x(layout.columns).saturating_add(3);
     let fault = FaultLine(number);
     stroke(
         canvas,
         x,
-        TOP.saturating_sub(16),
+        top.saturating_sub(16),
         x,
-        layout.y(layout.lanes),
+        layout.bottom(),
         "stroke=\"#000\" stroke-width=\"2\" stroke-dasharray=\"6 3\"",
     );
     let _ = write!(canvas, "{fault}");
@@ -152,7 +169,7 @@ fn fault(canvas: &mut Canvas, layout: &Layout, outcome: Outcome) {
     words(
         canvas,
         x.saturating_add(4),
-        TOP.saturating_sub(8),
+        top.saturating_sub(8),
         "font-size=\"12\" font-weight=\"bold\" fill=\"#000\"",
     );
     let _ = write!(canvas, "{fault}");

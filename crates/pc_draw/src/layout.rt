@@ -4,6 +4,7 @@
 //! several steps. CPUs have lanes, one under another.
 
 use crate::legend::legend_height;
+use crate::part::{Interval, Part};
 
 /// The most steps that have a column each.
 const MOST_SINGLE: u32 = 1_000;
@@ -23,8 +24,11 @@ pub(crate) const LEFT: u32 = 72;
 /// What stands right of the steps.
 const RIGHT: u32 = 120;
 
-/// Where the lanes begin.
-pub(crate) const TOP: u32 = 64;
+/// Where the lanes of a whole picture begin.
+const TOP: u32 = 64;
+
+/// The height of the words that tell which part is drawn.
+const PART_WORDS: u32 = 16;
 
 /// The height of a lane.
 pub(crate) const LANE: u32 = 64;
@@ -35,7 +39,16 @@ const LEAST_WIDTH: u32 = 720;
 /// The sizes of a script's picture.
 #[derive(Clone, Copy)]
 pub(crate) struct Layout {
+    pub(crate) part: Part,
+    /// How many CPUs there are.
+    pub(crate) cpus: u32,
+    /// The CPU of the first lane.
+    pub(crate) first_cpu: u32,
+    /// How many CPUs have lanes.
     pub(crate) lanes: u32,
+    /// How many steps come before those that are drawn.
+    pub(crate) first_step: u32,
+    /// How many steps are drawn. They are counted from 0.
     pub(crate) steps: u32,
     pub(crate) columns: u32,
     /// The width of a column.
@@ -45,8 +58,10 @@ pub(crate) struct Layout {
 }
 
 impl Layout {
-    /// The sizes for so many steps and CPUs.
-    pub(crate) fn of(steps: u32, lanes: u32) -> Layout {
+    /// The sizes for a part that has so many steps, behind so many others, where there are so many CPUs.
+    pub(crate) fn of(part: Part, first_step: u32, steps: u32, cpus: u32) -> Layout {
+        let first_cpu = part.cpus.map_or(0, |numbers| numbers.first);
+        let lanes = lanes_of(part.cpus, cpus);
         let columns = columns_of(steps, lanes);
         let fitting = STEPS_WIDTH.checked_div(columns).unwrap_or(1);
         let column_width = if steps <= MOST_SINGLE {
@@ -55,7 +70,11 @@ impl Layout {
             fitting.clamp(1, 24)
         };
         Layout {
+            part,
+            cpus,
+            first_cpu,
             lanes,
+            first_step,
             steps,
             columns,
             column_width,
@@ -63,7 +82,7 @@ impl Layout {
         }
     }
 
-    /// The column of a step, which is counted from 0.
+    /// The column of a step.
     pub(crate) fn column_of(&self, step: u32) -> u32 {
         if !self.is_dense {
             return step;
@@ -84,14 +103,60 @@ impl Layout {
             .saturating_add(self.column_width / 2)
     }
 
+    /// The middle of the column of a step that is counted among all of the script; of one that comes before those that
+    /// are drawn, where these begin.
+    pub(crate) fn middle_of(&self, step: u32) -> u32 {
+        match step.checked_sub(self.first_step) {
+            Some(step) => self.middle(step),
+            None => LEFT,
+        }
+    }
+
+    /// Where the lanes begin.
+    pub(crate) fn top(&self) -> u32 {
+        if self.part.is_all() {
+            TOP
+        } else {
+            TOP + PART_WORDS
+        }
+    }
+
     /// Where a lane begins.
-    pub(crate) fn y(&self, lane: u32) -> u32 {
-        TOP.saturating_add(lane.saturating_mul(LANE))
+    fn y(&self, lane: u32) -> u32 {
+        self.top().saturating_add(lane.saturating_mul(LANE))
+    }
+
+    /// Where the lanes end.
+    pub(crate) fn bottom(&self) -> u32 {
+        self.y(self.lanes)
+    }
+
+    /// Whether a CPU has a lane.
+    pub(crate) fn has_lane(&self, cpu: u32) -> bool {
+        match cpu.checked_sub(self.first_cpu) {
+            Some(lane) => lane < self.lanes,
+            None => false,
+        }
+    }
+
+    /// Where a CPU's lane begins; of a CPU that has none, where the lanes begin or end, whichever is nearer to it.
+    pub(crate) fn lane_top(&self, cpu: u32) -> u32 {
+        self.y(cpu.saturating_sub(self.first_cpu).min(self.lanes))
+    }
+
+    /// A height in a CPU's lane; of a CPU that has none, where the lanes begin or end.
+    pub(crate) fn height_in(&self, cpu: u32, height: u32) -> u32 {
+        let top = self.lane_top(cpu);
+        if self.has_lane(cpu) {
+            top.saturating_add(height)
+        } else {
+            top
+        }
     }
 
     /// Where the legend begins.
     pub(crate) fn legend(&self) -> u32 {
-        self.y(self.lanes).saturating_add(24)
+        self.bottom().saturating_add(24)
     }
 
     /// The width of the picture.
@@ -102,6 +167,17 @@ impl Layout {
     /// The height of the picture.
     pub(crate) fn height(&self) -> u32 {
         self.legend().saturating_add(legend_height())
+    }
+}
+
+/// How many of so many CPUs have these numbers; all where none are given.
+fn lanes_of(numbers: Option<Interval>, cpus: u32) -> u32 {
+    match numbers {
+        Some(numbers) => {
+            let end = numbers.last.saturating_add(1).min(cpus);
+            end.saturating_sub(numbers.first)
+        }
+        None => cpus,
     }
 }
 

@@ -47,7 +47,8 @@ const ENTRIES: [Entry; 11] = [
     Entry {
         sample: Sample::Share,
         height: 20,
-        meaning: "a thread ran for a part of it, or several did, the darker the longer (where a column is of several commands)",
+        meaning: "a thread ran for a part of it, or several did, the darker the longer \
+            (where a column is of several commands)",
     },
     Entry {
         sample: Sample::Idle,
@@ -82,7 +83,8 @@ const ENTRIES: [Entry; 11] = [
     Entry {
         sample: Sample::Home,
         height: 22,
-        meaning: "a thread's home is another queue: a steal (thick), an associate (thin), or moves of several commands (a blue strip)",
+        meaning: "a thread's home is another queue: a steal (thick), an associate (thin), \
+            or moves of several commands (a blue strip)",
     },
     Entry {
         sample: Sample::Refused,

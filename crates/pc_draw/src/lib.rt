@@ -1,4 +1,4 @@
-//! The picture of a script's run, as SVG.
+//! The picture of a script's run, or of a part of it, as SVG.
 //!
 //! What is proved of it: it is whole elements, all of whose texts are plain, and its title tells how many commands the
 //! script asks for, how many were refused, and its fault. What is drawn of them, and where, is tested, not proved.
@@ -10,6 +10,7 @@ mod lanes;
 mod layout;
 mod legend;
 mod moments;
+mod part;
 mod picture;
 mod record;
 mod rows;
@@ -17,4 +18,5 @@ mod script;
 mod step;
 mod words;
 
+pub use part::{Interval, Part};
 pub use script::draw_script;

@@ -4,8 +4,8 @@
 //! [`MOST_MOMENTS`], which lie over the whole width: words tell how many there are, and how many refused commands are
 //! of no CPU. Moves and the others are counted in rows.
 
-use crate::layout::{Layout, TOP};
-use crate::step::{Answer, Reason, Sent, Step, Story};
+use crate::layout::Layout;
+use crate::step::{Answer, Reason, Sent, Step};
 use pc_calls::{Event, Posted, Refusal, Reply};
 use pc_messages::Cpu;
 use pc_pen::{Canvas, Quoted, SMALL, arrow, bold_cross, hollow_cross, outline, stroke, words};
@@ -105,15 +105,46 @@ fn crash_of(step: &Step) -> Option<u8> {
     }
 }
 
+/// Whether a step is a crash in a lane.
+fn is_crash(layout: &Layout, step: &Step) -> bool {
+    match crash_of(step) {
+        Some(cpu) => layout.has_lane(u32::from(cpu)),
+        None => false,
+    }
+}
+
+/// Whether a CPU has a lane.
+fn has_lane(layout: &Layout, cpu: Cpu) -> bool {
+    layout.has_lane(u32::from(cpu.index()))
+}
+
+/// Whether a step gives a thread another home, and one of the two homes has a lane.
+fn is_move(layout: &Layout, step: &Step) -> bool {
+    match step.answer {
+        Answer::Event(reply) => tells_move(layout, &reply, step.home),
+        _ => false,
+    }
+}
+
+/// Whether a thread of this home is told to have another one, and one of the two has a lane.
+fn tells_move(layout: &Layout, reply: &Reply, home: Option<Cpu>) -> bool {
+    match (reply, home) {
+        (Reply::Associated { queue, .. }, Some(home)) => {
+            has_lane(layout, *queue) || has_lane(layout, home)
+        }
+        _ => false,
+    }
+}
+
 impl Moments {
-    /// Before the first of these steps.
-    pub(crate) fn new(layout: Layout, story: &Story) -> Moments {
+    /// Before the first of these steps, which are drawn.
+    pub(crate) fn new(layout: Layout, steps: &[Step]) -> Moments {
         let mut crashes = 0u32;
         let mut moves = 0u32;
-        for step in story.steps.as_slice() {
-            if crash_of(step).is_some() {
+        for step in steps {
+            if is_crash(&layout, step) {
                 crashes = crashes.saturating_add(1);
-            } else if let Answer::Event(Reply::Associated { .. }) = step.answer {
+            } else if is_move(&layout, step) {
                 moves = moves.saturating_add(1);
             }
         }
@@ -125,7 +156,7 @@ impl Moments {
         }
     }
 
-    /// Draws a step, which is counted from 0, of this line. Deltas were sent so.
+    /// Draws a step of this line. Deltas were sent so.
     pub(crate) fn take(
         &mut self,
         index: u32,
@@ -192,9 +223,14 @@ impl Moments {
         }
     }
 
-    /// The line of a lane at this height in it.
+    /// The line of a lane at this height in it; of a CPU that has none, the edge of the lanes.
     fn height_in(&self, cpu: Cpu, height: u32) -> u32 {
-        self.layout.y(u32::from(cpu.index())).saturating_add(height)
+        self.layout.height_in(u32::from(cpu.index()), height)
+    }
+
+    /// Whether a CPU has a lane.
+    fn has_lane(&self, cpu: Cpu) -> bool {
+        has_lane(&self.layout, cpu)
     }
 
     /// A command that was refused.
@@ -208,15 +244,17 @@ impl Moments {
     ) {
         let place = u32::try_from(lane).unwrap_or(u32::MAX);
         if self.layout.is_dense {
-            if place >= self.layout.lanes {
+            if place >= self.layout.cpus {
                 self.unplaced = self.unplaced.saturating_add(1);
             }
             return;
         }
-        let y = if place < self.layout.lanes {
-            self.layout.y(place).saturating_add(17)
+        let y = if place >= self.layout.cpus {
+            self.layout.top().saturating_sub(6)
+        } else if self.layout.has_lane(place) {
+            self.layout.height_in(place, 17)
         } else {
-            TOP.saturating_sub(6)
+            return;
         };
         hollow_cross(canvas, self.layout.middle(index), y);
         let number = line.number;
@@ -231,6 +269,9 @@ impl Moments {
         let Some(cpu) = crash_of(step) else {
             return;
         };
+        if !self.has_lane(Cpu(cpu)) {
+            return;
+        }
         let is_drawn = self.crashes.takes();
         if self.layout.is_dense && !is_drawn {
             return;
@@ -256,6 +297,9 @@ impl Moments {
         is_steal: bool,
         canvas: &mut Canvas,
     ) {
+        if !self.has_lane(home) && !self.has_lane(queue) {
+            return;
+        }
         let is_drawn = self.moves.takes();
         if self.layout.is_dense && !is_drawn {
             return;
@@ -283,7 +327,7 @@ impl Moments {
 
     /// An item was posted.
     fn post(&self, index: u32, line: Line<'_>, posted: &Posted, canvas: &mut Canvas) {
-        if self.layout.is_dense {
+        if self.layout.is_dense || !self.has_lane(posted.queue) {
             return;
         }
         let x = self.layout.middle(index);
@@ -298,9 +342,10 @@ impl Moments {
         say_line(canvas, line);
     }
 
-    /// A delta was taken in that was sent so.
+    /// A delta was taken in that was sent so. Where the receiver has no lane, it is sent beyond the edge of the lanes.
     fn delta(&self, index: u32, line: Line<'_>, cpu: Cpu, sent: &Sent, canvas: &mut Canvas) {
-        if self.layout.is_dense {
+        let is_received = self.has_lane(cpu);
+        if self.layout.is_dense || (!is_received && !self.has_lane(sent.cpu)) {
             return;
         }
         let x = self.layout.middle(index);
@@ -308,13 +353,16 @@ impl Moments {
         let from = sent.cpu.index();
         stroke(
             canvas,
-            self.layout.middle(sent.step),
-            self.height_in(Cpu(from), 29),
+            self.layout.middle_of(sent.step),
+            self.height_in(sent.cpu, 29),
             x,
             y,
             THIN,
         );
         say_line(canvas, line);
+        if !is_received {
+            return;
+        }
         let head = if from < cpu.index() {
             "l-3,-7h6z"
         } else if from > cpu.index() {

@@ -10,15 +10,16 @@ use crate::lanes::Scene;
 use crate::layout::Layout;
 use crate::legend::draw_legend;
 use crate::moments::Moments;
+use crate::part::{Interval, Part};
 use crate::step::{Answer, Step, Story, Traces};
 use pc_pen::{Canvas, write_end, write_opening};
 use pc_script::{Command, Line, lines_of};
 use std::io::{self, Write};
 
-/// Writes the bars of all steps.
+/// Writes the bars of the steps that are drawn.
 fn write_bars<W: Write>(
     layout: &Layout,
-    story: &Story,
+    steps: &[Step],
     traces: &Traces,
     canvas: &mut Canvas,
     writer: &mut W,
@@ -28,8 +29,9 @@ fn write_bars<W: Write>(
     let mut bars = Bars::new(*layout);
     let mut scene = Scene::new();
     let mut index = 0u32;
+    // The first step takes all changes before it along.
     let mut changed = 0usize;
-    for step in story.steps.as_slice() {
+    for step in steps {
         canvas.clear();
         if let Some(changes) = traces.changes.as_slice().get(changed..step.changed) {
             scene.apply(changes);
@@ -44,23 +46,23 @@ fn write_bars<W: Write>(
     canvas.write_to(writer)
 }
 
-/// Writes what is shown of single steps, whose lines are those of the text.
+/// Writes what is shown of single steps of those that are drawn, whose lines are those of the text.
 fn write_moments<W: Write>(
     layout: &Layout,
     text: &[u8],
-    story: &Story,
+    steps: &[Step],
     traces: &Traces,
     canvas: &mut Canvas,
     writer: &mut W,
 ) -> io::Result<()>
     ensures { OnOk result (Marks (W.contents writer.old) (W.contents writer.new)) }
 {
-    let mut moments = Moments::new(*layout, story);
+    let mut moments = Moments::new(*layout, steps);
     let mut index = 0u32;
     let mut number = 0u32;
     for text in lines_of(Some(text)) {
         number = number.saturating_add(1);
-        let Some(step) = story.steps.get(index as usize) else {
+        let Some(step) = steps.get(index as usize) else {
             break;
         };
         if step.number == number {
@@ -76,24 +78,24 @@ fn write_moments<W: Write>(
             index = index.saturating_add(1);
         }
     }
-    write_crashes(&mut moments, story, canvas, writer)?;
+    write_crashes(&mut moments, steps, canvas, writer)?;
     canvas.clear();
     moments.end(canvas);
     draw_legend(canvas, layout.legend());
     canvas.write_to(writer)
 }
 
-/// Writes the crashes of all steps.
+/// Writes the crashes of the steps that are drawn.
 fn write_crashes<W: Write>(
     moments: &mut Moments,
-    story: &Story,
+    steps: &[Step],
     canvas: &mut Canvas,
     writer: &mut W,
 ) -> io::Result<()>
     ensures { OnOk result (Marks (W.contents writer.old) (W.contents writer.new)) }
 {
     let mut index = 0u32;
-    for step in story.steps.as_slice() {
+    for step in steps {
         canvas.clear();
         moments.crash(index, step, canvas);
         canvas.write_to(writer)?;
@@ -102,21 +104,22 @@ fn write_crashes<W: Write>(
     Ok(())
 }
 
-/// Writes the marks.
+/// Writes the marks of the steps that are drawn.
 fn write_marks<W: Write>(
     layout: &Layout,
     text: &[u8],
     story: &Story,
+    steps: &[Step],
     traces: &Traces,
     writer: &mut W,
 ) -> io::Result<()>
     ensures { OnOk result (Marks (W.contents writer.old) (W.contents writer.new)) }
 {
     let mut canvas = Canvas::new();
-    draw_ground(&mut canvas, layout, story);
+    draw_ground(&mut canvas, layout, story, steps);
     canvas.write_to(writer)?;
-    write_bars(layout, story, traces, &mut canvas, writer)?;
-    write_moments(layout, text, story, traces, &mut canvas, writer)
+    write_bars(layout, steps, traces, &mut canvas, writer)?;
+    write_moments(layout, text, steps, traces, &mut canvas, writer)
 }
 
 /// How many CPUs the accepted `enclave` has; none without one.
@@ -129,19 +132,51 @@ fn cpus_of(steps: &[Step]) -> u32 {
     0
 }
 
-/// Writes the picture of a script's run, of which the text was.
+/// How many of the steps are of lines before this one.
+fn steps_before(steps: &[Step], line: u32) -> usize {
+    let mut count = 0usize;
+    for step in steps {
+        if step.number >= line {
+            break;
+        }
+        count = count.saturating_add(1);
+    }
+    count
+}
+
+/// The places of the steps that are of these lines: of the first, and behind the last.
+fn places_in(steps: &[Step], lines: Option<Interval>) -> (usize, usize) {
+    match lines {
+        Some(lines) => {
+            let first = steps_before(steps, lines.first);
+            let end = steps_before(steps, lines.last.saturating_add(1));
+            (first, end.max(first))
+        }
+        None => (0, steps.len()),
+    }
+}
+
+/// A count, as layouts have it.
+fn narrow(count: usize) -> u32 {
+    u32::try_from(count).unwrap_or(u32::MAX)
+}
+
+/// Writes the picture of a part of a script's run, of which the text was.
 pub(crate) fn write_picture<W: Write>(
     text: &[u8],
     story: &Story,
     traces: &Traces,
+    part: Part,
     writer: &mut W,
 ) -> io::Result<()>
     ensures { OnOk result (Pictures (script_title (vec_len story.now.steps) story.now.refused story.now.outcome)
         (W.contents writer.old) (W.contents writer.new)) }
 {
-    let steps = u32::try_from(story.steps.len()).unwrap_or(u32::MAX);
-    let layout = Layout::of(steps, cpus_of(story.steps.as_slice()));
+    let all = story.steps.as_slice();
+    let (first, end) = places_in(all, part.lines);
+    let steps = all.get(first..end).unwrap_or(&[]);
+    let layout = Layout::of(part, narrow(first), narrow(steps.len()), cpus_of(all));
     write_opening(layout.width(), layout.height(), &story.summary(), writer)?;
-    write_marks(&layout, text, story, traces, writer)?;
+    write_marks(&layout, text, story, steps, traces, writer)?;
     write_end(writer)
 }

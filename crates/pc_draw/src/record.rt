@@ -12,7 +12,7 @@ use crate::step::{Sent, Story, Traces, cpu_of, is_refused, named_thread, other_c
 use pc_calls::{Event, Reply};
 use pc_messages::{Cpu, Tid};
 use pc_script::{Command, Line, Observer, Outcome, Response, ScriptFault};
-use pc_session::Session;
+use pc_session::{Session, let_view_go};
 use pc_world::World;
 use std::alloc::{AllocError, Global};
 use std::io::Write;
@@ -262,10 +262,7 @@ impl<W: Write> Observer<Session, W> for Recorder {
         writer: &mut W,
     ) -> Result<(), ScriptFault> {
         let kept = self.keep(line.number, command, response, machine);
-        // A view is let go of here, or it would still stand while the next one is made.
-        if let Response::View(_) = response {
-            *response = Response::Opened;
-        }
+        let_view_go(response);
         match kept {
             Ok(()) => Ok(()),
             Err(_) => Err(ScriptFault::OutOfMemory),

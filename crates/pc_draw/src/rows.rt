@@ -130,7 +130,7 @@ pub(crate) fn draw_strip(
     let span = Span {
         x,
         width: layout.x(end).saturating_sub(x),
-        y: layout.y(cpu),
+        y: layout.lane_top(cpu),
         cpu,
         lines: Lines(strip.line, line),
     };

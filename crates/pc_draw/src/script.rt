@@ -6,6 +6,7 @@ ghost use Rattle.pc_draw.specs.Pictures.{IsPictureOf};
 ghost use Rattle.pc_script.specs.declared.input.TheConstants.{MOST_BYTES};
 ghost use Rattle.pc_session.specs.Session.{IsSession};
 
+use crate::part::Part;
 use crate::picture::write_picture;
 use crate::record::Recorder;
 use pc_script::{Outcome, ScriptFault, read_text, walk};
@@ -13,14 +14,18 @@ use pc_session::Session;
 use std::alloc::Global;
 use std::io::{Read, Sink, Write, sink};
 
-/// Reads a script, answers its commands one after another in a session of its own, and writes a picture of
+/// Reads a script, answers its commands one after another in a session of its own, and writes a picture of this part of
 /// what happened.
+///
+/// The whole script is answered whatever the part, and told by the title. At the first line of a part it is drawn how
+/// things stand there.
 ///
 /// The whole script is answered, and all memory is taken, before the first byte is written. Reading and the faults are
 /// as in [`pc_script::run_script`]; a script that ends at a fault is drawn up to there. The picture is written piece by
 /// piece, so a writer without a buffer is slow; nothing is flushed.
 pub fn draw_script<R: Read, W: Write>(
     alloc: Global,
+    part: Part,
     reader: &mut R,
     writer: &mut W,
 ) -> Result<Outcome, ScriptFault>
@@ -44,7 +49,13 @@ pub fn draw_script<R: Read, W: Write>(
         &mut recorder,
         &mut sink(),
     )?;
-    match write_picture(text.as_slice(), &recorder.story, &recorder.traces, writer) {
+    match write_picture(
+        text.as_slice(),
+        &recorder.story,
+        &recorder.traces,
+        part,
+        writer,
+    ) {
         Ok(()) => Ok(outcome),
         Err(_) => Err(ScriptFault::Write),
     }

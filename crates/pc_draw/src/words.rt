@@ -3,6 +3,7 @@
 ghost use Rattle.std.specs.Prelude.{◌++◌, Some, codes, decimal};
 ghost use Rattle.pc_draw.specs.Pictures.{fault_text, script_title};
 
+use crate::part::{Interval, Part};
 use pc_pen::Count;
 use pc_script::Outcome;
 use std::fmt;
@@ -70,6 +71,42 @@ impl fmt::Display for Lines {
         } else {
             write!(f, "lines {from} to {to}")
         }
+    }
+}
+
+/// CPUs: `CPU 3`, `CPUs 3 to 7`.
+#[derive(Clone, Copy)]
+struct Cpus(Interval);
+
+impl fmt::Display for Cpus {
+    fn fmt<W: fmt::Write>(&self, f: &mut fmt::Formatter<W>) -> fmt::Result {
+        let first = self.0.first;
+        let last = self.0.last;
+        if first == last {
+            write!(f, "CPU {first}")
+        } else {
+            write!(f, "CPUs {first} to {last}")
+        }
+    }
+}
+
+/// Which part is drawn, where it is not all: `CPUs 3 to 7, lines 12 to 20`.
+#[derive(Clone, Copy)]
+pub(crate) struct Of(pub(crate) Part);
+
+impl fmt::Display for Of {
+    fn fmt<W: fmt::Write>(&self, f: &mut fmt::Formatter<W>) -> fmt::Result {
+        let mut before = "";
+        if let Some(numbers) = self.0.cpus {
+            let cpus = Cpus(numbers);
+            write!(f, "{cpus}")?;
+            before = ", ";
+        }
+        if let Some(numbers) = self.0.lines {
+            let lines = Lines(numbers.first, numbers.last);
+            write!(f, "{before}{lines}")?;
+        }
+        Ok(())
     }
 }
 
