@@ -150,6 +150,20 @@ row_of (command.Enclave limits) =
 row_of (command.Event event) = event_row event
 row_of (command.Read question) = read_row question
 
+-- words with a space between each two
+abbrev pub spaced : List (List ℕ) → List ℕ
+spaced [] = []
+spaced (word ∷ []) = word
+spaced (word ∷ next ∷ more) = word ++ 32 ∷ spaced (next ∷ more)
+
+-- a row's name and its fields' words, with a space between each two
+abbrev pub row_text : Row → List ℕ
+row_text given = spaced (given.name ∷ words_of given.fields)
+
+-- the line of a script that asks for a command
+abbrev pub command_text : Command → List ℕ
+command_text command = row_text (row_of command)
+
 -- ---- lines
 
 -- these words are the command's

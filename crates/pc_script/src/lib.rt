@@ -27,6 +27,7 @@ mod output;
 mod response;
 mod run;
 mod short;
+mod spelled;
 mod text;
 mod trouble;
 mod walker;
