@@ -1,5 +1,6 @@
 pub mod Commands
 pub mod ListsOfKind
+pub mod NumbersWritten
 pub mod Readings
 pub mod Reporting
 pub mod StepTexts

@@ -1,17 +1,24 @@
 -- The parser of the command line as a value, and what the words ask for.
-use Rattle.std.specs.Prelude.{◌≡◌, ◌≢◌, ◌⊎◌, true, List, Option, Some, None, option_map, string_bytes, codes}
-use Rattle.clap.specs.Walk.{Row, Rule, Text, first_of}
+use Rattle.std.specs.Prelude.{◌≡◌, ◌≢◌, ◌⊎◌, ◌<◌, ◌^◌, ℕ, true, List, [], Option, Some, None, codes, option_map}
+use Rattle.std.specs.Prelude.{string_bytes}
+use Rattle.std.specs.Option.{IsSomeAnd}
+use Rattle.std.specs.Str.Parse.{IsNumeral, digits_value, without_leading_plus}
+use Rattle.clap.specs.Walk.{Row, Rule, Text, count_of, first_of, one_of}
 use Rattle.clap.specs.Simple.{App, new_app, new_rule, on_top, with_rule, with_subcommand}
 use Rattle.clap.specs.Kinds.{IsAmong, Kinds}
 use Rattle.clap.specs.Values.{kind_of}
-use Rattle.clap.specs.declared.builder.action.ArgAction.TheVariants.{SetTrue}
+use Rattle.clap.specs.declared.builder.action.ArgAction.TheVariants.{Count, Set, SetTrue}
+use Rattle.clap.specs.declared.builder.value_parser.ValueParser.TheVariants.{Unsigned}
 use Rattle.clap.specs.declared.error.kind.ErrorKind.TheVariants as kind
+use Rattle.pc_draw.specs.declared.part.Interval.{Interval}
+use Rattle.pc_draw.specs.declared.part.Part.{Part}
+use Rattle.pc_program.specs.Numbers.{IsWritten, SpellsNone}
 use Rattle.pc_program.specs.declared.command_line.Command.{Command}
 use Rattle.pc_program.specs.declared.command_line.Command.TheVariants.{Replay, Explain, Draw, Run}
 use Rattle.pc_program.specs.declared.command_line.CommandFault.{CommandFault}
-use Rattle.pc_program.specs.declared.command_line.CommandFault.TheVariants.{OutOfMemory, Clap}
+use Rattle.pc_program.specs.declared.command_line.CommandFault.TheVariants.{OutOfMemory, BadNumbers, Clap}
 use Rattle.pc_program.specs.declared.report.ReportForm.{ReportForm}
-use Rattle.pc_program.specs.declared.report.ReportForm.TheVariants.{Totals, EachCpu, Picture}
+use Rattle.pc_program.specs.declared.report.ReportForm.TheVariants.{Totals, EachCpu, EachRefusal, Picture}
 
 -- the word after a command
 abbrev pub file : Rule
@@ -25,9 +32,28 @@ of_file name = with_rule (new_app name) file
 abbrev pub flag : Text → Rule
 flag name = record (new_rule name) { long = Some name; action = Some SetTrue }
 
--- run [FILE] [--per-cpu] [--draw]
+-- the same, which counts how often it stands there
+abbrev pub counted_flag : Text → Rule
+counted_flag name = record (new_rule name) { long = Some name; action = Some Count }
+
+-- the option `--name` with a word behind it
+abbrev pub option : Text → Rule
+option name = record (new_rule name) { long = Some name; action = Some Set; value_names = 1 }
+
+-- draw [FILE] [--cpus NUMBERS] [--lines NUMBERS]
+abbrev pub drawing : App
+drawing = with_rule (with_rule (of_file (codes "draw")) (option (codes "cpus"))) (option (codes "lines"))
+
+-- --limit SECONDS
+abbrev pub limit : Rule
+limit = record (option (codes "limit")) { parser = Some (Unsigned 0 4294967295) }
+
+-- run [FILE] [--per-cpu] [--draw] [--limit SECONDS]
 abbrev pub run : App
-run = with_rule (with_rule (of_file (codes "run")) (flag (codes "per-cpu"))) (flag (codes "draw"))
+run =
+    with_rule
+    (with_rule (with_rule (of_file (codes "run")) (counted_flag (codes "per-cpu"))) (flag (codes "draw")))
+    limit
 
 -- the program, which has a version, wants a command, and has no command `help`
 abbrev pub pc_sim : App
@@ -40,7 +66,7 @@ pc_sim =
     (new_app (codes "pc-sim")))
     (of_file (codes "replay")).top)
     (of_file (codes "explain")).top)
-    (of_file (codes "draw")).top)
+    drawing.top)
     run.top
 
 -- the file that the word after a command names: none where there is no word, or `-`
@@ -57,23 +83,58 @@ IsOf name file met = (met.0 ≡ name) × IsInput (first_of (codes "FILE") met.1)
 abbrev pub IsSet : Text → List Row → Type 0
 IsSet name rows = first_of name rows ≡ Some (codes "true")
 
--- how a report is asked for: as a picture, or else with a line for each CPU, or else by its totals alone
+-- how a report is asked for: as a picture, or else by its totals alone, with a line for each CPU, or with refusals by
+-- name too, as `--per-cpu` stands there never, once, or more often
 abbrev pub IsReportForm : ReportForm → List Row → Type 0
 IsReportForm Picture rows = IsSet (codes "draw") rows
-IsReportForm EachCpu rows = (IsSet (codes "draw") rows → ⊥) × IsSet (codes "per-cpu") rows
-IsReportForm Totals rows = (IsSet (codes "draw") rows → ⊥) × (IsSet (codes "per-cpu") rows → ⊥)
+IsReportForm Totals rows = (IsSet (codes "draw") rows → ⊥) × (count_of (codes "per-cpu") rows ≡ 0)
+IsReportForm EachCpu rows = (IsSet (codes "draw") rows → ⊥) × (count_of (codes "per-cpu") rows ≡ 1)
+IsReportForm EachRefusal rows = (IsSet (codes "draw") rows → ⊥) × (1 < count_of (codes "per-cpu") rows)
+
+-- the number of seconds that an option's word spells, if it spells one
+abbrev pub IsLimit : Option Text → Option ℕ → Type 0
+IsLimit None given = given ≡ None
+IsLimit (Some word) (Some seconds) =
+    IsNumeral 10 (without_leading_plus word) × (digits_value 10 (without_leading_plus word) < 2 ^ 32)
+    × (seconds ≡ digits_value 10 (without_leading_plus word))
+IsLimit (Some word) None =
+    IsNumeral 10 (without_leading_plus word) × (digits_value 10 (without_leading_plus word) < 2 ^ 32) → ⊥
+
+-- the numbers that the word behind an option spells: all where there is no word
+abbrev pub IsSpelled : Option Text → Option Interval → Type 0
+IsSpelled None numbers = numbers ≡ None
+IsSpelled (Some word) None = ⊥
+IsSpelled (Some word) (Some numbers) = IsWritten word numbers
+
+-- which part of a picture is asked for
+abbrev pub IsPart : Part → List Row → Type 0
+IsPart part rows =
+    IsSpelled (first_of (codes "cpus") rows) part.cpus × IsSpelled (first_of (codes "lines") rows) part.lines
+
+-- the word behind an option spells no numbers
+abbrev pub IsUnread : Text → List Row → Type 0
+IsUnread name rows = IsSomeAnd (first_of name rows) SpellsNone
+
+-- a picture is asked for, and which part of it is no numbers
+abbrev pub IsNoPart : Option (Text × List Row) → Type 0
+IsNoPart None = ⊥
+IsNoPart (Some met) = (met.0 ≡ codes "draw") × (IsUnread (codes "cpus") met.1 ⊎ IsUnread (codes "lines") met.1)
 
 -- the command with this name and these values is asked for
 abbrev pub IsAsked : Option (Text × List Row) → Command → Type 0
 IsAsked None command = ⊥
 IsAsked (Some met) (Replay given) = IsOf (codes "replay") (option_map string_bytes given) met
 IsAsked (Some met) (Explain given) = IsOf (codes "explain") (option_map string_bytes given) met
-IsAsked (Some met) (Draw given) = IsOf (codes "draw") (option_map string_bytes given) met
-IsAsked (Some met) (Run given form) = IsOf (codes "run") (option_map string_bytes given) met × IsReportForm form met.1
+IsAsked (Some met) (Draw given part) = IsOf (codes "draw") (option_map string_bytes given) met × IsPart part met.1
+IsAsked (Some met) (Run given form seconds) =
+    IsOf (codes "run") (option_map string_bytes given) met × IsReportForm form met.1
+    × IsLimit (one_of (codes "limit") met.1) seconds
 
--- want of memory, or one of these kinds, of which help and the version are two
+-- want of memory, numbers that are none where there is no other fault, or one of these kinds, of which help and the
+-- version are two
 abbrev pub IsRefusal : Kinds → CommandFault → Type 0
 IsRefusal kinds OutOfMemory = Unit {0}
+IsRefusal kinds BadNumbers = kinds ≡ []
 IsRefusal kinds (Clap error) = (kind_of error ≢ kind.OutOfMemory) × IsAmong (kind_of error) kinds
 
 -- one of the commands was met

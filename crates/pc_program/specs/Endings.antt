@@ -53,6 +53,7 @@ ending_of_run (run.Audit cpu) = Run why.Audit
 ending_of_run (run.Incomplete thread) = Run why.Incomplete
 ending_of_run (run.Driver refusal) = Run why.Driver
 ending_of_run (run.GaveUp cpu) = Run why.GaveUp
+ending_of_run run.TimeUp = Run why.GaveUp
 ending_of_run run.StartFailed = CannotStart
 ending_of_run run.OutOfMemory = OutOfMemory
 

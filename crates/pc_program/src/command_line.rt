@@ -1,17 +1,21 @@
 //! The command line.
 
-ghost use Rattle.std.specs.Prelude.{◌≡◌, ◌≢◌, ◌↔◌, ◌⊎◌, [], Some, IfOk, IfErr, IsTrue, false, map, option_map};
+ghost use Rattle.std.specs.Prelude.{◌≡◌, ◌≢◌, ◌↔◌, ◌⊎◌, [], Some, Err, IfOk, IfErr, IsTrue, false, map, option_map};
 ghost use Rattle.std.specs.Prelude.{string_bytes, codes};
-ghost use Rattle.clap.specs.Walk.{first_of, rows_of, rule_of};
+ghost use Rattle.clap.specs.Walk.{first_of, one_of, rows_of, rule_of};
 ghost use Rattle.clap.specs.Simple.{app_of, subcommand_of, subcommand_rows_of};
 ghost use Rattle.clap.specs.Faults.{fault_of};
 ghost use Rattle.clap.specs.Matches.{found_of};
-ghost use Rattle.pc_program.specs.CommandLine.{IsAsked, IsCommandMet, IsInput, IsRefusal, IsReportForm, flag, of_file};
-ghost use Rattle.pc_program.specs.CommandLine.{pc_sim, run};
+ghost use Rattle.pc_program.specs.CommandLine.{IsAsked, IsCommandMet, IsInput, IsLimit, IsNoPart, IsPart, IsRefusal};
+ghost use Rattle.pc_program.specs.CommandLine.{IsReportForm, IsSpelled, IsUnread, counted_flag, drawing, flag, limit};
+ghost use Rattle.pc_program.specs.CommandLine.{of_file, option, pc_sim, run};
 
+use crate::numbers::numbers_in;
 use crate::report::ReportForm;
+use clap::builder::ValueParser;
 use clap::error::ErrorKind;
 use clap::{Arg, ArgAction, ArgMatches, Command as Parser, Error};
+use pc_draw::{Interval, Part};
 use std::alloc::{AllocError, Global};
 use std::convert::AsStr;
 use thiserror::Error as Fault;
@@ -30,12 +34,16 @@ pub enum Command {
     /// Replay a script, and draw what happened.
     Draw {
         file: Option<String>,
+        /// What part of it is drawn.
+        part: Part,
     },
     /// Run agents in threads by settings.
     Run {
         file: Option<String>,
         /// How the report is told.
         form: ReportForm,
+        /// After how many seconds the run is given up.
+        limit: Option<u32>,
     },
 }
 
@@ -45,6 +53,9 @@ pub enum CommandFault {
     /// A growth was refused.
     #[error("out of memory")]
     OutOfMemory,
+    /// A word that is to spell numbers spells none.
+    #[error("a word spells no numbers")]
+    BadNumbers,
     /// The words are no command, or they ask for help or the version, which is the error's text.
     #[error(transparent)]
     Clap(Error),
@@ -102,8 +113,11 @@ What is written is described in docs/FORMATS.md.";
 const ABOUT_DRAW: &str = "Draws what happens in a script, as SVG on standard output";
 
 const AFTER_DRAW: &str = "\
-Example:
+Examples:
   pc-sim draw examples/crash-and-steal.script >picture.svg
+  pc-sim draw examples/crash-and-steal.script --cpus 1 --lines 10-20 >part.svg
+
+NUMBERS are two with `-` between, of which the second is not below the first, or one.
 
 Time goes to the right, a step for each command; each CPU has a lane. A browser shows the picture.
 Exit status: 0 finished; 1 a line is no command, or a read or a write failed; 4 memory is wanting.
@@ -115,22 +129,32 @@ const AFTER_RUN: &str = "\
 Example:
   printf 'cpus = 2\\n[[thread]]\\nqueue = 0\\nmask = 3\\nsteps = [\"yield 2\", \"die 1\"]\\n' | pc-sim run
 
-With --draw the report is a picture, and --per-cpu changes nothing.
+With --draw the report is a picture, and --per-cpu changes nothing. Where --per-cpu stands twice,
+refusals are counted by name.
 Exit status: 0 finished; 1 the settings have a fault, or a read or a write failed; 3 the run did not
-settle; 4 memory or a thread is wanting.
+settle, or not within its limit; 4 memory or a thread is wanting.
 Settings and the report are described in docs/FORMATS.md.";
 
 const SCRIPT: &str = "the script; without it, and where it is `-`, the standard input is read";
+
+const CPUS: &str = "draws the lanes of these CPUs alone, counted from 0";
+
+const LINES: &str = "draws what happens at these lines of the script alone, counted from 1";
+
+const LIMIT: &str = "gives the run up after so many seconds";
 
 const SETTINGS: &str = "the settings; without it, and where it is `-`, the standard input is read";
 
 /// Reads the words of the command line, of which the first is the program's name.
 ///
-/// The fault is `Clap` where the words are no command, and where they ask for help or the version; or `OutOfMemory`.
+/// The fault is `Clap` where the words are no command, and where they ask for help or the version; `BadNumbers` where
+/// they are one but for a word that is to spell numbers; or `OutOfMemory`.
 pub fn read_command<'a, S: AsStr>(alloc: Global, words: &'a [S]) -> Result<Command, CommandFault>
     ensures asked { IfOk result (IsAsked (subcommand_of pc_sim (map S.text words.entry.now))) }
     ensures taken { IfOk result (λ _. fault_of pc_sim (map S.text words.entry.now) ≡ []) }
     ensures refused { IfErr result (IsRefusal (fault_of pc_sim (map S.text words.entry.now))) }
+    ensures numbers { result ≡ Err CommandFault.BadNumbers
+        → IsNoPart (subcommand_of pc_sim (map S.text words.entry.now)) }
 {
     let parser: Parser<'a> = parser(alloc)?;
     match parser.try_get_matches_from(words) {
@@ -163,6 +187,45 @@ fn flag_of<'a>(alloc: Global, name: &'static str, help: &'static str) -> Arg<'a>
         .help(help)
 }
 
+/// The flag `--NAME`, which counts how often it stands there.
+fn counted_flag_of<'a>(alloc: Global, name: &'static str, help: &'static str) -> Arg<'a>
+    ensures rule { rule_of result ≡ counted_flag name.now }
+    ensures local { result.global ≡ false }
+{
+    Arg::new(alloc, name)
+        .long(name)
+        .action(ArgAction::Count)
+        .help(help)
+}
+
+/// The option `--NAME VALUE`.
+fn option_of<'a>(
+    alloc: Global,
+    name: &'static str,
+    value: &'static str,
+    help: &'static str,
+) -> Arg<'a>
+    ensures rule { rule_of result ≡ option name.now }
+    ensures local { result.global ≡ false }
+{
+    Arg::new(alloc, name)
+        .long(name)
+        .value_name(value)
+        .action(ArgAction::Set)
+        .help(help)
+}
+
+/// The option `--limit SECONDS`.
+fn limit_option<'a>(alloc: Global) -> Arg<'a>
+    ensures rule { rule_of result ≡ limit }
+    ensures local { result.global ≡ false }
+{
+    option_of(alloc, "limit", "SECONDS", LIMIT).value_parser(ValueParser::Unsigned(
+        0,
+        u32::MAX as u64,
+    ))
+}
+
 /// `replay [FILE]`
 fn replay_parser<'a>(alloc: Global) -> Result<Parser<'a>, AllocError>
     ensures { IfOk result (λ parser. app_of parser ≡ of_file (codes "replay")) }
@@ -185,28 +248,35 @@ fn explain_parser<'a>(alloc: Global) -> Result<Parser<'a>, AllocError>
     )
 }
 
-/// `draw [FILE]`
+/// `draw [FILE] [--cpus NUMBERS] [--lines NUMBERS]`
 fn draw_parser<'a>(alloc: Global) -> Result<Parser<'a>, AllocError>
-    ensures { IfOk result (λ parser. app_of parser ≡ of_file (codes "draw")) }
+    ensures { IfOk result (λ parser. app_of parser ≡ drawing) }
 {
-    Ok(
-        parser_of_file(alloc, "draw", SCRIPT)?
-            .about(ABOUT_DRAW)
-            .after_help(AFTER_DRAW),
-    )
+    let cpus = option_of(alloc, "cpus", "NUMBERS", CPUS);
+    let lines = option_of(alloc, "lines", "NUMBERS", LINES);
+    parser_of_file(alloc, "draw", SCRIPT)?
+        .about(ABOUT_DRAW)
+        .after_help(AFTER_DRAW)
+        .arg(cpus)?
+        .arg(lines)
 }
 
-/// `run [FILE] [--per-cpu] [--draw]`
+/// `run [FILE] [--per-cpu] [--draw] [--limit SECONDS]`
 fn run_parser<'a>(alloc: Global) -> Result<Parser<'a>, AllocError>
     ensures { IfOk result (λ parser. app_of parser ≡ run) }
 {
-    let per_cpu = flag_of(alloc, "per-cpu", "also reports a line for each CPU");
+    let per_cpu = counted_flag_of(
+        alloc,
+        "per-cpu",
+        "also reports a line for each CPU; twice, with its refusals by name",
+    );
     let draw = flag_of(alloc, "draw", "draws the report, as SVG");
     parser_of_file(alloc, "run", SETTINGS)?
         .about(ABOUT_RUN)
         .after_help(AFTER_RUN)
         .arg(per_cpu)?
-        .arg(draw)
+        .arg(draw)?
+        .arg(limit_option(alloc))
 }
 
 /// The program's parser.
@@ -233,7 +303,9 @@ fn parser<'a>(alloc: Global) -> Result<Parser<'a>, AllocError>
 fn command_of(alloc: Global, matches: &ArgMatches<'_>) -> Result<Command, CommandFault>
     requires { IsCommandMet (subcommand_rows_of matches.now) }
     ensures asked { IfOk result (IsAsked (subcommand_rows_of matches.now)) }
-    ensures memory { IfErr result (λ fault. fault ≡ CommandFault.OutOfMemory) }
+    ensures fault { IfErr result
+        (λ fault. (fault ≡ CommandFault.OutOfMemory) ⊎ (fault ≡ CommandFault.BadNumbers)) }
+    ensures numbers { result ≡ Err CommandFault.BadNumbers → IsNoPart (subcommand_rows_of matches.now) }
 {
     let Some((name, met)) = matches.subcommand() else {
         unreachable!()
@@ -243,11 +315,13 @@ fn command_of(alloc: Global, matches: &ArgMatches<'_>) -> Result<Command, Comman
         Ok(Command::Run {
             file,
             form: form_of(met),
+            limit: limit_of(met),
         })
     } else if name == "explain" {
         Ok(Command::Explain { file })
     } else if name == "draw" {
-        Ok(Command::Draw { file })
+        let part = part_of(met)?;
+        Ok(Command::Draw { file, part })
     } else {
         Ok(Command::Replay { file })
     }
@@ -265,17 +339,53 @@ fn file_of(alloc: Global, matches: &ArgMatches<'_>) -> Result<Option<String>, Al
     }
 }
 
+/// The part of a picture that is asked for.
+fn part_of(matches: &ArgMatches<'_>) -> Result<Part, CommandFault>
+    ensures asked { IfOk result (λ part. IsPart part (rows_of (found_of matches.now))) }
+    ensures refused { IfErr result (λ fault. (fault ≡ CommandFault.BadNumbers)
+        × (IsUnread (codes "cpus") (rows_of (found_of matches.now))
+        ⊎ IsUnread (codes "lines") (rows_of (found_of matches.now)))) }
+{
+    let cpus = numbers_of(matches, "cpus")?;
+    let lines = numbers_of(matches, "lines")?;
+    Ok(Part { cpus, lines })
+}
+
+/// The numbers that the word behind an option spells; none without a word.
+fn numbers_of(matches: &ArgMatches<'_>, name: &str) -> Result<Option<Interval>, CommandFault>
+    ensures spelled { IfOk result (λ numbers. IsSpelled (first_of name.now (rows_of (found_of matches.now))) numbers) }
+    ensures refused { IfErr result (λ fault. (fault ≡ CommandFault.BadNumbers)
+        × IsUnread name.now (rows_of (found_of matches.now))) }
+{
+    match matches.get_str(name) {
+        None => Ok(None),
+        Some(word) => match numbers_in(word.as_bytes()) {
+            Some(numbers) => Ok(Some(numbers)),
+            None => Err(CommandFault::BadNumbers),
+        },
+    }
+}
+
 /// How the report is told.
 fn form_of(matches: &ArgMatches<'_>) -> ReportForm
     ensures { IsReportForm result (rows_of (found_of matches.now)) }
 {
     if is_set(matches, "draw") {
         ReportForm::Picture
-    } else if is_set(matches, "per-cpu") {
-        ReportForm::EachCpu
     } else {
-        ReportForm::Totals
+        match matches.get_count("per-cpu") {
+            0 => ReportForm::Totals,
+            1 => ReportForm::EachCpu,
+            _ => ReportForm::EachRefusal,
+        }
     }
+}
+
+/// After how many seconds a run is given up.
+fn limit_of(matches: &ArgMatches<'_>) -> Option<u32>
+    ensures { IsLimit (one_of (codes "limit") (rows_of (found_of matches.now))) result }
+{
+    matches.get_one::<u32>("limit")
 }
 
 /// Whether the flag of this name stands there.

@@ -73,7 +73,7 @@ pub enum Unsettled {
     Incomplete,
     /// The kernel refused a call of the driver.
     Driver,
-    /// An agent gave the run up.
+    /// An agent gave the run up, or it was given up at its deadline.
     GaveUp,
 }
 
@@ -195,7 +195,7 @@ impl From<RunFault> for Ending {
             RunFault::Audit(_) => Ending::Run(Unsettled::Audit),
             RunFault::Incomplete(_) => Ending::Run(Unsettled::Incomplete),
             RunFault::Driver(_) => Ending::Run(Unsettled::Driver),
-            RunFault::GaveUp(_) => Ending::Run(Unsettled::GaveUp),
+            RunFault::GaveUp(_) | RunFault::TimeUp => Ending::Run(Unsettled::GaveUp),
             RunFault::StartFailed => Ending::CannotStart,
             RunFault::OutOfMemory => Ending::OutOfMemory,
         }

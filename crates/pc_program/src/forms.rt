@@ -12,9 +12,10 @@ ghost use Rattle.pc_session.specs.Session.{IsSession, RanOut};
 ghost use Rattle.pc_program.specs.Programs.{IsAnswered, IsDrawn, IsMade, IsReported};
 
 use crate::ending::{Ending, Failure};
+use crate::progress::Progress;
 use crate::report::ReportForm;
 use crate::run_text::run_config;
-use pc_draw::draw_script;
+use pc_draw::{Part, draw_script};
 use pc_explain::explain_script;
 use pc_script::{Outcome, ScriptFault};
 use pc_session::Session;
@@ -22,6 +23,7 @@ use std::alloc::Global;
 use std::io::{BufWriter, Read, Write};
 use std::sync::Wait;
 use std::thread::Threads;
+use std::time::Clock;
 
 /// What is made of a script.
 #[derive(Clone, Copy, Debug, PartialEq, Eq)]
@@ -30,8 +32,8 @@ pub enum Form {
     Replies,
     /// These, with comments between that explain them.
     Explained,
-    /// A picture of what happened.
-    Picture,
+    /// A picture of this part of what happened.
+    Picture(Part),
 }
 
 /// Reads a script, answers its commands one after another on a world of its own, and writes the replies.
@@ -73,11 +75,11 @@ fn explained<R: Read, W: Write>(alloc: Global, reader: &mut R, writer: &mut W) -
     Ending::from(explain_script(alloc, reader, writer))
 }
 
-fn picture<R: Read, W: Write>(alloc: Global, reader: &mut R, writer: &mut W) -> Ending
+fn picture<R: Read, W: Write>(alloc: Global, part: Part, reader: &mut R, writer: &mut W) -> Ending
     ensures { IfSome (R.remaining reader.old)
         (λ text. IsDrawn text (W.contents writer.old) (W.contents writer.new) result) }
 {
-    Ending::of_picture(draw_script(alloc, reader, writer))
+    Ending::of_picture(draw_script(alloc, part, reader, writer))
 }
 
 /// Reads a script, makes this of it, writes it, and tells how it ended. Nothing is flushed.
@@ -91,7 +93,7 @@ pub fn make<R: Read, W: Write>(alloc: Global, form: Form, reader: &mut R, writer
     match form {
         Form::Replies => replies(alloc, reader, writer),
         Form::Explained => explained(alloc, reader, writer),
-        Form::Picture => picture(alloc, reader, writer),
+        Form::Picture(part) => picture(alloc, part, reader, writer),
     }
 }
 
@@ -127,20 +129,20 @@ pub fn make_flushed<R: Read, W: Write + Drop>(
 /// Runs agents by a settings text, writes the report, and flushes it, whatever the ending.
 ///
 /// Endings are those of the faults of [`run_config`]; where the flush fails it is `CannotRead`, by a write, whatever
-/// else there was. It may wait without end, as a run may.
-pub fn run_flushed<R: Threads + Wait + Sync, S: Write + Copy + Sync, W: Write + Drop>(
+/// else there was. Without a deadline it may wait without end, as a run may.
+pub fn run_flushed<R: Threads + Wait + Clock + Sync, S: Write + Copy + Sync, W: Write + Drop>(
     rt: &R,
     alloc: Global,
     text: &str,
     form: ReportForm,
-    screen: Option<S>,
+    progress: &Progress<S>,
     writer: &mut BufWriter<W>,
 ) -> Ending
     ensures told { IsReported (parse_document text.now) form (writer_contents W.contents writer.old)
         (writer_contents W.contents writer.new) result }
     ensures flushed { (result ≡ Ending.CannotRead Failure.Write) ⊎ (writer_buffer writer.new ≡ []) }
 {
-    match run_config(rt, alloc, text, form, screen, writer) {
+    match run_config(rt, alloc, text, form, progress, writer) {
         Ok(_report) => flushed(writer, Ending::Finished),
         Err(fault) => flushed(writer, Ending::from(fault)),
     }

@@ -1,4 +1,4 @@
-//! The line by which a person at a terminal sees that a run goes on.
+//! How far a run is, the line by which a person at a terminal sees that, and when it is given up.
 
 ghost use Rattle.std.specs.Prelude.{Some, [], ◌↔◌, IsTrue, OnOk};
 ghost use Rattle.std.specs.Io.KnownBytes.{Appends};
@@ -9,15 +9,18 @@ use pc_threads::{Driven, Gate, Point};
 use std::fmt;
 use std::io::{self, Write};
 use std::sync::atomic::{AtomicU64, Ordering};
+use std::time::Instant;
 
 /// How many messages there are between two lines, at least.
 const MESSAGES_BETWEEN: u64 = 1_000;
 
-/// How far a run of so many threads is.
-#[derive(Clone, Copy)]
-struct SoFar {
-    all: u64,
-    driven: Driven,
+/// How far a run of so many threads is. It is told as `12 of 1000 threads dead, 13000 messages` (own).
+#[derive(Clone, Copy, Debug, PartialEq, Eq)]
+pub struct SoFar {
+    /// All threads of the run.
+    pub all: u64,
+    /// Those that are dead, and the messages that the steps so far posted.
+    pub driven: Driven,
 }
 
 impl fmt::Display for SoFar {
@@ -54,26 +57,51 @@ fn write_nothing<W: Write>(screen: &mut W) -> io::Result<()>
     write!(screen, "\r\x1b[K")
 }
 
-/// A gate that lets everyone pass, and tells whoever looks at the screen, where there is one, how far the run is.
+/// How far a run is, for those who watch it, and until when it may go on (own).
 ///
-/// What cannot be written is passed over: the run is not about it.
+/// Whoever looks at the screen, where there is one, is told meanwhile. What cannot be written is passed over: the run
+/// is not about it.
 #[derive(Drop)]
-pub(crate) struct Progress<S> {
+pub struct Progress<S> {
     screen: Option<S>,
+    /// When the run is given up; none: never.
+    deadline: Option<Instant>,
     /// All threads of the run.
-    all: u64,
-    /// The messages that the last line told, 0 before the first one. The driver alone writes it.
+    all: AtomicU64,
+    /// Those that are dead. The driver alone writes this and what follows.
+    dead: AtomicU64,
+    messages: AtomicU64,
+    /// The messages that the last line told, 0 before the first one.
     told: AtomicU64,
 }
 
 impl<S: Write + Copy> Progress<S> {
-    /// Nothing was told yet of a run of so many threads.
-    pub(crate) fn new(screen: Option<S>, all: usize) -> Progress<S> {
+    /// Before a run, of which nothing was told yet.
+    pub fn new(screen: Option<S>, deadline: Option<Instant>) -> Progress<S> {
         Progress {
             screen,
-            all: all as u64,
+            deadline,
+            all: AtomicU64::new(0),
+            dead: AtomicU64::new(0),
+            messages: AtomicU64::new(0),
             told: AtomicU64::new(0),
         }
+    }
+
+    /// How far the run is, or was where it ended.
+    pub fn so_far(&self) -> SoFar {
+        SoFar {
+            all: self.all.load(Ordering::SeqCst),
+            driven: Driven {
+                threads: self.dead.load(Ordering::SeqCst),
+                messages: self.messages.load(Ordering::SeqCst),
+            },
+        }
+    }
+
+    /// The run begins, with so many threads.
+    pub(crate) fn begin(&self, threads: usize) {
+        self.all.store(threads as u64, Ordering::SeqCst);
     }
 
     /// The run has ended: where a line was written, nothing is left of it.
@@ -92,15 +120,18 @@ impl<S: Write + Copy> Gate for Progress<S> {
     }
 
     fn driven(&self, so_far: Driven) {
+        self.dead.store(so_far.threads, Ordering::SeqCst);
+        self.messages.store(so_far.messages, Ordering::SeqCst);
         if let Some(mut screen) = self.screen {
             if is_due(self.told.load(Ordering::SeqCst), &so_far) {
                 self.told.store(so_far.messages, Ordering::SeqCst);
-                let so_far = SoFar {
-                    all: self.all,
-                    driven: so_far,
-                };
+                let so_far = self.so_far();
                 let _ = write_so_far(&mut screen, &so_far);
             }
         }
+    }
+
+    fn deadline(&self) -> Option<Instant> {
+        self.deadline
     }
 }

@@ -2,6 +2,7 @@
 
 ghost use Rattle.std.specs.Prelude.{Some, OnOk};
 ghost use Rattle.pc_program.specs.ReportText.{IsReport, row_text, rows_text, totals_text};
+ghost use Rattle.pc_program.specs.ReportText.{refusals_row_text, refusals_rows_text};
 
 use pc_chart::draw_report;
 use pc_threads::{LoadReport, Row};
@@ -15,6 +16,8 @@ pub enum ReportForm {
     Totals,
     /// That, and a line for each CPU.
     EachCpu,
+    /// The same, and at the end of each line refusals by name.
+    EachRefusal,
     /// A picture of both.
     Picture,
 }
@@ -61,6 +64,41 @@ impl fmt::Display for CpuRow<'_> {
     }
 }
 
+/// What one CPU's agent counted, and what it was refused by name.
+#[derive(Clone, Copy)]
+struct RefusalsRow<'a>(&'a Row);
+
+impl fmt::Display for RefusalsRow<'_> {
+    ghost output = { λ row. Some (refusals_row_text row.0.now) };
+
+    #[tactic(auto, unfolding(crate::specs::ReportText::refusals_row_text))]
+    fn fmt<W: fmt::Write>(&self, f: &mut fmt::Formatter<W>) -> fmt::Result {
+        let row = CpuRow(self.0);
+        let busy = self.0.busy;
+        let nothing_ready = self.0.nothing_ready;
+        let nothing_to_steal = self.0.nothing_to_steal;
+        let dead = self.0.dead;
+        write!(f, "{row} Busy {busy} NothingReady {nothing_ready}")?;
+        write!(f, " NothingToSteal {nothing_to_steal} Dead {dead}")
+    }
+}
+
+/// The same, a line for each CPU.
+#[derive(Clone, Copy)]
+struct RefusalsRows<'a>(&'a [Row]);
+
+impl fmt::Display for RefusalsRows<'_> {
+    ghost output = { λ rows. Some (refusals_rows_text rows.0.now) };
+
+    fn fmt<W: fmt::Write>(&self, f: &mut fmt::Formatter<W>) -> fmt::Result {
+        for row in self.0 {
+            let line = RefusalsRow(row);
+            writeln!(f, "{line}")?;
+        }
+        Ok(())
+    }
+}
+
 /// What the agents counted, a line for each CPU.
 #[derive(Clone, Copy)]
 struct CpuRows<'a>(&'a [Row]);
@@ -87,9 +125,11 @@ pub(crate) fn write_report<W: Write>(
 {
     let totals = Totals(report);
     let rows = CpuRows(report.rows.as_slice());
+    let refusals = RefusalsRows(report.rows.as_slice());
     match form {
         ReportForm::Totals => write!(writer, "{totals}"),
         ReportForm::EachCpu => write!(writer, "{totals}{rows}"),
+        ReportForm::EachRefusal => write!(writer, "{totals}{refusals}"),
         ReportForm::Picture => draw_report(report, writer),
     }
 }

@@ -14,6 +14,7 @@ use std::alloc::Global;
 use std::io::Write;
 use std::sync::Wait;
 use std::thread::Threads;
+use std::time::Clock;
 use thiserror::Error;
 
 /// Why a settings text led to no written report.
@@ -30,17 +31,18 @@ pub enum RunTextFault {
     Write,
 }
 
-/// Reads the settings, runs agents in threads as they ask, and writes the report. Whoever looks at the screen, where
-/// there is one, is told meanwhile how far the run is.
+/// Reads the settings, runs agents in threads as they ask, and writes the report. The progress tells meanwhile how far
+/// the run is, and says when it is given up.
 ///
 /// Faults of the settings come first (`Settings`), then those of the run (`Run`), then `Write`, from the first write
-/// that fails: the report may then be written in part. Nothing is flushed. It may wait without end, as a run may.
-pub fn run_config<R: Threads + Wait + Sync, S: Write + Copy + Sync, W: Write>(
+/// that fails: the report may then be written in part. Nothing is flushed. Without a deadline it may wait without end,
+/// as a run may.
+pub fn run_config<R: Threads + Wait + Clock + Sync, S: Write + Copy + Sync, W: Write>(
     rt: &R,
     alloc: Global,
     text: &str,
     form: ReportForm,
-    screen: Option<S>,
+    progress: &Progress<S>,
     writer: &mut W,
 ) -> Result<LoadReport, RunTextFault>
     ensures tells { IfOk result TellsItsBook }
@@ -54,8 +56,8 @@ pub fn run_config<R: Threads + Wait + Sync, S: Write + Copy + Sync, W: Write>(
         Ok(config) => config,
         Err(fault) => return Err(RunTextFault::Settings(fault)),
     };
-    let progress = Progress::new(screen, config.threads().len());
-    let ended = run_agents(rt, alloc, &config, &progress);
+    progress.begin(config.threads().len());
+    let ended = run_agents(rt, alloc, &config, progress);
     progress.end();
     let report = match ended {
         Ok(report) => report,

@@ -6,10 +6,10 @@
 mod met;
 mod streams;
 
-use met::{Met, Said, Source, say_failure};
+use met::{Met, Source, say_failure};
 use pc_program::{
-    Command, CommandFault, Ending, Failure, Form, MOST_SETTINGS, ReportForm, make_flushed,
-    read_command, read_settings, run_flushed, write_trouble,
+    Command, CommandFault, Ending, Failure, Form, MOST_SETTINGS, Progress, ReportForm, SoFar,
+    make_flushed, read_command, read_settings, run_flushed, write_trouble,
 };
 use pc_script::MOST_BYTES;
 use std::alloc::Global;
@@ -19,6 +19,7 @@ use std::io::{self, BufWriter, IsTerminal, Read, Stderr, Write};
 use std::process::ExitCode;
 use std::sync::Wait;
 use std::thread::Threads;
+use std::time::{Clock, Duration, Instant};
 use streams::Noted;
 
 /// Makes what is asked for of the text that a stream gives, through a buffer of its own.
@@ -37,10 +38,7 @@ fn make_buffered<R: Read + Drop, W: Write + Drop>(
         Ending::CannotRead(Failure::Write) => writer.get_ref().fault(),
         _ => reader.fault(),
     };
-    Met {
-        ending,
-        said: Said(said),
-    }
+    Met::of(ending, said)
 }
 
 /// The words of the command line.
@@ -70,6 +68,7 @@ fn command_of(rt: &HostRuntime) -> Result<Command, Met> {
     match read_command(rt.alloc(), words.as_slice()) {
         Ok(command) => Ok(command),
         Err(CommandFault::OutOfMemory) => Err(Met::ended(Ending::OutOfMemory)),
+        Err(CommandFault::BadNumbers) => Err(Met::ended(Ending::BadCommandLine)),
         Err(CommandFault::Clap(error)) if error.use_stderr() => {
             Err(Met::ended(Ending::BadCommandLine))
         }
@@ -96,10 +95,7 @@ fn settings_in<R: Read + Drop>(alloc: Global, reader: R) -> Result<String, Met> 
     let mut reader = Noted::new(reader);
     match read_settings(alloc, &mut reader) {
         Ok(text) => Ok(text),
-        Err(ending) => Err(Met {
-            ending,
-            said: Said(reader.fault()),
-        }),
+        Err(ending) => Err(Met::of(ending, reader.fault())),
     }
 }
 
@@ -124,23 +120,28 @@ fn screen_of(rt: &HostRuntime) -> Option<Stderr> {
     }
 }
 
+/// When a run that begins now is given up. Where the clock cannot be read it is not.
+fn deadline_of(rt: &HostRuntime, limit: Option<u32>) -> Option<Instant> {
+    let seconds = limit? as u64;
+    Instant::now(rt)
+        .ok()?
+        .checked_add(Duration::from_secs(seconds))
+}
+
 /// Runs agents by a settings text, and reports through a buffer of its own.
-fn run_settings<R: Threads + Wait + Sync, S: Write + Copy + Sync, W: Write + Drop>(
+fn run_settings<R: Threads + Wait + Clock + Sync, S: Write + Copy + Sync, W: Write + Drop>(
     rt: &R,
     alloc: Global,
     text: &str,
     form: ReportForm,
-    screen: Option<S>,
+    progress: &Progress<S>,
     writer: W,
 ) -> Met {
     let Ok(mut writer) = BufWriter::new(alloc, Noted::new(writer)) else {
         return Met::ended(Ending::OutOfMemory);
     };
-    let ending = run_flushed(rt, alloc, text, form, screen, &mut writer);
-    Met {
-        ending,
-        said: Said(writer.get_ref().fault()),
-    }
+    let ending = run_flushed(rt, alloc, text, form, progress, &mut writer);
+    Met::of(ending, writer.get_ref().fault())
 }
 
 /// Says on standard error how the program ends, and answers its exit status.
@@ -150,7 +151,7 @@ fn end(rt: &HostRuntime, met: &Met, source: &Source, most: usize) -> ExitCode {
         let _ = eprintln!(rt; "{message}");
     }
     match met.ending {
-        Ending::CannotRead(failure) => say_failure(rt, failure, met.said, source, most),
+        Ending::CannotRead(failure) => say_failure(rt, failure, met, source, most),
         Ending::BadCommandLine if met.said.0.is_some() => {
             let _ = eprintln!(rt; "pc-sim: a word of it is no UTF-8");
         }
@@ -166,12 +167,19 @@ fn make_script(rt: &HostRuntime, form: Form, file: Option<String>) -> ExitCode {
     end(rt, &met, &source, MOST_BYTES)
 }
 
-/// The same of a run by a settings text. Of settings that have a fault it says which.
-fn end_run(rt: &HostRuntime, met: &Met, source: &Source, text: &str) -> ExitCode {
+/// The same of a run by a settings text. Of settings that have a fault it says which, and of a run that did not settle
+/// how far it came.
+fn end_run(rt: &HostRuntime, met: &Met, source: &Source, text: &str, so_far: SoFar) -> ExitCode {
     let status = end(rt, met, source, MOST_SETTINGS);
-    if let Ending::Settings(_) = met.ending {
-        // Nothing can be said of an error on standard error itself.
-        let _ = write_trouble(rt.alloc(), text, &mut rt.stderr());
+    // Nothing can be said of an error on standard error itself.
+    match met.ending {
+        Ending::Settings(_) => {
+            let _ = write_trouble(rt.alloc(), text, &mut rt.stderr());
+        }
+        Ending::Run(_) => {
+            let _ = eprintln!(rt; "pc-sim: {so_far}");
+        }
+        _ => {}
     }
     status
 }
@@ -191,15 +199,15 @@ fn main(rt: HostRuntime) -> ExitCode {
     match command_of(&rt) {
         Ok(Command::Replay { file }) => make_script(&rt, Form::Replies, file),
         Ok(Command::Explain { file }) => make_script(&rt, Form::Explained, file),
-        Ok(Command::Draw { file }) => make_script(&rt, Form::Picture, file),
-        Ok(Command::Run { file, form }) => {
+        Ok(Command::Draw { file, part }) => make_script(&rt, Form::Picture(part), file),
+        Ok(Command::Run { file, form, limit }) => {
             let source = Source(file);
             match settings_of(&rt, &source) {
                 Ok(text) => {
                     let text = text.as_str();
-                    let screen = screen_of(&rt);
-                    let met = run_settings(&rt, rt.alloc(), text, form, screen, rt.stdout());
-                    end_run(&rt, &met, &source, text)
+                    let progress = Progress::new(screen_of(&rt), deadline_of(&rt, limit));
+                    let met = run_settings(&rt, rt.alloc(), text, form, &progress, rt.stdout());
+                    end_run(&rt, &met, &source, text, progress.so_far())
                 }
                 Err(met) => end(&rt, &met, &source, MOST_SETTINGS),
             }

@@ -41,9 +41,14 @@ impl Display for Source {
 impl Met {
     /// It ends so, and the system said nothing.
     pub(crate) fn ended(ending: Ending) -> Met {
+        Met::of(ending, None)
+    }
+
+    /// It ends so, and the system said that of the text or of the standard output.
+    pub(crate) fn of(ending: Ending, said: Option<io::Error>) -> Met {
         Met {
             ending,
-            said: Said(None),
+            said: Said(said),
         }
     }
 
@@ -52,10 +57,7 @@ impl Met {
         if error.kind() == ErrorKind::OutOfMemory {
             return Met::ended(Ending::OutOfMemory);
         }
-        Met {
-            ending: Ending::CannotRead(Failure::Read),
-            said: Said(Some(error)),
-        }
+        Met::of(Ending::CannotRead(Failure::Read), Some(error))
     }
 
     /// The words of the command line could not be had, since of this.
@@ -63,18 +65,12 @@ impl Met {
         if error.kind() == ErrorKind::OutOfMemory {
             return Met::ended(Ending::OutOfMemory);
         }
-        Met {
-            ending: Ending::BadCommandLine,
-            said: Said(Some(error)),
-        }
+        Met::of(Ending::BadCommandLine, Some(error))
     }
 
     /// What was asked for could not be written, since of this.
     pub(crate) fn unwritten(error: io::Error) -> Met {
-        Met {
-            ending: Ending::CannotRead(Failure::Write),
-            said: Said(Some(error)),
-        }
+        Met::of(Ending::CannotRead(Failure::Write), Some(error))
     }
 }
 
@@ -83,10 +79,11 @@ impl Met {
 pub(crate) fn say_failure(
     rt: &HostRuntime,
     failure: Failure,
-    said: Said,
+    met: &Met,
     source: &Source,
     most: usize,
 ) {
+    let said = met.said;
     let _ = match failure {
         Failure::Read => eprintln!(rt; "pc-sim: {source}: {said}"),
         Failure::TooLong => eprintln!(rt; "pc-sim: {source}: it has more than {most} bytes"),

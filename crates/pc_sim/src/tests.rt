@@ -2,7 +2,9 @@
 
 mod settings;
 
-use pc_program::{Command, CommandFault, Ending, Form, ReportForm, make, read_command, run_script};
+use pc_program::{
+    Command, CommandFault, Ending, Form, Interval, Part, ReportForm, make, read_command, run_script,
+};
 use pc_script::{Outcome, ScriptFault, lines_of};
 use std::alloc::Global;
 use std::test::Fail;
@@ -27,32 +29,45 @@ fn has_line(text: &[u8], wanted: &'static [u8]) -> bool {
     false
 }
 
-/// Whether the script is drawn to this ending, with this title, as a whole picture.
-fn is_drawn(alloc: Global, script: &'static [u8], ending: Ending, title: &'static [u8]) -> bool {
+/// Whether this part of the script is drawn to this ending, with this title.
+fn is_drawn(
+    alloc: Global,
+    part: Part,
+    script: &'static [u8],
+    ending: Ending,
+    title: &'static [u8],
+) -> bool {
     let mut reader = script;
     let mut writer = Vec::new(alloc);
-    make(alloc, Form::Picture, &mut reader, &mut writer) == ending
+    make(alloc, Form::Picture(part), &mut reader, &mut writer) == ending
         && has_line(writer.as_slice(), title)
         && has_line(writer.as_slice(), b"</svg>")
 }
+
+/// The lane of CPU 1, at the third line.
+const ONE: Part = Part {
+    cpus: Some(Interval { first: 1, last: 1 }),
+    lines: Some(Interval { first: 3, last: 3 }),
+};
 
 #[test]
 fn a_script_is_drawn_over_memory(rt: HostRuntime) {
     let whole = b"enclave 2 8 100 16 1000\ntick 5\ntick 0\n";
     let title = b"<title>commands 3, refused 1</title>";
-    assert!(rt; is_drawn(rt.alloc(), whole, Ending::Finished, title));
+    assert!(rt; is_drawn(rt.alloc(), Part::ALL, whole, Ending::Finished, title));
+    assert!(rt; is_drawn(rt.alloc(), ONE, whole, Ending::Finished, title));
     let cut = b"wake t0\n\nwalk\n";
     let title = b"<title>commands 1, refused 1, fault line 3</title>";
-    assert!(rt; is_drawn(rt.alloc(), cut, Ending::DrawnToFault, title));
+    assert!(rt; is_drawn(rt.alloc(), Part::ALL, cut, Ending::DrawnToFault, title));
 }
 
-/// What a command line asks for: which command, of which file, and how a report is told.
+/// What a command line asks for: which command, of which part, how a report is told, and how long a run may take.
 #[derive(Clone, Copy, Debug, PartialEq, Eq)]
 enum Asked {
     Replay,
     Explain,
-    Draw,
-    Run(ReportForm),
+    Draw(Part),
+    Run(ReportForm, Option<u32>),
 }
 
 fn read_off(
@@ -62,8 +77,8 @@ fn read_off(
     match read_command(alloc, words)? {
         Command::Replay { file } => Ok((Asked::Replay, file)),
         Command::Explain { file } => Ok((Asked::Explain, file)),
-        Command::Draw { file } => Ok((Asked::Draw, file)),
-        Command::Run { file, form } => Ok((Asked::Run(form), file)),
+        Command::Draw { file, part } => Ok((Asked::Draw(part), file)),
+        Command::Run { file, form, limit } => Ok((Asked::Run(form, limit), file)),
     }
 }
 
@@ -99,14 +114,40 @@ fn first_other(
     Ok(None)
 }
 
-const TOTALS: Asked = Asked::Run(ReportForm::Totals);
+const WHOLE: Asked = Asked::Draw(Part::ALL);
 
-const EACH_CPU: Asked = Asked::Run(ReportForm::EachCpu);
+const FIVE_CPUS: Asked = Asked::Draw(Part {
+    cpus: Some(Interval { first: 3, last: 7 }),
+    lines: None,
+});
 
-const PICTURE: Asked = Asked::Run(ReportForm::Picture);
+const ONE_LINE: Asked = Asked::Draw(Part {
+    cpus: None,
+    lines: Some(Interval { first: 9, last: 9 }),
+});
+
+const CPUS_AND_LINES: Asked = Asked::Draw(Part {
+    cpus: Some(Interval { first: 0, last: 0 }),
+    lines: Some(Interval {
+        first: 1_000,
+        last: u32::MAX,
+    }),
+});
+
+const TOTALS: Asked = Asked::Run(ReportForm::Totals, None);
+
+const NINETY_SECONDS: Asked = Asked::Run(ReportForm::Totals, Some(90));
+
+const AT_ONCE: Asked = Asked::Run(ReportForm::EachRefusal, Some(0));
+
+const EACH_CPU: Asked = Asked::Run(ReportForm::EachCpu, None);
+
+const EACH_REFUSAL: Asked = Asked::Run(ReportForm::EachRefusal, None);
+
+const PICTURE: Asked = Asked::Run(ReportForm::Picture, None);
 
 /// Words, and what they ask for, of which file.
-static COMMANDS: [(&[&str], Asked, Option<&str>); 12] = [
+static COMMANDS: [(&[&str], Asked, Option<&str>); 18] = [
     (&["pc-sim", "replay"], Asked::Replay, None),
     (
         &["pc-sim", "replay", "a.script"],
@@ -119,12 +160,27 @@ static COMMANDS: [(&[&str], Asked, Option<&str>); 12] = [
         Some("a.script"),
     ),
     (&["pc-sim", "explain", "-"], Asked::Explain, None),
+    (&["pc-sim", "draw", "a.script"], WHOLE, Some("a.script")),
+    (&["pc-sim", "draw", "-"], WHOLE, None),
     (
-        &["pc-sim", "draw", "a.script"],
-        Asked::Draw,
+        &["pc-sim", "draw", "--cpus", "3-7", "a.script"],
+        FIVE_CPUS,
         Some("a.script"),
     ),
-    (&["pc-sim", "draw", "-"], Asked::Draw, None),
+    (&["pc-sim", "draw", "--lines=9"], ONE_LINE, None),
+    (
+        &[
+            "pc-sim",
+            "draw",
+            "--lines",
+            "1000-4294967295",
+            "-",
+            "--cpus",
+            "0-0",
+        ],
+        CPUS_AND_LINES,
+        None,
+    ),
     (&["pc-sim", "run"], TOTALS, None),
     (&["pc-sim", "run", "-"], TOTALS, None),
     (&["pc-sim", "run", "--per-cpu", "--draw"], PICTURE, None),
@@ -142,6 +198,28 @@ static COMMANDS: [(&[&str], Asked, Option<&str>); 12] = [
         &["pc-sim", "run", "--draw", "s.toml"],
         PICTURE,
         Some("s.toml"),
+    ),
+    (
+        &["pc-sim", "run", "--per-cpu", "--per-cpu"],
+        EACH_REFUSAL,
+        None,
+    ),
+    (
+        &["pc-sim", "run", "--limit", "90", "s.toml"],
+        NINETY_SECONDS,
+        Some("s.toml"),
+    ),
+    (
+        &[
+            "pc-sim",
+            "run",
+            "--per-cpu",
+            "--limit=0",
+            "--per-cpu",
+            "--per-cpu",
+        ],
+        AT_ONCE,
+        None,
     ),
 ];
 
@@ -171,17 +249,53 @@ fn first_not(alloc: Global, rows: &[&'static [&'static str]], wrong: bool) -> Op
 
 #[test]
 fn other_words_are_no_command(rt: HostRuntime) {
-    const ROWS: [&[&str]; 8] = [
+    const ROWS: [&[&str]; 15] = [
         &["pc-sim"],
         &["pc-sim", "help"],
         &["pc-sim", "walk"],
         &["pc-sim", "run", "a", "b"],
         &["pc-sim", "replay", "--per-cpu"],
         &["pc-sim", "draw", "--draw"],
+        &["pc-sim", "draw", "--cpus"],
+        &["pc-sim", "draw", "--cpus", "1", "--cpus", "1"],
+        &["pc-sim", "explain", "--lines", "1"],
         &["pc-sim", "run", "--per-cpu=true"],
-        &["pc-sim", "run", "--per-cpu", "--per-cpu"],
+        &["pc-sim", "run", "--draw", "--draw"],
+        &["pc-sim", "run", "--limit"],
+        &["pc-sim", "run", "--limit", "soon"],
+        &["pc-sim", "run", "--limit", "4294967296"],
+        &["pc-sim", "run", "--limit", "1", "--limit", "1"],
     ];
     assert_eq!(rt; first_not(rt.alloc(), &ROWS, true), None);
+}
+
+/// The place of the first words that are told to be something else than wrong by their numbers.
+fn first_of_no_fault(alloc: Global, rows: &[&'static [&'static str]]) -> Option<usize> {
+    for (place, words) in rows.iter().enumerate() {
+        if !has_bad_numbers(alloc, words) {
+            return Some(place);
+        }
+    }
+    None
+}
+
+/// Whether a word that is to spell numbers spells none.
+fn has_bad_numbers(alloc: Global, words: &'static [&'static str]) -> bool {
+    matches!(read_command(alloc, words), Err(CommandFault::BadNumbers))
+}
+
+#[test]
+fn words_that_spell_no_numbers_are_told(rt: HostRuntime) {
+    const ROWS: [&[&str]; 7] = [
+        &["pc-sim", "draw", "--cpus", ""],
+        &["pc-sim", "draw", "--cpus", "7-3"],
+        &["pc-sim", "draw", "--cpus", "3-"],
+        &["pc-sim", "draw", "--lines=-3"],
+        &["pc-sim", "draw", "--lines", "01"],
+        &["pc-sim", "draw", "--lines", "1-4294967296"],
+        &["pc-sim", "draw", "--cpus", "1", "--lines", "1-2-3"],
+    ];
+    assert_eq!(rt; first_of_no_fault(rt.alloc(), &ROWS), None);
 }
 
 #[test]

@@ -3,6 +3,8 @@
 #![tactic(auto)]
 
 #[cfg(test)]
+mod advice;
+#[cfg(test)]
 mod agent;
 #[cfg(test)]
 mod examples;
@@ -12,5 +14,7 @@ mod explain;
 mod session;
 #[cfg(test)]
 mod threads;
+#[cfg(test)]
+mod wire;
 #[cfg(test)]
 mod world;

@@ -10,6 +10,7 @@ mod runs;
 mod schedules;
 mod settings;
 mod settled;
+mod transcripts;
 
 use pc_agent::Agent;
 use pc_delta::Delta;
@@ -127,8 +128,21 @@ enum Step {
     Asleep(u8, bool),
     /// How many refusals the first agent counted that are neither stale nor pending.
     Others(u64),
+    /// What the first agent was refused by name: busy, nothing ready, nothing to steal, dead.
+    Refused([u64; 4]),
     /// How many calls are listed.
     Listed(usize),
+}
+
+/// What the agent was refused by name: busy, nothing ready, nothing to steal, dead.
+fn refused_by_name(agent: &Agent) -> [u64; 4] {
+    let counts = agent.counts();
+    [
+        counts.busy,
+        counts.nothing_ready,
+        counts.nothing_to_steal,
+        counts.dead,
+    ]
 }
 
 // Without contracts, so that a test's proof does not carry those of the book.
@@ -236,6 +250,7 @@ impl Scene {
             Step::Peeks(cpu, wanted) => peeked(&self.book, Cpu(cpu)) == wanted,
             Step::Asleep(cpu, wanted) => self.book.kernel().is_asleep(Cpu(cpu)) == wanted,
             Step::Others(wanted) => self.first.counts().other == wanted,
+            Step::Refused(wanted) => refused_by_name(&self.first) == wanted,
             Step::Listed(wanted) => self.listed() == wanted,
             _ => false,
         }

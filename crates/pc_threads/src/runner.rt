@@ -15,6 +15,7 @@ mod gate;
 mod inbox;
 mod inbox_wire;
 mod ledgers;
+mod mailbox;
 mod opening;
 mod restarts;
 mod scope;
@@ -39,6 +40,7 @@ use std::marker::Brand;
 use std::sync::ledger::{Blank, Ledger};
 use std::sync::{Mutex, Wait};
 use std::thread::Threads;
+use std::time::Clock;
 use threads::Joined;
 
 /// The known threads are those that the book's calls created.
@@ -69,7 +71,7 @@ fn report_of(alloc: Global, book: Book, joined: Joined) -> Result<LoadReport, Ru
 }
 
 /// A run by these ledgers.
-fn run_named<N: Names + Send + Sync, R: Threads + Wait + Sync, G: Gate + Sync>(
+fn run_named<N: Names + Send + Sync, R: Threads + Wait + Clock + Sync, G: Gate + Sync>(
     rt: &R,
     alloc: Global,
     config: &Config,
@@ -134,7 +136,7 @@ fn run_with<
     H: Ledger + Send + Sync,
     I: Ledger + Send + Sync,
     J: Ledger + Send + Sync,
-    R: Threads + Wait + Sync,
+    R: Threads + Wait + Clock + Sync,
     G: Gate + Sync,
 >(rt: &R, alloc: Global, config: &Config, gate: &G, blanks: Blanks) -> Result<LoadReport, RunFault>
     requires named { AreBlanksOf A.Ledger B.Ledger C.Ledger D.Ledger E.Ledger F.Ledger H.Ledger I.Ledger J.Ledger
@@ -153,10 +155,10 @@ fn run_with<
 ///
 /// The caller's thread is the driver: it creates the threads, does each thread's next step when an agent has committed
 /// it, and wakes it behind a block. Agents send what they read before they remove it, pick, take over where nothing is
-/// ready, and restart where the settings say so. `StartFailed`, `GaveUp` and `Driver` end the run early; then what
-/// `settle` tells. Where a notice to the driver, or the note that a run ends, finds no memory, the run may wait without
-/// end.
-pub fn run_agents<R: Threads + Wait + Sync, G: Gate + Sync>(
+/// ready, and restart where the settings say so. `StartFailed`, `GaveUp`, `TimeUp` and `Driver` end the run early; then
+/// what `settle` tells. Where a notice to the driver, or the note that a run ends, finds no memory, the run may wait
+/// without end.
+pub fn run_agents<R: Threads + Wait + Clock + Sync, G: Gate + Sync>(
     rt: &R,
     alloc: Global,
     config: &Config,

@@ -1,9 +1,10 @@
 //! Runs in an order that a gate forces: who is told, asked and answered what, and when.
 
-use crate::threads::holds::{DRIVER, Order, comes_to_ordered};
+use crate::threads::holds::{DRIVER, Order, SENDERS, comes_to_ordered, given_up_after};
 use crate::threads::runs::{Fact, comes_to};
 use crate::threads::settings::Plan;
-use pc_threads::Step;
+use pc_threads::{RunFault, Step};
+use std::time::Duration;
 
 /// A thread of the first queue that may run on the first two CPUs, and does two steps.
 const TWO_STEPS: [Plan<'static>; 1] = [(0, 3, &[Step::Yield(1), Step::Die(1)])];
@@ -57,7 +58,8 @@ fn a_steal_of_a_dead_thread_asks(rt: HostRuntime) {
         ],
         rests: &[],
     };
-    comes_to_ordered(&rt, rt.alloc(), &ORDER, &[Fact::Totals([1, 2, 1, 1])]);
+    const FACTS: [Fact<'static>; 2] = [Fact::Totals([1, 2, 1, 1]), Fact::LastDead(1)];
+    comes_to_ordered(&rt, rt.alloc(), &ORDER, &FACTS);
 }
 
 // The first agent is held where it has decided: the thread runs, and nothing of it waits. The second one looks then.
@@ -70,8 +72,37 @@ fn what_is_decided_is_done_by_then(rt: HostRuntime) {
         holds: &[(1, 1, 0, 3), (0, 3, 1, 6)],
         rests: &[],
     };
-    const FACTS: [Fact<'static>; 2] = [Fact::Totals([1, 2, 1, 1]), Fact::NonePending];
+    const FACTS: [Fact<'static>; 2] = [Fact::Totals([1, 2, 1, 1]), Fact::Pending(0)];
     comes_to_ordered(&rt, rt.alloc(), &ORDER, &FACTS);
+}
+
+// The first agent is held where it has told of the thread and not removed that yet. The second one would have it then.
+#[test]
+fn a_pending_steal_is_counted(rt: HostRuntime) {
+    const ORDER: Order<'static> = Order {
+        cpus: 2,
+        plans: &ONE_STEP,
+        turns: &[],
+        holds: &[(1, 1, SENDERS, 1), (SENDERS, 1, 1, 6)],
+        rests: &[],
+    };
+    const FACTS: [Fact<'static>; 2] = [Fact::Totals([1, 2, 1, 1]), Fact::Pending(1)];
+    comes_to_ordered(&rt, rt.alloc(), &ORDER, &FACTS);
+}
+
+// Both agents start again after the first one alone has removed the thread's first message, so nobody knows it.
+#[test]
+fn a_run_that_waits_is_given_up(rt: HostRuntime) {
+    const ORDER: Order<'static> = Order {
+        cpus: 2,
+        plans: &[(0, 1, &[Step::Yield(1), Step::Die(1)])],
+        turns: &[(0, 2), (1, 2)],
+        // The second agent takes the message in behind its first turn, and forgets it before its second one.
+        holds: &[(1, 1, 0, 3), (0, 4, 1, 6)],
+        rests: &[],
+    };
+    let given_up = given_up_after(&rt, rt.alloc(), &ORDER, Duration::from_secs(2));
+    assert_eq!(rt; given_up, Some(RunFault::TimeUp));
 }
 
 // The first agent is held where it has copied, and the second one, which waits for news then, does no second turn.

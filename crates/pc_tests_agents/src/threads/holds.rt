@@ -3,21 +3,24 @@
 use crate::threads::runs::{Fact, first_wrong, gated_run};
 use crate::threads::settings::Plan;
 use pc_messages::Cpu;
-use pc_threads::{Driven, Gate, LoadReport, Point};
+use pc_threads::{Driven, Gate, LoadReport, Point, RunFault};
 use std::alloc::Global;
 use std::process::Abort;
 use std::sync::Wait;
 use std::sync::atomic::{AtomicU64, Ordering};
 use std::thread;
 use std::thread::Threads;
-use std::time::{Clock, Duration};
+use std::time::{Clock, Duration, Instant};
 
 /// Who is held at which point of its own, until who has come to which. The agents are 0, 1, .., and their points count
-/// from 1, three a turn: 4 is where the second turn begins.
+/// from 1, three a turn: 4 is where the second turn begins. Where they have sent they are somebody else.
 pub(crate) type Hold = (usize, u64, usize, u64);
 
 /// The driver among those who come to points: its own are the steps that it has done.
 pub(crate) const DRIVER: usize = 3;
+
+/// The agents where they have sent what they read: 4, 5, .., one point a turn.
+pub(crate) const SENDERS: usize = 4;
 
 /// Holds agents and the driver at points, each for 10,000 turns of a millisecond.
 #[derive(Drop)]
@@ -27,9 +30,11 @@ struct Forced<'a, R: Clock> {
     /// Who is held at which point for a while, in which who comes no further than to which.
     rests: &'a [Hold],
     /// How many points the agents and the driver have come to.
-    points: [AtomicU64; 4],
+    points: [AtomicU64; 6],
     /// 1 where somebody did not come in time, or came too far.
     failed: AtomicU64,
+    /// When the run is given up.
+    deadline: Option<Instant>,
 }
 
 impl<'a, R: Clock> Forced<'a, R> {
@@ -94,13 +99,21 @@ impl<'a, R: Clock> Forced<'a, R> {
 }
 
 impl<'a, R: Clock> Gate for Forced<'a, R> {
-    fn pass(&self, cpu: Cpu, _point: Point) -> bool {
-        self.comes_and_is_held(cpu.index() as usize);
+    fn pass(&self, cpu: Cpu, point: Point) -> bool {
+        let agent = cpu.index() as usize;
+        match point {
+            Point::Sent => self.comes_and_is_held(SENDERS.saturating_add(agent)),
+            Point::Turn | Point::Copied | Point::Answered => self.comes_and_is_held(agent),
+        }
         !self.has_failed()
     }
 
     fn driven(&self, _so_far: Driven) {
         self.comes_and_is_held(DRIVER);
+    }
+
+    fn deadline(&self) -> Option<Instant> {
+        self.deadline
     }
 }
 
@@ -116,12 +129,13 @@ pub(crate) struct Order<'a> {
     pub(crate) rests: &'a [Hold],
 }
 
-/// A run in which agents are held so.
-fn forced_run<R: Threads + Wait + Clock + Sync>(
+/// A run in which agents are held so, until this time at most; nothing where they did not come to their points.
+fn ended_in_order<R: Threads + Wait + Clock + Sync>(
     rt: &R,
     alloc: Global,
     order: &Order<'_>,
-) -> Option<LoadReport> {
+    deadline: Option<Instant>,
+) -> Option<Result<LoadReport, RunFault>> {
     let gate = Forced {
         rt,
         holds: order.holds,
@@ -131,15 +145,34 @@ fn forced_run<R: Threads + Wait + Clock + Sync>(
             AtomicU64::new(0),
             AtomicU64::new(0),
             AtomicU64::new(0),
+            AtomicU64::new(0),
+            AtomicU64::new(0),
         ],
         failed: AtomicU64::new(0),
+        deadline,
     };
-    let report = gated_run(rt, alloc, order.cpus, order.plans, order.turns, &gate)?.ok()?;
-    if gate.has_failed() {
-        None
-    } else {
-        Some(report)
-    }
+    let ended = gated_run(rt, alloc, order.cpus, order.plans, order.turns, &gate)?;
+    if gate.has_failed() { None } else { Some(ended) }
+}
+
+/// How a run in which agents are held so is given up after a while.
+pub(crate) fn given_up_after<R: Threads + Wait + Clock + Sync>(
+    rt: &R,
+    alloc: Global,
+    order: &Order<'_>,
+    time: Duration,
+) -> Option<RunFault> {
+    let deadline = Instant::now(rt).ok()?.checked_add(time);
+    ended_in_order(rt, alloc, order, deadline)?.err()
+}
+
+/// A run in which agents are held so.
+fn forced_run<R: Threads + Wait + Clock + Sync>(
+    rt: &R,
+    alloc: Global,
+    order: &Order<'_>,
+) -> Option<LoadReport> {
+    ended_in_order(rt, alloc, order, None)?.ok()
 }
 
 /// The facts are so after a run in this order.

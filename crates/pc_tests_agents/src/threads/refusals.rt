@@ -125,6 +125,7 @@ fn of_a_pick(rt: HostRuntime) {
         Step::Listed(1),
         Step::Picks(1, Ok(Tid(0))),
         Step::Picks(1, Err(refused(Refusal::Busy))),
+        Step::Refused([1, 1, 0, 0]),
         Step::Listed(2),
     ];
     comes_out(&rt, rt.alloc(), SMALL, 1, &steps);

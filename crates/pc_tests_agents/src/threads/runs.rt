@@ -11,7 +11,7 @@ use std::sync::Wait;
 use std::sync::atomic::{AtomicU64, Ordering};
 use std::thread;
 use std::thread::Threads;
-use std::time::{Clock, Duration};
+use std::time::{Clock, Duration, Instant};
 
 /// A thread that may run on two CPUs: it yields, blocks and dies.
 const LIFE: Plan<'static> = (0, 3, &[Step::Yield(2), Step::Block(3), Step::Die(1)]);
@@ -54,8 +54,12 @@ pub(crate) enum Fact<'a> {
     SomeSteal,
     /// Some agent's pick or steal was refused as stale.
     SomeStale,
-    /// No steal was refused as messages were pending.
-    NonePending,
+    /// So many steals were refused as messages were pending.
+    Pending(u64),
+    /// What the first agent was refused by name: busy, nothing ready, nothing to steal, dead.
+    FirstRefused([u64; 4]),
+    /// The same, of the last agent: dead alone.
+    LastDead(u64),
     /// How many calls woke an agent that started again.
     Rouses(usize),
     /// Fewer calls than that are listed.
@@ -64,6 +68,20 @@ pub(crate) enum Fact<'a> {
     Calls(&'a [(Call, Answer)]),
     /// The first calls that the book lists.
     FirstCalls(&'a [(Call, Answer)]),
+}
+
+/// Refusals by name: busy, nothing ready, nothing to steal, dead.
+fn refused(row: &Row) -> [u64; 4] {
+    [row.busy, row.nothing_ready, row.nothing_to_steal, row.dead]
+}
+
+/// How many steals were refused as messages were pending.
+fn pending(rows: &[Row]) -> u64 {
+    let mut all: u64 = 0;
+    for row in rows {
+        all = all.saturating_add(row.pending);
+    }
+    all
 }
 
 fn is_of(row: Option<&Row>, cpu: u8) -> bool {
@@ -98,7 +116,9 @@ fn is_so_of(rows: &[Row], fact: &Fact<'_>) -> bool {
         Fact::EachCounts(wanted) => each_counted(rows, wanted),
         Fact::SomeSteal => rows.iter().any(|row| row.steals >= 1),
         Fact::SomeStale => rows.iter().any(|row| row.stale >= 1),
-        Fact::NonePending => rows.iter().all(|row| row.pending == 0),
+        Fact::Pending(wanted) => pending(rows) == wanted,
+        Fact::FirstRefused(wanted) => rows.first().map(refused) == Some(wanted),
+        Fact::LastDead(wanted) => rows.last().map(|row| row.dead) == Some(wanted),
         _ => false,
     }
 }
@@ -146,7 +166,7 @@ fn first_wrong_of(report: &LoadReport, facts: &[Fact<'_>]) -> Option<usize> {
 }
 
 /// What a run of these settings comes to, behind a gate. Nothing where the settings are refused.
-pub(crate) fn gated_run<R: Threads + Wait + Sync, G: Gate + Sync>(
+pub(crate) fn gated_run<R: Threads + Wait + Clock + Sync, G: Gate + Sync>(
     rt: &R,
     alloc: Global,
     cpus: i64,
@@ -161,7 +181,7 @@ pub(crate) fn gated_run<R: Threads + Wait + Sync, G: Gate + Sync>(
 }
 
 /// What a run of these settings comes to.
-fn run<R: Threads + Wait + Sync>(
+pub(crate) fn run<R: Threads + Wait + Clock + Sync>(
     rt: &R,
     alloc: Global,
     cpus: i64,
@@ -172,7 +192,7 @@ fn run<R: Threads + Wait + Sync>(
 }
 
 /// The facts are so after a run of these settings.
-pub(crate) fn comes_to<R: Abort + Threads + Wait + Sync>(
+pub(crate) fn comes_to<R: Abort + Threads + Wait + Clock + Sync>(
     rt: &R,
     alloc: Global,
     cpus: i64,
@@ -197,12 +217,13 @@ fn a_thread_that_yields_blocks_and_dies(rt: HostRuntime) {
 
 #[test]
 fn without_threads_each_agent_looks_once(rt: HostRuntime) {
-    const FACTS: [Fact<'static>; 5] = [
+    const FACTS: [Fact<'static>; 6] = [
         Fact::Totals([0, 0, 0, 0]),
         Fact::Rows(2),
         Fact::FirstCpu(0),
         Fact::LastCpu(1),
         Fact::EachCounts([0, 0, 0, 0, 0, 2]),
+        Fact::FirstRefused([0, 1, 1, 0]),
     ];
     comes_to(&rt, rt.alloc(), 2, &[], &[], &FACTS);
 }
@@ -267,7 +288,7 @@ impl Gate for ShutGate {
 }
 
 /// How a run of so many agents is given up by this one.
-fn given_up<R: Threads + Wait + Sync>(
+fn given_up<R: Threads + Wait + Clock + Sync>(
     rt: &R,
     alloc: Global,
     cpus: i64,
@@ -298,6 +319,39 @@ fn who_gave_the_run_up_is_told(rt: HostRuntime) {
         given_up(&rt, rt.alloc(), 3, &[], Cpu(1)),
         Some(RunFault::GaveUp(Cpu(1)))
     );
+}
+
+/// A gate that gives every run up at this time.
+#[derive(Drop)]
+struct TimedGate {
+    deadline: Option<Instant>,
+}
+
+impl Gate for TimedGate {
+    fn pass(&self, _cpu: Cpu, _point: Point) -> bool {
+        true
+    }
+
+    fn deadline(&self) -> Option<Instant> {
+        self.deadline
+    }
+}
+
+/// How the run of one thread is given up that has so much time.
+fn timed_out<R: Threads + Wait + Clock + Sync>(
+    rt: &R,
+    alloc: Global,
+    time: Duration,
+) -> Option<RunFault> {
+    let deadline = Instant::now(rt).ok()?.checked_add(time);
+    gated_run(rt, alloc, 2, &[LIFE], &[], &TimedGate { deadline })?.err()
+}
+
+#[test]
+fn a_run_is_given_up_at_its_deadline(rt: HostRuntime) {
+    let (none, an_hour) = (Duration::from_millis(0), Duration::from_secs(3_600));
+    assert_eq!(rt; timed_out(&rt, rt.alloc(), none), Some(RunFault::TimeUp));
+    assert_eq!(rt; timed_out(&rt, rt.alloc(), an_hour), None);
 }
 
 /// Holds one agent at a point until the other one has decided, and the other one where its turns begin until this one
@@ -337,7 +391,7 @@ impl<'a, R: Clock> Gate for Holding<'a, R> {
         }
         match point {
             Point::Turn => self.waits(&self.come),
-            Point::Copied => true,
+            Point::Copied | Point::Sent => true,
             Point::Answered => {
                 self.decided.store(1, Ordering::SeqCst);
                 true

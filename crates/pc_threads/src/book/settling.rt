@@ -32,6 +32,9 @@ pub enum RunFault {
     /// The CPU's agent gave the run up.
     #[error("the agent of {0:?} gave the run up")]
     GaveUp(Cpu),
+    /// The run was given up at its deadline.
+    #[error("the run was given up at its deadline")]
+    TimeUp,
     /// The kernel refused a call of the driver.
     #[error("the driver was refused: {0:?}")]
     Driver(Refusal),

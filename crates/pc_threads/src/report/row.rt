@@ -20,8 +20,16 @@ pub struct Row {
     pub stale: u64,
     /// Steals refused as messages were pending.
     pub pending: u64,
-    /// Picks and steals refused otherwise.
+    /// Picks and steals refused otherwise, those of the counts below.
     pub other: u64,
+    /// Picks and steals refused as a thread runs on the CPU.
+    pub busy: u64,
+    /// Picks refused as no name of the run list may be committed.
+    pub nothing_ready: u64,
+    /// Steals refused as there is no thread to choose.
+    pub nothing_to_steal: u64,
+    /// Steals refused as the thread is dead.
+    pub dead: u64,
 }
 
 impl Row {
@@ -34,6 +42,10 @@ impl Row {
         ensures stale { result.stale ≡ (counts_of agent.now).stale }
         ensures pending { result.pending ≡ (counts_of agent.now).pending }
         ensures other { result.other ≡ (counts_of agent.now).other }
+        ensures busy { result.busy ≡ (counts_of agent.now).busy }
+        ensures nothing_ready { result.nothing_ready ≡ (counts_of agent.now).nothing_ready }
+        ensures nothing_to_steal { result.nothing_to_steal ≡ (counts_of agent.now).nothing_to_steal }
+        ensures dead { result.dead ≡ (counts_of agent.now).dead }
     {
         let counts = agent.counts();
         Row {
@@ -44,6 +56,10 @@ impl Row {
             stale: counts.stale,
             pending: counts.pending,
             other: counts.other,
+            busy: counts.busy,
+            nothing_ready: counts.nothing_ready,
+            nothing_to_steal: counts.nothing_to_steal,
+            dead: counts.dead,
         }
     }
 }

@@ -9,6 +9,7 @@ use pc_delta::{Delta, Digest};
 use pc_messages::{Cpu, Phase};
 use pc_view::View;
 use std::alloc::{AllocError, Global};
+use std::sync::atomic::{AtomicBool, Ordering};
 use std::sync::{Arc, Wait};
 
 /// What the driver is told.
@@ -39,6 +40,8 @@ pub(crate) struct Channels {
     inboxes: Vec<Inbox>,
     to_driver: Sender<Notice>,
     pub(crate) at_driver: Receiver<Notice>,
+    /// Whether the agents are to end whatever waits for them.
+    given_up: AtomicBool,
 }
 
 impl Channels {
@@ -55,6 +58,7 @@ impl Channels {
             inboxes,
             to_driver,
             at_driver,
+            given_up: AtomicBool::new(false),
         })
     }
 
@@ -134,6 +138,16 @@ impl Channels {
             Err(SendError::OutOfMemory(_)) => Err(Quit::OutOfMemory),
             Err(SendError::Disconnected(_)) => Err(Quit::GaveUp),
         }
+    }
+
+    /// All agents are to end, each before its next turn, whatever waits for them.
+    pub(crate) fn give_up(&self) {
+        self.given_up.store(true, Ordering::SeqCst);
+    }
+
+    /// Whether the run is given up.
+    pub(crate) fn is_given_up(&self) -> bool {
+        self.given_up.load(Ordering::SeqCst)
     }
 
     /// Tells all agents to end. One for whose note there is no memory may wait on.

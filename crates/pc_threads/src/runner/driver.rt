@@ -15,10 +15,12 @@ use crate::runner::gate::{Driven, Gate};
 use crate::runner::ledgers::{Names, Purse};
 use crate::runner::tallied::Tallied;
 use crate::settings::{Config, Step, ThreadPlan};
+use crossbeam_channel::RecvTimeoutError;
 use pc_calls::{CallFault, EnvCall, Posted, Refusal};
 use pc_messages::{Cpu, Tid};
 use std::alloc::{AllocError, Global};
 use std::sync::Wait;
+use std::time::{Clock, Instant};
 
 /// What creates the thread.
 fn creation(plan: &ThreadPlan) -> EnvCall
@@ -221,36 +223,77 @@ fn step<N: Names, R: Wait>(
     Ok(left.step)
 }
 
-/// The CPU on which a thread was committed, when there is one.
-fn next_commit<N: Names, R: Wait>(rt: &R, desk: &Desk<N>) -> Result<Cpu, RunFault> {
-    match desk.channels.at_driver.recv(rt) {
-        Ok(Notice::Committed(cpu)) => Ok(Cpu(cpu)),
-        Ok(Notice::Quitted(_, Quit::OutOfMemory)) => Err(RunFault::OutOfMemory),
-        Ok(Notice::Quitted(cpu, Quit::GaveUp)) => Err(RunFault::GaveUp(Cpu(cpu))),
-        Err(_) => Err(RunFault::Driver(Refusal::IdleCpu)),
+/// The next notice to the driver, if it comes before the deadline.
+fn next_notice<N: Names, R: Wait + Clock>(
+    rt: &R,
+    desk: &Desk<N>,
+    deadline: Option<Instant>,
+) -> Result<Notice, RunFault> {
+    let Some(deadline) = deadline else {
+        return desk
+            .channels
+            .at_driver
+            .recv(rt)
+            .map_err(|_| RunFault::Driver(Refusal::IdleCpu));
+    };
+    // A receiver gives what waits, however late it is.
+    match Instant::now(rt) {
+        Ok(now) if now >= deadline => Err(RunFault::TimeUp),
+        _ => match desk.channels.at_driver.recv_deadline(rt, deadline) {
+            Ok(notice) => Ok(notice),
+            Err(RecvTimeoutError::Timeout) => Err(RunFault::TimeUp),
+            Err(RecvTimeoutError::Disconnected) => Err(RunFault::Driver(Refusal::IdleCpu)),
+        },
     }
 }
 
+/// The CPU on which a thread was committed, when there is one.
+fn next_commit<N: Names, R: Wait + Clock>(
+    rt: &R,
+    desk: &Desk<N>,
+    deadline: Option<Instant>,
+) -> Result<Cpu, RunFault> {
+    match next_notice(rt, desk, deadline)? {
+        Notice::Committed(cpu) => Ok(Cpu(cpu)),
+        Notice::Quitted(_, Quit::OutOfMemory) => Err(RunFault::OutOfMemory),
+        Notice::Quitted(cpu, Quit::GaveUp) => Err(RunFault::GaveUp(Cpu(cpu))),
+    }
+}
+
+/// The steps of all threads that are left, and how many they are.
+#[derive(Drop)]
+struct Undone<'a> {
+    plans: &'a [ThreadPlan],
+    progress: Progress,
+    steps: u64,
+    ghost left: { left_of one (map plan_of plans.now) progress.done.items ≡ steps },
+}
+
 /// Does all steps that are left, each where an agent has committed its thread.
-fn drive<N: Names, R: Wait, G: Gate>(
+fn drive<N: Names, R: Wait + Clock, G: Gate>(
     rt: &R,
     gate: &G,
-    plans: &[ThreadPlan],
-    steps: u64,
+    undone: Undone<'_>,
     desk: &Desk<N>,
     purse: &mut Purse<N>,
-    progress: &mut Progress,
 ) -> Result<(), RunFault>
-    requires { left_of one (map plan_of plans.now) progress.old.done.items ≡ steps }
-    ensures { OnOk result (HasPosted 0 (left_of told_in (map plan_of plans.now) progress.old.done.items)
-        (left_of ticks (map plan_of plans.now) progress.old.done.items)
-        (left_of one (map plan_of plans.now) progress.old.done.items)
-        (left_of died_in (map plan_of plans.now) progress.old.done.items) purse.old purse.new) }
+    ensures { OnOk result (HasPosted 0
+        (left_of told_in (map plan_of undone.entry.plans.now) undone.entry.progress.done.items)
+        (left_of ticks (map plan_of undone.entry.plans.now) undone.entry.progress.done.items)
+        (left_of one (map plan_of undone.entry.plans.now) undone.entry.progress.done.items)
+        (left_of died_in (map plan_of undone.entry.plans.now) undone.entry.progress.done.items) purse.old purse.new) }
 {
+    let Undone {
+        plans,
+        mut progress,
+        steps,
+        ..
+    } = undone;
+    let deadline = gate.deadline();
     let mut driven = Driven::new();
     for _step in 0..steps {
-        let cpu = next_commit(rt, desk)?;
-        let done = step(rt, plans, desk, purse, progress, cpu)?;
+        let cpu = next_commit(rt, desk, deadline)?;
+        let done = step(rt, plans, desk, purse, &mut progress, cpu)?;
         driven = driven.after(&done);
         gate.driven(driven);
     }
@@ -269,8 +312,26 @@ fn count_steps(plans: &[ThreadPlan]) -> u64
     steps
 }
 
+/// All steps that the settings ask for.
+fn undone_of<'a>(alloc: Global, config: &'a Config) -> Result<Undone<'a>, AllocError>
+    ensures plans { IfOk result (λ undone. map plan_of undone.plans.now ≡ config.now.threads) }
+    ensures all { IfOk result (λ undone. (by : Step → ℕ)
+        → left_of by (map plan_of undone.plans.now) undone.progress.done.items
+        ≡ sum_in by (map plan_of undone.plans.now)) }
+{
+    config.is_sound();
+    let plans = config.threads();
+    let progress = Progress::new(alloc, plans)?;
+    let steps = count_steps(plans);
+    Ok(Undone {
+        plans,
+        progress,
+        steps,
+    })
+}
+
 /// Does all steps of all threads.
-pub(crate) fn drive_all<N: Names, R: Wait, G: Gate>(
+pub(crate) fn drive_all<N: Names, R: Wait + Clock, G: Gate>(
     rt: &R,
     gate: &G,
     config: &Config,
@@ -280,9 +341,6 @@ pub(crate) fn drive_all<N: Names, R: Wait, G: Gate>(
     ensures { OnOk result (HasPosted 0 (sum_in told_in config.now.threads) (sum_in ticks config.now.threads)
         (sum_in one config.now.threads) (sum_in died_in config.now.threads) purse.old purse.new) }
 {
-    config.is_sound();
-    let plans = config.threads();
-    let mut progress = Progress::new(desk.alloc, plans)?;
-    let steps = count_steps(plans);
-    drive(rt, gate, plans, steps, desk, purse, &mut progress)
+    let undone = undone_of(desk.alloc, config)?;
+    drive(rt, gate, undone, desk, purse)
 }

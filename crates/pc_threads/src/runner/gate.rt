@@ -2,6 +2,7 @@
 
 use crate::settings::Step;
 use pc_messages::Cpu;
+use std::time::Instant;
 
 /// A point of an agent's turn (own).
 #[derive(Clone, Copy, Debug, PartialEq, Eq)]
@@ -10,6 +11,8 @@ pub enum Point {
     Turn,
     /// The items of the queue were copied, and nothing of them was sent yet. The agent has no lock.
     Copied,
+    /// What the queue holds was sent to all others, and is still there. The agent has no lock.
+    Sent,
     /// What was picked or taken over is decided, and the agent has no lock.
     Answered,
 }
@@ -31,6 +34,11 @@ pub trait Gate {
 
     /// The driver, in its own thread and with no lock, has done a step more.
     fn driven(&self, _so_far: Driven) {}
+
+    /// When the run is given up, whatever it waits for; none: never. The driver asks once, before its first step.
+    fn deadline(&self) -> Option<Instant> {
+        None
+    }
 }
 
 /// A gate that lets everyone pass.

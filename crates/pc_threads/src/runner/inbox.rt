@@ -1,6 +1,7 @@
 //! What an agent is told by the other threads of a run.
 
 use crate::runner::faults::Quit;
+use crate::runner::mailbox::Mailbox;
 use crate::runner::slot::Slot;
 use crossbeam_channel::{Receiver, SendError, Sender};
 use pc_delta::{Delta, Digest};
@@ -9,15 +10,12 @@ use std::alloc::{AllocError, Global};
 use std::sync::atomic::{AtomicBool, Ordering};
 use std::sync::{Arc, Wait};
 
-/// So much news waits at most before its owner is told.
-const MOST_UNTOLD: usize = 256;
-
 /// What an agent is told. What several are told is shared by them.
 #[derive(Drop)]
 pub(crate) enum Note {
     /// Its queue was posted to while it slept.
     Wake,
-    /// What others have learnt waits in its channel.
+    /// What others have learnt waits in the mailbox.
     News,
     /// What another agent answered to one that has started again since.
     Delta(Arc<Delta, Global>),
@@ -46,17 +44,15 @@ struct Waiting {
 /// agents ask. An agent that starts again knows less, so what it then asks waits behind all that it told, and what it
 /// answered before is kept.
 ///
-/// What others have learnt waits in a channel of its own, and all of it is taken ahead of each note. It wakes the owner
-/// only where it may tell of a thread to take, or where much waits, and where no other note does: a note for each would
-/// have each agent do a turn for each message of the run. An agent that is still to restart does that: its turns have
-/// to come.
+/// What others have learnt waits in a mailbox, and all of it is taken at once, ahead of each note. It wakes the owner
+/// only where it may tell of a thread to take, or where much waits: a note for each would have each agent do a turn for
+/// each message of the run. An agent that is still to restart does that: its turns have to come.
 #[derive(Drop)]
 pub(crate) struct Inbox {
     to: Sender<Note>,
     at: Receiver<Note>,
     /// What others have learnt.
-    news_to: Sender<Arc<Delta, Global>>,
-    news_at: Receiver<Arc<Delta, Global>>,
+    news: Mailbox<Arc<Delta, Global>>,
     /// Whether the owner is still to restart.
     restarts: AtomicBool,
     /// By the CPUs of those that ask and answer.
@@ -67,7 +63,6 @@ impl Inbox {
     /// The inbox of one of so many agents, which may be still to restart.
     pub(crate) fn new(alloc: Global, cpus: u8, restarts: bool) -> Result<Inbox, AllocError> {
         let (to, at) = crossbeam_channel::unbounded(alloc)?;
-        let (news_to, news_at) = crossbeam_channel::unbounded(alloc)?;
         let mut waiting = Vec::with_capacity(alloc, cpus as usize)?;
         for _ in 0..cpus {
             waiting.push(Waiting {
@@ -78,8 +73,7 @@ impl Inbox {
         Ok(Inbox {
             to,
             at,
-            news_to,
-            news_at,
+            news: Mailbox::new(alloc),
             restarts: AtomicBool::new(restarts),
             waiting,
         })
@@ -92,20 +86,23 @@ impl Inbox {
 
     /// Tells the owner.
     pub(crate) fn tell<R: Wait>(&self, rt: &R, note: Note) -> Result<(), Quit> {
-        send(rt, &self.to, note)
+        match self.to.send(rt, note) {
+            Ok(()) => Ok(()),
+            Err(SendError::OutOfMemory(_)) => Err(Quit::OutOfMemory),
+            Err(SendError::Disconnected(_)) => Err(Quit::GaveUp),
+        }
     }
 
-    /// Leaves what another agent has learnt, and wakes the owner where that is urgent or much waits. A note that waits
-    /// already does so too: the owner takes all news behind the note. One that is still to restart is woken for each.
+    /// Leaves what another agent has learnt, and wakes the owner where that is urgent or much waits. One that is still
+    /// to restart is woken for each.
     pub(crate) fn inform<R: Wait>(
         &self,
         rt: &R,
         delta: Arc<Delta, Global>,
         urgent: bool,
     ) -> Result<(), Quit> {
-        send(rt, &self.news_to, delta)?;
-        let wakes = urgent || self.news_to.len() >= MOST_UNTOLD;
-        if self.restarts.load(Ordering::SeqCst) || (wakes && self.to.is_empty()) {
+        let wakes = self.news.put(rt, delta, urgent)?;
+        if wakes || self.restarts.load(Ordering::SeqCst) {
             return self.tell(rt, Note::News);
         }
         Ok(())
@@ -160,15 +157,10 @@ impl Inbox {
         self.tell(rt, Note::Digest(cpu.index(), digest))
     }
 
-    /// How much of what others have learnt waits. It is taken ahead of each thing that the owner is told, so that one
-    /// who has started again is answered all that it told before.
-    pub(crate) fn news(&self) -> usize {
-        self.news_at.len()
-    }
-
-    /// The next of what others have learnt, where some waits.
-    pub(crate) fn take_news<R: Wait>(&self, rt: &R) -> Result<Arc<Delta, Global>, Quit> {
-        self.news_at.recv(rt).map_err(|_| Quit::GaveUp)
+    /// What others have learnt and the owner has not taken yet. It is taken ahead of each thing that the owner is told,
+    /// so that one who has started again is answered all that it told before.
+    pub(crate) fn take_news<R: Wait>(&self, rt: &R) -> Vec<Arc<Delta, Global>> {
+        self.news.take(rt)
     }
 
     /// Waits for the next thing that the owner is told.
@@ -190,15 +182,6 @@ impl Inbox {
             Note::Digest(cpu, digest) => Received::Digest(Cpu(cpu), digest),
             Note::Stop => Received::End,
         })
-    }
-}
-
-/// Sends the message behind all that waits.
-fn send<T: Drop, R: Wait>(rt: &R, to: &Sender<T>, message: T) -> Result<(), Quit> {
-    match to.send(rt, message) {
-        Ok(()) => Ok(()),
-        Err(SendError::OutOfMemory(_)) => Err(Quit::OutOfMemory),
-        Err(SendError::Disconnected(_)) => Err(Quit::GaveUp),
     }
 }
 

@@ -18,9 +18,16 @@ use std::collections::VecDeque;
 use std::sync::Wait;
 use std::thread;
 use std::thread::{JoinHandle, Scope, Threads};
+use std::time::Clock;
 
 /// Starts the agents and does all steps of all threads.
-fn start_and_drive<'s, 'e, N: Names + Send + Sync + 's, R: Threads + Wait + Sync, G: Gate + Sync>(
+fn start_and_drive<
+    's,
+    'e,
+    N: Names + Send + Sync + 's,
+    R: Threads + Wait + Clock + Sync,
+    G: Gate + Sync,
+>(
     scope: &'s Scope<'s, &'e ()>,
     rt: &'s R,
     gate: &'s G,
@@ -60,7 +67,7 @@ pub(crate) struct Ended<N: Names> {
 }
 
 /// Starts the agents, drives the run to its end, stops the agents and waits for them.
-fn in_scope<'s, 'e, N: Names + Send + Sync + 's, R: Threads + Wait + Sync, G: Gate + Sync>(
+fn in_scope<'s, 'e, N: Names + Send + Sync + 's, R: Threads + Wait + Clock + Sync, G: Gate + Sync>(
     scope: &'s Scope<'s, &'e ()>,
     rt: &'s R,
     gate: &'s G,
@@ -96,6 +103,9 @@ where
         &mut pool,
         &mut handles,
     );
+    if driven.is_err() {
+        desk.channels.give_up();
+    }
     desk.channels.stop_all(rt);
     let joined = join_all(rt, desk.alloc, &mut handles, &mut pool);
     driven?;
@@ -107,7 +117,7 @@ where
 }
 
 /// The threads of a run, from their start to their end.
-pub(crate) fn scoped<N: Names + Send + Sync, R: Threads + Wait + Sync, G: Gate + Sync>(
+pub(crate) fn scoped<N: Names + Send + Sync, R: Threads + Wait + Clock + Sync, G: Gate + Sync>(
     rt: &R,
     gate: &G,
     config: &Config,

@@ -70,6 +70,7 @@ fn publish<N: Names, R: Wait, G: Gate>(
     if !delta.parts().is_empty() {
         desk.channels.tell_peers(rt, cpu, &Arc::new(desk.alloc, delta)?, worker.agent.view())?;
     }
+    pass(gate, cpu, Point::Sent)?;
     worker.sent(items.len() as u32);
     Ok(aseq)
 }
@@ -83,8 +84,7 @@ fn take_note<N: Names, R: Wait>(
     let cpu = worker.agent.cpu();
     let inbox = desk.channels.of(cpu)?;
     let received = inbox.take(rt)?;
-    for _ in 0..inbox.news() {
-        let delta = inbox.take_news(rt)?;
+    for delta in inbox.take_news(rt) {
         worker.deliver(&delta)?;
     }
     match received {
@@ -132,7 +132,7 @@ fn turn<N: Names, R: Wait, G: Gate>(
     Ok(true)
 }
 
-/// Turn after turn, until the agent is told to end.
+/// Turn after turn, until the agent is told to end, or the run is given up.
 fn turns<N: Names, R: Wait, G: Gate>(
     rt: &R,
     gate: &G,
@@ -143,6 +143,9 @@ fn turns<N: Names, R: Wait, G: Gate>(
     let cpu = worker.agent.cpu();
     let mut number: u32 = 0;
     for _ in rt.forever() {
+        if desk.channels.is_given_up() {
+            return Err(Quit::GaveUp);
+        }
         number = number.saturating_add(1);
         let restarts = restarts_at(config, cpu, number);
         if restarts && !restarts_later(config, cpu, number) {

@@ -1,6 +1,13 @@
-use Rattle.std.proofs.Common.{ap, ◌∙◌}
-use Rattle.clap.specs.Simple.{app_of_fields}
+use Rattle.std.proofs.Common.{ap, ap₂, codes, ◌≡◌, ◌∙◌}
+use Rattle.std.proofs.lemmas.Result.{IfOk-weaker}
+use Rattle.clap.specs.Simple.{app_of, app_of_fields, with_rule}
+use Rattle.pc_program.specs.CommandLine.{of_file, option}
 use Rattle.pc_program.proofs.command_line.draw_parser.Goals as goal
 
 pub returns : goal.returns
-returns c = ap app_of_fields c.after_help.ensures ∙ ap app_of_fields c.about.ensures ∙ c.in_ok-parser_of_file.ensures
+returns c =
+    let of : app_of c.after_help.result ≡ of_file (codes "draw") =
+    ap app_of_fields c.after_help.ensures ∙ ap app_of_fields c.about.ensures ∙ c.in_ok-parser_of_file.ensures in
+    let first : app_of c.in_ok-arg.field-0 ≡ with_rule (of_file (codes "draw")) (option (codes "cpus")) =
+    c.in_ok-arg.ensures.shape c.option_of-cpus.ensures.local ∙ ap₂ with_rule of c.option_of-cpus.ensures.rule in
+    IfOk-weaker c.arg-2.result _ _ (λ parser h. h.shape c.option_of-lines.ensures.local ∙ ap₂ with_rule first c.option_of-lines.ensures.rule) c.arg-2.ensures

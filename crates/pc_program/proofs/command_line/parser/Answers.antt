@@ -2,7 +2,7 @@ use Rattle.std.proofs.Common.{rules, ap, ap₂, codes, true, ◌≡◌, ◌∙�
 use Rattle.std.proofs.lemmas.Result.{IfOk-weaker}
 use Rattle.clap.specs.Simple.{App, Shape, app_of, app_of_fields, new_app, on_top, with_subcommand}
 use Rattle.clap.proofs.SimpleLemmas.{plain_fields}
-use Rattle.pc_program.specs.CommandLine.{of_file, run}
+use Rattle.pc_program.specs.CommandLine.{drawing, of_file, run}
 use Rattle.pc_program.proofs.command_line.parser.Goals as goal
 
 -- what the settings change
@@ -25,7 +25,7 @@ returns c =
     helps ∙ ap (on_top helpless) (needs ∙ ap (on_top demanding) (told ∙ named)) in
     let replays : app_of c.in_ok-replay.replay ≡ of_file (codes "replay") = search rules in
     let explains : app_of c.in_ok-explain.explain ≡ of_file (codes "explain") = search rules in
-    let draws : app_of c.in_ok-draw.draw ≡ of_file (codes "draw") = search rules in
+    let draws : app_of c.in_ok-draw.draw ≡ drawing = search rules in
     let runs : app_of c.in_ok-run.run' ≡ run = search rules in
     let first : app_of c.in_ok-subcommand.field-0 ≡ with_subcommand (app_of c.disable_help_subcommand.result) (of_file (codes "replay")).top =
     c.in_ok-subcommand.ensures.shape (plain_fields c.in_ok-replay.replay (ap (λ (a : App). a.top.is_plain) replays)).globals
@@ -33,13 +33,13 @@ returns c =
     let second : app_of c.in_ok-subcommand-2.field-0 ≡ with_subcommand (app_of c.in_ok-subcommand.field-0) (of_file (codes "explain")).top =
     c.in_ok-subcommand-2.ensures.shape (plain_fields c.in_ok-explain.explain (ap (λ (a : App). a.top.is_plain) explains)).globals
     ∙ ap (λ (a : App). with_subcommand (app_of c.in_ok-subcommand.field-0) a.top) explains in
-    let third : app_of c.in_ok-subcommand-3.field-0 ≡ with_subcommand (app_of c.in_ok-subcommand-2.field-0) (of_file (codes "draw")).top =
+    let third : app_of c.in_ok-subcommand-3.field-0 ≡ with_subcommand (app_of c.in_ok-subcommand-2.field-0) drawing.top =
     c.in_ok-subcommand-3.ensures.shape (plain_fields c.in_ok-draw.draw (ap (λ (a : App). a.top.is_plain) draws)).globals
     ∙ ap (λ (a : App). with_subcommand (app_of c.in_ok-subcommand-2.field-0) a.top) draws in
     let one : app_of c.in_ok-subcommand.field-0 ≡ with_subcommand (on_top helpless (on_top demanding (on_top versioned (new_app (codes "pc-sim"))))) (of_file (codes "replay")).top =
     first ∙ ap (λ (a : App). with_subcommand a (of_file (codes "replay")).top) top in
     let two = second ∙ ap (λ (a : App). with_subcommand a (of_file (codes "explain")).top) one in
-    let three = third ∙ ap (λ (a : App). with_subcommand a (of_file (codes "draw")).top) two in
+    let three = third ∙ ap (λ (a : App). with_subcommand a drawing.top) two in
     IfOk-weaker c.subcommand-4.result _ _ (λ parser h.
     h.shape (plain_fields c.in_ok-run.run' (ap (λ (a : App). a.top.is_plain) runs)).globals
     ∙ ap₂ (λ (a b : App). with_subcommand a b.top) three runs) c.subcommand-4.ensures

@@ -1,0 +1,145 @@
+//! The calls of a book as a script: texts written down by hand.
+
+use super::runs::run;
+use super::{CREATE, PREEMPT, SMALL, Step, new_scene, posted};
+use crate::threads::settings::Plan;
+use pc_messages::Tid;
+use pc_threads::Book;
+use pc_transcript::write_transcript;
+use std::alloc::Global;
+use std::sync::Wait;
+use std::thread::Threads;
+use std::time::Clock;
+
+/// The script of a book, as text.
+fn script_of(alloc: Global, book: &Book) -> Option<Vec<u8>> {
+    let mut text = Vec::new(alloc);
+    match write_transcript(alloc, book, &mut text) {
+        Ok(()) => Some(text),
+        Err(_) => None,
+    }
+}
+
+/// Whether this is the script of the book.
+fn has_script(alloc: Global, book: &Book, wanted: &[u8]) -> bool {
+    match script_of(alloc, book) {
+        Some(text) => text.as_slice() == wanted,
+        None => false,
+    }
+}
+
+/// Whether the steps come out as they should, and this is then the script of the book.
+fn is_written(alloc: Global, steps: &[Step], wanted: &[u8]) -> bool {
+    match new_scene(alloc, SMALL, 1) {
+        Some(mut scene) => {
+            scene.first_wrong(steps).is_none() && has_script(alloc, &scene.book, wanted)
+        }
+        None => false,
+    }
+}
+
+#[test]
+fn of_a_book_without_calls(rt: HostRuntime) {
+    assert!(rt; is_written(rt.alloc(), &[], b"enclave 2 8 100 16 1000\n"));
+}
+
+#[test]
+fn of_a_thread_that_moves(rt: HostRuntime) {
+    const STEPS: [Step; 5] = [
+        Step::RunsOne,
+        Step::Sleeps(0, 1, Ok(())),
+        Step::Rouses(0, Ok(())),
+        Step::MovesOne,
+        Step::Sleeps(1, 0, Ok(())),
+    ];
+    const WANTED: &[u8] = b"enclave 2 8 100 16 1000
+create 0 3 ready
+publish 0
+consume 0
+commit 0 t0 1
+sleep 0 1
+rouse 0
+preempt 0 1
+publish 0
+consume 0
+associate t0 1 2
+sleep 1 0
+";
+    assert!(rt; is_written(rt.alloc(), &STEPS, WANTED));
+}
+
+// The agent looks behind the first of two posts, and removes that one behind the second. What is left it removes later,
+// and then nothing.
+#[test]
+fn an_agent_has_looked_before_what_it_left_was_posted(rt: HostRuntime) {
+    let steps = [
+        Step::Posts(CREATE, Ok(posted(1, 1))),
+        Step::Copies,
+        Step::Accepts(CREATE),
+        Step::Consumes(Ok(1)),
+        Step::Copies,
+        Step::Consumes(Ok(1)),
+        Step::Consumes(Ok(0)),
+        Step::Picks(2, Ok(Tid(0))),
+    ];
+    const WANTED: &[u8] = b"enclave 2 8 100 16 1000
+create 0 3 ready
+publish 0
+create 0 3 ready
+consume 0
+publish 0
+consume 0
+consume 0
+commit 0 t0 2
+";
+    assert!(rt; is_written(rt.alloc(), &steps, WANTED));
+}
+
+#[test]
+fn what_is_left_in_the_end_is_not_looked_at(rt: HostRuntime) {
+    const STEPS: [Step; 2] = [Step::RunsOne, Step::Accepts(PREEMPT)];
+    const WANTED: &[u8] = b"enclave 2 8 100 16 1000
+create 0 3 ready
+publish 0
+consume 0
+commit 0 t0 1
+preempt 0 1
+";
+    assert!(rt; is_written(rt.alloc(), &STEPS, WANTED));
+}
+
+/// Whether this is the script of a run of these threads on one CPU.
+fn is_script_of_run<R: Threads + Wait + Clock + Sync>(
+    rt: &R,
+    alloc: Global,
+    plans: &[Plan<'_>],
+    wanted: &[u8],
+) -> bool {
+    match run(rt, alloc, 1, plans, &[]) {
+        Some(report) => has_script(alloc, &report.book, wanted),
+        None => false,
+    }
+}
+
+#[test]
+fn of_a_run_of_one_thread(rt: HostRuntime) {
+    const STEPS: [pc_threads::Step; 2] = [pc_threads::Step::Yield(3), pc_threads::Step::Die(1)];
+    const WANTED: &[u8] = b"enclave 1 4096 1000000 65536 4294967295
+create 0 1 ready
+publish 0
+consume 0
+commit 0 t0 1
+sleep 0 1
+yield 0 3
+publish 0
+consume 0
+commit 0 t0 2
+sleep 0 2
+die 0 1
+publish 0
+consume 0
+sleep 0 3
+consume 0
+";
+    assert!(rt; is_script_of_run(&rt, rt.alloc(), &[(0, 1, &STEPS)], WANTED));
+}

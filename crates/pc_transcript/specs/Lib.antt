@@ -1,0 +1,2 @@
+-- A run of agents in threads, as a script.
+pub mod Transcripts
