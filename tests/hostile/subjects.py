@@ -68,7 +68,7 @@ def cases(folder):
             continue
         words = (case / "args").read_text().splitlines() if (case / "args").is_file() else ["replay"]
         status = int((case / "status").read_text()) if (case / "status").is_file() else 0
-        if words[:1] == ["run"] and status == 0:
+        if words[:1] == ["run"] and status in (0, 3):
             continue
         out = None if (case / "stdout-is-not-fixed").exists() else content(case / "stdout")
         yield Subject(f"case {case.name}", words, given(case, folder), case, out, ending_of(content(case / "stderr")), status)
@@ -139,7 +139,9 @@ WORDS = {
     "two files of run": ["run", "a", "b"],
     "a flag of the other command": ["replay", "--per-cpu"],
     "a flag before its command": ["--per-cpu", "run"],
-    "a flag twice": ["run", "--per-cpu", "--per-cpu"],
+    "a flag twice": ["run", "--draw", "--draw"],
+    "a limit that is no number": ["run", "--limit", "soon"],
+    "numbers that are none": ["draw", "--cpus", "7-3"],
     "a flag with a value": ["run", "--per-cpu=yes"],
     "a file that is no text": ["replay", b"\xff\xfe"],
 }

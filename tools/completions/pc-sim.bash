@@ -26,9 +26,13 @@ _pc_sim() {
     command=$(_pc_sim_command "${COMP_WORDS[@]:1:COMP_CWORD-1}")
     COMPREPLY=()
     case $command in
-    run) flags="--per-cpu --draw -h --help" ;;
-    replay | explain | draw) flags="-h --help" ;;
+    run) flags="--per-cpu --draw --limit -h --help" ;;
+    draw) flags="--cpus --lines -h --help" ;;
+    replay | explain) flags="-h --help" ;;
     *) flags="-h --help -V --version" ;;
+    esac
+    case ${COMP_WORDS[COMP_CWORD-1]} in
+    --limit | --cpus | --lines) return ;;
     esac
     case $command:$word in
     *:-*) mapfile -t COMPREPLY < <(compgen -W "$flags" -- "$word") ;;

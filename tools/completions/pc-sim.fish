@@ -12,5 +12,8 @@ complete -c pc-sim -n "not __fish_seen_subcommand_from $commands" -s V -l versio
 complete -c pc-sim -s h -l help -d "Tells what there is"
 complete -c pc-sim -n "__fish_seen_subcommand_from run" -l per-cpu -d "Also reports a line for each CPU"
 complete -c pc-sim -n "__fish_seen_subcommand_from run" -l draw -d "Draws the report as SVG"
+complete -c pc-sim -n "__fish_seen_subcommand_from run" -l limit -x -d "Gives the run up after so many seconds"
+complete -c pc-sim -n "__fish_seen_subcommand_from draw" -l cpus -x -d "Draws the lanes of these CPUs alone"
+complete -c pc-sim -n "__fish_seen_subcommand_from draw" -l lines -x -d "Draws what happens at these lines alone"
 complete -c pc-sim -n "__fish_seen_subcommand_from replay explain draw" -k -a "(__fish_complete_suffix .script)"
 complete -c pc-sim -n "__fish_seen_subcommand_from run" -k -a "(__fish_complete_suffix .toml)"
