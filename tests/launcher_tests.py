@@ -518,7 +518,7 @@ class Launcher(unittest.TestCase):
         self.assertEqual((status, errors), (0, ""))
         self.assertEqual(out.splitlines()[-1], "cases: --gate-status 0 --gate-line 3 passed, 0 failed --also 2 passed, 0 failed --also 5 passed, 0 failed"
                          " --also 6 passed, 0 failed --also 7 passed, 0 failed --also 8 passed, 0 failed --also 9 passed, 0 failed"
-                         " --also 10 passed, 0 failed --also 4 passed, 0 failed"
+                         " --also 10 passed, 0 failed --also 11 passed, 0 failed --also 4 passed, 0 failed"
                          " --also --short passed, 0 failed")
         self.assertEqual(self.ended(start)[0], 0)
         words, began, ended = self.calls()
@@ -549,6 +549,7 @@ class Launcher(unittest.TestCase):
         (self.tree / "tests/recording_tests.py").write_text("print('8 passed, 0 failed')\n")
         (self.tree / "tests/drawing_tests.py").write_text("print('9 passed, 0 failed')\n")
         (self.tree / "tests/advice_tests.py").write_text("print('10 passed, 0 failed')\n")
+        (self.tree / "tests/running_tests.py").write_text("print('11 passed, 0 failed')\n")
         (self.tree / "tests/hostile_tests.py").write_text("print('4 passed, 0 failed')\n")
         (self.tree / "tests/hostile").mkdir()
         (self.tree / "tests/hostile/hostile.py").write_text("import sys\nprint(*sys.argv[1:], 'passed, 0 failed')\n")
