@@ -21,24 +21,24 @@ use Rattle.pc_agent.specs.Exchanging.{IsDelivered}
 use Rattle.pc_agent.specs.Own.{HasCopied, HasPartlyCopied, Publishes}
 use Rattle.pc_agent.specs.PlainAgent.{PlainAgent, Set, copied, threads_in}
 use Rattle.pc_agent.specs.Publishing.{Copies, IsCopied, IsPublished, Sending}
-use Rattle.pc_agent.specs.Shows.{ShowsAgent, ShowsDelta, ShowsPart, cpu_of, ranking_of}
+use Rattle.pc_agent.specs.Shows.{ShowsAgent, ShowsDelta, ShowsPart, cpu_of, rules_in}
 use Rattle.pc_agent.proofs.Taking.{view_of_nothing, view_takes, view_takes_some}
 
 -- a part of a delta
 takes_some : (run : Run) (p : PlainAgent) (set : Set) (old new : Agent) (delta : List Part) → ShowsDelta run set delta → ShowsAgent run p old → IsPartlyTakenIn delta old.view new.view
-    → new.list ≡ old.list → new.sent_items ≡ old.sent_items → ranking_of new ≡ ranking_of old → ShowsPart run p set new
+    → new.list ≡ old.list → new.sent_items ≡ old.sent_items → rules_in new ≡ rules_in old → ShowsPart run p set new
 takes_some run p set old new delta tells h partly list count ranks =
     let some = view_takes_some run p.known set old.view new.view delta h.view partly tells in
-    (some.0, some.1, record { view = some.2; list = list ∙ h.list; sent_items = count ∙ h.sent_items; ranks = ranks ∙ h.ranks })
+    (some.0, some.1, record { view = some.2; list = list ∙ h.list; sent_items = count ∙ h.sent_items; rules = ranks ∙ h.rules })
 
 pub delivered : (run : Run) (p : PlainAgent) (set : Set) (result : Result (Unit {0}) OutOfMemory) (old new : Agent) (delta : List Part) → ShowsDelta run set delta → ShowsAgent run p old
-    → OnOk result (IsTakenIn delta old.view new.view) → IsPartlyTakenIn delta old.view new.view → new.list ≡ old.list → new.sent_items ≡ old.sent_items → ranking_of new ≡ ranking_of old → IsDelivered run p set result new
+    → OnOk result (IsTakenIn delta old.view new.view) → IsPartlyTakenIn delta old.view new.view → new.list ≡ old.list → new.sent_items ≡ old.sent_items → rules_in new ≡ rules_in old → IsDelivered run p set result new
 delivered run p set (Ok done) old new delta tells h taken partly list count ranks =
-    record { view = view_takes run p.known set old.view new.view delta h.view taken tells; list = list ∙ h.list; sent_items = count ∙ h.sent_items; ranks = ranks ∙ h.ranks }
+    record { view = view_takes run p.known set old.view new.view delta h.view taken tells; list = list ∙ h.list; sent_items = count ∙ h.sent_items; rules = ranks ∙ h.rules }
 delivered run p set (Err fault) old new delta tells h taken partly list count ranks = takes_some run p set old new delta tells h partly list count ranks
 
 pub partly_delivered : (run : Run) (p : PlainAgent) (set : Set) (result : Result (Unit {0}) OutOfMemory) → IsErr result → (old new : Agent) (delta : List Part) → ShowsDelta run set delta → ShowsAgent run p old
-    → IsPartlyTakenIn delta old.view new.view → new.list ≡ old.list → new.sent_items ≡ old.sent_items → ranking_of new ≡ ranking_of old → IsDelivered run p set result new
+    → IsPartlyTakenIn delta old.view new.view → new.list ≡ old.list → new.sent_items ≡ old.sent_items → rules_in new ≡ rules_in old → IsDelivered run p set result new
 partly_delivered run p set (Ok done) e old new delta tells h partly list count ranks = absurd (false≢true e)
 partly_delivered run p set (Err fault) e old new delta tells h partly list count ranks = takes_some run p set old new delta tells h partly list count ranks
 
@@ -48,10 +48,10 @@ takes_none parts view = record { between = record { at_least = λ m e. e; at_mos
 
 -- a copy for which there was no memory
 pub copy_failed : (items : List Item) (result : Result (List Part) OutOfMemory) (old new : Agent) → IsErr result → Copies items result old new → IsPartlyTakenIn (parts_in items) old.view new.view
-    → new.list ≡ old.list → new.sent_items ≡ old.sent_items → ranking_of new ≡ ranking_of old → cpu_of new ≡ cpu_of old → new.counts ≡ old.counts → DoesCopy items result old new
+    → new.list ≡ old.list → new.sent_items ≡ old.sent_items → rules_in new ≡ rules_in old → cpu_of new ≡ cpu_of old → new.counts ≡ old.counts → DoesCopy items result old new
 copy_failed items (Ok delta) old new e copies partly list sent ranks cpu counts = absurd (false≢true e)
 copy_failed items (Err fault) old new e copies partly list sent ranks cpu counts =
-    record { copies = copies; told = tt; taken = tt; partly = partly; refreshed = tt; list_err = list; sent = sent; cpu = cpu; ranks = ranks; counts = counts }
+    record { copies = copies; told = tt; taken = tt; partly = partly; refreshed = tt; list_err = list; sent = sent; cpu = cpu; rules = ranks; counts = counts }
 
 -- the laws of views and of the parts of items
 abbrev pub ReportsAreTold : Type 0
@@ -71,17 +71,17 @@ module _ (reported : ReportsAreTold) (told : ItemsAreTold) (told_of_run : ItemsA
   items_tell = record { of_run = told_of_run run items are; told = told items }
 
   pub some_copied : HasPartlyCopied items old new → ShowsPart run p (pairs_in items) new
-  some_copied has = takes_some run p (pairs_in items) old new (parts_in items) items_tell h has.view has.list has.sent_items has.ranks
+  some_copied has = takes_some run p (pairs_in items) old new (parts_in items) items_tell h has.view has.list has.sent_items has.rules
 
   pub all_copied : (count : ℕ) → HasCopied items old new count → ShowsAgent run (record (copied run old.cpu items p) { sent_items = count }) new
   all_copied count has =
       let view = view_takes run p.known (pairs_in items) old.view new.view (parts_in items) h.view has.view items_tell in
       let state : (t : ℕ) → reported_in new.view t ≡ reports run (copied run old.cpu items p).known t = λ t. reported run (copied run old.cpu items p).known new.view t view.of_run view.known in
-      record { view = view; list = has.list ∙ λ i. refreshed_as (h.ranks i) (λ t. state t i) old.cpu (h.list i) (threads_in items); sent_items = has.sent_items; ranks = has.ranks ∙ h.ranks }
+      record { view = view; list = has.list ∙ λ i. refreshed_as (h.rules i).ranks (λ t. state t i) old.cpu (h.list i) (threads_in items); sent_items = has.sent_items; rules = has.rules ∙ h.rules }
 
   -- what else is as it was
   counted : (count n : ℕ) → count ≡ n → ShowsAgent run (record (copied run old.cpu items p) { sent_items = count }) new → ShowsAgent run (record (copied run old.cpu items p) { sent_items = n }) new
-  counted count n e a = record { view = a.view; list = a.list; sent_items = a.sent_items ∙ e; ranks = a.ranks }
+  counted count n e a = record { view = a.view; list = a.list; sent_items = a.sent_items ∙ e; rules = a.rules }
 
   pub has_copied : (delta : List Part) → delta ≡ parts_in items → HasCopied items old new old.sent_items → IsCopied run p items (Ok delta) old.cpu new
   has_copied delta is has = (subst (ShowsDelta run (pairs_in items)) (sym is) items_tell, counted old.sent_items p.sent_items h.sent_items (all_copied old.sent_items has))

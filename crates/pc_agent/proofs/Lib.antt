@@ -2,6 +2,7 @@ pub mod Lists
 pub mod Taking
 pub mod Ready
 pub mod Stolen
+pub mod Firsts
 pub mod Wanted
 pub mod Kept
 pub mod Pushed

@@ -18,7 +18,7 @@ use Rattle.pc_agent.specs.Counts.{pick_counted}
 use Rattle.pc_agent.specs.Own.{PicksAsSeen}
 use Rattle.pc_agent.specs.PlainAgent.{PlainAgent, is_empty_list, pick_refused, ready_list}
 use Rattle.pc_agent.specs.Running.{IsPicked, left_by}
-use Rattle.pc_agent.specs.Shows.{ShowsAgent, ShowsView, ranking_of}
+use Rattle.pc_agent.specs.Shows.{ShowsAgent, ShowsView, rules_in}
 use Rattle.pc_agent.specs.Inner.Picks.{CommitsFirst, Picks, unready_for}
 
 -- a call that the code made was accepted by every plain kernel too
@@ -88,15 +88,15 @@ module _ (cpu n : ℕ) (names left : List ℕ) (old new : KernelRows) where
 
 -- a pick, by the agent's run list and what is read of the kernel
 pub picked_as_seen : (n : ℕ) (result : Result ℕ Refusal) (old new : Agent) (k k2 : KernelRows) → Picks old.cpu n result old.list new.list k k2 → OnErr result (k2 ≡ k)
-    → new.view ≡ old.view → new.sent_items ≡ old.sent_items → new.cpu ≡ old.cpu → ranking_of new ≡ ranking_of old → new.counts ≡ pick_counted result old.counts → PicksAsSeen n old k result new k2
+    → new.view ≡ old.view → new.sent_items ≡ old.sent_items → new.cpu ≡ old.cpu → rules_in new ≡ rules_in old → new.counts ≡ pick_counted result old.counts → PicksAsSeen n old k result new k2
 picked_as_seen n (Ok t) old new k k2 picks err view count cpu ranks counts =
-    (picks.0, record { kernel = picks.2; list = picks.1; sent_items = count; same = record { view = view; cpu = cpu; ranks = ranks; counts = counts } })
+    (picks.0, record { kernel = picks.2; list = picks.1; sent_items = count; same = record { view = view; cpu = cpu; rules = ranks; counts = counts } })
 picked_as_seen n (Err refusal) old new k k2 picks err view count cpu ranks counts =
-    (picks.0, record { kernel = err; list = picks.1; sent_items = count; same = record { view = view; cpu = cpu; ranks = ranks; counts = counts } })
+    (picks.0, record { kernel = err; list = picks.1; sent_items = count; same = record { view = view; cpu = cpu; rules = ranks; counts = counts } })
 
 -- a pick, in the words of the plain agent
 pub picked : (P : PlainKernel) (run : Run) (p : PlainAgent) (n : ℕ) (result : Result ℕ Refusal) (old new : Agent) (k k2 : KernelRows) → Shows k P → ShowsAgent run p old
-    → Picks old.cpu n result old.list new.list k k2 → new.view ≡ old.view → new.sent_items ≡ old.sent_items → ranking_of new ≡ ranking_of old → IsPicked n P run p result old.cpu new k2
+    → Picks old.cpu n result old.list new.list k k2 → new.view ≡ old.view → new.sent_items ≡ old.sent_items → rules_in new ≡ rules_in old → IsPicked n P run p result old.cpu new k2
 picked P run p n (Ok t) old new k k2 shows h picks view count ranks =
     let took = picks.2 P shows in (
       sym (λ i. pick_refused (shows.reads i) old.cpu n (h.list i)) ∙ picks.0,
@@ -105,10 +105,10 @@ picked P run p n (Ok t) old new k k2 shows h picks view count ranks =
         first = sym (λ i. ready_list (shows.reads i) old.cpu n (h.list i)) ∙ picks.1;
         accepted = not_refused P (commits old.cpu t n) took.0;
         after = took.1;
-        agent = record { view = subst (λ v. ShowsView run p.known v) (sym view) h.view; list = refl; sent_items = count ∙ h.sent_items; ranks = ranks ∙ h.ranks };
+        agent = record { view = subst (λ v. ShowsView run p.known v) (sym view) h.view; list = refl; sent_items = count ∙ h.sent_items; rules = ranks ∙ h.rules };
       },
     )
 picked P run p n (Err refusal) old new k k2 shows h picks view count ranks = (
   sym (λ i. pick_refused (shows.reads i) old.cpu n (h.list i)) ∙ picks.0,
-  record { view = subst (λ v. ShowsView run p.known v) (sym view) h.view; list = picks.1 ∙ ap (λ l. left_by refusal l) h.list; sent_items = count ∙ h.sent_items; ranks = ranks ∙ h.ranks },
+  record { view = subst (λ v. ShowsView run p.known v) (sym view) h.view; list = picks.1 ∙ ap (λ l. left_by refusal l) h.list; sent_items = count ∙ h.sent_items; rules = ranks ∙ h.rules },
 )

@@ -28,7 +28,7 @@ use Rattle.pc_agent.specs.Own.{Publishes, KnowsTheSame, ConsumesAsSeen, PicksAsS
 use Rattle.pc_agent.specs.PlainAgent.{PlainAgent, threads_in, pick_refused, ready_list}
 use Rattle.pc_agent.specs.Publishing.{Copies, Sending, WhateverShown, IsConsumed, IsPublished}
 use Rattle.pc_agent.specs.Running.{IsPicked, IsSeenExactly, Steals, left_by, takes_up_to}
-use Rattle.pc_agent.specs.Shows.{ShowsAgent, cpu_of, ranking_of}
+use Rattle.pc_agent.specs.Shows.{ShowsAgent, cpu_of, ranking_of, rules_in}
 
 -- the kernel's limits are the same, its run is extended, and where the call failed nothing of it changed
 pub record GoesOn {A E : Type 0} (result : Result A E) (old new : KernelRows) : Type 0 where
@@ -44,7 +44,7 @@ pub record DoesDeliver (delta : List Part) (result : Result (Unit {0}) NoMemory)
   pub list : new.list ≡ old.list
   pub sent : new.sent_items ≡ old.sent_items
   pub cpu : cpu_of new ≡ cpu_of old
-  pub ranks : ranking_of new ≡ ranking_of old
+  pub rules : rules_in new ≡ rules_in old
   pub counts : new.counts ≡ old.counts
 
 -- items were taken in, which the delta tells; where memory ran out, a part of them may have been
@@ -58,7 +58,7 @@ pub record DoesCopy (items : List Item) (result : Result (List Part) NoMemory) (
   pub list_err : OnErr result (new.list ≡ old.list)
   pub sent : new.sent_items ≡ old.sent_items
   pub cpu : cpu_of new ≡ cpu_of old
-  pub ranks : ranking_of new ≡ ranking_of old
+  pub rules : rules_in new ≡ rules_in old
   pub counts : new.counts ≡ old.counts
 
 -- so many items at the front of its queue count as sent
@@ -76,7 +76,7 @@ pub record DoesPublish {W : Type 0} (Sends : Sending W) (faults : W → ℕ) (ke
   pub own : Publishes Sends (content_read (seen kernel) (cpu_of old)) result old new wire later
   pub fault : result ≡ Err WireFault → faults wire < faults later
   pub cpu : cpu_of new ≡ cpu_of old
-  pub ranks : ranking_of new ≡ ranking_of old
+  pub rules : rules_in new ≡ rules_in old
   pub counts : new.counts ≡ old.counts
 
 -- what was sent is removed from the queue, as the kernel answers
@@ -104,10 +104,10 @@ pub record DoesPick (aseq : ℕ) (result : Result ℕ Refusal) (old new : Agent)
   pub same : KnowsTheSame (pick_counted result old.counts) old new
   pub goes_on : GoesOn result before after
 
--- the least thread that may be is taken over, and goes to the end of the run list
+-- the first thread of those that may be is taken over, and goes to the end of the run list
 pub record DoesSteal (result : Result ℕ CallFault) (old new : Agent) (before after : KernelRows) : Type 0 where
   pub steals : WhateverShown before old (λ P run p. Steals P run p result (cpu_of old) new after)
-  pub own : StealsAsSeen old.view (cpu_of old) result old.list new.list before after
+  pub own : StealsAsSeen (rules_in old) old.view (cpu_of old) result old.list new.list before after
   pub exact : IfOk result (λ thread. WhateverShown before old (λ P run p. IsSeenExactly P run p thread))
   pub kernel : IfOk result (λ thread. Accepts (takes_up_to (upto_of old.view) (cpu_of old) thread) Done before after)
   pub taken : IfOk result (λ thread. new.list ≡ old.list ++ thread ∷ [])

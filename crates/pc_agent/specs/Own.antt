@@ -16,30 +16,31 @@ use Rattle.pc_view.specs.declared.view.View.{View}
 use Rattle.pc_view.specs.Prefixes.{upto_of}
 use Rattle.pc_delta.specs.Exchange.{IsTakenIn, IsPartlyTakenIn}
 use Rattle.pc_delta.specs.Parts.{parts_in}
-use Rattle.pc_run_queue.specs.Runs.{refreshed, runs_in}
+use Rattle.pc_policy.specs.Rules.{Rules}
+use Rattle.pc_run_queue.specs.Runs.{refreshed}
 use Rattle.pc_agent.specs.declared.agent.Agent.{Agent}
 use Rattle.pc_agent.specs.declared.counts.Counts.{Counts}
 use Rattle.pc_agent.specs.declared.wire.SendFault.{SendFault}
 use Rattle.pc_agent.specs.declared.wire.SendFault.TheVariants.{OutOfMemory, WireFault}
 use Rattle.pc_agent.specs.Counts.{consume_counted, pick_counted}
-use Rattle.pc_agent.specs.PlainAgent.{may_take, pick_refused, ready_list, threads_in}
+use Rattle.pc_agent.specs.PlainAgent.{candidates, known_in, pick_refused, ready_list, threads_in}
 use Rattle.pc_agent.specs.Publishing.{Sending}
 use Rattle.pc_agent.specs.Running.{StealsBy, left_by, takes_up_to}
-use Rattle.pc_agent.specs.Shows.{cpu_of, ranking_of}
+use Rattle.pc_agent.specs.Shows.{cpu_of, ranking_of, rules_in}
 
 -- the items' messages are taken in, the run list is refreshed with their threads, and so many items count as sent
 pub record HasCopied (items : List Item) (old new : Agent) (count : ℕ) : Type 0 where
   pub view : IsTakenIn (parts_in items) old.view new.view
   pub list : new.list ≡ refreshed (ranking_of old) new.view (cpu_of old) old.list (threads_in items)
   pub sent_items : new.sent_items ≡ count
-  pub ranks : ranking_of new ≡ ranking_of old
+  pub rules : rules_in new ≡ rules_in old
 
 -- a part of the messages may be taken in, and the agent is otherwise as it was
 pub record HasPartlyCopied (items : List Item) (old new : Agent) : Type 0 where
   pub view : IsPartlyTakenIn (parts_in items) old.view new.view
   pub list : new.list ≡ old.list
   pub sent_items : new.sent_items ≡ old.sent_items
-  pub ranks : ranking_of new ≡ ranking_of old
+  pub rules : rules_in new ≡ rules_in old
 
 -- a publish of these items: the wire was given one part for each message, in order; memory may have run out before
 -- that, or in it
@@ -52,11 +53,11 @@ Publishes Sends items (Err OutOfMemory) old new wire later =
     (HasPartlyCopied items old new × (later ≡ wire))
     ⊎ (Sends wire (parts_in items) (Err OutOfMemory) later × HasCopied items old new old.sent_items)
 
--- the agent knows what it knew, ranks as it did, and has counted so much
+-- the agent knows what it knew, goes by the same rules, and has counted so much
 pub record KnowsTheSame (counted : Counts) (old new : Agent) : Type 0 where
   pub view : new.view ≡ old.view
   pub cpu : cpu_of new ≡ cpu_of old
-  pub ranks : ranking_of new ≡ ranking_of old
+  pub rules : rules_in new ≡ rules_in old
   pub counts : new.counts ≡ counted
 
 -- the call that removes from the agent's queue what it has sent
@@ -105,8 +106,9 @@ pub record HasTakenOver (takes : Call) (t : ℕ) (old new : List ℕ) (before af
   pub kernel : Accepts takes Done before after
   pub list : new ≡ old ++ t ∷ []
 
--- a steal, by what the view reports: the view, the CPU, the result, the run list before and after, and the kernel
-abbrev pub StealsAsSeen : View → ℕ → Result ℕ CallFault → List ℕ → List ℕ → KernelRows → KernelRows → Type 0
-StealsAsSeen view cpu result old new before after =
-    StealsBy (seen before) cpu (may_take (seen before) (runs_in view cpu) old) (takes_up_to (upto_of view) cpu)
+-- a steal, by the agent's rules and what the view tells: rules, view, CPU, result, the run list before and after, and
+-- the kernel
+abbrev pub StealsAsSeen : Rules → View → ℕ → Result ℕ CallFault → List ℕ → List ℕ → KernelRows → KernelRows → Type 0
+StealsAsSeen rules view cpu result old new before after =
+    StealsBy (seen before) cpu (candidates rules (seen before) (known_in view) cpu old) (takes_up_to (upto_of view) cpu)
     (λ t. HasTakenOver (takes_up_to (upto_of view) cpu t) t old new before after) result

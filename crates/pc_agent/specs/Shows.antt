@@ -6,7 +6,8 @@ use Rattle.pc_view.specs.declared.view.View.{View}
 use Rattle.pc_view.specs.Views.{pairs_of, IsOfRun}
 use Rattle.pc_delta.specs.declared.part.Part.{Part}
 use Rattle.pc_delta.specs.Parts.{AreOfRun, set_of}
-use Rattle.pc_policy.specs.Rankings.{Ranking, ranks_of}
+use Rattle.pc_policy.specs.Rankings.{Ranking}
+use Rattle.pc_policy.specs.Rules.{Rules, rules_of}
 use Rattle.pc_agent.specs.declared.agent.Agent.{Agent}
 use Rattle.pc_agent.specs.declared.counts.Counts.{Counts}
 use Rattle.pc_agent.specs.PlainAgent.{PlainAgent, Set}
@@ -22,12 +23,12 @@ pub record ShowsDelta (run : Run) (set : Set) (delta : List Part) : Type 0 where
   pub told : IsSameSet (set_of delta) (as_members set)
 
 -- the agent's view is that of the plain agent's set in the run, and it has its run list, its count of sent items and
--- its ranking
+-- its rules
 pub record ShowsAgent (run : Run) (p : PlainAgent) (agent : Agent) : Type 0 where
   pub view : ShowsView run p.known agent.view
   pub list : agent.list ≡ p.list
   pub sent_items : agent.sent_items ≡ p.sent_items
-  pub ranks : ranks_of agent.policy ≡ p.ranks
+  pub rules : rules_of agent.policy ≡ p.rules
 
 -- the agent has taken in a part of the set, and is otherwise as it was
 abbrev pub ShowsPart : Run → PlainAgent → Set → Agent → Type 0
@@ -38,9 +39,13 @@ ShowsPart run p set agent = (some : Set) × IsBetween (as_members p.known) (as_m
 abbrev pub cpu_of : Agent → ℕ
 cpu_of agent = agent.cpu
 
+-- the rules that it goes by
+abbrev pub rules_in : Agent → Rules
+rules_in agent = rules_of agent.policy
+
 -- how it ranks threads
 abbrev pub ranking_of : Agent → Ranking
-ranking_of agent = ranks_of agent.policy
+ranking_of agent = (rules_in agent).ranks
 
 -- what it knows, its run list, how many items at the front of its queue it has sent, and what it has counted
 abbrev pub view_of : Agent → View

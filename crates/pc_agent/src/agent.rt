@@ -2,13 +2,14 @@
 
 ghost use Rattle.std.specs.Prelude.{ℕ, ◌≡◌};
 ghost use Rattle.pc_messages.specs.Run.{Run};
-ghost use Rattle.pc_policy.specs.Rankings.{by_levels, ranks_of};
+ghost use Rattle.pc_policy.specs.Rankings.{ranks_of};
+ghost use Rattle.pc_policy.specs.Rules.{rules_of, usual};
 ghost use Rattle.pc_agent.specs.Inner.Shortcuts.{AreTrue};
 
 use crate::counts::Counts;
 use crate::shortcuts::Shortcuts;
 use pc_messages::{Cpu, Tid};
-use pc_policy::Order;
+use pc_policy::AgentPolicy;
 use pc_run_queue::RunQueue;
 use pc_view::{View, views_tell_what_their_sets_tell};
 use std::alloc::Global;
@@ -22,34 +23,35 @@ use std::alloc::Global;
 pub struct Agent {
     pub(crate) alloc: Global,
     pub(crate) cpu: Cpu,
-    pub(crate) policy: Order,
+    pub(crate) policy: AgentPolicy,
     pub(crate) view: View,
     pub(crate) list: RunQueue,
     pub(crate) sent_items: u32,
     pub(crate) counts: Counts,
     /// What makes its calls quick. Nothing that they do or answer depends on it.
     pub(crate) shortcuts: Shortcuts,
-    ghost shortcuts_hold: { AreTrue (ranks_of policy) shortcuts view cpu list },
+    ghost shortcuts_hold: { AreTrue (ranks_of policy.order) shortcuts view cpu list },
 }
 
 impl Agent {
     ghost use Rattle.pc_run_queue.specs.Names.{AreDistinct};
     ghost use Rattle.pc_agent.specs.Counts.{none_counted};
     ghost use Rattle.pc_agent.specs.PlainAgent.{PlainAgent, fresh};
-    ghost use Rattle.pc_agent.specs.Shows.{ShowsAgent, ShowsView, cpu_of, ranking_of};
+    ghost use Rattle.pc_agent.specs.Shows.{ShowsAgent, ShowsView, cpu_of, rules_in};
 
-    /// The CPU's agent, who knows nothing, and runs the thread of the highest level first. It takes no memory.
+    /// The CPU's agent, who knows nothing, runs the thread of the highest level first, and steals the least name. It
+    /// takes no memory.
     pub fn new(alloc: Global, cpu: Cpu) -> Agent
-        ensures fresh { (run : Run) → ShowsAgent run (fresh by_levels) result }
+        ensures fresh { (run : Run) → ShowsAgent run (fresh usual) result }
         ensures cpu { cpu_of result ≡ cpu }
         ensures counts { result.counts ≡ none_counted }
     {
-        Agent::with_policy(alloc, cpu, Order::Levels)
+        Agent::with_policy(alloc, cpu, AgentPolicy::usual())
     }
 
-    /// The CPU's agent, who knows nothing, and runs threads in the order of this policy. It takes no memory.
-    pub fn with_policy(alloc: Global, cpu: Cpu, policy: Order) -> Agent
-        ensures fresh { (run : Run) → ShowsAgent run (fresh (ranks_of policy)) result }
+    /// The CPU's agent, who knows nothing, and runs and steals threads by this policy. It takes no memory.
+    pub fn with_policy(alloc: Global, cpu: Cpu, policy: AgentPolicy) -> Agent
+        ensures fresh { (run : Run) → ShowsAgent run (fresh (rules_of policy)) result }
         ensures cpu { cpu_of result ≡ cpu }
         ensures counts { result.counts ≡ none_counted }
     {
@@ -69,9 +71,9 @@ impl Agent {
     /// Starts again, as after a crash: it knows nothing, has an empty run list, and has sent nothing. Its policy and
     /// the counts stay. It takes no memory.
     pub fn restart(&mut self)
-        ensures fresh { (run : Run) → ShowsAgent run (fresh (ranking_of self.old)) self.new }
+        ensures fresh { (run : Run) → ShowsAgent run (fresh (rules_in self.old)) self.new }
         ensures cpu { cpu_of self.new ≡ cpu_of self.old }
-        ensures ranks { ranking_of self.new ≡ ranking_of self.old }
+        ensures rules { rules_in self.new ≡ rules_in self.old }
         ensures counts { self.new.counts ≡ self.old.counts }
     {
         views_tell_what_their_sets_tell();

@@ -20,12 +20,11 @@ impl Agent {
         ensures { DoesDeliver delta.now result self.old self.new }
     {
         let parts = delta.parts();
-        self.shortcuts
-            .note(parts, &self.list, &self.policy, &self.view, self.cpu);
+        self.shortcuts.note(parts, &self.list, &self.policy.order, &self.view, self.cpu);
         match take_in(&mut self.view, delta) {
             Ok(()) => {
                 self.shortcuts
-                    .look_anew(parts, &self.policy, &self.view, self.cpu);
+                    .look_anew(parts, &self.policy.order, &self.view, self.cpu);
                 Ok(())
             }
             Err(fault) => {

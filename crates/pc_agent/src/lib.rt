@@ -22,5 +22,5 @@ mod wire;
 pub use agent::Agent;
 pub use counts::{Counts, MOST_COUNTED};
 pub use kept_wire::{KeptWire, MOST_KEPT};
-pub use laws::agents_stay_as_the_run_goes_on;
+pub use laws::{agents_stay_as_the_run_goes_on, the_least_name_is_first};
 pub use wire::{SendFault, Wire};

@@ -6,7 +6,7 @@ ghost use Rattle.pc_kernel.specs.Reads.{seen, is_cpu};
 ghost use Rattle.pc_agent.specs.declared.counts.TheConstants.{MOST_COUNTED};
 ghost use Rattle.pc_agent.specs.Calls.{CountsAsSent, DoesConsume, DoesCopy, DoesPublish};
 ghost use Rattle.pc_agent.specs.Own.{Publishes};
-ghost use Rattle.pc_agent.specs.Shows.{cpu_of, ranking_of};
+ghost use Rattle.pc_agent.specs.Shows.{cpu_of, rules_in};
 
 use crate::agent::Agent;
 use crate::wire::{SendFault, Wire};
@@ -30,8 +30,13 @@ impl Agent {
         parts_of_items_are_of_the_run();
         let delta = Delta::of_items(self.alloc, items)?;
         self.deliver(&delta)?;
-        self.shortcuts
-            .refresh(&mut self.list, &self.policy, &self.view, self.cpu, items)?;
+        self.shortcuts.refresh(
+            &mut self.list,
+            &self.policy.order,
+            &self.view,
+            self.cpu,
+            items,
+        )?;
         Ok(delta)
     }
 
@@ -74,7 +79,7 @@ impl Agent {
         ensures own { Publishes W.Sends items.now result self.old self.new wire.old wire.new }
         ensures fault { result ≡ Err SendFault.WireFault → W.faults wire.old < W.faults wire.new }
         ensures cpu { cpu_of self.new ≡ cpu_of self.old }
-        ensures ranks { ranking_of self.new ≡ ranking_of self.old }
+        ensures rules { rules_in self.new ≡ rules_in self.old }
         ensures counts { self.new.counts ≡ self.old.counts }
     {
         let delta = match self.copied(items) {

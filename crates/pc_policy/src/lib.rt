@@ -1,4 +1,4 @@
-//! Policies: in which order an agent would run its threads.
+//! Policies: in which order an agent would run its threads, and which thread it steals.
 //!
 //! A policy ranks a thread by the CPU, its name and what is reported of it: the least rank runs first, first come first
 //! served within a rank, and a thread without a rank is left out. `specs/Rankings.antt` has the rankings that are
@@ -21,8 +21,10 @@
 //! ```
 #![tactic(auto)]
 
+mod agent_policy;
 mod order;
 mod policy;
 
+pub use agent_policy::{AgentPolicy, Stealing};
 pub use order::Order;
 pub use policy::Policy;

@@ -12,7 +12,7 @@ returns-in-Ok c = record {
   list = refl;
   sent = refl;
   cpu = refl;
-  ranks = refl;
+  rules = refl;
   counts = refl;
 }
 
@@ -24,7 +24,7 @@ returns-in-Err c = record {
   list = refl;
   sent = refl;
   cpu = refl;
-  ranks = refl;
+  rules = refl;
   counts = refl;
 }
 
@@ -34,4 +34,4 @@ invariant_of-self c =
     record { shortcuts_hold = c.look_anew.ensures c.args.self.now.view c.args.self.now.list others c.note.ensures }
 
 pub invariant_of-self-in-Err : goal.invariant_of-self-in-Err
-invariant_of-self-in-Err c = record { shortcuts_hold = c.forget.ensures (ranks_of c.args.self.now.policy) c.take_in.new.view c.args.self.now.cpu c.args.self.now.list }
+invariant_of-self-in-Err c = record { shortcuts_hold = c.forget.ensures (ranks_of c.args.self.now.policy.order) c.take_in.new.view c.args.self.now.cpu c.args.self.now.list }

@@ -15,9 +15,9 @@ returns c =
       list_err = pick_left _ _ _ _ _ _ answered did.picks;
       kernel = pick_accepted _ _ _ _ _ _ answered did.picks;
       sent = refl;
-      same = record { view = refl; cpu = refl; ranks = refl; counts = c.count_pick.ensures };
+      same = record { view = refl; cpu = refl; rules = refl; counts = c.count_pick.ensures };
       goes_on = did.goes_on;
     }
 
 pub invariant_of-self : goal.invariant_of-self
-invariant_of-self c = record { shortcuts_hold = c.pick_from-answered.ensures.kept (ranks_of c.args.self.now.policy) c.args.self.now.view c.args.self.now.cpu c.args.self.now.shortcuts_hold }
+invariant_of-self c = record { shortcuts_hold = c.pick_from-answered.ensures.kept (ranks_of c.args.self.now.policy.order) c.args.self.now.view c.args.self.now.cpu c.args.self.now.shortcuts_hold }

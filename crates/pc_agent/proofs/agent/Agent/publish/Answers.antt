@@ -28,7 +28,7 @@ returns-in-Ok g c =
       own = subst (λ l. Publishes g.W.Wire.Sends l c.publish_items-in-Ok.result c.args.self.now c.publish_items-in-Ok.new.self c.args.wire.now c.publish_items-in-Ok.new.wire) content did.own;
       fault = did.fault;
       cpu = did.cpu;
-      ranks = did.ranks;
+      rules = did.rules;
       counts = did.counts;
     }
 
@@ -53,6 +53,6 @@ returns-in-Some-default-empty g c =
       own = subst (λ l. Publishes g.W.Wire.Sends l c.publish_items.result c.args.self.now c.publish_items.new.self c.args.wire.now c.publish_items.new.wire) content did.own;
       fault = did.fault;
       cpu = did.cpu;
-      ranks = did.ranks;
+      rules = did.rules;
       counts = did.counts;
     }

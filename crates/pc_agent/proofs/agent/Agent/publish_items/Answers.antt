@@ -17,6 +17,6 @@ returns-in-Ok-send-clause-own g c =
         view = subst (IsTakenIn (parts_in items) old.view) same c.in-Ok.ensures.taken;
         list = c.sent.ensures.list ∙ c.in-Ok.ensures.refreshed ∙ ap (λ view. refreshed (ranking_of old) view (cpu_of old) old.list (threads_in items)) same;
         sent_items = c.sent.ensures.count;
-        ranks = c.sent.ensures.same.ranks ∙ c.in-Ok.ensures.ranks;
+        rules = c.sent.ensures.same.rules ∙ c.in-Ok.ensures.rules;
       },
     )

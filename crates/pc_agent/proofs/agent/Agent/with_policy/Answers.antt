@@ -10,10 +10,10 @@ returns-clause-fresh c run = record {
   view = view_of_nothing run c.new.result c.new.ensures.nothing (c.new.ensures.of_run run);
   list = c.new-2.ensures;
   sent_items = refl;
-  ranks = refl;
+  rules = refl;
 }
 
 pub invariant_of-result : goal.invariant_of-result
 invariant_of-result c =
     let none = none_runs c.views_tell_what_their_sets_tell.ensures.reported c.new.result c.new.ensures.nothing c.new.ensures.of_run c.args.cpu in
-    record { shortcuts_hold = subst (AreTrue (ranks_of c.args.policy) c.new-4.result c.new.result c.args.cpu) (sym c.new-2.ensures) (c.new-4.ensures (ranks_of c.args.policy) c.new.result c.args.cpu none) }
+    record { shortcuts_hold = subst (AreTrue (ranks_of c.args.policy.order) c.new-4.result c.new.result c.args.cpu) (sym c.new-2.ensures) (c.new-4.ensures (ranks_of c.args.policy.order) c.new.result c.args.cpu none) }
