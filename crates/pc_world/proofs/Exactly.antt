@@ -60,7 +60,7 @@ neither false b x y e f = cc
 
 -- a consume
 module _ (laws : KernelLaws) (limits : Limits) (w : PlainWorld) (h : IsGood limits w) (c : ℕ) (there : is_cpu (shown w.kernel) c ≡ true) where
-  consume_accepted : refused (shown w.kernel) (call.Consume c (w.agents c).sent_items) ≡ None
+  pub consume_accepted : refused (shown w.kernel) (call.Consume c (w.agents c).sent_items) ≡ None
   consume_accepted =
       let held : length (reads.content_read (shown w.kernel) c) ≡ length (content w.kernel c) = ap length ((laws.reads w.kernel).content c there) in
       let short = counted_short laws limits w h c in
@@ -108,10 +108,10 @@ none_pending t (item.Thread m ∷ items) e = elim (m.thread == t) as (λ b. (b |
   | false ↦ λ s. none_pending t items s
 ] e
 
-home_read : (P : PlainKernel) (t : ℕ) → is_known P t ≡ true → reads.home (shown P) t ≡ P.home t
+pub home_read : (P : PlainKernel) (t : ℕ) → is_known P t ≡ true → reads.home (shown P) t ≡ P.home t
 home_read P t e = ap (λ b. option_map_or (λ (row : ThreadRow). row.home) (if b then Some (thread_row P t) else None) 0) e
 
-take_whole : {X : Type 0} (xs : List X) → take (length xs) xs ≡ xs
+pub take_whole : {X : Type 0} (xs : List X) → take (length xs) xs ≡ xs
 take_whole [] = refl
 take_whole (x ∷ xs) = ap (λ l. x ∷ l) (take_whole xs)
 
@@ -139,14 +139,14 @@ module _ (laws : KernelLaws) (limits : Limits) (w : PlainWorld) (h : IsGood limi
       }
 
 -- a commit, and a pick
-first_passes : (test : ℕ → Bool) (names : List ℕ) (t : ℕ) (rest : List ℕ) → from_first test names ≡ t ∷ rest → test t ≡ true
+pub first_passes : (test : ℕ → Bool) (names : List ℕ) (t : ℕ) (rest : List ℕ) → from_first test names ≡ t ∷ rest → test t ≡ true
 first_passes test [] t rest e = cc
 first_passes test (u ∷ names) t rest e = elim (test u) as (λ b. test u ≡ b → (if b then u ∷ names else from_first test names) ≡ t ∷ rest → test t ≡ true) [
   | true ↦ λ yes s. let same : u ≡ t = cc in subst (λ n. test n ≡ true) same yes
   | false ↦ λ no s. first_passes test names t rest s
 ] refl e
 
-none_is : (o : Option Refusal) → is_none o ≡ true → o ≡ None
+pub none_is : (o : Option Refusal) → is_none o ≡ true → o ≡ None
 none_is None e = refl
 none_is (Some why) e = cc
 

@@ -11,7 +11,7 @@ use Rattle.pc_calls.specs.declared.refusal.Refusal.{Refusal}
 use Rattle.pc_kernel.specs.PlainKernel.{PlainKernel, start, kinds, items_to, aseq}
 use Rattle.pc_kernel.specs.Posted.{taken}
 use Rattle.pc_kernel.specs.Steps.{after, replay}
-use Rattle.pc_policy.specs.Rankings.{Ranking}
+use Rattle.pc_policy.specs.Rules.{Rules}
 use Rattle.pc_agent.specs.PlainAgent.{Set}
 use Rattle.pc_world.specs.PlainWorld.{PlainWorld, opened_by}
 use Rattle.pc_world.specs.Facts.{IsInRun, LiesIn, WasSent}
@@ -45,7 +45,7 @@ pub record Goes (w new : PlainWorld) : Type 0 where
   pub sent : (set : Set) → Contains new.sent set → LiesIn (kinds w.kernel) set
   pub few : (q : ℕ) → passed new q ≤ aseq w.kernel q
   pub front : (q : ℕ) → WereSent w.kernel q (passed new q) new
-  pub ranked : (c : ℕ) → (new.agents c).ranks ≡ (w.agents c).ranks
+  pub ranked : (c : ℕ) → (new.agents c).rules ≡ (w.agents c).rules
 
 longer_run : (longer shorter : Run) (t n : ℕ) → Extends longer shorter → IsInRun shorter t n → IsInRun longer t n
 longer_run longer shorter t n extends h =
@@ -103,7 +103,7 @@ sent_still w new more t n was = (was.0, more was.0 was.1, was.2)
 
 pub calm : (limits : Limits) (w new : PlainWorld) → IsGood limits w → Moves w.kernel new.kernel → ((c : ℕ) → LiesIn (kinds w.kernel) (new.agents c).known)
     → ((set : Set) → Contains w.sent set → Contains new.sent set) → ((set : Set) → Contains new.sent set → LiesIn (kinds w.kernel) set)
-    → ((q : ℕ) → passed new q ≤ passed w q) → ((c : ℕ) → (new.agents c).ranks ≡ (w.agents c).ranks) → Goes w new
+    → ((q : ℕ) → passed new q ≤ passed w q) → ((c : ℕ) → (new.agents c).rules ≡ (w.agents c).rules) → Goes w new
 calm limits w new h kernel seen more sent low ranked =
     record {
       kernel = kernel;
@@ -115,7 +115,7 @@ calm limits w new h kernel seen more sent low ranked =
     }
 
 -- nothing was posted, taken in or sent
-pub good_opened : (ranks : ℕ → Ranking) (limits : Limits) → IsGood limits (opened_by ranks limits)
+pub good_opened : (ranks : ℕ → Rules) (limits : Limits) → IsGood limits (opened_by ranks limits)
 good_opened ranks limits =
     record {
       calls = [];

@@ -43,9 +43,9 @@ at_has F f c x here there n = elim (n == c) as (λ b. F (if b then x else f n)) 
 sent_items_at : (f : ℕ → PlainAgent) (c : ℕ) (p : PlainAgent) (q : ℕ) → ((q ≡ c) × ((at f c p q).sent_items ≡ p.sent_items)) ⊎ ((q ≡ c → ⊥) × ((at f c p q).sent_items ≡ (f q).sent_items))
 sent_items_at f c p q = elim (eqb_tells q c) [ inl e ↦ inl (e.1, rw e.0 refl) | inr e ↦ inr (e.1, rw e.0 refl) ]
 
-ranks_at : (f : ℕ → PlainAgent) (c : ℕ) (p : PlainAgent) → p.ranks ≡ (f c).ranks → (q : ℕ) → (at f c p q).ranks ≡ (f q).ranks
-ranks_at f c p e q = elim (eqb_tells q c) [
-  | inl same ↦ rw same.0 (e ∙ ap (λ n. (f n).ranks) (sym same.1))
+rules_at : (f : ℕ → PlainAgent) (c : ℕ) (p : PlainAgent) → p.rules ≡ (f c).rules → (q : ℕ) → (at f c p q).rules ≡ (f q).rules
+rules_at f c p e q = elim (eqb_tells q c) [
+  | inl same ↦ rw same.0 (e ∙ ap (λ n. (f n).rules) (sym same.1))
   | inr other ↦ rw other.0 refl
 ]
 
@@ -105,12 +105,12 @@ module _ (laws : KernelLaws) (limits : Limits) (w : PlainWorld) (h : IsGood limi
   refused_goes r told new said = still new said.same
 
   -- another agent on a CPU, who has taken in messages of the run, and another kernel
-  own : (c : ℕ) (p : PlainAgent) (Q : PlainKernel) → Moves w.kernel Q → LiesIn run p.known → ((q : ℕ) → Q.eaten q + (at w.agents c p q).sent_items ≤ passed w q) → p.ranks ≡ (w.agents c).ranks
+  own : (c : ℕ) (p : PlainAgent) (Q : PlainKernel) → Moves w.kernel Q → LiesIn run p.known → ((q : ℕ) → Q.eaten q + (at w.agents c p q).sent_items ≤ passed w q) → p.rules ≡ (w.agents c).rules
       → Goes w (record (with_agent w c p) { kernel = Q })
   own c p Q moves seen low ranks =
-      calm limits w (record (with_agent w c p) { kernel = Q }) h moves (at_has (λ a. LiesIn run a.known) w.agents c p seen h.known) (λ set there. there) h.sent low (ranks_at w.agents c p ranks)
+      calm limits w (record (with_agent w c p) { kernel = Q }) h moves (at_has (λ a. LiesIn run a.known) w.agents c p seen h.known) (λ set there. there) h.sent low (rules_at w.agents c p ranks)
 
-  own_same : (c : ℕ) (p : PlainAgent) (Q : PlainKernel) → Moves w.kernel Q → ((q : ℕ) → Q.eaten q ≡ w.kernel.eaten q) → LiesIn run p.known → p.sent_items ≤ (w.agents c).sent_items → p.ranks ≡ (w.agents c).ranks
+  own_same : (c : ℕ) (p : PlainAgent) (Q : PlainKernel) → Moves w.kernel Q → ((q : ℕ) → Q.eaten q ≡ w.kernel.eaten q) → LiesIn run p.known → p.sent_items ≤ (w.agents c).sent_items → p.rules ≡ (w.agents c).rules
       → Goes w (record (with_agent w c p) { kernel = Q })
   own_same c p Q moves eaten seen low ranks = own c p Q moves seen (λ q.
       let e = eaten q in
@@ -119,7 +119,7 @@ module _ (laws : KernelLaws) (limits : Limits) (w : PlainWorld) (h : IsGood limi
         | inr s ↦ let there = s.1 in omega arith
       ]) ranks
 
-  own_agent : (c : ℕ) (p : PlainAgent) → LiesIn run p.known → p.sent_items ≤ (w.agents c).sent_items → p.ranks ≡ (w.agents c).ranks → Goes w (with_agent w c p)
+  own_agent : (c : ℕ) (p : PlainAgent) → LiesIn run p.known → p.sent_items ≤ (w.agents c).sent_items → p.rules ≡ (w.agents c).rules → Goes w (with_agent w c p)
   own_agent c p seen low ranks = own_same c p w.kernel (inl refl) (λ q. refl) seen low ranks
 
   called : (made : Call) (new : PlainWorld) → ((q : ℕ) → takes made q ≡ 0) → new ≡ record w { kernel = after w.kernel made } → Goes w new
@@ -128,7 +128,7 @@ module _ (laws : KernelLaws) (limits : Limits) (w : PlainWorld) (h : IsGood limi
       (calm limits w (record w { kernel = after w.kernel made }) h (inr (made, refl)) h.known (λ set there. there) h.sent
       (λ q. let e = not_eaten made none q in omega arith) (λ c. refl))
 
-  own_call : (made : Call) (c : ℕ) (p : PlainAgent) → ((q : ℕ) → takes made q ≡ 0) → LiesIn run p.known → p.sent_items ≤ (w.agents c).sent_items → p.ranks ≡ (w.agents c).ranks
+  own_call : (made : Call) (c : ℕ) (p : PlainAgent) → ((q : ℕ) → takes made q ≡ 0) → LiesIn run p.known → p.sent_items ≤ (w.agents c).sent_items → p.rules ≡ (w.agents c).rules
       → Goes w (record (with_agent w c p) { kernel = after w.kernel made })
   own_call made c p none seen low ranks = own_same c p (after w.kernel made) (inr (made, refl)) (not_eaten made none) seen low ranks
 
@@ -170,7 +170,7 @@ module _ (laws : KernelLaws) (limits : Limits) (w : PlainWorld) (h : IsGood limi
               (subst (λ n. WereSent P n (P.eaten n + length items) (published w c)) (sym s.0) whole)
           | inr s ↦ λ i m low there. let is = s.1 in sent_still w (published w c) more m.thread m.number (h.front q i m (omega arith) there)
         ];
-        ranked = ranks_at w.agents c p refl;
+        ranked = rules_at w.agents c p refl;
       }
 
   publish_goes : (c : ℕ) (fails : Bool) (told : Reply) (new : PlainWorld) → IsPublished w c fails told new → Goes w new
@@ -233,8 +233,8 @@ module _ (laws : KernelLaws) (limits : Limits) (w : PlainWorld) (h : IsGood limi
   steal_goes c true told new said = refused_goes _ told new said
   steal_goes c false told new said = try_goes c said.0 told new said.2
 
-  crash_goes : (c : ℕ) (new : PlainWorld) → new ≡ record (with_agent w c (fresh (w.agents c).ranks)) { kernel = after w.kernel (rouses c) } → Goes w new
-  crash_goes c new is = subst (Goes w) (sym is) (own_call (rouses c) c (fresh (w.agents c).ranks) (λ q. refl) (λ t n e. cc) (omega arith) refl)
+  crash_goes : (c : ℕ) (new : PlainWorld) → new ≡ record (with_agent w c (fresh (w.agents c).rules)) { kernel = after w.kernel (rouses c) } → Goes w new
+  crash_goes c new is = subst (Goes w) (sym is) (own_call (rouses c) c (fresh (w.agents c).rules) (λ q. refl) (λ t n e. cc) (omega arith) refl)
 
   -- on a CPU that is there, or refused
   if_there : (there : Bool) (told : Reply) (new : PlainWorld) (Holds : Type 0) → (Holds → Goes w new) → MatchBool there Holds (IsBadCpu w told new) → Goes w new

@@ -15,7 +15,7 @@ use Rattle.pc_kernel.specs.Reads.{Reads, shown}
 use Rattle.pc_kernel.specs.Rows.{KernelRows}
 use Rattle.pc_kernel.specs.Steps.{after, after_of, changed, posting, refused, replay}
 use Rattle.pc_world.specs.declared.parts.Parts.{Parts}
-use Rattle.pc_policy.specs.Rankings.{Ranking}
+use Rattle.pc_policy.specs.Rules.{Rules}
 use Rattle.pc_world.specs.PlainWorld.{PlainWorld, opened_by}
 use Rattle.pc_world.specs.Reached.{Leads, LeadsTo, Reached}
 use Rattle.pc_world.specs.Shows.{IsReached, KeepsSent, ShowsWorld}
@@ -64,35 +64,35 @@ leads_to : (w : PlainWorld) (event : Event) (result : Result Reply OutOfMemory) 
 leads_to w event (Ok told) new done = inl (told, done)
 leads_to w event (Err fault) new left = inr (inr left)
 
-pub reached_start : (world : Parts) (ranks : ℕ → Ranking) (limits : Limits) → ShowsWorld world (opened_by ranks limits) → IsReached world
+pub reached_start : (world : Parts) (ranks : ℕ → Rules) (limits : Limits) → ShowsWorld world (opened_by ranks limits) → IsReached world
 reached_start world ranks limits shows =
     let same : world.kernel.limits ≡ limits = shown_limits world.kernel (start limits) shows.kernel in
     record {
       plain = opened_by ranks limits;
-      reached = record { ranks = ranks; events = []; leads = ap (opened_by ranks) (sym same) };
+      reached = record { rules = ranks; events = []; leads = ap (opened_by ranks) (sym same) };
       shows = shows;
-      ranks = λ c agent there. (shows.agents c agent there).ranks;
+      rules = λ c agent there. (shows.agents c agent there).rules;
     }
 
 pub reached_on : (laws : KernelLaws) (event : Event) (result : Result Reply OutOfMemory) (old new : Parts) → Handles event result old new → IsReached old → IsReached new
 reached_on laws event result old new handles h =
     let limits : Limits = old.kernel.limits in
-    let ranks : ℕ → Ranking = h.reached.ranks in
+    let ranks : ℕ → Rules = h.reached.rules in
     let did = handles h.plain h.shows in
     let leads = leads_more (opened_by ranks limits) h.reached.events h.plain did.0 event h.reached.leads (leads_to h.plain event result did.0 did.1) in
-    let again : Reached limits did.0 = record { ranks = ranks; events = h.reached.events ++ event ∷ []; leads = leads } in
+    let again : Reached limits did.0 = record { rules = ranks; events = h.reached.events ++ event ∷ []; leads = leads } in
     let good = reached_good laws limits did.0 again in
     let same : new.kernel.limits ≡ limits =
     shown_limits new.kernel did.0.kernel did.2.kernel ∙ ap (λ (P : PlainKernel). P.limits) good.replayed ∙ replay_limits (start limits) good.calls in
     record {
       plain = did.0;
       reached = record {
-        ranks = ranks;
+        rules = ranks;
         events = h.reached.events ++ event ∷ [];
         leads = subst (λ l. Leads (opened_by ranks l) (h.reached.events ++ event ∷ []) did.0) (sym same) leads;
       };
       shows = did.2;
-      ranks = λ c agent there. (did.2.agents c agent there).ranks ∙ reached_ranked laws limits did.0 c again;
+      rules = λ c agent there. (did.2.agents c agent there).rules ∙ reached_ranked laws limits did.0 c again;
     }
 
 -- what was sent stays sent

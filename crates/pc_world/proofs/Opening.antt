@@ -5,13 +5,13 @@ use Rattle.pc_messages.specs.Run.{Run}
 use Rattle.pc_calls.specs.declared.limits.Limits.{Limits}
 use Rattle.pc_kernel.specs.Answers.{Shows}
 use Rattle.pc_kernel.specs.PlainKernel.{start, kinds}
-use Rattle.pc_policy.specs.Rankings.{Ranking, by_levels, ranks_of}
-use Rattle.pc_policy.specs.declared.order.Order.{Order}
+use Rattle.pc_policy.specs.Rules.{Rules, rules_of, usual}
+use Rattle.pc_policy.specs.declared.agent_policy.AgentPolicy.{AgentPolicy}
 use Rattle.pc_agent.specs.declared.agent.Agent.{Agent}
 use Rattle.pc_agent.specs.PlainAgent.{fresh}
 use Rattle.pc_agent.specs.Shows.{ShowsAgent, cpu_of}
 use Rattle.pc_world.specs.declared.parts.Parts.{Parts}
-use Rattle.pc_world.specs.PlainWorld.{opened_by, ranks_at}
+use Rattle.pc_world.specs.PlainWorld.{opened_by, rules_at}
 use Rattle.pc_world.specs.Shows.{AreSent, ShowsWorld, deltas_of}
 use Rattle.pc_world.specs.Inner.Agents.{AreNew}
 
@@ -22,7 +22,7 @@ at_push [] x a (suc i) e = cc
 at_push (y ∷ ys) x a zero e = inl e
 at_push (y ∷ ys) x a (suc i) e = elim (at_push ys x a i e) [ inl h ↦ inl h | inr h ↦ inr (ap suc h.0, h.1) ]
 
-pub new_more : (ranks : ℕ → Ranking) (n : ℕ) (agents : List Agent) (agent : Agent) → AreNew ranks n agents → cpu_of agent ≡ n → ((run : Run) → ShowsAgent run (fresh (ranks n)) agent) → AreNew ranks (n + 1) (agents ++ agent ∷ [])
+pub new_more : (ranks : ℕ → Rules) (n : ℕ) (agents : List Agent) (agent : Agent) → AreNew ranks n agents → cpu_of agent ≡ n → ((run : Run) → ShowsAgent run (fresh (ranks n)) agent) → AreNew ranks (n + 1) (agents ++ agent ∷ [])
 new_more ranks n agents agent h cpu starts =
     let size = h.count_is in
     record {
@@ -37,7 +37,7 @@ new_more ranks n agents agent h cpu starts =
       ];
     }
 
-pub new_world : (world : Parts) (ranks : ℕ → Ranking) (limits : Limits) (count : ℕ) → Shows world.kernel (start limits) → AreNew ranks count world.agents.items → deltas_of world ≡ [] → ShowsWorld world (opened_by ranks limits)
+pub new_world : (world : Parts) (ranks : ℕ → Rules) (limits : Limits) (count : ℕ) → Shows world.kernel (start limits) → AreNew ranks count world.agents.items → deltas_of world ≡ [] → ShowsWorld world (opened_by ranks limits)
 new_world world ranks limits count kernel agents sent = record {
   kernel = kernel;
   agents = λ c agent e. agents.fresh c agent e (kinds (start limits));
@@ -45,12 +45,12 @@ new_world world ranks limits count kernel agents sent = record {
 }
 
 -- the policy of a CPU, and of one for which none is given
-pub policy_there : (policies : List Order) (c : ℕ) (policy : Order) → c < length policies → policy ≡ get_or policies c policy → ranks_of policy ≡ ranks_at policies c
+pub policy_there : (policies : List AgentPolicy) (c : ℕ) (policy : AgentPolicy) → c < length policies → policy ≡ get_or policies c policy → rules_of policy ≡ rules_at policies c
 policy_there [] c policy lt e = absurd (omega arith)
-policy_there (p ∷ ps) zero policy lt e = ap ranks_of e
+policy_there (p ∷ ps) zero policy lt e = ap rules_of e
 policy_there (p ∷ ps) (suc c) policy lt e = policy_there ps c policy (omega arith) e
 
-pub no_policy : (policies : List Order) (c : ℕ) → length policies ≤ c → by_levels ≡ ranks_at policies c
+pub no_policy : (policies : List AgentPolicy) (c : ℕ) → length policies ≤ c → usual ≡ rules_at policies c
 no_policy [] c le = refl
 no_policy (p ∷ ps) zero le = absurd (omega arith)
 no_policy (p ∷ ps) (suc c) le = no_policy ps c (omega arith)

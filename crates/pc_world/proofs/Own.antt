@@ -26,8 +26,8 @@ use Rattle.pc_agent.specs.declared.wire.SendFault.TheVariants as sending
 use Rattle.pc_agent.specs.Exchanging.{Delivers}
 use Rattle.pc_agent.specs.PlainAgent.{PlainAgent, copied, fresh, taking_in}
 use Rattle.pc_agent.specs.Publishing.{IsConsumed, IsPublished, WhateverShown, sent_after}
-use Rattle.pc_agent.specs.Running.{Finds, IsPicked, IsTakenOver, Steals, TriesLeast, left_by, takes_over, take_refused}
-use Rattle.pc_agent.specs.Shows.{ShowsAgent, ShowsView, cpu_of, ranking_of}
+use Rattle.pc_agent.specs.Running.{FindsFirst, IsPicked, IsTakenOver, Steals, TriesFirst, left_by, takes_over, take_refused}
+use Rattle.pc_agent.specs.Shows.{ShowsAgent, ShowsView, cpu_of, rules_in}
 use Rattle.pc_agent.specs.Wires.{Keeps, sent_by}
 use Rattle.pc_world.specs.declared.parts.Parts.{Parts}
 use Rattle.pc_world.specs.PlainWorld.{PlainWorld, copied_all, published, with_agent}
@@ -220,7 +220,7 @@ module _ (goes : RunsGoOn) (old new : Parts) (c place : ℕ) (agent more : Agent
   -- what a steal for an idle CPU did
   abbrev is_stolen : PlainWorld → Result ℕ faults.the_data → Type 0
   is_stolen w result =
-      TriesLeast (shown w.kernel) (stealable w c) (takes_over c (w.agents c)) (λ t. IsTakenOver w.kernel (kinds w.kernel) (w.agents c) c t more new.kernel) result
+      TriesFirst (shown w.kernel) (stealable w c) (takes_over c (w.agents c)) (λ t. IsTakenOver w.kernel (kinds w.kernel) (w.agents c) c t more new.kernel) result
 
   said_stolen : (result : Result ℕ faults.the_data) → WhateverShown old.kernel agent (λ P run p. Steals P run p result (cpu_of agent) more new.kernel) → (w : PlainWorld) → ShowsWorld old w
       → Steals w.kernel (kinds w.kernel) (w.agents c) result c more new.kernel
@@ -246,12 +246,12 @@ module _ (goes : RunsGoOn) (old new : Parts) (c place : ℕ) (agent more : Agent
       )
 
   pub steal_refused : (refusal : Refusal) → WhateverShown old.kernel agent (λ P run p. Steals P run p (Err (faults.Refused refusal)) (cpu_of agent) more new.kernel) → new.kernel ≡ old.kernel → deltas_of new ≡ deltas_of old
-      → more.view ≡ agent.view → more.list ≡ agent.list → more.sent_items ≡ agent.sent_items → ranking_of more ≡ ranking_of agent
+      → more.view ≡ agent.view → more.list ≡ agent.list → more.sent_items ≡ agent.sent_items → rules_in more ≡ rules_in agent
       → Handles (event.Steal c) (Ok (replies.Refused refusal)) old new
   steal_refused refusal says kernel sent view list count ranks w h = by_test (is_some (on (shown w.kernel) c)) refl (said_stolen (Err (faults.Refused refusal)) says w h)
     where
       same_agent : ShowsAgent (kinds w.kernel) (w.agents c) more
-      same_agent = let was = h.agents c agent there in record { view = subst (λ v. ShowsView (kinds w.kernel) (w.agents c).known v) (sym view) was.view; list = list ∙ was.list; sent_items = count ∙ was.sent_items; ranks = ranks ∙ was.ranks }
+      same_agent = let was = h.agents c agent there in record { view = subst (λ v. ShowsView (kinds w.kernel) (w.agents c).known v) (sym view) was.view; list = list ∙ was.list; sent_items = count ∙ was.sent_items; rules = ranks ∙ was.rules }
 
       rest : ShowsWorld new w × KeepsSent old new
       rest = (after_none w h kernel same_agent sent, kept_same old new sent)
@@ -276,28 +276,28 @@ module _ (goes : RunsGoOn) (old new : Parts) (c place : ℕ) (agent more : Agent
       )
 
   pub steal_ran_out : (fault : NoMemory) → WhateverShown old.kernel agent (λ P run p. Steals P run p (Err faults.OutOfMemory) (cpu_of agent) more new.kernel) → new.kernel ≡ old.kernel → deltas_of new ≡ deltas_of old
-      → more.view ≡ agent.view → more.list ≡ agent.list → more.sent_items ≡ agent.sent_items → ranking_of more ≡ ranking_of agent → Handles (event.Steal c) (Err fault) old new
+      → more.view ≡ agent.view → more.list ≡ agent.list → more.sent_items ≡ agent.sent_items → rules_in more ≡ rules_in agent → Handles (event.Steal c) (Err fault) old new
   steal_ran_out fault says kernel sent view list count ranks w h = by_test (is_some (on (shown w.kernel) c)) refl (said_stolen (Err faults.OutOfMemory) says w h)
     where
       same_agent : ShowsAgent (kinds w.kernel) (w.agents c) more
-      same_agent = let was = h.agents c agent there in record { view = subst (λ v. ShowsView (kinds w.kernel) (w.agents c).known v) (sym view) was.view; list = list ∙ was.list; sent_items = count ∙ was.sent_items; ranks = ranks ∙ was.ranks }
+      same_agent = let was = h.agents c agent there in record { view = subst (λ v. ShowsView (kinds w.kernel) (w.agents c).known v) (sym view) was.view; list = list ∙ was.list; sent_items = count ∙ was.sent_items; rules = ranks ∙ was.rules }
 
       by_test : (b : Bool) → is_some (on (shown w.kernel) c) ≡ b → MatchBool b (◌≡◌ {A = Result ℕ faults.the_data} (Err faults.OutOfMemory) (Err (faults.Refused refusals.Busy))) (is_stolen w (Err faults.OutOfMemory))
           → (w'' : PlainWorld)
-          × ((is_cpu (shown w.kernel) c ≡ true) × (is_some (on (shown w.kernel) c) ≡ false) × (t : ℕ) × Finds (stealable w c) (Some t) × (w'' ≡ w)) × ShowsWorld new w'' × KeepsSent old new
+          × ((is_cpu (shown w.kernel) c ≡ true) × (is_some (on (shown w.kernel) c) ≡ false) × (t : ℕ) × FindsFirst (stealable w c) (Some t) × (w'' ≡ w)) × ShowsWorld new w'' × KeepsSent old new
       by_test true e said = absurd (let none : ⊥ = cc in none)
       by_test false e said =
           (w, (plain_cpu old.kernel w.kernel c true h.kernel where_is.there, e, said.0, said.1, refl), after_none w h kernel same_agent sent, kept_same old new sent)
 
-  pub crash_done : Steps done (rouses c) (Ok tt) old.kernel new.kernel → ((run : Run) → ShowsAgent run (fresh (ranking_of agent)) more) → deltas_of new ≡ deltas_of old → Handles (event.Crash c) (Ok replies.Done) old new
+  pub crash_done : Steps done (rouses c) (Ok tt) old.kernel new.kernel → ((run : Run) → ShowsAgent run (fresh (rules_in agent)) more) → deltas_of new ≡ deltas_of old → Handles (event.Crash c) (Ok replies.Done) old new
   crash_done roused starts sent w h =
       let P = w.kernel in
       let did = was_done P (refused (shown P) (rouses c)) old.kernel new.kernel (changed P (rouses c)) P (roused P h.kernel) in
-      let w' : PlainWorld = record (with_agent w c (fresh (w.agents c).ranks)) { kernel = after P (rouses c) } in (
+      let w' : PlainWorld = record (with_agent w c (fresh (w.agents c).rules)) { kernel = after P (rouses c) } in (
         w',
         on_cpu w replies.Done w' _ h (refl, refl),
-        after_call w (after P (rouses c)) (fresh (w.agents c).ranks) h did.1 (goes.calls P (rouses c))
-            (subst (λ ranks. ShowsAgent (kinds P) (fresh ranks) more) (h.agents c agent there).ranks (starts (kinds P))) sent,
+        after_call w (after P (rouses c)) (fresh (w.agents c).rules) h did.1 (goes.calls P (rouses c))
+            (subst (λ ranks. ShowsAgent (kinds P) (fresh ranks) more) (h.agents c agent there).rules (starts (kinds P))) sent,
         kept_same old new sent,
       )
 

@@ -1,5 +1,5 @@
 -- Lists of agents, and a world in which one of them is another.
-use Rattle.std.proofs.Common.{◌≡◌, ℕ, zero, suc, ◌<◌, Bool, true, false, List, [], ◌∷◌, length, Some, MatchBool, slice_get, get_or, set, refl, sym, ◌∙◌, ap, subst, inl, inr, arith, append-nil}
+use Rattle.std.proofs.Common.{◌≡◌, ℕ, zero, suc, ◌<◌, ◌⊎◌, Bool, true, false, List, [], ◌∷◌, length, Some, MatchBool, slice_get, get_or, set, refl, sym, ◌∙◌, ap, subst, inl, inr, arith, append-nil}
 use Rattle.std.proofs.lemmas.Bool.{cases_eq}
 use Rattle.std.proofs.lemmas.Bool.Decides.{eqb_tells}
 use Rattle.std.proofs.lemmas.Option.{same_Some}
@@ -16,6 +16,7 @@ use Rattle.pc_agent.specs.Shows.{ShowsAgent, cpu_of}
 use Rattle.pc_world.specs.declared.parts.Parts.{Parts}
 use Rattle.pc_world.specs.PlainWorld.{PlainWorld}
 use Rattle.pc_world.specs.Shows.{AreSent, KeepsSent, ShowsWorld, deltas_of}
+use Rattle.pc_world.specs.Inner.Agents.{AreOwn}
 use Rattle.pc_world.specs.Inner.Laws.{RunsGoOn}
 use Rattle.pc_world.specs.Inner.Places.{IsPlace}
 use Rattle.pc_world.proofs.Sent.{sent_stays}
@@ -105,3 +106,18 @@ put_back (x ∷ xs) (suc i) d low = ap (λ l. x ∷ l) (put_back xs i d (omega a
 -- the deltas that were sent are of each run that goes on
 pub sent_goes_on : (goes : RunsGoOn) (longer shorter : Run) (sets : List Set) (deltas : List (List Part)) → Extends longer shorter → AreSent shorter sets deltas → AreSent longer sets deltas
 sent_goes_on goes longer shorter sets deltas extends told = sent_stays shorter longer sets deltas (λ parts. goes.deltas longer shorter parts extends) told
+
+-- an agent is that which was put at its place, or one that stood there before
+got_set : (xs : List Agent) (i : ℕ) (x : Agent) (j : ℕ) (y : Agent) → slice_get (set xs i x) j ≡ Some y → ((j ≡ i) × (y ≡ x)) ⊎ (slice_get xs j ≡ Some y)
+got_set [] i x j y e = inr e
+got_set (a ∷ xs) zero x zero y e = inl (refl, let is : y ≡ x = cc in is)
+got_set (a ∷ xs) zero x (suc j) y e = inr e
+got_set (a ∷ xs) (suc i) x zero y e = inr e
+got_set (a ∷ xs) (suc i) x (suc j) y e = elim (got_set xs i x j y e) [ inl s ↦ inl (ap suc s.0, s.1) | inr s ↦ inr s ]
+
+-- an agent of the same CPU is put in its place
+pub own_after : (xs : List Agent) (i : ℕ) (x : Agent) → AreOwn xs → cpu_of x ≡ i → AreOwn (set xs i x)
+own_after xs i x own cpu c y there = elim (got_set xs i x c y there) [
+  | inl s ↦ ap cpu_of s.1 ∙ cpu ∙ sym s.0
+  | inr s ↦ own c y s
+]

@@ -32,17 +32,17 @@ leads_good laws limits w (e ∷ events) new h leads =
     leads_good laws limits leads.0 events new (good_next laws limits w leads.0 h (leads_goes laws limits w h e leads.0 leads.1)) leads.2
 
 pub reached_good : (laws : KernelLaws) (limits : Limits) (w : PlainWorld) → Reached limits w → IsGood limits w
-reached_good laws limits w reached = leads_good laws limits (opened_by reached.ranks limits) reached.events w (good_opened reached.ranks limits) reached.leads
+reached_good laws limits w reached = leads_good laws limits (opened_by reached.rules limits) reached.events w (good_opened reached.rules limits) reached.leads
 
 -- no event changes how an agent ranks
-leads_ranked : (laws : KernelLaws) (limits : Limits) (w : PlainWorld) (events : List Event) (new : PlainWorld) (c : ℕ) → IsGood limits w → Leads w events new → (new.agents c).ranks ≡ (w.agents c).ranks
-leads_ranked laws limits w [] new c h leads = ap (λ (v : PlainWorld). (v.agents c).ranks) leads
+leads_ranked : (laws : KernelLaws) (limits : Limits) (w : PlainWorld) (events : List Event) (new : PlainWorld) (c : ℕ) → IsGood limits w → Leads w events new → (new.agents c).rules ≡ (w.agents c).rules
+leads_ranked laws limits w [] new c h leads = ap (λ (v : PlainWorld). (v.agents c).rules) leads
 leads_ranked laws limits w (e ∷ events) new c h leads =
     let goes = leads_goes laws limits w h e leads.0 leads.1 in
     leads_ranked laws limits leads.0 events new c (good_next laws limits w leads.0 h goes) leads.2 ∙ goes.ranked c
 
-pub reached_ranked : (laws : KernelLaws) (limits : Limits) (w : PlainWorld) (c : ℕ) (reached : Reached limits w) → (w.agents c).ranks ≡ reached.ranks c
-reached_ranked laws limits w c reached = leads_ranked laws limits (opened_by reached.ranks limits) reached.events w c (good_opened reached.ranks limits) reached.leads
+pub reached_ranked : (laws : KernelLaws) (limits : Limits) (w : PlainWorld) (c : ℕ) (reached : Reached limits w) → (w.agents c).rules ≡ reached.rules c
+reached_ranked laws limits w c reached = leads_ranked laws limits (opened_by reached.rules limits) reached.events w c (good_opened reached.rules limits) reached.leads
 
 -- the pair of a message, told by the message
 at_pair : (F : ℕ → ℕ → Type 0) (m : Message) (t n : ℕ) → m.thread ≡ t → m.number ≡ n → F m.thread m.number → F t n

@@ -1,5 +1,5 @@
 -- Every event has a step.
-use Rattle.std.proofs.Common.{◌≡◌, ℕ, zero, suc, ◌-◌, ◌≤◌, ◌<◌, ◌==◌, ◌&&◌, ◌⊎◌, Bool, true, false, nat_lt, not, cond, List, [], ◌∷◌, ◌++◌, length, Option, Some, None, Result, Ok, Err, MatchBool, All, is_none, is_some, slice_get, refl, sym, ◌∙◌, ap, subst, inl, inr, arith}
+use Rattle.std.proofs.Common.{◌≡◌, ℕ, zero, suc, ◌-◌, ◌≤◌, ◌<◌, ◌==◌, ◌&&◌, ◌⊎◌, Bool, true, false, nat_lt, not, cond, List, [], ◌∷◌, ◌++◌, length, Option, Some, None, Result, Ok, Err, MatchBool, All, is_none, is_some, slice_get, refl, sym, ◌∙◌, ap, subst, inl, inr, arith, if◌then◌else◌}
 use Rattle.std.proofs.lemmas.Bool.{cases_lt}
 use Rattle.std.proofs.lemmas.Bool.Decides.{nat_tests}
 use Rattle.std.proofs.lemmas.List.Elements.{All-cons, All-nil}
@@ -27,8 +27,8 @@ use Rattle.pc_kernel.specs.Steps.{after, refused}
 use Rattle.pc_delta.specs.declared.part.Part.{Part}
 use Rattle.pc_delta.specs.declared.part.Part.TheVariants.{One}
 use Rattle.pc_delta.specs.Parts.{AreOfRun, IsPartOfRun, pairs_of_parts}
-use Rattle.pc_agent.specs.PlainAgent.{Set, fresh, is_empty_list, pick_refused, ready_list, runs_here, taking_in}
-use Rattle.pc_agent.specs.Running.{Finds, IsLeast, left_by, takes_over}
+use Rattle.pc_agent.specs.PlainAgent.{Set, fresh, is_empty_list, known_by, pick_refused, ready_list, runs_here, standing, taking_in}
+use Rattle.pc_agent.specs.Running.{FindsFirst, left_by, takes_over}
 use Rattle.pc_run_queue.specs.Names.{has_name}
 use Rattle.pc_world.specs.Facts.{LiesIn}
 use Rattle.pc_world.specs.PlainWorld.{PlainWorld, copied_all, published, sending, with_agent}
@@ -96,24 +96,105 @@ singles run ((a, b) ∷ view) digest lies =
           }
     ] refl
 
--- the least number that passes, where none passes from some number on
-search_below : (test : ℕ → Bool) (n : ℕ) → ((t : ℕ) → t < n → test t ≡ false) ⊎ ((t : ℕ) × IsLeast test t)
-search_below test zero = inl (λ t low. absurd (omega arith))
-search_below test (suc n) = elim (search_below test n) [
-  | inl none ↦ elim (test n) as (λ b. test n ≡ b → ((t : ℕ) → t < suc n → test t ≡ false) ⊎ ((t : ℕ) × IsLeast test t)) [
-    | true ↦ λ yes. inr (n, record { passes = yes; least = none })
-    | false ↦ λ no. inl (λ t low. elim (cases_lt t n) [
+-- the first that stands somewhere of those below a number
+abbrev IsFirstBelow : (ℕ → Option ℕ) → ℕ → ℕ → ℕ → Type 0
+IsFirstBelow stands n place t =
+    (t < n) × (stands t ≡ Some place) × ((other behind : ℕ) → other < n → stands other ≡ Some behind → (place < behind) ⊎ ((place ≡ behind) × (t ≤ other)))
+
+first_of_two : (p q : ℕ) → (q < p) ⊎ ((p < q) ⊎ (p ≡ q))
+first_of_two p q = grind arith
+
+before_both : (p q r : ℕ) → p < q → (q < r) ⊎ (q ≡ r) → p < r
+before_both p q r e f = grind arith
+
+either : (a b : ℕ) (Q : Type 0) → (a < b) ⊎ ((a ≡ b) × Q) → (a < b) ⊎ (a ≡ b)
+either a b Q (inl less) = inl less
+either a b Q (inr same) = inr same.0
+
+search_below : (stands : ℕ → Option ℕ) (n : ℕ) → ((t : ℕ) → t < n → stands t ≡ None) ⊎ ((place : ℕ) × (t : ℕ) × IsFirstBelow stands n place t)
+search_below stands zero = inl (λ t low. absurd (omega arith))
+search_below stands (suc n) = elim (search_below stands n) [
+  | inl none ↦ elim (stands n) as (λ o. stands n ≡ o → ((t : ℕ) → t < suc n → stands t ≡ None) ⊎ ((place : ℕ) × (t : ℕ) × IsFirstBelow stands (suc n) place t)) [
+    | None ↦ λ no. inl (λ t low. elim (cases_lt t n) [
       | inl before ↦ none t before
-      | inr last ↦ let same : t ≡ n = omega arith in ap test same ∙ no
+      | inr last ↦ let same : t ≡ n = omega arith in ap stands same ∙ no
     ])
+    | Some place ↦ λ yes. inr (
+      place,
+      n,
+      (
+        omega arith,
+        yes,
+        λ other behind low e. elim (cases_lt other n) [
+          | inl before ↦ absurd (let nowhere : stands other ≡ None = none other before in let no : ⊥ = cc in no)
+          | inr last ↦ let same : other ≡ n = omega arith in let here : stands other ≡ Some place = ap stands same ∙ yes in let both : place ≡ behind = cc in inr (both, omega arith)
+        ],
+      ),
+    )
   ] refl
-  | inr found ↦ inr found
+  | inr found ↦ elim (stands n) as (λ o. stands n ≡ o → ((t : ℕ) → t < suc n → stands t ≡ None) ⊎ ((place : ℕ) × (t : ℕ) × IsFirstBelow stands (suc n) place t)) [
+    | None ↦ λ no. inr (
+      found.0,
+      found.1,
+      (
+        let low = found.2.0 in omega arith,
+        found.2.1,
+        λ other behind low e. elim (cases_lt other n) [
+          | inl before ↦ found.2.2 other behind before e
+          | inr last ↦ absurd (let same : other ≡ n = omega arith in let nowhere : stands other ≡ None = ap stands same ∙ no in let none : ⊥ = cc in none)
+        ],
+      ),
+    )
+    | Some place ↦ λ yes. elim (first_of_two found.0 place) [
+      | inl earlier ↦ inr (
+        place,
+        n,
+        (
+          omega arith,
+          yes,
+          λ other behind low e. elim (cases_lt other n) [
+            | inl before ↦ inl (before_both place found.0 behind earlier (either found.0 behind (found.1 ≤ other) (found.2.2 other behind before e)))
+            | inr last ↦ let same : other ≡ n = omega arith in let here : stands other ≡ Some place = ap stands same ∙ yes in let both : place ≡ behind = cc in inr (both, omega arith)
+          ],
+        ),
+      )
+      | inr later ↦ inr (
+        found.0,
+        found.1,
+        (
+          let low = found.2.0 in omega arith,
+          found.2.1,
+          λ other behind low e. elim (cases_lt other n) [
+            | inl before ↦ found.2.2 other behind before e
+            | inr last ↦
+                let same : other ≡ n = omega arith in
+                let here : stands other ≡ Some place = ap stands same ∙ yes in
+                let both : place ≡ behind = cc in
+                elim later [
+                  | inl less ↦ inl (subst (λ m. found.0 < m) both less)
+                  | inr even ↦ inr (even ∙ both, let low = found.2.0 in omega arith)
+                ]
+          ],
+        ),
+      )
+    ]
+  ] refl
 ]
 
-finds : (test : ℕ → Bool) (bound : ℕ) → ((t : ℕ) → bound ≤ t → test t ≡ false) → (o : Option ℕ) × Finds test o
-finds test bound above = elim (search_below test bound) [
+pub finds : (stands : ℕ → Option ℕ) (bound : ℕ) → ((t : ℕ) → bound ≤ t → stands t ≡ None) → (o : Option ℕ) × FindsFirst stands o
+finds stands bound above = elim (search_below stands bound) [
   | inl none ↦ (None, λ t. elim (cases_lt t bound) [ inl low ↦ none t low | inr high ↦ above t high ])
-  | inr found ↦ (Some found.0, found.1)
+  | inr found ↦ (
+    Some found.1,
+    record {
+      place = found.0;
+      there = found.2.1;
+      first = λ other behind e. elim (cases_lt other bound) [
+        | inl low ↦ found.2.2 other behind low e
+        | inr high ↦ absurd (let nowhere : stands other ≡ None = above other high in let none : ⊥ = cc in none)
+      ];
+    },
+  )
 ]
 
 and_false : (a b c : Bool) → b ≡ false → (a && (b && c)) ≡ false
@@ -189,22 +270,23 @@ module _ (laws : KernelLaws) (limits : Limits) (w : PlainWorld) (h : IsGood limi
   try_step c None = (replies.Refused refusals.NothingToSteal, w, record { refused = refl; same = refl })
   try_step c (Some t) = take_step c t (refused (shown w.kernel) (takes_over c (w.agents c) t))
 
-  unknown_above : (c t : ℕ) → threads w.kernel ≤ t → stealable w c t ≡ false
+  pub unknown_above : (c t : ℕ) → threads w.kernel ≤ t → stealable w c t ≡ None
   unknown_above c t high =
       let P = w.kernel in
       let dense : is_known P t ≡ nat_lt t (threads P) = subst (λ (P : PlainKernel). is_known P t ≡ nat_lt t (threads P)) (sym h.replayed) (laws.dense limits h.calls t) in
       let unknown : reads.is_known (shown P) t ≡ false = (laws.reads P).known t ∙ dense ∙ above_all t (threads P) high in
-      and_false (runs_here (kinds P) (w.agents c).known c t && not (has_name (w.agents c).list t)) (reads.is_known (shown P) t) (is_none (reads.place (shown P) t)) unknown
+      ap (λ b. if b then standing (w.agents c).rules (shown P) (known_by (kinds P) (w.agents c).known) c t else None)
+      (and_false (runs_here (kinds P) (w.agents c).known c t && not (has_name (w.agents c).list t)) (reads.is_known (shown P) t) (is_none (reads.place (shown P) t)) unknown)
 
   steal_step : (c : ℕ) (busy : Bool) → Can (IsStolen w c busy)
   steal_step c true = (replies.Refused refusals.Busy, w, record { refused = refl; same = refl })
   steal_step c false =
-      let least = finds (stealable w c) (threads w.kernel) (unknown_above c) in
-      let tried = try_step c least.0 in
-      (tried.0, tried.1, (least.0, least.1, tried.2))
+      let first = finds (stealable w c) (threads w.kernel) (unknown_above c) in
+      let tried = try_step c first.0 in
+      (tried.0, tried.1, (first.0, first.1, tried.2))
 
-  crash_step : (c : ℕ) → Can (λ told new. (told ≡ replies.Done) × (new ≡ record (with_agent w c (fresh (w.agents c).ranks)) { kernel = after w.kernel (rouses c) }))
-  crash_step c = (replies.Done, record (with_agent w c (fresh (w.agents c).ranks)) { kernel = after w.kernel (rouses c) }, (refl, refl))
+  crash_step : (c : ℕ) → Can (λ told new. (told ≡ replies.Done) × (new ≡ record (with_agent w c (fresh (w.agents c).rules)) { kernel = after w.kernel (rouses c) }))
+  crash_step c = (replies.Done, record (with_agent w c (fresh (w.agents c).rules)) { kernel = after w.kernel (rouses c) }, (refl, refl))
 
   abbrev called : Call → Reply
   called made = told_of made (kernel.reply w.kernel made)
@@ -225,4 +307,4 @@ module _ (laws : KernelLaws) (limits : Limits) (w : PlainWorld) (h : IsGood limi
   has_step (event.Steal cpu) =
       let busy = is_some (on (shown w.kernel) cpu) in on_cpu (is_cpu (shown w.kernel) cpu) (IsStolen w cpu busy) (steal_step cpu busy)
   has_step (event.Crash cpu) =
-      on_cpu (is_cpu (shown w.kernel) cpu) (λ told new. (told ≡ replies.Done) × (new ≡ record (with_agent w cpu (fresh (w.agents cpu).ranks)) { kernel = after w.kernel (rouses cpu) })) (crash_step cpu)
+      on_cpu (is_cpu (shown w.kernel) cpu) (λ told new. (told ≡ replies.Done) × (new ≡ record (with_agent w cpu (fresh (w.agents cpu).rules)) { kernel = after w.kernel (rouses cpu) })) (crash_step cpu)

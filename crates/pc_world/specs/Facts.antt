@@ -1,5 +1,6 @@
 -- What holds of every world that events lead to, and of every step.
-use Rattle.std.specs.Prelude.{ℕ, ◌≤◌, ◌≡◌, ◌⊎◌, ◌↔◌, true, nat_lt, List, [], ◌++◌, length, take, Contains}
+use Rattle.std.specs.Prelude.{ℕ, ◌≤◌, ◌≡◌, ◌⊎◌, ◌↔◌, true, false, nat_lt}
+use Rattle.std.specs.Prelude.{List, [], ◌++◌, length, take, Some, None, Contains}
 use Rattle.pc_messages.specs.Items.{pairs_in}
 use Rattle.pc_messages.specs.Run.{Run, IsBegun}
 use Rattle.pc_messages.specs.State.{state_of}
@@ -15,15 +16,16 @@ use Rattle.pc_join.specs.Sets.{has}
 use Rattle.pc_kernel.specs.Exact.{IsExactCommit}
 use Rattle.pc_kernel.specs.Facts.{HadNoPost, IsAtHome, IsPlaced, waiting}
 use Rattle.pc_kernel.specs.PlainKernel.{start, kinds, number, is_known, threads, content}
-use Rattle.pc_kernel.specs.Reads.{shown, is_cpu}
-use Rattle.pc_kernel.specs.Steps.{replay}
+use Rattle.pc_kernel.specs.Reads.{shown, is_cpu, is_pending}
+use Rattle.pc_kernel.specs.Steps.{refused, replay}
 use Rattle.pc_view.specs.Prefixes.{reports, upto}
 use Rattle.pc_policy.specs.Rankings.{by_levels}
 use Rattle.pc_run_queue.specs.Runs.{level_refreshed_as}
 use Rattle.pc_agent.specs.PlainAgent.{PlainAgent, Set, copied, threads_in}
+use Rattle.pc_agent.specs.Running.{FindsFirst, takes_over}
 use Rattle.pc_world.specs.PlainWorld.{PlainWorld}
 use Rattle.pc_world.specs.Reached.{Reached}
-use Rattle.pc_world.specs.Steps.{Step}
+use Rattle.pc_world.specs.Steps.{Step, stealable}
 
 -- the kernel is where a list of calls leads to
 abbrev pub KernelsAreReplays : Type 0
@@ -143,10 +145,18 @@ EveryEventHasAStep =
     (limits : Limits) (w : PlainWorld) (event : Event) → Reached limits w → (told : Reply) × (new : PlainWorld)
     × Step w event told new
 
--- each agent ranks as it did at the start, also after crashes
-abbrev pub RankingsStay : Type 0
-RankingsStay =
-    (limits : Limits) (w : PlainWorld) (c : ℕ) (reached : Reached limits w) → (w.agents c).ranks ≡ reached.ranks c
+-- each agent goes by the rules of the start, also after crashes
+abbrev pub RulesStay : Type 0
+RulesStay =
+    (limits : Limits) (w : PlainWorld) (c : ℕ) (reached : Reached limits w) → (w.agents c).rules ≡ reached.rules c
+
+-- the thread that an exact steal tries is not refused, unless a message of it waits in its home queue, whatever world
+-- it is done in
+abbrev pub ExactStealsAreTaken : Type 0
+ExactStealsAreTaken =
+    (w : PlainWorld) (c t : ℕ) → (w.agents c).rules.exact ≡ true
+    → is_cpu (shown w.kernel) c ≡ true → FindsFirst (stealable w c) (Some t) → is_pending (shown w.kernel) t ≡ false
+    → refused (shown w.kernel) (takes_over c (w.agents c) t) ≡ None
 
 -- the agent of a CPU takes items in, and refreshes its run list with their threads, the highest level first
 abbrev pub level_copied : Run → ℕ → List Item → PlainAgent → PlainAgent
@@ -157,5 +167,5 @@ level_copied run cpu items p =
 -- an agent that ranks by levels copies so
 abbrev pub LevelsCopyByLevel : Type 0
 LevelsCopyByLevel =
-    (run : Run) (cpu : ℕ) (items : List Item) (p : PlainAgent) → p.ranks ≡ by_levels
+    (run : Run) (cpu : ℕ) (items : List Item) (p : PlainAgent) → p.rules.ranks ≡ by_levels
     → copied run cpu items p ≡ level_copied run cpu items p

@@ -4,8 +4,8 @@ use Rattle.pc_messages.specs.Items.{pairs_in}
 use Rattle.pc_calls.specs.declared.limits.Limits.{Limits}
 use Rattle.pc_kernel.specs.PlainKernel.{PlainKernel, start, kinds, content}
 use Rattle.pc_kernel.specs.Steps.{at}
-use Rattle.pc_policy.specs.Rankings.{Ranking, by_levels, ranks_of}
-use Rattle.pc_policy.specs.declared.order.Order.{Order}
+use Rattle.pc_policy.specs.Rules.{Rules, rules_of, usual}
+use Rattle.pc_policy.specs.declared.agent_policy.AgentPolicy.{AgentPolicy}
 use Rattle.pc_agent.specs.PlainAgent.{PlainAgent, Set, copied, fresh}
 use Rattle.pc_agent.specs.Publishing.{sent_after}
 
@@ -15,19 +15,19 @@ pub record PlainWorld : Type 0 where
   pub agents : ℕ → PlainAgent  -- of each CPU
   pub sent : List Set  -- what each sent delta tells, in order
 
--- the world at the start, with the ranking of each CPU
-abbrev pub opened_by : (ℕ → Ranking) → Limits → PlainWorld
-opened_by ranks limits = record { kernel = start limits; agents = λ c. fresh (ranks c); sent = [] }
+-- the world at the start, with the rules of the agent of each CPU
+abbrev pub opened_by : (ℕ → Rules) → Limits → PlainWorld
+opened_by rules limits = record { kernel = start limits; agents = λ c. fresh (rules c); sent = [] }
 
--- the world at the start, where each agent ranks by levels
+-- the world at the start, where each agent goes by the usual rules
 abbrev pub opened : Limits → PlainWorld
-opened = opened_by (λ c. by_levels)
+opened = opened_by (λ c. usual)
 
--- the ranking of each CPU, from 0 on, by these policies; by levels, where none is left
-abbrev pub ranks_at : List Order → ℕ → Ranking
-ranks_at [] c = by_levels
-ranks_at (policy ∷ policies) zero = ranks_of policy
-ranks_at (policy ∷ policies) (suc c) = ranks_at policies c
+-- the rules of each CPU, from 0 on, by these policies; the usual ones, where none is left
+abbrev pub rules_at : List AgentPolicy → ℕ → Rules
+rules_at [] c = usual
+rules_at (policy ∷ policies) zero = rules_of policy
+rules_at (policy ∷ policies) (suc c) = rules_at policies c
 
 -- the world with another agent on a CPU
 abbrev pub with_agent : PlainWorld → ℕ → PlainAgent → PlainWorld

@@ -13,7 +13,7 @@ use Rattle.pc_kernel.specs.PlainKernel.{content}
 use Rattle.pc_kernel.specs.Reads.{shown, is_cpu, on}
 use Rattle.pc_kernel.specs.Steps as kernel
 use Rattle.pc_agent.specs.PlainAgent.{Set}
-use Rattle.pc_agent.specs.Running.{Finds}
+use Rattle.pc_agent.specs.Running.{FindsFirst}
 use Rattle.pc_world.specs.PlainWorld.{PlainWorld, copied_all, with_agent}
 use Rattle.pc_world.specs.Steps.{Runs, are_cpus, stealable}
 
@@ -42,7 +42,7 @@ RanOutInOwn w (Deliver cpu delta) new =
 RanOutInOwn w (Answer cpu asker) new = (are_cpus w cpu asker ≡ true) × (new ≡ w)
 RanOutInOwn w (Steal cpu) new =
     (is_cpu (shown w.kernel) cpu ≡ true) × (is_some (on (shown w.kernel) cpu) ≡ false)
-    × (t : ℕ) × Finds (stealable w cpu) (Some t) × (new ≡ w)
+    × (t : ℕ) × FindsFirst (stealable w cpu) (Some t) × (new ≡ w)
 RanOutInOwn w event new = ⊥
 
 -- an event that takes memory and finds none: none of the refusals that come before want of memory holds (a refused

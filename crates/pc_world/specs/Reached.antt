@@ -6,7 +6,7 @@ use Rattle.pc_calls.specs.declared.event.Event.TheVariants.{Answer}
 use Rattle.pc_calls.specs.declared.event.Reply.{Reply}
 use Rattle.pc_calls.specs.declared.limits.Limits.{Limits}
 use Rattle.pc_join.specs.Sets.{has}
-use Rattle.pc_policy.specs.Rankings.{Ranking}
+use Rattle.pc_policy.specs.Rules.{Rules}
 use Rattle.pc_agent.specs.PlainAgent.{Set}
 use Rattle.pc_world.specs.PlainWorld.{PlainWorld, opened_by, sending}
 use Rattle.pc_world.specs.RanOut.{RanOut}
@@ -32,8 +32,8 @@ abbrev pub Leads : PlainWorld → List Event → PlainWorld → Type 0
 Leads w [] new = new ≡ w
 Leads w (event ∷ events) new = (next : PlainWorld) × LeadsTo w event next × Leads next events new
 
--- events lead to the world from the start of these limits, with some ranking of each CPU
+-- events lead to the world from the start of these limits, with some rules of each agent
 pub record Reached (limits : Limits) (w : PlainWorld) : Type 0 where
-  pub ranks : ℕ → Ranking
+  pub rules : ℕ → Rules
   pub events : List Event
-  pub leads : Leads (opened_by ranks limits) events w
+  pub leads : Leads (opened_by rules limits) events w

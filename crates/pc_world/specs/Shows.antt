@@ -10,7 +10,7 @@ use Rattle.pc_view.specs.declared.view.View.{View}
 use Rattle.pc_delta.specs.declared.part.Part.{Part}
 use Rattle.pc_agent.specs.declared.agent.Agent.{Agent}
 use Rattle.pc_agent.specs.PlainAgent.{Set}
-use Rattle.pc_agent.specs.Shows.{ShowsAgent, ShowsDelta, ShowsView, ranking_of}
+use Rattle.pc_agent.specs.Shows.{ShowsAgent, ShowsDelta, ShowsView, rules_in}
 use Rattle.pc_agent.specs.Wires.{sent_by}
 use Rattle.pc_world.specs.declared.parts.Parts.{Parts}
 use Rattle.pc_world.specs.PlainWorld.{PlainWorld}
@@ -41,12 +41,12 @@ pub record ShowsWorld (world : World) (w : PlainWorld) : Type 0 where
   pub sent : AreSent (kinds w.kernel) w.sent (deltas_of world)
 
 -- a plain world that events lead to from the start of the kernel's limits, and that is shown; each agent that is there
--- ranks as it did at the start
+-- goes by the rules of the start
 pub record IsReached (world : World) : Type 0 where
   pub plain : PlainWorld
   pub reached : Reached world.kernel.limits plain
   pub shows : ShowsWorld world plain
-  pub ranks : (c : ℕ) (agent : Agent) → slice_get world.agents.items c ≡ Some agent → ranking_of agent ≡ reached.ranks c
+  pub rules : (c : ℕ) (agent : Agent) → slice_get world.agents.items c ≡ Some agent → rules_in agent ≡ reached.rules c
 
 -- the agent of a CPU; none of a CPU that is not there
 abbrev pub IsAgentAt : PlainWorld → ℕ → Option Agent → Type 0

@@ -20,8 +20,8 @@ use Rattle.pc_kernel.specs.Reads.{shown, is_cpu, on}
 use Rattle.pc_kernel.specs.Steps as kernel
 use Rattle.pc_delta.specs.declared.part.Part.{Part}
 use Rattle.pc_delta.specs.Parts.{AreOfRun, pairs_of_part, pairs_of_parts}
-use Rattle.pc_agent.specs.PlainAgent.{Set, fresh, may_steal, pick_refused, ready_list, taking_in}
-use Rattle.pc_agent.specs.Running.{Finds, left_by, takes_over}
+use Rattle.pc_agent.specs.PlainAgent.{Set, fresh, pick_refused, ready_list, stealing, taking_in}
+use Rattle.pc_agent.specs.Running.{FindsFirst, left_by, takes_over}
 use Rattle.pc_world.specs.PlainWorld.{PlainWorld, copied_all, published, sending, with_agent}
 
 -- an event that is a call of the kernel
@@ -133,31 +133,31 @@ IsTakenOver w c t None told new =
     { kernel = kernel.after w.kernel (takes_over c p t) })
 IsTakenOver w c t (Some r) told new = IsRefused w r told new
 
--- what is done with the least thread that may be stolen
+-- what is done with the first thread that may be stolen
 abbrev pub IsTried : PlainWorld → ℕ → Option ℕ → Reply → PlainWorld → Type 0
 IsTried w c None told new = IsRefused w refusal.NothingToSteal told new
 IsTried w c (Some t) told new =
     IsTakenOver w c t (kernel.refused (shown w.kernel) (takes_over c (w.agents c) t)) told new
 
--- the threads that an agent may steal
-abbrev pub stealable : PlainWorld → ℕ → ℕ → Bool
-stealable w c t = may_steal (shown w.kernel) (kinds w.kernel) c (w.agents c) t
+-- where a thread stands among those that an agent may steal; nowhere, where it may not
+abbrev pub stealable : PlainWorld → ℕ → ℕ → Option ℕ
+stealable w c = stealing (shown w.kernel) (kinds w.kernel) c (w.agents c)
 
--- a steal: refused where a thread runs on the CPU; else the least thread that may be stolen is tried, and no other
+-- a steal: refused where a thread runs on the CPU; else the first thread that may be stolen is tried, and no other
 abbrev pub IsStolen : PlainWorld → ℕ → Bool → Reply → PlainWorld → Type 0
 IsStolen w c true told new = IsRefused w refusal.Busy told new
-IsStolen w c false told new = (least : Option ℕ) × Finds (stealable w c) least × IsTried w c least told new
+IsStolen w c false told new = (first : Option ℕ) × FindsFirst (stealable w c) first × IsTried w c first told new
 
--- a steal: the least thread that may be stolen is taken over
+-- a steal: the first thread that may be stolen is taken over
 abbrev pub IsStealing : ℕ → PlainWorld → Reply → PlainWorld → Type 0
 IsStealing c w told new = OnCpu w c told new (IsStolen w c (is_some (on (shown w.kernel) c)) told new)
 
--- the agent starts again with nothing but its ranking, and is awake
+-- the agent starts again with nothing but its rules, and is awake
 abbrev pub IsCrashing : ℕ → PlainWorld → Reply → PlainWorld → Type 0
 IsCrashing c w told new =
     OnCpu w c told new
     ((told ≡ reply.Done)
-    × (new ≡ record (with_agent w c (fresh (w.agents c).ranks)) { kernel = kernel.after w.kernel (rouses c) }))
+    × (new ≡ record (with_agent w c (fresh (w.agents c).rules)) { kernel = kernel.after w.kernel (rouses c) }))
 
 -- an event that is no call of the kernel
 abbrev pub IsOwnStep : PlainWorld → Event → Reply → PlainWorld → Type 0

@@ -194,7 +194,7 @@ impl Parts {
         }
     }
 
-    /// The agent takes the least thread over that it may.
+    /// The agent takes a thread over that it may.
     fn steal(&mut self, cpu: Cpu) -> Result<Reply, OutOfMemory>
         ensures { Handles (Event.Steal cpu) result self.old self.new }
     {

@@ -4,7 +4,7 @@ ghost use Rattle.std.specs.Prelude.{◌≡◌, Some, None, IfOk, OnOk, OnErr, �
 ghost use Rattle.pc_calls.specs.Limits.{bad_field};
 ghost use Rattle.pc_kernel.specs.Answers.{Shows};
 ghost use Rattle.pc_kernel.specs.PlainKernel.{kinds};
-ghost use Rattle.pc_world.specs.PlainWorld.{PlainWorld, opened, opened_by, ranks_at};
+ghost use Rattle.pc_world.specs.PlainWorld.{PlainWorld, opened, opened_by, rules_at};
 ghost use Rattle.pc_world.specs.Steps.{Step};
 
 use crate::agents::new_agents;
@@ -16,7 +16,7 @@ use pc_delta::Delta;
 use pc_join::OutOfMemory;
 use pc_kernel::Kernel;
 use pc_messages::{Cpu, Tid};
-use pc_policy::Order;
+use pc_policy::AgentPolicy;
 use pc_view::View;
 use std::alloc::Global;
 use std::marker::Model;
@@ -81,14 +81,14 @@ impl World {
     }
 
     /// The world at the start, with limits of the profile, and with the policies of CPUs 0, 1, ..: an agent for whose
-    /// CPU none is given runs the thread of the highest level first, and policies of further CPUs are not looked at.
+    /// CPU none is given goes by the usual one, and policies of further CPUs are not looked at.
     pub fn new_by(
         alloc: Global,
         profile: Profile,
         limits: Limits,
-        policies: &[Order],
+        policies: &[AgentPolicy],
     ) -> Result<World, LimitsFault>
-        ensures ok { IfOk result (λ world. ShowsWorld world (opened_by (ranks_at policies.now) limits)) }
+        ensures ok { IfOk result (λ world. ShowsWorld world (opened_by (rules_at policies.now) limits)) }
         ensures within { IfOk result (λ _. bad_field profile limits ≡ None) }
         ensures refused { (field : LimitField) → result ≡ Err (LimitsFault.BadLimits field)
             → bad_field profile limits ≡ Some field }
@@ -110,8 +110,8 @@ impl World {
         }
     }
 
-    /// A list of events leads from the start to what the world shows, and each agent ranks as at the start. It does
-    /// nothing.
+    /// A list of events leads from the start to what the world shows, and each agent goes by the rules of the start. It
+    /// does nothing.
     pub fn is_reached(&self)
         ensures { IsReached self.now }
     {

@@ -3,7 +3,7 @@ use Rattle.pc_world.proofs.Opening.{no_policy, policy_there}
 use Rattle.pc_world.proofs.agents.policy_at.Goals as goal
 
 pub returns-then-place-policies : goal.returns-then-place-policies
-returns-then-place-policies c = no_policy c.args.policies.now c.args.cpu (let k = c.if-place-policies.true in omega arith)
+returns-then-place-policies c = c.usual.ensures ∙ no_policy c.args.policies.now c.args.cpu (let k = c.if-place-policies.true in omega arith)
 
 pub returns : goal.returns
 returns c =

@@ -1,4 +1,4 @@
-use Rattle.pc_world.specs.PlainWorld.{ranks_at}
+use Rattle.pc_world.specs.PlainWorld.{rules_at}
 use Rattle.pc_world.proofs.Lasting.{reached_start}
 use Rattle.pc_world.proofs.Opening.{new_world}
 use Rattle.pc_world.proofs.world.World.new_by.Goals as goal
@@ -8,8 +8,8 @@ returns-in-Err-clause-refused c field e = (c.in-Err.ensures.refused field).0 (cc
 
 pub returns-in-Ok-new_agents-clause-ok : goal.returns-in-Ok-new_agents-clause-ok
 returns-in-Ok-new_agents-clause-ok c =
-    new_world _ (ranks_at c.args.policies.now) c.args.limits c.cpus.result c.in-Ok.ensures.ok c.in-Ok-new_agents.ensures c.new.ensures.sent
+    new_world _ (rules_at c.args.policies.now) c.args.limits c.cpus.result c.in-Ok.ensures.ok c.in-Ok-new_agents.ensures c.new.ensures.sent
 
 pub invariant_of-result-in-Ok-new_agents : goal.invariant_of-result-in-Ok-new_agents
 invariant_of-result-in-Ok-new_agents c =
-    reached_start _ (ranks_at c.args.policies.now) c.args.limits (new_world _ (ranks_at c.args.policies.now) c.args.limits c.cpus.result c.in-Ok.ensures.ok c.in-Ok-new_agents.ensures c.new.ensures.sent)
+    reached_start _ (rules_at c.args.policies.now) c.args.limits (new_world _ (rules_at c.args.policies.now) c.args.limits c.cpus.result c.in-Ok.ensures.ok c.in-Ok-new_agents.ensures c.new.ensures.sent)
