@@ -5,9 +5,11 @@ ghost use Rattle.pc_world.specs.Callers.{WhatAStealTookIsReported, WhoHasAllIsCo
 ghost use Rattle.pc_world.specs.Facts.{AllIsComplete, CommitsAreExact, ConsumesTakeWhatWasSent, CountedIsThere};
 ghost use Rattle.pc_world.specs.Facts.{CountedWasSent, EveryEventHasAStep, KernelsAreReplays, KnownLiesInTheRun};
 ghost use Rattle.pc_world.specs.Facts.{MessagesStayHome, NamesAreDense, NothingIsLost, PicksAreExact, RunsAreBegun};
-ghost use Rattle.pc_world.specs.Facts.{LevelsCopyByLevel, RankingsStay, SentLiesInTheRun, SleepersHadNoPost};
-ghost use Rattle.pc_world.specs.Facts.{StealsAreExact, ThreadsArePlaced};
+ghost use Rattle.pc_world.specs.Facts.{ExactStealsAreTaken, LevelsCopyByLevel, RulesStay, SentLiesInTheRun};
+ghost use Rattle.pc_world.specs.Facts.{SleepersHadNoPost, StealsAreExact, ThreadsArePlaced};
 ghost use Rattle.pc_world.specs.Inner.Laws.{KernelLaws};
+ghost use Rattle.pc_world.specs.Mending.{AllCanBeKnown, AWaitingThreadCanBeRun, MendingGoesOn, ThatThreadCanBeRun};
+ghost use Rattle.pc_world.specs.Mending.{WhatWasForgottenComesBack};
 
 use pc_kernel::laws::{
     accepted_associates_are_exact, accepted_commits_are_exact, calls_extend_the_run,
@@ -108,11 +110,19 @@ pub fn every_event_has_a_step()
     kernel_laws();
 }
 
-/// Each agent ranks threads as it did at the start, on a CPU that is there or not: a crash keeps its ranking.
-pub fn rankings_stay()
-    ensures { RankingsStay }
+/// Each agent goes by the rules of the start, on a CPU that is there or not: a crash keeps them.
+pub fn rules_stay()
+    ensures { RulesStay }
 {
     kernel_laws();
+}
+
+/// Where steals are exact, the thread that one tries is not refused by the kernel, unless a message of it waits in its
+/// home queue.
+pub fn exact_steals_are_taken()
+    ensures { ExactStealsAreTaken }
+{
+    reads_are_plain();
 }
 
 /// An agent that ranks by levels refreshes its run list with the threads of what it copies, the highest level first.
@@ -139,4 +149,47 @@ pub fn what_a_steal_took_is_reported()
     steals_are_exact();
     reads_are_plain();
     views_tell_what_their_sets_tell();
+}
+
+/// From every world that events lead to, whatever was lost, crashed or came late, the agents' own events lead to one in
+/// which each agent knows all messages, and every queue is empty. None of them posts anything, so no limit stops them.
+pub fn all_can_be_known()
+    ensures { AllCanBeKnown }
+{
+    kernel_laws();
+}
+
+/// From every world that events lead to, the agents' own events put a thread on an idle CPU for which one waits: every
+/// queue is cleared, the CPU's agent takes in all that was sent and picks; where nothing was ready, it steals and
+/// picks.
+pub fn a_waiting_thread_can_be_run()
+    ensures { AWaitingThreadCanBeRun }
+{
+    kernel_laws();
+    upto_is_the_greatest();
+}
+
+/// And where a thread waits for an idle CPU, the kernel's own calls for agents put that very thread on it, once every
+/// queue is cleared.
+pub fn that_thread_can_be_run()
+    ensures { ThatThreadCanBeRun }
+{
+    kernel_laws();
+}
+
+/// Where nothing runs on its CPU, an agent can come to know all that it forgot, also by a crash just now: every queue
+/// is cleared, it takes in all that was sent, and steals as often as there are threads. Each thread that waits for its
+/// CPU then stands in its run list, its own queue's among them.
+pub fn what_was_forgotten_comes_back()
+    ensures { WhatWasForgottenComesBack }
+{
+    kernel_laws();
+    upto_is_the_greatest();
+}
+
+/// Whatever else happens in between, mending can be begun anew.
+pub fn mending_goes_on()
+    ensures { MendingGoesOn }
+{
+    a_waiting_thread_can_be_run();
 }
