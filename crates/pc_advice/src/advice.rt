@@ -11,6 +11,7 @@ use crate::deed::Deed;
 use crate::lacks::{Goal, Lack};
 use crate::plan::Plan;
 use pc_messages::{Cpu, Tid};
+use pc_script::PolicyName;
 use pc_world::World;
 
 /// The most deeds that lead to each other before one of them can be done.
@@ -68,21 +69,21 @@ fn next_move(ahead: &Ahead<'_>, line: &Goal, chosen: &mut bool) -> Move {
     Move::Unsought
 }
 
-/// What would make the line accepted in this world. A choice is made only among deeds of the environment, of which one
-/// has to come.
+/// What would make the line accepted in this world, whose agents go by the policy. A choice is made only among deeds of
+/// the environment, of which one has to come.
 ///
 /// It answers in every world, takes no memory, and leaves the world as it is. What is proved is that the last of the
 /// steps is the line itself, once, and that there are at most [`Plan::MOST`]. Tested, not proved, on drawn scripts:
 /// that the steps are accepted one after another, and that no deed of an agent, and no two, make the line accepted
 /// where it answers [`Advice::NoAgent`] or [`Advice::Never`].
-pub fn advise(world: &World, line: &Deed) -> Advice
+pub fn advise(world: &World, policy: PolicyName, line: &Deed) -> Advice
     ensures { IsFor line.now result }
 {
     let line = Goal::once(*line);
     let mut plan = Plan::new();
     let mut chosen = false;
     while !plan.is_full() {
-        let ahead = Ahead::new(world, &plan);
+        let ahead = Ahead::new(world, policy, &plan);
         match next_move(&ahead, &line, &mut chosen) {
             Move::Line => return Advice::Steps(plan.with(ahead.step_of(&line))),
             Move::Deed(goal) => plan = plan.with(ahead.step_of(&goal)),
@@ -98,10 +99,10 @@ pub fn advise(world: &World, line: &Deed) -> Advice
     }
 }
 
-/// The thread that a steal of the CPU's agent tries, which is the one that a refused steal tried; none where it tries
-/// none, where it is not among the first 1024 threads, and where the agent's run list is long.
+/// The thread that a steal of the CPU's agent tries by the policy, which is the one that a refused steal tried; none
+/// where it tries none, where it is not among the first 1024 threads, and where the agent's run list is long.
 ///
 /// It takes no memory, and leaves the world as it is. Which thread it is, is tested, not proved.
-pub fn tried_by_steal(world: &World, cpu: Cpu) -> Option<Tid> {
-    Ahead::new(world, &Plan::new()).tried(cpu)
+pub fn tried_by_steal(world: &World, policy: PolicyName, cpu: Cpu) -> Option<Tid> {
+    Ahead::new(world, policy, &Plan::new()).tried(cpu)
 }

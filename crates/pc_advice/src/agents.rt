@@ -6,6 +6,7 @@ use crate::lacks::{Goal, Lack, preempt, publish};
 use crate::plan::Plan;
 use pc_calls::EnvCall;
 use pc_messages::{Cpu, Phase, Tid};
+use pc_script::PolicyName;
 use pc_world::World;
 
 /// The most threads, and the most deltas, among which all deeds are tried for a steal.
@@ -165,7 +166,7 @@ impl Ahead<'_> {
     /// The same, once a deed is done.
     fn lists_runnable_after(&self, cpu: Cpu, goal: &Goal) -> bool {
         let plan = self.plan.with(self.step_of(goal));
-        lists_runnable(self.world, &plan, cpu)
+        lists_runnable(self.world, self.policy, &plan, cpu)
     }
 
     /// The thread of the run list that waits for the CPU at another home, and that the fewest deeds bring here, at most
@@ -228,7 +229,7 @@ impl Ahead<'_> {
     /// The same, once a deed is done.
     fn steals_after(&self, cpu: Cpu, goal: &Goal) -> bool {
         let plan = self.plan.with(self.step_of(goal));
-        steals(self.world, &plan, cpu)
+        steals(self.world, self.policy, &plan, cpu)
     }
 
     /// One deed behind which a steal lacks nothing: all are tried, where there are few.
@@ -315,7 +316,7 @@ impl Ahead<'_> {
         // Its own queue is emptied by a publish alone, which lists the thread if the agent then knows that it waits.
         if standing.is_home(cpu) && self.last_message(thread) == Queued::Unsent {
             let plan = self.plan.with(self.step_of(&Goal::once(publish(cpu))));
-            return match way_of_listed(self.world, &plan, cpu, thread) {
+            return match way_of_listed(self.world, self.policy, &plan, cpu, thread) {
                 Some(way) => way,
                 None => Way::Lack(Lack::needs(publish(cpu))),
             };
@@ -339,18 +340,24 @@ impl Ahead<'_> {
 }
 
 /// Whether the run list of the CPU's agent has a thread that would be committed, once the steps are done.
-fn lists_runnable(world: &World, plan: &Plan, cpu: Cpu) -> bool {
-    Ahead::new(world, plan).lists_runnable(cpu)
+fn lists_runnable(world: &World, policy: PolicyName, plan: &Plan, cpu: Cpu) -> bool {
+    Ahead::new(world, policy, plan).lists_runnable(cpu)
 }
 
 /// Whether a steal of the CPU's agent lacks nothing, once the steps are done.
-fn steals(world: &World, plan: &Plan, cpu: Cpu) -> bool {
-    Ahead::new(world, plan).steals(cpu)
+fn steals(world: &World, policy: PolicyName, plan: &Plan, cpu: Cpu) -> bool {
+    Ahead::new(world, policy, plan).steals(cpu)
 }
 
 /// How the agent comes to try a thread, once the steps are done, where it is in its run list then.
-fn way_of_listed(world: &World, plan: &Plan, cpu: Cpu, thread: Tid) -> Option<Way> {
-    Ahead::new(world, plan).way_of_listed(cpu, thread)
+fn way_of_listed(
+    world: &World,
+    policy: PolicyName,
+    plan: &Plan,
+    cpu: Cpu,
+    thread: Tid,
+) -> Option<Way> {
+    Ahead::new(world, policy, plan).way_of_listed(cpu, thread)
 }
 
 /// How an agent comes to try a thread that waits.

@@ -8,6 +8,7 @@ use crate::plan::{Plan, Step};
 use pc_agent::Agent;
 use pc_calls::EnvCall;
 use pc_messages::{Cpu, Item, Phase, Tid};
+use pc_script::PolicyName;
 use pc_world::World;
 
 /// The most items of a queue that are looked at. A message of a thread may stand in a longer one.
@@ -17,6 +18,8 @@ const MOST_ITEMS: usize = 256;
 #[derive(Clone, Copy)]
 pub(crate) struct Ahead<'a> {
     pub(crate) world: &'a World,
+    /// The policy that all agents go by.
+    pub(crate) policy: PolicyName,
     pub(crate) plan: &'a Plan,
 }
 
@@ -151,9 +154,13 @@ fn last_place(items: &[Item], thread: Tid, from: usize) -> Option<usize> {
 }
 
 impl<'a> Ahead<'a> {
-    /// The world, once the steps of the plan are done.
-    pub(crate) fn new(world: &'a World, plan: &'a Plan) -> Ahead<'a> {
-        Ahead { world, plan }
+    /// The world, whose agents go by the policy, once the steps of the plan are done.
+    pub(crate) fn new(world: &'a World, policy: PolicyName, plan: &'a Plan) -> Ahead<'a> {
+        Ahead {
+            world,
+            policy,
+            plan,
+        }
     }
 
     /// The step that a deed is now.

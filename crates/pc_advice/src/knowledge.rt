@@ -8,9 +8,16 @@ use crate::plan::Plan;
 use pc_calls::EnvCall;
 use pc_delta::{Delta, Part};
 use pc_messages::{Cpu, Item, Kind, Phase, Tid};
+use pc_script::OrderName;
 
 /// The most items of a queue, deltas, parts of one, and messages of a thread that are looked through.
 const MOST_LOOKED: usize = 256;
+
+/// The highest level.
+const HIGHEST: u8 = 7;
+
+/// So many ranks stand between two levels, where ticks count within a level.
+const RANKS_A_LEVEL: u64 = 1 << 60;
 
 /// What the first messages of a thread report, up to which an agent knows all.
 #[derive(Clone, Copy)]
@@ -19,6 +26,8 @@ pub(crate) struct Known {
     phase: Option<Phase>,
     /// The bits of the mask.
     mask: u64,
+    ran: u64,
+    level: u8,
 }
 
 /// What a message changes.
@@ -26,6 +35,57 @@ pub(crate) struct Known {
 struct Change {
     phase: Option<Phase>,
     mask: Option<u64>,
+    /// For how many ticks more the thread ran.
+    ran: u32,
+    level: Option<u8>,
+}
+
+/// A message that changes nothing.
+const NO_CHANGE: Change = Change {
+    phase: None,
+    mask: None,
+    ran: 0,
+    level: None,
+};
+
+/// A new thread.
+fn created(ready: bool, mask: u64) -> Change {
+    Change {
+        phase: Some(if ready { Phase::Ready } else { Phase::Blocked }),
+        mask: Some(mask),
+        ran: 0,
+        level: None,
+    }
+}
+
+/// The thread has this phase, and ran for so many ticks.
+fn phase(phase: Phase, ran: u32) -> Change {
+    Change {
+        phase: Some(phase),
+        mask: None,
+        ran,
+        level: None,
+    }
+}
+
+/// The thread has this mask.
+fn mask(mask: u64) -> Change {
+    Change {
+        phase: None,
+        mask: Some(mask),
+        ran: 0,
+        level: None,
+    }
+}
+
+/// The thread has this level.
+fn level(level: u8) -> Change {
+    Change {
+        phase: None,
+        mask: None,
+        ran: 0,
+        level: Some(level),
+    }
 }
 
 impl Known {
@@ -38,6 +98,23 @@ impl Known {
         if let Some(mask) = change.mask {
             self.mask = mask;
         }
+        if let Some(level) = change.level {
+            self.level = level;
+        }
+        self.ran = self.ran.saturating_add(u64::from(change.ran));
+    }
+
+    /// The rank of the thread: the least comes first.
+    fn rank(&self, order: OrderName) -> u64 {
+        let below = u64::from(HIGHEST.saturating_sub(self.level));
+        match order {
+            OrderName::Levels => below,
+            OrderName::Fifo => 0,
+            OrderName::LeastRan => self.ran,
+            OrderName::LevelsThenLeastRan => below
+                .saturating_mul(RANKS_A_LEVEL)
+                .saturating_add(self.ran.min(RANKS_A_LEVEL - 1)),
+        }
     }
 
     /// Whether the thread waits or runs, and may run on the CPU.
@@ -48,36 +125,29 @@ impl Known {
 
 /// What a message of this kind changes.
 fn change_of_kind(kind: &Kind) -> Change {
-    let (phase, mask) = match kind {
-        Kind::Created { ready, mask } => {
-            let phase = if *ready { Phase::Ready } else { Phase::Blocked };
-            (Some(phase), Some(mask.bits()))
-        }
-        Kind::Wakeup | Kind::Yield { .. } | Kind::Preempted { .. } => (Some(Phase::Ready), None),
-        Kind::Blocked { .. } => (Some(Phase::Blocked), None),
-        Kind::Dead { .. } => (Some(Phase::Dead), None),
-        Kind::Affinity { mask } => (None, Some(mask.bits())),
-        Kind::Priority { .. } => (None, None),
-    };
-    Change { phase, mask }
+    match kind {
+        Kind::Created { ready, mask } => created(*ready, mask.bits()),
+        Kind::Wakeup => phase(Phase::Ready, 0),
+        Kind::Yield { ran } | Kind::Preempted { ran } => phase(Phase::Ready, *ran),
+        Kind::Blocked { ran } => phase(Phase::Blocked, *ran),
+        Kind::Dead { ran } => phase(Phase::Dead, *ran),
+        Kind::Affinity { mask: given } => mask(given.bits()),
+        Kind::Priority { level: given } => level(given.get()),
+    }
 }
 
 /// What the message changes that a call posts.
 fn change_of_call(call: &EnvCall) -> Change {
-    let (phase, mask) = match *call {
-        EnvCall::Create { ready, mask, .. } => {
-            let phase = if ready { Phase::Ready } else { Phase::Blocked };
-            (Some(phase), Some(mask))
-        }
-        EnvCall::Wake { .. } | EnvCall::YieldNow { .. } | EnvCall::Preempt { .. } => {
-            (Some(Phase::Ready), None)
-        }
-        EnvCall::Block { .. } => (Some(Phase::Blocked), None),
-        EnvCall::Die { .. } => (Some(Phase::Dead), None),
-        EnvCall::SetAffinity { mask, .. } => (None, Some(mask)),
-        EnvCall::SetPriority { .. } | EnvCall::Tick { .. } => (None, None),
-    };
-    Change { phase, mask }
+    match *call {
+        EnvCall::Create { ready, mask, .. } => created(ready, mask),
+        EnvCall::Wake { .. } => phase(Phase::Ready, 0),
+        EnvCall::YieldNow { ran, .. } | EnvCall::Preempt { ran, .. } => phase(Phase::Ready, ran),
+        EnvCall::Block { ran, .. } => phase(Phase::Blocked, ran),
+        EnvCall::Die { ran, .. } => phase(Phase::Dead, ran),
+        EnvCall::SetAffinity { mask: given, .. } => mask(given),
+        EnvCall::SetPriority { level: given, .. } => level(given),
+        EnvCall::Tick { .. } => NO_CHANGE,
+    }
 }
 
 /// Whether the delta tells the message.
@@ -222,10 +292,6 @@ impl Ahead<'_> {
 
     /// What the message changes.
     fn change_at(&self, thread: Tid, number: u32) -> Change {
-        let none = Change {
-            phase: None,
-            mask: None,
-        };
         let place = number.saturating_sub(1) as usize;
         if let Some(kinds) = self.world.kernel().history(thread)
             && let Some(kind) = kinds.get(place)
@@ -240,7 +306,7 @@ impl Ahead<'_> {
                 return change_of_call(&call);
             }
         }
-        none
+        NO_CHANGE
     }
 
     /// What the agent knows of the thread before some step.
@@ -262,6 +328,8 @@ impl Ahead<'_> {
             upto: 0,
             phase: None,
             mask: 0,
+            ran: 0,
+            level: 0,
         };
         let Some(view) = self.world.view(cpu) else {
             return nothing;
@@ -271,6 +339,8 @@ impl Ahead<'_> {
                 upto: view.upto(thread),
                 phase: Some(reported.phase),
                 mask: reported.mask.bits(),
+                ran: reported.ran,
+                level: reported.level.get(),
             },
             None => nothing,
         }
@@ -302,19 +372,42 @@ impl Ahead<'_> {
         }
     }
 
-    /// The thread that a steal of the CPU's agent tries.
+    /// The thread that a steal of the CPU's agent tries: of those that it may the one with the least name, or, where
+    /// steals are exact, the one of the least rank, and of these the one with the least name.
     pub(crate) fn candidate(&self, cpu: Cpu) -> Option<Tid> {
+        let mut first = None;
+        let mut least = 0u64;
         for index in 0..self.threads().min(MOST_TRIED) {
             let thread = Tid(index);
-            if let Some(standing) = self.standing(thread)
-                && standing.on.is_none()
-                && self.known(cpu, thread, Plan::MOST).runs_on(cpu)
-                && !self.is_listed(cpu, thread)
-            {
+            let Some(rank) = self.rank_to_steal(cpu, thread) else {
+                continue;
+            };
+            if !self.policy.exact {
                 return Some(thread);
             }
+            if first.is_none() || rank < least {
+                first = Some(thread);
+                least = rank;
+            }
         }
-        None
+        first
+    }
+
+    /// The rank of a thread that a steal of the CPU's agent may try; none of another. An exact steal may try it only
+    /// where its agent knows all of its messages.
+    fn rank_to_steal(&self, cpu: Cpu, thread: Tid) -> Option<u64> {
+        let standing = self.standing(thread)?;
+        if standing.on.is_some() {
+            return None;
+        }
+        let known = self.known(cpu, thread, Plan::MOST);
+        if !known.runs_on(cpu) || self.is_listed(cpu, thread) {
+            return None;
+        }
+        if self.policy.exact && known.upto < standing.number {
+            return None;
+        }
+        Some(known.rank(self.policy.order))
     }
 
     /// The thread that a refused steal of the CPU's agent tried; none where it is not among the first, or the run list

@@ -8,8 +8,8 @@
 //! How many steps make an event accepted that was refused:
 //!
 //! ```
-//! fn steps_to(world: &World, event: &Event) -> Option<usize> {
-//!     match advise(world, &Deed::of(event)) {
+//! fn steps_to(world: &World, policy: PolicyName, event: &Event) -> Option<usize> {
+//!     match advise(world, policy, &Deed::of(event)) {
 //!         Advice::Steps(plan) => Some(plan.steps().len()),
 //!         _ => None,
 //!     }

@@ -57,6 +57,8 @@ pub enum Refusal {
     NothingToSteal,
     #[error("the wire did not send the delta")]
     WireFault,
+    #[error("an event was taken before")]
+    TooLate,
 }
 
 /// Why a call that takes memory has no answer.

@@ -169,7 +169,8 @@ pub(crate) fn write_picture<W: Write>(
     part: Part,
     writer: &mut W,
 ) -> io::Result<()>
-    ensures { OnOk result (Pictures (script_title (vec_len story.now.steps) story.now.refused story.now.outcome)
+    ensures { OnOk result (Pictures
+        (script_title (vec_len story.now.steps) story.now.refused story.now.policy story.now.outcome)
         (W.contents writer.old) (W.contents writer.new)) }
 {
     let all = story.steps.as_slice();

@@ -1,9 +1,9 @@
 //! Recording a script: the observer that keeps what is drawn of each command, and what the world says after it.
 
-ghost use Rattle.std.specs.Prelude.{◌≡◌, ◌+◌, [], vec_len, if◌then◌else◌, OnOk, IfOk, Err, refl};
-ghost use Rattle.pc_draw.specs.Inner.Recorded.{Records};
+ghost use Rattle.std.specs.Prelude.{◌≡◌, ◌+◌, [], None, vec_len, if◌then◌else◌, OnOk, IfOk, Err, refl};
+ghost use Rattle.pc_draw.specs.Inner.Recorded.{Records, kept};
 ghost use Rattle.pc_draw.specs.Inner.Told.{told_more, told_nothing};
-ghost use Rattle.pc_draw.specs.Pictures.{refuses};
+ghost use Rattle.pc_draw.specs.Pictures.{policy_by, refuses};
 ghost use Rattle.pc_script.specs.declared.outcome.Outcome.{Outcome};
 ghost use Rattle.pc_script.specs.declared.outcome.ScriptFault.{ScriptFault};
 
@@ -11,7 +11,7 @@ use crate::lanes::{Change, Lane, MOST_LANES, QUIET, is_waiting, lane_of};
 use crate::step::{Sent, Story, Traces, cpu_of, is_refused, named_thread, other_cpus};
 use pc_calls::{Event, Reply};
 use pc_messages::{Cpu, Tid};
-use pc_script::{Command, Line, Observer, Outcome, Response, ScriptFault};
+use pc_script::{Command, Line, Observer, Outcome, Response, ScriptFault, Version};
 use pc_session::{Session, let_view_go};
 use pc_world::World;
 use std::alloc::{AllocError, Global};
@@ -160,7 +160,7 @@ impl Last {
 impl Recorder {
     /// Before the first line.
     pub(crate) fn new(alloc: Global) -> Recorder
-        ensures { (vec_len result.story.steps ≡ 0) × (result.story.refused ≡ 0)
+        ensures { (vec_len result.story.steps ≡ 0) × (result.story.refused ≡ 0) × (result.story.policy ≡ None)
             × (result.story.outcome ≡ Outcome.Finished) }
     {
         Recorder {
@@ -208,6 +208,7 @@ impl Recorder {
     ) -> Result<(), AllocError>
         ensures ok { OnOk result ((vec_len self.new.story.steps ≡ vec_len self.old.story.steps + 1)
             × (self.new.story.refused ≡ self.old.story.refused + (if refuses response.now then 1 else 0))
+            × (self.new.story.policy ≡ policy_by self.old.story.policy response.now)
             × (self.new.story.outcome ≡ self.old.story.outcome)) }
     {
         if let (Command::Event(event), Response::Event(reply), Some(world)) = (
@@ -240,12 +241,17 @@ fn home_before(command: &Command, session: &Session) -> Option<Cpu> {
 
 impl<W: Write> Observer<Session, W> for Recorder {
     ghost Tells = { λ old before notices new after. (after ≡ before)
-        × Records notices (vec_len old.story.steps) old.story.refused old.story.outcome
-        (vec_len new.story.steps) new.story.refused new.story.outcome };
+        × Records notices (kept (vec_len old.story.steps) old.story.refused old.story.policy old.story.outcome)
+        (kept (vec_len new.story.steps) new.story.refused new.story.policy new.story.outcome) };
 
     ghost MayFail = { λ fault. fault ≡ ScriptFault.OutOfMemory };
 
-    fn version_two(&mut self, line: Line<'_>, writer: &mut W) -> Result<(), ScriptFault> {
+    fn version_named(
+        &mut self,
+        line: Line<'_>,
+        version: Version,
+        writer: &mut W,
+    ) -> Result<(), ScriptFault> {
         Ok(())
     }
 
@@ -275,7 +281,7 @@ impl<W: Write> Observer<Session, W> for Recorder {
     }
 
     ghost tells_nothing = { λ observer known. told_nothing known
-        (vec_len observer.story.steps) observer.story.refused observer.story.outcome };
+        (kept (vec_len observer.story.steps) observer.story.refused observer.story.policy observer.story.outcome) };
 
     ghost tells_more = { λ old now new before here after notices further. told_more before here after notices further };
 }

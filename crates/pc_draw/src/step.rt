@@ -1,14 +1,14 @@
 //! The steps of a script: its commands, and what they were answered.
 
-ghost use Rattle.std.specs.Prelude.{◌≡◌, ◌+◌, ◌≤◌, vec_len, if◌then◌else◌, OnOk};
-ghost use Rattle.pc_draw.specs.Pictures.{refuses};
+ghost use Rattle.std.specs.Prelude.{◌≡◌, ◌+◌, ◌≤◌, None, vec_len, if◌then◌else◌, OnOk};
+ghost use Rattle.pc_draw.specs.Pictures.{policy_by, refuses};
 ghost use Rattle.pc_script.specs.declared.outcome.Outcome.{Outcome};
 
 use crate::lanes::{Change, MOST_LANES};
 use crate::words::Summary;
 use pc_calls::{AgentCall, EnvCall, Event, Refusal, Reply};
 use pc_messages::{Cpu, Tid};
-use pc_script::{Command, Outcome, Response};
+use pc_script::{Command, Outcome, PolicyName, Response};
 use std::alloc::{AllocError, Global};
 
 /// Why a command was refused.
@@ -30,8 +30,8 @@ pub(crate) enum Answer {
     Event(Reply),
     /// It was refused.
     Refused(Reason),
-    /// A question was answered.
-    Read,
+    /// A question was answered, or a policy is gone by.
+    Told,
 }
 
 /// A command of a script.
@@ -60,6 +60,8 @@ pub(crate) struct Story {
     pub(crate) steps: Vec<Step>,
     /// How many commands were refused.
     pub(crate) refused: usize,
+    /// The policy that was accepted last.
+    pub(crate) policy: Option<PolicyName>,
     pub(crate) outcome: Outcome,
     ghost few: { refused ≤ vec_len steps },
 }
@@ -86,11 +88,13 @@ impl Traces {
 impl Story {
     /// No steps.
     pub(crate) fn new(alloc: Global) -> Story
-        ensures { (vec_len result.steps ≡ 0) × (result.refused ≡ 0) × (result.outcome ≡ Outcome.Finished) }
+        ensures { (vec_len result.steps ≡ 0) × (result.refused ≡ 0) × (result.policy ≡ None)
+            × (result.outcome ≡ Outcome.Finished) }
     {
         Story {
             steps: Vec::new(alloc),
             refused: 0,
+            policy: None,
             outcome: Outcome::Finished,
         }
     }
@@ -106,7 +110,8 @@ impl Story {
         changed: usize,
     ) -> Result<(), AllocError>
         ensures ok { OnOk result ((vec_len self.new.steps ≡ vec_len self.old.steps + 1)
-            × (self.new.refused ≡ self.old.refused + (if refuses response.now then 1 else 0))) }
+            × (self.new.refused ≡ self.old.refused + (if refuses response.now then 1 else 0))
+            × (self.new.policy ≡ policy_by self.old.policy response.now)) }
         ensures outcome { self.new.outcome ≡ self.old.outcome }
     {
         let step = Step {
@@ -120,17 +125,20 @@ impl Story {
         if is_refused(response) {
             self.refused += 1;
         }
+        self.policy = policy_after(self.policy, response);
         Ok(())
     }
 
     /// What a picture says of the story.
     pub(crate) fn summary(&self) -> Summary
         ensures commands { result.commands ≡ vec_len self.now.steps }
-        ensures kept { (result.refused ≡ self.now.refused) × (result.outcome ≡ self.now.outcome) }
+        ensures kept { (result.refused ≡ self.now.refused) × (result.policy ≡ self.now.policy)
+            × (result.outcome ≡ self.now.outcome) }
     {
         Summary {
             commands: self.steps.len(),
             refused: self.refused,
+            policy: self.policy,
             outcome: self.outcome,
         }
     }
@@ -225,6 +233,16 @@ pub(crate) fn is_refused(response: &Response) -> bool
     }
 }
 
+/// The policy after a response, where it was this before.
+fn policy_after(policy: Option<PolicyName>, response: &Response) -> Option<PolicyName>
+    ensures { result ≡ policy_by policy response.now }
+{
+    match response {
+        Response::Ruled(policy) => Some(*policy),
+        _ => policy,
+    }
+}
+
 /// What pictures show of a response.
 pub(crate) fn answer_of(response: &Response) -> Answer {
     match response {
@@ -235,6 +253,6 @@ pub(crate) fn answer_of(response: &Response) -> Answer {
         Response::Event(Reply::Refused(refusal)) => Answer::Refused(Reason::Of(*refusal)),
         Response::Event(reply) => Answer::Event(*reply),
         Response::Refused(refusal) => Answer::Refused(Reason::Of(*refusal)),
-        _ => Answer::Read,
+        _ => Answer::Told,
     }
 }

@@ -1,11 +1,11 @@
 //! What is said in the picture of a script.
 
 ghost use Rattle.std.specs.Prelude.{◌++◌, Some, codes, decimal};
-ghost use Rattle.pc_draw.specs.Pictures.{fault_text, script_title};
+ghost use Rattle.pc_draw.specs.Pictures.{fault_text, given_text, script_title};
 
 use crate::part::{Interval, Part};
 use pc_pen::Count;
-use pc_script::Outcome;
+use pc_script::{Outcome, PolicyName};
 use std::fmt;
 
 /// The line that is a fault: `fault line 12`.
@@ -39,22 +39,39 @@ impl fmt::Display for Ending {
     }
 }
 
-/// What a picture says of its script: how many commands there are, how many were refused, and the fault.
+/// What is said of the policy, behind the counts: nothing, or which one was given.
+#[derive(Clone, Copy)]
+struct Given(Option<PolicyName>);
+
+impl fmt::Display for Given {
+    ghost output = { λ given. Some (given_text given.0) };
+
+    fn fmt<W: fmt::Write>(&self, f: &mut fmt::Formatter<W>) -> fmt::Result {
+        match self.0 {
+            None => f.write_str(""),
+            Some(policy) => write!(f, ", policy {policy}"),
+        }
+    }
+}
+
+/// What a picture says of its script: how many commands there are, how many were refused, the policy, and the fault.
 #[derive(Clone, Copy)]
 pub(crate) struct Summary {
     pub(crate) commands: usize,
     pub(crate) refused: usize,
+    pub(crate) policy: Option<PolicyName>,
     pub(crate) outcome: Outcome,
 }
 
 impl fmt::Display for Summary {
-    ghost output = { λ summary. Some (script_title summary.commands summary.refused summary.outcome) };
+    ghost output = { λ summary. Some (script_title summary.commands summary.refused summary.policy summary.outcome) };
 
     fn fmt<W: fmt::Write>(&self, f: &mut fmt::Formatter<W>) -> fmt::Result {
         let commands = self.commands;
         let refused = self.refused;
+        let given = Given(self.policy);
         let ending = Ending(self.outcome);
-        write!(f, "commands {commands}, refused {refused}{ending}")
+        write!(f, "commands {commands}, refused {refused}{given}{ending}")
     }
 }
 

@@ -9,8 +9,6 @@ use Rattle.pc_calls.specs.declared.event.Reply.{Reply}
 use Rattle.pc_calls.specs.declared.event.Reply.TheVariants as reply
 use Rattle.pc_calls.specs.declared.limits.LimitField.{LimitField}
 use Rattle.pc_calls.specs.declared.limits.LimitField.TheVariants as limit
-use Rattle.pc_calls.specs.declared.limits.Profile.{Profile}
-use Rattle.pc_calls.specs.declared.limits.Profile.TheVariants as profile
 use Rattle.pc_calls.specs.declared.refusal.Refusal.{Refusal}
 use Rattle.pc_calls.specs.declared.refusal.Refusal.TheVariants as refusal
 use Rattle.pc_messages.specs.declared.reported.Phase.{Phase}
@@ -20,6 +18,8 @@ use Rattle.pc_script.specs.Grammar.{thread_name}
 use Rattle.pc_script.specs.Responses.{text_line, limit_text, refusal_text, phase_text, number_or_dash, subject_text, posted_text, running_text, status_text, truth_text, sameness_text, level_text, reported_text, numbers_text, shown_text, shown_lines, reply_text, response_text}
 use Rattle.pc_script.specs.Scripts.{outcome_text}
 use Rattle.pc_script.specs.Versions.{opening_text}
+use Rattle.pc_script.specs.declared.version.Version.{Version}
+use Rattle.pc_script.specs.declared.version.Version.TheVariants as version
 use Rattle.pc_script.specs.declared.lists.ShownThread.{ShownThread}
 use Rattle.pc_script.specs.declared.outcome.Outcome.TheVariants.{FaultLine}
 use Rattle.pc_script.specs.declared.response.Response.{Response}
@@ -169,11 +169,13 @@ response_annotated (response.Sameness false) = one_line (codes "differ") refl re
 response_annotated (response.View threads) =
     rw (append_assoc (shown_lines threads) (codes "end") (10 ∷ [])) (shown_annotated threads (codes "end" ++ 10 ∷ []) (one_line (codes "end") refl refl))
 response_annotated (response.Refused refusal) = one_line (response_text (response.Refused refusal)) (refusal_without refusal) refl
+response_annotated (response.Ruled policy) = one_line (codes "ok") refl refl
 
 -- the answer to the version line
-pub opening_annotated : (p : Profile) → IsAnnotated (opening_text p) (opening_text p)
-opening_annotated profile.One = at_end
-opening_annotated profile.Two = one_line (codes "ok") refl refl
+pub opening_annotated : (v : Version) → IsAnnotated (opening_text v) (opening_text v)
+opening_annotated version.One = at_end
+opening_annotated version.Two = one_line (codes "ok") refl refl
+opening_annotated version.Three = one_line (codes "ok") refl refl
 
 -- what is written at a fault
 pub fault_annotated : (number : ℕ) → IsAnnotated (outcome_text (FaultLine number)) (outcome_text (FaultLine number))

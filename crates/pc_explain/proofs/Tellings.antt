@@ -24,10 +24,10 @@ module _ {O : Type 0} (IsRun : Profile → List Command → List Response → Ty
   explained_of text outcome old new before after walked = (
     walked.told.0,
     record {
-      profile = walked.profile;
+      version = walked.version;
       responses = walked.responses;
       runs = walked.runs;
-      written = without_comments_is walked.told.1 ∙ all_are walked.profile walked.responses outcome;
+      written = without_comments_is walked.told.1 ∙ all_are walked.version walked.responses outcome;
     },
     walked.told.2,
   )
@@ -51,10 +51,10 @@ module _ {O : Type 0} (IsRun : Profile → List Command → List Response → Ty
       let told : IsWalkedUntil Tells IsRun RanOut (lines bytes) old before new after = rw is walked in (
         told.told.0,
         record {
-          profile = told.profile;
+          version = told.version;
           responses = told.responses;
           runs = told.runs;
-          written = without_comments_is told.told.1 ∙ answers_are told.profile told.responses;
+          written = without_comments_is told.told.1 ∙ answers_are told.version told.responses;
         },
         told.told.2,
       )

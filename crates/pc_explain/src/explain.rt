@@ -16,8 +16,10 @@ use crate::before::Before;
 use crate::comment::{write_heading, write_response, write_sentences};
 use crate::faults::tell_fault;
 use crate::sentences::Sentences;
-use crate::telling::tell;
-use pc_script::{Command, Line, Observer, Outcome, Response, ScriptFault, read_text, walk};
+use crate::telling::{Scene, tell};
+use pc_script::{
+    Command, Line, Observer, Outcome, PolicyName, Response, ScriptFault, Version, read_text, walk,
+};
 use pc_session::{Session, let_view_go};
 use std::alloc::Global;
 use std::io::{Read, Write};
@@ -26,24 +28,36 @@ use std::io::{Read, Write};
 const VERSION_TWO: &[u8] =
     b"The script is of version 2: an enclave may have up to 65535 threads, and each 16000000 messages.";
 
+/// What is told of the line `version 3`.
+const VERSION_THREE: &[u8] =
+    b"The script is of version 3: an enclave may have up to 65535 threads, and each 16000000 messages, and its agents may be given a policy.";
+
 /// Writes, for each line that has a reply, the line, the reply, and sentences on it.
 #[derive(Drop)]
 struct Comments {
     /// What the sentences on the command that is under way need of the world before it.
     before: Before,
+    /// That of the script.
+    version: Version,
+    /// The policy that all agents go by.
+    policy: PolicyName,
 }
 
-/// The sentences on the line `version 2`.
-fn on_version_two() -> Sentences {
+/// The sentences on the line that names the version.
+fn on_version(version: Version) -> Sentences {
     let mut sentences = Sentences::new();
-    sentences.add(VERSION_TWO);
+    match version {
+        Version::One => {}
+        Version::Two => sentences.add(VERSION_TWO),
+        Version::Three => sentences.add(VERSION_THREE),
+    }
     sentences
 }
 
 /// The sentences on a line that is a fault.
-fn on_fault(line: &[u8]) -> Sentences {
+fn on_fault(version: Version, line: &[u8]) -> Sentences {
     let mut sentences = Sentences::new();
-    tell_fault(&mut sentences, line);
+    tell_fault(&mut sentences, version, line);
     sentences
 }
 
@@ -58,10 +72,24 @@ fn on_command(
     command: &Command,
     response: &Response,
     before: &Before,
+    policy: PolicyName,
 ) -> Sentences {
     let mut sentences = Sentences::new();
-    tell(&mut sentences, command, response, before, session.world());
+    let scene = Scene {
+        world: session.world(),
+        before,
+        policy,
+    };
+    tell(&mut sentences, command, response, &scene);
     sentences
+}
+
+/// The policy after a response: the one that it tells of, if it does.
+fn policy_after(policy: PolicyName, response: &Response) -> PolicyName {
+    match response {
+        Response::Ruled(policy) => *policy,
+        _ => policy,
+    }
 }
 
 /// Writes a line's number and text, its response, and sentences.
@@ -113,8 +141,14 @@ impl<W: Write> Observer<Session, W> for Comments {
 
     ghost MayFail = { λ fault. fault ≡ ScriptFault.Write };
 
-    fn version_two(&mut self, line: Line<'_>, writer: &mut W) -> Result<(), ScriptFault> {
-        write_told(line, &Response::Opened, &on_version_two(), writer)
+    fn version_named(
+        &mut self,
+        line: Line<'_>,
+        version: Version,
+        writer: &mut W,
+    ) -> Result<(), ScriptFault> {
+        self.version = version;
+        write_told(line, &Response::Opened, &on_version(version), writer)
     }
 
     fn expect(&mut self, command: &Command, machine: &Session) {
@@ -129,14 +163,15 @@ impl<W: Write> Observer<Session, W> for Comments {
         machine: &Session,
         writer: &mut W,
     ) -> Result<(), ScriptFault> {
-        let sentences = on_command(machine, command, response, &self.before);
+        self.policy = policy_after(self.policy, response);
+        let sentences = on_command(machine, command, response, &self.before, self.policy);
         let told = write_told(line, response, &sentences, writer);
         let_view_go(response);
         told
     }
 
     fn faulted(&mut self, line: Line<'_>, writer: &mut W) -> Result<(), ScriptFault> {
-        write_fault(line, &on_fault(line.text), writer)
+        write_fault(line, &on_fault(self.version, line.text), writer)
     }
 
     ghost tells_nothing = { λ observer known. told_nothing known };
@@ -172,6 +207,8 @@ pub fn explain_script<R: Read, W: Write>(
     let text = read_text(alloc, reader)?;
     let mut comments = Comments {
         before: Before::Nothing,
+        version: Version::One,
+        policy: PolicyName::USUAL,
     };
     walk::<Session, Comments, W>(alloc, text.as_slice(), &mut comments, writer)
 }

@@ -3,13 +3,13 @@
 
 use crate::sentences::Sentences;
 use crate::words::Quoted;
-use pc_script::{Trouble, Verb, Wanted, first_word, trouble_in};
+use pc_script::{Trouble, Verb, Version, Wanted, first_word, trouble_in};
 use std::fmt::{self, Write};
 
-/// Tells why a line is no command.
-pub(crate) fn tell_fault(text: &mut Sentences, line: &[u8]) {
+/// Tells why a line of a script of the version is no command.
+pub(crate) fn tell_fault(text: &mut Sentences, version: Version, line: &[u8]) {
     // Sentences take any text: what goes past their room is left out.
-    let _ = fault(text, line);
+    let _ = fault(text, version, line);
     let _ = spaces(text, line);
 }
 
@@ -24,9 +24,9 @@ fn spaces(text: &mut Sentences, line: &[u8]) -> fmt::Result {
     Ok(())
 }
 
-fn fault(text: &mut Sentences, line: &[u8]) -> fmt::Result {
-    match trouble_in(line) {
-        Some(Trouble::NoCommand { word }) => no_command(text, word),
+fn fault(text: &mut Sentences, version: Version, line: &[u8]) -> fmt::Result {
+    match trouble_in(version, line) {
+        Some(Trouble::NoCommand { word }) => no_command(text, version, word),
         Some(
             Trouble::Missing {
                 verb,
@@ -69,12 +69,16 @@ fn begins_with_mark(line: &[u8]) -> bool {
 }
 
 /// The first word of a line is no command's.
-fn no_command(text: &mut Sentences, word: &[u8]) -> fmt::Result {
+fn no_command(text: &mut Sentences, version: Version, word: &[u8]) -> fmt::Result {
     let quoted = Quoted(word);
     if word == b"version".as_slice() {
+        let named = match version {
+            Version::One | Version::Two => "`version 2`",
+            Version::Three => "`version 2` or `version 3`",
+        };
         return writeln!(
             text,
-            "Word 1, `{quoted}`: a command was wanted, since only the first line that is not silent may be `version 2`."
+            "Word 1, `{quoted}`: a command was wanted, since only the first line that is not silent may be {named}."
         );
     }
     writeln!(
@@ -103,6 +107,8 @@ fn words_of(wanted: Wanted) -> &'static str {
         Wanted::State => "ready or blocked",
         Wanted::Target => "a CPU, a decimal number up to 255, or -,",
         Wanted::Failure => "fail or nothing",
+        Wanted::Order => "levels, fifo, least-ran or levels-then-least-ran",
+        Wanted::Exactness => "exact or nothing",
     }
 }
 
@@ -136,5 +142,6 @@ fn form_of(verb: Verb) -> &'static str {
         Verb::Show => "show C",
         Verb::Same => "same A B",
         Verb::Complete => "complete C T",
+        Verb::Policy => "policy NAME, or policy NAME exact",
     }
 }

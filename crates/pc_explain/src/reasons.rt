@@ -38,6 +38,8 @@ pub(crate) fn reason(refusal: Refusal) -> &'static str {
         Refusal::NoDelta => "no delta with this index was sent",
         Refusal::WireFault =>
             "the wire did not take the delta; the view has what the queue holds all the same",
+        Refusal::TooLate =>
+            "an event was taken before, accepted or refused, and a policy stands before the first event",
     }
 }
 

@@ -2,6 +2,7 @@
 
 mod agents;
 mod calls;
+mod policies;
 mod questions;
 mod refusals;
 mod steps;
@@ -11,36 +12,51 @@ use crate::sentences::Sentences;
 use crate::words::Count;
 use pc_advice::Deed;
 use pc_calls::{Event, Limits, Reply};
-use pc_script::{Command, Response};
+use pc_script::{Command, PolicyName, Response};
 use pc_world::World;
 use std::fmt::{self, Write};
+
+/// What is known when a command was answered.
+#[derive(Clone, Copy)]
+pub(crate) struct Scene<'a> {
+    /// The world behind it.
+    pub(crate) world: Option<&'a World>,
+    /// What is remembered of the world before it.
+    pub(crate) before: &'a Before,
+    /// The policy that all agents go by.
+    pub(crate) policy: PolicyName,
+}
 
 /// Tells what a command changed, why it was refused, or what it was answered.
 pub(crate) fn tell(
     text: &mut Sentences,
     command: &Command,
     response: &Response,
-    before: &Before,
-    world: Option<&World>,
+    scene: &Scene<'_>,
 ) {
     // Sentences take any text: what goes past their room is left out.
-    let _ = told(text, command, response, before, world);
+    let _ = told(text, command, response, scene);
 }
 
 fn told(
     text: &mut Sentences,
     command: &Command,
     response: &Response,
-    before: &Before,
-    world: Option<&World>,
+    scene: &Scene<'_>,
 ) -> fmt::Result {
+    let world = scene.world;
     match (command, response) {
         (Command::Enclave(limits), Response::Opened) => opened(text, limits),
         (Command::Event(event), Response::Event(Reply::Refused(refusal))) => {
-            refusals::refused(text, &Deed::of(event), refusal, world)
+            refusals::refused(text, &Deed::of(event), refusal, scene)
         }
-        (Command::Event(event), Response::Event(reply)) => done(text, event, reply, before, world),
-        (Command::Read(question), _) => questions::answered(text, question, response, world),
+        (Command::Event(event), Response::Event(reply)) => {
+            done(text, event, reply, scene.before, world)?;
+            policies::chosen(text, event, reply, scene)
+        }
+        (Command::Read(question), _) => questions::answered(text, question, response, scene),
+        (_, Response::Ruled(policy)) => policies::ruled(text, *policy),
+        (_, Response::Refused(refusal)) => policies::refused(text, refusal),
         (_, Response::NoEnclave) => refusals::no_enclave(text),
         (_, Response::HaveEnclave) => refusals::have_enclave(text),
         (_, Response::BadLimits(limit)) => refusals::bad_limits(text, limit),

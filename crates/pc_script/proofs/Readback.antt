@@ -9,10 +9,11 @@ use Rattle.std.proofs.lemmas.Str.Parse.{digit_from_value}
 use Rattle.pc_calls.specs.declared.call.AgentCall.TheVariants as agent_call
 use Rattle.pc_calls.specs.declared.call.EnvCall.TheVariants as env
 use Rattle.pc_calls.specs.declared.event.Event.TheVariants as event
-use Rattle.pc_script.specs.Grammar.{Field, Processors, Processor, Queue, Level, Count, Mask, Index, Thread, State, Target, Failure, field_words, IsInRange, words_of, AreInRange, row_of, command_text, spaced, Spells}
+use Rattle.pc_script.specs.Grammar.{Field, Processors, Processor, Queue, Level, Count, Mask, Index, Thread, State, Target, Failure, Order, Exactness, field_words, IsInRange, words_of, AreInRange, row_of, command_text, spaced, Spells}
 use Rattle.pc_script.specs.Text.{words}
 use Rattle.pc_script.specs.declared.command.Command.{Command}
 use Rattle.pc_script.specs.declared.command.Command.TheVariants as command
+use Rattle.pc_script.specs.declared.command.OrderName.TheVariants.{Levels, Fifo, LeastRan, LevelsThenLeastRan}
 use Rattle.pc_script.specs.declared.command.Read.TheVariants as read
 use Rattle.pc_script.proofs.Numerals.{own}
 
@@ -106,6 +107,12 @@ fields_are (Target None) h = (word_is (codes "-") refl, tt)
 fields_are (Target (Some cpu)) h = (wide (2 ^ 8) cpu (omega arith) h, tt)
 fields_are (Failure true) h = (word_is (codes "fail") refl, tt)
 fields_are (Failure false) h = tt
+fields_are (Order Levels) h = (word_is (codes "levels") refl, tt)
+fields_are (Order Fifo) h = (word_is (codes "fifo") refl, tt)
+fields_are (Order LeastRan) h = (word_is (codes "least-ran") refl, tt)
+fields_are (Order LevelsThenLeastRan) h = (word_is (codes "levels-then-least-ran") refl, tt)
+fields_are (Exactness true) h = (word_is (codes "exact") refl, tt)
+fields_are (Exactness false) h = tt
 
 all_are : (fields : List Field) → AreInRange fields → Each IsWord (words_of fields)
 all_are [] h = tt
@@ -139,6 +146,7 @@ name_is (command.Read (read.Asleep cpu)) = refl
 name_is (command.Read (read.Show cpu)) = refl
 name_is (command.Read (read.Same cpu other)) = refl
 name_is (command.Read (read.Complete cpu thread)) = refl
+name_is (command.Policy named) = refl
 
 pub reads_back : (given : Command) → AreInRange (row_of given).fields → Spells (words (command_text given)) given
 reads_back given h =

@@ -7,14 +7,17 @@ use Rattle.std.proofs.lemmas.Fmt.{decimal_injective, decimal_digit, first_decima
 use Rattle.pc_calls.specs.declared.call.AgentCall.TheVariants as agent_call
 use Rattle.pc_calls.specs.declared.call.EnvCall.TheVariants as env
 use Rattle.pc_calls.specs.declared.event.Event.TheVariants as event
-use Rattle.pc_script.specs.Grammar.{Field, Processors, Processor, Queue, Level, Count, Mask, Index, Thread, State, Target, Failure, field_words, state_word, target_word, thread_name, IsInRange, words_of, AreInRange, row_of, Spells}
-use Rattle.pc_script.specs.Inner.Readings.{Kind, failure, kind_of, kinds_of, is_word}
+use Rattle.pc_script.specs.Grammar.{Field, Processors, Processor, Queue, Level, Count, Mask, Index, Thread, State, Target, Failure, Order, Exactness, field_words, order_word, state_word, target_word, thread_name, IsInRange, words_of, AreInRange, row_of, Spells, IsOf, AsksFor}
+use Rattle.pc_script.specs.Inner.Readings.{Kind, failure, exactness, kind_of, kinds_of, is_word}
 use Rattle.pc_script.specs.Inner.Verbs.{back, name_of, kinds}
 use Rattle.pc_script.specs.declared.command.Command.{Command}
 use Rattle.pc_script.specs.declared.command.Command.TheVariants as command
+use Rattle.pc_script.specs.declared.command.OrderName.{OrderName}
+use Rattle.pc_script.specs.declared.command.OrderName.TheVariants.{Levels, Fifo, LeastRan, LevelsThenLeastRan}
 use Rattle.pc_script.specs.declared.command.Read.TheVariants as read
 use Rattle.pc_script.specs.declared.grammar.Verb.{Verb}
 use Rattle.pc_script.specs.declared.grammar.Verb.TheVariants as verb
+use Rattle.pc_script.specs.declared.version.Version.{Version}
 
 -- ---- one field
 
@@ -31,6 +34,8 @@ one_word (Thread thread) h = (thread_name thread, refl)
 one_word (State is_ready) h = (state_word is_ready, refl)
 one_word (Target cpu) h = (target_word cpu, refl)
 one_word (Failure fails) h = cc
+one_word (Order named) h = (order_word named, refl)
+one_word (Exactness exact) h = cc
 
 -- such a field takes the first word
 pub parts : (field : Field) (fields : List Field) (word : List ℕ) (rest : List (List ℕ)) → is_word (kind_of field) ≡ true
@@ -63,6 +68,13 @@ same_target None (Some cpu) h k is = absurd (no_dash cpu k (sym is))
 same_target (Some cpu) None h k is = absurd (no_dash cpu h is)
 same_target (Some cpu) (Some other) h k is = ap Some (decimal_injective cpu other (omega (arith, h)) (omega (arith, k)) is)
 
+same_order : (one other : OrderName) → order_word one ≡ order_word other → one ≡ other
+same_order Levels Levels is = refl
+same_order Fifo Fifo is = refl
+same_order LeastRan LeastRan is = refl
+same_order LevelsThenLeastRan LevelsThenLeastRan is = refl
+same_order one other is = absurd (true≢false (ap (λ word. bytes_eq (order_word one) word) is))
+
 -- fields of one kind that have the same words are equal
 same_field : (one other : Field) → kind_of one ≡ kind_of other → IsInRange one → IsInRange other → field_words one ≡ field_words other → one ≡ other
 same_field (Processors a) (Processors b) e h k is = ap Processors (same_number (2 ^ 8) a b (omega arith) h k is)
@@ -84,6 +96,11 @@ same_field (Failure true) (Failure true) e h k is = refl
 same_field (Failure false) (Failure false) e h k is = refl
 same_field (Failure true) (Failure false) e h k is = cc
 same_field (Failure false) (Failure true) e h k is = cc
+same_field (Order a) (Order b) e h k is = ap Order (same_order a b (alone is))
+same_field (Exactness true) (Exactness true) e h k is = refl
+same_field (Exactness false) (Exactness false) e h k is = refl
+same_field (Exactness true) (Exactness false) e h k is = cc
+same_field (Exactness false) (Exactness true) e h k is = cc
 same_field one other e h k is = cc
 
 -- ---- fields that cannot be read
@@ -100,6 +117,15 @@ fail_alone word rest (Failure true ∷ []) e is = ((cc), (cc))
 fail_alone word rest (Failure false ∷ []) e is = cc
 fail_alone word rest (field ∷ second ∷ fields) e is = cc
 fail_alone word rest (field ∷ []) e is = cc
+
+-- an exactness is the word `exact` alone
+pub exact_alone : (word : List ℕ) (rest : List (List ℕ)) (any : List Field) → kinds_of any ≡ exactness ∷ [] → word ∷ rest ≡ words_of any
+    → (word ≡ codes "exact") × (rest ≡ [])
+exact_alone word rest [] e is = cc
+exact_alone word rest (Exactness true ∷ []) e is = ((cc), (cc))
+exact_alone word rest (Exactness false ∷ []) e is = cc
+exact_alone word rest (field ∷ second ∷ fields) e is = cc
+exact_alone word rest (field ∷ []) e is = cc
 
 pub no_pair-first : (kind : Kind) (kinds : List Kind) (before : List (List ℕ))
     → ((any : Field) → kind_of any ≡ kind → IsInRange any → (others : List (List ℕ)) → before ≡ field_words any ++ others → ⊥)
@@ -191,6 +217,7 @@ verb_for (command.Read (read.Asleep a)) = record { word = verb.Asleep; named = r
 verb_for (command.Read (read.Show a)) = record { word = verb.Show; named = refl; kinded = refl; same = refl }
 verb_for (command.Read (read.Same a b)) = record { word = verb.Same; named = refl; kinded = refl; same = refl }
 verb_for (command.Read (read.Complete a b)) = record { word = verb.Complete; named = refl; kinded = refl; same = refl }
+verb_for (command.Policy a) = record { word = verb.Policy; named = refl; kinded = refl; same = refl }
 
 -- no two verbs have one word
 one_verb : (one other : Verb) → name_of one ≡ name_of other → one ≡ other
@@ -221,6 +248,7 @@ one_verb verb.Asleep verb.Asleep is = refl
 one_verb verb.Show verb.Show is = refl
 one_verb verb.Same verb.Same is = refl
 one_verb verb.Complete verb.Complete is = refl
+one_verb verb.Policy verb.Policy is = refl
 one_verb one other is = absurd (true≢false (ap (λ word. bytes_eq (name_of one) word) is))
 
 -- the fields after a verb can be told apart
@@ -265,3 +293,8 @@ one_spelled spelled one other h k =
     let fields : (row_of one).fields ≡ (row_of other).fields =
     same_fields (kinds first.word) (is_split-kinds first.word) (row_of one).fields (row_of other).fields (sym first.kinded) kinded h.0 k.0 (cc (rows)) in
     sym first.same ∙ ap (λ word. back word (row_of one).fields) verbs ∙ ap (back second.word) fields ∙ second.same
+
+-- words that spell a command which is not of the version ask for none
+pub asks_for_none : (version : Version) (spelled : List (List ℕ)) (command : Command) → Spells spelled command → (IsOf version command → ⊥)
+    → (any : Command) → AsksFor version spelled any → ⊥
+asks_for_none version spelled command h not_of any asks = not_of (subst (IsOf version) (one_spelled spelled any command asks.1 h) asks.0)

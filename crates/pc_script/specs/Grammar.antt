@@ -10,16 +10,21 @@ use Rattle.pc_calls.specs.declared.event.Event.TheVariants as event
 use Rattle.pc_script.specs.Text.{words}
 use Rattle.pc_script.specs.declared.command.Command.{Command}
 use Rattle.pc_script.specs.declared.command.Command.TheVariants as command
+use Rattle.pc_script.specs.declared.command.OrderName.{OrderName}
+use Rattle.pc_script.specs.declared.command.OrderName.TheVariants as order
+use Rattle.pc_script.specs.declared.command.PolicyName.{PolicyName}
 use Rattle.pc_script.specs.declared.command.Read.{Read}
 use Rattle.pc_script.specs.declared.command.Read.TheVariants as read
 use Rattle.pc_script.specs.declared.line.Wish.{Wish}
 use Rattle.pc_script.specs.declared.line.Wish.TheVariants as wish
+use Rattle.pc_script.specs.declared.version.Version.{Version}
+use Rattle.pc_script.specs.declared.version.Version.TheVariants as version
 
 -- ---- fields
 
 -- An argument of a command, and its value: how many CPUs there are, a CPU, a queue, a level, a count (of ticks, of
 -- posts, or a number up to which something is counted), a mask, the index of a delta, a thread, how a new thread
--- starts, whom a queue wakes, and whether a send fails
+-- starts, whom a queue wakes, whether a send fails, an order of threads, and whether steals are exact
 pub data Field : Type 0 where
   Processors : ℕ → Field
   Processor : ℕ → Field
@@ -32,6 +37,8 @@ pub data Field : Type 0 where
   State : Bool → Field
   Target : Option ℕ → Field
   Failure : Bool → Field
+  Order : OrderName → Field
+  Exactness : Bool → Field
 
 -- a thread is `t`, and its number
 abbrev pub thread_name : ℕ → List ℕ
@@ -52,6 +59,18 @@ abbrev pub failure_words : Bool → List (List ℕ)
 failure_words true = codes "fail" ∷ []
 failure_words false = []
 
+-- the names of orders
+abbrev pub order_word : OrderName → List ℕ
+order_word order.Levels = codes "levels"
+order_word order.Fifo = codes "fifo"
+order_word order.LeastRan = codes "least-ran"
+order_word order.LevelsThenLeastRan = codes "levels-then-least-ran"
+
+-- exact steals are asked for by a further word
+abbrev pub exactness_words : Bool → List (List ℕ)
+exactness_words true = codes "exact" ∷ []
+exactness_words false = []
+
 -- the words of a field; a number is written in decimal, with neither a sign nor a zero in front
 abbrev pub field_words : Field → List (List ℕ)
 field_words (Processors number) = decimal number ∷ []
@@ -65,6 +84,8 @@ field_words (Thread thread) = thread_name thread ∷ []
 field_words (State is_ready) = state_word is_ready ∷ []
 field_words (Target cpu) = target_word cpu ∷ []
 field_words (Failure fails) = failure_words fails
+field_words (Order named) = order_word named ∷ []
+field_words (Exactness exact) = exactness_words exact
 
 -- the range of a field's value
 abbrev pub IsInRange : Field → Type 0
@@ -79,6 +100,8 @@ IsInRange (Thread thread) = thread < 2 ^ 32
 IsInRange (State is_ready) = Unit {0}
 IsInRange (Target cpu) = IfSome cpu (λ c. c < 2 ^ 8)
 IsInRange (Failure fails) = Unit {0}
+IsInRange (Order named) = Unit {0}
+IsInRange (Exactness exact) = Unit {0}
 
 -- the words of fields, one after another
 abbrev pub words_of : List Field → List (List ℕ)
@@ -142,6 +165,10 @@ read_row (read.Show cpu) = row (codes "show") (Processor cpu ∷ [])
 read_row (read.Same cpu other) = row (codes "same") (Processor cpu ∷ Processor other ∷ [])
 read_row (read.Complete cpu thread) = row (codes "complete") (Processor cpu ∷ Thread thread ∷ [])
 
+-- a policy is an order, and whether steals are exact
+abbrev pub policy_fields : PolicyName → List Field
+policy_fields named = Order named.order ∷ Exactness named.exact ∷ []
+
 -- a command's row
 abbrev pub row_of : Command → Row
 row_of (command.Enclave limits) =
@@ -149,6 +176,7 @@ row_of (command.Enclave limits) =
     (Processors limits.cpus ∷ Count limits.threads ∷ Count limits.numbers ∷ Count limits.room ∷ Count limits.posts ∷ [])
 row_of (command.Event event) = event_row event
 row_of (command.Read question) = read_row question
+row_of (command.Policy named) = row (codes "policy") (policy_fields named)
 
 -- words with a space between each two
 abbrev pub spaced : List (List ℕ) → List ℕ
@@ -159,6 +187,10 @@ spaced (word ∷ next ∷ more) = word ++ 32 ∷ spaced (next ∷ more)
 -- a row's name and its fields' words, with a space between each two
 abbrev pub row_text : Row → List ℕ
 row_text given = spaced (given.name ∷ words_of given.fields)
+
+-- the words of a policy, with a space between
+abbrev pub policy_text : PolicyName → List ℕ
+policy_text named = spaced (words_of (policy_fields named))
 
 -- the line of a script that asks for a command
 abbrev pub command_text : Command → List ℕ
@@ -171,16 +203,33 @@ abbrev pub Spells : List (List ℕ) → Command → Type 0
 Spells spelled command =
     AreInRange (row_of command).fields × (spelled ≡ (row_of command).name ∷ words_of (row_of command).fields)
 
+-- the version has words of its own
+abbrev pub HasOwnWords : Version → Type 0
+HasOwnWords version.One = ⊥
+HasOwnWords version.Two = ⊥
+HasOwnWords version.Three = Unit {0}
+
+-- the commands of a version: `policy` is one of the words of version 3, and all others are of each version
+abbrev pub IsOf : Version → Command → Type 0
+IsOf given (command.Enclave limits) = Unit {0}
+IsOf given (command.Event event) = Unit {0}
+IsOf given (command.Read question) = Unit {0}
+IsOf given (command.Policy named) = HasOwnWords given
+
+-- in a script of this version these words ask for the command
+abbrev pub AsksFor : Version → List (List ℕ) → Command → Type 0
+AsksFor given spelled command = IsOf given command × Spells spelled command
+
 -- a line without words, or whose first byte is `#`
 abbrev pub HasNoReply : List ℕ → Type 0
 HasNoReply line = (words line ≡ []) ⊎ (slice_get line 0 ≡ Some 35)
 
--- the line should have a reply, but its words are no command's
-abbrev pub IsFault : List ℕ → Type 0
-IsFault line = (HasNoReply line → ⊥) × ((command : Command) → Spells (words line) command → ⊥)
+-- the line should have a reply, but its words ask for no command of the version
+abbrev pub IsFault : Version → List ℕ → Type 0
+IsFault given line = (HasNoReply line → ⊥) × ((command : Command) → AsksFor given (words line) command → ⊥)
 
--- what a line asks for
-abbrev pub IsAsked : List ℕ → Wish → Type 0
-IsAsked line wish.Nothing = HasNoReply line
-IsAsked line (wish.Answer command) = (HasNoReply line → ⊥) × Spells (words line) command
-IsAsked line wish.Stop = IsFault line
+-- what a line of a script of this version asks for
+abbrev pub IsAsked : Version → List ℕ → Wish → Type 0
+IsAsked given line wish.Nothing = HasNoReply line
+IsAsked given line (wish.Answer command) = (HasNoReply line → ⊥) × AsksFor given (words line) command
+IsAsked given line wish.Stop = IsFault given line

@@ -61,6 +61,7 @@ refusal_text refusal.NoDelta = codes "NoDelta"
 refusal_text refusal.NothingReady = codes "NothingReady"
 refusal_text refusal.NothingToSteal = codes "NothingToSteal"
 refusal_text refusal.WireFault = codes "WireFault"
+refusal_text refusal.TooLate = codes "TooLate"
 
 -- the names of phases
 abbrev pub phase_text : Phase → List ℕ
@@ -154,3 +155,4 @@ response_text (response.Truth truth) = truth_text truth
 response_text (response.Sameness equal) = sameness_text equal
 response_text (response.View threads) = shown_lines threads ++ codes "end"
 response_text (response.Refused refusal) = codes "refused " ++ refusal_text refusal
+response_text (response.Ruled policy) = codes "ok"

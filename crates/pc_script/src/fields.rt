@@ -1,12 +1,14 @@
 //! The fields of commands: a type for each, whose values are taken from the words of a line.
 
-ghost use Rattle.std.specs.Prelude.{◌≡◌, ◌∷◌, [], ℕ, List, Bool, true, refl};
+ghost use Rattle.std.specs.Prelude.{◌≡◌, ◌∷◌, [], ℕ, List, Bool, true, refl, MatchOption};
 ghost use Rattle.pc_script.specs.Grammar.{Field};
 ghost use Rattle.pc_script.specs.Grammar as grammar;
 ghost use Rattle.pc_script.specs.Inner.Readings.{Kind, IsFieldReading, IsFieldsReading, is_word};
 ghost use Rattle.pc_script.specs.Inner.Readings as reading;
 ghost use Rattle.pc_script.specs.Inner.Taking.{words_left};
+ghost use Rattle.pc_script.specs.declared.command.OrderName.{OrderName};
 
+use crate::command::OrderName;
 use crate::digits::byte;
 use crate::trouble::Wanted;
 use crate::words::Words;
@@ -88,6 +90,34 @@ pub(crate) struct Target(pub(crate) Option<Cpu>);
 /// Whether a send fails: the word `fail`, or none.
 #[derive(Clone, Copy)]
 pub(crate) struct Failure(pub(crate) bool);
+
+/// An order of threads.
+#[derive(Clone, Copy)]
+pub(crate) struct Order(pub(crate) OrderName);
+
+/// Whether steals are exact: the word `exact`, or none.
+#[derive(Clone, Copy)]
+pub(crate) struct Exactness(pub(crate) bool);
+
+/// The order that this word names.
+fn order_named(word: &[u8]) -> Option<OrderName>
+    ensures { MatchOption result ((any : OrderName) → word.now ≡ grammar.order_word any → ⊥)
+        (λ order. word.now ≡ grammar.order_word order) }
+{
+    if word == b"levels".as_slice() {
+        return Some(OrderName::Levels);
+    }
+    if word == b"fifo".as_slice() {
+        return Some(OrderName::Fifo);
+    }
+    if word == b"least-ran".as_slice() {
+        return Some(OrderName::LeastRan);
+    }
+    if word == b"levels-then-least-ran".as_slice() {
+        return Some(OrderName::LevelsThenLeastRan);
+    }
+    None
+}
 
 impl Argument for Processors {
     ghost kind = { reading.processors };
@@ -260,6 +290,23 @@ impl Argument for Target {
     }
 }
 
+impl Argument for Order {
+    ghost kind = { reading.order };
+
+    ghost field = { λ read. grammar.Order read.0 };
+
+    ghost is_one_word = { refl };
+
+    fn wanted() -> Wanted {
+        Wanted::Order
+    }
+
+    fn read(words: &mut Words<'_>) -> Option<Self> {
+        let word = words.next()?;
+        Some(Order(order_named(word)?))
+    }
+}
+
 impl Arguments for () {
     ghost kinds = { [] };
 
@@ -284,6 +331,26 @@ impl Arguments for Failure {
         }
         if words.is_over() {
             Some(Failure(true))
+        } else {
+            None
+        }
+    }
+}
+
+impl Arguments for Exactness {
+    ghost kinds = { reading.exactness ∷ [] };
+
+    ghost fields = { λ read. grammar.Exactness read.0 ∷ [] };
+
+    fn read(words: &mut Words<'_>) -> Option<Self> {
+        let Some(word) = words.next() else {
+            return Some(Exactness(false));
+        };
+        if word != b"exact".as_slice() {
+            return None;
+        }
+        if words.is_over() {
+            Some(Exactness(true))
         } else {
             None
         }

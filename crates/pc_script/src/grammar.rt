@@ -7,12 +7,13 @@ ghost use Rattle.pc_script.specs.Inner.Verbs.{kinds, name_of};
 ghost use Rattle.pc_script.specs.Inner.Taking.{words_left};
 ghost use Rattle.pc_script.specs.declared.grammar.Verb.{Verb};
 
-use crate::command::{Command, Read};
+use crate::command::{Command, PolicyName, Read};
 use crate::fields::{
-    Arguments, Count, Failure, Index, Level, Mask, Processor, Processors, Queue, State, Target,
-    Thread,
+    Arguments, Count, Exactness, Failure, Index, Level, Mask, Order, Processor, Processors, Queue,
+    State, Target, Thread,
 };
-use crate::trouble::{Trouble, failure_trouble, one_too_many, trouble_with};
+use crate::trouble::{Trouble, Wanted, one_too_many, trouble_with, trouble_with_last};
+use crate::version::Version;
 use crate::words::Words;
 use pc_calls::{AgentCall, EnvCall, Event, Limits};
 
@@ -46,6 +47,7 @@ pub enum Verb {
     Show,
     Same,
     Complete,
+    Policy,
 }
 
 /// The verb that this word is.
@@ -80,13 +82,15 @@ fn verb_of(word: &[u8]) -> Option<Verb>
         b"show" => Some(Verb::Show),
         b"same" => Some(Verb::Same),
         b"complete" => Some(Verb::Complete),
+        b"policy" => Some(Verb::Policy),
         _ => None,
     }
 }
 
-/// Fields as the nested pairs that [`Arguments`] reads. A failure stands last.
+/// Fields as the nested pairs that [`Arguments`] reads. A failure and an exactness stand last.
 macro_rules! pairs {
     (Failure($last:pat)) => { Failure($last) };
+    (Exactness($last:pat)) => { Exactness($last) };
     ($first:pat) => { ($first, ()) };
     ($first:pat, $($others:tt)+) => { ($first, pairs!($($others)+)) };
 }
@@ -127,7 +131,8 @@ macro_rules! table {
             Asleep(Processor(cpu)) => Command::Read(Read::Asleep { cpu }),
             Show(Processor(cpu)) => Command::Read(Read::Show { cpu }),
             Same(Processor(cpu), Processor(other)) => Command::Read(Read::Same { cpu, other }),
-            Complete(Processor(cpu), Thread(thread)) => Command::Read(Read::Complete { cpu, thread })
+            Complete(Processor(cpu), Thread(thread)) => Command::Read(Read::Complete { cpu, thread }),
+            Policy(Order(order), Exactness(exact)) => Command::Policy(PolicyName { order, exact })
         )
     };
 }
@@ -144,9 +149,14 @@ macro_rules! read {
     };
 }
 
-/// The first trouble with fields that should be the words from a place on. A failure stands last.
+/// The first trouble with fields that should be the words from a place on. A failure and an exactness stand last.
 macro_rules! first_trouble {
-    ($verb:expr, $words:expr, $place:expr; Failure($last:pat)) => { failure_trouble($verb, $words, $place) };
+    ($verb:expr, $words:expr, $place:expr; Failure($last:pat)) => {
+        trouble_with_last($verb, $words, $place, b"fail", Wanted::Failure)
+    };
+    ($verb:expr, $words:expr, $place:expr; Exactness($last:pat)) => {
+        trouble_with_last($verb, $words, $place, b"exact", Wanted::Exactness)
+    };
     ($verb:expr, $words:expr, $place:expr; $last:ident($value:pat)) => {
         match trouble_with::<$last>($verb, $words, $place) {
             Some(trouble) => Some(trouble),
@@ -191,10 +201,22 @@ pub(crate) fn command_of(name: &[u8], words: &mut Words<'_>) -> Option<Command>
     read_as(verb, words)
 }
 
-/// What is wrong with a line whose first word is this one, and with the words that are left after it; nothing, where
-/// they spell a command.
-pub(crate) fn trouble_of<'a>(name: &'a [u8], words: &mut Words<'a>) -> Option<Trouble<'a>> {
-    match verb_of(name) {
+/// The verb that this word is in a script of the version.
+fn verb_in(version: Version, word: &[u8]) -> Option<Verb> {
+    match (verb_of(word), version) {
+        (Some(Verb::Policy), Version::One | Version::Two) => None,
+        (verb, _) => verb,
+    }
+}
+
+/// What is wrong with a line of a script of the version whose first word is this one, and with the words that are left
+/// after it; nothing, where they ask for a command.
+pub(crate) fn trouble_of<'a>(
+    version: Version,
+    name: &'a [u8],
+    words: &mut Words<'a>,
+) -> Option<Trouble<'a>> {
+    match verb_in(version, name) {
         Some(verb) => table!(troubles, verb, words),
         None => Some(Trouble::NoCommand { word: name }),
     }

@@ -3,7 +3,7 @@
 //! A script is bytes. Its lines end with a line feed, of which the last may be missing; one carriage return at a
 //! line's end is dropped. Words are separated by spaces. A line without words, or whose first byte is `#`, has no
 //! reply; every other line spells a command, or is a fault, at which the script ends. The first line that has a
-//! reply may be `version 2`, by which the script is of profile Two.
+//! reply may be `version 2` or `version 3`, which names the script's [`Version`].
 //!
 //! The words of each command stand in the table of `specs/Grammar.antt`, the texts of what is answered in
 //! `specs/Responses.antt`. What the commands do is left to a [`Machine`]: the program gives one. [`walk`] is the one
@@ -30,10 +30,11 @@ mod short;
 mod spelled;
 mod text;
 mod trouble;
+mod version;
 mod walker;
 mod words;
 
-pub use command::{Command, Read};
+pub use command::{Command, OrderName, PolicyName, Read};
 pub use digits::{count, number};
 pub use grammar::Verb;
 pub use input::{MOST_BYTES, read_bytes, read_text};
@@ -46,4 +47,5 @@ pub use outcome::{Outcome, ScriptFault};
 pub use response::Response;
 pub use run::run_script;
 pub use trouble::{Trouble, Wanted, trouble_in};
+pub use version::Version;
 pub use walker::walk;

@@ -1,13 +1,10 @@
 //! What one line of a script asks for.
 
-ghost use Rattle.std.specs.Prelude.{◌≡◌, ◌∷◌};
-ghost use Rattle.std.specs.Bool.{MatchBool};
-ghost use Rattle.pc_script.specs.Grammar.{HasNoReply, IsAsked};
-ghost use Rattle.pc_script.specs.Versions.{IsVersionTwo};
+ghost use Rattle.pc_script.specs.Grammar.{IsAsked};
 
 use crate::command::Command;
 use crate::grammar::command_of;
-use crate::lines::first_word;
+use crate::version::Version;
 use crate::words::Words;
 
 /// What a line asks for.
@@ -21,24 +18,11 @@ pub enum Wish {
     Stop,
 }
 
-/// Whether the line is `version 2`.
-pub(crate) fn is_version_two(line: &[u8]) -> bool
-    ensures { MatchBool result (IsVersionTwo line.now) (IsVersionTwo line.now → ⊥) }
-{
-    let Some((name, rest)) = first_word(line) else {
-        return false;
-    };
-    let Some((number, rest)) = first_word(rest) else {
-        return false;
-    };
-    name == b"version".as_slice() && number == b"2".as_slice() && first_word(rest).is_none()
-}
-
-/// What this line of a script asks for. It takes no memory. `version 2` is no command, so it is `Stop` here: who runs a
-/// whole script looks for it first.
+/// What this line asks for in a script of the version. It takes no memory. A line that names a version is no command,
+/// so it is `Stop` here: who runs a whole script looks for it first.
 #[inline(always)]
-pub fn asked(line: &[u8]) -> Wish
-    ensures { IsAsked line.now result }
+pub fn asked(version: Version, line: &[u8]) -> Wish
+    ensures { IsAsked version line.now result }
 {
     if line.first().copied() == Some(b'#') {
         return Wish::Nothing;
@@ -48,7 +32,7 @@ pub fn asked(line: &[u8]) -> Wish
         return Wish::Nothing;
     };
     match command_of(name, &mut words) {
-        Some(command) => Wish::Answer(command),
-        None => Wish::Stop,
+        Some(command) if version.has(&command) => Wish::Answer(command),
+        Some(_) | None => Wish::Stop,
     }
 }

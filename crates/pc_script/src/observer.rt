@@ -1,13 +1,14 @@
 //! What is told of each line of a script.
 
 ghost use Rattle.std.specs.Prelude.{◌≡◌, List, ℕ, Option, [], ◌∷◌, ◌++◌, OnOk, Err};
-ghost use Rattle.pc_script.specs.Scripts.{Notice, answered, faulted, version_two};
+ghost use Rattle.pc_script.specs.Scripts.{Notice, answered, faulted, version_named};
 ghost use Rattle.pc_script.specs.declared.outcome.ScriptFault.{ScriptFault};
 
 use crate::command::Command;
 use crate::machine::Machine;
 use crate::outcome::ScriptFault;
 use crate::response::Response;
+use crate::version::Version;
 use std::io::Write;
 
 /// A line of a script's text.
@@ -30,10 +31,15 @@ pub trait Observer<M: Machine, W: Write>: Drop {
 
     ghost MayFail: { ScriptFault → Type 0 };
 
-    /// The line is `version 2`, the first that has a reply.
-    fn version_two(&mut self, line: Line<'_>, writer: &mut W) -> Result<(), ScriptFault>
+    /// The line names the version. It is the first that has a reply; where no line does, the version is the first.
+    fn version_named(
+        &mut self,
+        line: Line<'_>,
+        version: Version,
+        writer: &mut W,
+    ) -> Result<(), ScriptFault>
         ensures ok { OnOk result
-            (Tells self.old (W.contents writer.old) (version_two ∷ []) self.new (W.contents writer.new)) }
+            (Tells self.old (W.contents writer.old) (version_named version ∷ []) self.new (W.contents writer.new)) }
         ensures err { (fault : ScriptFault) → result ≡ Err fault → MayFail fault };
 
     /// The machine is about to take this command.

@@ -5,6 +5,7 @@ ghost use Rattle.std.specs.Io.KnownBytes.{Appends};
 ghost use Rattle.pc_script.specs.Responses.{response_text, text_line};
 ghost use Rattle.pc_script.specs.declared.response.Response.{Response};
 
+use crate::command::PolicyName;
 use crate::lists::ShownThreads;
 use crate::short::write_line;
 use crate::text::LineEnd;
@@ -38,8 +39,10 @@ pub enum Response {
     Sameness(bool),
     /// A line for each known thread, then `end`.
     View(ShownThreads),
-    /// `refused`, and why the question has no answer.
+    /// `refused`, and why the question has no answer, or the policy is not gone by.
     Refused(Refusal),
+    /// `ok`: all agents go by the policy.
+    Ruled(PolicyName),
 }
 
 impl Response {

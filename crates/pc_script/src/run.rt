@@ -16,6 +16,7 @@ use crate::observer::{Line, Observer};
 use crate::outcome::{Outcome, ScriptFault};
 use crate::output::Output;
 use crate::response::Response;
+use crate::version::Version;
 use crate::walker::walk;
 use std::alloc::Global;
 use std::io::{Read, Write};
@@ -75,7 +76,12 @@ impl<M: Machine, W: Write> Observer<M, W> for Replies {
 
     ghost MayFail = { λ fault. fault ≡ ScriptFault.Write };
 
-    fn version_two(&mut self, line: Line<'_>, writer: &mut W) -> Result<(), ScriptFault> {
+    fn version_named(
+        &mut self,
+        line: Line<'_>,
+        version: Version,
+        writer: &mut W,
+    ) -> Result<(), ScriptFault> {
         unless_failed(self.output.put(&mut Response::Opened, writer))
     }
 

@@ -162,6 +162,7 @@ fn write_refusal(line: &mut LineEnd, refusal: Refusal)
         Refusal::NothingReady => b"NothingReady",
         Refusal::NothingToSteal => b"NothingToSteal",
         Refusal::WireFault => b"WireFault",
+        Refusal::TooLate => b"TooLate",
     };
     line.text(name);
 }
@@ -250,6 +251,7 @@ pub(crate) fn write_line<'a>(line: &mut LineEnd, response: &'a Response) -> Opti
             write_refusal(line, *refusal);
             line.text(b"refused ");
         }
+        Response::Ruled(_) => line.text(b"ok"),
         Response::View(threads) => return Some(threads),
     }
     None

@@ -6,6 +6,7 @@ ghost use Rattle.pc_script.specs.Grammar.{IsFault};
 use crate::fields::Argument;
 use crate::grammar::{Verb, trouble_of};
 use crate::line::{Wish, asked};
+use crate::version::Version;
 use crate::words::Words;
 
 /// What may stand at a word's place: the field that the table of commands has there.
@@ -28,6 +29,10 @@ pub enum Wanted {
     Target,
     /// The word `fail`, or none.
     Failure,
+    /// The name of an order of threads.
+    Order,
+    /// The word `exact`, or none.
+    Exactness,
 }
 
 /// The first word of a line that keeps it from being a command. Places are counted from 1.
@@ -58,22 +63,22 @@ pub enum Trouble<'a> {
     },
 }
 
-/// What is wrong with a line that is a fault; nothing of every other line. It takes no memory. `version 2` is no
-/// command here.
-pub fn trouble_in(line: &[u8]) -> Option<Trouble<'_>>
-    ensures { MatchOption result (IsFault line.now → ⊥) (λ _. IsFault line.now) }
+/// What is wrong with a line that is a fault in a script of the version; nothing of every other line. It takes no
+/// memory. A line that names a version is no command here.
+pub fn trouble_in(version: Version, line: &[u8]) -> Option<Trouble<'_>>
+    ensures { MatchOption result (IsFault version line.now → ⊥) (λ _. IsFault version line.now) }
 {
-    match asked(line) {
-        Wish::Stop => Some(first_trouble(line)),
+    match asked(version, line) {
+        Wish::Stop => Some(first_trouble(version, line)),
         _ => None,
     }
 }
 
-/// The first trouble in the words of a line that spell no command.
-fn first_trouble(line: &[u8]) -> Trouble<'_> {
+/// The first trouble in the words of a line that ask for no command.
+fn first_trouble(version: Version, line: &[u8]) -> Trouble<'_> {
     let mut words = Words::of(line);
     let name = words.next().unwrap_or(line);
-    match trouble_of(name, &mut words) {
+    match trouble_of(version, name, &mut words) {
         Some(trouble) => trouble,
         None => Trouble::NoCommand { word: name },
     }
@@ -104,19 +109,21 @@ pub(crate) fn trouble_with<'a, F: Argument>(
     }
 }
 
-/// The trouble with the next word, which should be `fail`, or not be there.
-pub(crate) fn failure_trouble<'a>(
+/// The trouble with the next word, which should be this last one, or not be there.
+pub(crate) fn trouble_with_last<'a>(
     verb: Verb,
     words: &mut Words<'a>,
     place: u32,
+    last: &[u8],
+    wanted: Wanted,
 ) -> Option<Trouble<'a>> {
     match words.next() {
-        Some(b"fail") => one_too_many(verb, words, place.saturating_add(1)),
+        Some(word) if word == last => one_too_many(verb, words, place.saturating_add(1)),
         Some(word) => Some(Trouble::Wrong {
             verb,
             place,
             word,
-            wanted: Wanted::Failure,
+            wanted,
         }),
         None => None,
     }

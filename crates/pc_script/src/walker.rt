@@ -5,22 +5,23 @@ ghost use Rattle.std.specs.Prelude.{◌≡◌, ◌⊎◌, ◌+◌, ◌<◌, ◌�
 ghost use Rattle.std.specs.Prelude.{Err};
 ghost use Rattle.std.specs.Bool.{MatchBool};
 ghost use Rattle.pc_calls.specs.declared.limits.Profile.TheVariants.{One};
-ghost use Rattle.pc_script.specs.Grammar.{HasNoReply, IsFault, Spells};
+ghost use Rattle.pc_script.specs.Grammar.{AsksFor, HasNoReply, IsFault};
 ghost use Rattle.pc_script.specs.Inner.Walks.{Answers, FindsNone, Stops, Takes, stand};
 ghost use Rattle.pc_script.specs.Scripts.{IsWalked, IsWalkedUntil, answered};
 ghost use Rattle.pc_script.specs.Text.{lines, words};
-ghost use Rattle.pc_script.specs.Versions.{IsVersionTwo};
 ghost use Rattle.pc_script.specs.declared.outcome.ScriptFault.{ScriptFault};
 ghost use Rattle.pc_script.specs.declared.response.Response.{Response};
+ghost use Rattle.pc_script.specs.declared.version.Version.{Version};
 
 use crate::command::Command;
 use crate::input::MOST_BYTES;
-use crate::line::{Wish, asked, is_version_two};
+use crate::line::{Wish, asked};
 use crate::lines::lines_of;
 use crate::machine::Machine;
 use crate::observer::{Line, Observer};
 use crate::outcome::{Outcome, ScriptFault};
 use crate::response::Response;
+use crate::version::{Version, named_version};
 use pc_calls::Profile;
 use std::alloc::Global;
 use std::io::Write;
@@ -34,6 +35,8 @@ struct Walker<M: Machine> {
     machine: M,
     /// Whether a line had a reply.
     is_open: bool,
+    /// The version that a line named, and the first before.
+    version: Version,
     /// Each response stands where the one before it stood.
     response: Response,
 }
@@ -43,11 +46,13 @@ impl<M: Machine> Walker<M> {
     fn new(alloc: Global) -> Walker<M>
         ensures fresh { M.StandsAfter One result.machine [] [] }
         ensures open { result.is_open ≡ false }
+        ensures version { result.version ≡ Version.One }
     {
         Walker {
             alloc,
             machine: M::start(alloc, Profile::One),
             is_open: false,
+            version: Version::One,
             response: Response::Opened,
         }
     }
@@ -62,14 +67,14 @@ impl<M: Machine> Walker<M> {
         writer: &mut W,
     ) -> Result<(), ScriptFault>
         requires replies { HasNoReply line.text.now → ⊥ }
-        requires spelled { Spells (words line.text.now) command }
+        requires asked { AsksFor self.old.version (words line.text.now) command }
         ensures ok { OnOk result (Takes M.StandsAfter O.Tells line.entry.text.now
-            (stand self.old.machine self.old.is_open observer.old (W.contents writer.old))
-            (stand self.new.machine self.new.is_open observer.new (W.contents writer.new))) }
+            (stand self.old.machine self.old.is_open self.old.version observer.old (W.contents writer.old))
+            (stand self.new.machine self.new.is_open self.new.version observer.new (W.contents writer.new))) }
         ensures err { (fault : ScriptFault) → result ≡ Err fault → O.MayFail fault
             ⊎ ((fault ≡ ScriptFault.OutOfMemory) × FindsNone M.StandsAfter M.RanOut O.Tells line.entry.text.now
-            (stand self.old.machine self.old.is_open observer.old (W.contents writer.old))
-            (stand self.new.machine self.new.is_open observer.new (W.contents writer.new))) }
+            (stand self.old.machine self.old.is_open self.old.version observer.old (W.contents writer.old))
+            (stand self.new.machine self.new.is_open self.new.version observer.new (W.contents writer.new))) }
     {
         self.is_open = true;
         observer.expect(&command, &self.machine);
@@ -88,23 +93,25 @@ impl<M: Machine> Walker<M> {
         observer: &mut O,
         writer: &mut W,
     ) -> Result<bool, ScriptFault>
-        requires fault { IsFault line.text.now }
+        requires fault { IsFault self.old.version line.text.now }
         ensures ok { IfOk result (λ goes. MatchBool goes
             (Takes M.StandsAfter O.Tells line.entry.text.now
-            (stand self.old.machine self.old.is_open observer.old (W.contents writer.old))
-            (stand self.new.machine self.new.is_open observer.new (W.contents writer.new)))
+            (stand self.old.machine self.old.is_open self.old.version observer.old (W.contents writer.old))
+            (stand self.new.machine self.new.is_open self.new.version observer.new (W.contents writer.new)))
             (Stops O.Tells line.entry.text.now line.entry.number
-            (stand self.old.machine self.old.is_open observer.old (W.contents writer.old))
-            (stand self.new.machine self.new.is_open observer.new (W.contents writer.new)))) }
+            (stand self.old.machine self.old.is_open self.old.version observer.old (W.contents writer.old))
+            (stand self.new.machine self.new.is_open self.new.version observer.new (W.contents writer.new)))) }
         ensures err { (fault : ScriptFault) → result ≡ Err fault → O.MayFail fault }
     {
-        if !self.is_open && is_version_two(line.text) {
+        if !self.is_open {
             self.is_open = true;
-            self.machine = M::start(self.alloc, Profile::Two);
-            observer.version_two(line, writer)?;
-            return Ok(true);
+            if let Some(version) = named_version(line.text) {
+                self.version = version;
+                self.machine = M::start(self.alloc, version.profile());
+                observer.version_named(line, version, writer)?;
+                return Ok(true);
+            }
         }
-        self.is_open = true;
         observer.faulted(line, writer)?;
         Ok(false)
     }
@@ -119,17 +126,17 @@ impl<M: Machine> Walker<M> {
     ) -> Result<bool, ScriptFault>
         ensures ok { IfOk result (λ goes. MatchBool goes
             (Takes M.StandsAfter O.Tells line.entry.text.now
-            (stand self.old.machine self.old.is_open observer.old (W.contents writer.old))
-            (stand self.new.machine self.new.is_open observer.new (W.contents writer.new)))
+            (stand self.old.machine self.old.is_open self.old.version observer.old (W.contents writer.old))
+            (stand self.new.machine self.new.is_open self.new.version observer.new (W.contents writer.new)))
             (Stops O.Tells line.entry.text.now line.entry.number
-            (stand self.old.machine self.old.is_open observer.old (W.contents writer.old))
-            (stand self.new.machine self.new.is_open observer.new (W.contents writer.new)))) }
+            (stand self.old.machine self.old.is_open self.old.version observer.old (W.contents writer.old))
+            (stand self.new.machine self.new.is_open self.new.version observer.new (W.contents writer.new)))) }
         ensures err { (fault : ScriptFault) → result ≡ Err fault → O.MayFail fault
             ⊎ ((fault ≡ ScriptFault.OutOfMemory) × FindsNone M.StandsAfter M.RanOut O.Tells line.entry.text.now
-            (stand self.old.machine self.old.is_open observer.old (W.contents writer.old))
-            (stand self.new.machine self.new.is_open observer.new (W.contents writer.new))) }
+            (stand self.old.machine self.old.is_open self.old.version observer.old (W.contents writer.old))
+            (stand self.new.machine self.new.is_open self.new.version observer.new (W.contents writer.new))) }
     {
-        match asked(line.text) {
+        match asked(self.version, line.text) {
             Wish::Nothing => Ok(true),
             Wish::Answer(command) => {
                 self.answer(line, command, observer, writer)?;

@@ -1,11 +1,10 @@
 -- Every read of a world that events lead to has an answer.
-use Rattle.std.proofs.Common.{◌≡◌, ℕ, zero, suc, length, ◌+◌, ◌≤◌, ◌<◌, ◌==◌, ◌&&◌, ◌||◌, ◌↔◌, Bool, true, false, IsTrue, List, [], ◌∷◌, Option, Some, None, MatchBool, is_some, nat_lt, if◌then◌else◌, refl, sym, ◌∙◌, ap, subst, inl, inr, arith}
+use Rattle.std.proofs.Common.{◌≡◌, ℕ, zero, suc, length, ◌≤◌, ◌==◌, ◌&&◌, ◌↔◌, Bool, true, false, IsTrue, [], ◌∷◌, Option, Some, None, MatchBool, is_some, nat_lt, if◌then◌else◌, refl, sym, ◌∙◌, subst, inl, inr, arith}
 use Rattle.std.specs.List.{list_all}
 use Rattle.std.proofs.lemmas.Bool.{cases_lt, eq-eqb, eqb-true, false≢true}
-use Rattle.std.proofs.lemmas.Bool.Decides.{eqb_tells, nat_tests}
+use Rattle.std.proofs.lemmas.Bool.Decides.{nat_tests}
 use Rattle.pc_messages.specs.Run.{IsBegun}
 use Rattle.pc_messages.specs.State.{phase_of}
-use Rattle.pc_messages.specs.declared.reported.Phase.{Phase}
 use Rattle.pc_calls.specs.declared.refusal.Refusal.TheVariants as refusal
 use Rattle.pc_join.specs.Sets.{has, as_members, IsSameSet}
 use Rattle.pc_kernel.specs.PlainKernel.{PlainKernel, kinds, number, is_known}
@@ -19,7 +18,7 @@ use Rattle.pc_script.specs.declared.response.Response.TheVariants as response
 use Rattle.pc_agent.specs.PlainAgent.{Set}
 use Rattle.pc_world.specs.PlainWorld.{PlainWorld}
 use Rattle.pc_world.specs.Steps.{are_cpus}
-use Rattle.pc_session.specs.Reads.{HasAll, IsAsleep, IsComparing, IsCompleting, IsCompleteness, IsNowhere, IsRead, IsSameness, IsShow, IsShowing, IsStatus}
+use Rattle.pc_session.specs.Reads.{IsAsleep, IsComparing, IsCompleting, IsCompleteness, IsNowhere, IsRead, IsSameness, IsShow, IsShowing, IsStatus}
 use Rattle.pc_messages.proofs.Bools.{both, first_true, or_cases, or_left, or_right, second_true}
 use Rattle.pc_session.proofs.Rows.{rows_of}
 use Rattle.pc_session.proofs.Statuses.{phase_some}

@@ -1,5 +1,5 @@
 -- A session goes on, whatever it is asked.
-use Rattle.std.proofs.Common.{◌≡◌, ℕ, ◌≤◌, ◌↔◌, IsTrue, List, [], ◌∷◌, ◌++◌, Option, Some, None, refl, sym, ap, subst, inl, append-nil, append_assoc}
+use Rattle.std.proofs.Common.{ℕ, ◌≤◌, ◌↔◌, Bool, true, false, IsTrue, List, [], ◌∷◌, ◌++◌, Option, Some, None, refl, sym, subst, inl, append-nil, append_assoc}
 use Rattle.pc_calls.specs.declared.event.Event.{Event}
 use Rattle.pc_calls.specs.declared.event.Reply.{Reply}
 use Rattle.pc_calls.specs.declared.limits.Limits.{Limits}
@@ -9,17 +9,20 @@ use Rattle.pc_calls.specs.Limits.{bad_field}
 use Rattle.pc_join.specs.Sets.{has}
 use Rattle.pc_view.specs.Prefixes.{upto}
 use Rattle.pc_script.specs.declared.command.Command.{Command}
-use Rattle.pc_script.specs.declared.command.Command.TheVariants.{Enclave, Event as OneEvent, Read}
+use Rattle.pc_script.specs.declared.command.Command.TheVariants.{Enclave, Event as OneEvent, Read, Policy}
+use Rattle.pc_script.specs.declared.command.PolicyName.{PolicyName}
 use Rattle.pc_script.specs.declared.response.Response.{Response}
 use Rattle.pc_script.specs.declared.response.Response.TheVariants as response
 use Rattle.pc_agent.specs.PlainAgent.{Set}
 use Rattle.pc_world.specs.Facts.{EveryEventHasAStep, RunsAreBegun}
-use Rattle.pc_policy.specs.Rankings.{by_levels}
+use Rattle.pc_calls.specs.declared.refusal.Refusal.TheVariants.{TooLate}
+use Rattle.pc_policy.specs.Rules.{usual}
 use Rattle.pc_world.specs.PlainWorld.{PlainWorld, opened, opened_by}
 use Rattle.pc_world.specs.Reached.{Leads, LeadsTo, Reached}
 use Rattle.pc_world.specs.Steps.{Step}
 use Rattle.pc_session.specs.GoingOn.{SessionsGoOn}
-use Rattle.pc_session.specs.Session.{Session, IsLimited, IsOpening, IsRun, IsSession, IsStep, IsWorldStep, none, one_more}
+use Rattle.pc_session.specs.Policies.{rules_named}
+use Rattle.pc_session.specs.Session.{PlainEnclave, Session, IsLimited, IsOpening, IsPolicy, IsRun, IsSession, IsStep, IsWorldStep, none, one_more, touched, untouched}
 use Rattle.pc_session.proofs.Answerable.{read_has}
 
 -- one event more leads further
@@ -29,30 +32,41 @@ leads_on w new last (e ∷ events) event (next, first, rest) step = (next, first
 
 reached_on : (limits : Limits) (w new : PlainWorld) (event : Event) (told : Reply) → Reached limits w → Step w event told new → Reached limits new
 reached_on limits w new event told reached step =
-    record { ranks = reached.ranks; events = reached.events ++ event ∷ []; leads = leads_on (opened_by reached.ranks limits) w new reached.events event reached.leads (inl (told, step)) }
+    record { rules = reached.rules; events = reached.events ++ event ∷ []; leads = leads_on (opened_by reached.rules limits) w new reached.events event reached.leads (inl (told, step)) }
 
 -- the world of a session, where there is one, is one that events lead to
+abbrev IsWell : PlainEnclave → Type 0
+IsWell e = (limits : Limits) × Reached limits e.world
+
 abbrev StandsWell : Session → Type 0
 StandsWell None = Unit {0}
-StandsWell (Some w) = (limits : Limits) × Reached limits w
+StandsWell (Some e) = IsWell e
 
-keeps_reached : (limits : Limits) (w new : PlainWorld) (command : Command) (told : Response) → Reached limits w → IsWorldStep w command told new → Reached limits new
-keeps_reached limits w new (Enclave asked) told reached (tells, same) = subst (Reached limits) (sym same) reached
-keeps_reached limits w new (OneEvent event) told reached (reply, step, tells) = reached_on limits w new event reply reached step
-keeps_reached limits w new (Read read) told reached (tells, same) = subst (Reached limits) (sym same) reached
+ruled_well : (b : Bool) (e new : PlainEnclave) (policy : PolicyName) (told : Response) → IsWell e → IsPolicy b e policy told new → IsWell new
+ruled_well true e new policy told well (tells, ruled) =
+    subst IsWell (sym ruled.opens) (e.world.kernel.limits, record { rules = ruled.each; events = []; leads = refl })
+ruled_well false e new policy told well (tells, same) = subst IsWell (sym same) well
+
+keeps_well : (e new : PlainEnclave) (command : Command) (told : Response) → IsWell e → IsWorldStep e command told new → IsWell new
+keeps_well e new (Enclave asked) told well (tells, same) = subst IsWell (sym same) well
+keeps_well e new (OneEvent event) told (limits, reached) does =
+    subst IsWell (sym does.leaves) (limits, reached_on limits e.world does.after event does.reply reached does.step)
+keeps_well e new (Read read) told well (tells, same) = subst IsWell (sym same) well
+keeps_well e new (Policy policy) told well does = ruled_well e.is_untouched e new policy told well does
 
 opens_well : (o : Option LimitField) (limits : Limits) (told : Response) (new : Session) → IsLimited o limits told new → StandsWell new
-opens_well None limits told new (tells, is) = subst StandsWell (sym is) (limits, record { ranks = λ c. by_levels; events = []; leads = refl })
+opens_well None limits told new (tells, is) = subst StandsWell (sym is) (limits, record { rules = λ c. usual; events = []; leads = refl })
 opens_well (Some field) limits told new (tells, is) = subst StandsWell (sym is) tt
 
 begins_well : (profile : Profile) (command : Command) (told : Response) (new : Session) → IsOpening profile command told new → StandsWell new
 begins_well profile (Enclave limits) told new opens = opens_well (bad_field profile limits) limits told new opens
 begins_well profile (OneEvent event) told new (tells, is) = subst StandsWell (sym is) tt
 begins_well profile (Read read) told new (tells, is) = subst StandsWell (sym is) tt
+begins_well profile (Policy policy) told new (tells, is) = subst StandsWell (sym is) tt
 
 steps_well : (profile : Profile) (s new : Session) (command : Command) (told : Response) → StandsWell s → IsStep profile s command told new → StandsWell new
 steps_well profile None new command told well opens = begins_well profile command told new opens
-steps_well profile (Some w) new command told (limits, reached) (w', step, is) = subst StandsWell (sym is) (limits, keeps_reached limits w w' command told reached step)
+steps_well profile (Some e) new command told well (e', step, is) = subst StandsWell (sym is) (keeps_well e e' command told well step)
 
 runs_well : {profile : Profile} {s e : Session} {commands : List Command} {told : List Response} → StandsWell s → IsRun profile s commands told e → StandsWell e
 runs_well well none = well
@@ -61,25 +75,33 @@ runs_well {profile} {e} well (one_more {m} commands told command response before
 -- ---- the next command
 module _ (events : EveryEventHasAStep) (begun : RunsAreBegun)
     (the_greatest : (set : Set) (t n : ℕ) → (n ≤ upto set t) ↔ ((m : ℕ) → 1 ≤ m → m ≤ n → IsTrue (has set t m))) where
-  world_next : (limits : Limits) (w : PlainWorld) (command : Command) → Reached limits w → (told : Response) × (new : PlainWorld) × IsWorldStep w command told new
-  world_next limits w (Enclave asked) reached = (response.HaveEnclave, w, (refl, refl))
-  world_next limits w (OneEvent event) reached =
-      let next = events limits w event reached in
-      (response.Event next.0, next.1, (next.0, next.2, refl))
-  world_next limits w (Read read) reached =
-      let next = read_has the_greatest w read (λ t. begun limits w t reached) in
-      (next.0, w, (next.1, refl))
+  policy_next : (b : Bool) (e : PlainEnclave) (policy : PolicyName) → (told : Response) × (new : PlainEnclave) × IsPolicy b e policy told new
+  policy_next true e policy =
+      let rules = rules_named policy in
+      (response.Ruled policy, untouched (opened_by (λ c. rules) e.world.kernel.limits), (refl, record { each = λ c. rules; same = λ c h. refl; opens = refl }))
+  policy_next false e policy = (response.Refused TooLate, e, (refl, refl))
+
+  world_next : (e : PlainEnclave) (command : Command) → IsWell e → (told : Response) × (new : PlainEnclave) × IsWorldStep e command told new
+  world_next e (Enclave asked) well = (response.HaveEnclave, e, (refl, refl))
+  world_next e (OneEvent event) (limits, reached) =
+      let next = events limits e.world event reached in
+      (response.Event next.0, touched next.1, record { reply = next.0; after = next.1; step = next.2; tells = refl; leaves = refl })
+  world_next e (Read read) (limits, reached) =
+      let next = read_has the_greatest e.world read (λ t. begun limits e.world t reached) in
+      (next.0, e, (next.1, refl))
+  world_next e (Policy policy) well = policy_next e.is_untouched e policy
 
   opening_next : (o : Option LimitField) (limits : Limits) → (told : Response) × (new : Session) × IsLimited o limits told new
-  opening_next None limits = (response.Opened, Some (opened limits), (refl, refl))
+  opening_next None limits = (response.Opened, Some (untouched (opened limits)), (refl, refl))
   opening_next (Some field) limits = (response.BadLimits field, None, (refl, refl))
 
   session_next : (profile : Profile) (s : Session) (command : Command) → StandsWell s → (told : Response) × (new : Session) × IsStep profile s command told new
   session_next profile None (Enclave limits) well = opening_next (bad_field profile limits) limits
   session_next profile None (OneEvent event) well = (response.NoEnclave, None, (refl, refl))
   session_next profile None (Read read) well = (response.NoEnclave, None, (refl, refl))
-  session_next profile (Some w) command (limits, reached) =
-      let next = world_next limits w command reached in
+  session_next profile None (Policy policy) well = (response.NoEnclave, None, (refl, refl))
+  session_next profile (Some e) command well =
+      let next = world_next e command well in
       (next.0, Some next.1, (next.1, next.2, refl))
 
   goes_on : (profile : Profile) (more commands : List Command) (told : List Response) (s : Session) → IsRun profile None commands told s

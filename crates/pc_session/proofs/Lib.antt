@@ -2,6 +2,7 @@ pub mod Answerable
 pub mod GoingOn
 pub mod Looking
 pub mod Outputs
+pub mod Ruling
 pub mod Rows
 pub mod Showing
 pub mod Shown

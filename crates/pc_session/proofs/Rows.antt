@@ -1,5 +1,5 @@
 -- For every set in a run there are the rows that tell it.
-use Rattle.std.proofs.Common.{◌≡◌, ℕ, zero, suc, add-one, length, ◌+◌, ◌≤◌, ◌<◌, ◌==◌, ◌&&◌, ◌||◌, ◌⊎◌, ◌↔◌, max, Bool, true, false, IsTrue, List, [], ◌∷◌, map, filter, if◌then◌else◌, take, All, refl, sym, ◌∙◌, ap, subst, inl, inr, arith}
+use Rattle.std.proofs.Common.{◌≡◌, ℕ, zero, suc, add-one, length, ◌+◌, ◌≤◌, ◌<◌, ◌==◌, ◌&&◌, ◌||◌, ◌↔◌, max, Bool, true, false, IsTrue, List, [], ◌∷◌, map, filter, if◌then◌else◌, take, All, refl, sym, ◌∙◌, ap, subst, inl, inr, arith}
 use Rattle.std.specs.List.{list_any, range_with_len, slice_index}
 use Rattle.std.specs.List.Sorted.{IsStrictlyIncreasing}
 use Rattle.std.proofs.Math.Nat.{le-max_left, le-max_right}

@@ -17,7 +17,8 @@ SessionsGoOn =
 abbrev pub AskFurther : (text output : List ℕ) → IsOutputUntil IsSession RanOut text output → List Command → Outcome
     → Type 0
 AskFurther text output until further outcome =
-    Script (suc until.runs.passed + length until.runs.before) (until.runs.line ∷ until.runs.after) further outcome
+    Script until.version (suc until.runs.passed + length until.runs.before) (until.runs.line ∷ until.runs.after)
+    further outcome
 
 -- what was written when memory ran out begins an output of the whole text
 abbrev pub OutputsGoOn : Type 0

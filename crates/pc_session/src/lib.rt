@@ -1,7 +1,8 @@
 //! Sessions: a script's commands, answered on a world of the kernel and its agents.
 //!
 //! A [`Session`] is the machine of every walk over a script: there is no world before an accepted `enclave`, and one
-//! from then on. Each event is a step of that world, each read is answered of it.
+//! from then on. Each event is a step of that world, each read is answered of it, and a policy before the first event
+//! opens it anew.
 //!
 //! A script that is replayed over memory:
 //!
@@ -14,6 +15,7 @@
 #![tactic(auto)]
 
 pub mod laws;
+mod policies;
 mod reads;
 mod session;
 mod show;

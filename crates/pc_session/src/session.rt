@@ -1,20 +1,26 @@
 //! The machine that answers a script's commands: no world before an accepted `enclave`, and one from then on.
 
-ghost use Rattle.std.specs.Prelude.{◌≡◌, List, [], ◌∷◌, ◌++◌, None, OnOk, OnErr};
+ghost use Rattle.std.specs.Prelude.{◌≡◌, List, [], ◌∷◌, ◌++◌, None, IsTrue, OnOk, OnErr};
 ghost use Rattle.pc_script.specs.declared.command.Command.{Command};
 ghost use Rattle.pc_script.specs.declared.response.Response.{Response};
-ghost use Rattle.pc_world.specs.PlainWorld.{PlainWorld};
-ghost use Rattle.pc_world.specs.Shows.{ShowsWorld};
-ghost use Rattle.pc_session.specs.Session.{IsSession, RanOut, TakesMemory, TakesMemoryIn};
+ghost use Rattle.pc_session.specs.Session.{IsSession, PlainEnclave, RanOut, TakesMemory, TakesMemoryIn};
 ghost use Rattle.pc_calls.specs.declared.limits.Profile.{Profile};
 ghost use Rattle.pc_session.specs.Inner.Sessions.{Answers, Steps, is_session};
-ghost use Rattle.pc_session.specs.Standing.{LeadsToWorld, StandsAfter, lent};
+ghost use Rattle.pc_session.specs.Standing.{LeadsToWorld, ShowsEnclave, StandsAfter, lent};
 
+use crate::policies::policies_of;
 use crate::reads::answer_of;
-use pc_calls::{LimitsFault, Profile};
-use pc_script::{Command, Machine, Response};
+use pc_calls::{LimitsFault, Profile, Refusal};
+use pc_script::{Command, Machine, PolicyName, Response};
 use pc_world::World;
 use std::alloc::{AllocError, Global};
+
+/// A world, and whether no event was taken in it yet.
+#[derive(Drop)]
+struct Enclave {
+    world: World,
+    is_untouched: bool,
+}
 
 /// What a script's commands are answered by.
 #[derive(Drop)]
@@ -22,19 +28,19 @@ pub struct Session {
     alloc: Global,
     /// By which the limits of an enclave are judged.
     profile: Profile,
-    world: Option<World>,
+    enclave: Option<Enclave>,
 }
 
 /// Answers a command that meets no world.
 fn open(
     alloc: Global,
     profile: Profile,
-    world: &mut Option<World>,
+    enclave: &mut Option<Enclave>,
     command: Command,
     response: &mut Response,
 ) -> Result<(), AllocError>
-    requires { world.old ≡ None }
-    ensures ok { OnOk result (Steps profile command world.old world.new response.new) }
+    requires { enclave.old ≡ None }
+    ensures ok { OnOk result (Steps profile command enclave.old enclave.new response.new) }
     ensures no_memory { OnErr result (TakesMemory profile None command) }
     ensures kept { OnErr result (response.new ≡ response.old) }
 {
@@ -43,8 +49,11 @@ fn open(
         return Ok(());
     };
     match World::new_in(alloc, profile, limits) {
-        Ok(opened) => {
-            *world = Some(opened);
+        Ok(world) => {
+            *enclave = Some(Enclave {
+                world,
+                is_untouched: true,
+            });
             *response = Response::Opened;
         }
         Err(LimitsFault::BadLimits(field)) => *response = Response::BadLimits(field),
@@ -53,24 +62,59 @@ fn open(
     Ok(())
 }
 
+/// Answers a policy. Where no event was taken yet, a world with the same limits is opened in the place of the old one,
+/// which nothing has changed.
+fn rule(
+    alloc: Global,
+    profile: Profile,
+    enclave: &mut Enclave,
+    policy: PolicyName,
+    response: &mut Response,
+) -> Result<(), AllocError>
+    ensures ok { OnOk result (Answers (Command.Policy policy) enclave.old enclave.new response.new) }
+    ensures no_memory { OnErr result (IsTrue enclave.old.is_untouched) }
+    ensures kept { OnErr result ((response.new ≡ response.old) × (enclave.new ≡ enclave.old)) }
+{
+    if !enclave.is_untouched {
+        *response = Response::Refused(Refusal::TooLate);
+        return Ok(());
+    }
+    let limits = enclave.world.kernel().limits();
+    let policies = policies_of(alloc, policy, limits.cpus)?;
+    match World::new_by(alloc, profile, limits, policies.as_slice()) {
+        Ok(world) => {
+            enclave.world = world;
+            *response = Response::Ruled(policy);
+            Ok(())
+        }
+        // The limits were within their ranges when the old world was opened, so memory is wanting.
+        Err(_) => Err(AllocError),
+    }
+}
+
 /// Answers a command that meets a world.
 fn act(
     alloc: Global,
-    world: &mut World,
+    profile: Profile,
+    enclave: &mut Enclave,
     command: Command,
     response: &mut Response,
 ) -> Result<(), AllocError>
-    ensures ok { OnOk result (Answers command world.old world.new response.new) }
-    ensures no_memory { OnErr result ((w : PlainWorld) → ShowsWorld world.old w → TakesMemoryIn w command) }
+    ensures ok { OnOk result (Answers command enclave.old enclave.new response.new) }
+    ensures no_memory { OnErr result ((e : PlainEnclave) → ShowsEnclave enclave.old e → TakesMemoryIn e command) }
     ensures kept { OnErr result (response.new ≡ response.old) }
 {
     match command {
         Command::Enclave(_) => *response = Response::HaveEnclave,
-        Command::Event(event) => match world.step(event) {
-            Ok(reply) => *response = Response::Event(reply),
-            Err(_) => return Err(AllocError),
-        },
-        Command::Read(read) => *response = answer_of(alloc, world, read)?,
+        Command::Event(event) => {
+            enclave.is_untouched = false;
+            match enclave.world.step(event) {
+                Ok(reply) => *response = Response::Event(reply),
+                Err(_) => return Err(AllocError),
+            }
+        }
+        Command::Read(read) => *response = answer_of(alloc, &enclave.world, read)?,
+        Command::Policy(policy) => rule(alloc, profile, enclave, policy, response)?,
     }
     Ok(())
 }
@@ -78,7 +122,7 @@ fn act(
 impl Machine for Session {
     ghost IsRun = { IsSession };
 
-    ghost StandsAfter = { λ profile session. StandsAfter profile session.profile session.world };
+    ghost StandsAfter = { λ profile session. StandsAfter profile session.profile session.enclave };
 
     ghost RanOut = { RanOut };
 
@@ -86,18 +130,24 @@ impl Machine for Session {
         Session {
             alloc,
             profile,
-            world: None,
+            enclave: None,
         }
     }
 
     fn answer(&mut self, command: Command, response: &mut Response) -> Result<(), AllocError> {
-        match &mut self.world {
-            None => open(self.alloc, self.profile, &mut self.world, command, response),
-            Some(world) => act(self.alloc, world, command, response),
+        match &mut self.enclave {
+            None => open(
+                self.alloc,
+                self.profile,
+                &mut self.enclave,
+                command,
+                response,
+            ),
+            Some(enclave) => act(self.alloc, self.profile, enclave, command, response),
         }
     }
 
-    ghost is_run_after = { λ profile session commands told stands. is_session profile session.profile session.world
+    ghost is_run_after = { λ profile session commands told stands. is_session profile session.profile session.enclave
         commands told stands };
 }
 
@@ -105,11 +155,11 @@ impl Session {
     /// The world; none before an accepted `enclave`.
     pub fn world(&self) -> Option<&World>
         ensures { (profile : Profile) (commands : List Command) (told : List Response)
-            → StandsAfter profile self.now.profile self.now.world commands told
+            → StandsAfter profile self.now.profile self.now.enclave commands told
             → LeadsToWorld profile commands told (lent result) }
     {
-        match &self.world {
-            Some(world) => Some(world),
+        match &self.enclave {
+            Some(enclave) => Some(&enclave.world),
             None => None,
         }
     }

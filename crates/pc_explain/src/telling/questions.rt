@@ -1,13 +1,12 @@
 //! The sentences on questions.
 
 use crate::sentences::Sentences;
-use crate::telling::refusals;
+use crate::telling::{Scene, refusals};
 use crate::words::Count;
 use pc_advice::Deed;
 use pc_calls::Status;
 use pc_messages::{Cpu, Phase, Tid};
 use pc_script::{Read, Response, ShownThread, ShownThreads};
-use pc_world::World;
 use std::fmt::{self, Write};
 
 /// The most threads that are told one by one.
@@ -18,11 +17,11 @@ pub(super) fn answered(
     text: &mut Sentences,
     question: &Read,
     response: &Response,
-    world: Option<&World>,
+    scene: &Scene<'_>,
 ) -> fmt::Result {
     match (question, response) {
         (_, Response::Refused(refusal)) => {
-            refusals::refused(text, &Deed::Ask(*question), refusal, world)
+            refusals::refused(text, &Deed::Ask(*question), refusal, scene)
         }
         (_, Response::NoEnclave) => refusals::no_enclave(text),
         (

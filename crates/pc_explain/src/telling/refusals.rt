@@ -2,11 +2,13 @@
 
 use crate::reasons::{Closed, reason};
 use crate::sentences::Sentences;
+use crate::telling::Scene;
 use crate::telling::steps::advised;
 use crate::words::Count;
 use pc_advice::{Deed, tried_by_steal};
 use pc_calls::{LimitField, Refusal};
 use pc_messages::{Cpu, Tid};
+use pc_script::PolicyName;
 use pc_world::World;
 use std::fmt::{self, Write};
 
@@ -15,14 +17,14 @@ pub(super) fn refused(
     text: &mut Sentences,
     deed: &Deed,
     refusal: &Refusal,
-    world: Option<&World>,
+    scene: &Scene<'_>,
 ) -> fmt::Result {
     why(text, deed, refusal)?;
-    match world {
+    match scene.world {
         Some(world) => {
-            tried(text, deed, refusal, world)?;
+            tried(text, deed, refusal, world, scene.policy)?;
             there_is(text, refusal, world)?;
-            advised(text, world, deed)
+            advised(text, world, scene.policy, deed)
         }
         None => Ok(()),
     }
@@ -69,13 +71,19 @@ fn old_posts(text: &mut Sentences, cpu: Cpu, now: u32) -> fmt::Result {
 }
 
 /// Which thread a steal tried.
-fn tried(text: &mut Sentences, deed: &Deed, refusal: &Refusal, world: &World) -> fmt::Result {
+fn tried(
+    text: &mut Sentences,
+    deed: &Deed,
+    refusal: &Refusal,
+    world: &World,
+    policy: PolicyName,
+) -> fmt::Result {
     let (Refusal::Stale(_) | Refusal::Pending | Refusal::Dead, Deed::Steal { cpu }) = (
         refusal, deed,
     ) else {
         return Ok(());
     };
-    match tried_by_steal(world, *cpu) {
+    match tried_by_steal(world, policy, *cpu) {
         Some(thread) => tried_thread(text, *cpu, thread, world),
         None => Ok(()),
     }

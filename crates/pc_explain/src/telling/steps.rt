@@ -3,13 +3,18 @@
 use crate::sentences::Sentences;
 use pc_advice::{Advice, Deed, Plan, Step, advise};
 use pc_calls::EnvCall;
-use pc_script::Read;
+use pc_script::{PolicyName, Read};
 use pc_world::World;
 use std::fmt::{self, Write};
 
 /// What would make a line accepted that was refused.
-pub(super) fn advised(text: &mut Sentences, world: &World, deed: &Deed) -> fmt::Result {
-    match advise(world, deed) {
+pub(super) fn advised(
+    text: &mut Sentences,
+    world: &World,
+    policy: PolicyName,
+    deed: &Deed,
+) -> fmt::Result {
+    match advise(world, policy, deed) {
         Advice::Steps(plan) => steps(text, &plan),
         Advice::NoAgent => writeln!(text, "No agent can make it accepted."),
         Advice::Never => writeln!(text, "Nothing makes it accepted."),

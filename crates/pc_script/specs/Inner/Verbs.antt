@@ -4,15 +4,18 @@ use Rattle.pc_calls.specs.declared.call.AgentCall.TheVariants as agent_call
 use Rattle.pc_calls.specs.declared.call.EnvCall.TheVariants as env
 use Rattle.pc_calls.specs.declared.event.Event.TheVariants as event
 use Rattle.pc_script.specs.Grammar.{Field, Processors, Processor, Queue, Level, Count, Mask, Index, Thread, State}
-use Rattle.pc_script.specs.Grammar.{Target, Failure, row_of}
+use Rattle.pc_script.specs.Grammar.{Target, Failure, Order, Exactness, row_of}
 use Rattle.pc_script.specs.Inner.Readings.{Kind, kinds_of}
 use Rattle.pc_script.specs.declared.command.Command.{Command}
 use Rattle.pc_script.specs.declared.command.Command.TheVariants as command
+use Rattle.pc_script.specs.declared.command.OrderName.{OrderName}
+use Rattle.pc_script.specs.declared.command.OrderName.TheVariants.{Levels}
 use Rattle.pc_script.specs.declared.command.Read.TheVariants as read
 use Rattle.pc_script.specs.declared.grammar.Verb.{Verb}
 use Rattle.pc_script.specs.declared.grammar.Verb.TheVariants as verb
 
--- a field's number, how a thread starts, whom a queue wakes, whether a send fails; of another field anything
+-- a field's number, how a thread starts, whom a queue wakes, whether a send fails, an order, whether steals are exact;
+-- of another field anything
 abbrev pub number_in : Field → ℕ
 number_in (Processors number) = number
 number_in (Processor cpu) = cpu
@@ -25,6 +28,8 @@ number_in (Thread thread) = thread
 number_in (State is_ready) = 0
 number_in (Target cpu) = 0
 number_in (Failure fails) = 0
+number_in (Order named) = 0
+number_in (Exactness exact) = 0
 
 abbrev pub state_in : Field → Bool
 state_in (State is_ready) = is_ready
@@ -37,6 +42,14 @@ target_in _ = None
 abbrev pub failure_in : Field → Bool
 failure_in (Failure fails) = fails
 failure_in _ = false
+
+abbrev pub order_in : Field → OrderName
+order_in (Order named) = named
+order_in _ = Levels
+
+abbrev pub exactness_in : Field → Bool
+exactness_in (Exactness exact) = exact
+exactness_in _ = false
 
 -- the field at a place, and what it holds
 abbrev pub field_at : ℕ → List Field → Field
@@ -83,6 +96,8 @@ back verb.Asleep f = command.Read (read.Asleep (number_at 0 f))
 back verb.Show f = command.Read (read.Show (number_at 0 f))
 back verb.Same f = command.Read (read.Same (number_at 0 f) (number_at 1 f))
 back verb.Complete f = command.Read (read.Complete (number_at 0 f) (number_at 1 f))
+back verb.Policy f =
+    command.Policy (record { order = order_in (field_at 0 f); exact = exactness_in (field_at 1 f) })
 
 -- a verb's word, and the kinds of the fields after it, as the table has them
 abbrev pub name_of : Verb → List ℕ

@@ -12,7 +12,7 @@ use Rattle.pc_script.proofs.walker.walk.Goals as goal
 pub loop-text-init : goal.loop-text-init
 loop-text-init g c = record {
   counted = refl;
-  walked = walked_none g.M.Machine.StandsAfter g.O.Observer.Tells g.met.O.Observer.tells_nothing g.met.O.Observer.tells_more _ c.new-walk.ensures.open c.new-walk.ensures.fresh;
+  walked = walked_none g.M.Machine.StandsAfter g.O.Observer.Tells g.met.O.Observer.tells_nothing g.met.O.Observer.tells_more _ c.new-walk.ensures.open c.new-walk.ensures.version c.new-walk.ensures.fresh;
 }
 
 pub overflow_add-number : goal.overflow_add-number
