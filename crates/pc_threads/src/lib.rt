@@ -15,7 +15,7 @@ pub use pc_calls::{
     AgentCall, Answer, Call, CallFault, EnvCall, Limits, LimitsFault, Posted, Refusal,
 };
 pub use report::{LoadReport, Row};
-pub use runner::{Driven, Gate, OpenGate, Point, run_agents};
+pub use runner::{Driven, Gate, OpenGate, Point, run_agents, run_agents_by};
 pub use settings::{
     Config, ConfigFault, MOST_RESTARTS, MOST_STEPS, MOST_TURN, Restart, Step, ThreadPlan,
     lives_end_in_death, sound_settings_have_no_fault,

@@ -34,6 +34,7 @@ use driver::create_all;
 pub use gate::{Driven, Gate, OpenGate, Point};
 use ledgers::{Names, Nine};
 use opening::{Blanks, Opened, new_book, open};
+use pc_policy::AgentPolicy;
 use scope::{Ended, scoped};
 use std::alloc::Global;
 use std::marker::Brand;
@@ -75,6 +76,7 @@ fn run_named<N: Names + Send + Sync, R: Threads + Wait + Clock + Sync, G: Gate +
     rt: &R,
     alloc: Global,
     config: &Config,
+    policy: AgentPolicy,
     gate: &G,
     blanks: Blanks,
 ) -> Result<LoadReport, RunFault>
@@ -110,6 +112,7 @@ where
         alloc,
         tallied: Mutex::new(tallied),
         channels,
+        policy,
     };
     let Ended {
         purse,
@@ -138,7 +141,14 @@ fn run_with<
     J: Ledger + Send + Sync,
     R: Threads + Wait + Clock + Sync,
     G: Gate + Sync,
->(rt: &R, alloc: Global, config: &Config, gate: &G, blanks: Blanks) -> Result<LoadReport, RunFault>
+>(
+    rt: &R,
+    alloc: Global,
+    config: &Config,
+    policy: AgentPolicy,
+    gate: &G,
+    blanks: Blanks,
+) -> Result<LoadReport, RunFault>
     requires named { AreBlanksOf A.Ledger B.Ledger C.Ledger D.Ledger E.Ledger F.Ledger H.Ledger I.Ledger J.Ledger
         blanks }
     requires all { pos blanks.committed.parts ≡ config.now.cpus }
@@ -147,21 +157,23 @@ fn run_with<
     ensures all { IfOk result (DoesAll config.now) }
     ensures rows { IfOk result (λ report. pos (vec_len report.rows) ≡ config.now.cpus) }
 {
-    run_named::<Nine<A, B, C, D, E, F, H, I, J>, R, G>(rt, alloc, config, gate, blanks)
+    run_named::<Nine<A, B, C, D, E, F, H, I, J>, R, G>(rt, alloc, config, policy, gate, blanks)
 }
 
 /// Runs an agent for each CPU in a thread of its own, over one kernel behind one lock, until all threads are dead; then
 /// puts together what the agents know (own).
 ///
 /// The caller's thread is the driver: it creates the threads, does each thread's next step when an agent has committed
-/// it, and wakes it behind a block. Agents send what they read before they remove it, pick, take over where nothing is
-/// ready, and restart where the settings say so. `StartFailed`, `GaveUp`, `TimeUp` and `Driver` end the run early; then
-/// what `settle` tells. Where a notice to the driver, or the note that a run ends, finds no memory, the run may wait
-/// without end.
-pub fn run_agents<R: Threads + Wait + Clock + Sync, G: Gate + Sync>(
+/// it, and wakes it behind a block. Agents send what they read before they remove it, pick and take over where nothing
+/// is ready, each by a copy of the policy, and restart where the settings say so. `StartFailed`, `GaveUp`, `TimeUp` and
+/// `Driver` end the run early; then what `settle` tells. Where a notice to the driver, or the note that a run ends,
+/// finds no memory, the run may wait without end. A policy that gives a thread no rank leaves it out, and then the run
+/// does not end.
+pub fn run_agents_by<R: Threads + Wait + Clock + Sync, G: Gate + Sync>(
     rt: &R,
     alloc: Global,
     config: &Config,
+    policy: AgentPolicy,
     gate: &G,
 ) -> Result<LoadReport, RunFault>
     ensures tells { IfOk result TellsItsBook }
@@ -182,6 +194,21 @@ pub fn run_agents<R: Threads + Wait + Clock + Sync, G: Gate + Sync>(
         consumed: Blank::new(agents),
     };
     run_with::<Brand, Brand, Brand, Brand, Brand, Brand, Brand, Brand, Brand, R, G>(
-        rt, alloc, config, gate, blanks,
+        rt, alloc, config, policy, gate, blanks,
     )
+}
+
+/// The same, where the agents go by the usual policy: the highest level first, and the least name is stolen.
+pub fn run_agents<R: Threads + Wait + Clock + Sync, G: Gate + Sync>(
+    rt: &R,
+    alloc: Global,
+    config: &Config,
+    gate: &G,
+) -> Result<LoadReport, RunFault>
+    ensures tells { IfOk result TellsItsBook }
+    ensures adds_up { IfOk result AddsUp }
+    ensures all { IfOk result (DoesAll config.now) }
+    ensures rows { IfOk result (λ report. pos (vec_len report.rows) ≡ config.now.cpus) }
+{
+    run_agents_by(rt, alloc, config, AgentPolicy::usual(), gate)
 }

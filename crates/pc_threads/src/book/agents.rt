@@ -10,7 +10,7 @@ ghost use Rattle.pc_agent.specs.Counts.{consume_counted, pick_counted, steal_cou
 ghost use Rattle.pc_agent.specs.Own.{ConsumesAsSeen, PicksAsSeen, StealsAsSeen};
 ghost use Rattle.pc_agent.specs.Publishing.{IsConsumed, WhateverShown};
 ghost use Rattle.pc_agent.specs.Running.{IsPicked, Steals, takes_up_to};
-ghost use Rattle.pc_agent.specs.Shows.{counts_of, cpu_of, list_of, sent_of, view_of};
+ghost use Rattle.pc_agent.specs.Shows.{counts_of, cpu_of, list_of, rules_in, sent_of, view_of};
 
 use crate::book::{Book, list};
 use pc_agent::Agent;
@@ -83,7 +83,7 @@ impl Book {
         }
     }
 
-    /// The agent takes over the least thread that it may.
+    /// The agent takes over the first thread that it may, by its policy.
     ///
     /// A refused steal raises a count of the agent. Want of memory changes nothing, whether it is for the list or for
     /// the agent's run list.
@@ -93,8 +93,8 @@ impl Book {
         ensures steals { result ≢ Err CallFault.OutOfMemory → WhateverShown self.old.kernel agent.old (λ P run p.
             Steals P run p result (cpu_of agent.old) agent.new self.new.kernel) }
         ensures own { result ≢ Err CallFault.OutOfMemory →
-            StealsAsSeen (view_of agent.old) (cpu_of agent.old) result (list_of agent.old) (list_of agent.new)
-            self.old.kernel self.new.kernel }
+            StealsAsSeen (rules_in agent.old) (view_of agent.old) (cpu_of agent.old) result (list_of agent.old)
+            (list_of agent.new) self.old.kernel self.new.kernel }
         ensures list_err { OnErr result (list_of agent.new ≡ list_of agent.old) }
         ensures counts { counts_of agent.new ≡ steal_counted result (counts_of agent.old) }
         ensures view { view_of agent.new ≡ view_of agent.old }

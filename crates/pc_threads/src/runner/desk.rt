@@ -3,6 +3,7 @@
 use crate::runner::channels::Channels;
 use crate::runner::ledgers::Names;
 use crate::runner::tallied::Tallied;
+use pc_policy::AgentPolicy;
 use std::alloc::Global;
 use std::sync::Mutex;
 
@@ -12,4 +13,6 @@ pub(crate) struct Desk<N: Names> {
     pub(crate) alloc: Global,
     pub(crate) tallied: Mutex<Tallied<N>>,
     pub(crate) channels: Channels,
+    /// What every agent goes by.
+    pub(crate) policy: AgentPolicy,
 }

@@ -189,8 +189,9 @@ fn leave_locked<N: Names, R: Wait>(
 }
 
 /// Wakes the thread, where its step was a block.
-fn wake_blocked<N: Names, R: Wait>(
+fn wake_blocked<N: Names, R: Wait, G: Gate>(
     rt: &R,
+    gate: &G,
     desk: &Desk<N>,
     purse: &mut Purse<N>,
     left: &Left,
@@ -198,14 +199,18 @@ fn wake_blocked<N: Names, R: Wait>(
     ensures { OnOk result (HasPosted 0 (if is_block left.now.step then 1 else 0) 0 0 0 purse.old purse.new) }
 {
     match left.step {
-        Step::Block(_) => wake(rt, desk, purse, left.thread),
+        Step::Block(_) => {
+            gate.blocked(left.thread);
+            wake(rt, desk, purse, left.thread)
+        }
         Step::Yield(_) | Step::Preempt(_) | Step::Die(_) => Ok(()),
     }
 }
 
 /// The thread that was committed on the CPU does its next step; where it was a block, the thread is woken.
-fn step<N: Names, R: Wait>(
+fn step<N: Names, R: Wait, G: Gate>(
     rt: &R,
+    gate: &G,
     plans: &[ThreadPlan],
     desk: &Desk<N>,
     purse: &mut Purse<N>,
@@ -219,7 +224,7 @@ fn step<N: Names, R: Wait>(
 {
     let left = leave_locked(rt, plans, desk, purse, progress, cpu)?;
     tell_woken(rt, desk, &left.posted)?;
-    wake_blocked(rt, desk, purse, &left)?;
+    wake_blocked(rt, gate, desk, purse, &left)?;
     Ok(left.step)
 }
 
@@ -293,7 +298,7 @@ fn drive<N: Names, R: Wait + Clock, G: Gate>(
     let mut driven = Driven::new();
     for _step in 0..steps {
         let cpu = next_commit(rt, desk, deadline)?;
-        let done = step(rt, plans, desk, purse, &mut progress, cpu)?;
+        let done = step(rt, gate, plans, desk, purse, &mut progress, cpu)?;
         driven = driven.after(&done);
         gate.driven(driven);
     }

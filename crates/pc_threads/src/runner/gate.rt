@@ -1,7 +1,7 @@
 //! Where a run may be held or given up.
 
 use crate::settings::Step;
-use pc_messages::Cpu;
+use pc_messages::{Cpu, Tid};
 use std::time::Instant;
 
 /// A point of an agent's turn (own).
@@ -34,6 +34,9 @@ pub trait Gate {
 
     /// The driver, in its own thread and with no lock, has done a step more.
     fn driven(&self, _so_far: Driven) {}
+
+    /// The driver, in its own thread and with no lock, has a thread blocked, and wakes it next.
+    fn blocked(&self, _thread: Tid) {}
 
     /// When the run is given up, whatever it waits for; none: never. The driver asks once, before its first step.
     fn deadline(&self) -> Option<Instant> {

@@ -1,7 +1,8 @@
 //! The agents' threads, from their start to their end.
 
 ghost use Rattle.std.specs.Prelude.{pos, ◌≡◌, ◌+◌, ◌<◌, [], ◌∷◌, IfOk, OnOk, length, vec_len};
-ghost use Rattle.pc_agent.specs.Shows.{cpu_of};
+ghost use Rattle.pc_agent.specs.Shows.{cpu_of, rules_in};
+ghost use Rattle.pc_policy.specs.Rules.{rules_of};
 ghost use Rattle.pc_threads.specs.Inner.Shares.{HasDone, idle};
 
 use crate::book::RunFault;
@@ -15,24 +16,27 @@ use crate::runner::worker::Worker;
 use crate::settings::Config;
 use pc_agent::Agent;
 use pc_messages::Cpu;
+use pc_policy::AgentPolicy;
 use pc_view::View;
 use std::alloc::Global;
 use std::collections::VecDeque;
 use std::sync::Wait;
 use std::thread::{JoinHandle, Scope, Threads};
 
-/// An agent for the CPU, with its shares.
-fn lend<N: Names>(pool: &mut Pool<N>, alloc: Global, cpu: Cpu) -> Worker<N>
+/// An agent for the CPU that goes by this policy, with its shares.
+fn lend<N: Names>(pool: &mut Pool<N>, alloc: Global, cpu: Cpu, policy: AgentPolicy) -> Worker<N>
     requires some { 0 < pool.old.agents }
     requires nothing { pool.old ≡ idle pool.old.agents }
     ensures cpu { cpu_of result.agent ≡ cpu }
+    ensures rules { rules_in result.agent ≡ rules_of policy }
     ensures fewer { pool.new.agents + 1 ≡ pool.old.agents }
     ensures nothing { pool.new ≡ idle pool.new.agents }
 {
     let committed = pool.committed.split_off(1, 0);
     let taken_over = pool.taken_over.split_off(1, 0);
     let consumed = pool.consumed.split_off(1, 0);
-    Worker::new(Agent::new(alloc, cpu), committed, taken_over, consumed)
+    let agent = Agent::with_policy(alloc, cpu, policy);
+    Worker::new(agent, committed, taken_over, consumed)
 }
 
 /// Takes an agent's shares back, and gives what it counted and what it knows.
@@ -78,7 +82,8 @@ where
     ensures started { OnOk result (length handles.new.items ≡ length handles.old.items + pool.old.agents) }
 {
     for cpu in 0..config.cpus() {
-        let worker = lend(pool, desk.alloc, Cpu(cpu));
+        let policy = desk.policy.try_copy()?;
+        let worker = lend(pool, desk.alloc, Cpu(cpu), policy);
         match scope.spawn(move || serve(rt, gate, config, desk, worker)) {
             Ok(handle) => handles.push_back(handle)?,
             Err(_) => return Err(RunFault::StartFailed),

@@ -3,7 +3,7 @@ use Rattle.pc_calls.specs.AgentCalls.{associates}
 use Rattle.pc_calls.specs.declared.call.Answer.TheVariants.{Done}
 use Rattle.pc_view.specs.Prefixes.{upto_of}
 use Rattle.pc_agent.specs.Own.{StealsAsSeen}
-use Rattle.pc_agent.specs.Shows.{cpu_of, list_of, view_of}
+use Rattle.pc_agent.specs.Shows.{cpu_of, list_of, rules_in, view_of}
 use Rattle.pc_threads.specs.Pages.{Pages}
 use Rattle.pc_threads.proofs.Listing.{put}
 use Rattle.pc_threads.proofs.book.Book.steal.Goals as goal
@@ -19,7 +19,7 @@ invariant_of-self-in-Ok c =
 pub returns-in-Err-clause-own : goal.returns-in-Err-clause-own
 returns-in-Err-clause-own c _ =
     let same : c.self.inside.kernel ≡ c.args.self.now.kernel = ap (λ (book : Pages). book.kernel) c.self.view_is in
-    subst (λ before. StealsAsSeen (view_of c.args.agent.now) (cpu_of c.args.agent.now) (Err c.in-Err.fault) (list_of c.args.agent.now) (list_of c.steal.new.self) before c.steal.new.kernel) same
+    subst (λ before. StealsAsSeen (rules_in c.args.agent.now) (view_of c.args.agent.now) (cpu_of c.args.agent.now) (Err c.in-Err.fault) (list_of c.args.agent.now) (list_of c.steal.new.self) before c.steal.new.kernel) same
     c.in-Err.ensures.own
 
 pub returns-in-Ok-clause-extends : goal.returns-in-Ok-clause-extends

@@ -1,4 +1,4 @@
-use Rattle.pc_threads.proofs.runner.run_agents.Given as goal
+use Rattle.pc_threads.proofs.runner.run_agents_by.Given as goal
 
 abbrev pub ghosts-run_with-A-Ledger : goal.ghosts-run_with-A-Ledger
 ghosts-run_with-A-Ledger g a = record { name = a.blanks.cpus.name; parts = a.blanks.cpus.parts }
