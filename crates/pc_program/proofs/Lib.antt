@@ -6,3 +6,4 @@ pub mod Reporting
 pub mod StepTexts
 pub mod Tellings
 pub mod Running
+pub mod Scripting

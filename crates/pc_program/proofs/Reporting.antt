@@ -14,7 +14,7 @@ use Rattle.pc_program.specs.declared.ending.Failure.TheVariants as failure
 use Rattle.pc_program.specs.declared.report.ReportForm.{ReportForm}
 use Rattle.pc_program.specs.declared.report.ReportForm.TheVariants.{Totals, EachCpu, EachRefusal, Picture}
 
-kept : (form : ReportForm) (report : LoadReport) (old mid new : Option (List ℕ)) → IsReport form report old mid → Keeps mid new → IsReport form report old new
+pub kept : (form : ReportForm) (report : LoadReport) (old mid new : Option (List ℕ)) → IsReport form report old mid → Keeps mid new → IsReport form report old new
 kept Totals report old mid new writes keeps = Appends-kept old mid new (totals_text report) writes keeps
 kept EachCpu report old mid new writes keeps = Appends-kept old mid new (totals_text report ++ rows_text report.rows.items) writes keeps
 kept EachRefusal report old mid new writes keeps = Appends-kept old mid new (totals_text report ++ refusals_rows_text report.rows.items) writes keeps

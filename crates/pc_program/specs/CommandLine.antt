@@ -12,11 +12,14 @@ use Rattle.clap.specs.declared.builder.value_parser.ValueParser.TheVariants.{Uns
 use Rattle.clap.specs.declared.error.kind.ErrorKind.TheVariants as kind
 use Rattle.pc_draw.specs.declared.part.Interval.{Interval}
 use Rattle.pc_draw.specs.declared.part.Part.{Part}
+use Rattle.pc_policy.specs.Rules.{rules_of, usual}
+use Rattle.pc_policy.specs.declared.agent_policy.AgentPolicy.{AgentPolicy}
 use Rattle.pc_program.specs.Numbers.{IsWritten, SpellsNone}
+use Rattle.pc_program.specs.Policies.{Names, NamesNone}
 use Rattle.pc_program.specs.declared.command_line.Command.{Command}
 use Rattle.pc_program.specs.declared.command_line.Command.TheVariants.{Replay, Explain, Draw, Run}
 use Rattle.pc_program.specs.declared.command_line.CommandFault.{CommandFault}
-use Rattle.pc_program.specs.declared.command_line.CommandFault.TheVariants.{OutOfMemory, BadNumbers, Clap}
+use Rattle.pc_program.specs.declared.command_line.CommandFault.TheVariants.{OutOfMemory, BadNumbers, BadPolicy, Clap}
 use Rattle.pc_program.specs.declared.report.ReportForm.{ReportForm}
 use Rattle.pc_program.specs.declared.report.ReportForm.TheVariants.{Totals, EachCpu, EachRefusal, Picture}
 
@@ -48,12 +51,16 @@ drawing = with_rule (with_rule (of_file (codes "draw")) (option (codes "cpus")))
 abbrev pub limit : Rule
 limit = record (option (codes "limit")) { parser = Some (Unsigned 0 4294967295) }
 
--- run [FILE] [--per-cpu] [--draw] [--limit SECONDS]
+-- run [FILE] [--per-cpu] [--draw] [--limit SECONDS] [--script FILE] [--policy NAME]
 abbrev pub run : App
 run =
     with_rule
+    (with_rule
+    (with_rule
     (with_rule (with_rule (of_file (codes "run")) (counted_flag (codes "per-cpu"))) (flag (codes "draw")))
-    limit
+    limit)
+    (option (codes "script")))
+    (option (codes "policy"))
 
 -- the program, which has a version, wants a command, and has no command `help`
 abbrev pub pc_sim : App
@@ -120,21 +127,37 @@ abbrev pub IsNoPart : Option (Text × List Row) → Type 0
 IsNoPart None = ⊥
 IsNoPart (Some met) = (met.0 ≡ codes "draw") × (IsUnread (codes "cpus") met.1 ⊎ IsUnread (codes "lines") met.1)
 
+-- the policy that the word behind an option names: the usual one where there is no word
+abbrev pub IsPolicy : Option Text → AgentPolicy → Type 0
+IsPolicy None policy = rules_of policy ≡ usual
+IsPolicy (Some word) policy = Names word policy
+
+-- the word behind the option names no policy
+abbrev pub IsUnnamed : List Row → Type 0
+IsUnnamed rows = IsSomeAnd (first_of (codes "policy") rows) NamesNone
+
+-- a run is asked for, by a policy that is none
+abbrev pub IsNoPolicy : Option (Text × List Row) → Type 0
+IsNoPolicy None = ⊥
+IsNoPolicy (Some met) = (met.0 ≡ codes "run") × IsUnnamed met.1
+
 -- the command with this name and these values is asked for
 abbrev pub IsAsked : Option (Text × List Row) → Command → Type 0
 IsAsked None command = ⊥
 IsAsked (Some met) (Replay given) = IsOf (codes "replay") (option_map string_bytes given) met
 IsAsked (Some met) (Explain given) = IsOf (codes "explain") (option_map string_bytes given) met
 IsAsked (Some met) (Draw given part) = IsOf (codes "draw") (option_map string_bytes given) met × IsPart part met.1
-IsAsked (Some met) (Run given form seconds) =
+IsAsked (Some met) (Run given form seconds policy script) =
     IsOf (codes "run") (option_map string_bytes given) met × IsReportForm form met.1
-    × IsLimit (one_of (codes "limit") met.1) seconds
+    × IsLimit (one_of (codes "limit") met.1) seconds × IsPolicy (first_of (codes "policy") met.1) policy
+    × (option_map string_bytes script ≡ first_of (codes "script") met.1)
 
--- want of memory, numbers that are none where there is no other fault, or one of these kinds, of which help and the
--- version are two
+-- want of memory, numbers or a policy that are none where there is no other fault, or one of these kinds, of which
+-- help and the version are two
 abbrev pub IsRefusal : Kinds → CommandFault → Type 0
 IsRefusal kinds OutOfMemory = Unit {0}
 IsRefusal kinds BadNumbers = kinds ≡ []
+IsRefusal kinds BadPolicy = kinds ≡ []
 IsRefusal kinds (Clap error) = (kind_of error ≢ kind.OutOfMemory) × IsAmong (kind_of error) kinds
 
 -- one of the commands was met

@@ -7,6 +7,8 @@ use Rattle.pc_script.specs.declared.outcome.ScriptFault.TheVariants as fault
 use Rattle.pc_threads.specs.declared.settings.faults.ConfigFault.TheVariants as config
 use Rattle.pc_threads.specs.declared.book.settling.RunFault.{RunFault}
 use Rattle.pc_threads.specs.declared.book.settling.RunFault.TheVariants as run
+use Rattle.pc_transcript.specs.declared.transcript.TranscriptFault.{TranscriptFault}
+use Rattle.pc_transcript.specs.declared.transcript.TranscriptFault.TheVariants as script
 use Rattle.pc_program.specs.declared.ending.BadSettings.{BadSettings}
 use Rattle.pc_program.specs.declared.ending.BadSettings.TheVariants as bad
 use Rattle.pc_program.specs.declared.ending.Unsettled.{Unsettled}
@@ -62,6 +64,14 @@ abbrev pub ending_of_run_text : RunTextFault → Ending
 ending_of_run_text (text.Settings fault) = ending_of_settings fault
 ending_of_run_text (text.Run fault) = ending_of_run fault
 ending_of_run_text text.Write = CannotRead failure.Write
+
+-- how it ends after the script of a run and its report were written: a write that failed is told before want of memory
+abbrev pub ending_of_both : {A B E : Type 0} → Result A TranscriptFault → Result B E → Ending
+ending_of_both (Ok done) (Ok told) = Finished
+ending_of_both (Ok done) (Err error) = CannotRead failure.Write
+ending_of_both (Err script.OutOfMemory) (Ok told) = OutOfMemory
+ending_of_both (Err script.OutOfMemory) (Err error) = CannotRead failure.Write
+ending_of_both (Err script.Write) told = CannotRead failure.Write
 
 -- it is for want of memory, or since a text cannot be read; nothing was written
 abbrev pub IsUnread : Ending → Type 0

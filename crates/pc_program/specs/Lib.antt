@@ -4,6 +4,7 @@ pub mod CommandLine
 pub mod Endings
 pub mod Inner
 pub mod Numbers
+pub mod Policies
 pub mod Program
 pub mod Programs
 pub mod Progress

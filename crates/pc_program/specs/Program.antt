@@ -28,6 +28,7 @@ use Rattle.pc_script.specs.declared.command.Read.{Read}
 use Rattle.pc_script.specs.declared.lists.ShownThread.{ShownThread}
 use Rattle.pc_script.specs.declared.outcome.Outcome.{Outcome}
 use Rattle.pc_script.specs.declared.response.Response.{Response}
+use Rattle.pc_script.specs.declared.version.Version.{Version}
 use Rattle.pc_world.specs.PlainWorld.{PlainWorld}
 use Rattle.pc_world.specs.RanOut as world
 use Rattle.pc_world.specs.Steps as world_step
@@ -37,6 +38,7 @@ use Rattle.pc_session.specs.ShownViews as shown
 use Rattle.pc_explain.specs.Comments as comments
 use Rattle.pc_draw.specs.Pictures as picture
 use Rattle.pc_threads.specs.Pages.{IsReplay, Pages}
+use Rattle.pc_transcript.specs.Transcripts as transcript
 use Rattle.pc_threads.specs.Reports as report
 use Rattle.pc_threads.specs.declared.report.LoadReport.{LoadReport}
 use Rattle.pc_program.specs.Endings as ending
@@ -65,9 +67,13 @@ Spells words command = grammar.Spells words command
 abbrev pub HasNoReply : List ℕ → Type 0
 HasNoReply line = grammar.HasNoReply line
 
--- every other line that spells no command is a fault, at which a script ends
-abbrev pub IsFault : List ℕ → Type 0
-IsFault line = grammar.IsFault line
+-- words ask for a command of a script's version where they spell it: `policy` is one of version 3 alone
+abbrev pub AsksFor : Version → List (List ℕ) → Command → Type 0
+AsksFor version words command = grammar.AsksFor version words command
+
+-- every other line that asks for no command of the version is a fault, at which a script ends
+abbrev pub IsFault : Version → List ℕ → Type 0
+IsFault version line = grammar.IsFault version line
 
 -- ---- 2. What is answered, and written
 
@@ -136,7 +142,8 @@ IsViewOfRun run view = IsOfRun run view
 abbrev pub WithoutComments : List ℕ → List ℕ
 WithoutComments written = comments.without_comments written
 
--- the picture of a script: whole elements, and a title that counts the commands and refusals of a run of it
+-- the picture of a script: whole elements, and a title that counts the commands and refusals of a run of it, and tells
+-- the policy
 abbrev pub IsPicture : List ℕ → Outcome → List ℕ → Type 0
 IsPicture bytes outcome written = picture.IsPictureOf session.IsSession bytes outcome written
 
@@ -157,6 +164,10 @@ AddsUp told = report.AddsUp told
 -- all was done that the settings ask for that the text spells
 abbrev pub DoesWhatIsSpelled : Option Members → LoadReport → Type 0
 DoesWhatIsSpelled settings told = runs.DoesWhatIsSpelled settings told
+
+-- the commands that make the calls of a book, in its order, were written, with publishes between
+abbrev pub WritesScriptOf : Pages → Option (List ℕ) → Option (List ℕ) → Type 0
+WritesScriptOf book old new = transcript.WritesCalls (transcript.script_of book) old new
 
 -- the report was written: its totals, with a line for each CPU, or as a picture
 abbrev pub IsReport : ReportForm → LoadReport → Option (List ℕ) → Option (List ℕ) → Type 0
@@ -185,3 +196,10 @@ AfterScript form bytes old new end' = program.IsMade form bytes old new end'
 -- for, or nothing; after a read or a write that failed nothing is said
 abbrev pub AfterRun : Option Members → ReportForm → Option (List ℕ) → Option (List ℕ) → Ending → Type 0
 AfterRun settings form old new end' = program.IsReported settings form old new end'
+
+-- `pc-sim run --script`, by how it ended: what the file had and has now, what the standard output had and has. In the
+-- end the file has the calls of that run's book as commands, in their order; or, for want of memory, nothing
+abbrev pub AfterScriptedRun : Option Members → ReportForm → (script_old script_new old new : Option (List ℕ)) → Ending
+    → Type 0
+AfterScriptedRun settings form script_old script_new old new end' =
+    program.IsScripted settings form script_old script_new old new end'

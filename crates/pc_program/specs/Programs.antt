@@ -13,6 +13,7 @@ use Rattle.pc_program.specs.Endings.{ending_of_settings}
 use Rattle.pc_program.specs.ReportText.{IsReport}
 use Rattle.pc_program.specs.Runs.{DoesWhatIsSpelled, SpellsSettings}
 use Rattle.pc_session.specs.Session.{IsSession, RanOut}
+use Rattle.pc_transcript.specs.Transcripts.{WritesCalls, script_of}
 use Rattle.pc_program.specs.SettingsText.{Reads}
 use Rattle.pc_program.specs.declared.ending.Ending.{Ending}
 use Rattle.pc_program.specs.declared.ending.Ending.TheVariants.{Finished, FaultLine, DrawnToFault, CannotRead}
@@ -84,3 +85,49 @@ IsReported settings form old new (CannotRead failure.Write) = Unit {0}
 IsReported settings form old new FaultLine = ⊥
 IsReported settings form old new DrawnToFault = ⊥
 IsReported settings form old new BadCommandLine = ⊥
+
+-- after the script of a run and its report were written, each where it goes
+abbrev pub IsWrittenBoth : ReportForm → LoadReport → (script_old script_new old new : Option (List ℕ)) → Ending
+    → Type 0
+IsWrittenBoth form report script_old script_new old new Finished =
+    WritesCalls (script_of report.book) script_old script_new × IsReport form report old new
+IsWrittenBoth form report script_old script_new old new OutOfMemory =
+    Keeps script_old script_new × IsReport form report old new
+IsWrittenBoth form report script_old script_new old new (CannotRead failure.Write) = Unit {0}
+IsWrittenBoth form report script_old script_new old new (CannotRead failure.Read) = ⊥
+IsWrittenBoth form report script_old script_new old new (CannotRead failure.TooLong) = ⊥
+IsWrittenBoth form report script_old script_new old new (CannotRead failure.NotUtf8) = ⊥
+IsWrittenBoth form report script_old script_new old new FaultLine = ⊥
+IsWrittenBoth form report script_old script_new old new DrawnToFault = ⊥
+IsWrittenBoth form report script_old script_new old new BadCommandLine = ⊥
+IsWrittenBoth form report script_old script_new old new (Settings bad) = ⊥
+IsWrittenBoth form report script_old script_new old new (Run why) = ⊥
+IsWrittenBoth form report script_old script_new old new CannotStart = ⊥
+
+-- a run did what the settings ask for, and this was written of it
+abbrev pub IsOfRun : (settings : Option Members) → (LoadReport → Type 0) → Type 0
+IsOfRun settings IsWritten =
+    (report : LoadReport) × TellsItsBook report × AddsUp report × DoesWhatIsSpelled settings report × IsWritten report
+
+-- after a run by settings whose calls are written as a script: that script and the report of a run that did what they
+-- ask for, or nothing; want of memory leaves out both, or the script alone
+abbrev pub IsScripted : (settings : Option Members) (form : ReportForm)
+    (script_old script_new old new : Option (List ℕ)) → Ending → Type 0
+IsScripted settings form script_old script_new old new Finished =
+    IsOfRun settings (λ report. IsWrittenBoth form report script_old script_new old new Finished)
+IsScripted settings form script_old script_new old new OutOfMemory =
+    (Keeps script_old script_new × Keeps old new)
+    ⊎ IsOfRun settings (λ report. IsWrittenBoth form report script_old script_new old new OutOfMemory)
+IsScripted settings form script_old script_new old new (Settings bad) =
+    Keeps script_old script_new × IsReported settings form old new (Settings bad)
+IsScripted settings form script_old script_new old new (Run why) =
+    Keeps script_old script_new × IsReported settings form old new (Run why)
+IsScripted settings form script_old script_new old new CannotStart =
+    Keeps script_old script_new × IsReported settings form old new CannotStart
+IsScripted settings form script_old script_new old new (CannotRead failure.Write) = Unit {0}
+IsScripted settings form script_old script_new old new (CannotRead failure.Read) = ⊥
+IsScripted settings form script_old script_new old new (CannotRead failure.TooLong) = ⊥
+IsScripted settings form script_old script_new old new (CannotRead failure.NotUtf8) = ⊥
+IsScripted settings form script_old script_new old new FaultLine = ⊥
+IsScripted settings form script_old script_new old new DrawnToFault = ⊥
+IsScripted settings form script_old script_new old new BadCommandLine = ⊥

@@ -7,15 +7,18 @@ ghost use Rattle.clap.specs.Simple.{app_of, subcommand_of, subcommand_rows_of};
 ghost use Rattle.clap.specs.Faults.{fault_of};
 ghost use Rattle.clap.specs.Matches.{found_of};
 ghost use Rattle.pc_program.specs.CommandLine.{IsAsked, IsCommandMet, IsInput, IsLimit, IsNoPart, IsPart, IsRefusal};
-ghost use Rattle.pc_program.specs.CommandLine.{IsReportForm, IsSpelled, IsUnread, counted_flag, drawing, flag, limit};
+ghost use Rattle.pc_program.specs.CommandLine.{IsNoPolicy, IsPolicy, IsReportForm, IsSpelled, IsUnnamed, IsUnread};
+ghost use Rattle.pc_program.specs.CommandLine.{counted_flag, drawing, flag, limit};
 ghost use Rattle.pc_program.specs.CommandLine.{of_file, option, pc_sim, run};
 
 use crate::numbers::numbers_in;
+use crate::policies::policy_named;
 use crate::report::ReportForm;
 use clap::builder::ValueParser;
 use clap::error::ErrorKind;
 use clap::{Arg, ArgAction, ArgMatches, Command as Parser, Error};
 use pc_draw::{Interval, Part};
+use pc_policy::AgentPolicy;
 use std::alloc::{AllocError, Global};
 use std::convert::AsStr;
 use thiserror::Error as Fault;
@@ -44,6 +47,10 @@ pub enum Command {
         form: ReportForm,
         /// After how many seconds the run is given up.
         limit: Option<u32>,
+        /// What every agent goes by.
+        policy: AgentPolicy,
+        /// The file into which the run's calls are written as a script.
+        script: Option<String>,
     },
 }
 
@@ -56,6 +63,9 @@ pub enum CommandFault {
     /// A word that is to spell numbers spells none.
     #[error("a word spells no numbers")]
     BadNumbers,
+    /// A word that is to name a policy names none.
+    #[error("a word names no policy")]
+    BadPolicy,
     /// The words are no command, or they ask for help or the version, which is the error's text.
     #[error(transparent)]
     Clap(Error),
@@ -84,6 +94,7 @@ Examples:
   pc-sim explain examples/commits-and-sleepers.script
   pc-sim draw examples/crash-and-steal.script >picture.svg
   pc-sim run settings.toml --per-cpu
+  pc-sim run settings.toml --script run.script
 
 FILE may be `-`, the standard input.
 Exit status: 0 finished; 1 a file or a text has a fault; 2 the command line has one; 3 a run did not
@@ -130,7 +141,8 @@ Example:
   printf 'cpus = 2\\n[[thread]]\\nqueue = 0\\nmask = 3\\nsteps = [\"yield 2\", \"die 1\"]\\n' | pc-sim run
 
 With --draw the report is a picture, and --per-cpu changes nothing. Where --per-cpu stands twice,
-refusals are counted by name.
+refusals are counted by name. The file of --script is made, or emptied, before the run begins; what is
+written there can be replayed, explained and drawn.
 Exit status: 0 finished; 1 the settings have a fault, or a read or a write failed; 3 the run did not
 settle, or not within its limit; 4 memory or a thread is wanting.
 Settings and the report are described in docs/FORMATS.md.";
@@ -143,18 +155,27 @@ const LINES: &str = "draws what happens at these lines of the script alone, coun
 
 const LIMIT: &str = "gives the run up after so many seconds";
 
+const TO_SCRIPT: &str = "also writes the calls of the run as a script, into this file";
+
+const POLICY: &str =
+    "by which agents run and steal threads: levels (the default), fifo, least-ran or \
+     levels-then-least-ran, and `,exact` behind it where steals are exact";
+
 const SETTINGS: &str = "the settings; without it, and where it is `-`, the standard input is read";
 
 /// Reads the words of the command line, of which the first is the program's name.
 ///
 /// The fault is `Clap` where the words are no command, and where they ask for help or the version; `BadNumbers` where
-/// they are one but for a word that is to spell numbers; or `OutOfMemory`.
+/// they are one but for a word that is to spell numbers, and `BadPolicy` but for one that is to name a policy; or
+/// `OutOfMemory`.
 pub fn read_command<'a, S: AsStr>(alloc: Global, words: &'a [S]) -> Result<Command, CommandFault>
     ensures asked { IfOk result (IsAsked (subcommand_of pc_sim (map S.text words.entry.now))) }
     ensures taken { IfOk result (λ _. fault_of pc_sim (map S.text words.entry.now) ≡ []) }
     ensures refused { IfErr result (IsRefusal (fault_of pc_sim (map S.text words.entry.now))) }
     ensures numbers { result ≡ Err CommandFault.BadNumbers
         → IsNoPart (subcommand_of pc_sim (map S.text words.entry.now)) }
+    ensures policy { result ≡ Err CommandFault.BadPolicy
+        → IsNoPolicy (subcommand_of pc_sim (map S.text words.entry.now)) }
 {
     let parser: Parser<'a> = parser(alloc)?;
     match parser.try_get_matches_from(words) {
@@ -226,6 +247,14 @@ fn limit_option<'a>(alloc: Global) -> Arg<'a>
     ))
 }
 
+/// The option `--script FILE`.
+fn script_option<'a>(alloc: Global) -> Arg<'a>
+    ensures rule { rule_of result ≡ option (codes "script") }
+    ensures local { result.global ≡ false }
+{
+    option_of(alloc, "script", "FILE", TO_SCRIPT)
+}
+
 /// `replay [FILE]`
 fn replay_parser<'a>(alloc: Global) -> Result<Parser<'a>, AllocError>
     ensures { IfOk result (λ parser. app_of parser ≡ of_file (codes "replay")) }
@@ -261,7 +290,15 @@ fn draw_parser<'a>(alloc: Global) -> Result<Parser<'a>, AllocError>
         .arg(lines)
 }
 
-/// `run [FILE] [--per-cpu] [--draw] [--limit SECONDS]`
+/// The option `--policy NAME`.
+fn policy_option<'a>(alloc: Global) -> Arg<'a>
+    ensures rule { rule_of result ≡ option (codes "policy") }
+    ensures local { result.global ≡ false }
+{
+    option_of(alloc, "policy", "NAME", POLICY)
+}
+
+/// `run [FILE] [--per-cpu] [--draw] [--limit SECONDS] [--script FILE] [--policy NAME]`
 fn run_parser<'a>(alloc: Global) -> Result<Parser<'a>, AllocError>
     ensures { IfOk result (λ parser. app_of parser ≡ run) }
 {
@@ -276,7 +313,9 @@ fn run_parser<'a>(alloc: Global) -> Result<Parser<'a>, AllocError>
         .after_help(AFTER_RUN)
         .arg(per_cpu)?
         .arg(draw)?
-        .arg(limit_option(alloc))
+        .arg(limit_option(alloc))?
+        .arg(script_option(alloc))?
+        .arg(policy_option(alloc))
 }
 
 /// The program's parser.
@@ -303,19 +342,24 @@ fn parser<'a>(alloc: Global) -> Result<Parser<'a>, AllocError>
 fn command_of(alloc: Global, matches: &ArgMatches<'_>) -> Result<Command, CommandFault>
     requires { IsCommandMet (subcommand_rows_of matches.now) }
     ensures asked { IfOk result (IsAsked (subcommand_rows_of matches.now)) }
-    ensures fault { IfErr result
-        (λ fault. (fault ≡ CommandFault.OutOfMemory) ⊎ (fault ≡ CommandFault.BadNumbers)) }
+    ensures fault { IfErr result (λ fault. (fault ≡ CommandFault.OutOfMemory) ⊎ (fault ≡ CommandFault.BadNumbers)
+        ⊎ (fault ≡ CommandFault.BadPolicy)) }
     ensures numbers { result ≡ Err CommandFault.BadNumbers → IsNoPart (subcommand_rows_of matches.now) }
+    ensures policy { result ≡ Err CommandFault.BadPolicy → IsNoPolicy (subcommand_rows_of matches.now) }
 {
     let Some((name, met)) = matches.subcommand() else {
         unreachable!()
     };
     let file = file_of(alloc, met)?;
     if name == "run" {
+        let policy = policy_of(met)?;
+        let script = script_of(alloc, met)?;
         Ok(Command::Run {
             file,
             form: form_of(met),
             limit: limit_of(met),
+            policy,
+            script,
         })
     } else if name == "explain" {
         Ok(Command::Explain { file })
@@ -386,6 +430,32 @@ fn limit_of(matches: &ArgMatches<'_>) -> Option<u32>
     ensures { IsLimit (one_of (codes "limit") (rows_of (found_of matches.now))) result }
 {
     matches.get_one::<u32>("limit")
+}
+
+/// What every agent goes by: the usual policy where none is named.
+fn policy_of(matches: &ArgMatches<'_>) -> Result<AgentPolicy, CommandFault>
+    ensures named { IfOk result (IsPolicy (first_of (codes "policy") (rows_of (found_of matches.now)))) }
+    ensures refused { IfErr result (λ fault. (fault ≡ CommandFault.BadPolicy)
+        × IsUnnamed (rows_of (found_of matches.now))) }
+{
+    match matches.get_str("policy") {
+        None => Ok(AgentPolicy::usual()),
+        Some(word) => match policy_named(word) {
+            Some(policy) => Ok(policy),
+            None => Err(CommandFault::BadPolicy),
+        },
+    }
+}
+
+/// The file into which a script of the run is written; a name is taken as it stands.
+fn script_of(alloc: Global, matches: &ArgMatches<'_>) -> Result<Option<String>, AllocError>
+    ensures { IfOk result
+        (λ file. option_map string_bytes file ≡ first_of (codes "script") (rows_of (found_of matches.now))) }
+{
+    match matches.get_str("script") {
+        None => Ok(None),
+        Some(name) => Ok(Some(String::from_str(alloc, name)?)),
+    }
 }
 
 /// Whether the flag of this name stands there.

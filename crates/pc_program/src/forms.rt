@@ -17,6 +17,7 @@ use crate::report::ReportForm;
 use crate::run_text::run_config;
 use pc_draw::{Part, draw_script};
 use pc_explain::explain_script;
+use pc_policy::AgentPolicy;
 use pc_script::{Outcome, ScriptFault};
 use pc_session::Session;
 use std::alloc::Global;
@@ -98,7 +99,7 @@ pub fn make<R: Read, W: Write>(alloc: Global, form: Form, reader: &mut R, writer
 }
 
 /// Flushes what was written before it ended so. That this fails is told before all else.
-fn flushed<W: Write + Drop>(writer: &mut BufWriter<W>, ending: Ending) -> Ending
+pub(crate) fn flushed<W: Write + Drop>(writer: &mut BufWriter<W>, ending: Ending) -> Ending
     ensures kept { Keeps (writer_contents W.contents writer.old) (writer_contents W.contents writer.new) }
     ensures flushed { (result ≡ Ending.CannotRead Failure.Write)
         ⊎ ((result ≡ ending) × (writer_buffer writer.new ≡ [])) }
@@ -134,6 +135,7 @@ pub fn run_flushed<R: Threads + Wait + Clock + Sync, S: Write + Copy + Sync, W: 
     rt: &R,
     alloc: Global,
     text: &str,
+    policy: AgentPolicy,
     form: ReportForm,
     progress: &Progress<S>,
     writer: &mut BufWriter<W>,
@@ -142,7 +144,7 @@ pub fn run_flushed<R: Threads + Wait + Clock + Sync, S: Write + Copy + Sync, W: 
         (writer_contents W.contents writer.new) result }
     ensures flushed { (result ≡ Ending.CannotRead Failure.Write) ⊎ (writer_buffer writer.new ≡ []) }
 {
-    match run_config(rt, alloc, text, form, progress, writer) {
+    match run_config(rt, alloc, text, policy, form, progress, writer) {
         Ok(_report) => flushed(writer, Ending::Finished),
         Err(fault) => flushed(writer, Ending::from(fault)),
     }

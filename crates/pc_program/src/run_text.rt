@@ -9,7 +9,8 @@ ghost use Rattle.pc_program.specs.Runs.{DoesWhatIsSpelled, IsTextsFault};
 use crate::progress::Progress;
 use crate::report::{ReportForm, write_report};
 use crate::settings::{SettingsFault, read_config};
-use pc_threads::{LoadReport, RunFault, run_agents};
+use pc_policy::AgentPolicy;
+use pc_threads::{LoadReport, RunFault, run_agents_by};
 use std::alloc::Global;
 use std::io::Write;
 use std::sync::Wait;
@@ -31,8 +32,36 @@ pub enum RunTextFault {
     Write,
 }
 
-/// Reads the settings, runs agents in threads as they ask, and writes the report. The progress tells meanwhile how far
-/// the run is, and says when it is given up.
+/// Reads the settings, and runs agents in threads as they ask, all by this policy. Nothing is written but what the
+/// progress tells.
+pub(crate) fn run_settings<R: Threads + Wait + Clock + Sync, S: Write + Copy + Sync>(
+    rt: &R,
+    alloc: Global,
+    text: &str,
+    policy: AgentPolicy,
+    progress: &Progress<S>,
+) -> Result<LoadReport, RunTextFault>
+    ensures tells { IfOk result TellsItsBook }
+    ensures adds_up { IfOk result AddsUp }
+    ensures all { IfOk result (DoesWhatIsSpelled (parse_document text.now)) }
+    ensures settings { IfErr result (IsTextsFault (parse_document text.now)) }
+    ensures unwritten { IfErr result (λ fault. fault ≢ RunTextFault.Write) }
+{
+    let config = match read_config(alloc, text) {
+        Ok(config) => config,
+        Err(fault) => return Err(RunTextFault::Settings(fault)),
+    };
+    progress.begin(config.threads().len());
+    let ended = run_agents_by(rt, alloc, &config, policy, progress);
+    progress.end();
+    match ended {
+        Ok(report) => Ok(report),
+        Err(fault) => Err(RunTextFault::Run(fault)),
+    }
+}
+
+/// Reads the settings, runs agents in threads as they ask, all by this policy, and writes the report. The progress
+/// tells meanwhile how far the run is, and says when it is given up.
 ///
 /// Faults of the settings come first (`Settings`), then those of the run (`Run`), then `Write`, from the first write
 /// that fails: the report may then be written in part. Nothing is flushed. Without a deadline it may wait without end,
@@ -41,6 +70,7 @@ pub fn run_config<R: Threads + Wait + Clock + Sync, S: Write + Copy + Sync, W: W
     rt: &R,
     alloc: Global,
     text: &str,
+    policy: AgentPolicy,
     form: ReportForm,
     progress: &Progress<S>,
     writer: &mut W,
@@ -52,16 +82,9 @@ pub fn run_config<R: Threads + Wait + Clock + Sync, S: Write + Copy + Sync, W: W
     ensures settings { IfErr result (IsTextsFault (parse_document text.now)) }
     ensures unwritten { IfErr result (λ fault. fault ≢ RunTextFault.Write → writer.new ≡ writer.old) }
 {
-    let config = match read_config(alloc, text) {
-        Ok(config) => config,
-        Err(fault) => return Err(RunTextFault::Settings(fault)),
-    };
-    progress.begin(config.threads().len());
-    let ended = run_agents(rt, alloc, &config, progress);
-    progress.end();
-    let report = match ended {
+    let report = match run_settings(rt, alloc, text, policy, progress) {
         Ok(report) => report,
-        Err(fault) => return Err(RunTextFault::Run(fault)),
+        Err(fault) => return Err(fault),
     };
     match write_report(writer, &report, form) {
         Ok(()) => Ok(report),

@@ -8,8 +8,8 @@ mod streams;
 
 use met::{Met, Source, say_failure};
 use pc_program::{
-    Command, CommandFault, Ending, Failure, Form, MOST_SETTINGS, Progress, ReportForm, SoFar,
-    make_flushed, read_command, read_settings, run_flushed, write_trouble,
+    AgentPolicy, Command, CommandFault, Ending, Failure, Form, MOST_SETTINGS, Progress, ReportForm,
+    SoFar, make_flushed, read_command, read_settings, run_flushed, run_scripted, write_trouble,
 };
 use pc_script::MOST_BYTES;
 use std::alloc::Global;
@@ -68,7 +68,9 @@ fn command_of(rt: &HostRuntime) -> Result<Command, Met> {
     match read_command(rt.alloc(), words.as_slice()) {
         Ok(command) => Ok(command),
         Err(CommandFault::OutOfMemory) => Err(Met::ended(Ending::OutOfMemory)),
-        Err(CommandFault::BadNumbers) => Err(Met::ended(Ending::BadCommandLine)),
+        Err(CommandFault::BadNumbers | CommandFault::BadPolicy) => {
+            Err(Met::ended(Ending::BadCommandLine))
+        }
         Err(CommandFault::Clap(error)) if error.use_stderr() => {
             Err(Met::ended(Ending::BadCommandLine))
         }
@@ -133,6 +135,7 @@ fn run_settings<R: Threads + Wait + Clock + Sync, S: Write + Copy + Sync, W: Wri
     rt: &R,
     alloc: Global,
     text: &str,
+    policy: AgentPolicy,
     form: ReportForm,
     progress: &Progress<S>,
     writer: W,
@@ -140,8 +143,58 @@ fn run_settings<R: Threads + Wait + Clock + Sync, S: Write + Copy + Sync, W: Wri
     let Ok(mut writer) = BufWriter::new(alloc, Noted::new(writer)) else {
         return Met::ended(Ending::OutOfMemory);
     };
-    let ending = run_flushed(rt, alloc, text, form, progress, &mut writer);
+    let ending = run_flushed(rt, alloc, text, policy, form, progress, &mut writer);
     Met::of(ending, writer.get_ref().fault())
+}
+
+/// A file into which the calls of a run are written.
+#[derive(Drop)]
+struct ScriptFile {
+    name: String,
+    file: File,
+}
+
+/// The file of this name, made or emptied, where there is a name.
+fn script_file(rt: &HostRuntime, name: Option<String>) -> Result<Option<ScriptFile>, Met> {
+    let Some(name) = name else { return Ok(None) };
+    match File::create(rt, name.as_str()) {
+        Ok(file) => Ok(Some(ScriptFile { name, file })),
+        Err(error) => Err(Met::unmade(error, name)),
+    }
+}
+
+/// The same, and writes the calls as a script into the file, through another buffer.
+fn run_with_script<R: Threads + Wait + Clock + Sync, S: Write + Copy + Sync, W: Write + Drop>(
+    rt: &R,
+    alloc: Global,
+    text: &str,
+    policy: AgentPolicy,
+    form: ReportForm,
+    progress: &Progress<S>,
+    script: ScriptFile,
+    writer: W,
+) -> Met {
+    let ScriptFile { name, file } = script;
+    let Ok(mut script) = BufWriter::new(alloc, Noted::new(file)) else {
+        return Met::ended(Ending::OutOfMemory);
+    };
+    let Ok(mut writer) = BufWriter::new(alloc, Noted::new(writer)) else {
+        return Met::ended(Ending::OutOfMemory);
+    };
+    let ending = run_scripted(
+        rt,
+        alloc,
+        text,
+        policy,
+        form,
+        progress,
+        &mut script,
+        &mut writer,
+    );
+    match script.get_ref().fault() {
+        Some(said) => Met::of_file(ending, said, name),
+        None => Met::of(ending, writer.get_ref().fault()),
+    }
 }
 
 /// Says on standard error how the program ends, and answers its exit status.
@@ -200,13 +253,43 @@ fn main(rt: HostRuntime) -> ExitCode {
         Ok(Command::Replay { file }) => make_script(&rt, Form::Replies, file),
         Ok(Command::Explain { file }) => make_script(&rt, Form::Explained, file),
         Ok(Command::Draw { file, part }) => make_script(&rt, Form::Picture(part), file),
-        Ok(Command::Run { file, form, limit }) => {
-            let source = Source(file);
+        Ok(
+            Command::Run {
+                file,
+                form,
+                limit,
+                policy,
+                script,
+            },
+        ) => {
+            let (alloc, source) = (rt.alloc(), Source(file));
             match settings_of(&rt, &source) {
                 Ok(text) => {
                     let text = text.as_str();
                     let progress = Progress::new(screen_of(&rt), deadline_of(&rt, limit));
-                    let met = run_settings(&rt, rt.alloc(), text, form, &progress, rt.stdout());
+                    // The file is made before the run begins, which may take long.
+                    let met = match script_file(&rt, script) {
+                        Ok(None) => run_settings(
+                            &rt,
+                            alloc,
+                            text,
+                            policy,
+                            form,
+                            &progress,
+                            rt.stdout(),
+                        ),
+                        Ok(Some(script)) => run_with_script(
+                            &rt,
+                            alloc,
+                            text,
+                            policy,
+                            form,
+                            &progress,
+                            script,
+                            rt.stdout(),
+                        ),
+                        Err(met) => met,
+                    };
                     end_run(&rt, &met, &source, text, progress.so_far())
                 }
                 Err(met) => end(&rt, &met, &source, MOST_SETTINGS),

@@ -9,6 +9,8 @@ use std::io::{self, ErrorKind};
 pub(crate) struct Met {
     pub(crate) ending: Ending,
     pub(crate) said: Said,
+    /// Where a write failed, if one did.
+    sink: Sink,
 }
 
 /// What the system said of a file or a stream that failed, if anything.
@@ -19,6 +21,10 @@ pub(crate) struct Said(pub(crate) Option<io::Error>);
 #[derive(Drop)]
 pub(crate) struct Source(pub(crate) Option<String>);
 
+/// Where what was made is written: a file of this name, or the standard output.
+#[derive(Drop)]
+struct Sink(Option<String>);
+
 impl Display for Said {
     fn fmt<W: Write>(&self, f: &mut Formatter<W>) -> fmt::Result {
         match &self.0 {
@@ -28,13 +34,24 @@ impl Display for Said {
     }
 }
 
+/// Tells the file of this name, or else the stream.
+fn tell<W: Write>(name: &Option<String>, stream: &str, f: &mut Formatter<W>) -> fmt::Result {
+    match name {
+        // In quotes, so that the name of a file makes no second line and moves no cursor.
+        Some(name) => write!(f, "{name:?}"),
+        None => f.write_str(stream),
+    }
+}
+
 impl Display for Source {
     fn fmt<W: Write>(&self, f: &mut Formatter<W>) -> fmt::Result {
-        match &self.0 {
-            // In quotes, so that the name of a file makes no second line and moves no cursor.
-            Some(name) => write!(f, "{name:?}"),
-            None => f.write_str("the standard input"),
-        }
+        tell(&self.0, "the standard input", f)
+    }
+}
+
+impl Display for Sink {
+    fn fmt<W: Write>(&self, f: &mut Formatter<W>) -> fmt::Result {
+        tell(&self.0, "the standard output", f)
     }
 }
 
@@ -49,7 +66,25 @@ impl Met {
         Met {
             ending,
             said: Said(said),
+            sink: Sink(None),
         }
+    }
+
+    /// It ends so, and the system said that of the file of this name, into which it was to write.
+    pub(crate) fn of_file(ending: Ending, said: io::Error, name: String) -> Met {
+        Met {
+            ending,
+            said: Said(Some(said)),
+            sink: Sink(Some(name)),
+        }
+    }
+
+    /// The file of this name could not be made, since of this.
+    pub(crate) fn unmade(error: io::Error, name: String) -> Met {
+        if error.kind() == ErrorKind::OutOfMemory {
+            return Met::ended(Ending::OutOfMemory);
+        }
+        Met::of_file(Ending::CannotRead(Failure::Write), error, name)
     }
 
     /// A file could not be opened, since of this.
@@ -84,10 +119,11 @@ pub(crate) fn say_failure(
     most: usize,
 ) {
     let said = met.said;
+    let sink = &met.sink;
     let _ = match failure {
         Failure::Read => eprintln!(rt; "pc-sim: {source}: {said}"),
         Failure::TooLong => eprintln!(rt; "pc-sim: {source}: it has more than {most} bytes"),
         Failure::NotUtf8 => eprintln!(rt; "pc-sim: {source}: it is no UTF-8"),
-        Failure::Write => eprintln!(rt; "pc-sim: the standard output: {said}"),
+        Failure::Write => eprintln!(rt; "pc-sim: {sink}: {said}"),
     };
 }

@@ -3,7 +3,8 @@
 mod settings;
 
 use pc_program::{
-    Command, CommandFault, Ending, Form, Interval, Part, ReportForm, make, read_command, run_script,
+    Command, CommandFault, Ending, Form, Interval, Order, Part, ReportForm, Stealing, make,
+    read_command, run_script,
 };
 use pc_script::{Outcome, ScriptFault, lines_of};
 use std::alloc::Global;
@@ -78,7 +79,12 @@ fn read_off(
         Command::Replay { file } => Ok((Asked::Replay, file)),
         Command::Explain { file } => Ok((Asked::Explain, file)),
         Command::Draw { file, part } => Ok((Asked::Draw(part), file)),
-        Command::Run { file, form, limit } => Ok((Asked::Run(form, limit), file)),
+        Command::Run {
+            file,
+            form,
+            limit,
+            ..
+        } => Ok((Asked::Run(form, limit), file)),
     }
 }
 
@@ -229,6 +235,141 @@ fn commands_are_read_off_the_command_line(rt: HostRuntime) -> Result<(), Fail> {
     Ok(())
 }
 
+/// Words of runs, and the file into which a script is written.
+static SCRIPTS: [(&[&str], Option<&str>); 3] = [
+    (&["pc-sim", "run", "s.toml"], None),
+    (
+        &["pc-sim", "run", "--script", "run.script", "s.toml"],
+        Some("run.script"),
+    ),
+    (&["pc-sim", "run", "--draw", "--script=-", "-"], Some("-")),
+];
+
+/// Whether the words name this file for a script.
+fn names_script(
+    alloc: Global,
+    words: &'static [&'static str],
+    wanted: Option<&'static str>,
+) -> Result<bool, CommandFault> {
+    match read_command(alloc, words)? {
+        Command::Run { script, .. } => Ok(is_named(&script, wanted)),
+        _ => Ok(false),
+    }
+}
+
+/// The place of the first words that name another file.
+fn first_other_script(
+    alloc: Global,
+    rows: &[(&'static [&'static str], Option<&'static str>)],
+) -> Result<Option<usize>, CommandFault> {
+    for (place, (words, wanted)) in rows.iter().enumerate() {
+        if !names_script(alloc, words, *wanted)? {
+            return Ok(Some(place));
+        }
+    }
+    Ok(None)
+}
+
+#[test]
+fn the_script_of_a_run_goes_to_the_named_file(rt: HostRuntime) -> Result<(), Fail> {
+    assert_eq!(rt; first_other_script(rt.alloc(), &SCRIPTS)?, None);
+    Ok(())
+}
+
+/// A word for the order.
+fn word_for(order: &Order) -> &'static str {
+    match order {
+        Order::Levels => "levels",
+        Order::Fifo => "first come",
+        Order::LeastRan => "fewest ticks",
+        Order::LevelsThenLeastRan => "levels and ticks",
+        Order::Table(_) => "table",
+    }
+}
+
+/// Whether the words ask for runs by this order, and for exact steals or not.
+fn goes_by(
+    alloc: Global,
+    words: &'static [&'static str],
+    order: &'static str,
+    exact: bool,
+) -> Result<bool, CommandFault> {
+    match read_command(alloc, words)? {
+        Command::Run { policy, .. } => Ok(
+            word_for(&policy.order) == order && (policy.stealing == Stealing::Exact) == exact,
+        ),
+        _ => Ok(false),
+    }
+}
+
+/// Words of runs, by which order they are, and whether steals are exact.
+static POLICIES: [(&[&str], &str, bool); 6] = [
+    (&["pc-sim", "run"], "levels", false),
+    (
+        &["pc-sim", "run", "--policy", "levels,exact"],
+        "levels",
+        true,
+    ),
+    (&["pc-sim", "run", "--policy=fifo"], "first come", false),
+    (
+        &["pc-sim", "run", "-", "--policy", "fifo,exact"],
+        "first come",
+        true,
+    ),
+    (
+        &["pc-sim", "run", "--policy", "least-ran"],
+        "fewest ticks",
+        false,
+    ),
+    (
+        &["pc-sim", "run", "--policy", "levels-then-least-ran,exact"],
+        "levels and ticks",
+        true,
+    ),
+];
+
+/// The place of the first words that ask for runs by another policy.
+fn first_other_policy(
+    alloc: Global,
+    rows: &[(&'static [&'static str], &'static str, bool)],
+) -> Result<Option<usize>, CommandFault> {
+    for (place, (words, order, exact)) in rows.iter().enumerate() {
+        if !goes_by(alloc, words, order, *exact)? {
+            return Ok(Some(place));
+        }
+    }
+    Ok(None)
+}
+
+#[test]
+fn the_policy_of_a_run_is_named(rt: HostRuntime) -> Result<(), Fail> {
+    assert_eq!(rt; first_other_policy(rt.alloc(), &POLICIES)?, None);
+    Ok(())
+}
+
+/// The place of the first words that are told to be something else than wrong by their policy.
+fn first_of_no_policy(alloc: Global, rows: &[&'static [&'static str]]) -> Option<usize> {
+    for (place, words) in rows.iter().enumerate() {
+        if !matches!(read_command(alloc, words), Err(CommandFault::BadPolicy)) {
+            return Some(place);
+        }
+    }
+    None
+}
+
+#[test]
+fn words_that_name_no_policy_are_told(rt: HostRuntime) {
+    const ROWS: [&[&str]; 6] = [
+        &["pc-sim", "run", "--policy", ""],
+        &["pc-sim", "run", "--policy", "exact"],
+        &["pc-sim", "run", "--policy", "Levels"],
+        &["pc-sim", "run", "--policy", "fifo,"],
+        &["pc-sim", "run", "--policy", "fifo, exact"],
+        &["pc-sim", "run", "--policy", "table"],
+    ];
+    assert_eq!(rt; first_of_no_policy(rt.alloc(), &ROWS), None);
+}
+
 /// Whether the words are told to be wrong (and not an answer to a question for help).
 fn is_wrong(alloc: Global, words: &'static [&'static str]) -> Option<bool> {
     match read_command(alloc, words) {
@@ -249,7 +390,7 @@ fn first_not(alloc: Global, rows: &[&'static [&'static str]], wrong: bool) -> Op
 
 #[test]
 fn other_words_are_no_command(rt: HostRuntime) {
-    const ROWS: [&[&str]; 15] = [
+    const ROWS: [&[&str]; 18] = [
         &["pc-sim"],
         &["pc-sim", "help"],
         &["pc-sim", "walk"],
@@ -265,6 +406,9 @@ fn other_words_are_no_command(rt: HostRuntime) {
         &["pc-sim", "run", "--limit", "soon"],
         &["pc-sim", "run", "--limit", "4294967296"],
         &["pc-sim", "run", "--limit", "1", "--limit", "1"],
+        &["pc-sim", "run", "--script"],
+        &["pc-sim", "run", "--script", "a", "--script", "b"],
+        &["pc-sim", "replay", "--script", "a"],
     ];
     assert_eq!(rt; first_not(rt.alloc(), &ROWS, true), None);
 }

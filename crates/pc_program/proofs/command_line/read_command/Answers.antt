@@ -3,9 +3,9 @@ use Rattle.clap.specs.Simple.{app_of, is_simple, subcommand_of, subcommand_rows_
 use Rattle.clap.specs.Kinds.{IsAmong}
 use Rattle.clap.specs.Values.{kind_of}
 use Rattle.clap.specs.Faults.{fault_of, is_simple_and_free}
-use Rattle.pc_program.specs.CommandLine.{IsAsked, IsNoPart, IsRefusal, pc_sim}
+use Rattle.pc_program.specs.CommandLine.{IsAsked, IsNoPart, IsNoPolicy, IsRefusal, pc_sim}
 use Rattle.pc_program.specs.declared.command_line.CommandFault.{CommandFault}
-use Rattle.pc_program.specs.declared.command_line.CommandFault.TheVariants.{BadNumbers, OutOfMemory}
+use Rattle.pc_program.specs.declared.command_line.CommandFault.TheVariants.{BadNumbers, BadPolicy, OutOfMemory}
 use Rattle.clap.specs.declared.error.kind.ErrorKind.TheVariants as kind
 use Rattle.pc_program.proofs.Commands.{simple, simple_and_free}
 use Rattle.pc_program.proofs.command_line.read_command.Goals as goal
@@ -15,10 +15,11 @@ whatever (Ok a) p = p
 whatever (Err e) p = search rules
 
 -- a fault of words that the parser takes
-taken : {A : Type 0} (r : Result A CommandFault) → IfErr r (λ fault. (fault ≡ OutOfMemory) ⊎ (fault ≡ BadNumbers)) → IfErr r (IsRefusal [])
+taken : {A : Type 0} (r : Result A CommandFault) → IfErr r (λ fault. (fault ≡ OutOfMemory) ⊎ (fault ≡ BadNumbers) ⊎ (fault ≡ BadPolicy)) → IfErr r (IsRefusal [])
 taken (Ok a) h = tt
 taken (Err e) (inl memory) = subst (IsRefusal []) (sym memory) tt
-taken (Err e) (inr numbers) = subst (IsRefusal []) (sym numbers) refl
+taken (Err e) (inr (inl numbers)) = subst (IsRefusal []) (sym numbers) refl
+taken (Err e) (inr (inr policy)) = subst (IsRefusal []) (sym policy) refl
 
 pub returns-in-Ok-clause-taken : goal.returns-in-Ok-clause-taken
 returns-in-Ok-clause-taken g c =
@@ -47,6 +48,13 @@ returns-in-Ok-clause-numbers g c =
     let met : subcommand_rows_of c.in-Ok.matches ≡ subcommand_of pc_sim (map g.S.AsStr.text c.args.words.now) =
     (c.in-Ok.ensures.matches (ap is_simple app ∙ simple)).1 ∙ ap (λ a. subcommand_of a (map g.S.AsStr.text c.args.words.now)) app in
     λ bad. subst IsNoPart met (c.command_of.ensures.numbers bad)
+
+pub returns-in-Ok-clause-policy : goal.returns-in-Ok-clause-policy
+returns-in-Ok-clause-policy g c =
+    let app : app_of c.in_ok-parser.parser ≡ pc_sim = search rules in
+    let met : subcommand_rows_of c.in-Ok.matches ≡ subcommand_of pc_sim (map g.S.AsStr.text c.args.words.now) =
+    (c.in-Ok.ensures.matches (ap is_simple app ∙ simple)).1 ∙ ap (λ a. subcommand_of a (map g.S.AsStr.text c.args.words.now)) app in
+    λ bad. subst IsNoPolicy met (c.command_of.ensures.policy bad)
 
 pub returns-in-Err-2-clause-refused : goal.returns-in-Err-2-clause-refused
 returns-in-Err-2-clause-refused g c =

@@ -1,0 +1,114 @@
+//! A run whose calls are written as a script, beside its report.
+
+ghost use Rattle.std.specs.Prelude.{◌≡◌, ◌⊎◌, []};
+ghost use Rattle.std.specs.Io.Buffered.{writer_buffer, writer_contents};
+ghost use Rattle.std.specs.Io.KnownBytes.{Keeps};
+ghost use Rattle.toml.specs.Parse.{parse_document};
+ghost use Rattle.pc_program.specs.Endings.{ending_of_both};
+ghost use Rattle.pc_program.specs.Programs.{IsScripted, IsWrittenBoth};
+
+use crate::ending::{Ending, Failure};
+use crate::forms::flushed;
+use crate::progress::Progress;
+use crate::report::{ReportForm, write_report};
+use crate::run_text::run_settings;
+use pc_policy::AgentPolicy;
+use pc_threads::LoadReport;
+use pc_transcript::{TranscriptFault, write_transcript};
+use std::alloc::Global;
+use std::io::{self, BufWriter, Write};
+use std::sync::Wait;
+use std::thread::Threads;
+use std::time::Clock;
+
+/// How the program ends after it wrote a script and a report. A write that failed is told before want of memory.
+fn ending_of_both(script: Result<(), TranscriptFault>, report: io::Result<()>) -> Ending
+    ensures { result ≡ ending_of_both script report }
+{
+    match (script, report) {
+        (Ok(()), Ok(())) => Ending::Finished,
+        (Err(TranscriptFault::OutOfMemory), Ok(())) => Ending::OutOfMemory,
+        _ => Ending::CannotRead(Failure::Write),
+    }
+}
+
+/// Writes the script of a run, and then its report, whatever came of the script.
+fn write_both<V: Write, W: Write>(
+    alloc: Global,
+    report: &LoadReport,
+    form: ReportForm,
+    script: &mut V,
+    writer: &mut W,
+) -> Ending
+    ensures { IsWrittenBoth form report.now (V.contents script.old) (V.contents script.new) (W.contents writer.old)
+        (W.contents writer.new) result }
+{
+    let transcribed = write_transcript(alloc, &report.book, script);
+    let told = write_report(writer, report, form);
+    ending_of_both(transcribed, told)
+}
+
+/// Runs agents by a settings text, and writes both. Nothing is flushed.
+fn run_both<R: Threads + Wait + Clock + Sync, S: Write + Copy + Sync, V: Write, W: Write>(
+    rt: &R,
+    alloc: Global,
+    text: &str,
+    policy: AgentPolicy,
+    form: ReportForm,
+    progress: &Progress<S>,
+    script: &mut V,
+    writer: &mut W,
+) -> Ending
+    ensures { IsScripted (parse_document text.now) form (V.contents script.old) (V.contents script.new)
+        (W.contents writer.old) (W.contents writer.new) result }
+{
+    match run_settings(rt, alloc, text, policy, progress) {
+        Ok(report) => write_both(alloc, &report, form, script, writer),
+        Err(fault) => Ending::from(fault),
+    }
+}
+
+/// Flushes what was written before it ended so. That one of these fails is told before all else.
+fn both_flushed<V: Write + Drop, W: Write + Drop>(
+    script: &mut BufWriter<V>,
+    writer: &mut BufWriter<W>,
+    ending: Ending,
+) -> Ending
+    ensures script_kept { Keeps (writer_contents V.contents script.old) (writer_contents V.contents script.new) }
+    ensures kept { Keeps (writer_contents W.contents writer.old) (writer_contents W.contents writer.new) }
+    ensures flushed { (result ≡ Ending.CannotRead Failure.Write)
+        ⊎ ((result ≡ ending) × (writer_buffer script.new ≡ []) × (writer_buffer writer.new ≡ [])) }
+{
+    let ending = flushed(script, ending);
+    flushed(writer, ending)
+}
+
+/// Runs agents by a settings text, writes the calls that they made as a script, and then the report, and flushes both,
+/// whatever the ending.
+///
+/// Endings are those of [`crate::run_flushed`]; want of memory may also be that of the script, of which nothing was
+/// written then. The report is written whatever came of the script.
+pub fn run_scripted<
+    R: Threads + Wait + Clock + Sync,
+    S: Write + Copy + Sync,
+    V: Write + Drop,
+    W: Write + Drop,
+>(
+    rt: &R,
+    alloc: Global,
+    text: &str,
+    policy: AgentPolicy,
+    form: ReportForm,
+    progress: &Progress<S>,
+    script: &mut BufWriter<V>,
+    writer: &mut BufWriter<W>,
+) -> Ending
+    ensures told { IsScripted (parse_document text.now) form (writer_contents V.contents script.old)
+        (writer_contents V.contents script.new) (writer_contents W.contents writer.old)
+        (writer_contents W.contents writer.new) result }
+    ensures flushed { (result ≡ Ending.CannotRead Failure.Write)
+        ⊎ ((writer_buffer script.new ≡ []) × (writer_buffer writer.new ≡ [])) }
+{
+    let ending = run_both(rt, alloc, text, policy, form, progress, script, writer);
+    both_flushed(script, writer, ending)
+}
