@@ -1,17 +1,26 @@
 //! A caller's crate, to copy: functions of the caller's own, with contracts that those of the libraries carry.
 //!
-//! Kernel, views and laws are called by their public names. What is proved of them is all that is known of them here.
+//! Kernel, views, worlds and laws are called by their public names. What is proved of them is all that is known of them
+//! here.
 #![tactic(auto)]
 
-ghost use Rattle.std.specs.Prelude.{◌≡◌, ◌∷◌, [], IfOk, OnOk, true};
+ghost use Rattle.std.specs.Prelude.{ℕ, ◌≡◌, ◌∷◌, [], IfOk, IfSome, IsTrue, OnOk, true};
+ghost use Rattle.pc_calls.specs.declared.event.Reply.TheVariants.{Associated};
 ghost use Rattle.pc_kernel.specs.Answers.{Replays};
+ghost use Rattle.pc_kernel.specs.Reads.{is_cpu, is_known, reported_of, seen, shown};
 ghost use Rattle.pc_messages.specs.Run.{Run};
 ghost use Rattle.pc_view.specs.Views.{IsOfRun};
+ghost use Rattle.pc_world.specs.Facts.{HasAll};
+ghost use Rattle.pc_world.specs.PlainWorld.{PlainWorld};
+ghost use Rattle.pc_world.specs.Reached.{Reached};
+ghost use Rattle.pc_world.specs.Shows.{ShowsWorld};
 
-use pc_join::OutOfMemory;
-use pc_kernel::{Call, CallFault, EnvCall, Kernel};
-use pc_messages::{Cpu, Tid};
-use pc_view::{View, views_of_the_same_messages_are_equal};
+use pc_join::{Join, OutOfMemory};
+use pc_kernel::{Call, CallFault, EnvCall, Kernel, Limits, Posted, Refusal};
+use pc_messages::{Cpu, Reported, Tid};
+use pc_view::{View, complete, views_of_the_same_messages_are_equal};
+use pc_world::laws::{what_a_steal_took_is_reported, who_has_all_is_complete};
+use pc_world::{Event, Reply, World};
 
 /// Creates a ready thread at the CPU's queue, which may run on the CPUs of the mask, and answers its name.
 ///
@@ -36,5 +45,56 @@ pub fn meet(first: &mut View, second: &mut View) -> Result<(), OutOfMemory>
     match first.merge(second) {
         Ok(()) => second.merge(first),
         Err(fault) => Err(fault),
+    }
+}
+
+/// Whether the CPU's agent knows all messages of the thread so far; of a CPU that is not there, no.
+///
+/// Where it has taken in all that was sent and all that waits in queues, it knows them of each thread.
+pub fn knows_all(world: &World, cpu: Cpu, thread: Tid) -> bool
+    ensures complete { (limits : Limits) (w : PlainWorld) → Reached limits w → ShowsWorld world.now w
+        → IsTrue (is_cpu (shown w.kernel) cpu) → HasAll w (w.agents cpu).known
+        → IsTrue (is_known (shown w.kernel) thread) → IsTrue result }
+{
+    who_has_all_is_complete();
+    match world.view(cpu) {
+        Some(view) => complete(view, world.kernel(), thread),
+        None => false,
+    }
+}
+
+/// The thread that a reply tells to have another queue from now on.
+fn taken_by(reply: &Reply) -> Option<Tid>
+    ensures { IfSome result (λ thread. (queue : ℕ) × (reply.now ≡ Associated queue thread)) }
+{
+    match reply {
+        Reply::Associated { thread, .. } => Some(*thread),
+        _ => None,
+    }
+}
+
+/// The CPU's agent takes a thread over. Answers which, and the state that the agent's view reported of it, which is
+/// what the kernel reported; none where the steal was refused.
+///
+/// Where memory runs out, nothing was done.
+pub fn take_over(
+    world: &mut World,
+    cpu: Cpu,
+) -> Result<Option<(Tid, Option<Reported>)>, OutOfMemory>
+    ensures reported { IfOk result (λ taken. IfSome taken (λ told.
+        told.1 ≡ reported_of (seen world.old.kernel) told.0)) }
+{
+    what_a_steal_took_is_reported();
+    world.is_reached();
+    // The checker finds the types that a reply nests only where the function names them.
+    let _: (Option<Posted>, Option<Tid>, Option<Cpu>, Option<Refusal>) = (None, None, None, None);
+    let before = match world.view(cpu) {
+        Some(view) => view.try_copy()?,
+        None => return Ok(None),
+    };
+    let reply = world.step(Event::Steal { cpu })?;
+    match taken_by(&reply) {
+        Some(thread) => Ok(Some((thread, before.reported(thread)))),
+        None => Ok(None),
     }
 }
