@@ -99,6 +99,9 @@ class Completions(unittest.TestCase):
     def test_files_are_completed(self) -> None:
         self.assertEqual(self.bash("replay", "examples/fir"), ["examples/first-run.script"])
         self.assertEqual(self.bash("run", "--per-cpu", "examples/st"), ["examples/steals-and-restarts.toml"])
+        self.assertEqual(self.bash("run", "--script", "examples/fir"), ["examples/first-run.script"])
+        self.assertEqual(self.bash("run", "--policy", "f"), ["fifo", "fifo,exact"])
+        self.assertEqual(len(self.bash("run", "--policy", "")), 8)
         self.assertEqual(self.bash("replay", "exam"), ["examples"])
         self.assertEqual(self.bash("replay", "CHANGE"), ["CHANGELOG.md"])
         if shutil.which("fish"):

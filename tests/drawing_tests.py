@@ -93,6 +93,7 @@ class Story:
     steals: int = 0
     taken_in: int = 0
     posted: int = 0
+    policy: str = ""
 
     def take(self, number: int, words: list[str], answer: str) -> None:
         self.commands += 1
@@ -100,6 +101,8 @@ class Story:
         self.posted += " wake " in answer
         if answer.startswith("refused"):
             self.refused += 1
+        elif words[0] == "policy":
+            self.policy = ", " + " ".join(words)
         elif words[0] in ("commit", "pick"):
             thread, cpu = re.fullmatch(r"ok t(\d+) c(\d+)", answer).groups()
             self.on[int(cpu)] = (int(thread), number)
@@ -114,7 +117,8 @@ class Story:
 
     def leave(self, cpu: int, number: int) -> None:
         thread, first = self.on.pop(cpu)
-        self.runs[f"t{thread} on CPU {cpu}, lines {first} to {number}"] += 1
+        lines = f"lines {first} to {number}" if first < number else f"line {first}"
+        self.runs[f"t{thread} on CPU {cpu}, {lines}"] += 1
 
     def end(self) -> Story:
         for cpu in list(self.on):
@@ -228,12 +232,12 @@ class Watched:
         told = [re.fullmatch(r"t\d+ n\d+ (ready|blocked|dead)(?: c(\d+))?", answer) for answer in statuses]
         on = {int(it[2]): thread for thread, it in enumerate(told) if it and it[2]}
         waits = Counter(self.homes[thread] for thread, it in enumerate(told) if it and it[1] == "ready" and not it[2])
-        cpus = range(len(asleep))
+        cpus = range(self.cpus)
         return {
             "runs": [on.get(cpu) for cpu in cpus],
             "ready": [waits[cpu] or None for cpu in cpus],
             "queue": [self.items[cpu] or None for cpu in cpus],
-            "asleep": [1 if asleep[cpu] == "yes" else None for cpu in cpus],
+            "asleep": [1 if asleep[cpu : cpu + 1] == ["yes"] else None for cpu in cpus],
             "idle": [waits.total() or None if cpu not in on else None for cpu in cpus],
         }
 
@@ -405,6 +409,15 @@ class Drawings(unittest.TestCase):
     def test_a_fault_in_the_first_line_has_a_picture(self) -> None:
         self.assertEqual(self.title(self.draw("walk\n", 1)), "commands 0, refused 0, fault line 1")
 
+    def test_the_title_tells_the_policy_that_was_accepted_last(self) -> None:
+        head, new = "version 3\nenclave 1 8 100 16 1000\n", "create 0 1 ready\n"
+        self.assertEqual(self.title(self.draw(head + new)), "commands 2, refused 0")
+        self.assertEqual(self.title(self.draw(head + "policy levels\n" + new)), "commands 3, refused 0, policy levels")
+        two = head + "policy fifo\npolicy least-ran exact\n" + new
+        self.assertEqual(self.title(self.draw(two)), "commands 4, refused 0, policy least-ran exact")
+        self.assertEqual(self.title(self.draw(two + "policy fifo\n")), "commands 5, refused 1, policy least-ran exact")
+        self.assertEqual(self.title(self.draw(two + "walk\n", 1)), "commands 4, refused 0, policy least-ran exact, fault line 6")
+
     def test_version_two_is_no_command(self) -> None:
         self.assertEqual(self.title(self.draw("version 2\nenclave 2 65535 100 16 1000\n")), "commands 1, refused 0")
 
@@ -450,9 +463,9 @@ class Drawings(unittest.TestCase):
                 script = file.read_text()
                 story = story_of(script, self.answers(script))
                 root = self.draw(script)
-                self.assertEqual(self.title(root), f"commands {story.commands}, refused {story.refused}")
+                self.assertEqual(self.title(root), f"commands {story.commands}, refused {story.refused}{story.policy}")
                 if story.commands <= 1000:
-                    self.assertEqual(self.told(root, r"t\d+ on CPU \d+, lines \d+ to \d+"), story.runs)
+                    self.assertEqual(self.told(root, r"t\d+ on CPU \d+, (?:lines \d+ to \d+|line \d+)"), story.runs)
                     self.assertEqual(len(self.told(root, r"crash\b.*, line \d+.*")), story.crashes)
 
     def shown_bars(self, script: str, part: Part = WHOLE) -> Counter[str]:
@@ -601,7 +614,7 @@ class Drawings(unittest.TestCase):
         told, wide = words_in(root), max(4, min(24, 1200 // max(1, len(commands))))
         cpus = next((int(words[1]) for _, words, answer in commands if words[0] == "enclave" and answer == "ok"), 0)
         fault = re.search(r"^fault line (\d+)$", output, re.MULTILINE)
-        heading = f"commands {story.commands}, refused {story.refused}" + (f", {fault[0]}" if fault else "")
+        heading = f"commands {story.commands}, refused {story.refused}{story.policy}" + (f", {fault[0]}" if fault else "")
         self.assertEqual([words.text for words in told[:2]], [heading, SINGLE_WORDS])
         lanes = [words for words in told if words.x == 4]
         self.assertEqual([words.text for words in lanes], [f"CPU {cpu}" for cpu in range(cpus)])

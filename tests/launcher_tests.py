@@ -516,9 +516,10 @@ class Launcher(unittest.TestCase):
         self.wait_for_text(start, "waiting")
         status, out, errors = self.ended(gate)
         self.assertEqual((status, errors), (0, ""))
-        self.assertEqual(out.splitlines()[-1], "cases: --gate-status 0 --gate-line 3 passed, 0 failed --also 2 passed, 0 failed --also 5 passed, 0 failed"
-                         " --also 6 passed, 0 failed --also 7 passed, 0 failed --also 8 passed, 0 failed --also 9 passed, 0 failed"
-                         " --also 10 passed, 0 failed --also 11 passed, 0 failed --also 4 passed, 0 failed"
+        self.assertEqual(out.splitlines()[-1], "cases: --gate-status 0 --gate-line 3 passed, 0 failed --also 12 passed, 0 failed"
+                         " --also 2 passed, 0 failed --also 5 passed, 0 failed --also 6 passed, 0 failed --also 7 passed, 0 failed"
+                         " --also 8 passed, 0 failed --also 9 passed, 0 failed --also 10 passed, 0 failed --also 13 passed, 0 failed"
+                         " --also 11 passed, 0 failed --also 4 passed, 0 failed"
                          " --also --short passed, 0 failed")
         self.assertEqual(self.ended(start)[0], 0)
         words, began, ended = self.calls()
@@ -542,6 +543,7 @@ class Launcher(unittest.TestCase):
     def put_stand_ins_of_tests(self):
         """What `test` runs after the gate: each prints what it was given."""
         (self.tree / "tests").mkdir()
+        (self.tree / "tests/edit_reasons_tests.py").write_text("print('12 passed, 0 failed')\n")
         (self.tree / "tests/launcher_tests.py").write_text("print('2 passed, 0 failed')\n")
         (self.tree / "tests/check_documents.py").write_text("print('5 passed, 0 failed')\n")
         (self.tree / "tests/terminal_tests.py").write_text("print('6 passed, 0 failed')\n")
@@ -549,6 +551,7 @@ class Launcher(unittest.TestCase):
         (self.tree / "tests/recording_tests.py").write_text("print('8 passed, 0 failed')\n")
         (self.tree / "tests/drawing_tests.py").write_text("print('9 passed, 0 failed')\n")
         (self.tree / "tests/advice_tests.py").write_text("print('10 passed, 0 failed')\n")
+        (self.tree / "tests/policy_tests.py").write_text("print('13 passed, 0 failed')\n")
         (self.tree / "tests/running_tests.py").write_text("print('11 passed, 0 failed')\n")
         (self.tree / "tests/hostile_tests.py").write_text("print('4 passed, 0 failed')\n")
         (self.tree / "tests/hostile").mkdir()

@@ -1,5 +1,5 @@
 #!/usr/bin/env python3
-"""Tests runs of agents in threads: their refusals by name, and their limit.
+"""Tests runs of agents in threads: their refusals by name, their limit, their scripts, and their policies.
 
     tests/running_tests.py [--program PROGRAM]
 
@@ -11,8 +11,10 @@ import argparse
 import pathlib
 import random
 import re
+import signal
 import subprocess
 import sys
+import tempfile
 import time
 import unittest
 from dataclasses import dataclass
@@ -22,6 +24,8 @@ PROGRAM = ROOT / "crates/pc_sim/out/pc_sim"
 SECONDS = 120
 DRAWN = 40
 LEAVES = ("yield", "block", "preempt", "die")
+ORDERS = ("levels", "fifo", "least-ran", "levels-then-least-ran")
+POLICIES = [order + rest for order in ORDERS for rest in ("", ",exact")]
 CPU_LINE = re.compile(r"cpu (\d+)((?: [A-Za-z]+ \d+)+)")
 
 
@@ -74,14 +78,89 @@ class Runs(unittest.TestCase):
                 self.assertEqual(list(row)[-5:], ["other", "Busy", "NothingReady", "NothingToSteal", "Dead"])
                 self.assertEqual(row["other"], sum(list(row.values())[-4:]), line)
 
+    def replies_of(self, script: pathlib.Path) -> list[tuple[str, str]]:
+        """Each command of a script by its first word, and what it is answered."""
+        ended = run("replay", str(script), text="")
+        self.assertEqual((ended.returncode, ended.stderr), (0, ""))
+        commands = [line.split()[0] for line in script.read_text().splitlines()]
+        replies = ended.stdout.splitlines()
+        self.assertEqual(len(replies), len(commands))
+        return list(zip(commands, replies))
+
+    def test_the_script_of_a_run_makes_its_calls(self):
+        rng = random.Random(31)
+        for _ in range(DRAWN):
+            text = drawn(rng)
+            with tempfile.TemporaryDirectory() as folder:
+                script = pathlib.Path(folder) / "run.script"
+                ended = run("run", "--per-cpu", "--script", str(script), text=text)
+                self.assertEqual((ended.returncode, ended.stderr), (0, ""), text)
+                replies = self.replies_of(script)
+            self.assertEqual(replies[0], ("enclave", "ok"))
+            self.assertEqual([it for it in replies if it[1].split()[0] != "ok"], [], text)
+            totals = dict(line.split() for line in ended.stdout.splitlines()[:4])
+            rows = [counts_of(line) for line in ended.stdout.splitlines()[4:]]
+            made = [command for command, _ in replies]
+            self.assertEqual(made.count("create"), int(totals["threads"]), text)
+            self.assertEqual(made.count("commit"), int(totals["commits"]), text)
+            self.assertEqual(made.count("associate"), sum(row["steals"] for row in rows), text)
+            taken = sum(int(reply.split()[1]) for command, reply in replies if command == "consume")
+            self.assertEqual(taken, sum(row["taken"] for row in rows), text)
+
+    def test_a_script_replaces_what_its_file_had(self):
+        text = "cpus = 1\n" + Plan(0, 1, ["die 1"]).text()
+        with tempfile.TemporaryDirectory() as folder:
+            script = pathlib.Path(folder) / "-"
+            script.write_text("tick 0\n" * 1000)
+            words = [str(PROGRAM), "run", "--script", "-"]
+            ended = subprocess.run(words, input=text, capture_output=True, text=True, timeout=SECONDS, cwd=folder)
+            self.assertEqual((ended.returncode, ended.stdout), (0, "threads 1\nmessages 2\ncommits 1\nran 1\n"))
+            made = [line for line in script.read_text().splitlines() if line.split()[0] in ("create", "commit", "die")]
+        self.assertEqual(made, ["create 0 1 ready", "commit 0 t0 1", "die 0 1"])
+
+    def test_runs_under_each_policy_come_to_the_same(self):
+        rng = random.Random(57)
+        for _ in range(DRAWN // 4):
+            text = drawn(rng)
+            steps = len(re.findall(r'"(?:yield|block|preempt|die) ', text))
+            reports = set()
+            for policy in POLICIES:
+                ended = run("run", "--policy", policy, text=text)
+                self.assertEqual((ended.returncode, ended.stderr), (0, ""), (policy, text))
+                reports.add(ended.stdout)
+            self.assertEqual(len(reports), 1, text)
+            self.assertIn(f"\ncommits {steps}\n", reports.pop(), text)
+
+    def test_the_fewest_ticks_come_first(self):
+        """One agent, and three threads that are there before it looks: each runs as soon as it has the fewest ticks."""
+        plans = [Plan(0, 1, ["yield 5", "die 1"]), Plan(0, 1, ["yield 3", "die 1"]), Plan(0, 1, ["yield 1", "yield 1", "die 1"])]
+        text = "cpus = 1\n" + "".join(plan.text() for plan in plans)
+        wanted = {"fifo": ["t0", "t1", "t2", "t0", "t1", "t2", "t2"], "least-ran": ["t0", "t1", "t2", "t2", "t2", "t1", "t0"]}
+        for policy, threads in wanted.items():
+            with tempfile.TemporaryDirectory() as folder:
+                script = pathlib.Path(folder) / "run.script"
+                ended = run("run", "--policy", policy, "--script", str(script), text=text)
+                self.assertEqual((ended.returncode, ended.stderr), (0, ""))
+                commits = [line.split()[2] for line in script.read_text().splitlines() if line.startswith("commit ")]
+            self.assertEqual(commits, threads, policy)
+
     def test_a_long_run_is_given_up(self):
+        """However fast the machine is: the program is stopped, once its run has begun, until its limit is over."""
         steps = ["yield 1"] * 999 + ["die 1"]
-        text = "cpus = 1\n" + Plan(0, 1, steps).text() * 80
-        begin = time.monotonic()
-        ended = run("run", "--limit", "1", text=text)
-        self.assertEqual((ended.returncode, ended.stdout), (3, ""))
-        self.assertRegex(ended.stderr, r"\Apc-sim: run GaveUp\npc-sim: \d+ of 80 threads dead, \d+ messages\n\Z")
-        self.assertLess(time.monotonic() - begin, 60)
+        with tempfile.TemporaryDirectory() as name:
+            settings, script = pathlib.Path(name) / "run.toml", pathlib.Path(name) / "run.script"
+            settings.write_text("cpus = 1\n" + Plan(0, 1, steps).text() * 80)
+            words = [str(PROGRAM), "run", "--limit", "1", "--script", str(script), str(settings)]
+            begun = subprocess.Popen(words, stdout=subprocess.PIPE, stderr=subprocess.PIPE, text=True)
+            while not script.exists() and begun.poll() is None:
+                time.sleep(0.001)
+            time.sleep(0.02)
+            begun.send_signal(signal.SIGSTOP)
+            time.sleep(1.2)
+            begun.send_signal(signal.SIGCONT)
+            out, told = begun.communicate(timeout=SECONDS)
+        self.assertEqual((begun.returncode, out), (3, ""))
+        self.assertRegex(told, r"\Apc-sim: run GaveUp\npc-sim: \d+ of 80 threads dead, \d+ messages\n\Z")
 
 
 def main() -> int:

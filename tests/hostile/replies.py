@@ -44,11 +44,19 @@ COMMANDS = [
     ("same C C", "equal|differ", ["BadCpu"]),
     ("complete C T", "yes|no", ["BadCpu"]),
 ]
+# The commands that version 3 alone has.
+OWN = [("policy NAME", "ok", ["TooLate"]), ("policy NAME exact", "ok", ["TooLate"])]
+NAMES = [b"levels", b"fifo", b"least-ran", b"levels-then-least-ran"]
+VERSIONS = {b"2": 2, b"3": 3}
+# What is no event: a policy stands before the first one.
+NO_EVENTS = {b"enclave", b"policy", b"status", b"asleep", b"show", b"same", b"complete"}
 ROW = re.compile(r"t(\d+) upto (?:(0) -|([1-9]\d*) (?:ready|blocked|dead) mask [1-9]\d* ran \d+(?: level [1-7])?) early (-|\d+(?: \d+)*)")
 
 
 def is_field(field, word):
     """Whether a word may stand where a row of COMMANDS has this one."""
+    if field == "NAME":
+        return word in NAMES
     if field not in GREATEST:
         return word == field.encode()
     if field == "T":
@@ -64,9 +72,9 @@ def words_of(line):
     return [] if line.startswith(b"#") else [word for word in line.split(b" ") if word]
 
 
-def row_of(words):
-    """The row of COMMANDS that the words are, or None: a fault."""
-    for row in COMMANDS:
+def row_of(words, version):
+    """The row of COMMANDS, or of those of version 3, that the words are, or None: a fault."""
+    for row in COMMANDS + OWN * (version == 3):
         fields = row[0].split()
         if len(fields) == len(words) and all(map(is_field, fields, words)):
             return row
@@ -76,12 +84,15 @@ def row_of(words):
 def asked(script):
     """What a script asks for: of each line that is not silent its number, its words, and its row, 'version' or None for a fault."""
     lines = script.split(b"\n")
-    first = True
+    first, version = True, 1
     for number, line in enumerate(lines, start=1):
         words = words_of(line)
         if not words:
             continue
-        row = "version" if first and words == [b"version", b"2"] else row_of(words)
+        if first and len(words) == 2 and words[0] == b"version" and words[1] in VERSIONS:
+            row, version = "version", VERSIONS[words[1]]
+        else:
+            row = row_of(words, version)
         first = False
         yield number, words, row
         if row is None:
@@ -108,6 +119,7 @@ class Replies:
         self.ends_whole = self.lines.pop() == ""
         self.place = 0
         self.has_enclave = False
+        self.had_event = False
 
     def take(self):
         self.place += 1
@@ -137,6 +149,10 @@ class Replies:
         if self.has_enclave == is_opening:
             wanted = "refused HaveEnclave" if is_opening else "refused NoEnclave"
             return None if answer == wanted else f"{answer!r} in place of {wanted!r}"
+        if row in OWN:
+            wanted = "refused TooLate" if self.had_event else "ok"
+            return None if answer == wanted else f"{answer!r} in place of {wanted!r}"
+        self.had_event = self.had_event or words[0] not in NO_EVENTS
         if is_refusal(answer, row[2]):
             return None
         if row[0].startswith("show"):

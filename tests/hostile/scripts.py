@@ -1,7 +1,7 @@
 """Scripts drawn at random: by the grammar, with numbers that mostly fit, and then with words and bytes spoilt."""
 from dataclasses import dataclass, field
 
-from replies import COMMANDS, GREATEST
+from replies import COMMANDS, GREATEST, NAMES
 
 # The limits of an enclave, by what they are to do: be met soon, be met now and then, be as wide as may be, be past the range.
 LIMITS = {
@@ -80,6 +80,11 @@ def command(chance, rough, fields, cpu):
     return words
 
 
+def policy(chance):
+    """A policy of the agents."""
+    return [b"policy", chance.choice(NAMES), *([b"exact"] * (chance.random() < 0.5))]
+
+
 def turn(chance, rough):
     """Some commands that follow each other often, on one CPU; or one of any sort."""
     cpu, how = chance.randrange(rough.cpus), chance.random()
@@ -143,12 +148,17 @@ def joined(chance, words):
 
 def script(chance):
     """A script: most are by the grammar throughout, the others are spoilt in a line near their end, or in some bytes."""
-    lines = [b"version 2"] * (chance.random() < 0.1) + [b"# a comment\r", b"", b" "][:chance.choice([0, 0, 0, 3])]
+    version = chance.choice([b"version 2", b"version 3"]) if chance.random() < 0.1 else None
+    lines = ([version] if version else []) + [b"# a comment\r", b"", b" "][:chance.choice([0, 0, 0, 3])]
     opening = enclave(chance)
     lines.append(joined(chance, opening))
+    if version == b"version 3":
+        lines += [joined(chance, policy(chance)) for _ in range(chance.choice([0, 1, 2]))]
     rough = Rough(min(64, int(opening[1])) or 1)
     for _ in range(chance.choice(LENGTHS)):
         lines += [joined(chance, words) for words in turn(chance, rough)]
+        if version == b"version 3" and chance.random() < 0.05:
+            lines.append(joined(chance, policy(chance)))
     how = chance.random()
     if how < 0.3:
         place = len(lines) - 1 - min(len(lines) - 1, int(chance.expovariate(0.3)))

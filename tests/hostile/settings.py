@@ -50,6 +50,8 @@ ROWS = {
     "16 CPUs": ("cpus = 16\n" + thread(15, 2**16 - 1, "block 1", "preempt 1", "die 1") * 2, totals(2, 10, 6, 6)),
     "64 CPUs": ("cpus = 64\n", totals(0, 0, 0, 0)),
 }
+# Of these the calls are written as a script, too.
+SCRIPTED = ("one thread", "a restart")
 # Each fault, alone: what is told of it, or None where the text cannot be read at all.
 FAULTS = {
     "no TOML": ("cpus =\n", "NotToml"),
@@ -141,6 +143,10 @@ def accepted(folder):
     """The settings that are run."""
     for name, (text, out) in ROWS.items():
         yield Subject(f"settings of {name}", ["run", str(written(folder, name, text))], out=out.encode(), environment=ONE_HEAP)
+    for name in SCRIPTED:
+        text, out = ROWS[name]
+        words = ["run", "--script", "/dev/null", str(written(folder, name, text))]
+        yield Subject(f"settings of {name} with a script", words, out=out.encode(), environment=ONE_HEAP)
 
 
 def faulty(folder):

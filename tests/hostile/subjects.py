@@ -141,6 +141,8 @@ WORDS = {
     "a flag before its command": ["--per-cpu", "run"],
     "a flag twice": ["run", "--draw", "--draw"],
     "a limit that is no number": ["run", "--limit", "soon"],
+    "a script without a name": ["run", "--script"],
+    "a policy that is none": ["run", "--policy", "fastest"],
     "numbers that are none": ["draw", "--cpus", "7-3"],
     "a flag with a value": ["run", "--per-cpu=yes"],
     "a file that is no text": ["replay", b"\xff\xfe"],

@@ -3,6 +3,7 @@
 mod commands;
 mod ends;
 mod faults;
+mod policies;
 mod reading;
 mod responses;
 mod texts;
@@ -167,6 +168,7 @@ impl Machine for Echo {
             Command::Enclave(limits) => enclave(self.profile, limits.threads),
             Command::Event(event) => Response::Event(happened(event)),
             Command::Read(question) => told(self.alloc, question)?,
+            Command::Policy(policy) => Response::Ruled(policy),
         };
         Ok(())
     }

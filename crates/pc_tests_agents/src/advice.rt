@@ -3,6 +3,7 @@
 use pc_advice::{Advice, Deed, Plan, Step, advise, tried_by_steal};
 use pc_calls::{EnvCall, Limits};
 use pc_messages::{Cpu, Tid};
+use pc_script::{OrderName, PolicyName};
 use pc_world::{Event, World};
 use std::alloc::Global;
 
@@ -33,15 +34,18 @@ fn does_all(world: &mut World, events: &[Event]) -> bool {
     true
 }
 
-fn steps_to(world: &World, event: &Event) -> Option<usize> {
-    match advise(world, &Deed::of(event)) {
+fn steps_to(world: &World, policy: PolicyName, event: &Event) -> Option<usize> {
+    match advise(world, policy, &Deed::of(event)) {
         Advice::Steps(plan) => Some(plan.steps().len()),
         _ => None,
     }
 }
 
 fn is_never(world: &World, event: &Event) -> bool {
-    matches!(advise(world, &Deed::of(event)), Advice::Never)
+    matches!(
+        advise(world, PolicyName::USUAL, &Deed::of(event)),
+        Advice::Never
+    )
 }
 
 fn is_wake(step: &Step) -> bool {
@@ -53,14 +57,24 @@ fn ends_by_a_wake(plan: &Plan) -> bool {
 }
 
 fn wakes(world: &World, event: &Event) -> bool {
-    match advise(world, &Deed::of(event)) {
+    match advise(world, PolicyName::USUAL, &Deed::of(event)) {
         Advice::Steps(plan) => ends_by_a_wake(&plan),
         _ => false,
     }
 }
 
+/// Levels, and exact steals.
+const EXACT: PolicyName = PolicyName {
+    order: OrderName::Levels,
+    exact: true,
+};
+
+fn tries_exactly(world: &World, cpu: u8) -> Option<Tid> {
+    tried_by_steal(world, EXACT, Cpu(cpu))
+}
+
 fn tries(world: &World, cpu: u8) -> Option<Tid> {
-    tried_by_steal(world, Cpu(cpu))
+    tried_by_steal(world, PolicyName::USUAL, Cpu(cpu))
 }
 
 const WAKE: Event = Event::Env(EnvCall::Wake { thread: Tid(0) });
@@ -83,16 +97,38 @@ const DELIVER: Event = Event::Deliver {
     delta: 0,
 };
 
+const RAISE: Event = Event::Env(EnvCall::SetPriority {
+    thread: Tid(0),
+    level: 5,
+});
+
+/// Whether an exact steal tries only a thread of which its agent knows every message.
+fn is_exact(alloc: Global) -> bool {
+    let Some(mut world) = new_world(alloc) else {
+        return false;
+    };
+    let is_known = does_all(&mut world, &[CREATE, PUBLISH, DELIVER]);
+    let is_tried = tries_exactly(&world, 1) == Some(Tid(0));
+    let is_raised = does(&mut world, &RAISE);
+    let is_old = tries(&world, 1) == Some(Tid(0)) && tries_exactly(&world, 1).is_none();
+    is_known && is_tried && is_raised && is_old
+}
+
+#[test]
+fn exact_steals_try_what_is_known(rt: HostRuntime) {
+    assert!(rt; is_exact(rt.alloc()));
+}
+
 /// Whether what is advised in a world without threads, and what is advised for a steal, is this.
 fn is_advised(alloc: Global) -> bool {
     let Some(mut world) = new_world(alloc) else {
         return false;
     };
-    let is_first = steps_to(&world, &WAKE) == Some(2) && wakes(&world, &WAKE);
+    let is_first = steps_to(&world, PolicyName::USUAL, &WAKE) == Some(2) && wakes(&world, &WAKE);
     let is_nowhere = is_never(&world, &Event::Steal { cpu: Cpu(2) });
     let is_done = does_all(&mut world, &[CREATE, PUBLISH, DELIVER]);
     // The message of t0 has to leave queue 0 first.
-    let is_stolen = steps_to(&world, &STEAL) == Some(2);
+    let is_stolen = steps_to(&world, PolicyName::USUAL, &STEAL) == Some(2);
     let is_tried = tries(&world, 1) == Some(Tid(0)) && tries(&world, 0).is_none();
     is_first && is_nowhere && is_done && is_stolen && is_tried
 }

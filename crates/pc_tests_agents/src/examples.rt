@@ -1,7 +1,9 @@
-//! The example that the root of `pc_world` shows, line for line: `tests/check_documents.py` holds it against this.
+//! The example that the root of `pc_world` shows, line for line: `tests/check_documents.py` holds it against this. And
+//! what the functions of `pc_example` answer of such a world.
 
 use pc_calls::{EnvCall, Limits};
-use pc_messages::{Cpu, Tid};
+use pc_example::{knows_all, take_over};
+use pc_messages::{Cpu, Phase, Reported, Tid};
 use pc_world::{Event, Reply, World};
 use std::alloc::Global;
 use std::test::Fail;
@@ -52,4 +54,100 @@ fn an_idle_agent_steals(rt: HostRuntime) -> Result<(), Fail> {
     };
     assert_eq!(rt; stolen(rt.alloc())?, Some(associated));
     Ok(())
+}
+
+// Without contracts, as the functions below, so that a test's proof does not carry those of the world.
+fn takes(world: &mut World, event: Event) -> bool {
+    world.step(event).is_ok()
+}
+
+fn opened(alloc: Global) -> Option<World> {
+    let limits = Limits {
+        cpus: 2,
+        threads: 8,
+        numbers: 100,
+        room: 16,
+        posts: 1_000,
+    };
+    World::new(alloc, limits).ok()
+}
+
+/// A world in which a thread was created on the first CPU, and its agent has sent and removed that.
+fn sent(alloc: Global) -> Option<World> {
+    let mut world = opened(alloc)?;
+    let created = EnvCall::Create {
+        queue: Cpu(0),
+        mask: 3,
+        ready: true,
+    };
+    let publish = Event::Publish {
+        cpu: Cpu(0),
+        fails: false,
+    };
+    let consume = Event::Consume { cpu: Cpu(0) };
+    let done = takes(&mut world, Event::Env(created))
+        && takes(&mut world, publish)
+        && takes(&mut world, consume);
+    if done { Some(world) } else { None }
+}
+
+/// The agent of the second CPU takes in what was sent.
+fn delivered(world: &mut World) -> bool {
+    let deliver = Event::Deliver {
+        cpu: Cpu(1),
+        delta: 0,
+    };
+    takes(world, deliver)
+}
+
+fn is_known(world: &World) -> bool {
+    knows_all(world, Cpu(1), Tid(0))
+}
+
+/// Whether the agent of the second CPU knows all of the thread before it takes in what was sent, and behind that.
+fn known(alloc: Global) -> Option<(bool, bool)> {
+    let mut world = sent(alloc)?;
+    let before = is_known(&world);
+    if !delivered(&mut world) {
+        return None;
+    }
+    let behind = is_known(&world);
+    Some((before, behind))
+}
+
+#[test]
+fn who_has_taken_all_in_knows_all(rt: HostRuntime) {
+    assert_eq!(rt; known(rt.alloc()), Some((false, true)));
+}
+
+fn phase_of(state: &Option<Reported>) -> Option<Phase> {
+    match state {
+        Some(state) => Some(state.phase),
+        None => None,
+    }
+}
+
+/// Which thread the agent of the second CPU takes over, and its phase.
+fn taken(world: &mut World) -> Option<(Tid, Option<Phase>)> {
+    let told = take_over(world, Cpu(1)).ok()?;
+    match &told {
+        Some(taken) => Some((taken.0, phase_of(&taken.1))),
+        None => None,
+    }
+}
+
+/// Whether it takes none over before it takes in what was sent, and the thread, which is ready, behind that.
+fn takes_over_what_it_knows(alloc: Global) -> Option<bool> {
+    let mut world = sent(alloc)?;
+    let none = taken(&mut world).is_none();
+    if !delivered(&mut world) {
+        return None;
+    }
+    let ready = Some((Tid(0), Some(Phase::Ready)));
+    Some(none && taken(&mut world) == ready)
+}
+
+#[test]
+fn a_thread_is_taken_over_in_the_state_that_the_view_reports(rt: HostRuntime) {
+    assert_eq!(rt; takes_over_what_it_knows(rt.alloc()), Some(true));
 }

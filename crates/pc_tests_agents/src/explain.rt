@@ -1,10 +1,12 @@
 //! Tests: scripts with what is told of them.
 
+mod policies;
 mod rows;
 
 use pc_explain::explain_script;
 use pc_script::{Outcome, ScriptFault, lines_of, run_script};
 use pc_session::Session;
+use policies::{POLICIES, POLICY_FAULTS};
 use rows::{AGENTS, CALLS, EVERYTHING, FAULTS, REFUSALS, TRUTHS, WORD_TOO_MANY};
 use std::alloc::{AllocError, Global};
 use std::process::Abort;
@@ -56,6 +58,12 @@ fn what_agents_do_is_told(rt: HostRuntime) {
 #[test]
 fn refusals_are_told(rt: HostRuntime) {
     each_is_told(&rt, rt.alloc(), REFUSALS.as_slice());
+}
+
+#[test]
+fn policies_are_told(rt: HostRuntime) {
+    each_is_told(&rt, rt.alloc(), POLICIES.as_slice());
+    each_is_told(&rt, rt.alloc(), POLICY_FAULTS.as_slice());
 }
 
 #[test]
@@ -139,7 +147,8 @@ fn is_run_without_comments(alloc: Global, script: &[u8]) -> bool {
 
 #[test]
 fn without_comments_it_is_what_a_run_writes(rt: HostRuntime) {
-    let [first, second] = EVERYTHING;
+    let [first, second, third] = EVERYTHING;
     assert!(rt; is_run_without_comments(rt.alloc(), first));
     assert!(rt; is_run_without_comments(rt.alloc(), second));
+    assert!(rt; is_run_without_comments(rt.alloc(), third));
 }

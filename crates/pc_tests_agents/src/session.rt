@@ -1,7 +1,7 @@
 //! Sessions: there is a world from an accepted enclave on, of which reads are answered.
 
 use pc_calls::{Profile, Refusal};
-use pc_script::{Command, Machine, Read as Question, Response, Wish, asked};
+use pc_script::{Command, Machine, Read as Question, Response, Version, Wish, asked};
 use pc_session::{Session, answer_of};
 use pc_world::World;
 use std::alloc::Global;
@@ -9,7 +9,7 @@ use std::process::Abort;
 
 /// Takes the command of a line, whatever it is answered. Answers false where the line has none, or memory ran out.
 fn takes(session: &mut Session, line: &[u8]) -> bool {
-    let Wish::Answer(command) = asked(line) else {
+    let Wish::Answer(command) = asked(Version::Three, line) else {
         return false;
     };
     let mut response = Response::NoEnclave;
@@ -54,6 +54,68 @@ fn there_is_a_world_from_an_accepted_enclave_on(rt: HostRuntime) {
     each_leaves(&rt, rt.alloc(), &ROWS);
 }
 
+/// What a line is answered, as far as policies go.
+#[derive(Clone, Copy, Debug, PartialEq, Eq)]
+enum Heard {
+    NoEnclave,
+    Ruled,
+    TooLate,
+    Other,
+}
+
+/// What a line is answered; none where it asks for nothing, or memory ran out.
+fn answer_to(session: &mut Session, line: &[u8]) -> Option<Heard> {
+    let Wish::Answer(command) = asked(Version::Three, line) else {
+        return None;
+    };
+    let mut response = Response::HaveEnclave;
+    session.answer(command, &mut response).ok()?;
+    Some(match response {
+        Response::NoEnclave => Heard::NoEnclave,
+        Response::Ruled(_) => Heard::Ruled,
+        Response::Refused(Refusal::TooLate) => Heard::TooLate,
+        _ => Heard::Other,
+    })
+}
+
+/// The place of the first line that is answered otherwise.
+fn first_misheard(alloc: Global, rows: &[(&'static [u8], Heard)]) -> Option<usize> {
+    let mut session = Session::start(alloc, Profile::Two);
+    for (place, (line, wanted)) in rows.iter().enumerate() {
+        if answer_to(&mut session, line) != Some(*wanted) {
+            return Some(place);
+        }
+    }
+    None
+}
+
+#[test]
+fn a_policy_stands_before_the_first_event(rt: HostRuntime) {
+    static ACCEPTED: [(&[u8], Heard); 12] = [
+        (b"policy fifo", Heard::NoEnclave),
+        (b"enclave 2 8 100 16 1000", Heard::Other),
+        (b"policy fifo", Heard::Ruled),
+        (b"policy levels-then-least-ran exact", Heard::Ruled),
+        (b"show 0", Heard::Other),
+        (b"status t0", Heard::Other),
+        (b"same 0 1", Heard::Other),
+        (b"complete 0 t0", Heard::Other),
+        (b"asleep 0", Heard::Other),
+        (b"enclave 2 8 100 16 1000", Heard::Other),
+        (b"policy least-ran exact", Heard::Ruled),
+        (b"create 0 3 ready", Heard::Other),
+    ];
+    static REFUSED: [(&[u8], Heard); 5] = [
+        (b"enclave 2 8 100 16 1000", Heard::Other),
+        (b"wake t0", Heard::Other),
+        (b"policy fifo", Heard::TooLate),
+        (b"create 0 3 ready", Heard::Other),
+        (b"policy levels", Heard::TooLate),
+    ];
+    assert_eq!(rt; first_misheard(rt.alloc(), &ACCEPTED), None);
+    assert_eq!(rt; first_misheard(rt.alloc(), &REFUSED), None);
+}
+
 /// What a read is answered: a thread's last number and the CPU where it runs, a truth, a comparison, how many threads
 /// an agent knows, or that there is no such thread or CPU.
 #[derive(Clone, Copy, Debug, PartialEq, Eq)]
@@ -94,7 +156,7 @@ fn read_of(alloc: Global, world: &World, question: Question) -> Option<Seen> {
 
 /// What the question of a line is answered.
 fn told(alloc: Global, session: &Session, line: &[u8]) -> Option<Seen> {
-    match (asked(line), session.world()) {
+    match (asked(Version::Three, line), session.world()) {
         (Wish::Answer(Command::Read(question)), Some(world)) => read_of(alloc, world, question),
         _ => None,
     }

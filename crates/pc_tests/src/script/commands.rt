@@ -2,12 +2,12 @@
 
 use pc_calls::{AgentCall, EnvCall, Event, Limits};
 use pc_messages::{Cpu, Tid};
-use pc_script::{Command, Read, Wish, asked};
+use pc_script::{Command, Read, Version, Wish, asked};
 use std::process::Abort;
 
 // Without contracts, as the function below, so that a test's proof does not carry that of lines.
 fn wish_of(line: &[u8]) -> Wish {
-    asked(line)
+    asked(Version::One, line)
 }
 
 /// Asserts what each line asks for.

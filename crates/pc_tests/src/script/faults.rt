@@ -45,7 +45,7 @@ fn a_fault_ends_the_script(rt: HostRuntime) {
             AT_2,
         ),
         (b"version 2\nversion 2", b"ok\nfault line 2\n", AT_2),
-        (b"# x\n\nversion 3", b"fault line 3\n", AT_3),
+        (b"# x\n\nversion 4", b"fault line 3\n", AT_3),
         (
             b"# x\nversion 2\n\nversion 2\ntick 0",
             b"ok\nfault line 4\n",
@@ -134,7 +134,7 @@ fn malformed_steps_of_agents_are_faults(rt: HostRuntime) {
 
 #[test]
 fn malformed_deliveries_comparisons_and_versions_are_faults(rt: HostRuntime) {
-    static LINES: [&[u8]; 27] = [
+    static LINES: [&[u8]; 28] = [
         b"deliver 0",
         b"deliver 256 0",
         b"deliver 0 d0",
@@ -156,8 +156,9 @@ fn malformed_deliveries_comparisons_and_versions_are_faults(rt: HostRuntime) {
         b"complete 0 0",
         b"complete t0 0",
         b"version 1",
-        b"version 3",
+        b"version 4",
         b"version 2 2",
+        b"version 3 3",
         b"version",
         b"version 02",
         b"version t2",

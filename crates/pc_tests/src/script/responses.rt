@@ -3,7 +3,7 @@
 use super::shown;
 use pc_calls::{LimitField, Posted, Refusal, Reply, Status};
 use pc_messages::{Cpu, Level, Mask, Phase, Reported, Tid};
-use pc_script::{EarlyNumbers, Response, ShownThread, ShownThreads};
+use pc_script::{EarlyNumbers, OrderName, PolicyName, Response, ShownThread, ShownThreads};
 use std::alloc::{AllocError, Global};
 
 /// What is answered in a line. Threads, queues and CPUs are meant by their numbers.
@@ -32,6 +32,8 @@ enum Line {
     Running(u32, u8),
     Truth(bool),
     Sameness(bool),
+    /// All agents go by the order.
+    Ruled(OrderName),
 }
 
 /// The second post of queue 0.
@@ -86,6 +88,10 @@ fn response(line: &Line) -> Option<Response> {
         Line::Running(number, cpu) => status(number, Some(Cpu(cpu)), Phase::Ready),
         Line::Truth(truth) => Response::Truth(truth),
         Line::Sameness(sameness) => Response::Sameness(sameness),
+        Line::Ruled(order) => Response::Ruled(PolicyName {
+            order,
+            exact: false,
+        }),
         _ => Response::Event(reply(line)?),
     })
 }
@@ -149,7 +155,7 @@ fn first_misnamed(alloc: Global) -> Option<usize> {
 }
 
 /// So many refusals there are.
-const REFUSALS: usize = 25;
+const REFUSALS: usize = 26;
 
 /// The refusal with this place, and its name.
 const fn refusal(place: usize) -> Option<(Refusal, &'static str)> {
@@ -179,6 +185,7 @@ const fn refusal(place: usize) -> Option<(Refusal, &'static str)> {
         22 => (Refusal::NothingReady, "refused NothingReady"),
         23 => (Refusal::NothingToSteal, "refused NothingToSteal"),
         24 => (Refusal::WireFault, "refused WireFault"),
+        25 => (Refusal::TooLate, "refused TooLate"),
         _ => return None,
     })
 }
@@ -190,7 +197,7 @@ fn each_refusal_has_its_name(rt: HostRuntime) {
 
 #[test]
 fn what_is_answered_in_a_line(rt: HostRuntime) {
-    static ROWS: [(Line, &str); 23] = [
+    static ROWS: [(Line, &str); 24] = [
         (Line::Opened, "ok"),
         (Line::NoEnclave, "refused NoEnclave"),
         (Line::HaveEnclave, "refused HaveEnclave"),
@@ -226,6 +233,7 @@ fn what_is_answered_in_a_line(rt: HostRuntime) {
         (Line::Truth(false), "no"),
         (Line::Sameness(true), "equal"),
         (Line::Sameness(false), "differ"),
+        (Line::Ruled(OrderName::Fifo), "ok"),
     ];
     assert_eq!(rt; first_wrong(rt.alloc(), &ROWS), None);
 }

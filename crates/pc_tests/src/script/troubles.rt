@@ -1,7 +1,7 @@
 //! What is wrong with a line that is no command: which word, and what was wanted there. Worked out by hand from
 //! docs/FORMATS.md.
 
-use pc_script::{Trouble, Verb, Wanted, trouble_in};
+use pc_script::{Trouble, Verb, Version, Wanted, trouble_in};
 use std::process::Abort;
 
 /// A line, and its trouble: the verb, the place of a word, that word, and what was wanted.
@@ -45,26 +45,58 @@ fn trouble_of(row: &Row) -> Option<Trouble<'static>> {
 }
 
 // Without contracts, so that a test's proof does not carry those of scripts.
-fn told(line: &[u8]) -> Option<Trouble<'_>> {
-    trouble_in(line)
+fn told(version: Version, line: &[u8]) -> Option<Trouble<'_>> {
+    trouble_in(version, line)
 }
 
-fn is_told(row: &Row) -> bool {
-    told(line_of(row)) == trouble_of(row)
+fn is_told(version: Version, row: &Row) -> bool {
+    told(version, line_of(row)) == trouble_of(row)
 }
 
 /// The place of the first line of which another trouble is told.
-fn first_wrong(rows: &[Row]) -> Option<usize> {
+fn first_wrong(version: Version, rows: &[Row]) -> Option<usize> {
     for (place, row) in rows.iter().enumerate() {
-        if !is_told(row) {
+        if !is_told(version, row) {
             return Some(place);
         }
     }
     None
 }
 
+/// Asserts what is told of each line in a script of the version.
+fn each_is_told_in(rt: &impl Abort, version: Version, rows: &[Row]) {
+    assert_eq!(rt; first_wrong(version, rows), None);
+}
+
+/// Asserts what is told of each line.
 fn each_is_told(rt: &impl Abort, rows: &[Row]) {
-    assert_eq!(rt; first_wrong(rows), None);
+    each_is_told_in(rt, Version::One, rows);
+}
+
+#[test]
+fn a_wrong_word_of_a_policy_is_told_in_version_3(rt: HostRuntime) {
+    static ROWS: [Row; 8] = [
+        Row::Missing(b"policy", Verb::Policy, 2, Wanted::Order),
+        Row::Wrong(b"policy Fifo", Verb::Policy, 2, b"Fifo", Wanted::Order),
+        Row::Wrong(b"policy exact", Verb::Policy, 2, b"exact", Wanted::Order),
+        Row::Wrong(b"policy fifo x", Verb::Policy, 3, b"x", Wanted::Exactness),
+        Row::TooMany(b"policy fifo exact exact", Verb::Policy, 4, b"exact"),
+        Row::Fine(b"policy levels-then-least-ran"),
+        Row::Fine(b" policy  least-ran  exact "),
+        Row::Missing(b"wake", Verb::Wake, 2, Wanted::Thread),
+    ];
+    each_is_told_in(&rt, Version::Three, &ROWS);
+}
+
+#[test]
+fn no_earlier_version_has_policies(rt: HostRuntime) {
+    static ROWS: [Row; 3] = [
+        Row::NoCommand(b"policy fifo", b"policy"),
+        Row::NoCommand(b"policy", b"policy"),
+        Row::Fine(b"wake t0"),
+    ];
+    each_is_told_in(&rt, Version::One, &ROWS);
+    each_is_told_in(&rt, Version::Two, &ROWS);
 }
 
 #[test]

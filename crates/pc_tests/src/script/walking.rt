@@ -4,7 +4,7 @@ use super::FINISHED;
 use pc_calls::{Event, Profile, Reply};
 use pc_messages::Cpu;
 use pc_script::{
-    Command, Line, MOST_BYTES, Machine, Observer, Outcome, Response, ScriptFault, walk,
+    Command, Line, MOST_BYTES, Machine, Observer, Outcome, Response, ScriptFault, Version, walk,
 };
 use std::alloc::{AllocError, Global};
 use std::io::Write;
@@ -98,6 +98,14 @@ fn name_of(profile: Profile) -> &'static [u8] {
     }
 }
 
+fn number_of(version: Version) -> u32 {
+    match version {
+        Version::One => 1,
+        Version::Two => 2,
+        Version::Three => 3,
+    }
+}
+
 impl Notes {
     /// Notes a line, and gives up where none are left.
     fn note(&mut self, word: &[u8], line: Line<'_>, count: u32) -> Result<(), ScriptFault> {
@@ -128,8 +136,13 @@ impl<W: Write> Observer<Counting, W> for Notes {
 
     ghost MayFail = { λ _. true ≡ true };
 
-    fn version_two(&mut self, line: Line<'_>, writer: &mut W) -> Result<(), ScriptFault> {
-        self.note(b"version", line, 0)
+    fn version_named(
+        &mut self,
+        line: Line<'_>,
+        version: Version,
+        writer: &mut W,
+    ) -> Result<(), ScriptFault> {
+        self.note(b"version", line, number_of(version))
     }
 
     fn expect(&mut self, command: &Command, machine: &Counting) {
@@ -267,7 +280,7 @@ fn nothing_is_told_after_a_fault_or_want_of_memory(rt: HostRuntime) {
         ),
         (
             b"version 2\ncrash 9\nwalk",
-            b"version 1 0 version 2\nexpect 0 0 two\n",
+            b"version 1 2 version 2\nexpect 0 0 two\n",
             Err(ScriptFault::OutOfMemory),
         ),
     ];
@@ -276,21 +289,36 @@ fn nothing_is_told_after_a_fault_or_want_of_memory(rt: HostRuntime) {
 
 #[test]
 fn the_version_is_named_by_the_first_line_that_has_a_reply_alone(rt: HostRuntime) {
-    static ROWS: [Walked; 8] = [
-        (b"version 2", b"version 1 0 version 2\n", FINISHED),
+    static ROWS: [Walked; 11] = [
+        (b"version 2", b"version 1 2 version 2\n", FINISHED),
+        (
+            b"\nversion 3\npolicy fifo",
+            b"version 2 3 version 3\nexpect 0 0 two\nanswered 3 1 policy fifo\n",
+            FINISHED,
+        ),
+        (
+            b"version 2\npolicy fifo",
+            b"version 1 2 version 2\nfault 2 0 policy fifo\n",
+            Ok(Outcome::FaultLine(2)),
+        ),
+        (
+            b"policy fifo\nversion 3",
+            b"fault 1 0 policy fifo\n",
+            Ok(Outcome::FaultLine(1)),
+        ),
         (
             b"#x\n\n version  2 \r\nenclave 1 2 3 4 5\n",
-            b"version 3 0  version  2 \nexpect 0 0 two\nanswered 4 1 enclave 1 2 3 4 5\n",
+            b"version 3 2  version  2 \nexpect 0 0 two\nanswered 4 1 enclave 1 2 3 4 5\n",
             FINISHED,
         ),
         (
             b"version 2\ntick 01",
-            b"version 1 0 version 2\nfault 2 0 tick 01\n",
+            b"version 1 2 version 2\nfault 2 0 tick 01\n",
             Ok(Outcome::FaultLine(2)),
         ),
         (
             b"version 2\n\nversion 2\ntick 0",
-            b"version 1 0 version 2\nfault 3 0 version 2\n",
+            b"version 1 2 version 2\nfault 3 0 version 2\n",
             Ok(Outcome::FaultLine(3)),
         ),
         (
@@ -299,8 +327,8 @@ fn the_version_is_named_by_the_first_line_that_has_a_reply_alone(rt: HostRuntime
             Ok(Outcome::FaultLine(2)),
         ),
         (
-            b"version 3\ntick 0",
-            b"fault 1 0 version 3\n",
+            b"version 4\ntick 0",
+            b"fault 1 0 version 4\n",
             Ok(Outcome::FaultLine(1)),
         ),
         (
@@ -363,7 +391,7 @@ fn an_observer_that_gives_up_ends_the_walk(rt: HostRuntime) {
             ScriptFault::Read,
             (
                 b"version 2\ntick 0",
-                b"version 1 0 version 2\n",
+                b"version 1 2 version 2\n",
                 Err(ScriptFault::Read),
             ),
         ),
@@ -372,7 +400,7 @@ fn an_observer_that_gives_up_ends_the_walk(rt: HostRuntime) {
             ScriptFault::OutOfMemory,
             (
                 b"version 2\ntick 0\ntick 1",
-                b"version 1 0 version 2\nexpect 0 0 two\nanswered 2 1 tick 0\n",
+                b"version 1 2 version 2\nexpect 0 0 two\nanswered 2 1 tick 0\n",
                 Err(ScriptFault::OutOfMemory),
             ),
         ),

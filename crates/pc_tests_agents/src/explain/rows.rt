@@ -636,7 +636,7 @@ fault line 2
 ];
 
 /// Scripts that have each command between them, and many refusals.
-pub(super) static EVERYTHING: [&[u8]; 2] = [
+pub(super) static EVERYTHING: [&[u8]; 3] = [
     b"# each command
 enclave 2 8 100 16 1000
 create 0 3 blocked
@@ -690,6 +690,22 @@ pick 0 0
 yield 0 1
 pick 0 1
 enclave 1 1 1 1 1
+",
+    b"version 3
+policy levels
+enclave 2 65535 100 16 9
+policy fifo exact
+policy least-ran
+create 0 3 ready
+policy levels
+publish 0
+deliver 1 0
+consume 0
+steal 1
+publish 1
+pick 1 0
+policy fifo exact
+policy
 ",
 ];
 

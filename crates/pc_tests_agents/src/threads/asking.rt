@@ -1,6 +1,8 @@
 //! Runs in an order that a gate forces: who is told, asked and answered what, and when.
 
-use crate::threads::holds::{DRIVER, Order, SENDERS, comes_to_ordered, given_up_after};
+use crate::threads::holds::{
+    ASKER, DRIVER, Order, SENDERS, WAKER, comes_to_ordered, given_up_after,
+};
 use crate::threads::runs::{Fact, comes_to};
 use crate::threads::settings::Plan;
 use pc_threads::{RunFault, Step};
@@ -76,32 +78,66 @@ fn what_is_decided_is_done_by_then(rt: HostRuntime) {
     comes_to_ordered(&rt, rt.alloc(), &ORDER, &FACTS);
 }
 
-// The first agent is held where it has told of the thread and not removed that yet. The second one would have it then.
+/// In these orders the first agent is held where it has told of the thread and not removed that yet. The second one
+/// would have it then, and asks: nothing else gives the first one a second turn before the first step.
+const PENDING: Order<'static> = Order {
+    cpus: 2,
+    plans: &ONE_STEP,
+    turns: &[],
+    holds: &[(1, 1, SENDERS, 1), (SENDERS, 1, 1, 6), (ASKER, 1, 0, 4)],
+    rests: &[],
+};
+
 #[test]
-fn a_pending_steal_is_counted(rt: HostRuntime) {
-    const ORDER: Order<'static> = Order {
-        cpus: 2,
-        plans: &ONE_STEP,
-        turns: &[],
-        holds: &[(1, 1, SENDERS, 1), (SENDERS, 1, 1, 6)],
-        rests: &[],
-    };
+fn a_pending_steal_is_counted_and_all_are_asked(rt: HostRuntime) {
     const FACTS: [Fact<'static>; 2] = [Fact::Totals([1, 2, 1, 1]), Fact::Pending(1)];
-    comes_to_ordered(&rt, rt.alloc(), &ORDER, &FACTS);
+    comes_to_ordered(&rt, rt.alloc(), &PENDING, &FACTS);
 }
 
-// Both agents start again after the first one alone has removed the thread's first message, so nobody knows it.
+// Both agents start again after the first one alone has removed its thread's first message, so nobody knows it. Each
+// has done so, and the driver was told of a commit, before it asks: the run waits, however late that is.
 #[test]
 fn a_run_that_waits_is_given_up(rt: HostRuntime) {
     const ORDER: Order<'static> = Order {
         cpus: 2,
-        plans: &[(0, 1, &[Step::Yield(1), Step::Die(1)])],
+        // News of the second thread gives the first agent its second turn.
+        plans: &[
+            (0, 1, &[Step::Yield(1), Step::Die(1)]),
+            (1, 2, &[Step::Die(1)]),
+        ],
         turns: &[(0, 2), (1, 2)],
         // The second agent takes the message in behind its first turn, and forgets it before its second one.
-        holds: &[(1, 1, 0, 3), (0, 4, 1, 6)],
+        holds: &[(1, 1, 0, 3), (0, 4, 1, 6), (ASKER, 1, 0, 5)],
         rests: &[],
     };
-    let given_up = given_up_after(&rt, rt.alloc(), &ORDER, Duration::from_secs(2));
+    let given_up = given_up_after(&rt, rt.alloc(), &ORDER, Duration::from_secs(1));
+    assert_eq!(rt; given_up, Some(RunFault::TimeUp));
+}
+
+// When the second turn of the first agent begins, the driver was told of its commit.
+#[test]
+fn what_is_told_by_the_deadline_is_late(rt: HostRuntime) {
+    let given_up = given_up_after(&rt, rt.alloc(), &PENDING, Duration::from_secs(0));
+    assert_eq!(rt; given_up, Some(RunFault::TimeUp));
+}
+
+// The second agent, for which news of the thread wait, is held until the first one, for which nothing waits, is told
+// the end: its fourth point is where it copies then. A second turn of the second one would wait for what never comes.
+#[test]
+fn agents_end_before_what_waits_for_them(rt: HostRuntime) {
+    const ORDER: Order<'static> = Order {
+        cpus: 2,
+        plans: &ONE_STEP,
+        turns: &[],
+        holds: &[
+            (ASKER, 1, 0, 3),
+            (ASKER, 1, 1, 3),
+            (1, 3, 0, 4),
+            (1, 4, 0, 1_000),
+        ],
+        rests: &[],
+    };
+    let given_up = given_up_after(&rt, rt.alloc(), &ORDER, Duration::from_secs(0));
     assert_eq!(rt; given_up, Some(RunFault::TimeUp));
 }
 
@@ -131,6 +167,19 @@ fn a_wake_is_told_with_its_step(rt: HostRuntime) {
     comes_to_ordered(&rt, rt.alloc(), &ORDER, &[Fact::Totals([1, 3, 2, 2])]);
 }
 
+// The agent has read the block and sleeps before the thread is woken, and begins its third turn before the next step.
+#[test]
+fn a_block_and_its_wake_are_both_told(rt: HostRuntime) {
+    const ORDER: Order<'static> = Order {
+        cpus: 1,
+        plans: &[(0, 1, &[Step::Block(1), Step::Die(1)])],
+        turns: &[],
+        holds: &[(WAKER, 1, 0, 6), (DRIVER, 1, 0, 7)],
+        rests: &[],
+    };
+    comes_to_ordered(&rt, rt.alloc(), &ORDER, &[Fact::Totals([1, 4, 2, 2])]);
+}
+
 // Each agent has a restart to come that does not, so what the other one publishes wakes it. Each publishes four times.
 // The driver stops a while behind its first step: where empty deltas were sent, agents would wake each other meanwhile.
 #[test]
@@ -146,6 +195,21 @@ fn nothing_is_sent_where_nothing_was_read(rt: HostRuntime) {
         rests: &[(DRIVER, 1, 0, 60), (DRIVER, 1, 1, 60)],
     };
     const FACTS: [Fact<'static>; 2] = [Fact::Totals([2, 6, 4, 4]), Fact::FewerCalls(100)];
+    comes_to_ordered(&rt, rt.alloc(), &ORDER, &FACTS);
+}
+
+// The second agent restarts before its first turn and then no more: what it asked gives it a second one, and what the
+// first one tells, of a thread that may not run on its CPU, none. Its seventh point is where it copies at the end.
+#[test]
+fn an_agent_that_restarts_no_more_is_not_woken_for_each_message(rt: HostRuntime) {
+    const ORDER: Order<'static> = Order {
+        cpus: 2,
+        plans: &[(0, 1, &[Step::Yield(1), Step::Die(1)])],
+        turns: &[(1, 1)],
+        holds: &[(0, 1, 1, 3), (1, 8, 0, 1_000)],
+        rests: &[],
+    };
+    const FACTS: [Fact<'static>; 2] = [Fact::Totals([1, 3, 2, 2]), Fact::Rouses(1)];
     comes_to_ordered(&rt, rt.alloc(), &ORDER, &FACTS);
 }
 

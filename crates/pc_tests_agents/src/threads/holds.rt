@@ -2,7 +2,7 @@
 
 use crate::threads::runs::{Fact, first_wrong, gated_run};
 use crate::threads::settings::Plan;
-use pc_messages::Cpu;
+use pc_messages::{Cpu, Tid};
 use pc_threads::{Driven, Gate, LoadReport, Point, RunFault};
 use std::alloc::Global;
 use std::process::Abort;
@@ -19,8 +19,17 @@ pub(crate) type Hold = (usize, u64, usize, u64);
 /// The driver among those who come to points: its own are the steps that it has done.
 pub(crate) const DRIVER: usize = 3;
 
-/// The agents where they have sent what they read: 4, 5, .., one point a turn.
+/// The agents where they have sent what they read: 4, 5, 6, one point a turn.
 pub(crate) const SENDERS: usize = 4;
+
+/// The driver where it asks when the run is given up, before its first step: one point.
+pub(crate) const ASKER: usize = 7;
+
+/// The driver where a thread is blocked that it wakes next: a point for each block.
+pub(crate) const WAKER: usize = 8;
+
+/// A run in an order that takes more seconds has gone wrong.
+const LONGEST: u64 = 40;
 
 /// Holds agents and the driver at points, each for 10,000 turns of a millisecond.
 #[derive(Drop)]
@@ -30,11 +39,11 @@ struct Forced<'a, R: Clock> {
     /// Who is held at which point for a while, in which who comes no further than to which.
     rests: &'a [Hold],
     /// How many points the agents and the driver have come to.
-    points: [AtomicU64; 6],
+    points: [AtomicU64; 9],
     /// 1 where somebody did not come in time, or came too far.
     failed: AtomicU64,
-    /// When the run is given up.
-    deadline: Option<Instant>,
+    /// How long after the driver has asked the run is given up.
+    limit: Duration,
 }
 
 impl<'a, R: Clock> Forced<'a, R> {
@@ -112,8 +121,13 @@ impl<'a, R: Clock> Gate for Forced<'a, R> {
         self.comes_and_is_held(DRIVER);
     }
 
+    fn blocked(&self, _thread: Tid) {
+        self.comes_and_is_held(WAKER);
+    }
+
     fn deadline(&self) -> Option<Instant> {
-        self.deadline
+        self.comes_and_is_held(ASKER);
+        Instant::now(self.rt).ok()?.checked_add(self.limit)
     }
 }
 
@@ -129,12 +143,12 @@ pub(crate) struct Order<'a> {
     pub(crate) rests: &'a [Hold],
 }
 
-/// A run in which agents are held so, until this time at most; nothing where they did not come to their points.
+/// A run in which agents are held so, for so long at most; nothing where they did not come to their points.
 fn ended_in_order<R: Threads + Wait + Clock + Sync>(
     rt: &R,
     alloc: Global,
     order: &Order<'_>,
-    deadline: Option<Instant>,
+    limit: Duration,
 ) -> Option<Result<LoadReport, RunFault>> {
     let gate = Forced {
         rt,
@@ -147,23 +161,25 @@ fn ended_in_order<R: Threads + Wait + Clock + Sync>(
             AtomicU64::new(0),
             AtomicU64::new(0),
             AtomicU64::new(0),
+            AtomicU64::new(0),
+            AtomicU64::new(0),
+            AtomicU64::new(0),
         ],
         failed: AtomicU64::new(0),
-        deadline,
+        limit,
     };
     let ended = gated_run(rt, alloc, order.cpus, order.plans, order.turns, &gate)?;
     if gate.has_failed() { None } else { Some(ended) }
 }
 
-/// How a run in which agents are held so is given up after a while.
+/// How a run in which agents are held so is given up, so long after the driver has asked when.
 pub(crate) fn given_up_after<R: Threads + Wait + Clock + Sync>(
     rt: &R,
     alloc: Global,
     order: &Order<'_>,
     time: Duration,
 ) -> Option<RunFault> {
-    let deadline = Instant::now(rt).ok()?.checked_add(time);
-    ended_in_order(rt, alloc, order, deadline)?.err()
+    ended_in_order(rt, alloc, order, time)?.err()
 }
 
 /// A run in which agents are held so.
@@ -172,7 +188,7 @@ fn forced_run<R: Threads + Wait + Clock + Sync>(
     alloc: Global,
     order: &Order<'_>,
 ) -> Option<LoadReport> {
-    ended_in_order(rt, alloc, order, None)?.ok()
+    ended_in_order(rt, alloc, order, Duration::from_secs(LONGEST))?.ok()
 }
 
 /// The facts are so after a run in this order.

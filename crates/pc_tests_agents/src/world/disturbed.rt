@@ -5,7 +5,7 @@ use pc_calls::Limits;
 use pc_delta::{Delta, take_in};
 use pc_kernel::Kernel;
 use pc_messages::{Cpu, Tid};
-use pc_script::{Command, Wish, asked};
+use pc_script::{Command, Version, Wish, asked};
 use pc_view::{View, audit, complete};
 use pc_world::{Event, World};
 use std::alloc::Global;
@@ -13,11 +13,11 @@ use std::process::Abort;
 
 /// Takes what a line asks for. Its reads change nothing. Whether it is a command.
 fn add_line(line: &[u8], limits: &mut Option<Limits>, events: &mut Vec<Event>) -> bool {
-    match asked(line) {
+    match asked(Version::One, line) {
         Wish::Answer(Command::Enclave(all)) => *limits = Some(all),
         Wish::Answer(Command::Event(event)) => return events.push(event).is_ok(),
         Wish::Answer(Command::Read(_)) | Wish::Nothing => {}
-        Wish::Stop => return false,
+        Wish::Answer(Command::Policy(_)) | Wish::Stop => return false,
     }
     true
 }
