@@ -22,17 +22,28 @@ _pc_sim_files() {
 }
 
 _pc_sim() {
-    local word=${COMP_WORDS[COMP_CWORD]} command flags
+    local word=${COMP_WORDS[COMP_CWORD]} command flags name policies
     command=$(_pc_sim_command "${COMP_WORDS[@]:1:COMP_CWORD-1}")
     COMPREPLY=()
     case $command in
-    run) flags="--per-cpu --draw --limit -h --help" ;;
+    run) flags="--per-cpu --draw --limit --policy --script -h --help" ;;
     draw) flags="--cpus --lines -h --help" ;;
     replay | explain) flags="-h --help" ;;
     *) flags="-h --help -V --version" ;;
     esac
     case ${COMP_WORDS[COMP_CWORD-1]} in
     --limit | --cpus | --lines) return ;;
+    --policy)
+        for name in levels fifo least-ran levels-then-least-ran; do
+            policies+=" $name $name,exact"
+        done
+        mapfile -t COMPREPLY < <(compgen -W "$policies" -- "$word")
+        return
+        ;;
+    --script)
+        _pc_sim_files "$word" script
+        return
+        ;;
     esac
     case $command:$word in
     *:-*) mapfile -t COMPREPLY < <(compgen -W "$flags" -- "$word") ;;

@@ -2,6 +2,7 @@
 #     cp tools/completions/pc-sim.fish ~/.config/fish/completions/
 
 set -l commands replay explain draw run
+set -l policies {levels,fifo,least-ran,levels-then-least-ran}{,\,exact}
 
 complete -c pc-sim -f
 complete -c pc-sim -n "not __fish_seen_subcommand_from $commands" -a replay -d "Answers each command of a script"
@@ -13,6 +14,8 @@ complete -c pc-sim -s h -l help -d "Tells what there is"
 complete -c pc-sim -n "__fish_seen_subcommand_from run" -l per-cpu -d "Also reports a line for each CPU"
 complete -c pc-sim -n "__fish_seen_subcommand_from run" -l draw -d "Draws the report as SVG"
 complete -c pc-sim -n "__fish_seen_subcommand_from run" -l limit -x -d "Gives the run up after so many seconds"
+complete -c pc-sim -n "__fish_seen_subcommand_from run" -l policy -x -a "$policies" -d "Runs and steals threads by this policy"
+complete -c pc-sim -n "__fish_seen_subcommand_from run" -l script -r -F -d "Also writes the run as a script into this file"
 complete -c pc-sim -n "__fish_seen_subcommand_from draw" -l cpus -x -d "Draws the lanes of these CPUs alone"
 complete -c pc-sim -n "__fish_seen_subcommand_from draw" -l lines -x -d "Draws what happens at these lines alone"
 complete -c pc-sim -n "__fish_seen_subcommand_from replay explain draw" -k -a "(__fish_complete_suffix .script)"
