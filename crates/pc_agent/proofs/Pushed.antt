@@ -5,7 +5,7 @@ use Rattle.std.proofs.lemmas.List.Folds.{list_any-append}
 use Rattle.pc_view.specs.declared.view.View.{View}
 use Rattle.pc_policy.specs.Rankings.{Ranking}
 use Rattle.pc_run_queue.specs.Names.{has_name}
-use Rattle.pc_run_queue.specs.Runs.{IsSettled, runs_in}
+use Rattle.pc_run_queue.specs.Runs.{IsSettled, StandsAsNoted, runs_in}
 use Rattle.pc_agent.specs.declared.shortcuts.Shortcuts.{Shortcuts}
 use Rattle.pc_agent.specs.Inner.Shortcuts.{AreTrue}
 use Rattle.pc_agent.specs.Inner.Wanted.{IsNoneWantedBelow}
@@ -22,18 +22,14 @@ none_wanted passed runs list name h t lt =
 
 -- a thread is put at the end of the run list
 module _ (ranks : Ranking) (old : Shortcuts) (view : View) (cpu : ℕ) (list : List ℕ) (name : ℕ) (h : AreTrue ranks old view cpu list) where
-  settles : (settled in_order : Bool) → (settled ≡ true → IsSettled ranks view cpu list) → (in_order ≡ true → IsSettled ranks view cpu list → IsSettled ranks view cpu (list ++ name ∷ []))
-      → (settled && in_order) ≡ true → IsSettled ranks view cpu (list ++ name ∷ [])
-  settles true true was goes e = goes refl (was refl)
-  settles true false was goes e = absurd (false≢true e)
-  settles false in_order was goes e = absurd (false≢true e)
-
-  pub pushed : (new : Shortcuts) (in_order : Bool) (longer : List ℕ) → new ≡ record old { settled = old.settled && in_order } → longer ≡ list ++ name ∷ []
-      → (in_order ≡ true → IsSettled ranks view cpu list → IsSettled ranks view cpu longer) → AreTrue ranks new view cpu longer
-  pushed new in_order longer is pushes goes =
-      let made : AreTrue ranks (record old { settled = old.settled && in_order }) view cpu (list ++ name ∷ []) = record {
-        settled = settles old.settled in_order h.settled (λ o s. subst (IsSettled ranks view cpu) pushes (goes o s));
+  pub pushed : (new : Shortcuts) (in_order : Bool) (longer : List ℕ) → new ≡ record old { settled = new.settled } → (new.settled ≡ true → old.settled ≡ true) → (new.settled ≡ true → in_order ≡ true) → (new.settled ≡ true → old.noted.items ≡ [])
+      → longer ≡ list ++ name ∷ [] → (in_order ≡ true → IsSettled ranks view cpu list → IsSettled ranks view cpu longer) → AreTrue ranks new view cpu longer
+  pushed new in_order longer is was ordered none pushes goes =
+      let made : AreTrue ranks (record old { settled = new.settled }) view cpu longer = record {
+        settled = λ e.
+            let nothing = none e in
+            subst (λ rows. StandsAsNoted ranks view cpu rows longer) (sym nothing) (goes (ordered e) (subst (λ rows. StandsAsNoted ranks view cpu rows list) nothing (h.settled (was e))));
         runnable = h.runnable;
-        passed = none_wanted old.passed (runs_in view cpu) list name h.passed;
+        passed = subst (IsNoneWantedBelow old.passed (runs_in view cpu)) (sym pushes) (none_wanted old.passed (runs_in view cpu) list name h.passed);
       } in
-      subst (λ s. AreTrue ranks s view cpu longer) (sym is) (subst (AreTrue ranks (record old { settled = old.settled && in_order }) view cpu) (sym pushes) made)
+      subst (λ s. AreTrue ranks s view cpu longer) (sym is) made

@@ -4,14 +4,14 @@ ghost use Rattle.std.specs.Prelude.{ℕ, ◌≡◌, ◌+◌, ◌&&◌, ◌∷◌
 ghost use Rattle.pc_delta.specs.Exchange.{KeepsOthers};
 ghost use Rattle.pc_join.specs.NameSets.{FindsFrom};
 ghost use Rattle.pc_policy.specs.Rankings.{Ranking, ranks_of};
-ghost use Rattle.pc_run_queue.specs.Runs.{IsSettled, refreshed, runs_in};
+ghost use Rattle.pc_run_queue.specs.Runs.{IsSettled, StandsAsNoted, refreshed, runs_in};
 ghost use Rattle.pc_agent.specs.PlainAgent.{is_wanted, threads_in};
 ghost use Rattle.pc_agent.specs.Running.{Finds};
 ghost use Rattle.pc_agent.specs.Inner.Shortcuts.{AreNoted, AreTrue, AreTrueOfAll, AreTrueOfNothing, StayTrue};
 ghost use Rattle.pc_agent.specs.Inner.Wanted.{AreShort, HoldsAll, IsNoneWantedBelow};
 
 use crate::runnable::{keep_runnable, next_wanted};
-use crate::watch::{are_as_noted, note_told};
+use crate::watch::{drop_as_noted, note_told};
 use pc_delta::Part;
 use pc_join::{NameSet, OutOfMemory};
 use pc_messages::{Cpu, Item, Tid};
@@ -34,10 +34,10 @@ pub(crate) struct Shortcuts {
     /// not at the view. None where memory ran out while they were kept; a steal then looks at all threads that the
     /// view knows.
     runnable: Option<NameSet>,
-    /// Whether it is known that a refresh that touches no thread would leave the run list as it is: then a refresh
-    /// looks at the touched threads alone.
+    /// Whether it is known that the run list stands by the noted ranks, and where none is noted by those of the view:
+    /// then a refresh looks at the noted and the touched threads alone.
     settled: bool,
-    /// The threads of the run list of which the parts tell that the view is about to take in, each with its rank.
+    /// Threads of the run list of which parts have told since the last refresh, each with the rank that it had before.
     noted: Vec<(Tid, u64)>,
     /// The threads that the refresh under way touches. Like those that are noted, they stand here so that no call
     /// takes memory for them anew.
@@ -58,22 +58,23 @@ fn list_threads(threads: &mut Vec<Tid>, items: &[Item]) -> Result<(), OutOfMemor
     Ok(())
 }
 
-/// Refreshes a run list, of which it may be known that only the touched threads can change it.
+/// Refreshes a run list, of which it may be known that only the noted and the touched threads can change it.
 fn refresh_list(
     list: &mut RunQueue,
     settled: bool,
     policy: &Order,
     view: &View,
+    noted: &[(Tid, u64)],
     touched: &[Tid],
     cpu: Cpu,
 ) -> Result<(), OutOfMemory>
-    requires { IsTrue settled → IsSettled (ranks_of policy.now) view.now cpu list.old }
+    requires { IsTrue settled → StandsAsNoted (ranks_of policy.now) view.now cpu noted.now list.old }
     ensures ok { OnOk result (list.new ≡ refreshed (ranks_of policy.now) view.now cpu list.old touched.now) }
     ensures err { OnErr result (list.new ≡ list.old) }
     ensures settled { OnOk result (IsSettled (ranks_of policy.now) view.now cpu list.new) }
 {
     if settled {
-        list.refresh_settled(policy, view, touched, cpu)
+        list.refresh_noted(policy, view, noted, touched, cpu)
     } else {
         list.refresh(policy, view, touched, cpu)
     }
@@ -100,6 +101,7 @@ impl Shortcuts {
         self.passed = 0;
         self.runnable = Some(NameSet::new(alloc));
         self.settled = true;
+        self.noted.clear();
     }
 
     /// Keeps nothing: the next refresh and the next steals look for all.
@@ -142,7 +144,7 @@ impl Shortcuts {
             → AreTrue (ranks_of policy.now) self.new view.now cpu list }
     {
         keep_runnable(&mut self.runnable, view, cpu, parts);
-        self.settled = are_as_noted(self.settled, policy, view, cpu, self.noted.as_slice());
+        drop_as_noted(&mut self.noted, policy, view, cpu);
     }
 
     /// Refreshes the run list with the threads of the items. Where memory runs out, it is the old one.
@@ -164,7 +166,9 @@ impl Shortcuts {
         self.passed = 0;
         let settled = self.settled;
         self.settled = false;
-        refresh_list(list, settled, policy, view, self.touched.as_slice(), cpu)?;
+        let (noted, touched) = (self.noted.as_slice(), self.touched.as_slice());
+        refresh_list(list, settled, policy, view, noted, touched, cpu)?;
+        self.noted.clear();
         self.settled = true;
         Ok(())
     }
@@ -183,11 +187,15 @@ impl Shortcuts {
         }
     }
 
-    /// Counts the run list as settled only where the thread that was put at its end belongs there.
+    /// Counts the run list as settled only where the thread that was put at its end belongs there by the view, and the
+    /// others stand by it.
     pub(crate) fn keep_settled_if(&mut self, in_order: bool)
-        ensures { self.new ≡ record self.old { settled = self.old.settled && in_order } }
+        ensures same { self.new ≡ record self.old { settled = self.new.settled } }
+        ensures settled { IsTrue self.new.settled → IsTrue self.old.settled }
+        ensures in_order { IsTrue self.new.settled → IsTrue in_order }
+        ensures none_noted { IsTrue self.new.settled → self.old.noted.items ≡ [] }
     {
-        self.settled &= in_order;
+        self.settled = self.settled && in_order && self.noted.is_empty();
     }
 
     /// The least thread that is wanted, to which all before are passed.

@@ -1,9 +1,10 @@
-//! Whether a run list stays settled while a view takes parts in.
+//! Which threads of a run list are noted, while a view takes parts in.
 
 ghost use Rattle.std.specs.Prelude.{ℕ, ◌≡◌, ◌==◌, true, false, IsTrue};
 ghost use Rattle.pc_policy.specs.Rankings.{ranks_of};
 ghost use Rattle.pc_run_queue.specs.Names.{has_name};
-ghost use Rattle.pc_agent.specs.Inner.Settled.{AreAsNoted, IsAsNoted, TellsOfNoOther, is_noted};
+ghost use Rattle.pc_run_queue.specs.Runs.{StandsAsNoted};
+ghost use Rattle.pc_agent.specs.Inner.Settled.{AreNotedAlike, IsAsNoted, TellsOfNoOther, is_noted};
 
 use pc_delta::Part;
 use pc_messages::{Cpu, Tid};
@@ -11,11 +12,9 @@ use pc_policy::Order;
 use pc_run_queue::{RunQueue, rank_on};
 use pc_view::View;
 
-/// So many threads are noted at the most: where parts tell of more, the list is sorted, which then takes little more.
-const MOST_NOTED: usize = 16;
-
-/// Notes a thread of the list, with its rank; others need no note. False, where it has none, or where no more are
-/// noted.
+/// Notes a thread of the list, with its rank; others need no note. A thread that is noted already may be so again: its
+/// first note counts. False, where it has no rank, or where there are more notes than names, so that a sort of all
+/// takes less than they do.
 fn note(
     noted: &mut Vec<(Tid, u64)>,
     list: &RunQueue,
@@ -26,26 +25,25 @@ fn note(
 ) -> bool
     ensures others { IsTrue result → (t : ℕ) → has_name list.now t ≡ true → is_noted noted.new.items t ≡ false
         → (is_noted noted.old.items t ≡ false) × ((thread == t) ≡ false) }
-    ensures was { let ranks = ranks_of policy.now in IsTrue result
-        → AreAsNoted ranks view.now cpu noted.old.items → AreAsNoted ranks view.now cpu noted.new.items }
+    ensures alike { IsTrue result → AreNotedAlike (ranks_of policy.now) view.now cpu noted.old.items noted.new.items }
 {
     if !list.has(thread) {
         return true;
     }
-    if noted.len() >= MOST_NOTED {
+    if noted.len() > list.names().len() {
         return false;
     }
     match rank_on(policy, view, cpu, thread) {
-        Some(rank) => noted.push((thread, rank)).is_ok(),
+        Some(rank) => match noted.push((thread, rank)) {
+            Ok(()) => true,
+            Err(_) => false,
+        },
         None => false,
     }
 }
 
 /// Notes the threads of the list of which the parts tell, each with its rank, before the view takes the parts in.
-/// False, where the list was not known to be settled, or where not all of them are noted.
-///
-/// Most parts change neither whether a thread may run nor its rank by levels: a thread of the list that yields stays
-/// where it is.
+/// False, where the list was not known to stand by the notes, or where not all of them are noted.
 pub(crate) fn note_told(
     noted: &mut Vec<(Tid, u64)>,
     settled: bool,
@@ -56,10 +54,10 @@ pub(crate) fn note_told(
     parts: &[Part],
 ) -> bool
     ensures others { IsTrue result → TellsOfNoOther parts.now list.now noted.new.items }
-    ensures was { IsTrue result → AreAsNoted (ranks_of policy.now) view.now cpu noted.new.items }
+    ensures stands { IsTrue result → StandsAsNoted (ranks_of policy.now) view.now cpu noted.old.items list.now
+        → StandsAsNoted (ranks_of policy.now) view.now cpu noted.new.items list.now }
     ensures settled { IsTrue result → IsTrue settled }
 {
-    noted.clear();
     if !settled {
         return false;
     }
@@ -75,8 +73,8 @@ pub(crate) fn note_told(
 }
 
 /// Whether the thread is ranked as it was noted.
-fn is_as_noted(policy: &Order, view: &View, cpu: Cpu, row: &(Tid, u64)) -> bool
-    ensures { IsTrue result → IsAsNoted (ranks_of policy.now) view.now cpu row.now }
+fn is_as_noted(policy: &Order, view: &View, cpu: Cpu, row: (Tid, u64)) -> bool
+    ensures { IsTrue result → IsAsNoted (ranks_of policy.now) view.now cpu row }
 {
     match rank_on(policy, view, cpu, row.0) {
         Some(rank) => rank == row.1,
@@ -84,24 +82,17 @@ fn is_as_noted(policy: &Order, view: &View, cpu: Cpu, row: &(Tid, u64)) -> bool
     }
 }
 
-/// Whether all threads were noted, and by the view, which has taken the parts in, they are ranked as they were noted.
-pub(crate) fn are_as_noted(
-    all: bool,
-    policy: &Order,
-    view: &View,
-    cpu: Cpu,
-    noted: &[(Tid, u64)],
-) -> bool
-    ensures all { IsTrue result → IsTrue all }
-    ensures as_noted { IsTrue result → AreAsNoted (ranks_of policy.now) view.now cpu noted.now }
+/// Drops the last notes, as long as the view, which has taken the parts in, ranks their threads as they were noted.
+///
+/// Most parts change neither whether a thread may run nor its rank by levels: a thread of the list that yields stays
+/// where it is, and is looked at no more.
+pub(crate) fn drop_as_noted(noted: &mut Vec<(Tid, u64)>, policy: &Order, view: &View, cpu: Cpu)
+    ensures { AreNotedAlike (ranks_of policy.now) view.now cpu noted.old.items noted.new.items }
 {
-    if !all {
-        return false;
-    }
-    for row in noted {
-        if !is_as_noted(policy, view, cpu, row) {
-            return false;
+    while let Some(place) = noted.len().checked_sub(1) {
+        if !is_as_noted(policy, view, cpu, noted[place]) {
+            return;
         }
+        noted.truncate(place);
     }
-    true
 }

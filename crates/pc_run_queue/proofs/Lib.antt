@@ -8,3 +8,4 @@ pub mod Sorts
 pub mod Settled
 pub mod Inserting
 pub mod Levels
+pub mod Moving

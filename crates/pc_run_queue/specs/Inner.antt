@@ -1,2 +1,3 @@
 -- Words of the crate's own functions.
 pub mod Rows
+pub mod Moves

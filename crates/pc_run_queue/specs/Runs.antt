@@ -1,5 +1,6 @@
 -- Which threads may run and how they are ranked, as a view tells, and the run list after a refresh.
-use Rattle.std.specs.Prelude.{ℕ, ◌≡◌, ◌&&◌, Bool, true, false, List, [], filter, Option, Some, None, is_some}
+use Rattle.std.specs.Prelude.{ℕ, ◌≡◌, ◌==◌, ◌&&◌, Bool, true, false, List, [], ◌∷◌, filter, Option, Some, None}
+use Rattle.std.specs.Prelude.{is_some}
 use Rattle.std.specs.Prelude.{if◌then◌else◌, unwrap_or}
 use Rattle.pc_messages.specs.Mask.{allows}
 use Rattle.pc_messages.specs.declared.reported.Phase.{Phase}
@@ -65,10 +66,23 @@ refreshed_as ranks reported cpu old touched = refreshed_by (λ t. rank_told rank
 abbrev pub refreshed : Ranking → View → ℕ → List ℕ → List ℕ → List ℕ
 refreshed ranks view cpu old touched = refreshed_as ranks (reported_in view) cpu old touched
 
--- a refresh that touches no name leaves the list as it is: each of its names has a rank, and none stands behind one of
--- a greater rank
+-- by these ranks a refresh that touches no name leaves the list as it is: each of its names has a rank, and none stands
+-- behind one of a greater rank
+abbrev pub StandsBy : (ℕ → Option ℕ) → List ℕ → Type 0
+StandsBy rank list = refreshed_by rank list [] ≡ list
+
+-- the list stands by the ranks that the view gives
 abbrev pub IsSettled : Ranking → View → ℕ → List ℕ → Type 0
-IsSettled ranks view cpu list = refreshed ranks view cpu list [] ≡ list
+IsSettled ranks view cpu list = StandsBy (rank_in ranks view cpu) list
+
+-- the rank that the first row of the thread notes; of a thread that no row notes, the rank that it has
+abbrev pub rank_noted : List (ℕ × ℕ) → (ℕ → Option ℕ) → ℕ → Option ℕ
+rank_noted [] rank t = rank t
+rank_noted (row ∷ rows) rank t = if row.0 == t then Some row.1 else rank_noted rows rank t
+
+-- the list stands by the noted ranks, and by those that the view gives where none is noted
+abbrev pub StandsAsNoted : Ranking → View → ℕ → List (ℕ × ℕ) → List ℕ → Type 0
+StandsAsNoted ranks view cpu noted list = StandsBy (rank_noted noted (rank_in ranks view cpu)) list
 
 -- the level of a thread of this state
 abbrev pub level_told : Option Reported → ℕ

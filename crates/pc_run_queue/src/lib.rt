@@ -17,6 +17,7 @@
 #![tactic(auto)]
 
 pub mod laws;
+mod moves;
 mod ranks;
 mod run_queue;
 

@@ -3,15 +3,15 @@ use Rattle.std.specs.Prelude.{ℕ, ◌≡◌, false, List, [], IsTrue}
 use Rattle.pc_view.specs.declared.view.View.{View}
 use Rattle.pc_delta.specs.declared.part.Part.{Part}
 use Rattle.pc_policy.specs.Rankings.{Ranking}
-use Rattle.pc_run_queue.specs.Runs.{IsSettled, runs_in}
+use Rattle.pc_run_queue.specs.Runs.{StandsAsNoted, runs_in}
 use Rattle.pc_agent.specs.declared.shortcuts.Shortcuts.{Shortcuts}
-use Rattle.pc_agent.specs.Inner.Settled.{AreAsNoted, TellsOfNoOther}
+use Rattle.pc_agent.specs.Inner.Settled.{TellsOfNoOther}
 use Rattle.pc_agent.specs.Inner.Wanted.{HoldsAll, IsNoneWantedBelow}
 
--- the list is settled where it counts as settled, the names that are kept are those of the threads that may run, and no
--- thread that is passed is wanted
+-- the list stands by the notes where it counts as settled, the names that are kept are those of the threads that may
+-- run, and no thread that is passed is wanted
 pub record AreTrue (ranks : Ranking) (shortcuts : Shortcuts) (view : View) (cpu : ℕ) (list : List ℕ) : Type 0 where
-  pub settled : IsTrue shortcuts.settled → IsSettled ranks view cpu list
+  pub settled : IsTrue shortcuts.settled → StandsAsNoted ranks view cpu shortcuts.noted.items list
   pub runnable : HoldsAll (runs_in view cpu) shortcuts.runnable
   pub passed : IsNoneWantedBelow shortcuts.passed (runs_in view cpu) list
 
@@ -37,6 +37,5 @@ pub record AreNoted (ranks : Ranking) (parts : List Part) (shortcuts : Shortcuts
     (list : List ℕ) : Type 0 where
   pub none_passed : shortcuts.passed ≡ 0
   pub runnable : HoldsAll (runs_in view cpu) shortcuts.runnable
-  pub settled : IsTrue shortcuts.settled → IsSettled ranks view cpu list
+  pub settled : IsTrue shortcuts.settled → StandsAsNoted ranks view cpu shortcuts.noted.items list
   pub others : IsTrue shortcuts.settled → TellsOfNoOther parts list shortcuts.noted.items
-  pub noted : IsTrue shortcuts.settled → AreAsNoted ranks view cpu shortcuts.noted.items

@@ -31,7 +31,7 @@ returns-in-Ok-associate-clause-kept c =
     let thread = c.in-Some.thread in
     let ranks = ranks_of c.args.policy.now.order in
     pushed ranks c.pass_over-least.new.self c.args.view.now c.args.cpu c.args.list.now thread (c.pass_over-least.ensures.kept ranks c.requires) c.keep_settled_if.new.self c.in-Ok.in_order c.push_in_order.new.self
-    c.keep_settled_if.ensures c.in-Ok.ensures.ok (λ o settled. c.in-Ok.ensures.settled o settled)
+    c.keep_settled_if.ensures.same c.keep_settled_if.ensures.settled c.keep_settled_if.ensures.in_order c.keep_settled_if.ensures.none_noted c.in-Ok.ensures.ok (λ o settled. c.in-Ok.ensures.settled o settled)
 
 pub returns-in-Err-clause-kept : goal.returns-in-Err-clause-kept
 returns-in-Err-clause-kept c = subst (AreTrue (ranks_of c.args.policy.now.order) c.pass_over-least.new.self c.args.view.now c.args.cpu) (sym left) (c.pass_over-least.ensures.kept (ranks_of c.args.policy.now.order) c.requires)
