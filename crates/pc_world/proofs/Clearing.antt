@@ -199,7 +199,7 @@ has_left a b t n e = pairs_of_both a b t n ∙ or_left (has a t n) (has b t n) e
 has_right : (a b : Set) (t n : ℕ) → has b t n ≡ true → has (a ++ b) t n ≡ true
 has_right a b t n e = pairs_of_both a b t n ∙ or_right (has a t n) (has b t n) e
 
-get_at : {X : Type 0} (xs : List X) (k : ℕ) → k < length xs → (x : X) × (slice_get xs k ≡ Some x)
+pub get_at : {X : Type 0} (xs : List X) (k : ℕ) → k < length xs → (x : X) × (slice_get xs k ≡ Some x)
 get_at [] k low = absurd (omega arith)
 get_at (x ∷ xs) zero low = (x, refl)
 get_at (x ∷ xs) (suc k) low = get_at xs k (omega arith)

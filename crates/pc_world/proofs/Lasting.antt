@@ -56,7 +56,7 @@ shown_limits : (k : KernelRows) (P : PlainKernel) → Shows k P → k.limits ≡
 shown_limits k P h = ap (λ (r : Reads). r.limits) h.reads
 
 -- one event more
-leads_more : (w : PlainWorld) (events : List Event) (mid new : PlainWorld) (event : Event) → Leads w events mid → LeadsTo mid event new → Leads w (events ++ event ∷ []) new
+pub leads_more : (w : PlainWorld) (events : List Event) (mid new : PlainWorld) (event : Event) → Leads w events mid → LeadsTo mid event new → Leads w (events ++ event ∷ []) new
 leads_more w [] mid new event leads to = (new, subst (λ from. LeadsTo from event new) leads to, refl)
 leads_more w (e ∷ events) mid new event leads to = (leads.0, leads.1, leads_more leads.0 events mid new event leads.2 to)
 

@@ -1,5 +1,5 @@
 -- An agent that knows all picks a thread, or steals one and picks it.
-use Rattle.std.proofs.Common.{◌≡◌, ℕ, ◌+◌, ◌≤◌, ◌==◌, ◌&&◌, ◌⊎◌, Bool, true, false, not, List, [], ◌∷◌, ◌++◌, length, take, Option, Some, None, is_none, is_some, refl, sym, ◌∙◌, ap, subst, inl, inr, arith, if◌then◌else◌}
+use Rattle.std.proofs.Common.{◌≡◌, ℕ, ◌≤◌, ◌==◌, ◌&&◌, ◌⊎◌, Bool, true, false, not, List, [], ◌∷◌, ◌++◌, take, Option, Some, None, is_none, is_some, refl, sym, ◌∙◌, ap, subst, inl, inr, if◌then◌else◌}
 use Rattle.std.specs.Prelude.{◌↔◌, IsTrue}
 use Rattle.std.specs.Option.{option_map_or, option_and_then}
 use Rattle.std.proofs.lemmas.Bool.{false≢true}
@@ -26,15 +26,16 @@ use Rattle.pc_run_queue.specs.Names.{has_name}
 use Rattle.pc_run_queue.specs.Runs.{may_run, rank_told}
 use Rattle.pc_agent.specs.PlainAgent.{PlainAgent, is_empty_list, is_idle, is_wanted, known_by, may_take, pick_refused, ready_list, standing, stealing}
 use Rattle.pc_agent.specs.Running.{FindsFirst, takes_over}
-use Rattle.pc_world.specs.Mending.{IsIdle, IsStolenBy, LeadTo, RunsSome, WaitsFor, clearing, hearing, learning, mending, mending_by_steal, picking}
+use Rattle.pc_world.specs.Mending.{IsIdle, IsStolenBy, LeadTo, RunsSome, WaitsFor, learning, mending, mending_by_steal, picking}
 use Rattle.pc_join.specs.Sets.{has}
 use Rattle.pc_world.specs.PlainWorld.{PlainWorld, with_agent}
-use Rattle.pc_world.specs.Steps.{IsBadCpu, IsCommitted, IsPicked, IsStolen, IsTakenOver, Runs, Step, stealable}
+use Rattle.pc_world.specs.Steps.{IsBadCpu, IsCommitted, IsPicked, IsStolen, IsTakenOver, Step, stealable}
 use Rattle.pc_world.specs.Inner.Laws.{KernelLaws}
-use Rattle.pc_world.proofs.Clearing.{clear, good_after, hear, is_whole, runs_append}
+use Rattle.pc_world.proofs.Clearing.{good_after, runs_append}
 use Rattle.pc_world.proofs.Exactly.{first_passes, none_is, take_whole}
 use Rattle.pc_world.proofs.Good.{IsGood}
-use Rattle.pc_world.proofs.Mended.{below_test, commit_accepted, eating, equal, homed, none_pending, read_place, read_there, still_idle, still_waits, taking_accepted}
+use Rattle.pc_world.proofs.Learning.{learns}
+use Rattle.pc_world.proofs.Mended.{commit_accepted, equal, homed, none_pending, read_place, read_there, still_idle, still_waits, taking_accepted}
 use Rattle.pc_world.proofs.Places.{at_same, match_true}
 use Rattle.pc_world.proofs.Stepping.{finds, unknown_above}
 use Rattle.pc_world.proofs.Taken.{at_some, both, pass}
@@ -51,6 +52,7 @@ pub record Picked (x : PlainWorld) (c n : ℕ) : Type 0 where
   pub new : PlainWorld
   pub step : Step x (event.Pick c n) told new
   pub runs : RunsSome c new
+  pub commits : told ≡ replies.Committed c runs.0
 
 module _ (laws : KernelLaws) (x : PlainWorld) (c n : ℕ) (idle : IsIdle x.kernel c) (count : n ≡ aseq x.kernel c) where
   abbrev r : Reads
@@ -81,6 +83,7 @@ module _ (laws : KernelLaws) (x : PlainWorld) (c n : ℕ) (idle : IsIdle x.kerne
         step = match_true (is_cpu r c) (IsPicked x c n (pick_refused r c n list) told new) (IsBadCpu x told new) idle.there
             (subst (λ o. IsPicked x c n o told new) (sym some) (subst (λ names. IsCommitted x c n names told new) (sym first) (refl, refl)));
         runs = (t, ap (λ o. (after_of o (changed x.kernel (commits c t n)) x.kernel).on c) accepted ∙ at_same x.kernel.on c (Some t));
+        commits = refl;
       }
 
   -- the world where none was ready
@@ -260,46 +263,32 @@ module _ (laws : KernelLaws) (greatest : (set : List (ℕ × ℕ)) (t n : ℕ) �
     (c t : ℕ) (idle : IsIdle w.kernel c) (waits : WaitsFor w.kernel c t) (stolen : IsStolenBy (w.agents c).rules w.kernel c t) where
   pub run_some : LeadTo w (mending w c) (RunsSome c) ⊎ LeadTo w (mending_by_steal w c) (RunsSome c)
   run_some =
-      let cpus = w.kernel.limits.cpus in
-      let most = length w.sent + cpus in
-      let cleared = clear laws limits w h cpus (omega arith) in
-      let v = cleared.new in
-      let was = cleared.holds in
-      let many : length v.sent ≡ most = was.sent in
-      let there : is_cpu (shown v.kernel) c ≡ true = ap (λ (K : PlainKernel). is_cpu (shown K) c) was.kernel ∙ idle.there in
-      let heard = hear laws limits v cleared.good c there most (omega arith) in
-      let u = heard.new in
-      let now = heard.holds in
-      let same : u.kernel ≡ eating w.kernel was.eaten = now.kernel ∙ was.kernel in
+      let learnt = learns laws greatest limits w h c idle.there in
+      let u = learnt.new in
       let n = aseq w.kernel c in
-      let count : n ≡ aseq u.kernel c = sym (ap (λ (K : PlainKernel). aseq K c) same) in
-      let idling : IsIdle u.kernel c = subst (λ K. IsIdle K c) (sym same) (still_idle w.kernel was.eaten c idle) in
-      let waiting : WaitsFor u.kernel c t = subst (λ K. WaitsFor K c t) (sym same) (still_waits w.kernel was.eaten c t waits) in
-      let empty : (q : ℕ) → is_cpu (shown u.kernel) q ≡ true → content u.kernel q ≡ [] =
-      λ q at. ap (λ (K : PlainKernel). content K q) now.kernel ∙ was.empty q (below_test q cpus (sym (ap (λ (K : PlainKernel). is_cpu (shown K) q) same) ∙ at)) in
-      let whole : (s : ℕ) → upto (u.agents c).known s ≡ number u.kernel s = is_whole laws limits v u c most heard.good now.sent now.told (omega arith) empty greatest in
-      let learnt : Runs w (learning w c) (cleared.replies ++ heard.replies) u = runs_append w v u (clearing cpus) (hearing c most) cleared.replies heard.replies cleared.runs heard.runs in
-      let rules : (u.agents c).rules ≡ (w.agents c).rules = now.rules ∙ was.rules c in
-      let stealing : IsStolenBy (u.agents c).rules u.kernel c t = subst (λ K. IsStolenBy (u.agents c).rules K c t) (sym same) (subst (λ (s : Rules). IsStolenBy s w.kernel c t) (sym rules) stolen) in
+      let count : n ≡ aseq u.kernel c = sym (ap (λ (K : PlainKernel). aseq K c) learnt.kernel) in
+      let idling : IsIdle u.kernel c = subst (λ K. IsIdle K c) (sym learnt.kernel) (still_idle w.kernel learnt.eaten c idle) in
+      let waiting : WaitsFor u.kernel c t = subst (λ K. WaitsFor K c t) (sym learnt.kernel) (still_waits w.kernel learnt.eaten c t waits) in
+      let stealing : IsStolenBy (u.agents c).rules u.kernel c t = subst (λ K. IsStolenBy (u.agents c).rules K c t) (sym learnt.kernel) (subst (λ (s : Rules). IsStolenBy s w.kernel c t) (sym learnt.rules) stolen) in
       elim (picks laws u c n idling count (ready_list (shown u.kernel) c n (u.agents c).list) refl) [
         | inl picked ↦ inl record {
-          replies = (cleared.replies ++ heard.replies) ++ picked.told ∷ [];
+          replies = learnt.replies ++ picked.told ∷ [];
           new = picked.new;
-          runs = runs_append w u picked.new (learning w c) (picking w c ∷ []) (cleared.replies ++ heard.replies) (picked.told ∷ []) learnt (picked.new, picked.step, refl);
+          runs = runs_append w u picked.new (learning w c) (picking w c ∷ []) learnt.replies (picked.told ∷ []) learnt.runs (picked.new, picked.step, refl);
           holds = picked.runs;
         }
         | inr none ↦
             let x = emptied laws u c n idling count in
             let agent : x.agents c ≡ record (u.agents c) { list = [] } = at_same u.agents c (record (u.agents c) { list = [] }) in
-            let good : IsGood limits x = good_after laws limits u heard.good (event.Pick c n) (replies.Refused refusals.NothingReady) x none in
-            let more = can_steal laws x c idling (λ s. ap (λ (a : PlainAgent). upto a.known s) agent ∙ whole s) empty limits good (ap (λ (a : PlainAgent). a.list) agent) t n count waiting
+            let good : IsGood limits x = good_after laws limits u learnt.good (event.Pick c n) (replies.Refused refusals.NothingReady) x none in
+            let more = can_steal laws x c idling (λ s. ap (λ (a : PlainAgent). upto a.known s) agent ∙ learnt.whole s) learnt.empty limits good (ap (λ (a : PlainAgent). a.list) agent) t n count waiting
             (subst (λ (a : PlainAgent). IsStolenBy a.rules u.kernel c t) (sym agent) stealing) in
             let last = more.picked in
             let told = replies.Refused refusals.NothingReady ∷ more.told ∷ last.told ∷ [] in
             inr record {
-              replies = (cleared.replies ++ heard.replies) ++ told;
+              replies = learnt.replies ++ told;
               new = last.new;
-              runs = runs_append w u last.new (learning w c) (picking w c ∷ event.Steal c ∷ picking w c ∷ []) (cleared.replies ++ heard.replies) told learnt
+              runs = runs_append w u last.new (learning w c) (picking w c ∷ event.Steal c ∷ picking w c ∷ []) learnt.replies told learnt.runs
                   (x, none, (more.between, more.steals, (last.new, last.step, refl)));
               holds = last.runs;
             }

@@ -22,13 +22,14 @@ use Rattle.pc_run_queue.specs.Runs.{may_run, rank_told}
 use Rattle.pc_agent.specs.PlainAgent.{PlainAgent, is_idle, is_wanted, known_by, may_take, standing, stealing}
 use Rattle.pc_agent.specs.Running.{FindsFirst}
 use Rattle.pc_world.specs.Facts.{IsInRun}
-use Rattle.pc_world.specs.Mending.{IsBack, IsIdle, IsStolenBy, LeadTo, WaitsFor, clearing, hearing, learning, recovering, robbing}
+use Rattle.pc_world.specs.Mending.{IsBack, IsIdle, IsStolenBy, LeadTo, WaitsFor, learning, recovering, robbing}
 use Rattle.pc_world.specs.PlainWorld.{PlainWorld}
 use Rattle.pc_world.specs.Steps.{IsBadCpu, IsStolen, Runs, Step, stealable}
 use Rattle.pc_world.specs.Inner.Laws.{KernelLaws}
-use Rattle.pc_world.proofs.Clearing.{Comes, clear, good_after, hear, is_whole, knows_all, runs_append}
+use Rattle.pc_world.proofs.Clearing.{Comes, good_after, runs_append}
 use Rattle.pc_world.proofs.Good.{IsGood}
-use Rattle.pc_world.proofs.Mended.{below_test, eating, homed, still_idle}
+use Rattle.pc_world.proofs.Learning.{learns}
+use Rattle.pc_world.proofs.Mended.{homed, still_idle}
 use Rattle.pc_world.proofs.Picking.{agent_then, both_of, is_free, made, stands, steals_it, y}
 use Rattle.pc_world.proofs.Places.{match_true}
 use Rattle.pc_world.proofs.Stepping.{finds, unknown_above}
@@ -279,33 +280,20 @@ module _ (laws : KernelLaws) (greatest : (set : List (ℕ × ℕ)) (t n : ℕ) �
     (c : ℕ) (idle : IsIdle w.kernel c) where
   pub come_back : LeadTo w (recovering w c) (IsBack c)
   come_back =
-      let cpus = w.kernel.limits.cpus in
-      let most = length w.sent + cpus in
-      let cleared = clear laws limits w h cpus (omega arith) in
-      let v = cleared.new in
-      let was = cleared.holds in
-      let many : length v.sent ≡ most = was.sent in
-      let there : is_cpu (shown v.kernel) c ≡ true = ap (λ (K : PlainKernel). is_cpu (shown K) c) was.kernel ∙ idle.there in
-      let heard = hear laws limits v cleared.good c there most (omega arith) in
-      let u = heard.new in
-      let now = heard.holds in
-      let same : u.kernel ≡ eating w.kernel was.eaten = now.kernel ∙ was.kernel in
-      let idling : IsIdle u.kernel c = subst (λ K. IsIdle K c) (sym same) (still_idle w.kernel was.eaten c idle) in
-      let empty : (q : ℕ) → is_cpu (shown u.kernel) q ≡ true → content u.kernel q ≡ [] =
-      λ q at. ap (λ (K : PlainKernel). content K q) now.kernel ∙ was.empty q (below_test q cpus (sym (ap (λ (K : PlainKernel). is_cpu (shown K) q) same) ∙ at)) in
-      let whole : (s : ℕ) → upto (u.agents c).known s ≡ number u.kernel s = is_whole laws limits v u c most heard.good now.sent now.told (omega arith) empty greatest in
-      let learnt : Runs w (learning w c) (cleared.replies ++ heard.replies) u = runs_append w v u (clearing cpus) (hearing c most) cleared.replies heard.replies cleared.runs heard.runs in
-      let robbed = all_robbed laws limits u heard.good c idling whole empty in
+      let learnt = learns laws greatest limits w h c idle.there in
+      let u = learnt.new in
+      let idling : IsIdle u.kernel c = subst (λ K. IsIdle K c) (sym learnt.kernel) (still_idle w.kernel learnt.eaten c idle) in
+      let robbed = all_robbed laws limits u learnt.good c idling learnt.whole learnt.empty in
       let x = robbed.new in
-      let count : threads u.kernel ≡ threads w.kernel = ap threads same in
+      let count : threads u.kernel ≡ threads w.kernel = ap threads learnt.kernel in
       let robs : Runs u (robbing c (threads w.kernel)) robbed.replies x = subst (λ n. Runs u (robbing c n) robbed.replies x) count robbed.runs in
       record {
-        replies = (cleared.replies ++ heard.replies) ++ robbed.replies;
+        replies = learnt.replies ++ robbed.replies;
         new = x;
-        runs = runs_append w u x (learning w c) (robbing c (threads w.kernel)) (cleared.replies ++ heard.replies) robbed.replies learnt robs;
+        runs = runs_append w u x (learning w c) (robbing c (threads w.kernel)) learnt.replies robbed.replies learnt.runs robs;
         holds = record {
           knows = λ t n.
-              let all = knows_all laws limits v u c most heard.good now.sent now.told (omega arith) empty t n in (
+              let all = learnt.knows t n in (
                 λ e. robbed.good.known c t n e,
                 λ e.
                     let earlier : IsInRun (kinds u.kernel) t n = same_run (kinds u.kernel) (kinds x.kernel) t n (run_of x u robbed.holds.0 t) e in

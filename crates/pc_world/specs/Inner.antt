@@ -1,4 +1,5 @@
 pub mod Agents
 pub mod Handling
 pub mod Laws
+pub mod Mends
 pub mod Places

@@ -6,6 +6,7 @@ pub mod Callers
 pub mod Facts
 pub mod Inner
 pub mod Mending
+pub mod Mends
 pub mod PlainWorld
 pub mod Reached
 pub mod Shows

@@ -10,6 +10,7 @@ ghost use Rattle.pc_world.specs.Facts.{SleepersHadNoPost, StealsAreExact, Thread
 ghost use Rattle.pc_world.specs.Inner.Laws.{KernelLaws};
 ghost use Rattle.pc_world.specs.Mending.{AllCanBeKnown, AWaitingThreadCanBeRun, MendingGoesOn, ThatThreadCanBeRun};
 ghost use Rattle.pc_world.specs.Mending.{WhatWasForgottenComesBack};
+ghost use Rattle.pc_world.specs.Mends.{EveryCpuCanBeMended, MendedIsReached};
 
 use pc_kernel::laws::{
     accepted_associates_are_exact, accepted_commits_are_exact, calls_extend_the_run,
@@ -191,5 +192,16 @@ pub fn what_was_forgotten_comes_back()
 pub fn mending_goes_on()
     ensures { MendingGoesOn }
 {
+    a_waiting_thread_can_be_run();
+}
+
+/// From every world that events lead to, each CPU can be mended or is refused, as `mend` of a world answers; and what
+/// that leads to is again a world that events lead to.
+pub fn every_cpu_can_be_mended()
+    ensures can { EveryCpuCanBeMended }
+    ensures reached { MendedIsReached }
+{
+    kernel_laws();
+    every_event_has_a_step();
     a_waiting_thread_can_be_run();
 }

@@ -47,6 +47,7 @@
 
 mod agents;
 pub mod laws;
+mod mend;
 mod parts;
 mod world;
 

@@ -1,0 +1,17 @@
+use Rattle.pc_world.specs.Mending.{clearing, hearing}
+use Rattle.pc_world.proofs.Chaining.{all_then, part_first, part_then}
+use Rattle.pc_world.proofs.Running.{on_err}
+use Rattle.pc_world.proofs.world.World.learn.Goals as goal
+
+pub returns-in_err-clear_queues-clause-no_memory : goal.returns-in_err-clear_queues-clause-no_memory
+returns-in_err-clear_queues-clause-no_memory c =
+    on_err c.from_residual.result _ (part_first (clearing c.args.cpus) (hearing c.args.cpu c.args.deltas) c.args.self.now c.clear_queues.new.self c.in_err-clear_queues.ensures.no_memory)
+
+pub returns-in_err-hear-clause-no_memory : goal.returns-in_err-hear-clause-no_memory
+returns-in_err-hear-clause-no_memory c =
+    on_err c.from_residual-in_err-hear.result _
+    (part_then (clearing c.args.cpus) (hearing c.args.cpu c.args.deltas) c.args.self.now c.clear_queues.new.self c.hear.new.self c.in_ok-clear_queues.ensures.done c.in_err-hear.ensures.no_memory)
+
+pub returns-clause-done : goal.returns-clause-done
+returns-clause-done c =
+    all_then (clearing c.args.cpus) (hearing c.args.cpu c.args.deltas) c.args.self.now c.clear_queues.new.self c.hear.new.self c.in_ok-clear_queues.ensures.done c.in_ok-hear.ensures.done

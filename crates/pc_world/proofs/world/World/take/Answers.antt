@@ -1,0 +1,8 @@
+use Rattle.pc_world.proofs.Chaining.{all_one, part_one}
+use Rattle.pc_world.proofs.world.World.take.Goals as goal
+
+pub returns-in-Ok-clause-done : goal.returns-in-Ok-clause-done
+returns-in-Ok-clause-done c = all_one c.args.event c.in-Ok.field-0 c.args.self.now c.step.new.self c.in-Ok.ensures.step
+
+pub returns-in-Err-clause-no_memory : goal.returns-in-Err-clause-no_memory
+returns-in-Err-clause-no_memory c = part_one c.args.event c.args.self.now c.step.new.self c.in-Err.ensures.no_memory

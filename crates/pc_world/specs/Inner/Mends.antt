@@ -1,0 +1,37 @@
+-- The parts of mending.
+use Rattle.std.specs.Prelude.{ℕ, ◌≡◌, ◌⊎◌, List}
+use Rattle.pc_calls.specs.declared.event.Event.{Event}
+use Rattle.pc_calls.specs.declared.event.Event.TheVariants.{Pick, Steal}
+use Rattle.pc_calls.specs.declared.event.Reply.{Reply}
+use Rattle.pc_calls.specs.declared.event.Reply.TheVariants.{Committed}
+use Rattle.pc_world.specs.declared.parts.Parts.{Parts}
+use Rattle.pc_world.specs.PlainWorld.{PlainWorld}
+use Rattle.pc_world.specs.Shows.{ShowsWorld}
+use Rattle.pc_world.specs.Steps.{Runs, Step}
+
+-- for every plain world that is shown before, the events were done, one after another, with some replies
+abbrev pub DoesAll : List Event → Parts → Parts → Type 0
+DoesAll events old new =
+    (w : PlainWorld) → ShowsWorld old w → (w' : PlainWorld) × (replies : List Reply) × Runs w events replies w'
+    × ShowsWorld new w'
+
+-- the reply is that of a commit
+pub record IsCommit (told : Reply) : Type 0 where
+  pub cpu : ℕ
+  pub thread : ℕ
+  pub is : told ≡ Committed cpu thread
+
+-- a pick that commits nothing, then a steal, and another pick
+pub record IsPickedLate (c n : ℕ) (w : PlainWorld) (told : Reply) (new : PlainWorld) : Type 0 where
+  pub first : Reply
+  pub fails : IsCommit first → ⊥
+  pub second : Reply
+  pub between : PlainWorld
+  pub stolen : PlainWorld
+  pub picks : Step w (Pick c n) first between
+  pub steals : Step between (Steal c) second stolen
+  pub again : Step stolen (Pick c n) told new
+
+-- a pick that commits a thread, or else a steal and another pick
+abbrev pub PicksOrSteals : ℕ → ℕ → PlainWorld → Reply → PlainWorld → Type 0
+PicksOrSteals c n w told new = (IsCommit told × Step w (Pick c n) told new) ⊎ IsPickedLate c n w told new
