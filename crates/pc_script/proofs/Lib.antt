@@ -1,7 +1,11 @@
 pub mod Notices
 pub mod Numerals
+pub mod Pieces
 pub mod Splits
 pub mod Readback
+pub mod Replays
 pub mod Spellings
 pub mod Taking
+pub mod Talking
 pub mod Walking
+pub mod ShownRows

@@ -1,5 +1,5 @@
 -- The text of notices, one after another.
-use Rattle.std.proofs.Common.{◌≡◌, ℕ, List, [], ◌∷◌, ◌++◌, map, refl, sym, ap, ◌∙◌, subst, Option, Some, None, Result, Ok, Err, IfOk, IfSome, ◌⊎◌, inl, inr, append_assoc, append-nil}
+use Rattle.std.proofs.Common.{◌≡◌, ℕ, List, [], ◌∷◌, ◌++◌, map, refl, sym, ap, ◌∙◌, subst, Option, Some, None, Result, Ok, Err, IfOk, IfSome, ◌⊎◌, inl, inr, append-nil}
 use Rattle.std.specs.Io.KnownBytes.{Appends, append_known}
 use Rattle.std.proofs.lemmas.Grind.{flat_map-append}
 use Rattle.pc_calls.specs.declared.limits.Profile.{Profile}
@@ -48,7 +48,7 @@ all_are version responses outcome =
 
 -- ---- what waits, and is written at the end
 
-written_out : (before now after : Option (List ℕ)) (first last told : List ℕ) → first ≡ [] → Appends (append_known before first) (append_known now last) told
+pub written_out : (before now after : Option (List ℕ)) (first last told : List ℕ) → first ≡ [] → Appends (append_known before first) (append_known now last) told
     → Appends now after last → Appends before after told
 written_out None now after first last told none h k = tt
 written_out (Some xs) None after first last told none h k = absurd h
@@ -79,7 +79,7 @@ output_until_of IsRun RanOut text first last before now after none version respo
 )
 
 -- the replies were told so, and then what waited was written
-abbrev Tells : Telling Replies
+abbrev pub Tells : Telling Replies
 Tells old before notices new after = Appends (output_held before old.output) (output_held after new.output) (notices_text notices)
 
 pub whole_output : (IsRun : Profile → List Command → List Response → Type 0) (known : Option (List ℕ)) (text : List ℕ) (old new : Replies) (before now after : Option (List ℕ))

@@ -147,6 +147,7 @@ name_is (command.Read (read.Show cpu)) = refl
 name_is (command.Read (read.Same cpu other)) = refl
 name_is (command.Read (read.Complete cpu thread)) = refl
 name_is (command.Policy named) = refl
+name_is (command.Mend cpu) = refl
 
 pub reads_back : (given : Command) → AreInRange (row_of given).fields → Spells (words (command_text given)) given
 reads_back given h =

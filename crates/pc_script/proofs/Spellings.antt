@@ -218,6 +218,7 @@ verb_for (command.Read (read.Show a)) = record { word = verb.Show; named = refl;
 verb_for (command.Read (read.Same a b)) = record { word = verb.Same; named = refl; kinded = refl; same = refl }
 verb_for (command.Read (read.Complete a b)) = record { word = verb.Complete; named = refl; kinded = refl; same = refl }
 verb_for (command.Policy a) = record { word = verb.Policy; named = refl; kinded = refl; same = refl }
+verb_for (command.Mend a) = record { word = verb.Mend; named = refl; kinded = refl; same = refl }
 
 -- no two verbs have one word
 one_verb : (one other : Verb) → name_of one ≡ name_of other → one ≡ other
@@ -249,6 +250,7 @@ one_verb verb.Show verb.Show is = refl
 one_verb verb.Same verb.Same is = refl
 one_verb verb.Complete verb.Complete is = refl
 one_verb verb.Policy verb.Policy is = refl
+one_verb verb.Mend verb.Mend is = refl
 one_verb one other is = absurd (true≢false (ap (λ word. bytes_eq (name_of one) word) is))
 
 -- the fields after a verb can be told apart

@@ -1,11 +1,11 @@
 -- The lines of a script, taken one after another.
-use Rattle.std.proofs.Common.{◌≡◌, ℕ, zero, suc, ◌+◌, Bool, true, false, List, [], ◌∷◌, ◌++◌, Option, Result, Ok, Err, OnOk, ◌⊎◌, inl, inr, length, map, codes, refl, sym, ap, ◌∙◌, subst, arith, append-nil, append_assoc, add-one}
+use Rattle.std.proofs.Common.{◌≡◌, ℕ, suc, ◌+◌, true, false, List, [], ◌∷◌, ◌++◌, Option, Result, Ok, Err, OnOk, ◌⊎◌, inl, inr, length, map, codes, refl, sym, ap, ◌∙◌, subst, arith, append-nil, append_assoc}
 use Rattle.std.proofs.lemmas.Bool.{true≢false}
 use Rattle.std.proofs.lemmas.List.{map-append}
 use Rattle.std.specs.Str.{bytes_eq}
 use Rattle.pc_calls.specs.declared.limits.Profile.{Profile}
-use Rattle.pc_script.specs.Grammar.{AsksFor, Spells, HasNoReply, IsFault, row_of}
-use Rattle.pc_script.specs.Scripts.{Script, at_end, no_reply, command, fault, IsRunOf, IsRunUntil, IsWalked, IsWalkedUntil, Notice, Telling, answered, faulted, version_named, opening_notices, outcome_notices, answer_notices}
+use Rattle.pc_script.specs.Grammar.{AsksFor, Spells, HasNoReply, IsFault}
+use Rattle.pc_script.specs.Scripts.{Script, at_end, no_reply, command, fault, IsWalked, IsWalkedUntil, Notice, Telling, answered, faulted, version_named, opening_notices, answer_notices}
 use Rattle.pc_script.specs.Inner.Walks.{Stand, Standing, Answers, IsTold, Takes, silent, answers, names, Stops, FindsNone}
 use Rattle.pc_script.specs.Inner.Verbs.{name_of}
 use Rattle.pc_script.specs.Text.{words}
@@ -53,7 +53,7 @@ all_silent none = opens.at_end
 all_silent (one_more h more) = opens.no_reply h (all_silent more)
 
 -- the line names no version
-abbrev NamesNone : List ℕ → Type 0
+abbrev pub NamesNone : List ℕ → Type 0
 NamesNone line = (any : Version) → Names any line → ⊥
 
 -- as `Opens`, where a line had a reply
@@ -95,12 +95,12 @@ no_version : (any : Verb) → codes "version" ≡ name_of any → ⊥
 no_version any is =
     true≢false (ap (λ word. bytes_eq (codes "version") word) is ∙ elim any as (λ v. bytes_eq (codes "version") (name_of v) ≡ false) [ verb.Enclave ↦ refl | _ ↦ refl ])
 
-no_command : (line : List ℕ) (asked : Command) → Spells (words line) asked → NamesNone line
+pub no_command : (line : List ℕ) (asked : Command) → Spells (words line) asked → NamesNone line
 no_command line asked spelled One is = is
 no_command line asked spelled Two is = no_verb (codes "version") (codes "2" ∷ []) no_version asked (subst (λ ws. Spells ws asked) is spelled)
 no_command line asked spelled Three is = no_verb (codes "version") (codes "3" ∷ []) no_version asked (subst (λ ws. Spells ws asked) is spelled)
 
-opening_is : (version : Version) (line : List ℕ) → Names version line → version_named version ∷ [] ≡ opening_notices version
+pub opening_is : (version : Version) (line : List ℕ) → Names version line → version_named version ∷ [] ≡ opening_notices version
 opening_is One line is = absurd is
 opening_is Two line is = refl
 opening_is Three line is = refl
@@ -108,10 +108,10 @@ opening_is Three line is = refl
 -- ---- one line
 
 -- the laws of an observer
-abbrev Nothing : {O : Type 0} → Telling O → Type 0
+abbrev pub Nothing : {O : Type 0} → Telling O → Type 0
 Nothing {O} Tells = (observer : O) (known : Option (List ℕ)) → Tells observer known [] observer known
 
-abbrev More : {O : Type 0} → Telling O → Type 0
+abbrev pub More : {O : Type 0} → Telling O → Type 0
 More {O} Tells = (old now new : O) (before here after : Option (List ℕ)) (notices further : List Notice)
     → Tells old before notices now here → Tells now here further new after → Tells old before (notices ++ further) new after
 

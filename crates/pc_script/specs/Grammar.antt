@@ -177,6 +177,7 @@ row_of (command.Enclave limits) =
 row_of (command.Event event) = event_row event
 row_of (command.Read question) = read_row question
 row_of (command.Policy named) = row (codes "policy") (policy_fields named)
+row_of (command.Mend cpu) = row (codes "mend") (Processor cpu ∷ [])
 
 -- words with a space between each two
 abbrev pub spaced : List (List ℕ) → List ℕ
@@ -209,12 +210,13 @@ HasOwnWords version.One = ⊥
 HasOwnWords version.Two = ⊥
 HasOwnWords version.Three = Unit {0}
 
--- the commands of a version: `policy` is one of the words of version 3, and all others are of each version
+-- the commands of a version: `policy` and `mend` are words of version 3, and all others are of each version
 abbrev pub IsOf : Version → Command → Type 0
 IsOf given (command.Enclave limits) = Unit {0}
 IsOf given (command.Event event) = Unit {0}
 IsOf given (command.Read question) = Unit {0}
 IsOf given (command.Policy named) = HasOwnWords given
+IsOf given (command.Mend cpu) = HasOwnWords given
 
 -- in a script of this version these words ask for the command
 abbrev pub AsksFor : Version → List (List ℕ) → Command → Type 0

@@ -1,6 +1,8 @@
 pub mod Lists
 pub mod Outputs
+pub mod Pieces
 pub mod Readings
+pub mod Talks
 pub mod Taking
 pub mod Verbs
 pub mod Walks

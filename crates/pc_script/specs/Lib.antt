@@ -7,5 +7,6 @@ pub mod Inner
 pub mod Left
 pub mod Responses
 pub mod Scripts
+pub mod Sessions
 pub mod Text
 pub mod Versions

@@ -14,6 +14,8 @@ pub enum Command {
     Read(Read),
     /// All agents go by the policy. It is of version 3.
     Policy(PolicyName),
+    /// The CPU is mended: it comes to run a thread that waits for it. It is of version 3.
+    Mend { cpu: Cpu },
 }
 
 /// A policy of agents, by the words that a script has for it.

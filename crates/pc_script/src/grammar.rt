@@ -48,6 +48,7 @@ pub enum Verb {
     Same,
     Complete,
     Policy,
+    Mend,
 }
 
 /// The verb that this word is.
@@ -83,6 +84,7 @@ fn verb_of(word: &[u8]) -> Option<Verb>
         b"same" => Some(Verb::Same),
         b"complete" => Some(Verb::Complete),
         b"policy" => Some(Verb::Policy),
+        b"mend" => Some(Verb::Mend),
         _ => None,
     }
 }
@@ -132,7 +134,8 @@ macro_rules! table {
             Show(Processor(cpu)) => Command::Read(Read::Show { cpu }),
             Same(Processor(cpu), Processor(other)) => Command::Read(Read::Same { cpu, other }),
             Complete(Processor(cpu), Thread(thread)) => Command::Read(Read::Complete { cpu, thread }),
-            Policy(Order(order), Exactness(exact)) => Command::Policy(PolicyName { order, exact })
+            Policy(Order(order), Exactness(exact)) => Command::Policy(PolicyName { order, exact }),
+            Mend(Processor(cpu)) => Command::Mend { cpu }
         )
     };
 }
@@ -204,7 +207,7 @@ pub(crate) fn command_of(name: &[u8], words: &mut Words<'_>) -> Option<Command>
 /// The verb that this word is in a script of the version.
 fn verb_in(version: Version, word: &[u8]) -> Option<Verb> {
     match (verb_of(word), version) {
-        (Some(Verb::Policy), Version::One | Version::Two) => None,
+        (Some(Verb::Policy | Verb::Mend), Version::One | Version::Two) => None,
         (verb, _) => verb,
     }
 }

@@ -8,6 +8,7 @@
 //! The words of each command stand in the table of `specs/Grammar.antt`, the texts of what is answered in
 //! `specs/Responses.antt`. What the commands do is left to a [`Machine`]: the program gives one. [`walk`] is the one
 //! loop over a script's lines, of which an [`Observer`] is told; [`run_script`] has the one that writes the replies.
+//! [`converse`] takes the same lines, and tells the same observers, as they come, and goes on behind a fault.
 #![tactic(auto)]
 
 mod command;
@@ -24,8 +25,10 @@ mod machine;
 mod observer;
 mod outcome;
 mod output;
+mod piece;
 mod response;
 mod run;
+mod session;
 mod short;
 mod spelled;
 mod text;
@@ -46,6 +49,7 @@ pub use observer::{Line, Observer};
 pub use outcome::{Outcome, ScriptFault};
 pub use response::Response;
 pub use run::run_script;
+pub use session::{Conversed, Helper, MOST_LINE, converse, run_session};
 pub use trouble::{Trouble, Wanted, trouble_in};
 pub use version::Version;
 pub use walker::walk;

@@ -4,6 +4,7 @@ ghost use Rattle.std.specs.Prelude.{◌≡◌, ◌≤◌, [], ◌∷◌, MatchOp
 ghost use Rattle.memchr.specs.Find.{IsFirst, IsFirstByte, Passes, is_byte};
 ghost use Rattle.std.specs.Iterator.{YieldsFirstBy, item_count};
 ghost use Rattle.std.specs.Str.Lines.{strip_carriage_return};
+ghost use Rattle.pc_script.specs.Inner.Pieces.{IsFirstLine, IsUnbroken};
 ghost use Rattle.pc_script.specs.Text.{lines, words};
 ghost use Rattle.pc_script.specs.Left.{lines_left, lines_of_rest};
 
@@ -45,17 +46,23 @@ impl<'a> Iterator for Lines<'a> {
 pub(crate) fn first_line(text: &[u8]) -> (&[u8], Option<&[u8]>)
     ensures { lines text.now ≡ result.0.now ∷ lines_of_rest result.1 }
 {
-    let Some(end) = memchr(b'\n', text) else {
-        return (without_carriage_return(text), None);
-    };
-    (
-        without_carriage_return(&text[..end]),
-        Some(&text[end + 1..]),
-    )
+    match first_whole_line(text) {
+        Some((line, rest)) => (line, Some(rest)),
+        None => (without_carriage_return(text), None),
+    }
+}
+
+/// The first line of a text that a line feed ends, and the text after it.
+#[inline(always)]
+pub(crate) fn first_whole_line(text: &[u8]) -> Option<(&[u8], &[u8])>
+    ensures { MatchOption result (IsUnbroken text.now) (λ cut. IsFirstLine text.now cut.0.now cut.1.now) }
+{
+    let end = memchr(b'\n', text)?;
+    Some((without_carriage_return(&text[..end]), &text[end + 1..]))
 }
 
 /// The line without one carriage return at its end.
-fn without_carriage_return(line: &[u8]) -> &[u8]
+pub(crate) fn without_carriage_return(line: &[u8]) -> &[u8]
     ensures { result.now ≡ strip_carriage_return line.now }
 {
     match line {

@@ -1,6 +1,7 @@
 //! What is told of each line of a script.
 
 ghost use Rattle.std.specs.Prelude.{◌≡◌, List, ℕ, Option, [], ◌∷◌, ◌++◌, OnOk, Err};
+ghost use Rattle.std.specs.Io.KnownBytes.{Keeps};
 ghost use Rattle.pc_script.specs.Scripts.{Notice, answered, faulted, version_named};
 ghost use Rattle.pc_script.specs.declared.outcome.ScriptFault.{ScriptFault};
 
@@ -15,7 +16,7 @@ use std::io::Write;
 #[derive(Clone, Copy)]
 pub struct Line<'t> {
     /// Its number, counted from 1.
-    pub number: u32,
+    pub number: u64,
     /// Its bytes, without the line feed and one carriage return at its end.
     pub text: &'t [u8],
 }
@@ -25,11 +26,14 @@ pub struct Line<'t> {
 ///
 /// Of a line without a reply nothing is told. `Tells` says what a list of notices makes of the observer and of what the
 /// writer holds; the first `Option` is what the writer holds before, the last what it holds after, where that is known.
-/// `MayFail` has the faults by which an observer ends the walk.
+/// `MayFail` has the faults by which an observer ends the walk, and `HoldsNothing` says of one that it gave the writer
+/// all that it has to write.
 pub trait Observer<M: Machine, W: Write>: Drop {
     ghost Tells: { Self → Option (List ℕ) → List Notice → Self → Option (List ℕ) → Type 0 };
 
     ghost MayFail: { ScriptFault → Type 0 };
+
+    ghost HoldsNothing: { Self → Type 0 };
 
     /// The line names the version. It is the first that has a reply; where no line does, the version is the first.
     fn version_named(
@@ -65,9 +69,24 @@ pub trait Observer<M: Machine, W: Write>: Drop {
             (Tells self.old (W.contents writer.old) (faulted line.entry.number ∷ []) self.new (W.contents writer.new)) }
         ensures err { (fault : ScriptFault) → result ≡ Err fault → MayFail fault };
 
+    /// The line with this number is longer than a session takes, and a fault: nothing is kept of it.
+    fn passed_over(&mut self, number: u64, writer: &mut W) -> Result<(), ScriptFault>
+        ensures ok { OnOk result
+            (Tells self.old (W.contents writer.old) (faulted number ∷ []) self.new (W.contents writer.new)) }
+        ensures err { (fault : ScriptFault) → result ≡ Err fault → MayFail fault };
+
+    /// Gives the writer what is held back for it. A session does so before it waits for more lines.
+    fn settle(&mut self, writer: &mut W) -> Result<(), ScriptFault>
+        ensures ok { OnOk result (Tells self.old (W.contents writer.old) [] self.new (W.contents writer.new)) }
+        ensures settled { OnOk result (HoldsNothing self.new) }
+        ensures err { (fault : ScriptFault) → result ≡ Err fault → MayFail fault };
+
     ghost tells_nothing: { (observer : Self) (known : Option (List ℕ)) → Tells observer known [] observer known };
 
     ghost tells_more: { (old now new : Self) (before here after : Option (List ℕ)) (notices further : List Notice)
         → Tells old before notices now here → Tells now here further new after
         → Tells old before (notices ++ further) new after };
+
+    ghost tells_kept: { (old new : Self) (before here after : Option (List ℕ)) (notices : List Notice)
+        → Tells old before notices new here → Keeps here after → Tells old before notices new after };
 }

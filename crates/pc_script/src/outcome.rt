@@ -8,7 +8,7 @@ pub enum Outcome {
     /// Each line was answered or has no reply.
     Finished,
     /// The line with this number, counted from 1, isn't a command. Nothing after it was answered.
-    FaultLine(u32),
+    FaultLine(u64),
 }
 
 /// Why a script did not end.
@@ -20,7 +20,8 @@ pub enum ScriptFault {
     /// A read failed. Nothing was written.
     #[error("cannot read")]
     Read,
-    /// The text has more than [`MOST_BYTES`](crate::MOST_BYTES) bytes. Nothing was written.
+    /// The text has more than [`MOST_BYTES`](crate::MOST_BYTES) bytes, and nothing was written; or a session has more
+    /// lines or reads than 64 bits count.
     #[error("the script is too long")]
     TooLong,
     /// A write failed.

@@ -3,15 +3,15 @@
 //! A script has a reply for most of its lines, and what is done for each of them counts. So a reply is put behind those
 //! that wait, in room that is made once for all, and what the writer answers is looked at once for many of them.
 
-ghost use Rattle.std.specs.Prelude.{◌≡◌, ◌≤◌, ◌+◌, ◌++◌, [], IsTrue, length};
+ghost use Rattle.std.specs.Prelude.{◌≡◌, ◌≤◌, ◌+◌, ◌++◌, [], ◌∷◌, IsTrue, decimal, length};
 ghost use Rattle.pc_script.specs.declared.output.TheConstants.{MOST_WAITING};
 ghost use Rattle.std.specs.Io.KnownBytes.{Appends};
-ghost use Rattle.pc_script.specs.Responses.{response_text, text_line};
+ghost use Rattle.pc_script.specs.Responses.{numbers_text, response_text, shown_text, text_line};
 ghost use Rattle.pc_script.specs.declared.response.Response.{Response};
 
-use crate::lists::ShownThreads;
-use crate::response::{Response, write_view};
-use crate::short::write_line;
+use crate::lists::{ShownThread, ShownThreads};
+use crate::response::Response;
+use crate::short::{write_line, write_row};
 use crate::text::{LineEnd, ROOM};
 use std::io::Write;
 
@@ -137,13 +137,70 @@ impl Output {
         }
     }
 
-    /// Writes what waits and a view, which may have any length. Answers false where a write fails.
+    /// Puts a view's text, which may have any length, and a line feed behind what waits, row by row. Answers false
+    /// where a write was needed, and failed.
     #[inline(never)]
     fn put_view<W: Write>(&mut self, threads: &ShownThreads, writer: &mut W) -> bool
         ensures { IsTrue result
             → Appends (output_held (W.contents writer.old) self.old) (output_held (W.contents writer.new) self.new)
             (text_line (response_text (Response.View threads.now))) }
     {
-        self.waiting.write_out(writer) && write_view(threads, writer).is_ok()
+        for shown in threads.as_slice() {
+            if !self.put_row(shown, writer) {
+                return false;
+            }
+        }
+        self.waiting.put(b"end\n", writer)
+    }
+
+    /// Puts what a view knows of a thread, and a line feed, behind what waits.
+    fn put_row<W: Write>(&mut self, shown: &ShownThread, writer: &mut W) -> bool
+        ensures { IsTrue result
+            → Appends (output_held (W.contents writer.old) self.old) (output_held (W.contents writer.new) self.new)
+            (text_line (shown_text shown.now)) }
+    {
+        self.line.clear();
+        match shown.early.as_slice().split_first() {
+            None => {
+                self.line.text(b"-\n");
+                write_row(&mut self.line, shown);
+                self.waiting.put(self.line.as_slice(), writer)
+            }
+            Some((first, others)) => {
+                write_row(&mut self.line, shown);
+                self.waiting.put(self.line.as_slice(), writer)
+                    && self.put_numbers(*first, others, writer)
+            }
+        }
+    }
+
+    /// Puts numbers with a space between them, and a line feed, behind what waits.
+    fn put_numbers<W: Write>(&mut self, first: u32, others: &[u32], writer: &mut W) -> bool
+        ensures { IsTrue result
+            → Appends (output_held (W.contents writer.old) self.old) (output_held (W.contents writer.new) self.new)
+            (text_line (numbers_text (first ∷ others.now))) }
+    {
+        if !self.put_number(b"", first, writer) {
+            return false;
+        }
+        for number in others {
+            if !self.put_number(b" ", *number, writer) {
+                return false;
+            }
+        }
+        self.waiting.put(b"\n", writer)
+    }
+
+    /// Puts a number behind a text behind what waits.
+    fn put_number<W: Write>(&mut self, before: &[u8], number: u32, writer: &mut W) -> bool
+        requires { length before.now ≤ 20 }
+        ensures { IsTrue result
+            → Appends (output_held (W.contents writer.old) self.old) (output_held (W.contents writer.new) self.new)
+            (before.now ++ decimal number) }
+    {
+        self.line.clear();
+        self.line.number(u64::from(number));
+        self.line.text(before);
+        self.waiting.put(self.line.as_slice(), writer)
     }
 }

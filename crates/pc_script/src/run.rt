@@ -7,7 +7,7 @@ ghost use Rattle.pc_script.specs.Inner.Outputs.{output_held, waiting};
 ghost use Rattle.pc_script.specs.Scripts.{IsOutput, IsOutputUntil, notices_text, outcome_text};
 ghost use Rattle.pc_script.specs.declared.outcome.Outcome.{Outcome};
 ghost use Rattle.pc_script.specs.declared.outcome.ScriptFault.{ScriptFault};
-ghost use Rattle.pc_script.specs.Inner.Written.{written_more, written_nothing};
+ghost use Rattle.pc_script.specs.Inner.Written.{written_kept, written_more, written_nothing};
 
 use crate::command::Command;
 use crate::input::{MOST_BYTES, read_text};
@@ -23,17 +23,17 @@ use std::io::{Read, Write};
 
 /// Writes a reply for each line that has one. Replies may wait in the output.
 #[derive(Drop)]
-struct Replies {
-    output: Output,
+pub(crate) struct Replies {
+    pub(crate) output: Output,
 }
 
 impl Replies {
     /// Writes what waits, however the walk ended; after a write that failed nothing more is written.
-    fn end<W: Write>(
+    pub(crate) fn end<T: Drop, W: Write>(
         &mut self,
-        ended: Result<Outcome, ScriptFault>,
+        ended: Result<T, ScriptFault>,
         writer: &mut W,
-    ) -> Result<Outcome, ScriptFault>
+    ) -> Result<T, ScriptFault>
         ensures same { (result ≡ ended) ⊎ (result ≡ Err ScriptFault.Write) }
         ensures written { (result ≡ Err ScriptFault.Write)
             ⊎ Appends (W.contents writer.old) (W.contents writer.new) (waiting self.old.output.waiting) }
@@ -62,7 +62,7 @@ fn unless_failed(is_written: bool) -> Result<(), ScriptFault>
 }
 
 /// Writes what waits, and that the line with this number is a fault.
-fn write_fault<W: Write>(number: u32, output: &mut Output, writer: &mut W) -> bool
+fn write_fault<W: Write>(number: u64, output: &mut Output, writer: &mut W) -> bool
     ensures { IsTrue result
         → Appends (output_held (W.contents writer.old) output.old) (output_held (W.contents writer.new) output.new)
         (outcome_text (Outcome.FaultLine number)) }
@@ -75,6 +75,8 @@ impl<M: Machine, W: Write> Observer<M, W> for Replies {
         (output_held after new.output) (notices_text notices) };
 
     ghost MayFail = { λ fault. fault ≡ ScriptFault.Write };
+
+    ghost HoldsNothing = { λ observer. waiting observer.output.waiting ≡ [] };
 
     fn version_named(
         &mut self,
@@ -103,11 +105,22 @@ impl<M: Machine, W: Write> Observer<M, W> for Replies {
         unless_failed(write_fault(line.number, &mut self.output, writer))
     }
 
+    fn passed_over(&mut self, number: u64, writer: &mut W) -> Result<(), ScriptFault> {
+        unless_failed(write_fault(number, &mut self.output, writer))
+    }
+
+    fn settle(&mut self, writer: &mut W) -> Result<(), ScriptFault> {
+        unless_failed(self.output.write_out(writer))
+    }
+
     ghost tells_nothing = { λ observer known. written_nothing (output_held known observer.output) };
 
     ghost tells_more = { λ old now new before here after notices further.
         written_more (output_held before old.output) (output_held here now.output)
         (output_held after new.output) notices further };
+
+    ghost tells_kept = { λ old new before here after notices.
+        written_kept (output_held before old.output) here after (waiting new.output.waiting) notices };
 }
 
 /// Reads a script, has the machine answer its commands one after another, and writes the responses.

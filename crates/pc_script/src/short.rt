@@ -4,14 +4,16 @@
 //! put together here, from its last byte to its first.
 
 ghost use Rattle.std.specs.Prelude.{◌≡◌, ◌++◌, ◌≤◌, ◌<◌, ◌+◌, MatchOption, [], decimal, drop, length};
-ghost use Rattle.pc_script.specs.Responses.{limit_text, number_or_dash, phase_text, posted_text, refusal_text};
+ghost use Rattle.pc_script.specs.Inner.Outputs.{row_text};
+ghost use Rattle.pc_script.specs.Responses.{level_text, limit_text, number_or_dash, phase_text, posted_text};
+ghost use Rattle.pc_script.specs.Responses.{refusal_text, reported_text};
 ghost use Rattle.pc_script.specs.Responses.{reply_text, response_text, status_text, subject_text, text_line};
 
-use crate::lists::ShownThreads;
+use crate::lists::{ShownThread, ShownThreads};
 use crate::response::Response;
 use crate::text::{LineEnd, ROOM};
 use pc_calls::{LimitField, Posted, Refusal, Reply, Status};
-use pc_messages::{Cpu, Phase, Tid};
+use pc_messages::{Cpu, Phase, Reported, Tid};
 
 /// Writes whose item was posted, and its number, or `-` where it has neither.
 #[inline(always)]
@@ -118,6 +120,55 @@ fn write_status(line: &mut LineEnd, thread: Tid, status: Status, phase: Phase)
     line.number(u64::from(status.number));
     line.text(b" n");
     line.number(u64::from(thread.index()));
+    line.text(b"t");
+}
+
+/// Writes a level, if it isn't the lowest.
+#[inline(always)]
+fn write_level(line: &mut LineEnd, level: u8)
+    requires fits { (27 ≤ line.old.start) × (line.old.start ≤ ROOM) }
+    ensures start { (line.old.start ≤ line.new.start + 27) × (line.new.start ≤ line.old.start) }
+    ensures written { drop line.new.start line.new.bytes ≡ level_text level ++ drop line.old.start line.old.bytes }
+{
+    if level != 0 {
+        line.number(u64::from(level));
+        line.text(b" level ");
+    }
+}
+
+/// Writes what is reported of a thread, or `-`.
+#[inline(always)]
+fn write_reported(line: &mut LineEnd, reported: Option<Reported>)
+    requires fits { (85 ≤ line.old.start) × (line.old.start ≤ ROOM) }
+    ensures start { (line.old.start ≤ line.new.start + 85) × (line.new.start ≤ line.old.start) }
+    ensures written { drop line.new.start line.new.bytes
+        ≡ reported_text reported ++ drop line.old.start line.old.bytes }
+{
+    let Some(reported) = reported else {
+        line.text(b"-");
+        return;
+    };
+    write_level(line, reported.level.get());
+    line.number(reported.ran);
+    line.text(b" ran ");
+    line.number(reported.mask.bits());
+    line.text(b" mask ");
+    line.text(phase_name(reported.phase).as_bytes());
+}
+
+/// Writes what a view knows of a thread, but for the numbers of early messages.
+pub(crate) fn write_row(line: &mut LineEnd, shown: &ShownThread)
+    requires fits { (140 ≤ line.old.start) × (line.old.start ≤ ROOM) }
+    ensures start { line.new.start ≤ line.old.start }
+    ensures written { drop line.new.start line.new.bytes
+        ≡ row_text shown.now ++ drop line.old.start line.old.bytes }
+{
+    line.text(b" early ");
+    write_reported(line, shown.reported);
+    line.text(b" ");
+    line.number(u64::from(shown.upto));
+    line.text(b" upto ");
+    line.number(u64::from(shown.thread.index()));
     line.text(b"t");
 }
 

@@ -208,6 +208,7 @@ impl fmt::Display for Command {
             }
             Command::Read(question) => write!(f, "{question}"),
             Command::Policy(policy) => write!(f, "policy {policy}"),
+            Command::Mend { cpu } => write!(f, "mend {}", cpu.index()),
         }
     }
 }

@@ -8,7 +8,7 @@ ghost use Rattle.std.specs.Prelude.{◌≡◌, [], ◌++◌, ◌+◌, ◌≤◌,
 use itoa::write_digits;
 
 /// At least the bytes of a line of five numbers, of 20 digits each, and of the words between them.
-pub(crate) const ROOM: usize = 128;
+pub(crate) const ROOM: usize = 160;
 
 /// The end of a line: the bytes from `start` on.
 #[derive(Drop)]

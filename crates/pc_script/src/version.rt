@@ -38,7 +38,7 @@ impl Version {
         ensures { MatchBool result (IsOf self command.now) (IsOf self command.now → ⊥) }
     {
         match (command, self) {
-            (Command::Policy(_), Version::One | Version::Two) => false,
+            (Command::Policy(_) | Command::Mend { .. }, Version::One | Version::Two) => false,
             _ => true,
         }
     }

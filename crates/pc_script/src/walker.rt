@@ -30,20 +30,20 @@ use std::io::Write;
 ///
 /// The first line that has a reply may name the version, and by that the profile in which the machine is started.
 #[derive(Drop)]
-struct Walker<M: Machine> {
+pub(crate) struct Walker<M: Machine> {
     alloc: Global,
-    machine: M,
+    pub(crate) machine: M,
     /// Whether a line had a reply.
-    is_open: bool,
+    pub(crate) is_open: bool,
     /// The version that a line named, and the first before.
-    version: Version,
+    pub(crate) version: Version,
     /// Each response stands where the one before it stood.
     response: Response,
 }
 
 impl<M: Machine> Walker<M> {
     /// Before the first line.
-    fn new(alloc: Global) -> Walker<M>
+    pub(crate) fn new(alloc: Global) -> Walker<M>
         ensures fresh { M.StandsAfter One result.machine [] [] }
         ensures open { result.is_open ≡ false }
         ensures version { result.version ≡ Version.One }
@@ -118,7 +118,7 @@ impl<M: Machine> Walker<M> {
 
     /// Takes the next line. Answers false where it is a fault.
     #[inline(always)]
-    fn take<O: Observer<M, W>, W: Write>(
+    pub(crate) fn take<O: Observer<M, W>, W: Write>(
         &mut self,
         line: Line<'_>,
         observer: &mut O,

@@ -9,12 +9,13 @@ use Rattle.pc_calls.specs.Limits.{bad_field}
 use Rattle.pc_join.specs.Sets.{has}
 use Rattle.pc_view.specs.Prefixes.{upto}
 use Rattle.pc_script.specs.declared.command.Command.{Command}
-use Rattle.pc_script.specs.declared.command.Command.TheVariants.{Enclave, Event as OneEvent, Read, Policy}
+use Rattle.pc_script.specs.declared.command.Command.TheVariants.{Enclave, Event as OneEvent, Read, Policy, Mend}
 use Rattle.pc_script.specs.declared.command.PolicyName.{PolicyName}
 use Rattle.pc_script.specs.declared.response.Response.{Response}
 use Rattle.pc_script.specs.declared.response.Response.TheVariants as response
 use Rattle.pc_agent.specs.PlainAgent.{Set}
 use Rattle.pc_world.specs.Facts.{EveryEventHasAStep, RunsAreBegun}
+use Rattle.pc_world.specs.Mends.{EveryCpuCanBeMended, MendedIsReached}
 use Rattle.pc_calls.specs.declared.refusal.Refusal.TheVariants.{TooLate}
 use Rattle.pc_policy.specs.Rules.{usual}
 use Rattle.pc_world.specs.PlainWorld.{PlainWorld, opened, opened_by}
@@ -47,13 +48,6 @@ ruled_well true e new policy told well (tells, ruled) =
     subst IsWell (sym ruled.opens) (e.world.kernel.limits, record { rules = ruled.each; events = []; leads = refl })
 ruled_well false e new policy told well (tells, same) = subst IsWell (sym same) well
 
-keeps_well : (e new : PlainEnclave) (command : Command) (told : Response) → IsWell e → IsWorldStep e command told new → IsWell new
-keeps_well e new (Enclave asked) told well (tells, same) = subst IsWell (sym same) well
-keeps_well e new (OneEvent event) told (limits, reached) does =
-    subst IsWell (sym does.leaves) (limits, reached_on limits e.world does.after event does.reply reached does.step)
-keeps_well e new (Read read) told well (tells, same) = subst IsWell (sym same) well
-keeps_well e new (Policy policy) told well does = ruled_well e.is_untouched e new policy told well does
-
 opens_well : (o : Option LimitField) (limits : Limits) (told : Response) (new : Session) → IsLimited o limits told new → StandsWell new
 opens_well None limits told new (tells, is) = subst StandsWell (sym is) (limits, record { rules = λ c. usual; events = []; leads = refl })
 opens_well (Some field) limits told new (tells, is) = subst StandsWell (sym is) tt
@@ -63,17 +57,28 @@ begins_well profile (Enclave limits) told new opens = opens_well (bad_field prof
 begins_well profile (OneEvent event) told new (tells, is) = subst StandsWell (sym is) tt
 begins_well profile (Read read) told new (tells, is) = subst StandsWell (sym is) tt
 begins_well profile (Policy policy) told new (tells, is) = subst StandsWell (sym is) tt
+begins_well profile (Mend cpu) told new (tells, is) = subst StandsWell (sym is) tt
 
-steps_well : (profile : Profile) (s new : Session) (command : Command) (told : Response) → StandsWell s → IsStep profile s command told new → StandsWell new
-steps_well profile None new command told well opens = begins_well profile command told new opens
-steps_well profile (Some e) new command told well (e', step, is) = subst StandsWell (sym is) (keeps_well e e' command told well step)
+module _ (reached : MendedIsReached) where
+  keeps_well : (e new : PlainEnclave) (command : Command) (told : Response) → IsWell e → IsWorldStep e command told new → IsWell new
+  keeps_well e new (Enclave asked) told well (tells, same) = subst IsWell (sym same) well
+  keeps_well e new (OneEvent event) told (limits, leads) does =
+      subst IsWell (sym does.leaves) (limits, reached_on limits e.world does.after event does.reply leads does.step)
+  keeps_well e new (Read read) told well (tells, same) = subst IsWell (sym same) well
+  keeps_well e new (Policy policy) told well does = ruled_well e.is_untouched e new policy told well does
+  keeps_well e new (Mend cpu) told (limits, well) does =
+      subst IsWell (sym does.leaves) (limits, reached limits e.world does.after cpu does.reply well does.mended)
 
-runs_well : {profile : Profile} {s e : Session} {commands : List Command} {told : List Response} → StandsWell s → IsRun profile s commands told e → StandsWell e
-runs_well well none = well
-runs_well {profile} {e} well (one_more {m} commands told command response before step) = steps_well profile m e command response (runs_well well before) step
+  steps_well : (profile : Profile) (s new : Session) (command : Command) (told : Response) → StandsWell s → IsStep profile s command told new → StandsWell new
+  steps_well profile None new command told well opens = begins_well profile command told new opens
+  steps_well profile (Some e) new command told well (e', step, is) = subst StandsWell (sym is) (keeps_well e e' command told well step)
+
+  runs_well : {profile : Profile} {s e : Session} {commands : List Command} {told : List Response} → StandsWell s → IsRun profile s commands told e → StandsWell e
+  runs_well well none = well
+  runs_well {profile} {e} well (one_more {m} commands told command response before step) = steps_well profile m e command response (runs_well well before) step
 
 -- ---- the next command
-module _ (events : EveryEventHasAStep) (begun : RunsAreBegun)
+module _ (events : EveryEventHasAStep) (begun : RunsAreBegun) (mended : EveryCpuCanBeMended) (led : MendedIsReached)
     (the_greatest : (set : Set) (t n : ℕ) → (n ≤ upto set t) ↔ ((m : ℕ) → 1 ≤ m → m ≤ n → IsTrue (has set t m))) where
   policy_next : (b : Bool) (e : PlainEnclave) (policy : PolicyName) → (told : Response) × (new : PlainEnclave) × IsPolicy b e policy told new
   policy_next true e policy =
@@ -90,6 +95,9 @@ module _ (events : EveryEventHasAStep) (begun : RunsAreBegun)
       let next = read_has the_greatest e.world read (λ t. begun limits e.world t reached) in
       (next.0, e, (next.1, refl))
   world_next e (Policy policy) well = policy_next e.is_untouched e policy
+  world_next e (Mend cpu) (limits, reached) =
+      let next = mended limits e.world cpu reached in
+      (response.Event next.0, touched next.1, record { reply = next.0; after = next.1; mended = next.2; tells = refl; leaves = refl })
 
   opening_next : (o : Option LimitField) (limits : Limits) → (told : Response) × (new : Session) × IsLimited o limits told new
   opening_next None limits = (response.Opened, Some (untouched (opened limits)), (refl, refl))
@@ -100,6 +108,7 @@ module _ (events : EveryEventHasAStep) (begun : RunsAreBegun)
   session_next profile None (OneEvent event) well = (response.NoEnclave, None, (refl, refl))
   session_next profile None (Read read) well = (response.NoEnclave, None, (refl, refl))
   session_next profile None (Policy policy) well = (response.NoEnclave, None, (refl, refl))
+  session_next profile None (Mend cpu) well = (response.NoEnclave, None, (refl, refl))
   session_next profile (Some e) command well =
       let next = world_next e command well in
       (next.0, Some next.1, (next.1, next.2, refl))
@@ -109,7 +118,7 @@ module _ (events : EveryEventHasAStep) (begun : RunsAreBegun)
   goes_on profile [] commands told s run =
       ([], subst (λ cs. IsSession profile cs (told ++ [])) (sym (append-nil commands)) (subst (λ ts. IsSession profile commands ts) (sym (append-nil told)) (s, run)))
   goes_on profile (command ∷ more) commands told s run =
-      let next = session_next profile s command (runs_well tt run) in
+      let next = session_next profile s command (runs_well led tt run) in
       let rest = goes_on profile more (commands ++ command ∷ []) (told ++ next.0 ∷ []) next.1 (one_more commands told command next.0 run next.2) in (
         next.0 ∷ rest.0,
         subst (λ cs. IsSession profile cs (told ++ (next.0 ∷ rest.0))) (append_assoc commands (command ∷ []) more)

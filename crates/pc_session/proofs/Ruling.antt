@@ -1,4 +1,4 @@
--- A policy that a session is given, and an event that is taken.
+-- A policy that a session is given, an event that is taken, and a CPU that is mended.
 use Rattle.std.proofs.Common.{◌≡◌, ◌<◌, ◌∙◌, ℕ, zero, suc, true, false, List, [], ◌∷◌, All, get_or, length, refl, sym, ap, subst, arith}
 use Rattle.pc_calls.specs.declared.event.Event as event
 use Rattle.pc_calls.specs.declared.event.Reply.{Reply}
@@ -10,6 +10,7 @@ use Rattle.pc_policy.specs.declared.agent_policy.AgentPolicy.{AgentPolicy}
 use Rattle.pc_script.specs.declared.command.Command.TheVariants as command
 use Rattle.pc_script.specs.declared.command.PolicyName.{PolicyName}
 use Rattle.pc_script.specs.declared.response.Response.TheVariants as response
+use Rattle.pc_world.specs.Mends.{IsMended}
 use Rattle.pc_world.specs.PlainWorld.{PlainWorld, opened_by, rules_at}
 use Rattle.pc_world.specs.Shows.{Does, ShowsWorld, World}
 use Rattle.pc_world.specs.Steps.{Step}
@@ -54,3 +55,9 @@ pub happens : (old : Enclave) (next : World) (event : event.Event) (reply : Repl
 happens old next event reply does e h =
     let after = does e.world h.world in
     (touched after.0, record { reply = reply; after = after.0; step = after.1; tells = refl; leaves = refl }, record { world = after.2; untouched = refl })
+
+pub mends : (old : Enclave) (next : World) (cpu : ℕ) (reply : Reply) → Does (IsMended cpu) old.world next reply
+    → Answers (command.Mend cpu) old (record { world = next; is_untouched = false }) (response.Event reply)
+mends old next cpu reply does e h =
+    let after = does e.world h.world in
+    (touched after.0, record { reply = reply; after = after.0; mended = after.1; tells = refl; leaves = refl }, record { world = after.2; untouched = refl })

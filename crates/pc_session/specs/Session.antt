@@ -10,12 +10,13 @@ use Rattle.pc_calls.specs.Limits.{bad_field}
 use Rattle.pc_kernel.specs.Reads.{shown, is_cpu}
 use Rattle.pc_script.specs.declared.command.Command.{Command}
 use Rattle.pc_policy.specs.Rules.{Rules}
-use Rattle.pc_script.specs.declared.command.Command.TheVariants.{Enclave, Event, Read, Policy}
+use Rattle.pc_script.specs.declared.command.Command.TheVariants.{Enclave, Event, Read, Policy, Mend}
 use Rattle.pc_script.specs.declared.command.PolicyName.{PolicyName}
 use Rattle.pc_script.specs.declared.command.Read as reading
 use Rattle.pc_script.specs.declared.command.Read.TheVariants.{Show}
 use Rattle.pc_script.specs.declared.response.Response.{Response}
 use Rattle.pc_script.specs.declared.response.Response.TheVariants as response
+use Rattle.pc_world.specs.Mends.{IsMended, RanOutInMending}
 use Rattle.pc_world.specs.PlainWorld.{PlainWorld, opened, opened_by}
 use Rattle.pc_world.specs.RanOut as world
 use Rattle.pc_world.specs.Steps.{Step}
@@ -54,12 +55,21 @@ pub record IsEvent (e : PlainEnclave) (event : event.Event) (told : Response) (n
   pub tells : told ≡ response.Event reply
   pub leaves : new ≡ touched after
 
+-- a CPU is mended, or is refused
+pub record IsMend (e : PlainEnclave) (cpu : ℕ) (told : Response) (new : PlainEnclave) : Type 0 where
+  pub reply : Reply
+  pub after : PlainWorld
+  pub mended : IsMended cpu e.world reply after
+  pub tells : told ≡ response.Event reply
+  pub leaves : new ≡ touched after
+
 -- a command that meets a world
 abbrev pub IsWorldStep : PlainEnclave → Command → Response → PlainEnclave → Type 0
 IsWorldStep e (Enclave limits) told new = (told ≡ response.HaveEnclave) × (new ≡ e)
 IsWorldStep e (Event event) told new = IsEvent e event told new
 IsWorldStep e (Read read) told new = IsRead e.world read told × (new ≡ e)
 IsWorldStep e (Policy policy) told new = IsPolicy e.is_untouched e policy told new
+IsWorldStep e (Mend cpu) told new = IsMend e cpu told new
 
 -- a session: no world before an accepted `enclave`, and one world from then on
 abbrev pub Session : Type 0
@@ -76,6 +86,7 @@ IsOpening profile (Enclave limits) told new = IsLimited (bad_field profile limit
 IsOpening profile (Event event) told new = (told ≡ response.NoEnclave) × (new ≡ None)
 IsOpening profile (Read read) told new = (told ≡ response.NoEnclave) × (new ≡ None)
 IsOpening profile (Policy policy) told new = (told ≡ response.NoEnclave) × (new ≡ None)
+IsOpening profile (Mend cpu) told new = (told ≡ response.NoEnclave) × (new ≡ None)
 
 -- one command of a session
 abbrev pub IsStep : Profile → Session → Command → Response → Session → Type 0
@@ -99,12 +110,14 @@ abbrev pub TakesMemoryToRead : PlainWorld → reading.Read → Type 0
 TakesMemoryToRead w (Show cpu) = IsTrue (is_cpu (shown w.kernel) cpu)
 TakesMemoryToRead w read = ⊥
 
--- a command that takes memory in a world: such a read, an event that may find none, or a policy that is not too late
+-- a command that takes memory in a world: such a read, an event that may find none, a policy that is not too late, or
+-- mending that may find none
 abbrev pub TakesMemoryIn : PlainEnclave → Command → Type 0
 TakesMemoryIn e (Enclave limits) = ⊥
 TakesMemoryIn e (Event event) = (new : PlainWorld) × world.RanOut e.world event new
 TakesMemoryIn e (Read read) = TakesMemoryToRead e.world read
 TakesMemoryIn e (Policy policy) = IsTrue e.is_untouched
+TakesMemoryIn e (Mend cpu) = (new : PlainWorld) × RanOutInMending e.world cpu new
 
 -- a command that takes memory in a session: before there is a world, an `enclave` whose limits are within their ranges
 abbrev pub TakesMemory : Profile → Session → Command → Type 0

@@ -11,6 +11,7 @@ ghost use Rattle.pc_session.specs.Standing.{LeadsToWorld, ShowsEnclave, StandsAf
 use crate::policies::policies_of;
 use crate::reads::answer_of;
 use pc_calls::{LimitsFault, Profile, Refusal};
+use pc_messages::Cpu;
 use pc_script::{Command, Machine, PolicyName, Response};
 use pc_world::World;
 use std::alloc::{AllocError, Global};
@@ -92,6 +93,23 @@ fn rule(
     }
 }
 
+/// Mends a CPU, which counts as an event.
+fn mend(met: &mut Enclave, cpu: Cpu, response: &mut Response) -> Result<(), AllocError>
+    ensures ok { OnOk result (Answers (Command.Mend cpu) met.old met.new response.new) }
+    ensures no_memory { OnErr result
+        ((e : PlainEnclave) → ShowsEnclave met.old e → TakesMemoryIn e (Command.Mend cpu)) }
+    ensures kept { OnErr result (response.new ≡ response.old) }
+{
+    met.is_untouched = false;
+    match met.world.mend(cpu) {
+        Ok(reply) => {
+            *response = Response::Event(reply);
+            Ok(())
+        }
+        Err(_) => Err(AllocError),
+    }
+}
+
 /// Answers a command that meets a world.
 fn act(
     alloc: Global,
@@ -115,6 +133,7 @@ fn act(
         }
         Command::Read(read) => *response = answer_of(alloc, &enclave.world, read)?,
         Command::Policy(policy) => rule(alloc, profile, enclave, policy, response)?,
+        Command::Mend { cpu } => mend(enclave, cpu, response)?,
     }
     Ok(())
 }

@@ -1,6 +1,9 @@
 -- What a script has written, and what waits to be written.
-use Rattle.std.specs.Prelude.{ℕ, List, Option, take}
+use Rattle.std.specs.Prelude.{ℕ, ◌++◌, List, Option, codes, decimal, take}
 use Rattle.std.specs.Io.KnownBytes.{append_known}
+use Rattle.pc_script.specs.Grammar.{thread_name}
+use Rattle.pc_script.specs.Responses.{reported_text}
+use Rattle.pc_script.specs.declared.lists.ShownThread.{ShownThread}
 use Rattle.pc_script.specs.declared.output.Output.{Output}
 use Rattle.pc_script.specs.declared.output.Waiting.{Waiting}
 
@@ -15,3 +18,9 @@ held known replies = append_known known (waiting replies)
 -- the same of an output
 abbrev pub output_held : Option (List ℕ) → Output → Option (List ℕ)
 output_held known output = held known output.waiting
+
+-- what is written of a thread in a view, but for the numbers of early messages
+abbrev pub row_text : ShownThread → List ℕ
+row_text shown =
+    thread_name shown.thread
+    ++ (codes " upto " ++ (decimal shown.upto ++ (codes " " ++ (reported_text shown.reported ++ codes " early "))))

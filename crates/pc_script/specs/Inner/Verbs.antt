@@ -98,6 +98,7 @@ back verb.Same f = command.Read (read.Same (number_at 0 f) (number_at 1 f))
 back verb.Complete f = command.Read (read.Complete (number_at 0 f) (number_at 1 f))
 back verb.Policy f =
     command.Policy (record { order = order_in (field_at 0 f); exact = exactness_in (field_at 1 f) })
+back verb.Mend f = command.Mend (number_at 0 f)
 
 -- a verb's word, and the kinds of the fields after it, as the table has them
 abbrev pub name_of : Verb → List ℕ

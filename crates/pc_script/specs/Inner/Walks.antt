@@ -1,5 +1,5 @@
 -- What a walk over the lines of a script does at one line.
-use Rattle.std.specs.Prelude.{◌≡◌, ℕ, suc, Bool, true, false, List, [], ◌∷◌, ◌++◌, Option}
+use Rattle.std.specs.Prelude.{◌≡◌, ℕ, Bool, true, false, List, [], ◌∷◌, ◌++◌, Option}
 use Rattle.pc_calls.specs.declared.limits.Profile.{Profile}
 use Rattle.pc_script.specs.Grammar.{AsksFor, HasNoReply, IsFault}
 use Rattle.pc_script.specs.Scripts.{Notice, Telling, answered, faulted, version_named}
@@ -51,11 +51,14 @@ pub data Takes {M O : Type 0} (StandsAfter : Standing M) (Tells : Telling O) (li
       → new.is_open ≡ true → IsTold Tells (version_named new.version ∷ []) old new
       → Takes StandsAfter Tells line old new
 
--- The line with this number is a fault, and no version
+-- The line with this number is a fault, and no version; the machine did not take it
 pub record Stops {M O : Type 0} (Tells : Telling O) (line : List ℕ) (number : ℕ) (old new : Stand M O) : Type 0 where
   pub bad : IsFault old.version line
   pub no_version : old.is_open ≡ false → (any : Version) → Names any line → ⊥
   pub told : IsTold Tells (faulted number ∷ []) old new
+  pub same : new.machine ≡ old.machine
+  pub is_open : new.is_open ≡ true
+  pub same_version : new.version ≡ old.version
 
 -- The line asks for a command, and the machine found no memory for its answer
 pub record FindsNone {M O : Type 0} (StandsAfter : Standing M)

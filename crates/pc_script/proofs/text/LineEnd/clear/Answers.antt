@@ -3,4 +3,4 @@ use Rattle.std.proofs.lemmas.List.{drop_all}
 use Rattle.pc_script.proofs.text.LineEnd.clear.Goals as goal
 
 pub returns-clause-empty : goal.returns-clause-empty
-returns-clause-empty c = drop_all 128 c.args.self.now.bytes (omega arith)
+returns-clause-empty c = drop_all 160 c.args.self.now.bytes (omega arith)
