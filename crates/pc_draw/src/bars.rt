@@ -5,6 +5,7 @@ use crate::layout::Layout;
 use crate::rows::{FIFTHS, ROWS, Row, Strip, draw_strip, height_of};
 use crate::step::{Answer, Step};
 use pc_calls::{Event, Reply};
+use pc_messages::Cpu;
 use pc_pen::Canvas;
 use pc_script::Command;
 
@@ -237,9 +238,9 @@ impl Bars {
 
     /// Counts what the step itself did.
     fn count_step(&mut self, step: &Step) {
-        let Command::Event(event) = step.command else {
+        if !matches!(step.command, Command::Event(_) | Command::Mend { .. }) {
             return;
-        };
+        }
         match step.answer {
             Answer::Event(Reply::Posted(posted)) => {
                 if let Some(tally) = self.tallies.get_mut(posted.queue.index() as usize) {
@@ -247,15 +248,19 @@ impl Bars {
                 }
             }
             Answer::Event(Reply::Done) => {
-                if let Event::Deliver { cpu, .. } = event
+                if let Command::Event(Event::Deliver { cpu, .. }) = step.command
                     && let Some(tally) = self.tallies.get_mut(cpu.index() as usize)
                 {
                     tally.deltas = tally.deltas.saturating_add(1);
                 }
             }
-            Answer::Event(Reply::Associated { queue, .. }) => {
-                if let Some(tally) = self.tallies.get_mut(queue.index() as usize) {
-                    tally.moves = tally.moves.saturating_add(1);
+            Answer::Event(Reply::Associated { queue, .. }) => self.count_move(queue),
+            Answer::Event(Reply::Committed { cpu, .. }) => {
+                // A thread is committed where its home is, but where it was stolen to mend the CPU.
+                if let Some(home) = step.home
+                    && home.index() != cpu.index()
+                {
+                    self.count_move(cpu);
                 }
             }
             Answer::Refused(_) => {
@@ -265,6 +270,13 @@ impl Bars {
                 }
             }
             _ => {}
+        }
+    }
+
+    /// A thread came to a queue.
+    fn count_move(&mut self, queue: Cpu) {
+        if let Some(tally) = self.tallies.get_mut(queue.index() as usize) {
+            tally.moves = tally.moves.saturating_add(1);
         }
     }
 

@@ -150,7 +150,9 @@ fn fault(canvas: &mut Canvas, layout: &Layout, outcome: Outcome) {
     let Outcome::FaultLine(number) = outcome else {
         return;
     };
-    if !layout.part.has_line(number) {
+    // A script that is drawn has fewer lines.
+    let line = u32::try_from(number).unwrap_or(u32::MAX);
+    if !layout.part.has_line(line) {
         return;
     }
     let top = layout.top();

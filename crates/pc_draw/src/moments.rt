@@ -132,6 +132,10 @@ fn tells_move(layout: &Layout, reply: &Reply, home: Option<Cpu>) -> bool {
         (Reply::Associated { queue, .. }, Some(home)) => {
             has_lane(layout, *queue) || has_lane(layout, home)
         }
+        // A thread is committed where its home is, but where it was stolen to mend the CPU.
+        (Reply::Committed { cpu, .. }, Some(home)) => {
+            home.index() != cpu.index() && (has_lane(layout, *cpu) || has_lane(layout, home))
+        }
         _ => false,
     }
 }
@@ -175,6 +179,9 @@ impl Moments {
                 }
                 _ => self.event(index, line, &event, &reply, step.home, canvas),
             },
+            (Answer::Event(reply), Command::Mend { .. }) => {
+                self.mended(index, line, &reply, step.home, canvas);
+            }
             _ => {}
         }
     }
@@ -219,6 +226,25 @@ impl Moments {
                 self.change_home(index, line, thread.index(), home, *queue, is_steal, canvas);
             }
             (_, Reply::Posted(posted), _) => self.post(index, line, posted, canvas),
+            _ => {}
+        }
+    }
+
+    /// A CPU that was mended, and the home that its thread had before it: it was stolen, where that was another one.
+    fn mended(
+        &mut self,
+        index: u32,
+        line: Line<'_>,
+        reply: &Reply,
+        home: Option<Cpu>,
+        canvas: &mut Canvas,
+    ) {
+        match (reply, home) {
+            (Reply::Committed { thread, cpu }, Some(home)) => {
+                if home.index() != cpu.index() {
+                    self.change_home(index, line, thread.index(), home, *cpu, true, canvas);
+                }
+            }
             _ => {}
         }
     }

@@ -69,7 +69,10 @@ fn write_moments<W: Write>(
             canvas.clear();
             moments.take(
                 index,
-                Line { number, text },
+                Line {
+                    number: number as u64,
+                    text,
+                },
                 step,
                 traces.sent.as_slice(),
                 canvas,

@@ -1,8 +1,9 @@
 //! Recording a script: the observer that keeps what is drawn of each command, and what the world says after it.
 
 ghost use Rattle.std.specs.Prelude.{◌≡◌, ◌+◌, [], None, vec_len, if◌then◌else◌, OnOk, IfOk, Err, refl};
+ghost use Rattle.std.specs.Io.KnownBytes.{Keeps};
 ghost use Rattle.pc_draw.specs.Inner.Recorded.{Records, kept};
-ghost use Rattle.pc_draw.specs.Inner.Told.{told_more, told_nothing};
+ghost use Rattle.pc_draw.specs.Inner.Told.{told_kept, told_more, told_nothing};
 ghost use Rattle.pc_draw.specs.Pictures.{policy_by, refuses};
 ghost use Rattle.pc_script.specs.declared.outcome.Outcome.{Outcome};
 ghost use Rattle.pc_script.specs.declared.outcome.ScriptFault.{ScriptFault};
@@ -26,7 +27,7 @@ struct Thread {
 }
 
 /// What was recorded last of the world. An event changes only the CPUs and the thread that it and its reply name, and
-/// the home that the thread had before: the world is asked of these alone.
+/// the home that the thread had before: the world is asked of these alone. Of a CPU that is mended, each CPU is asked.
 #[derive(Drop)]
 struct Last {
     threads: Vec<Thread>,
@@ -52,6 +53,17 @@ fn thread_of(reply: &Reply) -> Option<Tid> {
         Reply::Associated { thread, .. } | Reply::Committed { thread, .. } => Some(*thread),
         _ => None,
     }
+}
+
+/// Keeps that the agent of each CPU sent a delta at the step.
+fn send_all(sent: &mut Vec<Sent>, cpus: u8, step: u32) -> Result<(), AllocError> {
+    for cpu in 0..cpus {
+        sent.push(Sent {
+            cpu: Cpu(cpu),
+            step,
+        })?;
+    }
+    Ok(())
 }
 
 impl Last {
@@ -157,6 +169,24 @@ impl Last {
     }
 }
 
+impl Last {
+    /// Asks the world of each CPU, and of the thread that came to run.
+    fn ask_all(
+        &mut self,
+        reply: &Reply,
+        world: &World,
+        changes: &mut Vec<Change>,
+    ) -> Result<(), AllocError> {
+        if let Some(thread) = thread_of(reply) {
+            self.ask_thread(thread, world)?;
+        }
+        for cpu in 0..world.kernel().cpus() {
+            self.ask_cpu(Cpu(cpu), world, changes)?;
+        }
+        Ok(())
+    }
+}
+
 impl Recorder {
     /// Before the first line.
     pub(crate) fn new(alloc: Global) -> Recorder
@@ -198,6 +228,21 @@ impl Recorder {
         Ok(())
     }
 
+    /// Keeps what mending did, also where nothing was ready: it clears each queue, from CPU 0 on.
+    fn mended(&mut self, reply: &Reply, world: &World) -> Result<(), AllocError>
+        ensures { self.new.story ≡ self.old.story }
+    {
+        if let Some(thread) = thread_of(reply) {
+            self.home = self.last.home(thread);
+        }
+        self.last.ask_all(reply, world, &mut self.traces.changes)?;
+        if world.sent().len() > self.traces.sent.len() {
+            let step = u32::try_from(self.story.steps.len()).unwrap_or(u32::MAX);
+            send_all(&mut self.traces.sent, world.kernel().cpus(), step)?;
+        }
+        Ok(())
+    }
+
     /// Keeps a command and its response.
     fn keep(
         &mut self,
@@ -220,6 +265,13 @@ impl Recorder {
         {
             self.follow(event, reply, world)?;
         }
+        if let (Command::Mend { .. }, Response::Event(reply), Some(world)) = (
+            command,
+            response,
+            session.world(),
+        ) {
+            self.mended(reply, world)?;
+        }
         self.story.add(
             number,
             command,
@@ -240,11 +292,13 @@ fn home_before(command: &Command, session: &Session) -> Option<Cpu> {
 }
 
 impl<W: Write> Observer<Session, W> for Recorder {
-    ghost Tells = { λ old before notices new after. (after ≡ before)
+    ghost Tells = { λ old before notices new after. (Keeps before after)
         × Records notices (kept (vec_len old.story.steps) old.story.refused old.story.policy old.story.outcome)
         (kept (vec_len new.story.steps) new.story.refused new.story.policy new.story.outcome) };
 
     ghost MayFail = { λ fault. fault ≡ ScriptFault.OutOfMemory };
+
+    ghost HoldsNothing = { λ _. Unit };
 
     fn version_named(
         &mut self,
@@ -267,7 +321,9 @@ impl<W: Write> Observer<Session, W> for Recorder {
         machine: &Session,
         writer: &mut W,
     ) -> Result<(), ScriptFault> {
-        let kept = self.keep(line.number, command, response, machine);
+        // A script that is drawn has fewer lines.
+        let number = u32::try_from(line.number).unwrap_or(u32::MAX);
+        let kept = self.keep(number, command, response, machine);
         let_view_go(response);
         match kept {
             Ok(()) => Ok(()),
@@ -280,8 +336,19 @@ impl<W: Write> Observer<Session, W> for Recorder {
         Ok(())
     }
 
+    fn passed_over(&mut self, number: u64, writer: &mut W) -> Result<(), ScriptFault> {
+        self.story.outcome = Outcome::FaultLine(number);
+        Ok(())
+    }
+
+    fn settle(&mut self, writer: &mut W) -> Result<(), ScriptFault> {
+        Ok(())
+    }
+
     ghost tells_nothing = { λ observer known. told_nothing known
         (kept (vec_len observer.story.steps) observer.story.refused observer.story.policy observer.story.outcome) };
 
     ghost tells_more = { λ old now new before here after notices further. told_more before here after notices further };
+
+    ghost tells_kept = { λ old new before here after notices. told_kept before here after notices };
 }

@@ -145,13 +145,15 @@ impl Story {
 }
 
 impl Step {
-    /// The lane at which it is shown: of the CPU that its event names, or of its thread's home; past all lanes where
-    /// there is neither.
+    /// The lane at which it is shown: of the CPU that its event names or that is mended, or of its thread's home; past
+    /// all lanes where there is neither.
     pub(crate) fn lane(&self) -> usize {
-        let Command::Event(event) = &self.command else {
-            return MOST_LANES;
+        let named = match &self.command {
+            Command::Event(event) => cpu_of(event),
+            Command::Mend { cpu } => Some(*cpu),
+            _ => return MOST_LANES,
         };
-        match (cpu_of(event), self.home) {
+        match (named, self.home) {
             (Some(cpu), _) | (None, Some(cpu)) => cpu.index() as usize,
             _ => MOST_LANES,
         }

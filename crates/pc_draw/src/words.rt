@@ -10,7 +10,7 @@ use std::fmt;
 
 /// The line that is a fault: `fault line 12`.
 #[derive(Clone, Copy)]
-pub(crate) struct FaultLine(pub(crate) u32);
+pub(crate) struct FaultLine(pub(crate) u64);
 
 impl fmt::Display for FaultLine {
     ghost output = { λ fault. Some (codes "fault line " ++ decimal fault.0) };

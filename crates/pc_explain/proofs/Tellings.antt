@@ -1,13 +1,15 @@
 -- What is written of a whole script.
 use Rattle.std.proofs.Common.{◌≡◌, ℕ, List, [], ◌∷◌, ◌++◌, Option, Some, None, Result, Ok, Err, IfOk, IfSome, ◌⊎◌, inl, inr, refl, sym, ◌∙◌}
-use Rattle.std.specs.Io.KnownBytes.{Appends}
+use Rattle.std.specs.Io.KnownBytes.{Appends, Consumes}
 use Rattle.pc_calls.specs.declared.limits.Profile.{Profile}
 use Rattle.pc_script.specs.Scripts.{IsOutput, IsOutputUntil, IsWalked, IsWalkedUntil, Telling, notices_text}
+use Rattle.pc_script.specs.Sessions.{IsAnsweredBy, IsAnsweredUntil, IsConversed, IsConversedUntil}
 use Rattle.pc_script.specs.Text.{lines}
 use Rattle.pc_script.specs.declared.command.Command.{Command}
 use Rattle.pc_script.specs.declared.outcome.Outcome.{Outcome}
 use Rattle.pc_script.specs.declared.outcome.ScriptFault.{ScriptFault}
 use Rattle.pc_script.specs.declared.outcome.ScriptFault.TheVariants.{OutOfMemory, Write}
+use Rattle.pc_script.specs.declared.session.Conversed.{Conversed}
 use Rattle.pc_script.specs.declared.response.Response.{Response}
 use Rattle.pc_script.proofs.Notices.{all_are, answers_are}
 use Rattle.pc_explain.specs.Comments.{without_comments}
@@ -58,3 +60,34 @@ module _ {O : Type 0} (IsRun : Profile → List Command → List Response → Ty
         },
         told.told.2,
       )
+
+  pub session_explained : (left rest : Option (List ℕ)) (whole : Conversed → Type 0) (old new : O) (before after : Option (List ℕ)) (answer : Result Conversed ScriptFault)
+      → IfOk answer (λ conversed. (text : List ℕ) × Consumes left rest text × whole conversed × IsConversed Tells IsRun (lines text) conversed.had_fault old before new after)
+      → IfOk answer (λ conversed. (text : List ℕ) × Consumes left rest text × whole conversed
+      × ((written : List ℕ) × IsAnsweredBy IsRun text conversed.had_fault (without_comments written) × Appends before after written))
+  session_explained left rest whole old new before after (Err e) told = tt
+  session_explained left rest whole old new before after (Ok conversed) (text, read, end, told) = (
+    text,
+    read,
+    end,
+    (
+      told.told.0,
+      record { notices = told.notices; conversation = told.conversation; fault = told.fault; written = without_comments_is told.told.1 },
+      told.told.2,
+    ),
+  )
+
+  pub session_until : (RanOut : Profile → List Command → List Response → Command → Type 0) (left rest : Option (List ℕ)) (old new : O) (before after : Option (List ℕ))
+      → (OutOfMemory ≡ Write) ⊎ ((text : List ℕ) × Consumes left rest text × IsConversedUntil Tells IsRun RanOut (lines text) old before new after)
+      → (text : List ℕ) × Consumes left rest text
+      × ((written : List ℕ) × IsAnsweredUntil IsRun RanOut text (without_comments written) × Appends before after written)
+  session_until RanOut left rest old new before after (inl other) = cc
+  session_until RanOut left rest old new before after (inr (text, read, told)) = (
+    text,
+    read,
+    (
+      told.told.0,
+      record { notices = told.notices; conversation = told.conversation; written = without_comments_is told.told.1 },
+      told.told.2,
+    ),
+  )

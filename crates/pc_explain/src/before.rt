@@ -18,6 +18,8 @@ pub(crate) enum Before {
     News(News),
     /// Of how many threads the agent knows a message.
     Known(u64),
+    /// How many items all queues hold, and how many threads the agent took over so far.
+    Held { items: u64, steals: u64 },
 }
 
 impl Before {
@@ -25,6 +27,10 @@ impl Before {
     pub(crate) fn of(world: Option<&World>, command: &Command) -> Before {
         match (world, command) {
             (Some(world), Command::Event(event)) => Before::of_event(world, event),
+            (Some(world), Command::Mend { cpu }) => Before::Held {
+                items: items_in(world),
+                steals: steals_of(world, *cpu),
+            },
             _ => Before::Nothing,
         }
     }
@@ -53,6 +59,28 @@ fn news(world: &World, cpu: Cpu, index: u64) -> Before {
     match (world.view(cpu), world.sent().get(place)) {
         (Some(view), Some(delta)) => Before::News(News::beyond(delta, view)),
         _ => Before::Nothing,
+    }
+}
+
+/// How many items all queues hold.
+fn items_in(world: &World) -> u64 {
+    let kernel = world.kernel();
+    let mut items = 0u64;
+    for cpu in 0..kernel.cpus() {
+        if let Some((front, back)) = kernel.queued(Cpu(cpu)) {
+            items = items
+                .saturating_add(front.len() as u64)
+                .saturating_add(back.len() as u64);
+        }
+    }
+    items
+}
+
+/// How many threads the agent of the CPU took over so far.
+pub(crate) fn steals_of(world: &World, cpu: Cpu) -> u64 {
+    match world.agent(cpu) {
+        Some(agent) => agent.counts().steals,
+        None => 0,
     }
 }
 

@@ -46,7 +46,7 @@ fn write_comment<W: Write>(front: &[u8], text: &[u8], writer: &mut W) -> Result<
 
 /// Writes a line of the script, with its number, as a comment.
 pub(crate) fn write_heading<W: Write>(
-    number: u32,
+    number: u64,
     line: &[u8],
     writer: &mut W,
 ) -> Result<(), ScriptFault>

@@ -1,12 +1,14 @@
 //! Explaining a script: the observer that writes comments between its replies.
 
-ghost use Rattle.std.specs.Prelude.{◌≡◌, ◌⊎◌, ◌+◌, ℕ, List, [], ◌∷◌, ◌<◌, ◌≤◌, length, IfOk, IfSome, OnOk, Err};
-ghost use Rattle.std.specs.Io.KnownBytes.{Appends, Consumes};
+ghost use Rattle.std.specs.Prelude.{◌≡◌, ◌⊎◌, ◌+◌, ℕ, List, [], ◌∷◌, ◌<◌, ◌≤◌, length, IfOk, IfSome, OnOk, Err, true};
+ghost use Rattle.std.specs.Io.Buffered.{writer_buffer, writer_contents};
+ghost use Rattle.std.specs.Io.KnownBytes.{Appends, Consumes, IsAtEnd};
 ghost use Rattle.pc_explain.specs.Comments.{without_comments};
-ghost use Rattle.pc_explain.specs.Inner.Told.{told_more, told_nothing};
+ghost use Rattle.pc_explain.specs.Inner.Told.{told_kept, told_more, told_nothing};
 ghost use Rattle.pc_explain.specs.Inner.Writing.{Annotates};
 ghost use Rattle.pc_script.specs.Responses.{response_text, text_line};
 ghost use Rattle.pc_script.specs.Scripts.{IsOutput, IsOutputUntil, notices_text, outcome_text};
+ghost use Rattle.pc_script.specs.Sessions.{IsAnsweredBy, IsAnsweredUntil};
 ghost use Rattle.pc_script.specs.declared.input.TheConstants.{MOST_BYTES};
 ghost use Rattle.pc_script.specs.declared.outcome.Outcome.{Outcome};
 ghost use Rattle.pc_script.specs.declared.outcome.ScriptFault.{ScriptFault};
@@ -18,11 +20,12 @@ use crate::faults::tell_fault;
 use crate::sentences::Sentences;
 use crate::telling::{Scene, tell};
 use pc_script::{
-    Command, Line, Observer, Outcome, PolicyName, Response, ScriptFault, Version, read_text, walk,
+    Command, Conversed, Helper, Line, Observer, Outcome, PolicyName, Response, ScriptFault,
+    Version, converse, read_text, walk,
 };
 use pc_session::{Session, let_view_go};
 use std::alloc::Global;
-use std::io::{Read, Write};
+use std::io::{BufWriter, Read, Write};
 
 /// What is told of the line `version 2`.
 const VERSION_TWO: &[u8] =
@@ -30,7 +33,7 @@ const VERSION_TWO: &[u8] =
 
 /// What is told of the line `version 3`.
 const VERSION_THREE: &[u8] =
-    b"The script is of version 3: an enclave may have up to 65535 threads, and each 16000000 messages, and its agents may be given a policy.";
+    b"The script is of version 3: an enclave may have up to 65535 threads, and each 16000000 messages, its agents may be given a policy, and a CPU may be mended.";
 
 /// Writes, for each line that has a reply, the line, the reply, and sentences on it.
 #[derive(Drop)]
@@ -109,7 +112,7 @@ fn write_told<W: Write>(
 }
 
 /// Writes that the line with this number is a fault.
-fn write_fault_line<W: Write>(number: u32, writer: &mut W) -> Result<(), ScriptFault>
+fn write_fault_line<W: Write>(number: u64, writer: &mut W) -> Result<(), ScriptFault>
     ensures ok { OnOk result
         (Annotates (outcome_text (Outcome.FaultLine number)) (W.contents writer.old) (W.contents writer.new)) }
     ensures err { (fault : ScriptFault) → result ≡ Err fault → fault ≡ ScriptFault.Write }
@@ -136,10 +139,33 @@ fn write_fault<W: Write>(
     write_sentences(sentences, writer)
 }
 
+/// What is told of a line that a session passed over.
+const TOO_LONG: &[u8] = b"The line is longer than 65536 bytes, and was passed over.";
+
+/// The sentences on a line that was passed over.
+fn on_long_line() -> Sentences {
+    let mut sentences = Sentences::new();
+    sentences.add(TOO_LONG);
+    sentences
+}
+
+/// Writes that a line that was passed over is a fault, and why.
+fn write_passed_over<W: Write>(number: u64, writer: &mut W) -> Result<(), ScriptFault>
+    ensures ok { OnOk result
+        (Annotates (outcome_text (Outcome.FaultLine number)) (W.contents writer.old) (W.contents writer.new)) }
+    ensures err { (fault : ScriptFault) → result ≡ Err fault → fault ≡ ScriptFault.Write }
+{
+    write_fault_line(number, writer)?;
+    write_sentences(&on_long_line(), writer)
+}
+
 impl<W: Write> Observer<Session, W> for Comments {
     ghost Tells = { λ old before notices new after. Annotates (notices_text notices) before after };
 
     ghost MayFail = { λ fault. fault ≡ ScriptFault.Write };
+
+    // What is told is written at once.
+    ghost HoldsNothing = { λ _. Unit };
 
     fn version_named(
         &mut self,
@@ -174,9 +200,19 @@ impl<W: Write> Observer<Session, W> for Comments {
         write_fault(line, &on_fault(self.version, line.text), writer)
     }
 
+    fn passed_over(&mut self, number: u64, writer: &mut W) -> Result<(), ScriptFault> {
+        write_passed_over(number, writer)
+    }
+
+    fn settle(&mut self, writer: &mut W) -> Result<(), ScriptFault> {
+        Ok(())
+    }
+
     ghost tells_nothing = { λ observer known. told_nothing known };
 
     ghost tells_more = { λ old now new before here after notices further. told_more before here after notices further };
+
+    ghost tells_kept = { λ old new before here after notices. told_kept before here after notices };
 }
 
 /// Reads a script, answers its commands one after another in a session of its own, and writes the responses with
@@ -211,4 +247,36 @@ pub fn explain_script<R: Read, W: Write>(
         policy: PolicyName::USUAL,
     };
     walk::<Session, Comments, W>(alloc, text.as_slice(), &mut comments, writer)
+}
+
+/// Answers the lines of a text one after another, as [`pc_script::run_session`] does in a session of its own, and
+/// writes the responses with comments between.
+///
+/// What is written is, without its comments, what is written there. A line that was passed over is told by its number
+/// alone.
+pub fn explain_session<R: Read, W: Write + Drop, H: Helper>(
+    alloc: Global,
+    reader: &mut R,
+    helper: &mut H,
+    writer: &mut BufWriter<W>,
+) -> Result<Conversed, ScriptFault>
+    ensures ok { IfOk result (λ conversed. (text : List ℕ)
+        × Consumes (R.remaining reader.old) (R.remaining reader.new) text
+        × (conversed.is_whole ≡ true → IsAtEnd (R.remaining reader.new))
+        × ((written : List ℕ) × IsAnsweredBy IsSession text conversed.had_fault (without_comments written)
+        × Appends (writer_contents W.contents writer.old) (writer_contents W.contents writer.new) written)) }
+    ensures flushed { OnOk result (writer_buffer writer.new ≡ []) }
+    ensures no_memory { result ≡ Err ScriptFault.OutOfMemory → (text : List ℕ)
+        × Consumes (R.remaining reader.old) (R.remaining reader.new) text
+        × ((written : List ℕ) × IsAnsweredUntil IsSession RanOut text (without_comments written)
+        × Appends (writer_contents W.contents writer.old) (writer_contents W.contents writer.new) written) }
+    ensures err { (fault : ScriptFault) → result ≡ Err fault → (fault ≡ ScriptFault.OutOfMemory)
+        ⊎ (fault ≡ ScriptFault.Write) ⊎ (fault ≡ ScriptFault.TooLong) }
+{
+    let mut comments = Comments {
+        before: Before::Nothing,
+        version: Version::One,
+        policy: PolicyName::USUAL,
+    };
+    converse::<Session, Comments, R, W, H>(alloc, reader, &mut comments, helper, writer)
 }

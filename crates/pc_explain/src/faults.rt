@@ -143,5 +143,6 @@ fn form_of(verb: Verb) -> &'static str {
         Verb::Same => "same A B",
         Verb::Complete => "complete C T",
         Verb::Policy => "policy NAME, or policy NAME exact",
+        Verb::Mend => "mend C",
     }
 }

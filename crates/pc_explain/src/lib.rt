@@ -24,4 +24,4 @@ mod sentences;
 mod telling;
 mod words;
 
-pub use explain::explain_script;
+pub use explain::{explain_script, explain_session};

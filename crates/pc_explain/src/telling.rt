@@ -2,6 +2,7 @@
 
 mod agents;
 mod calls;
+mod mends;
 mod policies;
 mod questions;
 mod refusals;
@@ -55,6 +56,7 @@ fn told(
             policies::chosen(text, event, reply, scene)
         }
         (Command::Read(question), _) => questions::answered(text, question, response, scene),
+        (Command::Mend { cpu }, Response::Event(reply)) => mends::told(text, *cpu, reply, scene),
         (_, Response::Ruled(policy)) => policies::ruled(text, *policy),
         (_, Response::Refused(refusal)) => policies::refused(text, refusal),
         (_, Response::NoEnclave) => refusals::no_enclave(text),

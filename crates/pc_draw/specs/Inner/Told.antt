@@ -3,6 +3,8 @@ use Rattle.std.proofs.Common.{◌≡◌, ℕ, ◌+◌, Bool, List, [], ◌∷◌
 use Rattle.std.specs.Prelude.{count_by}
 use Rattle.std.proofs.Math.Nat.{add_assoc, add-zero}
 use Rattle.std.proofs.lemmas.List.Sums.{sum_by-append}
+use Rattle.std.specs.Io.KnownBytes.{Keeps}
+use Rattle.std.proofs.KnownBytes.{Keeps-refl, Keeps-trans}
 use Rattle.pc_script.specs.Scripts.{Notice, answered, faulted, version_named}
 use Rattle.pc_script.specs.declared.outcome.Outcome.{Outcome}
 use Rattle.pc_script.specs.declared.outcome.Outcome.TheVariants.{FaultLine}
@@ -47,9 +49,9 @@ records_both notices further {before} {now} {then'} h k =
       outcome_is = k.outcome_is ∙ ap (end_by further) h.outcome_is ∙ sym (end_both notices further before.outcome);
     }
 
-pub told_nothing : (known : Option (List ℕ)) (so_far : Kept) → (known ≡ known) × Records [] so_far so_far
+pub told_nothing : (known : Option (List ℕ)) (so_far : Kept) → Keeps known known × Records [] so_far so_far
 told_nothing known so_far = (
-  refl,
+  Keeps-refl known,
   record {
     kept_is = sym (add-zero so_far.commands);
     refused_is = sym (add-zero so_far.refused);
@@ -59,6 +61,11 @@ told_nothing known so_far = (
 )
 
 pub told_more : (before here after : Option (List ℕ)) (notices further : List Notice) {first now then' : Kept}
-    → (here ≡ before) × Records notices first now → (after ≡ here) × Records further now then'
-    → (after ≡ before) × Records (notices ++ further) first then'
-told_more before here after notices further h k = (k.0 ∙ h.0, records_both notices further h.1 k.1)
+    → Keeps before here × Records notices first now → Keeps here after × Records further now then'
+    → Keeps before after × Records (notices ++ further) first then'
+told_more before here after notices further h k =
+    (Keeps-trans before here after h.0 k.0, records_both notices further h.1 k.1)
+
+pub told_kept : (before here after : Option (List ℕ)) (notices : List Notice) {first now : Kept}
+    → Keeps before here × Records notices first now → Keeps here after → Keeps before after × Records notices first now
+told_kept before here after notices h k = (Keeps-trans before here after h.0 k, h.1)

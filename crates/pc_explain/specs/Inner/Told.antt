@@ -1,6 +1,7 @@
 -- That texts are written one after another, with comments between their lines.
 use Rattle.std.proofs.Common.{ℕ, List, [], ◌∷◌, ◌++◌, Option, append_assoc, sym, subst}
-use Rattle.std.proofs.KnownBytes.{Appends-nil, Appends-trans}
+use Rattle.std.specs.Io.KnownBytes.{Keeps}
+use Rattle.std.proofs.KnownBytes.{Appends-kept, Appends-nil, Appends-trans}
 use Rattle.std.proofs.lemmas.Grind.{flat_map-append}
 use Rattle.pc_script.specs.Scripts.{Notice, notice_text, notices_text}
 use Rattle.pc_explain.specs.Inner.Annotated.{IsAnnotated, at_end, told, comment}
@@ -36,3 +37,8 @@ pub told_more : (before now after : Option (List ℕ)) (notices further : List N
 told_more before now after notices further h k =
     subst (λ text. Annotates text before after) (sym (flat_map-append notice_text notices further))
     (Annotates-trans before now after h k)
+
+-- a writer that keeps what it holds keeps what was told
+pub told_kept : (before here after : Option (List ℕ)) (notices : List Notice)
+    → Annotates (notices_text notices) before here → Keeps here after → Annotates (notices_text notices) before after
+told_kept before here after notices h k = (h.0, h.1, Appends-kept before here after h.0 h.2 k)

@@ -1,0 +1,112 @@
+//! The sentences on a CPU that was mended, or was not.
+
+use crate::before::{Before, steals_of};
+use crate::reasons::reason;
+use crate::sentences::Sentences;
+use crate::telling::Scene;
+use crate::words::Count;
+use pc_calls::{Refusal, Reply};
+use pc_messages::{Cpu, Tid};
+use pc_world::World;
+use std::fmt::{self, Write};
+
+/// What was done, or why nothing was.
+pub(super) fn told(
+    text: &mut Sentences,
+    cpu: Cpu,
+    reply: &Reply,
+    scene: &Scene<'_>,
+) -> fmt::Result {
+    match (reply, scene.world) {
+        (Reply::Committed { thread, .. }, Some(world)) => {
+            learnt(text, cpu, world, scene.before)?;
+            runs(text, cpu, *thread, world, scene.before)
+        }
+        (Reply::Refused(Refusal::NothingReady), Some(world)) => {
+            learnt(text, cpu, world, scene.before)?;
+            idles(text, cpu)
+        }
+        (Reply::Refused(refusal), Some(world)) => refused(text, cpu, refusal, world),
+        _ => Ok(()),
+    }
+}
+
+/// Every queue was cleared, and the agent took in all that was sent.
+fn learnt(text: &mut Sentences, cpu: Cpu, world: &World, before: &Before) -> fmt::Result {
+    let agent = cpu.index();
+    let deltas = Count(world.sent().len() as u64, "delta");
+    match before {
+        Before::Held { items, .. } => {
+            let items = Count(*items, "item");
+            writeln!(
+                text,
+                "Every agent sends what its queue holds and removes it there, {items} in all, and agent {agent} takes in {deltas}."
+            )
+        }
+        _ => writeln!(
+            text,
+            "Every agent sends what its queue holds and removes it there, and agent {agent} takes in {deltas}."
+        ),
+    }
+}
+
+/// A thread runs there now, from the run list or once it was stolen.
+fn runs(
+    text: &mut Sentences,
+    cpu: Cpu,
+    thread: Tid,
+    world: &World,
+    before: &Before,
+) -> fmt::Result {
+    let agent = cpu.index();
+    let thread = thread.index();
+    match before {
+        Before::Held { steals, .. } if steals_of(world, cpu) > *steals => writeln!(
+            text,
+            "Nothing in its run list may be committed, so it steals thread t{thread}, which runs on CPU {agent} from now on."
+        ),
+        _ => writeln!(
+            text,
+            "It picks thread t{thread} from its run list, which runs on CPU {agent} from now on."
+        ),
+    }
+}
+
+/// No thread was there that the agent may take.
+fn idles(text: &mut Sentences, cpu: Cpu) -> fmt::Result {
+    let agent = cpu.index();
+    writeln!(
+        text,
+        "It knows every message now, and no thread that it may take is ready, allowed on CPU {agent} and on no CPU: CPU {agent} idles."
+    )
+}
+
+/// Nothing was done.
+fn refused(text: &mut Sentences, cpu: Cpu, refusal: &Refusal, world: &World) -> fmt::Result {
+    let why = reason(*refusal);
+    writeln!(text, "Refused: {why}.")?;
+    match refusal {
+        Refusal::Busy => busy(text, cpu, world),
+        Refusal::BadCpu => few(text, world),
+        _ => Ok(()),
+    }
+}
+
+/// A thread runs on the CPU.
+fn busy(text: &mut Sentences, cpu: Cpu, world: &World) -> fmt::Result {
+    let Some(thread) = world.kernel().running(cpu) else {
+        return Ok(());
+    };
+    let thread = thread.index();
+    let cpu = cpu.index();
+    writeln!(
+        text,
+        "Thread t{thread} runs on CPU {cpu}: there is nothing to mend until it leaves."
+    )
+}
+
+/// There are fewer CPUs.
+fn few(text: &mut Sentences, world: &World) -> fmt::Result {
+    let cpus = Count(u64::from(world.kernel().cpus()), "CPU");
+    writeln!(text, "The enclave has {cpus}, counted from 0.")
+}
