@@ -45,7 +45,8 @@ COMMANDS = [
     ("complete C T", "yes|no", ["BadCpu"]),
 ]
 # The commands that version 3 alone has.
-OWN = [("policy NAME", "ok", ["TooLate"]), ("policy NAME exact", "ok", ["TooLate"])]
+OWN = [("policy NAME", "ok", ["TooLate"]), ("policy NAME exact", "ok", ["TooLate"]),
+       ("mend C", r"ok t\d+ c{0}", ["BadCpu", "Busy", "NothingReady"])]
 NAMES = [b"levels", b"fifo", b"least-ran", b"levels-then-least-ran"]
 VERSIONS = {b"2": 2, b"3": 3}
 # What is no event: a policy stands before the first one.

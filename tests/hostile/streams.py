@@ -7,7 +7,7 @@ import subprocess
 
 from machine import SECONDS, Run, Subject, ended, ending_of, told
 from settings import ONE_TOTALS, ROWS, written
-from subjects import OPENING, drawn, examples, explained
+from subjects import OPENING, drawn, ends_with_its_fault, examples, explained, explained_talk, talked
 
 CANNOT_READ = b"pc-sim: cannot read\n"
 READ_ERRORS = [errno.EIO, errno.EISDIR, errno.EAGAIN]
@@ -21,6 +21,7 @@ def subjects(folder):
         yield example
         yield explained(example)
         yield drawn(example)
+        yield talked(example)
         yield Subject(f"{example.name} as standard input", ["replay"], pathlib.Path(example.words[1]), out=example.out)
     texts = {
         "long": (OPENING + b"asleep 0\n" * LONG, b"ok\n" + b"no\n" * LONG, 0),
@@ -34,6 +35,9 @@ def subjects(folder):
         yield script
         yield explained(script)
         yield drawn(script)
+        if ends_with_its_fault(script):
+            yield talked(script)
+            yield explained_talk(script)
     yield from settings(folder)
 
 
@@ -84,9 +88,29 @@ class Streams:
         self.machine, self.most, self.broken = machine, most, broken
         self.by_bytes = machine.run(subject, read_most=1, write_most=1)
 
-    def failed_read(self, **hostile):
+    def is_talk(self):
+        return self.subject.words[0] == "session"
+
+    def text(self):
+        return (self.subject.input or pathlib.Path(self.subject.words[-1])).read_bytes()
+
+    def fault_of_talk(self, run, counts):
+        """What is wrong with a session whose read failed behind so many bytes, or so many: they are answered as a whole text is."""
+        if (run.status, run.err) != (1, CANNOT_READ):
+            return told(run)
+        return None if self.subject.plain(run.out) in {self.replayed(count) for count in counts} else told(run)
+
+    def replayed(self, count):
+        """What is answered to the first bytes of the text."""
+        words = [str(self.machine.program), "replay"]
+        return subprocess.run(words, input=self.text()[:count], stdout=subprocess.PIPE, timeout=SECONDS).stdout
+
+    def failed_read(self, count=None, **hostile):
+        """A read fails, behind so many bytes; a session answers these, and nothing else answers any."""
         run = self.machine.run(self.subject, **hostile)
-        return fault_of_read(run) if run.reads_met else "no read was met"
+        if not run.reads_met:
+            return "no read was met"
+        return self.fault_of_talk(run, [count]) if self.is_talk() else fault_of_read(run)
 
     def failed_write(self, **hostile):
         run = self.machine.run(self.subject, **hostile)
@@ -95,6 +119,8 @@ class Streams:
     def interrupted_reads(self, **hostile):
         """A read that is interrupted may be tried again, or count as one that failed."""
         run = self.machine.run(self.subject, **hostile)
+        if self.is_talk():
+            return fault_of_same(self.subject, run) and self.fault_of_talk(run, [0, 1, len(self.text())])
         return fault_of_same(self.subject, run) and fault_of_read(run)
 
     def interrupted_writes(self, **hostile):
@@ -104,9 +130,9 @@ class Streams:
         name = self.subject.name
         for error in READ_ERRORS:
             for place in range(1, self.plain.reads + 1):
-                yield f"read {place} {errno.errorcode[error]} of {name}", lambda how=f"{place} {error}": self.failed_read(read=how)
+                yield f"read {place} {errno.errorcode[error]} of {name}", lambda how=f"{place} {error}", count=len(self.text()) if place > 1 else 0: self.failed_read(count, read=how)
         for place in numbers(self.by_bytes.reads, self.most):
-            yield f"byte read {place} EIO of {name}", lambda how=f"{place} {errno.EIO}": self.failed_read(read=how, read_most=1)
+            yield f"byte read {place} EIO of {name}", lambda how=f"{place} {errno.EIO}", count=place - 1: self.failed_read(count, read=how, read_most=1)
         yield f"reads EINTR of {name}", lambda: self.interrupted_reads(read=f"1/2 {errno.EINTR}")
         yield f"byte reads EINTR of {name}", lambda: self.interrupted_reads(read=f"1/2 {errno.EINTR}", read_most=1)
 

@@ -116,6 +116,7 @@ TOLD = {
     "help of explain": ["explain", "--help"],
     "help of draw": ["draw", "--help"],
     "help of run": ["run", "--help"],
+    "help of session": ["session", "--help"],
     "help of run in short": ["run", "-h"],
     "version": ["--version"],
     "version in short": ["-V"],
@@ -134,6 +135,7 @@ WORDS = {
     "an unknown flag of explain": ["explain", "--per-cpu"],
     "an unknown flag of draw": ["draw", "--per-cpu"],
     "an unknown flag of run": ["run", "--per-thread"],
+    "an unknown flag of session": ["session", "--per-cpu"],
     "the version of a command": ["replay", "--version"],
     "two files": ["replay", "a", "b"],
     "two files of run": ["run", "a", "b"],
@@ -152,6 +154,7 @@ FILES = {
     "a file without a name to explain": ["explain", ""],
     "a file without a name to draw": ["draw", ""],
     "settings without a name": ["run", ""],
+    "a file without a name to a session": ["session", ""],
     "a name of 100,000 bytes": ["replay", "x" * 100_000],
     "settings by a name of 100,000 bytes": ["run", "x" * 100_000],
     "a file whose name looks like a flag": ["replay", "--", "--fast"],
@@ -180,12 +183,34 @@ def drawn(script):
     return dataclasses.replace(script, name=f"drawn {script.name}", words=words, out=None, err=err, whole=True)
 
 
+def talked(script):
+    """The same script, asked line by line."""
+    return dataclasses.replace(script, name=f"session of {script.name}", words=["session", *script.words[1:]])
+
+
+def explained_talk(script):
+    """The same, with comments between its answers."""
+    words = ["session", "--explain", *script.words[1:]]
+    return dataclasses.replace(script, name=f"explained session of {script.name}", words=words, commented=True)
+
+
+def ends_with_its_fault(script):
+    """Whether no line comes behind the first fault: only then a session writes what a replay does."""
+    text = (script.input or pathlib.Path(script.words[-1])).read_bytes()
+    last = script.out.splitlines()[-1:]
+    number = text.removesuffix(b"\n").count(b"\n") + 1
+    return script.status == 0 or last == [b"fault line %d" % number]
+
+
 def replayed(folder):
-    """All of it; the examples and the malformed texts are explained and drawn too."""
+    """All of it; the examples and the malformed texts are explained, drawn and asked line by line too."""
     for script in [*examples(), *malformed(folder)]:
         yield script
         yield explained(script)
         yield drawn(script)
+        if ends_with_its_fault(script):
+            yield talked(script)
+            yield explained_talk(script)
     yield from cases(folder)
     yield from faulty(folder)
     yield from command_lines()

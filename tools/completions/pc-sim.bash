@@ -6,7 +6,7 @@ _pc_sim_command() {
     local word
     for word; do
         case $word in
-        replay | explain | draw | run)
+        replay | explain | draw | run | session)
             echo "$word"
             return
             ;;
@@ -28,6 +28,7 @@ _pc_sim() {
     case $command in
     run) flags="--per-cpu --draw --limit --policy --script -h --help" ;;
     draw) flags="--cpus --lines -h --help" ;;
+    session) flags="--explain -h --help" ;;
     replay | explain) flags="-h --help" ;;
     *) flags="-h --help -V --version" ;;
     esac
@@ -47,7 +48,7 @@ _pc_sim() {
     esac
     case $command:$word in
     *:-*) mapfile -t COMPREPLY < <(compgen -W "$flags" -- "$word") ;;
-    :*) mapfile -t COMPREPLY < <(compgen -W "replay explain draw run" -- "$word") ;;
+    :*) mapfile -t COMPREPLY < <(compgen -W "replay explain draw run session" -- "$word") ;;
     run:*) _pc_sim_files "$word" toml ;;
     *) _pc_sim_files "$word" script ;;
     esac

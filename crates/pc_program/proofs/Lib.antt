@@ -7,3 +7,4 @@ pub mod StepTexts
 pub mod Tellings
 pub mod Running
 pub mod Scripting
+pub mod Talking

@@ -1,6 +1,6 @@
 -- The parser of the command line as a value, and what the words ask for.
-use Rattle.std.specs.Prelude.{◌≡◌, ◌≢◌, ◌⊎◌, ◌<◌, ◌^◌, ℕ, true, List, [], Option, Some, None, codes, option_map}
-use Rattle.std.specs.Prelude.{string_bytes}
+use Rattle.std.specs.Prelude.{◌≡◌, ◌≢◌, ◌⊎◌, ◌↔◌, ◌<◌, ◌^◌, ℕ, IsTrue, true, List, [], Option, Some, None}
+use Rattle.std.specs.Prelude.{codes, option_map, string_bytes}
 use Rattle.std.specs.Option.{IsSomeAnd}
 use Rattle.std.specs.Str.Parse.{IsNumeral, digits_value, without_leading_plus}
 use Rattle.clap.specs.Walk.{Row, Rule, Text, count_of, first_of, one_of}
@@ -17,7 +17,7 @@ use Rattle.pc_policy.specs.declared.agent_policy.AgentPolicy.{AgentPolicy}
 use Rattle.pc_program.specs.Numbers.{IsWritten, SpellsNone}
 use Rattle.pc_program.specs.Policies.{Names, NamesNone}
 use Rattle.pc_program.specs.declared.command_line.Command.{Command}
-use Rattle.pc_program.specs.declared.command_line.Command.TheVariants.{Replay, Explain, Draw, Run}
+use Rattle.pc_program.specs.declared.command_line.Command.TheVariants.{Replay, Explain, Draw, Run, Session}
 use Rattle.pc_program.specs.declared.command_line.CommandFault.{CommandFault}
 use Rattle.pc_program.specs.declared.command_line.CommandFault.TheVariants.{OutOfMemory, BadNumbers, BadPolicy, Clap}
 use Rattle.pc_program.specs.declared.report.ReportForm.{ReportForm}
@@ -62,10 +62,15 @@ run =
     (option (codes "script")))
     (option (codes "policy"))
 
+-- session [FILE] [--explain]
+abbrev pub session : App
+session = with_rule (of_file (codes "session")) (flag (codes "explain"))
+
 -- the program, which has a version, wants a command, and has no command `help`
 abbrev pub pc_sim : App
 pc_sim =
     with_subcommand
+    (with_subcommand
     (with_subcommand
     (with_subcommand
     (with_subcommand
@@ -74,7 +79,8 @@ pc_sim =
     (of_file (codes "replay")).top)
     (of_file (codes "explain")).top)
     drawing.top)
-    run.top
+    run.top)
+    session.top
 
 -- the file that the word after a command names: none where there is no word, or `-`
 abbrev pub IsInput : Option Text → Option Text → Type 0
@@ -151,6 +157,8 @@ IsAsked (Some met) (Run given form seconds policy script) =
     IsOf (codes "run") (option_map string_bytes given) met × IsReportForm form met.1
     × IsLimit (one_of (codes "limit") met.1) seconds × IsPolicy (first_of (codes "policy") met.1) policy
     × (option_map string_bytes script ≡ first_of (codes "script") met.1)
+IsAsked (Some met) (Session given explains) =
+    IsOf (codes "session") (option_map string_bytes given) met × (IsTrue explains ↔ IsSet (codes "explain") met.1)
 
 -- want of memory, numbers or a policy that are none where there is no other fault, or one of these kinds, of which
 -- help and the version are two
@@ -165,3 +173,4 @@ abbrev pub IsCommandMet : Option (Text × List Row) → Type 0
 IsCommandMet None = ⊥
 IsCommandMet (Some met) =
     (met.0 ≡ codes "replay") ⊎ (met.0 ≡ codes "explain") ⊎ (met.0 ≡ codes "draw") ⊎ (met.0 ≡ codes "run")
+    ⊎ (met.0 ≡ codes "session")

@@ -1,9 +1,10 @@
 -- How the program ends, and what it says then.
-use Rattle.std.specs.Prelude.{ℕ, List, Option, Some, None, Result, Ok, Err, codes}
+use Rattle.std.specs.Prelude.{ℕ, List, Option, Some, None, Result, Ok, Err, codes, if◌then◌else◌}
 use Rattle.pc_script.specs.declared.outcome.Outcome.{Outcome}
 use Rattle.pc_script.specs.declared.outcome.Outcome.TheVariants as outcome
 use Rattle.pc_script.specs.declared.outcome.ScriptFault.{ScriptFault}
 use Rattle.pc_script.specs.declared.outcome.ScriptFault.TheVariants as fault
+use Rattle.pc_script.specs.declared.session.Conversed.{Conversed}
 use Rattle.pc_threads.specs.declared.settings.faults.ConfigFault.TheVariants as config
 use Rattle.pc_threads.specs.declared.book.settling.RunFault.{RunFault}
 use Rattle.pc_threads.specs.declared.book.settling.RunFault.TheVariants as run
@@ -31,6 +32,12 @@ ending_of (Err fault.Read) = CannotRead failure.Read
 ending_of (Err fault.TooLong) = CannotRead failure.TooLong
 ending_of (Err fault.Write) = CannotRead failure.Write
 ending_of (Err fault.OutOfMemory) = OutOfMemory
+
+-- how it ends after a session: a read that failed is told before a fault
+abbrev pub ending_of_session : Result Conversed ScriptFault → Ending
+ending_of_session (Ok conversed) =
+    if conversed.is_whole then (if conversed.had_fault then FaultLine else Finished) else CannotRead failure.Read
+ending_of_session (Err why) = ending_of (Err why)
 
 -- how it ends after the drawing of a script
 abbrev pub ending_of_picture : Result Outcome ScriptFault → Ending

@@ -12,3 +12,4 @@ pub mod ReportText
 pub mod Runs
 pub mod SettingsText
 pub mod StepTexts
+pub mod Talks

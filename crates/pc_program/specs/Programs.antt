@@ -1,10 +1,11 @@
 -- What the program wrote, by how it ended.
-use Rattle.std.specs.Prelude.{ℕ, ◌≡◌, ◌⊎◌, ◌<◌, List, Option, Err, length}
-use Rattle.std.specs.Io.KnownBytes.{Appends, Keeps}
+use Rattle.std.specs.Prelude.{ℕ, Bool, true, false, ◌≡◌, ◌⊎◌, ◌<◌, List, Option, Err, length}
+use Rattle.std.specs.Io.KnownBytes.{Appends, Consumes, IsAtEnd, Keeps}
 use Rattle.toml.specs.Data.{Members}
 use Rattle.pc_draw.specs.Pictures.{IsPictureOf}
 use Rattle.pc_explain.specs.Comments.{without_comments}
 use Rattle.pc_script.specs.Scripts.{IsOutput, IsOutputUntil}
+use Rattle.pc_script.specs.Sessions.{IsAnsweredBy, IsAnsweredUntil}
 use Rattle.pc_script.specs.declared.input.TheConstants.{MOST_BYTES}
 use Rattle.pc_script.specs.declared.outcome.Outcome.TheVariants as outcome
 use Rattle.pc_threads.specs.Reports.{AddsUp, TellsItsBook}
@@ -131,3 +132,33 @@ IsScripted settings form script_old script_new old new (CannotRead failure.NotUt
 IsScripted settings form script_old script_new old new FaultLine = ⊥
 IsScripted settings form script_old script_new old new DrawnToFault = ⊥
 IsScripted settings form script_old script_new old new BadCommandLine = ⊥
+
+-- a text was read of what a reader has, and this is so of it
+abbrev pub IsReadOf : (left rest : Option (List ℕ)) → (List ℕ → Type 0) → Type 0
+IsReadOf left rest P = (text : List ℕ) × Consumes left rest text × P text
+
+-- a session answered this text, with a fault or without one: what was written is plainly the texts of its answers
+abbrev pub IsAnsweredIn : (plain : List ℕ → List ℕ) (had_fault : Bool) (old new : Option (List ℕ)) → List ℕ → Type 0
+IsAnsweredIn plain had_fault old new text =
+    (written : List ℕ) × IsAnsweredBy IsSession text had_fault (plain written) × Appends old new written
+
+-- after a session that read this of a reader: the whole text was answered, or what came before a read that failed, or
+-- what comes before the command at which memory ran out
+abbrev pub IsTalked : (plain : List ℕ → List ℕ) (left rest old new : Option (List ℕ)) → Ending → Type 0
+IsTalked plain left rest old new Finished =
+    IsAtEnd rest × IsReadOf left rest (IsAnsweredIn plain false old new)
+IsTalked plain left rest old new FaultLine =
+    IsAtEnd rest × IsReadOf left rest (IsAnsweredIn plain true old new)
+IsTalked plain left rest old new (CannotRead failure.Read) =
+    (had_fault : Bool) × IsReadOf left rest (IsAnsweredIn plain had_fault old new)
+IsTalked plain left rest old new OutOfMemory =
+    IsReadOf left rest
+    (λ text. (written : List ℕ) × IsAnsweredUntil IsSession RanOut text (plain written) × Appends old new written)
+IsTalked plain left rest old new (CannotRead failure.TooLong) = Unit {0}
+IsTalked plain left rest old new (CannotRead failure.Write) = Unit {0}
+IsTalked plain left rest old new (CannotRead failure.NotUtf8) = ⊥
+IsTalked plain left rest old new DrawnToFault = ⊥
+IsTalked plain left rest old new BadCommandLine = ⊥
+IsTalked plain left rest old new (Settings bad) = ⊥
+IsTalked plain left rest old new (Run why) = ⊥
+IsTalked plain left rest old new CannotStart = ⊥

@@ -9,7 +9,7 @@ ghost use Rattle.clap.specs.Matches.{found_of};
 ghost use Rattle.pc_program.specs.CommandLine.{IsAsked, IsCommandMet, IsInput, IsLimit, IsNoPart, IsPart, IsRefusal};
 ghost use Rattle.pc_program.specs.CommandLine.{IsNoPolicy, IsPolicy, IsReportForm, IsSpelled, IsUnnamed, IsUnread};
 ghost use Rattle.pc_program.specs.CommandLine.{counted_flag, drawing, flag, limit};
-ghost use Rattle.pc_program.specs.CommandLine.{of_file, option, pc_sim, run};
+ghost use Rattle.pc_program.specs.CommandLine.{of_file, option, pc_sim, run, session};
 
 use crate::numbers::numbers_in;
 use crate::policies::policy_named;
@@ -51,6 +51,12 @@ pub enum Command {
         policy: AgentPolicy,
         /// The file into which the run's calls are written as a script.
         script: Option<String>,
+    },
+    /// Answer commands as they come.
+    Session {
+        file: Option<String>,
+        /// Whether each line is explained.
+        explains: bool,
     },
 }
 
@@ -95,6 +101,7 @@ Examples:
   pc-sim draw examples/crash-and-steal.script >picture.svg
   pc-sim run settings.toml --per-cpu
   pc-sim run settings.toml --script run.script
+  pc-sim session
 
 FILE may be `-`, the standard input.
 Exit status: 0 finished; 1 a file or a text has a fault; 2 the command line has one; 3 a run did not
@@ -146,6 +153,24 @@ written there can be replayed, explained and drawn.
 Exit status: 0 finished; 1 the settings have a fault, or a read or a write failed; 3 the run did not
 settle, or not within its limit; 4 memory or a thread is wanting.
 Settings and the report are described in docs/FORMATS.md.";
+
+const ABOUT_SESSION: &str = "Answers commands one after another, each as soon as its line is whole";
+
+const AFTER_SESSION: &str = "\
+Example:
+  pc-sim session
+  enclave 2 8 100 16 1000
+  ok
+
+A line is answered as `pc-sim replay` answers it, and all answers are flushed before more is read. A line
+that is no command is a fault, which changes nothing, and the session goes on. `?` alone on a line lists
+the commands, on standard error.
+Exit status: 0 finished; 1 a line was no command, or a read or a write failed; 4 memory is wanting.
+Sessions are described in docs/FORMATS.md.";
+
+const EXPLAINS: &str = "also says in comments what happened and why";
+
+const COMMANDS: &str = "the commands; without it, and where it is `-`, the standard input is read";
 
 const SCRIPT: &str = "the script; without it, and where it is `-`, the standard input is read";
 
@@ -318,6 +343,17 @@ fn run_parser<'a>(alloc: Global) -> Result<Parser<'a>, AllocError>
         .arg(policy_option(alloc))
 }
 
+/// `session [FILE] [--explain]`
+fn session_parser<'a>(alloc: Global) -> Result<Parser<'a>, AllocError>
+    ensures { IfOk result (λ parser. app_of parser ≡ session) }
+{
+    let explains = flag_of(alloc, "explain", EXPLAINS);
+    parser_of_file(alloc, "session", COMMANDS)?
+        .about(ABOUT_SESSION)
+        .after_help(AFTER_SESSION)
+        .arg(explains)
+}
+
 /// The program's parser.
 fn parser<'a>(alloc: Global) -> Result<Parser<'a>, AllocError>
     ensures { IfOk result (λ parser. app_of parser ≡ pc_sim) }
@@ -326,6 +362,7 @@ fn parser<'a>(alloc: Global) -> Result<Parser<'a>, AllocError>
     let explain = explain_parser(alloc)?;
     let draw = draw_parser(alloc)?;
     let run = run_parser(alloc)?;
+    let session = session_parser(alloc)?;
     Parser::new(alloc, "pc-sim")
         .version(VERSION)
         .about(ABOUT)
@@ -335,7 +372,8 @@ fn parser<'a>(alloc: Global) -> Result<Parser<'a>, AllocError>
         .subcommand(replay)?
         .subcommand(explain)?
         .subcommand(draw)?
-        .subcommand(run)
+        .subcommand(run)?
+        .subcommand(session)
 }
 
 /// What the matches of a command ask for.
@@ -363,6 +401,11 @@ fn command_of(alloc: Global, matches: &ArgMatches<'_>) -> Result<Command, Comman
         })
     } else if name == "explain" {
         Ok(Command::Explain { file })
+    } else if name == "session" {
+        Ok(Command::Session {
+            file,
+            explains: is_set(met, "explain"),
+        })
     } else if name == "draw" {
         let part = part_of(met)?;
         Ok(Command::Draw { file, part })

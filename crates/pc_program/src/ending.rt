@@ -1,12 +1,13 @@
 //! How the program ends.
 
 ghost use Rattle.std.specs.Prelude.{◌≡◌, option_map};
-ghost use Rattle.pc_program.specs.Endings.{ending_of_picture, message_of, settings_message, status_of};
+ghost use Rattle.pc_program.specs.Endings.{ending_of_picture, ending_of_session, message_of};
+ghost use Rattle.pc_program.specs.Endings.{settings_message, status_of};
 ghost use Rattle.pc_program.specs.Endings.{unsettled_message};
 
 use crate::run_text::RunTextFault;
 use crate::settings::SettingsFault;
-use pc_script::{Outcome, ScriptFault};
+use pc_script::{Conversed, Outcome, ScriptFault};
 use pc_threads::{ConfigFault, RunFault};
 
 /// How a run of the program ended.
@@ -14,7 +15,7 @@ use pc_threads::{ConfigFault, RunFault};
 pub enum Ending {
     /// All was done.
     Finished,
-    /// The script has a line that is no command; its output says which.
+    /// The script has a line that is no command, or a session had one; its output says which.
     FaultLine,
     /// The same of a script that was drawn: the picture says which, and goes up to it.
     DrawnToFault,
@@ -121,6 +122,20 @@ impl Ending {
         match drawn {
             Ok(Outcome::FaultLine(_)) => Ending::DrawnToFault,
             ended => Ending::from(ended),
+        }
+    }
+}
+
+impl Ending {
+    /// How the program ends after a session.
+    pub fn of_session(talked: Result<Conversed, ScriptFault>) -> Ending
+        ensures { result ≡ ending_of_session talked }
+    {
+        match talked {
+            Ok(conversed) if !conversed.is_whole => Ending::CannotRead(Failure::Read),
+            Ok(conversed) if conversed.had_fault => Ending::FaultLine,
+            Ok(_) => Ending::Finished,
+            Err(fault) => Ending::from(Err(fault)),
         }
     }
 }

@@ -1,6 +1,6 @@
 //! What `pc-sim` does, whatever gives its texts and takes its answers: it replays scripts of events on the kernel model
-//! and its agents, explains or draws them, or runs agents in threads. Whoever calls it has the files, the streams and
-//! the exit.
+//! and its agents, explains or draws them, answers commands as they come, or runs agents in threads. Whoever calls it
+//! has the files, the streams and the exit.
 //!
 //! A script over memory, of which the third line is not answered, since the second is a fault:
 //!
@@ -24,6 +24,7 @@ mod report;
 mod run_text;
 mod scripted;
 mod settings;
+mod talk;
 
 pub use command_line::{Command, CommandFault, read_command};
 pub use ending::{BadSettings, Ending, Failure, Unsettled};
@@ -31,8 +32,10 @@ pub use forms::{Form, make, make_flushed, run_flushed, run_script};
 pub use input::{MOST_SETTINGS, read_settings};
 pub use pc_draw::{Interval, Part};
 pub use pc_policy::{AgentPolicy, Order, Stealing};
+pub use pc_script::Helper;
 pub use progress::{Progress, SoFar};
 pub use report::ReportForm;
 pub use run_text::{RunTextFault, run_config};
 pub use scripted::run_scripted;
 pub use settings::{Field, SettingsFault, read_config, steps_are_read_as_written, write_trouble};
+pub use talk::{Manual, converse_flushed};

@@ -1,6 +1,6 @@
-//! `pc-sim`: replays scripts of events on the kernel model and its agents, explains or draws them, or runs agents in
-//! threads. What it does is the library's, `pc_program`; here are the words, files and streams of the machine that it
-//! runs on.
+//! `pc-sim`: replays scripts of events on the kernel model and its agents, explains or draws them, answers commands as
+//! they come, or runs agents in threads. What it does is the library's, `pc_program`; here are the words, files and
+//! streams of the machine that it runs on.
 #![tactic(auto)]
 
 mod met;
@@ -8,8 +8,9 @@ mod streams;
 
 use met::{Met, Source, say_failure};
 use pc_program::{
-    AgentPolicy, Command, CommandFault, Ending, Failure, Form, MOST_SETTINGS, Progress, ReportForm,
-    SoFar, make_flushed, read_command, read_settings, run_flushed, run_scripted, write_trouble,
+    AgentPolicy, Command, CommandFault, Ending, Failure, Form, MOST_SETTINGS, Manual, Progress,
+    ReportForm, SoFar, converse_flushed, make_flushed, read_command, read_settings, run_flushed,
+    run_scripted, write_trouble,
 };
 use pc_script::MOST_BYTES;
 use std::alloc::Global;
@@ -90,6 +91,52 @@ fn make_of_file(rt: &HostRuntime, form: Form, source: &Source) -> Met {
             Err(error) => Met::unopened(error),
         },
     }
+}
+
+/// Answers the lines that a stream gives as they come, through a buffer of its own. Help goes to standard error.
+fn talk_buffered<R: Read + Drop, W: Write + Drop>(
+    rt: &HostRuntime,
+    explains: bool,
+    reader: R,
+    writer: W,
+) -> Met {
+    let mut reader = Noted::new(reader);
+    let Ok(mut writer) = BufWriter::new(rt.alloc(), Noted::new(writer)) else {
+        return Met::ended(Ending::OutOfMemory);
+    };
+    let mut manual = Manual::new(rt.stderr());
+    let ending = converse_flushed(rt.alloc(), explains, &mut reader, &mut manual, &mut writer);
+    let said = match ending {
+        Ending::CannotRead(Failure::Write) => writer.get_ref().fault(),
+        _ => reader.fault(),
+    };
+    Met::of(ending, said)
+}
+
+/// Says what a session is, where a person writes it at a terminal.
+fn greet(rt: &HostRuntime) {
+    if rt.stdin().is_terminal() && rt.stderr().is_terminal() {
+        // Nothing can be said of an error on standard error itself.
+        let _ = eprintln!(rt; "{GREETING}");
+    }
+}
+
+/// Answers the lines of the file, or else of the standard input, as they come, and says how that ended. It stands
+/// apart, so that no other command has the room on its stack that a session reads into.
+#[inline(never)]
+fn talk(rt: &HostRuntime, explains: bool, file: Option<String>) -> ExitCode {
+    let source = Source(file);
+    let met = match &source.0 {
+        None => {
+            greet(rt);
+            talk_buffered(rt, explains, rt.stdin(), rt.stdout())
+        }
+        Some(name) => match File::open(rt, name.as_str()) {
+            Ok(file) => talk_buffered(rt, explains, file, rt.stdout()),
+            Err(error) => Met::unopened(error),
+        },
+    };
+    end(rt, &met, &source, MOST_BYTES)
 }
 
 /// The settings text that a stream gives.
@@ -237,6 +284,10 @@ fn end_run(rt: &HostRuntime, met: &Met, source: &Source, text: &str, so_far: SoF
     status
 }
 
+/// What a session says first at a terminal.
+const GREETING: &str =
+    "pc-sim: each command is answered as it comes; ? lists them, and pc-sim explain explains a script";
+
 /// The size in bytes of a block that is large.
 const LARGE: usize = 1 << 18;
 
@@ -253,6 +304,7 @@ fn main(rt: HostRuntime) -> ExitCode {
         Ok(Command::Replay { file }) => make_script(&rt, Form::Replies, file),
         Ok(Command::Explain { file }) => make_script(&rt, Form::Explained, file),
         Ok(Command::Draw { file, part }) => make_script(&rt, Form::Picture(part), file),
+        Ok(Command::Session { file, explains }) => talk(&rt, explains, file),
         Ok(
             Command::Run {
                 file,

@@ -3,11 +3,12 @@
 mod settings;
 
 use pc_program::{
-    Command, CommandFault, Ending, Form, Interval, Order, Part, ReportForm, Stealing, make,
-    read_command, run_script,
+    Command, CommandFault, Ending, Form, Helper, Interval, Order, Part, ReportForm, Stealing,
+    converse_flushed, make, read_command, run_script,
 };
 use pc_script::{Outcome, ScriptFault, lines_of};
 use std::alloc::Global;
+use std::io::BufWriter;
 use std::test::Fail;
 
 #[test]
@@ -69,6 +70,7 @@ enum Asked {
     Explain,
     Draw(Part),
     Run(ReportForm, Option<u32>),
+    Session(bool),
 }
 
 fn read_off(
@@ -85,6 +87,7 @@ fn read_off(
             limit,
             ..
         } => Ok((Asked::Run(form, limit), file)),
+        Command::Session { file, explains } => Ok((Asked::Session(explains), file)),
     }
 }
 
@@ -153,7 +156,7 @@ const EACH_REFUSAL: Asked = Asked::Run(ReportForm::EachRefusal, None);
 const PICTURE: Asked = Asked::Run(ReportForm::Picture, None);
 
 /// Words, and what they ask for, of which file.
-static COMMANDS: [(&[&str], Asked, Option<&str>); 18] = [
+static COMMANDS: [(&[&str], Asked, Option<&str>); 21] = [
     (&["pc-sim", "replay"], Asked::Replay, None),
     (
         &["pc-sim", "replay", "a.script"],
@@ -227,12 +230,61 @@ static COMMANDS: [(&[&str], Asked, Option<&str>); 18] = [
         AT_ONCE,
         None,
     ),
+    (&["pc-sim", "session"], Asked::Session(false), None),
+    (&["pc-sim", "session", "-"], Asked::Session(false), None),
+    (
+        &["pc-sim", "session", "--explain", "a.script"],
+        Asked::Session(true),
+        Some("a.script"),
+    ),
 ];
 
 #[test]
 fn commands_are_read_off_the_command_line(rt: HostRuntime) -> Result<(), Fail> {
     assert_eq!(rt; first_other(rt.alloc(), &COMMANDS)?, None);
     Ok(())
+}
+
+/// Nobody is helped.
+#[derive(Drop)]
+struct Nobody;
+
+impl Helper for Nobody {
+    fn help(&mut self) {}
+}
+
+/// Whether a session over memory ends so, and this is plainly what it writes.
+fn talks(alloc: Global, explains: bool, text: &[u8], output: &[u8], ending: Ending) -> bool {
+    let mut reader = text;
+    let Ok(mut writer) = BufWriter::new(alloc, Vec::new(alloc)) else {
+        return false;
+    };
+    let ended = converse_flushed(alloc, explains, &mut reader, &mut Nobody, &mut writer);
+    let mut plain = Vec::new(alloc);
+    for line in lines_of(Some(writer.get_ref().as_slice())) {
+        if line.first().copied() != Some(b'#') && !line.is_empty() {
+            let _ = plain.extend_from_slice(line);
+            let _ = plain.push(b'\n');
+        }
+    }
+    ended == ending && plain.as_slice() == output
+}
+
+#[test]
+fn a_session_goes_on_behind_a_fault(rt: HostRuntime) {
+    let text = b"enclave 2 8 100 16 1000\ntick 0 0\nstatus t0".as_slice();
+    let output = b"ok\nfault line 2\nrefused UnknownThread\n".as_slice();
+    assert!(rt; talks(rt.alloc(), false, text, output, Ending::FaultLine));
+    assert!(rt; talks(rt.alloc(), true, text, output, Ending::FaultLine));
+    assert!(rt;
+        talks(
+            rt.alloc(),
+            false,
+            b"enclave 1 1 1 1 1",
+            b"ok\n",
+            Ending::Finished
+        )
+    );
 }
 
 /// Words of runs, and the file into which a script is written.

@@ -2,7 +2,7 @@ use Rattle.std.proofs.Common.{rules, ap, ap₂, codes, true, ◌≡◌, ◌∙�
 use Rattle.std.proofs.lemmas.Result.{IfOk-weaker}
 use Rattle.clap.specs.Simple.{App, Shape, app_of, app_of_fields, new_app, on_top, with_subcommand}
 use Rattle.clap.proofs.SimpleLemmas.{plain_fields}
-use Rattle.pc_program.specs.CommandLine.{drawing, of_file, run}
+use Rattle.pc_program.specs.CommandLine.{drawing, of_file, run, session}
 use Rattle.pc_program.proofs.command_line.parser.Goals as goal
 
 -- what the settings change
@@ -23,10 +23,10 @@ returns c =
     let helps : app_of c.disable_help_subcommand.result ≡ on_top helpless (app_of c.subcommand_required.result) = ap app_of_fields c.disable_help_subcommand.ensures in
     let top : app_of c.disable_help_subcommand.result ≡ on_top helpless (on_top demanding (on_top versioned (new_app (codes "pc-sim")))) =
     helps ∙ ap (on_top helpless) (needs ∙ ap (on_top demanding) (told ∙ named)) in
-    let replays : app_of c.in_ok-replay.replay ≡ of_file (codes "replay") = search rules in
-    let explains : app_of c.in_ok-explain.explain ≡ of_file (codes "explain") = search rules in
-    let draws : app_of c.in_ok-draw.draw ≡ drawing = search rules in
-    let runs : app_of c.in_ok-run.run' ≡ run = search rules in
+    let replays : app_of c.in_ok-replay.replay ≡ of_file (codes "replay") = c.in_ok-replay.ensures in
+    let explains : app_of c.in_ok-explain.explain ≡ of_file (codes "explain") = c.in_ok-explain.ensures in
+    let draws : app_of c.in_ok-draw.draw ≡ drawing = c.in_ok-draw.ensures in
+    let runs : app_of c.in_ok-run.run' ≡ run = c.in_ok-run.ensures in
     let first : app_of c.in_ok-subcommand.field-0 ≡ with_subcommand (app_of c.disable_help_subcommand.result) (of_file (codes "replay")).top =
     c.in_ok-subcommand.ensures.shape (plain_fields c.in_ok-replay.replay (ap (λ (a : App). a.top.is_plain) replays)).globals
     ∙ ap (λ (a : App). with_subcommand (app_of c.disable_help_subcommand.result) a.top) replays in
@@ -40,6 +40,11 @@ returns c =
     first ∙ ap (λ (a : App). with_subcommand a (of_file (codes "replay")).top) top in
     let two = second ∙ ap (λ (a : App). with_subcommand a (of_file (codes "explain")).top) one in
     let three = third ∙ ap (λ (a : App). with_subcommand a drawing.top) two in
-    IfOk-weaker c.subcommand-4.result _ _ (λ parser h.
-    h.shape (plain_fields c.in_ok-run.run' (ap (λ (a : App). a.top.is_plain) runs)).globals
-    ∙ ap₂ (λ (a b : App). with_subcommand a b.top) three runs) c.subcommand-4.ensures
+    let fourth : app_of c.in_ok-subcommand-4.field-0 ≡ with_subcommand (app_of c.in_ok-subcommand-3.field-0) run.top =
+    c.in_ok-subcommand-4.ensures.shape (plain_fields c.in_ok-run.run' (ap (λ (a : App). a.top.is_plain) runs)).globals
+    ∙ ap (λ (a : App). with_subcommand (app_of c.in_ok-subcommand-3.field-0) a.top) runs in
+    let four = fourth ∙ ap (λ (a : App). with_subcommand a run.top) three in
+    let sessions : app_of c.in_ok-session.session ≡ session = c.in_ok-session.ensures in
+    IfOk-weaker c.subcommand-5.result _ _ (λ parser h.
+    h.shape (plain_fields c.in_ok-session.session (ap (λ (a : App). a.top.is_plain) sessions)).globals
+    ∙ ap₂ (λ (a b : App). with_subcommand a b.top) four sessions) c.subcommand-5.ensures

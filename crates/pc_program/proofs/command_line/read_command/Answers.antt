@@ -67,3 +67,6 @@ returns-in-Err-2-clause-refused g c =
         | inr among ↦ subst (λ a. IsAmong (kind_of c.in-Err.error) (fault_of a (map g.S.AsStr.text c.args.words.now))) app among
       ],
     )
+
+pub command_of-requires : goal.command_of-requires
+command_of-requires g c = search rules
