@@ -1,0 +1,218 @@
+"""What a command may meet: a refusal, each of a class of its own; a fault; the end of the program."""
+from __future__ import annotations
+
+
+class NimhessianError(Exception):
+    """What all errors of this package have in common."""
+
+
+class Refused(NimhessianError):
+    """The model refused a command, and changed nothing that FORMATS.md does not name."""
+
+    def __init__(self, command: str = "") -> None:
+        super().__init__(command)
+        self.command = command
+        """The command, as it was sent."""
+
+    def __str__(self) -> str:
+        told = f"{type(self).__name__}{self.argument()}"
+        return f"{told}: {self.command}" if self.command else told
+
+    def argument(self) -> str:
+        """What stands behind the name of the refusal."""
+        return ""
+
+
+class BadCpu(Refused):
+    """A CPU or a queue is not there."""
+
+
+class UnknownThread(Refused):
+    """No thread has this name."""
+
+
+class Dead(Refused):
+    """The thread is dead."""
+
+
+class NotBlocked(Refused):
+    """The thread is not blocked."""
+
+
+class NotReady(Refused):
+    """The thread is blocked or dead."""
+
+
+class EmptyMask(Refused):
+    """The mask has no CPU."""
+
+
+class MaskTooWide(Refused):
+    """The mask has a CPU that is not there."""
+
+
+class OnForbiddenCpu(Refused):
+    """The thread runs on a CPU that the new mask leaves out."""
+
+
+class BadLevel(Refused):
+    """The level is above 7."""
+
+
+class IdleCpu(Refused):
+    """No thread runs on the CPU."""
+
+
+class NamesSpent(Refused):
+    """There are as many threads as there may be."""
+
+
+class NumbersSpent(Refused):
+    """The thread has as many messages as it may have."""
+
+
+class QueueFull(Refused):
+    """The queue holds as many items as it may hold."""
+
+
+class PostsSpent(Refused):
+    """The queue had as many posts as it may have."""
+
+
+class Pending(Refused):
+    """A message of the thread stands in its queue."""
+
+
+class Forbidden(Refused):
+    """The thread's mask leaves the CPU out."""
+
+
+class Busy(Refused):
+    """A thread runs on the CPU; for `commit` another one."""
+
+
+class NothingReady(Refused):
+    """No thread of the agent's run list may be committed."""
+
+
+class NothingToSteal(Refused):
+    """There is no thread that the agent may choose."""
+
+
+class WireFault(Refused):
+    """The delta cannot be sent."""
+
+
+class NoDelta(Refused):
+    """So many deltas were not sent."""
+
+
+class TooMany(Refused):
+    """The queue has fewer items than are to be removed."""
+
+
+class TooLate(Refused):
+    """An event was taken before."""
+
+
+class NoEnclave(Refused):
+    """No enclave was accepted yet."""
+
+
+class HaveEnclave(Refused):
+    """An enclave was accepted before."""
+
+
+class Stale(Refused):
+    """The given number is not `now`: the posts of the CPU's queue, or the number of the thread's last message."""
+
+    def __init__(self, command: str = "", now: int = 0) -> None:
+        super().__init__(command)
+        self.now = now
+
+    def argument(self) -> str:
+        return f"(now={self.now})"
+
+
+class Running(Refused):
+    """The thread runs on `cpu`."""
+
+    def __init__(self, command: str = "", cpu: int = 0) -> None:
+        super().__init__(command)
+        self.cpu = cpu
+
+    def argument(self) -> str:
+        return f"(cpu={self.cpu})"
+
+
+class NotYours(Refused):
+    """The thread's messages go to `queue`, not to that of the CPU."""
+
+    def __init__(self, command: str = "", queue: int = 0) -> None:
+        super().__init__(command)
+        self.queue = queue
+
+    def argument(self) -> str:
+        return f"(queue={self.queue})"
+
+
+class BadLimits(Refused):
+    """`limit` is the first that is out of its range: `cpus`, `threads`, `numbers`, `room` or `posts`."""
+
+    def __init__(self, command: str = "", limit: str = "") -> None:
+        super().__init__(command)
+        self.limit = limit
+
+    def argument(self) -> str:
+        return f"(limit={self.limit!r})"
+
+
+class Fault(NimhessianError, ValueError):
+    """The program takes a line for no command: a number is past its word's range, or a name is none. Nothing changed."""
+
+    def __init__(self, command: str, line: int) -> None:
+        super().__init__(f"no command: {command!r} (line {line})")
+        self.command = command
+        self.line = line
+
+
+class Died(NimhessianError):
+    """The program ended while an answer was awaited, or could not be started."""
+
+    def __init__(self, status: int | None, told: str) -> None:
+        ended = "could not be started" if status is None else f"ended with status {status}"
+        super().__init__(f"pc-sim {ended}: {told.strip()}" if told.strip() else f"pc-sim {ended}")
+        self.status = status
+        """Its status; negative where a signal ended it, and None where it did not start."""
+        self.told = told
+        """What it wrote on standard error."""
+
+
+class Misread(NimhessianError):
+    """An answer that this package does not know: the program is of another version."""
+
+
+REFUSALS: dict[str, type[Refused]] = {
+    refusal.__name__: refusal
+    for refusal in (
+        BadCpu, UnknownThread, Dead, NotBlocked, NotReady, EmptyMask, MaskTooWide, OnForbiddenCpu, BadLevel, IdleCpu,
+        NamesSpent, NumbersSpent, QueueFull, PostsSpent, Pending, Forbidden, Busy, NothingReady, NothingToSteal,
+        WireFault, NoDelta, TooMany, TooLate, NoEnclave, HaveEnclave, Stale, Running, NotYours, BadLimits,
+    )
+}
+
+
+def refusal_of(command: str, words: list[str]) -> Refused:
+    """The refusal that the words behind `refused` tell."""
+    if len(words) == 1 and words[0] in REFUSALS:
+        return REFUSALS[words[0]](command)
+    match words:
+        case ["Stale", now]:
+            return Stale(command, int(now))
+        case ["Running", cpu]:
+            return Running(command, int(cpu))
+        case ["NotYours", queue]:
+            return NotYours(command, int(queue))
+        case ["BadLimits", limit]:
+            return BadLimits(command, limit)
+    raise Misread(f"refused {' '.join(words)}: {command}")

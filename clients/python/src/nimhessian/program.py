@@ -1,0 +1,120 @@
+"""The program `pc-sim` as a session: lines go in, and lines come out."""
+from __future__ import annotations
+
+import os
+import shutil
+import subprocess
+import tempfile
+import threading
+from collections.abc import Iterator
+from typing import IO, TextIO
+
+from .errors import Died
+
+WAIT_AT_CLOSE = 10.0
+"""How many seconds a program may take to end after its input has ended."""
+MOST_AT_ONCE = 1 << 16
+"""So many bytes are read at once."""
+SMALL = 4_096
+"""So many bytes fit into any pipe, so no thread is needed to write them."""
+
+
+def find_program(named: str | os.PathLike[str] | None) -> str:
+    """The program that is named, or the one of the variable PC_SIM, or `pc-sim` of the path."""
+    for name in (named, os.environ.get("PC_SIM")):
+        if name is not None:
+            return os.fspath(name)
+    found = shutil.which("pc-sim")
+    if found is None:
+        raise Died(None, "no pc-sim on the path, and PC_SIM is not set")
+    return found
+
+
+class Program:
+    """A running session."""
+
+    def __init__(self, named: str | os.PathLike[str] | None, record: TextIO | None) -> None:
+        name = find_program(named)
+        self._record = record
+        self._told: IO[bytes] = tempfile.TemporaryFile()
+        try:
+            self._process = subprocess.Popen(
+                [name, "session"], stdin=subprocess.PIPE, stdout=subprocess.PIPE, stderr=self._told, bufsize=0)
+        except OSError as error:
+            self._told.close()
+            raise Died(None, f"{name}: {error.strerror}") from error
+        assert self._process.stdin is not None and self._process.stdout is not None
+        self._to = self._process.stdin
+        self._from = self._process.stdout
+        self._lines: Iterator[bytes] = iter(())
+        self._rest = b""
+
+    def exchange(self, lines: list[str], rows: list[bool]) -> Iterator[str]:
+        """Sends lines, and gives the answer to each: one line, or rows up to a line `end`."""
+        text = "\n".join(lines) + "\n"
+        if self._record is not None:
+            self._record.write(text)
+        data = text.encode()
+        if len(data) <= SMALL:
+            self._write(data)
+            yield from map(self._answer, rows)
+            return
+        # The program reads on only while somebody takes its answers.
+        writer = threading.Thread(target=self._write, args=(data,), daemon=True)
+        writer.start()
+        yield from map(self._answer, rows)
+        writer.join()
+
+    def _write(self, data: bytes) -> None:
+        try:
+            rest = memoryview(data)
+            while rest:
+                rest = rest[self._to.write(rest):]
+        except (BrokenPipeError, ValueError):
+            pass  # Its death is told where its answer is awaited.
+
+    def _answer(self, has_rows: bool) -> str:
+        first = self._line()
+        if not has_rows or not first.startswith("t"):
+            return first
+        rows = [first]
+        while rows[-1] != "end":
+            rows.append(self._line())
+        return "\n".join(rows)
+
+    def _line(self) -> str:
+        for line in self._lines:
+            return line.decode()
+        return self._read_on()
+
+    def _read_on(self) -> str:
+        """The next line, where none is left of what was read before."""
+        text = self._rest
+        while b"\n" not in text:
+            more = self._from.read(MOST_AT_ONCE)
+            if not more:
+                raise self._death()
+            text += more
+        *lines, self._rest = text.split(b"\n")
+        self._lines = iter(lines)
+        return next(self._lines).decode()
+
+    def _death(self) -> Died:
+        try:
+            status = self._process.wait(WAIT_AT_CLOSE)
+        except subprocess.TimeoutExpired:
+            self._process.kill()
+            status = self._process.wait()
+        self._told.seek(0)
+        return Died(status, self._told.read().decode(errors="replace"))
+
+    def close(self) -> None:
+        """Ends the input, and waits for the program's end."""
+        self._to.close()
+        self._from.close()
+        try:
+            self._process.wait(WAIT_AT_CLOSE)
+        except subprocess.TimeoutExpired:
+            self._process.kill()
+            self._process.wait()
+        self._told.close()

@@ -1,0 +1,72 @@
+"""Makes the wheel of this package, by the standard library alone, so that pip needs no network (PEP 517 and 427)."""
+from __future__ import annotations
+
+import base64
+import hashlib
+import io
+import pathlib
+import tarfile
+import tomllib
+import zipfile
+
+HERE = pathlib.Path(__file__).resolve().parent
+EPOCH = (1980, 1, 1, 0, 0, 0)
+
+
+def _project() -> dict[str, str]:
+    project = tomllib.loads((HERE / "pyproject.toml").read_text())["project"]
+    return {key: value for key, value in project.items() if isinstance(value, str)}
+
+
+def _metadata(project: dict[str, str]) -> str:
+    head = [
+        "Metadata-Version: 2.1",
+        f"Name: {project['name']}",
+        f"Version: {project['version']}",
+        f"Summary: {project['description']}",
+        f"Requires-Python: {project['requires-python']}",
+        "Description-Content-Type: text/markdown",
+    ]
+    return "\n".join(head) + "\n\n" + (HERE / project["readme"]).read_text()
+
+
+def _row(name: str, data: bytes) -> str:
+    digest = base64.urlsafe_b64encode(hashlib.sha256(data).digest()).rstrip(b"=").decode()
+    return f"{name},sha256={digest},{len(data)}\n"
+
+
+def build_wheel(wheel_directory: str, config_settings: object = None, metadata_directory: object = None) -> str:
+    project = _project()
+    stem = f"{project['name']}-{project['version']}"
+    info = f"{stem}.dist-info"
+    files = {
+        path.relative_to(HERE / "src").as_posix(): path.read_bytes()
+        for path in sorted((HERE / "src").rglob("*"))
+        if path.suffix == ".py" or path.name == "py.typed"
+    }
+    files[f"{info}/METADATA"] = _metadata(project).encode()
+    files[f"{info}/WHEEL"] = b"Wheel-Version: 1.0\nGenerator: wheel_backend\nRoot-Is-Purelib: true\nTag: py3-none-any\n"
+    rows = "".join(_row(name, data) for name, data in files.items()) + f"{info}/RECORD,,\n"
+    files[f"{info}/RECORD"] = rows.encode()
+    wheel = f"{stem}-py3-none-any.whl"
+    with zipfile.ZipFile(pathlib.Path(wheel_directory) / wheel, "w", zipfile.ZIP_DEFLATED) as archive:
+        for name, data in files.items():
+            archive.writestr(zipfile.ZipInfo(name, EPOCH), data, zipfile.ZIP_DEFLATED)
+    return wheel
+
+
+def build_sdist(sdist_directory: str, config_settings: object = None) -> str:
+    project = _project()
+    stem = f"{project['name']}-{project['version']}"
+    with tarfile.open(pathlib.Path(sdist_directory) / f"{stem}.tar.gz", "w:gz") as archive:
+        for name in ("pyproject.toml", "wheel_backend.py", "README.md", "src"):
+            archive.add(HERE / name, f"{stem}/{name}", filter=_plain)
+        data = _metadata(project).encode()
+        entry = tarfile.TarInfo(f"{stem}/PKG-INFO")
+        entry.size = len(data)
+        archive.addfile(entry, io.BytesIO(data))
+    return f"{stem}.tar.gz"
+
+
+def _plain(entry: tarfile.TarInfo) -> tarfile.TarInfo | None:
+    return None if "__pycache__" in entry.name else entry
