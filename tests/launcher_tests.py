@@ -26,7 +26,7 @@ left: low thiserror
 right: low   # beside left
 pc_sim: left right clap
 """
-TOOLS = "awk bash cat cmp date dirname env find flock head mkdir mktemp mv python3 readlink rm seq sleep sort tail tee touch".split()
+TOOLS = "awk bash cat cmp cp date dirname env find flock head mkdir mktemp mv python3 readlink rm seq sleep sort tail tee touch".split()
 SECONDS = 30
 AT_ONCE = 8
 
@@ -46,6 +46,12 @@ if [ "$name" = "${RT_FAILS:-}" ]; then
     exit 1
 fi
 if [ "$1" = ci ]; then echo "3 passed, 0 failed"; fi
+if [ "$1" = lib ]; then
+    mkdir -p out
+    (cd .. && echo */out/lib) >out/below
+    echo "$PWD" >out/place
+    echo "$name" >out/lib
+fi
 if [ "$1" = run ] && [ -z "${RT_LEAVES_NONE:-}" ]; then
     mkdir -p out
     sum=$(find .. -name '*.rt' -exec cat {} +)
@@ -76,6 +82,7 @@ class Launcher(unittest.TestCase):
         self.temporary = self.top / "temporary"
         for it in (self.tree, self.bin, self.temporary):
             it.mkdir()
+        (self.tree / "tools").mkdir()
         shutil.copy(ROOT / "pc-sim", self.tree)
         shutil.copy(ROOT / "test", self.tree)
         self.put_machine(cores=4, gigabytes=100)
@@ -94,10 +101,11 @@ class Launcher(unittest.TestCase):
     def put_machine(self, cores, gigabytes):
         """Lets the launcher see so many cores, and so much free memory."""
         self.put_command("nproc", f"#!/usr/bin/env bash\necho {cores}\n")
-        text, told = (ROOT / "pc-sim").read_text(), self.top / "meminfo"
+        text, told = (ROOT / "tools/build").read_text(), self.top / "meminfo"
         told.write_text(f"MemTotal: 999999999 kB\nMemAvailable: {gigabytes * 1024 * 1024} kB\n")
         self.assertEqual(text.count("/proc/meminfo"), 1)
-        (self.tree / "pc-sim").write_text(text.replace("/proc/meminfo", str(told)))
+        (self.tree / "tools/build").write_text(text.replace("/proc/meminfo", str(told)))
+        (self.tree / "tools/build").chmod(0o755)
 
     def put_command(self, name, text):
         (self.bin / name).write_text(text)
@@ -352,6 +360,45 @@ class Launcher(unittest.TestCase):
             with self.subTest(cores=cores):
                 self.calls_on(cores, 100)
 
+    def test_each_crate_is_built_in_a_tree_of_its_own_and_brought_back(self):
+        self.run_it()
+        crates = self.tree / "crates"
+        places = {name: (crates / name / "out/place").read_text().strip() for name in ("low", "left", "right")}
+        self.assertEqual(len(set(places.values())), 3)
+        self.assertFalse(any(place.startswith(str(crates)) for place in places.values()))
+        self.assertEqual((crates / "low/out/below").read_text(), "*/out/lib\n")
+        for name in ("left", "right"):
+            self.assertEqual((crates / name / "out/below").read_text(), "low/out/lib\n")
+        self.assertFalse((self.tree / ".trees").exists())
+        self.set_dates(0)
+        self.forget_calls()
+        self.assert_built_once(self.run_it()[2])
+        self.assertEqual((crates / "left/out/below").read_text(), "left/out/lib low/out/lib\n")
+
+    def test_what_most_stand_on_is_built_first(self):
+        (self.tree / "crates.txt").write_text("right:\nlow:\nleft: low\nmiddle: left\npc_sim: right middle\n")
+        (self.tree / "crates/middle/src").mkdir(parents=True)
+        (self.tree / "crates/middle/src/lib.rt").write_text("// middle\n")
+        self.put_machine(1, 100)
+        self.assertEqual(self.run_it()[0], 0)
+        self.assertEqual([name for name, _ in self.calls()[0]], ["low", "left", "right", "middle", "pc_sim"])
+
+    def test_a_tree_that_cannot_be_made(self):
+        (self.bin / "cp").unlink()
+        self.put_command("cp", "#!/usr/bin/env bash\necho 'cp: no room' >&2\nexit 1\n")
+        status, out, errors = self.run_it()
+        self.assertEqual((status, out), (5, ""))
+        self.assertEqual(self.calls()[0], [])
+        self.assertIn("a tree for low cannot be made", errors)
+        self.assertIn("cp: no room", errors)
+        self.assertFalse((self.tree / ".trees").exists())
+
+    def test_as_a_command_it_builds_and_prints_nothing(self):
+        status, out, errors = self.ended(self.begin(command="tools/build"))
+        self.assertEqual((status, out), (0, ""))
+        self.assert_built_once(errors)
+        self.assertEqual(self.ended(self.begin(command="tools/build")), (0, "", ""))
+
     def test_crates_that_stand_on_each_other(self):
         (self.tree / "crates.txt").write_text("low: left\nleft: low\nright:\npc_sim: left right\n")
         status, out, errors = self.run_it()
@@ -519,7 +566,8 @@ class Launcher(unittest.TestCase):
         self.assertEqual(out.splitlines()[-1], "cases: --gate-status 0 --gate-line 3 passed, 0 failed --also 12 passed, 0 failed"
                          " --also 2 passed, 0 failed --also 5 passed, 0 failed --also 6 passed, 0 failed --also 7 passed, 0 failed"
                          " --also 8 passed, 0 failed --also 9 passed, 0 failed --also 10 passed, 0 failed --also 13 passed, 0 failed"
-                         " --also 11 passed, 0 failed --also 4 passed, 0 failed"
+                         " --also 11 passed, 0 failed --also 18 passed, 0 failed --also 16 passed, 0 failed --also 17 passed, 0 failed"
+                         " --also 14 passed, 0 failed --also 15 passed, 0 failed --also 4 passed, 0 failed"
                          " --also --short passed, 0 failed")
         self.assertEqual(self.ended(start)[0], 0)
         words, began, ended = self.calls()
@@ -553,6 +601,11 @@ class Launcher(unittest.TestCase):
         (self.tree / "tests/advice_tests.py").write_text("print('10 passed, 0 failed')\n")
         (self.tree / "tests/policy_tests.py").write_text("print('13 passed, 0 failed')\n")
         (self.tree / "tests/running_tests.py").write_text("print('11 passed, 0 failed')\n")
+        (self.tree / "tests/trace_tests.py").write_text("print('16 passed, 0 failed')\n")
+        (self.tree / "tests/lab_tests.py").write_text("print('17 passed, 0 failed')\n")
+        (self.tree / "tests/client_tests.py").write_text("print('14 passed, 0 failed')\n")
+        (self.tree / "tests/package_tests.py").write_text("print('15 passed, 0 failed')\n")
+        (self.tree / "tests/session_tests.py").write_text("print('18 passed, 0 failed')\n")
         (self.tree / "tests/hostile_tests.py").write_text("print('4 passed, 0 failed')\n")
         (self.tree / "tests/hostile").mkdir()
         (self.tree / "tests/hostile/hostile.py").write_text("import sys\nprint(*sys.argv[1:], 'passed, 0 failed')\n")
