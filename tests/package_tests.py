@@ -1,0 +1,171 @@
+#!/usr/bin/env python3
+"""Tests the packages that `tools/package` makes: their bytes, what they hold, and the program in a root of its own.
+
+    tests/package_tests.py [--program PROGRAM]
+
+The last line is 'N passed, M failed'.
+"""
+from __future__ import annotations
+
+import argparse
+import filecmp
+import gzip
+import os
+import pathlib
+import shutil
+import subprocess
+import sys
+import tempfile
+import unittest
+
+ROOT = pathlib.Path(__file__).resolve().parent.parent
+PROGRAM = ROOT / "crates/pc_sim/out/pc_sim"
+DATE = 1_700_000_000
+SECONDS = 120
+NOBODY = 65_534
+# Of an installed root: the example, what it is told to do, and what it prints.
+EXAMPLES = [
+    ("replay", "first-run.script", "first-run.output"),
+    ("run", "steals-and-restarts.toml", "steals-and-restarts.output"),
+]
+
+
+def run(words: list[str], **more: object) -> subprocess.CompletedProcess[str]:
+    return subprocess.run(words, capture_output=True, text=True, timeout=SECONDS, **more)
+
+
+def pack(to: pathlib.Path, program: pathlib.Path | None = None) -> subprocess.CompletedProcess[str]:
+    words = [str(ROOT / "tools/package"), "--program", str(program or PROGRAM), "--to", str(to)]
+    return run(words, env={**os.environ, "SOURCE_DATE_EPOCH": str(DATE)})
+
+
+class Packages(unittest.TestCase):
+    @classmethod
+    def setUpClass(cls):
+        cls.folder = tempfile.TemporaryDirectory()
+        cls.top = pathlib.Path(cls.folder.name)
+        cls.top.chmod(0o755)
+        made = pack(cls.top / "one")
+        assert made.returncode == 0, made.stderr
+        cls.package, cls.archive = map(pathlib.Path, made.stdout.splitlines())
+
+    @classmethod
+    def tearDownClass(cls):
+        cls.folder.cleanup()
+
+    def test_two_runs_give_the_same_bytes(self):
+        self.assertEqual(pack(self.top / "two").returncode, 0)
+        names = [self.package.name, self.archive.name, "SHA256SUMS"]
+        same, other, missing = filecmp.cmpfiles(self.top / "one", self.top / "two", names, shallow=False)
+        self.assertEqual((sorted(same), other, missing), (sorted(names), [], []))
+
+    def test_the_sums_are_right(self):
+        ended = run(["sha256sum", "--check", "--strict", "SHA256SUMS"], cwd=self.top / "one")
+        self.assertEqual((ended.returncode, len(ended.stdout.splitlines())), (0, 2), ended.stdout)
+
+    def unpacked(self, name: str) -> pathlib.Path:
+        """The package, unpacked into a root with nothing else but the libraries of the program."""
+        root = self.top / name
+        ended = run(["dpkg-deb", "-x", str(self.package), str(root)])
+        self.assertEqual(ended.returncode, 0, ended.stderr)
+        for word in run(["ldd", str(PROGRAM)]).stdout.split():
+            if word.startswith("/"):
+                place = root / word.lstrip("/")
+                place.parent.mkdir(parents=True, exist_ok=True)
+                shutil.copy(word, place)
+        return root
+
+    def test_a_root_with_nothing_else_runs_the_examples(self):
+        if os.geteuid() != 0:
+            self.skipTest("who is not root cannot change the root")
+        root = self.unpacked("root")
+
+        def enter() -> None:
+            os.chroot(root)
+            os.chdir("/")
+            os.setgid(NOBODY)
+            os.setuid(NOBODY)
+
+        examples = root / "usr/share/doc/pc-sim/examples"
+        for command, given, wanted in EXAMPLES:
+            words = ["/usr/bin/pc-sim", command, f"/usr/share/doc/pc-sim/examples/{given}"]
+            ended = run(words, preexec_fn=enter, env={"PATH": "/usr/bin"})
+            self.assertEqual((ended.returncode, ended.stderr), (0, ""), given)
+            self.assertEqual(ended.stdout, (examples / wanted).read_text(), given)
+
+    def test_it_is_installed_and_removed_without_a_trace(self):
+        if os.geteuid() != 0:
+            self.skipTest("who is not root cannot install")
+        root = self.top / "installed"
+        for name in ("var/lib/dpkg/info", "var/lib/dpkg/updates"):
+            (root / name).mkdir(parents=True)
+        for name in ("status", "available"):
+            (root / "var/lib/dpkg" / name).touch()
+        before = self.files_of(root)
+        dpkg = ["dpkg", f"--root={root}", "--force-depends", "--force-script-chrootless", "--log=/dev/null"]
+        ended = run([*dpkg, "-i", str(self.package)])
+        self.assertEqual(ended.returncode, 0, ended.stderr)
+        self.assertTrue(os.access(root / "usr/bin/pc-sim", os.X_OK))
+        ended = run([*dpkg, "-r", "pc-sim"])
+        self.assertEqual(ended.returncode, 0, ended.stderr)
+        self.assertEqual(self.files_of(root), before)
+
+    def files_of(self, root: pathlib.Path) -> set[pathlib.Path]:
+        return {path for path in root.rglob("*") if "dpkg" not in path.parts}
+
+    def test_what_it_stands_on(self):
+        told = run(["dpkg-deb", "-f", str(self.package), "Depends"]).stdout
+        self.assertRegex(told, r"\Alibc6 \(>= 2\.\d+\)(, libgcc-s1)?\n\Z")
+
+    def test_lintian_is_content(self):
+        if shutil.which("lintian") is None:
+            self.skipTest("no lintian here")
+        ended = run(["lintian", "--allow-root", "--fail-on", "error,warning", str(self.package)])
+        self.assertEqual(ended.returncode, 0, ended.stdout + ended.stderr)
+
+    def test_the_archive_has_the_same_program_and_the_client(self):
+        place = self.top / "archive"
+        place.mkdir()
+        ended = run(["tar", "-xJf", str(self.archive), "-C", str(place)])
+        self.assertEqual(ended.returncode, 0, ended.stderr)
+        (top,) = place.iterdir()
+        self.assertEqual((top / "bin/pc-sim").read_bytes(), PROGRAM.read_bytes())
+        told = run([str(top / "bin/pc-sim"), "--version"], env={"PATH": ""})
+        self.assertEqual(told.stdout.split()[:2], ["pc-sim", top.name.split("-")[2]])
+        self.assertIn(b".TH PC-SIM", gzip.decompress((top / "share/man/man1/pc-sim.1.gz").read_bytes()))
+        helped = run([sys.executable, str(top / "bin/pc-sim-from-perf-sched"), "--help"])
+        self.assertEqual(helped.returncode, 0, helped.stderr)
+        words = [sys.executable, "-m", "pip", "install", "-q", "--no-index", "--target", str(self.top / "python")]
+        ended = run([*words, str(top / "share/pc-sim/clients/python")])
+        self.assertEqual(ended.returncode, 0, ended.stderr)
+
+    def test_a_program_of_another_version_is_refused(self):
+        other = self.top / "other"
+        other.write_text("#!/bin/sh\necho pc-sim 9.9.9\n")
+        other.chmod(0o755)
+        ended = pack(self.top / "none", other)
+        self.assertEqual((ended.returncode, ended.stdout), (1, ""))
+        self.assertIn("another version than 9.9.9", ended.stderr)
+        self.assertFalse((self.top / "none").exists())
+
+    def test_a_program_that_is_not_there_is_refused(self):
+        ended = pack(self.top / "none", self.top / "nowhere")
+        self.assertEqual(ended.returncode, 1)
+        self.assertEqual(len(ended.stderr.splitlines()), 1, ended.stderr)
+
+
+def main() -> int:
+    global PROGRAM
+    parser = argparse.ArgumentParser(description=__doc__, formatter_class=argparse.RawDescriptionHelpFormatter)
+    parser.add_argument("--program", default=PROGRAM, type=pathlib.Path)
+    args = parser.parse_args()
+    PROGRAM = args.program.resolve()
+    result = unittest.TextTestRunner(sys.stdout, verbosity=1).run(
+        unittest.defaultTestLoader.loadTestsFromModule(sys.modules[__name__]))
+    failed = len(result.failures) + len(result.errors)
+    print(f"{result.testsRun - failed} passed, {failed} failed")
+    return 1 if failed else 0
+
+
+if __name__ == "__main__":
+    sys.exit(main())
