@@ -1,0 +1,386 @@
+"""A load in virtual time, under one variant: due things are done in order, and all that happens is a command."""
+from __future__ import annotations
+
+import heapq
+from collections import Counter
+from dataclasses import dataclass, field
+from enum import IntEnum
+
+from lab_load import U32, Load, Plan, Variant
+from lab_model import BLOCKED, DEAD, READY, Model, rank
+
+
+class Due(IntEnum):
+    """What is due, in the order in which the things of a tick are done."""
+
+    STEP_ENDS = 1
+    WAKING = 2
+    CREATION = 3
+    TURN_BEGINS = 4
+    TURN_ENDS = 5
+    STEAL = 6
+    DELTA = 7
+
+
+@dataclass(frozen=True)
+class Said:
+    """A command, when it was given, and its answer."""
+
+    tick: int
+    line: str
+    reply: str
+
+
+@dataclass(frozen=True)
+class Wait:
+    """How long a thread was ready before it ran, and whether a waking or its creation had made it ready."""
+
+    ticks: int
+    level: int
+    is_woken: bool
+
+
+@dataclass
+class Life:
+    """A thread of the load, and how far it is."""
+
+    plan: Plan
+    steps: list[tuple[str, int]]
+    place: int = 0
+    blocks: int = 0
+    left: int = 0
+    ready_since: int | None = None
+    is_woken: bool = False
+
+
+@dataclass
+class Cpu:
+    """A CPU: who ran there last, how far its thread's run and its agent's turn are, and what its time went to."""
+
+    last: int | None = None
+    since: int = 0  # the ticks of who runs are counted up to then
+    ran: int = 0  # of who runs, since its commit
+    quantum: int = 0
+    step: int = 0  # which end of a step holds
+    turn: int = 0  # which turn holds
+    is_due: bool = False
+    in_turn: bool = False
+    aseq: int = 0
+    looked: int = 0  # at so many deltas
+    called_for: int | None = None
+    counted: int = 0  # its time is counted up to then
+    time: Counter[str] = field(default_factory=Counter)
+
+
+PHASES = {"block": BLOCKED, "die": DEAD}
+
+
+def joined(steps: list[tuple[str, int]], keep: bool) -> list[tuple[str, int]]:
+    """The steps that are a thread's own doing: the ticks of a recorded preempt go to the step behind it."""
+    result: list[tuple[str, int]] = []
+    more = 0
+    for place, (word, ticks) in enumerate(steps):
+        if word == "preempt" and not keep and more + ticks + steps[place + 1][1] <= U32:
+            more += ticks
+        else:
+            result.append((word, ticks + more))
+            more = 0
+    return result
+
+
+class NumbersSpent(Exception):
+    """A thread has as many messages as it may have."""
+
+
+class Run:
+    """A load under a variant. `run` does it all."""
+
+    def __init__(self, load: Load, variant: Variant) -> None:
+        self.load, self.variant = load, variant
+        self.model = Model(load.cpus, variant.order, variant.steals == "exact")
+        self.lives = [Life(plan, joined(plan.steps, variant.keep)) for plan in load.plans]
+        self.cpus = [Cpu() for _ in range(load.cpus)]
+        self.due: list[tuple[int, Due, int, int]] = []
+        self.deltas: list[tuple[int, int]] = []  # when each can be taken in, and who sent it
+        self.refused_at: dict[int, set[int]] = {}  # by thread: whose steals of it were refused as late
+        self.held_back: dict[int, list[int]] = {}  # by sender: deltas whose reports wait until it sleeps
+        self.said: list[Said] = []
+        self.waits: list[Wait] = []
+        self.counts: Counter[str] = Counter()
+        self.refused: Counter[str] = Counter()
+        self.tick = 0
+        self.alive = len(self.lives)
+        self.end = "done"
+        self.steals_are_on = variant.group > 1 and load.cpus > 1
+
+    # Commands
+
+    def say(self, line: str, reply: str) -> str:
+        self.said.append(Said(self.tick, line, reply))
+        words = reply.split()
+        if words[0] == "refused":
+            self.refused[f"{line.split()[0]} {words[1]}"] += 1
+        return reply
+
+    def post(self, line: str, reply: str) -> None:
+        self.say(line, reply)
+        if reply == "refused NumbersSpent":
+            raise NumbersSpent
+        self.counts["messages"] += 1
+        woken = reply.split()[-1]
+        if woken != "-":
+            self.begin_turn(int(woken))
+
+    def put(self, tick: int, what: Due, number: int, token: int = 0) -> None:
+        heapq.heappush(self.due, (tick, what, number, token))
+
+    def begin_turn(self, cpu: int) -> None:
+        """A turn is due at once; what is left of the old one is left out."""
+        it = self.cpus[cpu]
+        it.turn += 1
+        it.is_due = True
+        self.put(self.tick, Due.TURN_BEGINS, cpu, it.turn)
+
+    # Time
+
+    def count_time(self, now: int) -> None:
+        for cpu, it in enumerate(self.cpus):
+            span = now - it.counted
+            it.counted = now
+            if span and it.in_turn:
+                it.time["in turns"] += span
+            elif span and self.model.running[cpu] is not None:
+                it.time["ran"] += span
+            elif span:
+                it.time["idle"] += span
+                if any(life.ready_since is not None and life.plan.mask >> cpu & 1 for life in self.lives):
+                    it.time["idle while one waits"] += span
+
+    def settle(self, cpu: int) -> None:
+        """Counts what who runs there has run."""
+        it, name = self.cpus[cpu], self.model.running[cpu]
+        if name is not None and not it.in_turn:
+            ticks = self.tick - it.since
+            it.ran += ticks
+            it.quantum -= ticks
+            self.lives[name].left -= ticks
+        it.since = self.tick
+
+    def plan_end(self, cpu: int) -> None:
+        """The step or the quantum of who runs there is due to end."""
+        it, name = self.cpus[cpu], self.model.running[cpu]
+        it.step += 1
+        if name is not None:
+            left = self.lives[name].left
+            sooner = self.variant.quantum and it.quantum < left
+            self.put(self.tick + (it.quantum if sooner else left), Due.STEP_ENDS, cpu, it.step)
+
+    # Who runs
+
+    def make_ready(self, name: int, is_woken: bool) -> None:
+        self.lives[name].ready_since, self.lives[name].is_woken = self.tick, is_woken
+
+    def pick(self, cpu: int) -> str:
+        it = self.cpus[cpu]
+        reply = self.say(f"pick {cpu} {it.aseq}", self.model.pick(cpu, it.aseq))
+        name = self.model.running[cpu]
+        if name is not None:
+            life = self.lives[name]
+            assert life.ready_since is not None
+            self.waits.append(Wait(self.tick - life.ready_since, life.plan.level, life.is_woken))
+            life.ready_since = None
+            self.counts["commits"] += 1
+            self.counts["switches"] += it.last != name
+            it.last, it.ran, it.since, it.quantum = name, 0, self.tick, self.variant.quantum
+            self.plan_end(cpu)
+        return reply
+
+    def preempt(self, cpu: int, only_before: bool) -> bool:
+        """Preempts who runs there, unless it stands before the first that could run; or only where that one does."""
+        first, name = self.model.first(cpu), self.model.running[cpu]
+        if first is None or name is None:
+            return False
+        order, ran = self.variant.order, self.cpus[cpu].ran
+        its, others = rank(order, self.model.threads[name].now, ran), rank(order, self.model.threads[first].now)
+        if not others < its and (only_before or its < others):
+            return False
+        self.counts["preempts"] += 1
+        self.make_ready(name, False)
+        self.cpus[cpu].step += 1
+        self.post(f"preempt {cpu} {ran}", self.model.leave(cpu, ran, READY))
+        return True
+
+    # What is due
+
+    def step_ends(self, cpu: int) -> None:
+        self.settle(cpu)
+        it, name = self.cpus[cpu], self.model.running[cpu]
+        assert name is not None
+        life = self.lives[name]
+        if life.left:
+            if not self.preempt(cpu, False):
+                it.quantum = self.variant.quantum
+                self.plan_end(cpu)
+            return
+        word = life.steps[life.place][0]
+        life.place += 1
+        phase = PHASES.get(word, READY)
+        if phase == READY:
+            self.make_ready(name, False)
+        if phase == DEAD:
+            self.alive -= 1
+        else:
+            life.left = life.steps[life.place][1]
+        self.post(f"{word} {cpu} {it.ran}", self.model.leave(cpu, it.ran, phase))
+        if phase == BLOCKED:
+            sleeps = life.plan.sleeps
+            self.put(self.tick + (sleeps[life.blocks] if life.blocks < len(sleeps) else 0), Due.WAKING, name)
+            life.blocks += 1
+
+    def waking(self, name: int) -> None:
+        self.make_ready(name, True)
+        self.post(f"wake t{name}", self.model.wake(name))
+
+    def creation(self, name: int) -> None:
+        life, plan = self.lives[name], self.lives[name].plan
+        life.left = life.steps[0][1]
+        self.make_ready(name, True)
+        self.post(f"create {plan.queue} {plan.mask} ready", self.model.create(plan.queue, plan.mask))
+        if plan.level:
+            self.post(f"priority t{name} {plan.level}", self.model.level(name, plan.level))
+
+    def turn_begins(self, cpu: int) -> None:
+        it, model = self.cpus[cpu], self.model
+        self.settle(cpu)
+        it.is_due, it.in_turn = False, True
+        if model.agents[cpu].is_asleep:
+            self.say(f"rouse {cpu}", model.rouse(cpu))
+        if model.queues[cpu]:
+            self.say(f"publish {cpu}", model.publish(cpu))
+            self.say(f"consume {cpu}", model.consume(cpu))
+            self.counts["deltas"] += 1
+            self.deltas.append((self.tick + self.variant.delay, cpu))
+            if self.steals_are_on:
+                self.put(self.tick + self.variant.delay, Due.DELTA, len(self.deltas) - 1)
+        it.aseq = model.posts[cpu]
+        it.step += 1
+        self.put(self.tick + self.variant.cost, Due.TURN_ENDS, cpu, it.turn)
+
+    def turn_ends(self, cpu: int) -> None:
+        it = self.cpus[cpu]
+        it.in_turn, it.since = False, self.tick
+        if self.model.running[cpu] is not None:
+            if self.variant.urgent and self.preempt(cpu, True):
+                return self.begin_turn(cpu)
+            self.plan_end(cpu)
+            return self.sleep(cpu)
+        reply = self.pick(cpu)
+        if reply.startswith("refused Stale"):
+            return self.begin_turn(cpu)
+        if reply == "refused NothingReady" and self.steals_are_on:
+            return self.put(self.tick, Due.STEAL, cpu, it.turn)
+        return self.sleep(cpu)
+
+    def sleep(self, cpu: int) -> None:
+        it = self.cpus[cpu]
+        it.called_for = None
+        if self.say(f"sleep {cpu} {it.aseq}", self.model.sleep(cpu, it.aseq)) != "ok":
+            self.begin_turn(cpu)
+        for delta in self.held_back.pop(cpu, []):
+            self.call_for(delta)
+
+    def are_kin(self, cpu: int, other: int) -> bool:
+        return cpu // self.variant.group == other // self.variant.group
+
+    def hear(self, cpu: int) -> None:
+        """The agent takes in what of its group can be taken in now, and has a thread that may run there."""
+        it = self.cpus[cpu]
+        while it.looked < len(self.deltas) and self.deltas[it.looked][0] <= self.tick:
+            delta, sender = it.looked, self.deltas[it.looked][1]
+            it.looked += 1
+            able = any(self.model.threads[name].may_run_on(cpu) for name, _ in self.model.sent[delta])
+            if sender != cpu and self.are_kin(cpu, sender) and able:
+                self.say(f"deliver {cpu} {delta}", self.model.deliver(cpu, delta))
+                self.counts["delivers"] += 1
+
+    def steal(self, cpu: int) -> None:
+        self.hear(cpu)
+        it, target = self.cpus[cpu], self.model.target(cpu)
+        words = self.say(f"steal {cpu}", self.model.steal(cpu)).split()
+        called_for, it.called_for = it.called_for, None
+        if words[0] == "ok":
+            self.counts["steals"] += 1
+            self.pick(cpu)
+            if called_for is not None and called_for != target:
+                self.call(called_for)
+        elif words[1] in ("Dead", "Stale") and target is not None:
+            self.refused_at.setdefault(target, set()).add(cpu)
+        self.sleep(cpu)
+
+    # Calls
+
+    def sleeps_idle(self, cpu: int) -> bool:
+        return self.model.agents[cpu].is_asleep and self.model.running[cpu] is None and not self.cpus[cpu].is_due
+
+    def call(self, name: int) -> None:
+        """Of the agents that sleep on idle CPUs, calls the first above the thread's home for it, or the lowest."""
+        thread = self.model.threads[name]
+        if thread.now.phase != READY or thread.cpu is not None:
+            return
+        able = [cpu for cpu in range(len(self.cpus))
+                if thread.may_run_on(cpu) and self.are_kin(cpu, thread.home) and self.sleeps_idle(cpu)]
+        if able:
+            cpu = next((cpu for cpu in able if cpu > thread.home), able[0])
+            self.cpus[cpu].called_for = name
+            self.begin_turn(cpu)
+
+    def call_for(self, delta: int) -> None:
+        for name, number in self.model.sent[delta]:
+            if number == self.model.threads[name].number:
+                self.call(name)
+
+    def delta(self, delta: int) -> None:
+        sender = self.deltas[delta][1]
+        if self.cpus[sender].in_turn and self.model.running[sender] is None:
+            self.held_back.setdefault(sender, []).append(delta)
+        else:
+            self.call_for(delta)
+        for name in dict.fromkeys(name for name, _ in self.model.sent[delta]):
+            for cpu in sorted(self.refused_at.pop(name, ())):
+                if self.sleeps_idle(cpu):
+                    self.begin_turn(cpu)
+
+    # All of it
+
+    def holds(self, what: Due, number: int, token: int) -> bool:
+        if what is Due.STEP_ENDS:
+            return token == self.cpus[number].step
+        return what not in (Due.TURN_BEGINS, Due.TURN_ENDS, Due.STEAL) or token == self.cpus[number].turn
+
+    def run(self) -> Run:
+        for cpu in range(len(self.cpus)):
+            self.say(f"sleep {cpu} 0", self.model.sleep(cpu, 0))
+        for name, life in enumerate(self.lives):
+            self.put(life.plan.start, Due.CREATION, name)
+        does = {
+            Due.STEP_ENDS: self.step_ends, Due.WAKING: self.waking, Due.CREATION: self.creation,
+            Due.TURN_BEGINS: self.turn_begins, Due.TURN_ENDS: self.turn_ends, Due.STEAL: self.steal,
+            Due.DELTA: self.delta,
+        }
+        try:
+            while self.alive:
+                tick, what, number, token = heapq.heappop(self.due)
+                if not self.holds(what, number, token):
+                    continue
+                self.end = "done" if tick < self.load.until else "until"
+                self.tick = min(tick, self.load.until)
+                self.count_time(self.tick)
+                if self.end == "until":
+                    break
+                does[what](number)
+        except NumbersSpent:
+            self.end = "NumbersSpent"
+        for life in self.lives:
+            if life.ready_since is not None:
+                self.waits.append(Wait(self.tick - life.ready_since, life.plan.level, life.is_woken))
+        return self
