@@ -4,6 +4,7 @@ from __future__ import annotations
 from collections import Counter
 from dataclasses import dataclass, field
 
+from perf_load import Timed
 from perf_text import plain
 
 # The limits of a script, and of settings (docs/FORMATS.md)
@@ -44,16 +45,26 @@ class Cpu:
 class Model:
     """Writes commands, and knows which of them the model will refuse."""
 
-    def __init__(self, cpus: int):
+    def __init__(self, cpus: int, tells_times: bool = False):
         self.cpus = [Cpu() for _ in range(cpus)]
         self.mask = (1 << cpus) - 1
         self.threads = 0
         self.lines: list[str] = []
         self.length = 0
+        self.tick = 0  # of what is written next, in microseconds since the first event
+        self.tells_times = tells_times
+        self.told_tick = -1
+        self.timed = Timed(cpus)
         self.asked: Counter[str] = Counter()  # by command
         self.refused: Counter[tuple[str, str]] = Counter()  # by command and refusal
 
     def write(self, line: str) -> None:
+        if self.tells_times and self.tick != self.told_tick:
+            self.told_tick = self.tick
+            self.add(f"# at {self.tick}")
+        self.add(line)
+
+    def add(self, line: str) -> None:
         self.lines.append(line)
         self.length += len(line) + 1
 
@@ -84,6 +95,7 @@ class Model:
         self.comment(f"t{thread.name} is {comm}, {pid}")
         self.ask("create", f"create {queue} {self.mask} {phase}")
         self.post(queue, thread)
+        self.timed.created(thread.name, comm, queue, phase == READY, self.tick)
         return thread
 
     def wake(self, thread: Thread) -> None:
@@ -91,6 +103,7 @@ class Model:
         self.make_room(thread.home)
         self.ask("wake", f"wake t{thread.name}")
         thread.phase = READY
+        self.timed.woke(thread.name, self.tick)
         self.message(thread)
 
     def message(self, thread: Thread) -> None:
@@ -106,6 +119,7 @@ class Model:
         thread.phase = {"block": BLOCKED, "die": DEAD}.get(word, READY)
         thread.cpu = -1
         self.cpus[cpu].thread = None
+        self.timed.left(thread.name, word, ticks, self.tick)
         self.message(thread)
 
     def look(self, cpu: int) -> None:
@@ -138,6 +152,7 @@ class Model:
         if self.ask("commit", f"commit {cpu} t{thread.name} {self.cpus[cpu].posts}", refusal):
             thread.cpu = cpu
             self.cpus[cpu].thread = thread
+            self.timed.came(thread.name, self.tick)
         return refusal
 
     def text(self) -> str:
