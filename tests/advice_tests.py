@@ -76,6 +76,9 @@ class Told:
         """The lines of the script up to the refused one, with it."""
         return self.script.splitlines()[:self.number]
 
+    def has_policy(self) -> bool:
+        return "\npolicy " in self.script
+
     def acted(self) -> list[str] | None:
         """The lines that the steps come to; none where they are too many."""
         if any(times > MOST_TIMES for _, times in self.steps):
@@ -248,7 +251,10 @@ class Advice(unittest.TestCase):
 
     def forms_are_common(self, told: list[Told]) -> None:
         forms, sorts = Counter(it.form for it in told), Counter(it.sort for it in told)
-        self.assertLess(forms["unsought"] * 50, len(told), forms)
+        for has_policy, most in ((False, 80), (True, 100)):
+            some = [it for it in told if it.has_policy() == has_policy]
+            unsought = sum(it.form == "unsought" for it in some)
+            self.assertLess(unsought * most, len(some), f"unsought, with a policy: {has_policy}")
         self.assertLess(forms["no agent"] * 10, len(told), forms)
         for form in ("agents", "environment", "no agent", "never"):
             self.assertGreater(forms[form], 20, forms)

@@ -103,7 +103,7 @@ class Story:
             self.refused += 1
         elif words[0] == "policy":
             self.policy = ", " + " ".join(words)
-        elif words[0] in ("commit", "pick"):
+        elif words[0] in ("commit", "pick", "mend"):
             thread, cpu = re.fullmatch(r"ok t(\d+) c(\d+)", answer).groups()
             self.on[int(cpu)] = (int(thread), number)
         elif words[0] in LEAVE:
@@ -218,7 +218,9 @@ class Watched:
         """Counts the items of queues, and keeps the homes of threads, by an answer."""
         posted = re.fullmatch(r"ok (?:t(\d+) n\d+|-) q(\d+) a\d+ wake .*", answer)
         moved = re.fullmatch(r"ok t(\d+) q(\d+)", answer)
-        if posted:
+        if words[0] == "mend":
+            self.mend(answer)
+        elif posted:
             self.items[int(posted[2])] += 1
             if words[0] == "create":
                 self.homes[int(posted[1])] = int(posted[2])
@@ -226,6 +228,14 @@ class Watched:
             self.homes[int(moved[1])] = int(moved[2])
         elif words[0] == "consume" and answer.startswith("ok "):
             self.items[int(words[1])] -= int(answer.split()[1])
+
+    def mend(self, answer: str) -> None:
+        """Every queue is cleared, and the home of a thread that runs then is its CPU's queue."""
+        committed = re.fullmatch(r"ok t(\d+) c(\d+)", answer)
+        if committed or answer == "refused NothingReady":
+            self.items = [0] * self.cpus
+        if committed:
+            self.homes[int(committed[1])] = int(committed[2])
 
     def shown(self, statuses: list[str], asleep: list[str]) -> dict[str, list[int | None]]:
         """What each row shows at each CPU, by the answers to the questions: none where there is nothing to show."""

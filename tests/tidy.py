@@ -17,14 +17,16 @@ NUMBERED = re.compile(
 SOURCES = {".rt", ".antt", ".edit", ".md", ".txt", ".py", ".sh", ".script", ".output", ".toml", ""}
 # A comment, a string, or a character.
 STRING = re.compile(r"//[^\n]*|b?r(#*)\".*?\"\1|b?\"(?:[^\"\\]|\\.)*\"|b?'(?:[^'\\\n]|\\[^'\n]*.)'", re.S)
+# Folders of what is made.
+UNTRACKED = {".git", ".mypy_cache", ".trees", "__pycache__", "dist", "out"}
 # What a tool looks for by itself, and so nobody has to name.
-FOUND_BY_NAME = re.compile(r"^(?:tests/cases/|README\.md$)")
+FOUND_BY_NAME = re.compile(r"^(?:tests/(?:cases|lab)/|README\.md$)")
 
 
 def all_files(root):
     """The files of the repository, without what is built."""
     for path in sorted(root.rglob("*")):
-        if path.is_file() and not {".git", "out", "__pycache__"} & set(path.relative_to(root).parts):
+        if path.is_file() and not UNTRACKED & set(path.relative_to(root).parts):
             yield path
 
 

@@ -21,6 +21,8 @@ mod policies;
 #[cfg(test)]
 mod queue;
 #[cfg(test)]
+mod refreshes;
+#[cfg(test)]
 mod run_queue;
 #[cfg(test)]
 mod script;

@@ -10,7 +10,7 @@ use std::alloc::{AllocError, Global};
 
 /// A policy.
 #[derive(Clone, Copy)]
-enum Which {
+pub enum Which {
     Levels,
     Fifo,
     LeastRan,
@@ -49,7 +49,7 @@ static RANKS: [(u32, u64); 9] = [
 ];
 
 // Without contracts, as the functions below, so that a test's proof does not carry those of views and run lists.
-fn tell(view: &mut View, thread: u32, number: u32, kind: Kind) -> bool {
+pub fn tell(view: &mut View, thread: u32, number: u32, kind: Kind) -> bool {
     let message = Message {
         thread: Tid(thread),
         number,
@@ -61,21 +61,21 @@ fn tell(view: &mut View, thread: u32, number: u32, kind: Kind) -> bool {
     view.insert(message) == Ok(())
 }
 
-fn create(view: &mut View, thread: u32) -> bool {
+pub fn create(view: &mut View, thread: u32) -> bool {
     match Mask::new(3, 2) {
         Ok(mask) => tell(view, thread, 1, Kind::Created { ready: true, mask }),
         Err(_) => false,
     }
 }
 
-fn raise(view: &mut View, thread: u32, level: u8) -> bool {
+pub fn raise(view: &mut View, thread: u32, level: u8) -> bool {
     match Level::new(level) {
         Ok(level) => tell(view, thread, 2, Kind::Priority { level }),
         Err(_) => false,
     }
 }
 
-fn leave(view: &mut View, thread: u32, ran: u32, ready: bool) -> bool {
+pub fn leave(view: &mut View, thread: u32, ran: u32, ready: bool) -> bool {
     let kind = if ready {
         Kind::Preempted { ran }
     } else {
@@ -105,7 +105,7 @@ fn table(alloc: Global) -> Result<Order, AllocError> {
     Ok(Order::Table(rows))
 }
 
-fn policy_of(alloc: Global, which: Which) -> Result<Order, AllocError> {
+pub fn policy_of(alloc: Global, which: Which) -> Result<Order, AllocError> {
     Ok(match which {
         Which::Levels => Order::Levels,
         Which::Fifo => Order::Fifo,

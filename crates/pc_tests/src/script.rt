@@ -3,9 +3,11 @@
 mod commands;
 mod ends;
 mod faults;
+mod mends;
 mod policies;
 mod reading;
 mod responses;
+mod sessions;
 mod texts;
 mod troubles;
 mod waiting;
@@ -124,6 +126,18 @@ fn happened(event: Event) -> Reply {
     }
 }
 
+/// What is replied where a CPU is to be mended: on CPU 0 a thread runs already.
+fn mended(cpu: Cpu) -> Reply {
+    if cpu.index() == 0 {
+        Reply::Refused(Refusal::Busy)
+    } else {
+        Reply::Committed {
+            thread: Tid(0),
+            cpu,
+        }
+    }
+}
+
 /// Whether an agent sleeps; of one CPU no memory is found to tell it.
 fn sleeps(cpu: Cpu) -> Result<Response, AllocError> {
     if cpu.index() == 63 {
@@ -169,6 +183,7 @@ impl Machine for Echo {
             Command::Event(event) => Response::Event(happened(event)),
             Command::Read(question) => told(self.alloc, question)?,
             Command::Policy(policy) => Response::Ruled(policy),
+            Command::Mend { cpu } => Response::Event(mended(cpu)),
         };
         Ok(())
     }

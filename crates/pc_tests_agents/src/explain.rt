@@ -1,8 +1,10 @@
 //! Tests: scripts with what is told of them.
 
+mod mends;
 mod policies;
 mod rows;
 
+use mends::MENDS;
 use pc_explain::explain_script;
 use pc_script::{Outcome, ScriptFault, lines_of, run_script};
 use pc_session::Session;
@@ -64,6 +66,11 @@ fn refusals_are_told(rt: HostRuntime) {
 fn policies_are_told(rt: HostRuntime) {
     each_is_told(&rt, rt.alloc(), POLICIES.as_slice());
     each_is_told(&rt, rt.alloc(), POLICY_FAULTS.as_slice());
+}
+
+#[test]
+fn mends_are_told(rt: HostRuntime) {
+    each_is_told(&rt, rt.alloc(), MENDS.as_slice());
 }
 
 #[test]

@@ -1,6 +1,7 @@
 //! Tests: events with the replies that were written down by hand.
 
 mod disturbed;
+mod mends;
 mod policies;
 
 use pc_calls::{AgentCall, EnvCall, LimitField, Limits, LimitsFault, Posted, Profile, Refusal};

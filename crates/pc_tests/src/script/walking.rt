@@ -60,12 +60,12 @@ struct Notes {
 fn add_line(
     text: &mut Vec<u8>,
     word: &[u8],
-    number: u32,
+    number: u64,
     count: u32,
     rest: &[u8],
 ) -> Result<(), AllocError> {
     text.extend_from_slice(word)?;
-    for value in [number, count] {
+    for value in [number, count as u64] {
         text.push(b' ')?;
         text.push(digit(value))?;
     }
@@ -76,7 +76,7 @@ fn add_line(
 }
 
 /// The digit of a number below 10.
-fn digit(value: u32) -> u8 {
+fn digit(value: u64) -> u8 {
     match u8::try_from(value) {
         Ok(small) if small < 10 => b'0' + small,
         _ => b'?',
@@ -136,6 +136,8 @@ impl<W: Write> Observer<Counting, W> for Notes {
 
     ghost MayFail = { λ _. true ≡ true };
 
+    ghost HoldsNothing = { λ _. true ≡ true };
+
     fn version_named(
         &mut self,
         line: Line<'_>,
@@ -173,9 +175,19 @@ impl<W: Write> Observer<Counting, W> for Notes {
         self.note(b"fault", line, 0)
     }
 
+    fn passed_over(&mut self, number: u64, writer: &mut W) -> Result<(), ScriptFault> {
+        self.note(b"long", Line { number, text: b"" }, 0)
+    }
+
+    fn settle(&mut self, writer: &mut W) -> Result<(), ScriptFault> {
+        Ok(())
+    }
+
     ghost tells_nothing = { λ _ _. refl };
 
     ghost tells_more = { λ _ _ _ _ _ _ _ _ _ _. refl };
+
+    ghost tells_kept = { λ _ _ _ _ _ _ _ _. refl };
 }
 
 // Without contracts, as the functions below, so that a test's proof does not carry those of scripts.

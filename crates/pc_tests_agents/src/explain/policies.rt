@@ -26,7 +26,7 @@ pick 1 0
 ",
         b"# 1: version 3
 ok
-#    The script is of version 3: an enclave may have up to 65535 threads, and each 16000000 messages, and its agents may be given a policy.
+#    The script is of version 3: an enclave may have up to 65535 threads, and each 16000000 messages, its agents may be given a policy, and a CPU may be mended.
 # 2: policy levels
 refused NoEnclave
 #    Refused: no enclave was accepted yet; its line comes before every other command.
@@ -99,7 +99,7 @@ pick 0 1
 ",
         b"# 1: version 3
 ok
-#    The script is of version 3: an enclave may have up to 65535 threads, and each 16000000 messages, and its agents may be given a policy.
+#    The script is of version 3: an enclave may have up to 65535 threads, and each 16000000 messages, its agents may be given a policy, and a CPU may be mended.
 # 2: enclave 2 8 100 16 1000
 ok
 #    The kernel starts: 2 CPUs, each with a queue and an agent; at most 8 threads, 100 messages of each, 16 items in a queue, 1000 posts to one.
@@ -132,7 +132,7 @@ pick 0 1
 ",
         b"# 1: version 3
 ok
-#    The script is of version 3: an enclave may have up to 65535 threads, and each 16000000 messages, and its agents may be given a policy.
+#    The script is of version 3: an enclave may have up to 65535 threads, and each 16000000 messages, its agents may be given a policy, and a CPU may be mended.
 # 2: enclave 2 8 100 16 1000
 ok
 #    The kernel starts: 2 CPUs, each with a queue and an agent; at most 8 threads, 100 messages of each, 16 items in a queue, 1000 posts to one.
@@ -164,7 +164,7 @@ pick 0 1
 ",
         b"# 1: version 3
 ok
-#    The script is of version 3: an enclave may have up to 65535 threads, and each 16000000 messages, and its agents may be given a policy.
+#    The script is of version 3: an enclave may have up to 65535 threads, and each 16000000 messages, its agents may be given a policy, and a CPU may be mended.
 # 2: enclave 2 8 100 16 1000
 ok
 #    The kernel starts: 2 CPUs, each with a queue and an agent; at most 8 threads, 100 messages of each, 16 items in a queue, 1000 posts to one.
@@ -197,7 +197,7 @@ pick 0 1
 ",
         b"# 1: version 3
 ok
-#    The script is of version 3: an enclave may have up to 65535 threads, and each 16000000 messages, and its agents may be given a policy.
+#    The script is of version 3: an enclave may have up to 65535 threads, and each 16000000 messages, its agents may be given a policy, and a CPU may be mended.
 # 2: enclave 2 8 100 16 1000
 ok
 #    The kernel starts: 2 CPUs, each with a queue and an agent; at most 8 threads, 100 messages of each, 16 items in a queue, 1000 posts to one.
@@ -230,7 +230,7 @@ policy
 ",
         b"# 1: version 3
 ok
-#    The script is of version 3: an enclave may have up to 65535 threads, and each 16000000 messages, and its agents may be given a policy.
+#    The script is of version 3: an enclave may have up to 65535 threads, and each 16000000 messages, its agents may be given a policy, and a CPU may be mended.
 # 2: policy
 fault line 2
 #    Word 2 is missing: levels, fifo, least-ran or levels-then-least-ran was wanted.
@@ -244,7 +244,7 @@ policy lifo
 ",
         b"# 1: version 3
 ok
-#    The script is of version 3: an enclave may have up to 65535 threads, and each 16000000 messages, and its agents may be given a policy.
+#    The script is of version 3: an enclave may have up to 65535 threads, and each 16000000 messages, its agents may be given a policy, and a CPU may be mended.
 # 2: policy lifo
 fault line 2
 #    Word 2, `lifo`: levels, fifo, least-ran or levels-then-least-ran was wanted.
@@ -258,7 +258,7 @@ policy fifo exactly
 ",
         b"# 1: version 3
 ok
-#    The script is of version 3: an enclave may have up to 65535 threads, and each 16000000 messages, and its agents may be given a policy.
+#    The script is of version 3: an enclave may have up to 65535 threads, and each 16000000 messages, its agents may be given a policy, and a CPU may be mended.
 # 2: policy fifo exactly
 fault line 2
 #    Word 3, `exactly`: exact or nothing was wanted.
@@ -272,7 +272,7 @@ policy fifo exact x
 ",
         b"# 1: version 3
 ok
-#    The script is of version 3: an enclave may have up to 65535 threads, and each 16000000 messages, and its agents may be given a policy.
+#    The script is of version 3: an enclave may have up to 65535 threads, and each 16000000 messages, its agents may be given a policy, and a CPU may be mended.
 # 2: policy fifo exact x
 fault line 2
 #    Word 4, `x`, is one too many.
@@ -286,7 +286,7 @@ version 3
 ",
         b"# 1: version 3
 ok
-#    The script is of version 3: an enclave may have up to 65535 threads, and each 16000000 messages, and its agents may be given a policy.
+#    The script is of version 3: an enclave may have up to 65535 threads, and each 16000000 messages, its agents may be given a policy, and a CPU may be mended.
 # 2: version 3
 fault line 2
 #    Word 1, `version`: a command was wanted, since only the first line that is not silent may be `version 2` or `version 3`.

@@ -1,10 +1,11 @@
-//! The events of worked scripts, disturbed: a crash after any of them, a send that is refused. Nothing is lost.
+//! The events of worked scripts, disturbed: a crash after any of them, a send that is refused. Nothing is lost, and
+//! once each CPU was mended none idles while a thread waits for it.
 
 use super::{crash, publish_in_vain};
 use pc_calls::Limits;
 use pc_delta::{Delta, take_in};
 use pc_kernel::Kernel;
-use pc_messages::{Cpu, Tid};
+use pc_messages::{Cpu, Phase, Tid};
 use pc_script::{Command, Version, Wish, asked};
 use pc_view::{View, audit, complete};
 use pc_world::{Event, World};
@@ -17,7 +18,7 @@ fn add_line(line: &[u8], limits: &mut Option<Limits>, events: &mut Vec<Event>) -
         Wish::Answer(Command::Enclave(all)) => *limits = Some(all),
         Wish::Answer(Command::Event(event)) => return events.push(event).is_ok(),
         Wish::Answer(Command::Read(_)) | Wish::Nothing => {}
-        Wish::Answer(Command::Policy(_)) | Wish::Stop => return false,
+        Wish::Answer(Command::Policy(_) | Command::Mend { .. }) | Wish::Stop => return false,
     }
     true
 }
@@ -135,10 +136,57 @@ fn replies_to(world: &mut World, events: &[Event]) -> bool {
     }
 }
 
-/// Whether a new world stays whole by these events.
+/// Whether each CPU was mended, or was refused.
+fn mends(world: &mut World) -> bool {
+    for cpu in 0..world.kernel().cpus() {
+        if world.mend(Cpu(cpu)).is_err() {
+            return false;
+        }
+    }
+    true
+}
+
+/// Whether the thread is ready, may run on the CPU, and runs nowhere.
+fn waits_for(kernel: &Kernel, cpu: Cpu, thread: Tid) -> bool {
+    match (kernel.reported(thread), kernel.status(thread)) {
+        (Some(reported), Some(status)) => reported.phase == Phase::Ready
+            && reported.mask.allows(cpu)
+            && status.running_on.is_none(),
+        _ => false,
+    }
+}
+
+/// Whether the CPU idles while a thread waits for it.
+fn idles(kernel: &Kernel, cpu: Cpu) -> bool {
+    if kernel.running(cpu).is_some() {
+        return false;
+    }
+    for thread in 0..kernel.threads() {
+        if waits_for(kernel, cpu, Tid(thread)) {
+            return true;
+        }
+    }
+    false
+}
+
+/// Whether no CPU idles while a thread waits for it.
+fn none_idles(kernel: &Kernel) -> bool {
+    for cpu in 0..kernel.cpus() {
+        if idles(kernel, Cpu(cpu)) {
+            return false;
+        }
+    }
+    true
+}
+
+/// Whether a new world stays whole by these events, and is mended then.
 fn stays_whole(alloc: Global, limits: Limits, events: &[Event]) -> bool {
     match World::new(alloc, limits) {
-        Ok(mut world) => replies_to(&mut world, events) && is_whole(alloc, &world),
+        Ok(mut world) => replies_to(&mut world, events)
+            && is_whole(alloc, &world)
+            && mends(&mut world)
+            && none_idles(world.kernel())
+            && is_whole(alloc, &world),
         Err(_) => false,
     }
 }
