@@ -10,6 +10,7 @@ from __future__ import annotations
 
 import argparse
 import doctest
+import inspect
 import io
 import os
 import pathlib
@@ -148,6 +149,39 @@ class Answers(unittest.TestCase):
             self.refused(world, commands.deliver(1, 9), nimhessian.NoDelta)
             self.refused(world, commands.create(0, 1), nimhessian.NamesSpent)
 
+    def test_further_refusals(self):
+        with World(cpus=2, threads=3, numbers=3, room=4, posts=5) as world:
+            world.create(0, 1)
+            world.create(0, 3, blocked=True)
+            self.refused(world, commands.create(0, 4), nimhessian.MaskTooWide)
+            self.refused(world, commands.wake(9), nimhessian.UnknownThread)
+            self.refused(world, commands.block(0, 1), nimhessian.IdleCpu)
+            self.refused(world, commands.priority(0, 8), nimhessian.BadLevel)
+            self.refused(world, commands.commit(0, 1, 2), nimhessian.NotReady)
+            self.refused(world, commands.steal(1), nimhessian.NothingToSteal)
+            self.refused(world, commands.pick(1, 0), nimhessian.NothingReady)
+            self.refused(world, commands.mend(2), BadCpu)
+            world.commit(0, 0, 2)
+            self.refused(world, commands.mend(0), Busy)
+            self.refused(world, commands.affinity(0, 2), nimhessian.OnForbiddenCpu)
+            self.refused(world, commands.mend(1), nimhessian.NothingReady)
+            world.wake(1)
+            self.assertEqual(world.mend(1), Placed(1, 1))
+            world.priority(1, 2)
+            self.refused(world, commands.priority(1, 3), nimhessian.NumbersSpent)
+            self.refused(world, commands.policy("fifo"), TooLate)
+        with World(cpus=2, room=1) as world:
+            world.create(0, 1)
+            self.refused(world, commands.tick(0), nimhessian.QueueFull)
+            world.publish(0)
+            world.consume(0)
+            self.assertEqual(world.associate(0, 1, 1), Placed(0, 1))
+            self.refused(world, commands.commit(1, 0, 0), nimhessian.Forbidden)
+            self.refused(world, commands.Command("enclave 1 1 1 1 1", len), nimhessian.HaveEnclave)
+        with World(cpus=1, posts=1) as world:
+            world.tick(0)
+            self.refused(world, commands.tick(0), nimhessian.PostsSpent)
+
     def test_limits_that_are_out_of_range(self):
         with self.assertRaises(BadLimits) as raised:
             World(cpus=1, room=0)
@@ -198,6 +232,32 @@ class Batches(unittest.TestCase):
                 shown = [batch.show(0) for _ in range(40)]
             self.assertEqual({len(answer.get()) for answer in shown}, {4096})
 
+    def test_a_batch_that_is_entered_again_sends_what_is_new(self):
+        with World(cpus=1) as world:
+            batch = world.batch()
+            with batch:
+                first = batch.create(0, 1)
+            with batch:
+                second = batch.tick(0)
+            self.assertEqual((first.get().aseq, second.get().aseq), (1, 2))
+            self.assertEqual(world.tick(0).aseq, 3)
+
+    def test_each_command_is_a_method_of_both(self):
+        """By signature: whatever a method is given goes into the line that the command of its name makes."""
+        made = {name: kind for name, kind in vars(commands).items() if inspect.isfunction(kind) and name[0].islower()}
+        self.assertEqual(len(made), 29)
+        for name, command in made.items():
+            given = [place + 1 for place in range(len(inspect.signature(command).parameters))]
+            wanted = command(*given)
+            for owner in (World, nimhessian.Batch):
+                asked = []
+                it = owner.__new__(owner)
+                it.ask = it.add = asked.append
+                getattr(owner, name)(it, *given)
+                self.assertEqual((asked[0].line, asked[0].rows), (wanted.line, wanted.rows), f"{owner.__name__}.{name}")
+                self.assertEqual(inspect.signature(getattr(owner, name)).parameters.keys() - {"self"},
+                                 inspect.signature(command).parameters.keys())
+
     def test_nothing_is_sent_where_the_with_fails(self):
         with World(cpus=1) as world:
             with self.assertRaises(KeyError):
@@ -239,6 +299,40 @@ class Ends(unittest.TestCase):
             with self.assertRaises(Died) as raised:
                 world.tick(0)
             self.assertEqual(raised.exception.status, -signal.SIGKILL)
+
+    def test_an_answer_that_was_not_waited_for_is_no_other_ones(self):
+        def interrupt(number, frame):
+            raise KeyboardInterrupt
+
+        before = signal.signal(signal.SIGALRM, interrupt)
+        self.addCleanup(signal.signal, signal.SIGALRM, before)
+        with World(cpus=1) as world:
+            process = world._program._process
+            process.send_signal(signal.SIGSTOP)
+            signal.setitimer(signal.ITIMER_REAL, 0.1)
+            with self.assertRaises(KeyboardInterrupt):
+                world.show(0)
+            process.send_signal(signal.SIGCONT)
+            for ask in (lambda: world.create(0, 1), lambda: world.tick(0)):
+                with self.assertRaises(nimhessian.Lost):
+                    ask()
+
+    def test_a_closed_world_says_so(self):
+        with World(cpus=1) as world:
+            pass
+        with self.assertRaises(nimhessian.Lost):
+            world.tick(0)
+
+    def test_a_command_is_one_line(self):
+        with World(cpus=1) as world:
+            with self.assertRaises(ValueError):
+                world.policy("fifo\nrouse 0")
+            self.assertEqual(world.tick(0).aseq, 1)
+
+    def test_an_answer_of_another_version_is_misread(self):
+        with World(cpus=1) as world:
+            with self.assertRaises(nimhessian.Misread):
+                world.ask(commands.Command("tick 0", commands.deliver(0, 0).read))
 
     def test_the_program_ends_with_the_world(self):
         with World(cpus=1) as world:

@@ -101,6 +101,13 @@ class Failed(Exception):
     """What was seen that should not be."""
 
 
+def commands_of(formats: str) -> set[str]:
+    """The words of the commands that a document tells of."""
+    told = formats.split("## Commands")[1].split("A line of `show` is")[0]
+    rows = [line.split(":")[0] for line in told.splitlines() if line.startswith("- `")]
+    return {form.split(" ")[0] for row in rows for form in row.split("`")[1::2]}
+
+
 def wanted(condition: bool, words: str) -> None:
     if not condition:
         raise Failed(words)
@@ -216,14 +223,22 @@ class Tests:
         table = [line.split() for line in said.decode().splitlines()]
         wanted(said.count(b"enclave CPUS") == 2, "the table was not told twice")
         named = {words[0] for words in table if words and words[0].islower()}
-        for line in FORMATS.read_text().splitlines():
-            if line.startswith("| `") and line.count("|") >= 3:
-                word = line.split("`")[1].split()[0]
-                if f"`{word}" in line and word in {"enclave", "create", "tick", "policy", "complete", "steal"}:
-                    wanted(word in named, f"`{word}` is missing in the table")
-        for word in named & {"wake", "rouse", "steal", "crash", "tick"}:
-            text = b"%s %s\n" % (word.encode(), b"t0" if word == "wake" else b"0")
-            wanted(self.run("replay", text=text)[0] == 0, f"`{word}` is no command")
+        forms = commands_of(FORMATS.read_text())
+        wanted(len(forms) == 29, f"FORMATS tells of {len(forms)} commands")
+        wanted(forms <= named, f"the table has not: {sorted(forms - named)}")
+        wanted(named - forms <= {"each", "of", "what"}, f"the table has: {sorted(named - forms)}")
+
+    def explained(self) -> None:
+        """What an explained session writes between its answers is what an explained script has there."""
+        text = ENCLAVE + b"\ncreate 0 1 ready\npick 0 0\npublish 0\nconsume 0\npick 0 1\ncommit 0 t0 1\nmend 0\n"
+        text = b"version 3\n" + text
+        _, explained, _ = self.run("explain", text=text)
+        wanted(explained.count(b"\n#") > 8, f"an explained script has no comments: {explained!r}")
+        wanted(self.run("session", "--explain", text=text)[1] == explained, "an explained session")
+        long = ENCLAVE + b"\n" + b"x" * (MOST_LINE + 1) + b"\nwake t1\n"
+        _, out, _ = self.run("session", "--explain", text=long)
+        fault = out.splitlines().index(b"fault line 2")
+        wanted(b"65536" in out.splitlines()[fault + 1], f"a line passed over: {out!r}")
 
     def help_is_no_command_of_scripts(self) -> None:
         wanted(self.run("replay", text=b"?\n")[:2] == (1, b"fault line 1\n"), "a script may ask for help")
@@ -320,7 +335,7 @@ class Tests:
 
     def all(self, scripts: int) -> None:
         for name in (
-            "conversation help help_is_no_command_of_scripts terminal no_greeting_in_a_pipe long_lines gigabyte reader_goes_away "
+            "conversation help explained help_is_no_command_of_scripts terminal no_greeting_in_a_pipe long_lines gigabyte reader_goes_away "
             "client_dies unreadable"
         ).split():
             self.one(name, getattr(self, name))

@@ -44,14 +44,14 @@ def kit_with_own_heap(folder):
 
 def crate_of_calls(folder):
     """The folder of the crate that makes the calls, in a tree of its own with all crates."""
-    shutil.copytree(ROOT / "crates", folder / "crates", ignore=shutil.ignore_patterns("out", "must-fail"))
+    shutil.copytree(ROOT / "crates", folder / "crates", ignore=shutil.ignore_patterns("out", "must-fail", "wrong-bodies"))
     source = folder / "crates" / NAME / "src"
     source.mkdir(parents=True)
     for path in (HERE / "calls").glob("*.rt.in"):
         shutil.copy(path, source / path.name.removesuffix(".in"))
     lines = (ROOT / "crates.txt").read_text().splitlines()
     names = [re.match(r"\w+", line)[0] for line in lines if re.match(r"pc_\w+.*:", line)]
-    above = {"pc_explain", "pc_pen", "pc_draw", "pc_chart", "pc_program", "pc_sim", "pc_example", "pc_tests", "pc_tests_agents"}
+    above = {"pc_settings", "pc_explain", "pc_pen", "pc_draw", "pc_chart", "pc_program", "pc_sim", "pc_example", "pc_tests", "pc_tests_agents"}
     libraries = [name for name in names if name not in above]
     (folder / "crates.txt").write_text("\n".join([*lines, f"{NAME}: {' '.join(libraries)} thiserror", ""]))
     return folder / "crates" / NAME

@@ -8,7 +8,7 @@ ghost use Rattle.pc_explain.specs.Inner.Told.{told_kept, told_more, told_nothing
 ghost use Rattle.pc_explain.specs.Inner.Writing.{Annotates};
 ghost use Rattle.pc_script.specs.Responses.{response_text, text_line};
 ghost use Rattle.pc_script.specs.Scripts.{IsOutput, IsOutputUntil, notices_text, outcome_text};
-ghost use Rattle.pc_script.specs.Sessions.{IsAnsweredBy, IsAnsweredUntil};
+ghost use Rattle.pc_script.specs.Sessions.{ConsumesMost, IsAnsweredBy, IsAnsweredUntil};
 ghost use Rattle.pc_script.specs.declared.input.TheConstants.{MOST_BYTES};
 ghost use Rattle.pc_script.specs.declared.outcome.Outcome.{Outcome};
 ghost use Rattle.pc_script.specs.declared.outcome.ScriptFault.{ScriptFault};
@@ -270,6 +270,8 @@ pub fn explain_session<R: Read, W: Write + Drop, H: Helper>(
         × Consumes (R.remaining reader.old) (R.remaining reader.new) text
         × ((written : List ℕ) × IsAnsweredUntil IsSession RanOut text (without_comments written)
         × Appends (writer_contents W.contents writer.old) (writer_contents W.contents writer.new) written) }
+    ensures too_long { result ≡ Err ScriptFault.TooLong
+        → ConsumesMost (R.remaining reader.old) (R.remaining reader.new) }
     ensures err { (fault : ScriptFault) → result ≡ Err fault → (fault ≡ ScriptFault.OutOfMemory)
         ⊎ (fault ≡ ScriptFault.Write) ⊎ (fault ≡ ScriptFault.TooLong) }
 {

@@ -2,7 +2,7 @@
 use Rattle.std.proofs.Common.{◌≡◌, ◌∙◌, ◌⊎◌, inl, inr, ℕ, Bool, true, false, List, [], Option, Result, Ok, Err, IfOk, refl, sym}
 use Rattle.std.specs.Io.KnownBytes.{Appends, Consumes, IsAtEnd, Keeps}
 use Rattle.std.proofs.KnownBytes.{Appends-kept}
-use Rattle.pc_script.specs.Sessions.{IsAnsweredBy, IsAnsweredUntil}
+use Rattle.pc_script.specs.Sessions.{ConsumesMost, IsAnsweredBy, IsAnsweredUntil}
 use Rattle.pc_script.specs.declared.outcome.ScriptFault.{ScriptFault}
 use Rattle.pc_script.specs.declared.outcome.ScriptFault.TheVariants as fault
 use Rattle.pc_script.specs.declared.session.Conversed.{Conversed}
@@ -29,14 +29,14 @@ module _ (plain : List ℕ → List ℕ) (left rest old new : Option (List ℕ))
   ended_so false true (text, read, end, written) = (end refl, (text, read, written))
   ended_so had_fault false (text, read, end, written) = (had_fault, (text, read, written))
 
-  pub talked : (answer : Result Conversed ScriptFault) → IfOk answer Answered → (answer ≡ Err fault.OutOfMemory → Until)
+  pub talked : (answer : Result Conversed ScriptFault) → IfOk answer Answered → (answer ≡ Err fault.OutOfMemory → Until) → (answer ≡ Err fault.TooLong → ConsumesMost left rest)
       → ((why : ScriptFault) → answer ≡ Err why → (why ≡ fault.OutOfMemory) ⊎ (why ≡ fault.Write) ⊎ (why ≡ fault.TooLong))
       → IsTalked plain left rest old new (ending_of_session answer)
-  talked (Ok conversed) whole until only = ended_so conversed.had_fault conversed.is_whole whole
-  talked (Err fault.OutOfMemory) whole until only = until refl
-  talked (Err fault.Write) whole until only = tt
-  talked (Err fault.TooLong) whole until only = tt
-  talked (Err fault.Read) whole until only =
+  talked (Ok conversed) whole until most only = ended_so conversed.had_fault conversed.is_whole whole
+  talked (Err fault.OutOfMemory) whole until most only = until refl
+  talked (Err fault.Write) whole until most only = tt
+  talked (Err fault.TooLong) whole until most only = most refl
+  talked (Err fault.Read) whole until most only =
       let not_so : ⊥ = elim (only fault.Read refl) [ inl e ↦ cc | inr others ↦ elim others [ inl e ↦ cc | inr e ↦ cc ] ] in absurd not_so
 
 -- what was written is kept by a flush
@@ -50,7 +50,7 @@ kept_talk plain left rest old mid new (CannotRead failure.Read) (had_fault, (tex
     (had_fault, (text, read, (written, is, Appends-kept old mid new written put kept)))
 kept_talk plain left rest old mid new OutOfMemory (text, read, (written, is, put)) kept =
     (text, read, (written, is, Appends-kept old mid new written put kept))
-kept_talk plain left rest old mid new (CannotRead failure.TooLong) talk kept = tt
+kept_talk plain left rest old mid new (CannotRead failure.TooLong) talk kept = talk
 kept_talk plain left rest old mid new (CannotRead failure.Write) talk kept = tt
 kept_talk plain left rest old mid new (CannotRead failure.NotUtf8) talk kept = absurd talk
 kept_talk plain left rest old mid new DrawnToFault talk kept = absurd talk

@@ -5,7 +5,7 @@ use Rattle.toml.specs.Data.{Members}
 use Rattle.pc_draw.specs.Pictures.{IsPictureOf}
 use Rattle.pc_explain.specs.Comments.{without_comments}
 use Rattle.pc_script.specs.Scripts.{IsOutput, IsOutputUntil}
-use Rattle.pc_script.specs.Sessions.{IsAnsweredBy, IsAnsweredUntil}
+use Rattle.pc_script.specs.Sessions.{ConsumesMost, IsAnsweredBy, IsAnsweredUntil}
 use Rattle.pc_script.specs.declared.input.TheConstants.{MOST_BYTES}
 use Rattle.pc_script.specs.declared.outcome.Outcome.TheVariants as outcome
 use Rattle.pc_threads.specs.Reports.{AddsUp, TellsItsBook}
@@ -143,7 +143,7 @@ IsAnsweredIn plain had_fault old new text =
     (written : List ℕ) × IsAnsweredBy IsSession text had_fault (plain written) × Appends old new written
 
 -- after a session that read this of a reader: the whole text was answered, or what came before a read that failed, or
--- what comes before the command at which memory ran out
+-- what comes before the command at which memory ran out; or so much was read that it is too long
 abbrev pub IsTalked : (plain : List ℕ → List ℕ) (left rest old new : Option (List ℕ)) → Ending → Type 0
 IsTalked plain left rest old new Finished =
     IsAtEnd rest × IsReadOf left rest (IsAnsweredIn plain false old new)
@@ -154,7 +154,7 @@ IsTalked plain left rest old new (CannotRead failure.Read) =
 IsTalked plain left rest old new OutOfMemory =
     IsReadOf left rest
     (λ text. (written : List ℕ) × IsAnsweredUntil IsSession RanOut text (plain written) × Appends old new written)
-IsTalked plain left rest old new (CannotRead failure.TooLong) = Unit {0}
+IsTalked plain left rest old new (CannotRead failure.TooLong) = ConsumesMost left rest
 IsTalked plain left rest old new (CannotRead failure.Write) = Unit {0}
 IsTalked plain left rest old new (CannotRead failure.NotUtf8) = ⊥
 IsTalked plain left rest old new DrawnToFault = ⊥

@@ -89,7 +89,7 @@ impl From<AllocError> for CommandFault {
 }
 
 /// The version of the program. It cannot know which kit built it, so it does not say so.
-const VERSION: &str = "0.9.0";
+const VERSION: &str = "1.0.0";
 
 const ABOUT: &str =
     "A model of per-CPU ghOSt scheduling: a kernel, agents, and what each agent knows";

@@ -49,8 +49,8 @@ mend C
 /// What is said of the table.
 const LEGEND: &str = "\
 C, A and B are CPUs and Q is a queue, from 0; T is a thread, as t0; MASK is a sum of powers of 2, one for
-each CPU. `version 2` or `version 3` may stand in the first line that is answered. docs/FORMATS.md tells
-what each word means.
+each CPU. `version 2` or `version 3` may stand in the first line that is answered: `policy` and `mend` are
+of version 3. docs/FORMATS.md tells what each word means.
 ";
 
 /// Writes the table of commands to whatever a person reads.
@@ -61,7 +61,9 @@ pub struct Manual<S: Write + Drop> {
 
 impl<S: Write + Drop> Manual<S> {
     /// The table goes there.
-    pub fn new(screen: S) -> Manual<S> {
+    pub fn new(screen: S) -> Manual<S>
+        ensures { result.screen ≡ screen }
+    {
         Manual { screen }
     }
 }

@@ -1,3 +1,4 @@
+pub mod Lanes
 pub mod Notices
 pub mod Numerals
 pub mod Pieces

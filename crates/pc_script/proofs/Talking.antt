@@ -1,14 +1,14 @@
 -- The lines of a session, heard one after another, are a conversation.
-use Rattle.std.proofs.Common.{◌≡◌, ◌∙◌, ◌+◌, ◌<◌, ◌⊎◌, inl, inr, ℕ, suc, Bool, true, false, cond, List, [], ◌∷◌, ◌++◌, Option, Result, Ok, Err, IfOk, length, refl, sym, ap, subst, arith, append_assoc, append-nil, eqb, length-append}
+use Rattle.std.proofs.Common.{◌≡◌, ◌∙◌, ◌+◌, ◌<◌, ◌≤◌, ◌^◌, ◌⊎◌, inl, inr, ℕ, suc, Bool, true, false, cond, List, [], ◌∷◌, ◌++◌, Option, Result, Ok, Err, IfOk, length, refl, sym, ap, subst, arith, append_assoc, append-nil, eqb, length-append}
 use Rattle.std.proofs.lemmas.Bool.{true≢false}
 use Rattle.pc_calls.specs.declared.limits.Profile.{Profile}
 use Rattle.pc_script.specs.Grammar.{AsksFor, HasNoReply}
-use Rattle.pc_script.specs.Inner.Talks.{Talking, Hears, HearsAll, HearsUntil, Keeps, Lacks, LacksAtEnd, Leaves, talking}
+use Rattle.pc_script.specs.Inner.Talks.{CountsBytes, CountsOut, Talking, Hears, HearsAll, HearsUntil, Keeps, Lacks, LacksAtEnd, Leaves, talking}
 use Rattle.pc_script.specs.Inner.Talks as talk
 use Rattle.pc_script.specs.Inner.Walks.{Stand, Standing, IsTold, Takes, FindsNone}
 use Rattle.pc_script.specs.Inner.Walks as walk
 use Rattle.pc_script.specs.Scripts.{Notice, Telling, answered, faulted, version_named, opening_notices}
-use Rattle.pc_script.specs.Sessions.{AsksForHelp, Begins, Conversation, IsBad, IsConversation, IsConversationUntil, IsConversed, IsConversedUntil, IsShort, IsSilent, has_fault}
+use Rattle.pc_script.specs.Sessions.{AsksForHelp, Begins, ConsumesMost, Conversation, IsBad, IsConversation, IsConversationUntil, IsConversed, IsConversedUntil, IsShort, IsSilent, has_fault}
 use Rattle.pc_script.specs.Sessions as session
 use Rattle.pc_script.specs.Inner.Pieces.{IsCut, IsFirstLine, IsPassed, IsUnbroken}
 use Rattle.pc_script.specs.Text.{lines, words}
@@ -55,15 +55,45 @@ pub if_ok : {A E : Type 0} {P Q : A → Type 0} (r : Result A E) → IfOk r P �
 if_ok (Ok x) h next = next x h
 if_ok (Err e) h next = tt
 
-pub or_until : {A B C D E : Type 0} → A ⊎ (B ⊎ (C × D)) → (D → E) → A ⊎ (B ⊎ (C × E))
-or_until (inl a) next = inl a
-or_until (inr (inl b)) next = inr (inl b)
-or_until (inr (inr (c, d))) next = inr (inr (c, next d))
+pub or_until : {A B C D E F G : Type 0} → A ⊎ ((F × B) ⊎ (C × D)) → (B → G) → (D → E) → A ⊎ ((F × G) ⊎ (C × E))
+or_until (inl a) counts next = inl a
+or_until (inr (inl (f, b))) counts next = inr (inl (f, counts b))
+or_until (inr (inr (c, d))) counts next = inr (inr (c, next d))
 
-pub at_memory : {A B D E : Type 0} → A ⊎ ((OutOfMemory ≡ TooLong) ⊎ (B × D)) → (D → E) → A ⊎ E
+pub at_memory : {A B C D E : Type 0} → A ⊎ (((OutOfMemory ≡ TooLong) × C) ⊎ (B × D)) → (D → E) → A ⊎ E
 at_memory (inl a) next = inl a
-at_memory (inr (inl b)) next = cc
+at_memory (inr (inl (b, c))) next = cc
 at_memory (inr (inr (c, d))) next = inr (next d)
+
+pub at_most : {A B C D E : Type 0} → A ⊎ ((B × C) ⊎ ((TooLong ≡ OutOfMemory) × D)) → (C → E) → A ⊎ E
+at_most (inl a) next = inl a
+at_most (inr (inl (b, c))) next = inr (next c)
+at_most (inr (inr (d, e))) next = cc
+
+-- ---- bytes that are counted
+
+pub bytes_none : (at : Option (List ℕ)) (number kept : ℕ) → number ≡ 0 → kept ≡ 0 → CountsBytes at at number kept 0
+bytes_none at number kept none empty = record { text = []; read = Consumes-nil at; for_lines = omega (arith, none, empty); for_turns = omega arith }
+
+pub bytes_more : {first before after : Option (List ℕ)} {number kept turns : ℕ} (bytes : List ℕ) (next left : ℕ) → CountsBytes first before number kept turns → Consumes before after bytes
+    → 0 < length bytes → next + left ≤ number + (kept + length bytes) → CountsBytes first after next left (turns + 1)
+bytes_more bytes next left so_far read some counts = record {
+  text = so_far.text ++ bytes;
+  read = Consumes-trans _ _ _ so_far.text bytes so_far.read read;
+  for_lines = omega (arith, length-append so_far.text bytes, so_far.for_lines, counts);
+  for_turns = omega (arith, length-append so_far.text bytes, so_far.for_turns, some);
+}
+
+pub most_heard : {first before : Option (List ℕ)} {number kept turns : ℕ} (after : Option (List ℕ)) (bytes : List ℕ) (left : ℕ) → CountsBytes first before number kept turns
+    → Consumes before after bytes → left ≤ kept + length bytes → CountsOut number left → ConsumesMost first after
+most_heard after bytes left so_far read within most = (
+  so_far.text ++ bytes,
+  Consumes-trans _ _ _ so_far.text bytes so_far.read read,
+  omega (arith, length-append so_far.text bytes, so_far.for_lines, within, most),
+)
+
+pub most_turns : {first after : Option (List ℕ)} {number kept turns : ℕ} → CountsBytes first after number kept turns → 2 ^ 64 ≤ turns + 1 → ConsumesMost first after
+most_turns so_far most = (so_far.text, so_far.read, omega (arith, so_far.for_turns, most))
 
 module _ {M O : Type 0} (StandsAfter : Standing M) (Tells : Telling O) where
   -- ---- one after another

@@ -1,6 +1,8 @@
 -- What is asked in a session, line by line, and what is answered. A line that asks for no command is a fault: it
 -- changes nothing, and the session goes on behind it.
-use Rattle.std.specs.Prelude.{◌≡◌, ◌<◌, ◌≤◌, ◌⊎◌, ℕ, suc, Bool, true, false, List, [], ◌∷◌, ◌++◌, Option, codes, length}
+use Rattle.std.specs.Prelude.{◌≡◌, ◌<◌, ◌≤◌, ◌⊎◌, ◌+◌, ◌^◌, ℕ, suc, Bool, true, false, List, [], ◌∷◌, ◌++◌, Option}
+use Rattle.std.specs.Prelude.{codes, length}
+use Rattle.std.specs.Io.KnownBytes.{Consumes}
 use Rattle.pc_calls.specs.declared.limits.Profile.{Profile}
 use Rattle.pc_script.specs.Grammar.{AsksFor, HasNoReply, IsFault}
 use Rattle.pc_script.specs.Scripts.{Notice, Telling, answered, faulted, notices_text, opening_notices, version_named}
@@ -137,3 +139,9 @@ pub record IsAnsweredUntil (IsRun : Profile → List Command → List Response �
   pub notices : List Notice
   pub conversation : IsConversationUntil IsRun RanOut (lines text) notices
   pub written : output ≡ notices_text notices
+
+-- ---- a session that is too long
+
+-- from here to there at least 18,446,744,073,709,551,615 bytes were consumed, the most that 64 bits count
+abbrev pub ConsumesMost : (before after : Option (List ℕ)) → Type 0
+ConsumesMost before after = (text : List ℕ) × Consumes before after text × (2 ^ 64 ≤ length text + 1)

@@ -11,8 +11,11 @@ ghost use Rattle.pc_script.specs.Left.{lines_left, lines_of_rest};
 use memchr::memchr;
 use std::simd::prelude::*;
 
-/// How many bytes are looked at together.
+/// How many bytes are looked at together for a space.
 const LANES: usize = 8;
+
+/// How many bytes are looked at together for a line feed.
+const LINE_LANES: usize = 32;
 
 /// The lines of a text that are left, or none after the last.
 #[derive(Drop)]
@@ -52,12 +55,28 @@ pub(crate) fn first_line(text: &[u8]) -> (&[u8], Option<&[u8]>)
     }
 }
 
+/// Where the first line feed is. The first 32 bytes are looked at together: few lines are longer.
+#[inline(always)]
+fn first_line_feed(text: &[u8]) -> Option<usize>
+    ensures { IsFirstByte (is_byte 10) text.now result }
+{
+    if text.len() >= LINE_LANES {
+        let feeds = u8x32::from_slice(text)
+            .simd_eq(u8x32::splat(b'\n'))
+            .to_bitmask();
+        if feeds != 0 {
+            return Some(feeds.trailing_zeros() as usize);
+        }
+    }
+    memchr(b'\n', text)
+}
+
 /// The first line of a text that a line feed ends, and the text after it.
 #[inline(always)]
 pub(crate) fn first_whole_line(text: &[u8]) -> Option<(&[u8], &[u8])>
     ensures { MatchOption result (IsUnbroken text.now) (λ cut. IsFirstLine text.now cut.0.now cut.1.now) }
 {
-    let end = memchr(b'\n', text)?;
+    let end = first_line_feed(text)?;
     Some((without_carriage_return(&text[..end]), &text[end + 1..]))
 }
 

@@ -94,7 +94,8 @@ impl Piece {
         requires observer { O.HoldsNothing observer.now }
         requires writer { writer_buffer writer.now ≡ [] }
         ensures read { (bytes : List ℕ) × Consumes (R.remaining reader.old) (R.remaining reader.new) bytes
-            × (bytes_of self.new ≡ bytes_of self.old ++ bytes) × (result ≢ Filled.More → bytes ≡ []) }
+            × (bytes_of self.new ≡ bytes_of self.old ++ bytes) × (result ≢ Filled.More → bytes ≡ [])
+            × (result ≡ Filled.More → 0 < length bytes) }
         ensures end { result ≡ Filled.AtEnd → IsAtEnd (R.remaining reader.new) }
     {
         match reader.read(&mut self.bytes[self.len..]) {

@@ -12,9 +12,11 @@ ghost use Rattle.std.specs.Str.Lines.{strip_carriage_return};
 ghost use Rattle.pc_calls.specs.declared.limits.Profile.{Profile};
 ghost use Rattle.pc_script.specs.Inner.Outputs.{waiting};
 ghost use Rattle.pc_script.specs.Inner.Pieces.{IsCut, IsPassed, IsUnbroken};
-ghost use Rattle.pc_script.specs.Inner.Talks.{Hears, HearsAll, HearsUntil, Lacks, LacksAtEnd, Leaves, talking};
+ghost use Rattle.pc_script.specs.Inner.Talks.{CountsOut, Hears, HearsAll, HearsUntil, Lacks, LacksAtEnd, Leaves};
+ghost use Rattle.pc_script.specs.Inner.Talks.{talking};
 ghost use Rattle.pc_script.specs.Inner.Walks.{stand};
-ghost use Rattle.pc_script.specs.Sessions.{AsksForHelp, IsAnsweredBy, IsAnsweredUntil, IsConversed, IsConversedUntil};
+ghost use Rattle.pc_script.specs.Sessions.{AsksForHelp, ConsumesMost, IsAnsweredBy, IsAnsweredUntil, IsConversed};
+ghost use Rattle.pc_script.specs.Sessions.{IsConversedUntil};
 ghost use Rattle.pc_script.specs.Text.{lines};
 ghost use Rattle.pc_script.specs.declared.outcome.ScriptFault.{ScriptFault};
 ghost use Rattle.pc_script.specs.declared.version.Version.{Version};
@@ -88,7 +90,8 @@ impl<M: Machine> Talk<M> {
     #[inline(always)]
     fn next_number(&self) -> Result<u64, ScriptFault>
         ensures ok { IfOk result (λ number. number ≡ suc self.now.number) }
-        ensures err { (fault : ScriptFault) → result ≡ Err fault → fault ≡ ScriptFault.TooLong }
+        ensures err { (fault : ScriptFault) → result ≡ Err fault
+            → (fault ≡ ScriptFault.TooLong) × CountsOut self.now.number 0 }
     {
         match self.number.checked_add(1) {
             Some(number) => Ok(number),
@@ -108,7 +111,9 @@ impl<M: Machine> Talk<M> {
             self.old.had_fault observer.old (W.contents writer.old)) line
             (talking self.new.walk.machine self.new.walk.is_open self.new.walk.version self.new.number
             self.new.had_fault observer.new (W.contents writer.new))) }
-        ensures err { (fault : ScriptFault) → result ≡ Err fault → O.MayFail fault ⊎ (fault ≡ ScriptFault.TooLong) }
+        ensures err { (fault : ScriptFault) → result ≡ Err fault
+            → O.MayFail fault ⊎ ((fault ≡ ScriptFault.TooLong) × CountsOut self.old.number 0) }
+        ensures counted { OnOk result (self.new.number ≡ suc self.old.number) }
         ensures passes { self.new.passes ≡ self.old.passes }
     {
         let number = self.next_number()?;
@@ -133,12 +138,13 @@ impl<M: Machine> Talk<M> {
             (talking self.new.walk.machine self.new.walk.is_open self.new.walk.version self.new.number
             self.new.had_fault observer.new (W.contents writer.new))) }
         ensures err { (fault : ScriptFault) → result ≡ Err fault
-            → O.MayFail fault ⊎ (fault ≡ ScriptFault.TooLong) ⊎ ((fault ≡ ScriptFault.OutOfMemory)
-            × Lacks M.StandsAfter M.RanOut O.Tells text.now
+            → O.MayFail fault ⊎ ((fault ≡ ScriptFault.TooLong) × CountsOut self.old.number 0)
+            ⊎ ((fault ≡ ScriptFault.OutOfMemory) × Lacks M.StandsAfter M.RanOut O.Tells text.now
             (stand self.old.walk.machine self.old.walk.is_open self.old.walk.version observer.old
             (W.contents writer.old))
             (stand self.new.walk.machine self.new.walk.is_open self.new.walk.version observer.new
             (W.contents writer.new))) }
+        ensures counted { OnOk result (self.new.number ≡ suc self.old.number) }
         ensures passes { self.new.passes ≡ self.old.passes }
     {
         if text.len() > MOST_LINE {
@@ -172,9 +178,11 @@ impl<M: Machine> Talk<M> {
             self.new.had_fault observer.new (W.contents writer.new))
             × IsCut text.now taken rest.now × IsUnbroken rest.now) }
         ensures behind { IfOk result (λ rest. (front : List ℕ) × (text.now ≡ front ++ rest.now)) }
+        ensures counted { IfOk result
+            (λ rest. self.new.number + length rest.now ≤ self.old.number + length text.now) }
         ensures err { (fault : ScriptFault) → result ≡ Err fault
-            → O.MayFail fault ⊎ (fault ≡ ScriptFault.TooLong) ⊎ ((fault ≡ ScriptFault.OutOfMemory)
-            × HearsUntil M.StandsAfter M.RanOut O.Tells text.now
+            → O.MayFail fault ⊎ ((fault ≡ ScriptFault.TooLong) × CountsOut self.old.number (length text.now))
+            ⊎ ((fault ≡ ScriptFault.OutOfMemory) × HearsUntil M.StandsAfter M.RanOut O.Tells text.now
             (talking self.old.walk.machine self.old.walk.is_open self.old.walk.version self.old.number
             self.old.had_fault observer.old (W.contents writer.old))
             (stand self.new.walk.machine self.new.walk.is_open self.new.walk.version observer.new
@@ -207,10 +215,12 @@ impl<M: Machine> Talk<M> {
             (talking self.new.walk.machine self.new.walk.is_open self.new.walk.version self.new.number
             self.new.had_fault observer.new (W.contents writer.new)) self.new.passes rest.now) }
         ensures behind { IfOk result (λ rest. (front : List ℕ) × (text.now ≡ front ++ rest.now)) }
+        ensures counted { IfOk result
+            (λ rest. self.new.number + length rest.now ≤ self.old.number + length text.now) }
         ensures short { IfOk result (λ rest. length rest.now ≤ MOST_LINE + 1) }
         ensures err { (fault : ScriptFault) → result ≡ Err fault
-            → O.MayFail fault ⊎ (fault ≡ ScriptFault.TooLong) ⊎ ((fault ≡ ScriptFault.OutOfMemory)
-            × HearsUntil M.StandsAfter M.RanOut O.Tells text.now
+            → O.MayFail fault ⊎ ((fault ≡ ScriptFault.TooLong) × CountsOut self.old.number (length text.now))
+            ⊎ ((fault ≡ ScriptFault.OutOfMemory) × HearsUntil M.StandsAfter M.RanOut O.Tells text.now
             (talking self.old.walk.machine self.old.walk.is_open self.old.walk.version self.old.number
             self.old.had_fault observer.old (W.contents writer.old))
             (stand self.new.walk.machine self.new.walk.is_open self.new.walk.version observer.new
@@ -242,10 +252,12 @@ impl<M: Machine> Talk<M> {
             (talking self.new.walk.machine self.new.walk.is_open self.new.walk.version self.new.number
             self.new.had_fault observer.new (W.contents writer.new)) self.new.passes rest.now) }
         ensures behind { IfOk result (λ rest. (front : List ℕ) × (text.now ≡ front ++ rest.now)) }
+        ensures counted { IfOk result
+            (λ rest. self.new.number + length rest.now ≤ self.old.number + length text.now) }
         ensures short { IfOk result (λ rest. length rest.now ≤ MOST_LINE + 1) }
         ensures err { (fault : ScriptFault) → result ≡ Err fault
-            → O.MayFail fault ⊎ (fault ≡ ScriptFault.TooLong) ⊎ ((fault ≡ ScriptFault.OutOfMemory)
-            × ((passed : List ℕ) → IsPassed self.old.passes passed
+            → O.MayFail fault ⊎ ((fault ≡ ScriptFault.TooLong) × CountsOut self.old.number (length text.now))
+            ⊎ ((fault ≡ ScriptFault.OutOfMemory) × ((passed : List ℕ) → IsPassed self.old.passes passed
             → HearsUntil M.StandsAfter M.RanOut O.Tells (passed ++ text.now)
             (talking self.old.walk.machine self.old.walk.is_open self.old.walk.version self.old.number
             self.old.had_fault observer.old (W.contents writer.old))
@@ -281,8 +293,8 @@ impl<M: Machine> Talk<M> {
             (talking self.new.walk.machine self.new.walk.is_open self.new.walk.version self.new.number
             self.new.had_fault observer.new (W.contents writer.new))) }
         ensures err { (fault : ScriptFault) → result ≡ Err fault
-            → O.MayFail fault ⊎ (fault ≡ ScriptFault.TooLong) ⊎ ((fault ≡ ScriptFault.OutOfMemory)
-            × LacksAtEnd M.StandsAfter M.RanOut O.Tells self.old.passes text.now
+            → O.MayFail fault ⊎ ((fault ≡ ScriptFault.TooLong) × CountsOut self.old.number 0)
+            ⊎ ((fault ≡ ScriptFault.OutOfMemory) × LacksAtEnd M.StandsAfter M.RanOut O.Tells self.old.passes text.now
             (stand self.old.walk.machine self.old.walk.is_open self.old.walk.version observer.old
             (W.contents writer.old))
             (stand self.new.walk.machine self.new.walk.is_open self.new.walk.version observer.new
@@ -322,7 +334,9 @@ fn settle<M: Machine, O: Observer<M, BufWriter<W>>, W: Write + Drop>(
 /// at no other time. It takes no memory that grows with the text.
 ///
 /// The fault is one of the observer's; `Write` where a flush fails; `OutOfMemory` where the machine found none for an
-/// answer, behind the lines before; or `TooLong` past 18,446,744,073,709,551,615 lines or reads.
+/// answer, behind the lines before; or `TooLong` past 18,446,744,073,709,551,615 lines or reads, each of which took a
+/// byte at least. After `Write` all that was read is consumed, up to the last read before it; what was written of the
+/// answers is not known, since a write that fails says nothing of what it took. No clause says so.
 pub fn converse<M: Machine, O: Observer<M, BufWriter<W>>, R: Read, W: Write + Drop, H: Helper>(
     alloc: Global,
     reader: &mut R,
@@ -340,6 +354,8 @@ pub fn converse<M: Machine, O: Observer<M, BufWriter<W>>, R: Read, W: Write + Dr
         ⊎ ((text : List ℕ) × Consumes (R.remaining reader.old) (R.remaining reader.new) text
         × IsConversedUntil O.Tells M.IsRun M.RanOut (lines text) observer.old
         (writer_contents W.contents writer.old) observer.new (writer_contents W.contents writer.new)) }
+    ensures too_long { result ≡ Err ScriptFault.TooLong → O.MayFail ScriptFault.TooLong
+        ⊎ ConsumesMost (R.remaining reader.old) (R.remaining reader.new) }
     ensures err { (fault : ScriptFault) → result ≡ Err fault → O.MayFail fault ⊎ (fault ≡ ScriptFault.OutOfMemory)
         ⊎ (fault ≡ ScriptFault.Write) ⊎ (fault ≡ ScriptFault.TooLong) }
 {
@@ -380,6 +396,7 @@ pub fn converse<M: Machine, O: Observer<M, BufWriter<W>>, R: Read, W: Write + Dr
 ///
 /// What is written is the output of [`run_script`](crate::run_script) on the same text, up to its first fault; a fault
 /// is told, and the session goes on. After want of memory the replies to the lines before are written, and not flushed.
+/// What `Write` leaves is as there.
 pub fn run_session<M: Machine, R: Read, W: Write + Drop, H: Helper>(
     alloc: Global,
     reader: &mut R,
@@ -396,6 +413,8 @@ pub fn run_session<M: Machine, R: Read, W: Write + Drop, H: Helper>(
         × Consumes (R.remaining reader.old) (R.remaining reader.new) text
         × ((output : List ℕ) × IsAnsweredUntil M.IsRun M.RanOut text output
         × Appends (writer_contents W.contents writer.old) (writer_contents W.contents writer.new) output) }
+    ensures too_long { result ≡ Err ScriptFault.TooLong
+        → ConsumesMost (R.remaining reader.old) (R.remaining reader.new) }
     ensures err { (fault : ScriptFault) → result ≡ Err fault → (fault ≡ ScriptFault.OutOfMemory)
         ⊎ (fault ≡ ScriptFault.Write) ⊎ (fault ≡ ScriptFault.TooLong) }
 {

@@ -178,44 +178,43 @@ fn write_refusal(line: &mut LineEnd, refusal: Refusal)
     ensures start { (20 ≤ line.new.start) × (line.new.start < ROOM) }
     ensures written { drop line.new.start line.new.bytes ≡ refusal_text refusal ++ drop line.old.start line.old.bytes }
 {
-    let name: &[u8] = match refusal {
-        Refusal::BadCpu => b"BadCpu",
-        Refusal::EmptyMask => b"EmptyMask",
-        Refusal::MaskTooWide => b"MaskTooWide",
-        Refusal::BadLevel => b"BadLevel",
-        Refusal::NamesSpent => b"NamesSpent",
-        Refusal::NumbersSpent => b"NumbersSpent",
-        Refusal::QueueFull => b"QueueFull",
-        Refusal::PostsSpent => b"PostsSpent",
-        Refusal::UnknownThread => b"UnknownThread",
-        Refusal::Dead => b"Dead",
-        Refusal::NotBlocked => b"NotBlocked",
-        Refusal::NotReady => b"NotReady",
-        Refusal::IdleCpu => b"IdleCpu",
-        Refusal::OnForbiddenCpu => b"OnForbiddenCpu",
-        Refusal::TooMany => b"TooMany",
+    match refusal {
+        Refusal::BadCpu => line.text(b"BadCpu"),
+        Refusal::EmptyMask => line.text(b"EmptyMask"),
+        Refusal::MaskTooWide => line.text(b"MaskTooWide"),
+        Refusal::BadLevel => line.text(b"BadLevel"),
+        Refusal::NamesSpent => line.text(b"NamesSpent"),
+        Refusal::NumbersSpent => line.text(b"NumbersSpent"),
+        Refusal::QueueFull => line.text(b"QueueFull"),
+        Refusal::PostsSpent => line.text(b"PostsSpent"),
+        Refusal::UnknownThread => line.text(b"UnknownThread"),
+        Refusal::Dead => line.text(b"Dead"),
+        Refusal::NotBlocked => line.text(b"NotBlocked"),
+        Refusal::NotReady => line.text(b"NotReady"),
+        Refusal::IdleCpu => line.text(b"IdleCpu"),
+        Refusal::OnForbiddenCpu => line.text(b"OnForbiddenCpu"),
+        Refusal::TooMany => line.text(b"TooMany"),
         Refusal::Stale(now) => {
             line.number(u64::from(now));
-            b"Stale "
+            line.text(b"Stale ");
         }
-        Refusal::Pending => b"Pending",
+        Refusal::Pending => line.text(b"Pending"),
         Refusal::Running(cpu) => {
             line.number(u64::from(cpu.index()));
-            b"Running "
+            line.text(b"Running ");
         }
         Refusal::NotYours(queue) => {
             line.number(u64::from(queue.index()));
-            b"NotYours "
+            line.text(b"NotYours ");
         }
-        Refusal::Forbidden => b"Forbidden",
-        Refusal::Busy => b"Busy",
-        Refusal::NoDelta => b"NoDelta",
-        Refusal::NothingReady => b"NothingReady",
-        Refusal::NothingToSteal => b"NothingToSteal",
-        Refusal::WireFault => b"WireFault",
-        Refusal::TooLate => b"TooLate",
-    };
-    line.text(name);
+        Refusal::Forbidden => line.text(b"Forbidden"),
+        Refusal::Busy => line.text(b"Busy"),
+        Refusal::NoDelta => line.text(b"NoDelta"),
+        Refusal::NothingReady => line.text(b"NothingReady"),
+        Refusal::NothingToSteal => line.text(b"NothingToSteal"),
+        Refusal::WireFault => line.text(b"WireFault"),
+        Refusal::TooLate => line.text(b"TooLate"),
+    }
 }
 
 /// Writes what an event is replied.

@@ -43,12 +43,16 @@ fn short_number(text: &[u8]) -> (u64, usize)
     ensures value { result.0 ≡ digits_value 10 (take result.1 text.now) }
     ensures all { result.1 < SHORT → result.1 < length text.now → IsInRange 48 57 (get_or text.now result.1 0) → ⊥ }
 {
-    let most = text.len().min(SHORT);
     let mut value = 0u64;
     let mut count = 0;
-    while count < most && text[count].is_ascii_digit() {
-        value = value * 10 + u64::from(text[count] - b'0');
+    let mut rest = text;
+    while let [digit, others @ ..] = rest {
+        if count == SHORT || !digit.is_ascii_digit() {
+            return (value, count);
+        }
+        value = value * 10 + u64::from(*digit - b'0');
         count += 1;
+        rest = others;
     }
     (value, count)
 }
@@ -82,6 +86,7 @@ impl<'a> Words<'a> {
     }
 
     /// Takes the next word.
+    #[inline(always)]
     pub(crate) fn next(&mut self) -> Option<&'a [u8]>
         ensures { MatchOption result (words_left self.old ≡ [])
             (λ word. words_left self.old ≡ word.now ∷ words_left self.new) }

@@ -10,7 +10,7 @@ ghost use Rattle.pc_session.specs.Standing.{LeadsToWorld, ShowsEnclave, StandsAf
 
 use crate::policies::policies_of;
 use crate::reads::answer_of;
-use pc_calls::{LimitsFault, Profile, Refusal};
+use pc_calls::{LimitsFault, Profile, Refusal, Reply};
 use pc_messages::Cpu;
 use pc_script::{Command, Machine, PolicyName, Response};
 use pc_world::World;
@@ -93,6 +93,17 @@ fn rule(
     }
 }
 
+/// Puts a reply in the place of a response. Most stand where another reply stood, of which nothing has to be let go.
+#[inline(always)]
+fn put_reply(response: &mut Response, reply: Reply)
+    ensures { response.new ≡ Response.Event reply }
+{
+    match response {
+        Response::Event(place) => *place = reply,
+        _ => *response = Response::Event(reply),
+    }
+}
+
 /// Mends a CPU, which counts as an event.
 fn mend(met: &mut Enclave, cpu: Cpu, response: &mut Response) -> Result<(), AllocError>
     ensures ok { OnOk result (Answers (Command.Mend cpu) met.old met.new response.new) }
@@ -103,7 +114,7 @@ fn mend(met: &mut Enclave, cpu: Cpu, response: &mut Response) -> Result<(), Allo
     met.is_untouched = false;
     match met.world.mend(cpu) {
         Ok(reply) => {
-            *response = Response::Event(reply);
+            put_reply(response, reply);
             Ok(())
         }
         Err(_) => Err(AllocError),
@@ -127,7 +138,7 @@ fn act(
         Command::Event(event) => {
             enclave.is_untouched = false;
             match enclave.world.step(event) {
-                Ok(reply) => *response = Response::Event(reply),
+                Ok(reply) => put_reply(response, reply),
                 Err(_) => return Err(AllocError),
             }
         }

@@ -6,8 +6,8 @@ it is answered is a value, and a refusal is an exception of its own class. FORMA
 from . import commands
 from .commands import Command
 from .errors import (
-    BadCpu, BadLevel, BadLimits, Busy, Dead, Died, EmptyMask, Fault, Forbidden, HaveEnclave, IdleCpu, MaskTooWide,
-    Misread, NamesSpent, NimhessianError, NoDelta, NoEnclave, NotBlocked, NotReady, NotYours, NothingReady,
+    BadCpu, BadLevel, BadLimits, Busy, Dead, Died, EmptyMask, Fault, Forbidden, HaveEnclave, IdleCpu, Lost,
+    MaskTooWide, Misread, NamesSpent, NimhessianError, NoDelta, NoEnclave, NotBlocked, NotReady, NotYours, NothingReady,
     NothingToSteal, NumbersSpent, OnForbiddenCpu, Pending, PostsSpent, QueueFull, Refused, Running, Stale, TooLate,
     TooMany, UnknownThread, WireFault,
 )
@@ -16,10 +16,10 @@ from .world import Answer, Batch, World
 
 __all__ = [
     "Answer", "BadCpu", "BadLevel", "BadLimits", "Batch", "Busy", "Command", "Dead", "Died", "EmptyMask", "Fault",
-    "Forbidden", "HaveEnclave", "IdleCpu", "Known", "Limits", "MaskTooWide", "Misread", "NamesSpent",
+    "Forbidden", "HaveEnclave", "IdleCpu", "Known", "Limits", "Lost", "MaskTooWide", "Misread", "NamesSpent",
     "NimhessianError", "NoDelta", "NoEnclave", "NotBlocked", "NotReady", "NotYours", "NothingReady",
     "NothingToSteal", "NumbersSpent", "OnForbiddenCpu", "Pending", "Phase", "Placed", "Posted", "PostsSpent",
     "Published", "QueueFull", "Refused", "Running", "Stale", "Status", "TooLate", "TooMany", "UnknownThread",
     "View", "WireFault", "World", "commands",
 ]
-__version__ = "0.9.0"
+__version__ = "1.0.0"

@@ -188,6 +188,11 @@ class Died(NimhessianError):
         """What it wrote on standard error."""
 
 
+class Lost(NimhessianError):
+    """Nothing more can be asked: the world is closed, or an answer was not waited for to its end, by an interrupt say, so
+    that no later one could be told from it."""
+
+
 class Misread(NimhessianError):
     """An answer that this package does not know: the program is of another version."""
 

@@ -9,7 +9,7 @@ import threading
 from collections.abc import Iterator
 from typing import IO, TextIO
 
-from .errors import Died
+from .errors import Died, Lost, NimhessianError
 
 WAIT_AT_CLOSE = 10.0
 """How many seconds a program may take to end after its input has ended."""
@@ -48,22 +48,36 @@ class Program:
         self._from = self._process.stdout
         self._lines: Iterator[bytes] = iter(())
         self._rest = b""
+        self._end: NimhessianError | None = None
+        """Why nothing more is sent."""
 
-    def exchange(self, lines: list[str], rows: list[bool]) -> Iterator[str]:
-        """Sends lines, and gives the answer to each: one line, or rows up to a line `end`."""
+    def exchange(self, lines: list[str], rows: list[bool]) -> list[str]:
+        """Sends lines, and gives the answer to each: one line, or rows up to a line `end`.
+
+        Where that does not come to its end, by an interrupt say, no later answer could be told from those that were not
+        taken: nothing more is sent then.
+        """
+        if self._end is not None:
+            raise self._end
+        for line in lines:
+            if "\n" in line:
+                raise ValueError(f"a command is one line: {line!r}")
         text = "\n".join(lines) + "\n"
         if self._record is not None:
             self._record.write(text)
         data = text.encode()
-        if len(data) <= SMALL:
-            self._write(data)
-            yield from map(self._answer, rows)
-            return
+        self._end = Lost("an answer was not waited for")
         # The program reads on only while somebody takes its answers.
-        writer = threading.Thread(target=self._write, args=(data,), daemon=True)
-        writer.start()
-        yield from map(self._answer, rows)
-        writer.join()
+        writer = None if len(data) <= SMALL else threading.Thread(target=self._write, args=(data,), daemon=True)
+        if writer is None:
+            self._write(data)
+        else:
+            writer.start()
+        answers = [self._answer(has_rows) for has_rows in rows]
+        if writer is not None:
+            writer.join()
+        self._end = None
+        return answers
 
     def _write(self, data: bytes) -> None:
         try:
@@ -106,10 +120,12 @@ class Program:
             self._process.kill()
             status = self._process.wait()
         self._told.seek(0)
-        return Died(status, self._told.read().decode(errors="replace"))
+        death = self._end = Died(status, self._told.read().decode(errors="replace"))
+        return death
 
     def close(self) -> None:
         """Ends the input, and waits for the program's end."""
+        self._end = Lost("the world is closed")
         self._to.close()
         self._from.close()
         try:

@@ -7,7 +7,7 @@ from typing import Generic, Self, TextIO, TypeVar, cast
 
 from . import commands
 from .commands import Command
-from .errors import Fault, NimhessianError, Refused, refusal_of
+from .errors import Fault, Misread, Refused, refusal_of
 from .program import Program
 from .values import Limits, Placed, Posted, Published, Status, View
 
@@ -22,7 +22,10 @@ def _read(command: Command[Value], answer: str) -> Value:
         raise refusal_of(command.line, answer.split(" ")[1:])
     if answer.startswith("fault line "):
         raise Fault(command.line, int(answer.split(" ")[2]))
-    return command.read(answer)
+    try:
+        return command.read(answer)
+    except (ValueError, IndexError) as error:
+        raise Misread(f"{answer}: {command.line}") from error
 
 
 class World:
@@ -34,7 +37,7 @@ class World:
     ...     world.pick(0, aseq=posted.aseq)
     Placed(thread=0, cpu=0)
 
-    `version` is that of the script: 1 has narrower limits, and 3 alone policies. `program` is the path of `pc-sim`;
+    `version` is that of the script: 1 has narrower limits, and 3 alone has policies and `mend`. `program` is the path of `pc-sim`;
     without it PC_SIM names it, or it is looked for on the path. `record` gets each line that is sent: a script, which
     `pc-sim replay`, `explain` and `draw` take.
     """
@@ -63,7 +66,7 @@ class World:
             self.ask(enclave)
             if policy is not None:
                 self.policy(policy, exact)
-        except NimhessianError:
+        except BaseException:
             self.close()
             raise
 
@@ -239,7 +242,7 @@ class Batch:
     ...     first.get(), second.either()
     (Posted(thread=0, number=1, queue=0, aseq=1, wakes=None), BadCpu('create 9 1 ready'))
 
-    Where the `with` ends by an exception nothing is sent.
+    Where the `with` ends by an exception nothing is sent. A batch that is entered again sends what was added since.
     """
 
     def __init__(self, program: Program) -> None:
@@ -259,10 +262,10 @@ class Batch:
     def __exit__(
         self, kind: type[BaseException] | None, error: BaseException | None, trace: TracebackType | None
     ) -> None:
-        if kind is None and self.answers:
-            lines = [answer.command.line for answer in self.answers]
-            rows = [answer.command.rows for answer in self.answers]
-            for answer, told in zip(self.answers, self._program.exchange(lines, rows)):
+        unsent = [answer for answer in self.answers if answer._answer is None]
+        if kind is None and unsent:
+            lines = [answer.command.line for answer in unsent]
+            for answer, told in zip(unsent, self._program.exchange(lines, [answer.command.rows for answer in unsent])):
                 answer._answer = told
 
     def create(self, queue: int, mask: int, blocked: bool = False) -> Answer[Posted]:

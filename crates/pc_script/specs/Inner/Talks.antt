@@ -1,5 +1,5 @@
 -- What a session does at one line, and at many.
-use Rattle.std.specs.Prelude.{◌≡◌, ℕ, suc, Bool, true, false, List, [], ◌∷◌, ◌++◌, Option}
+use Rattle.std.specs.Prelude.{◌≡◌, ◌≤◌, ◌+◌, ◌^◌, ℕ, suc, Bool, true, false, List, [], ◌∷◌, ◌++◌, Option, length}
 use Rattle.std.specs.Io.KnownBytes.{Consumes}
 use Rattle.std.specs.Str.Lines.{strip_carriage_return}
 use Rattle.pc_calls.specs.declared.limits.Profile.{Profile}
@@ -90,3 +90,14 @@ pub record Keeps {M O : Type 0} (StandsAfter : Standing M) (Tells : Telling O) (
   pub text : List ℕ
   pub read : Consumes before after text
   pub leaves : Leaves StandsAfter Tells text old new passes kept
+
+-- the lines that were counted and these bytes come to the most that 64 bits count
+abbrev pub CountsOut : (number bytes : ℕ) → Type 0
+CountsOut number bytes = 2 ^ 64 ≤ number + bytes + 1
+
+-- At least a byte was consumed for each line that was counted, beside so many that are kept, and one for each turn
+pub record CountsBytes (before after : Option (List ℕ)) (number kept turns : ℕ) : Type 0 where
+  pub text : List ℕ
+  pub read : Consumes before after text
+  pub for_lines : number + kept ≤ length text
+  pub for_turns : turns ≤ length text

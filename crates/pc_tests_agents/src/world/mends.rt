@@ -1,8 +1,9 @@
 //! CPUs that are mended, with the replies that were written down by hand.
 
 use super::{commit, consume, crash, create, deliver, publish, small};
-use pc_calls::{EnvCall, Posted, Refusal};
+use pc_calls::{EnvCall, Posted, Profile, Refusal};
 use pc_messages::{Cpu, Tid};
+use pc_policy::{AgentPolicy, Order, Stealing};
 use pc_world::{Event, Reply, World};
 use std::alloc::Global;
 use std::process::Abort;
@@ -119,6 +120,44 @@ fn a_busy_cpu_and_one_that_is_not_there(rt: HostRuntime) {
     let events = [create(0, true), commit(0, 1)];
     assert!(rt; refuses(alloc, &events, 0, Refusal::Busy, Some(0)));
     assert!(rt; refuses(alloc, &events, 2, Refusal::BadCpu, None));
+}
+
+/// What mending the first CPU replies where its agent ranks no thread, and one waits there; and the thread that runs
+/// there behind this event.
+fn unranked(alloc: Global, stealing: Stealing, event: Event) -> Option<(Reply, Option<u32>)> {
+    let order = Order::Table(Vec::new(alloc));
+    let policies = [AgentPolicy { order, stealing }];
+    let mut world = World::new_by(alloc, Profile::One, small(), &policies).ok()?;
+    if !happened(&mut world, &[create(0, true)]) {
+        return None;
+    }
+    let reply = mended(&mut world, 0)?;
+    if !happened(&mut world, &[event]) {
+        return None;
+    }
+    Some((reply, running(&world, 0)))
+}
+
+/// Whether mending that CPU by an exact steal finds nothing ready, and this thread runs there behind the event.
+fn unranked_is_refused(alloc: Global, event: Event, thread: Option<u32>) -> bool {
+    let refused = Reply::Refused(Refusal::NothingReady);
+    unranked(alloc, Stealing::Exact, event) == Some((refused, thread))
+}
+
+fn unranked_is_stolen(alloc: Global) -> bool {
+    let committed = Reply::Committed {
+        thread: Tid(0),
+        cpu: Cpu(0),
+    };
+    unranked(alloc, Stealing::Least, consume(1)) == Some((committed, Some(0)))
+}
+
+#[test]
+fn an_exact_steal_needs_a_rank_and_another_none(rt: HostRuntime) {
+    assert!(rt; unranked_is_refused(rt.alloc(), consume(1), None));
+    // The kernel's own call puts it on its CPU all the same.
+    assert!(rt; unranked_is_refused(rt.alloc(), commit(0, 1), Some(0)));
+    assert!(rt; unranked_is_stolen(rt.alloc()));
 }
 
 /// How many deltas were sent once the CPU was mended behind these events.

@@ -1,4 +1,4 @@
-use Rattle.std.proofs.Common.{◌≡◌, true}
+use Rattle.std.proofs.Common.{◌≡◌, true, inl, inr}
 use Rattle.std.specs.Io.Buffered.{writer_contents}
 use Rattle.std.specs.Io.KnownBytes.{IsAtEnd}
 use Rattle.pc_session.specs.Session.{IsSession, RanOut}
@@ -13,3 +13,6 @@ returns-clause-ok g c =
 pub returns-clause-no_memory : goal.returns-clause-no_memory
 returns-clause-no_memory g c = λ is.
     session_until IsSession RanOut _ (g.R.Read.remaining c.converse.new.reader) _ c.converse.new.observer _ (writer_contents g.W.Write.contents c.converse.new.writer) (c.converse.ensures.no_memory is)
+
+pub returns-clause-too_long : goal.returns-clause-too_long
+returns-clause-too_long g c = λ is. elim (c.converse.ensures.too_long is) [ inl no_write ↦ cc | inr most ↦ most ]

@@ -1,4 +1,4 @@
-use Rattle.std.proofs.Common.{◌≡◌, ◌∙◌, ◌≤◌, ◌<◌, ◌^◌, ℕ, zero, suc, eqb, cond, Bool, false, Option, Some, None, List, [], ◌∷◌, take, map, get_or, length, inl, inr, w8, w64, sym, subst, arith, zero-add}
+use Rattle.std.proofs.Common.{◌≡◌, ◌∙◌, ◌≤◌, ◌<◌, ◌^◌, ℕ, eqb, Bool, false, Option, Some, None, take, map, length, inl, inr, w8, w64, sym, subst, arith, zero-add}
 use Rattle.std.proofs.lemmas.List.{length-map, length-take-le}
 use Rattle.std.proofs.lemmas.Nat.Bits.{bit_at-trailing_zeros}
 use Rattle.std.proofs.lemmas.Simd.{bit_mask_l, bitmask_splat, mask_l-lt, none_from_empty_mask, run_in_chunk_fails, run_in_chunk_stops, trailing_mask_l}
@@ -6,6 +6,7 @@ use Rattle.std.proofs.lemmas.Bool.{cases_lt, true≢false}
 use Rattle.std.specs.Simd.Lanes.{mask_l}
 use Rattle.std.specs.Int.Count.{count_trailing_zeros}
 use Rattle.memchr.specs.Find.{IsFirst, Nowhere, Passes, is_byte}
+use Rattle.pc_script.proofs.Lanes.{set_within}
 use Rattle.pc_script.proofs.lines.first_space.Goals as goal
 
 joined : (P : ℕ → Type 0) (n m : ℕ) → Nowhere P 0 n → Nowhere P n m → Nowhere P 0 m
@@ -15,12 +16,6 @@ joined P n m before after k low high is = elim (cases_lt k n) [ inl h ↦ before
 first_of_all : (P : ℕ → Type 0) (n m : ℕ) (found : Option ℕ) → Nowhere P 0 n → IsFirst P n m found → IsFirst P 0 m found
 first_of_all P n m None before none = joined P n m before none
 first_of_all P n m (Some k) before found = (record { low = omega arith; high = found.0.high; before = joined P n k before found.0.before }, found.1)
-
--- a bit that is set is that of an element
-set_within : (ms : List Bool) (k : ℕ) → ◌≡◌ {A = ℕ} (cond (get_or ms k false) 1 0) 1 → k < length ms
-set_within [] k e = absurd (omega (arith, e))
-set_within (m ∷ ms) zero e = omega arith
-set_within (m ∷ ms) (suc k) e = omega (arith, set_within ms k e)
 
 pub returns-then-spaces-eq0 : goal.returns-then-spaces-eq0
 returns-then-spaces-eq0 c =

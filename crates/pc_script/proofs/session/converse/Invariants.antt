@@ -1,7 +1,7 @@
 use Rattle.std.proofs.Common.{◌≤◌, ◌+◌, length}
 use Rattle.std.specs.Io.Buffered.{writer_contents}
 use Rattle.pc_script.specs.Inner.Pieces.{bytes_of}
-use Rattle.pc_script.specs.Inner.Talks.{Keeps, talking}
+use Rattle.pc_script.specs.Inner.Talks.{CountsBytes, Keeps, talking}
 use Rattle.pc_script.specs.declared.session.TheConstants.{MOST_LINE}
 use Rattle.pc_script.proofs.session.converse.Given as goal
 
@@ -13,4 +13,5 @@ invariant-loop g l = record {
       (talking l.talk.walk.machine l.talk.walk.is_open l.talk.walk.version l.talk.number l.talk.had_fault l.observer (writer_contents g.W.Write.contents l.writer))
       l.talk.passes (bytes_of l.piece);
   short : length (bytes_of l.piece) ≤ MOST_LINE + 1;
+  counted : CountsBytes (g.R.Read.remaining l.initial.reader) (g.R.Read.remaining l.reader) l.talk.number (length (bytes_of l.piece)) l.counter;
 }

@@ -8,5 +8,5 @@ use Rattle.pc_session.proofs.session.act.Goals as goal
 pub returns-in-Ok-clause-ok : goal.returns-in-Ok-clause-ok
 returns-in-Ok-clause-ok c =
     let now : Enclave = record { world = c.step.new.self; is_untouched = false } in
-    subst (λ command. Answers command c.args.enclave.now now (response.Event c.in-Ok.reply)) (sym c.in-Event.is)
-    (happens c.args.enclave.now c.step.new.self c.in-Event.event c.in-Ok.reply c.in-Ok.ensures.step)
+    rw c.put_reply.ensures (subst (λ command. Answers command c.args.enclave.now now (response.Event c.in-Ok.reply)) (sym c.in-Event.is)
+    (happens c.args.enclave.now c.step.new.self c.in-Event.event c.in-Ok.reply c.in-Ok.ensures.step))

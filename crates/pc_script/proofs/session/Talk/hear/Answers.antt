@@ -1,4 +1,5 @@
-use Rattle.pc_script.proofs.Pieces.{all_behind, behind_line, behind_more, end_empty}
+use Rattle.std.proofs.Common.{arith}
+use Rattle.pc_script.proofs.Pieces.{all_behind, behind_line, behind_more, end_empty, first_shorter}
 use Rattle.pc_script.proofs.Talking.{if_ok, leaves_behind, leaves_none, or_until, until_behind}
 use Rattle.pc_script.proofs.session.Talk.hear.Goals as goal
 
@@ -24,5 +25,6 @@ returns-clause-behind g c =
 pub returns-clause-err : goal.returns-clause-err
 returns-clause-err g c = λ fault is.
     or_until (c.take_and_keep-2.ensures.err fault is)
+    (λ counts. omega (arith, counts, c.in-Ok.ensures.counted, first_shorter c.args.text.now _ c.in-Some.more.now c.in-Some.ensures))
     (λ finds passed over. until_behind g.M.Machine.StandsAfter g.O.Observer.Tells g.M.Machine.RanOut c.args.text.now _ c.in-Some.more.now passed _ c.if-not-self.false over c.in-Some.ensures
     c.in-Ok.ensures.ok finds)

@@ -1,4 +1,4 @@
-use Rattle.std.proofs.Common.{◌≡◌, List, ℕ, length, ◌++◌}
+use Rattle.std.proofs.Common.{◌≡◌, ◌≤◌, ◌+◌, List, ℕ, length, ◌++◌}
 use Rattle.pc_script.specs.Inner.Pieces.{IsCut}
 use Rattle.pc_script.specs.Inner.Talks.{HearsAll, talking}
 use Rattle.pc_script.proofs.session.Talk.take_whole.Given as goal
@@ -12,6 +12,7 @@ invariant-loop-line g l = record {
       × IsCut l.text taken l.rest;
   behind : (front : List ℕ) × (l.text ≡ front ++ l.rest);
   passes : l.self.passes ≡ l.initial.self.passes;
+  counted : l.self.number + length l.rest ≤ l.initial.self.number + length l.text;
 }
 
 abbrev pub decreases-loop-line : goal.decreases-loop-line
