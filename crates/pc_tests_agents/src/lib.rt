@@ -11,6 +11,8 @@ mod examples;
 #[cfg(test)]
 mod explain;
 #[cfg(test)]
+mod lab;
+#[cfg(test)]
 mod session;
 #[cfg(test)]
 mod threads;

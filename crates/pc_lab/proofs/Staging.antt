@@ -1,0 +1,95 @@
+-- A stage goes on by one event.
+use Rattle.std.proofs.Common.{◌≡◌, ◌≤◌, ◌<◌, ◌+◌, ◌∙◌, ℕ, zero, suc, List, [], ◌∷◌, ◌++◌, Option, Some, None, IfSome, All, get_or, length, if◌then◌else◌, refl, sym, ap, subst, arith}
+use Rattle.std.proofs.lemmas.List.{append_assoc, append-nil, length-append}
+use Rattle.pc_calls.specs.declared.event.Event.{Event}
+use Rattle.pc_calls.specs.declared.event.Reply.{Reply}
+use Rattle.pc_calls.specs.declared.limits.Limits.{Limits}
+use Rattle.pc_policy.specs.Rules.{Rules, rules_of}
+use Rattle.pc_policy.specs.declared.agent_policy.AgentPolicy.{AgentPolicy}
+use Rattle.pc_script.specs.declared.command.PolicyName.{PolicyName}
+use Rattle.pc_world.specs.PlainWorld.{opened_by, rules_at}
+use Rattle.pc_world.specs.Shows.{Does, ShowsWorld, World}
+use Rattle.pc_world.specs.Steps.{Step}
+use Rattle.pc_lab.specs.Counting.{Counts, counted_as, counted_in, is_counted}
+use Rattle.pc_lab.specs.declared.chronicle.Chronicle.{Chronicle}
+use Rattle.pc_lab.specs.declared.chronicle.Chronicle.TheVariants.{Untold, Script}
+use Rattle.pc_lab.specs.declared.counted.Counted.{Counted}
+use Rattle.pc_lab.specs.declared.counted.Counted.TheVariants.{Commit}
+use Rattle.pc_lab.specs.Moments.{Leads, Moment, last_tick}
+use Rattle.pc_lab.specs.Moments as moments
+use Rattle.pc_lab.specs.Stages.{AreAll, Holds, IsRun, Tells, rules_named, text_in}
+use Rattle.pc_lab.specs.Texts.{body_text, moment_text}
+use Rattle.pc_lab.proofs.Counting as counting
+use Rattle.pc_lab.proofs.Texts.{last_one, one_more}
+
+-- the rules of a CPU are those of the policy at its place
+rules_there : (policies : List AgentPolicy) (c : ℕ) (other : AgentPolicy) → c < length policies → rules_at policies c ≡ rules_of (get_or policies c other)
+rules_there [] c other low = absurd (omega (arith, low))
+rules_there (policy ∷ policies) zero other low = refl
+rules_there (policy ∷ policies) (suc c) other low = rules_there policies c other (omega (arith, low))
+
+-- of policies that have the same rules, each has them
+each_at : (rules : Rules) (policies : List AgentPolicy) → All (λ policy. rules_of policy ≡ rules) policies → (c : ℕ) → c < length policies → rules_at policies c ≡ rules
+each_at rules [] all c low = absurd (omega (arith, low))
+each_at rules (policy ∷ policies) all c low = rules_there (policy ∷ policies) c policy low ∙ all c policy low
+
+-- at the start nothing has happened
+pub opened : (limits : Limits) (policy : PolicyName) (before : List ℕ) (world : World) (chronicle : Chronicle) (policies : List AgentPolicy) (tally : List ℕ)
+    → AreAll (rules_named policy) limits.cpus policies → ShowsWorld world (opened_by (rules_at policies) limits) → Holds before chronicle []
+    → ((what : Counted) → counted_in tally what ≡ 0) → IsRun limits policy before world chronicle None 0 tally 0
+opened limits policy before world chronicle policies tally all shows holds counts =
+    record {
+      each = rules_at policies;
+      same = λ c low. each_at (rules_named policy) policies all.each c (omega (arith, low, all.many));
+      moments = [];
+      plain = opened_by (rules_at policies) limits;
+      leads = moments.nothing;
+      shows = shows;
+      last = refl;
+      holds = holds;
+      number = refl;
+      counts = counts;
+      ended = refl;
+    }
+
+-- a chronicle to which one moment's lines were added holds that one too
+holds_one : (before : List ℕ) (old new : Chronicle) (moments : List Moment) (moment : Moment) → Holds before old moments
+    → Tells (last_tick None moments) moment.tick moment.event old new → Holds before new (moments ++ moment ∷ [])
+holds_one before Untold Untold moments moment holds tells = tells
+holds_one before Untold (Script new) moments moment holds tells = absurd tells
+holds_one before (Script old) Untold moments moment holds tells = absurd tells
+holds_one before (Script old) (Script new) moments moment holds tells =
+    let lines = moment_text (last_tick None moments) moment in
+    tells ∙ ap (λ text. text ++ lines) holds ∙ append_assoc before (body_text moments) lines ∙ ap (λ text. before ++ text) (sym (one_more None moments moment))
+
+-- an event was taken
+pub goes_on : (limits : Limits) (policy : PolicyName) (before : List ℕ) (old new : World) (chronicle chronicle' : Chronicle) (told : Option ℕ)
+    (tick events : ℕ) (tally tally' : List ℕ) (waits waits' : ℕ) (event : Event) (reply : Reply)
+    → IsRun limits policy before old chronicle told events tally waits → IfSome told (λ last. last ≤ tick)
+    → Does (λ w. Step w event) old new reply → Tells told tick event chronicle chronicle'
+    → Counts (counted_as event reply) tally tally'
+    → waits' ≡ waits + (if is_counted Commit (counted_as event reply) then 1 else 0)
+    → IsRun limits policy before new chronicle' (Some tick) (events + 1) tally' waits'
+goes_on limits policy before old new chronicle chronicle' told tick events tally tally' waits waits' event reply run low does tells counts more =
+    let moment : Moment = record { tick = tick; event = event; reply = reply } in
+    let after = does run.plain run.shows in
+    record {
+      each = run.each;
+      same = run.same;
+      moments = run.moments ++ moment ∷ [];
+      plain = after.0;
+      leads = moments.one_more run.moments moment run.leads (subst (λ last. IfSome last (λ t. t ≤ tick)) run.last low) after.1;
+      shows = after.2;
+      last = sym (last_one None run.moments moment);
+      holds = holds_one before chronicle chronicle' run.moments moment run.holds (subst (λ last. Tells last tick event chronicle chronicle') run.last tells);
+      number = ap (λ n. n + 1) run.number ∙ sym (length-append run.moments (moment ∷ []));
+      counts = λ what. counts what ∙ ap (λ n. n + (if is_counted what (counted_as event reply) then 1 else 0)) (run.counts what)
+          ∙ sym (counting.one_more what run.moments moment);
+      ended = more ∙ ap (λ n. n + (if is_counted Commit (counted_as event reply) then 1 else 0)) run.ended
+          ∙ sym (counting.one_more Commit run.moments moment);
+    }
+
+-- what a chronicle has holds no moments yet
+pub holds_own : (chronicle : Chronicle) → Holds (text_in chronicle) chronicle []
+holds_own Untold = tt
+holds_own (Script text) = sym (append-nil text.items)

@@ -1,0 +1,10 @@
+-- A run of the lab is a list of moments: at which tick which event was taken, and what it was replied. The moments lead
+-- from the start of a world to what it shows, by the world's own steps, at ticks that never descend. Counts, waits and
+-- the text of a script are those of the moments.
+pub mod Counting
+pub mod Heads
+pub mod Moments
+pub mod Playing
+pub mod Stages
+pub mod Texts
+pub mod Times

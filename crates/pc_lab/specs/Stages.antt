@@ -1,0 +1,69 @@
+-- What a stage holds while a run goes on.
+use Rattle.std.specs.Prelude.{◌≡◌, ℕ, ◌<◌, List, [], ◌++◌, Option, None, All, if◌then◌else◌, length}
+use Rattle.pc_calls.specs.declared.event.Event.{Event}
+use Rattle.pc_calls.specs.declared.limits.Limits.{Limits}
+use Rattle.pc_policy.specs.Rankings.{Ranking, all_alike, by_levels, least_ran, levels_then_least_ran}
+use Rattle.pc_policy.specs.Rules.{Rules, rules_of}
+use Rattle.pc_policy.specs.declared.agent_policy.AgentPolicy.{AgentPolicy}
+use Rattle.pc_script.specs.declared.command.OrderName.{OrderName}
+use Rattle.pc_script.specs.declared.command.OrderName.TheVariants.{Levels, Fifo, LeastRan, LevelsThenLeastRan}
+use Rattle.pc_script.specs.declared.command.PolicyName.{PolicyName}
+use Rattle.pc_world.specs.PlainWorld.{PlainWorld, opened_by}
+use Rattle.pc_world.specs.Shows.{ShowsWorld, World}
+use Rattle.pc_lab.specs.declared.chronicle.Chronicle.{Chronicle}
+use Rattle.pc_lab.specs.declared.chronicle.Chronicle.TheVariants.{Untold, Script}
+use Rattle.pc_lab.specs.declared.counted.Counted.{Counted}
+use Rattle.pc_lab.specs.declared.counted.Counted.TheVariants.{Commit}
+use Rattle.pc_lab.specs.Counting.{count_of, counted_in}
+use Rattle.pc_lab.specs.Moments.{Leads, Moment, last_tick}
+use Rattle.pc_lab.specs.Texts.{body_text, event_line, is_told, tick_line}
+
+-- the ranking of an order
+abbrev pub ranks_named : OrderName → Ranking
+ranks_named Levels = by_levels
+ranks_named Fifo = all_alike
+ranks_named LeastRan = least_ran
+ranks_named LevelsThenLeastRan = levels_then_least_ran
+
+-- the rules of a policy
+abbrev pub rules_named : PolicyName → Rules
+rules_named policy = record { ranks = ranks_named policy.order; exact = policy.exact }
+
+-- a chronicle gains the lines of an event at a tick, behind a tick that was told last
+abbrev pub Tells : Option ℕ → ℕ → Event → Chronicle → Chronicle → Type 0
+Tells told tick event Untold Untold = Unit {0}
+Tells told tick event (Script old) (Script new) =
+    new.items ≡ old.items ++ ((if is_told told tick then [] else tick_line tick) ++ event_line event)
+Tells told tick event Untold (Script new) = ⊥
+Tells told tick event (Script old) Untold = ⊥
+
+-- a chronicle holds these moments, behind a text
+abbrev pub Holds : List ℕ → Chronicle → List Moment → Type 0
+Holds before Untold moments = Unit {0}
+Holds before (Script text) moments = text.items ≡ before ++ body_text moments
+
+-- Moments have led from the start of a world with these limits, in which each agent goes by the policy, to what the
+-- world shows; the chronicle holds them behind a text, and all counts are theirs
+pub record IsRun (limits : Limits) (policy : PolicyName) (before : List ℕ) (world : World) (chronicle : Chronicle)
+    (told : Option ℕ) (events : ℕ) (tally : List ℕ) (waits : ℕ) : Type 0 where
+  pub each : ℕ → Rules
+  pub same : (c : ℕ) → c < limits.cpus → each c ≡ rules_named policy
+  pub moments : List Moment
+  pub plain : PlainWorld
+  pub leads : Leads (opened_by each limits) moments plain
+  pub shows : ShowsWorld world plain
+  pub last : told ≡ last_tick None moments
+  pub holds : Holds before chronicle moments
+  pub number : events ≡ length moments
+  pub counts : (what : Counted) → counted_in tally what ≡ count_of what moments
+  pub ended : waits ≡ count_of Commit moments
+
+-- so many policies, each with these rules
+pub record AreAll (rules : Rules) (count : ℕ) (policies : List AgentPolicy) : Type 0 where
+  pub many : length policies ≡ count
+  pub each : All (λ policy. rules_of policy ≡ rules) policies
+
+-- the text of a chronicle
+abbrev pub text_in : Chronicle → List ℕ
+text_in Untold = []
+text_in (Script text) = text.items

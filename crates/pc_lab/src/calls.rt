@@ -1,0 +1,146 @@
+//! Calls of agents that sleep on idle CPUs.
+
+use crate::fault::LabFault;
+use crate::run::Run;
+use crate::stage::Setting;
+use crate::times::{has, word_of};
+use pc_delta::Part;
+use pc_messages::{Cpu, Phase, Tid};
+
+/// The lowest CPU of a word.
+fn lowest(word: u64) -> Option<Cpu> {
+    if word == 0 {
+        None
+    } else {
+        Some(Cpu((word.trailing_zeros() % 64) as u8))
+    }
+}
+
+/// The CPUs above one.
+fn above(cpu: Cpu) -> u64 {
+    !(word_of(cpu) | word_of(cpu).wrapping_sub(1))
+}
+
+impl<K: Setting> Run<K> {
+    /// The CPUs of a word that are in the group of a CPU.
+    fn kin(&self, word: u64, home: Cpu) -> u64 {
+        word & self.kin[self.group_of(home) % 64]
+    }
+
+    /// Of the agents that sleep on idle CPUs, calls the first above the thread's home for it, or the lowest.
+    pub(crate) fn call(&mut self, thread: Tid) -> Result<(), LabFault> {
+        let Some(state) = self.kernel().reported(thread) else {
+            return Ok(());
+        };
+        let Some(home) = self.kernel().queue_of(thread) else {
+            return Ok(());
+        };
+        let is_free = match self.kernel().status(thread) {
+            Some(status) => status.running_on.is_none(),
+            None => false,
+        };
+        if !is_free || state.phase != Phase::Ready {
+            return Ok(());
+        }
+        let able = self.kin(self.sleepers & state.mask.bits(), home);
+        let called = match lowest(able & above(home)) {
+            Some(cpu) => Some(cpu),
+            None => lowest(able),
+        };
+        if let Some(cpu) = called {
+            self.lane_mut(cpu).called_for = Some(thread);
+            self.begin_turn(cpu)?;
+        }
+        Ok(())
+    }
+
+    /// How many parts the delta with this place has.
+    fn parts_of(&self, place: usize) -> usize {
+        match self.stage.world().sent().get(place) {
+            Some(delta) => delta.parts().len(),
+            None => 0,
+        }
+    }
+
+    /// A part of the delta with this place.
+    fn part_of(&self, place: usize, part: usize) -> Option<Part> {
+        let delta = self.stage.world().sent().get(place)?;
+        delta.parts().get(part).copied()
+    }
+
+    /// The thread of which a part is the newest message.
+    fn newest_in(&self, place: usize, part: usize) -> Option<Tid> {
+        let Part::One(message) = self.part_of(place, part)? else {
+            return None;
+        };
+        let status = self.kernel().status(message.thread)?;
+        if status.number == message.number {
+            Some(message.thread)
+        } else {
+            None
+        }
+    }
+
+    /// Calls agents for what the delta with this place reports.
+    fn call_for(&mut self, place: usize) -> Result<(), LabFault> {
+        for part in 0..self.parts_of(place) {
+            if let Some(thread) = self.newest_in(place, part) {
+                self.call(thread)?;
+            }
+        }
+        Ok(())
+    }
+
+    /// Calls agents for the deltas that waited until this one sleeps.
+    pub(crate) fn report_held_back(&mut self, cpu: Cpu) -> Result<(), LabFault> {
+        if self.held_back.is_empty() {
+            return Ok(());
+        }
+        for index in 0..self.held_back.len() {
+            if let Some((sender, place)) = self.held_back.get(index).copied() {
+                if sender == cpu {
+                    self.call_for(place)?;
+                }
+            }
+        }
+        self.held_back.retain(|held| held.0 != cpu);
+        Ok(())
+    }
+
+    /// Calls the agents again that were refused a steal of the thread as late.
+    fn call_again(&mut self, thread: Tid) -> Result<(), LabFault> {
+        let Some(asked) = self.refused_at.get_mut(thread.index() as usize) else {
+            return Ok(());
+        };
+        let word = *asked;
+        *asked = 0;
+        if word == 0 {
+            return Ok(());
+        }
+        for cpu in 0..64u8 {
+            if has(word & self.sleepers, Cpu(cpu)) {
+                self.begin_turn(Cpu(cpu))?;
+            }
+        }
+        Ok(())
+    }
+
+    /// The delta with this place can be taken in.
+    pub(crate) fn report(&mut self, place: usize) -> Result<(), LabFault> {
+        let Some(delta) = self.deltas.get(place) else {
+            return Ok(());
+        };
+        let sender = delta.sender;
+        if self.is_in_turn(sender) && self.running(sender).is_none() {
+            self.held_back.push((sender, place))?;
+        } else {
+            self.call_for(place)?;
+        }
+        for part in 0..self.parts_of(place) {
+            if let Some(part) = self.part_of(place, part) {
+                self.call_again(part.thread())?;
+            }
+        }
+        Ok(())
+    }
+}

@@ -1,0 +1,90 @@
+//! What stands before the events of a script.
+
+ghost use Rattle.std.specs.Prelude.{◌≡◌, ◌++◌, codes, nat_abs, length, IfOk, OnOk};
+ghost use Rattle.pc_load.specs.Variants.{variant_text};
+ghost use Rattle.pc_lab.specs.Heads.{command_line, head_text, is_levels, is_usual, opening_text};
+ghost use Rattle.pc_lab.specs.Playing.{limits_for};
+
+use crate::fault::LabFault;
+use crate::player::limits_of;
+use pc_calls::Limits;
+use pc_load::{Load, Variant};
+use pc_script::{Command, OrderName, PolicyName};
+use std::alloc::Global;
+use std::io::Write;
+
+/// Whether it is the order of levels.
+fn is_levels(order: OrderName) -> bool
+    ensures { result ≡ is_levels order }
+{
+    match order {
+        OrderName::Levels => true,
+        OrderName::Fifo | OrderName::LeastRan | OrderName::LevelsThenLeastRan => false,
+    }
+}
+
+/// Whether agents go by it where no policy is given.
+fn is_usual(policy: PolicyName) -> bool
+    ensures { result ≡ is_usual policy }
+{
+    is_levels(policy.order) && !policy.exact
+}
+
+/// Adds the comment that tells a variant.
+fn write_comment(text: &mut Vec<u8>, variant: &Variant) -> Result<(), LabFault>
+    ensures { OnOk result (text.new.items ≡ text.old.items ++ (variant_text variant.now ++ codes "\n")) }
+{
+    match write!(text, "{variant}\n") {
+        Ok(()) => Ok(()),
+        Err(_) => Err(LabFault::OutOfMemory),
+    }
+}
+
+/// Adds a command's line.
+fn write_command(text: &mut Vec<u8>, command: &Command) -> Result<(), LabFault>
+    ensures { OnOk result (text.new.items ≡ text.old.items ++ command_line command.now) }
+{
+    match write!(text, "{command}\n") {
+        Ok(()) => Ok(()),
+        Err(_) => Err(LabFault::OutOfMemory),
+    }
+}
+
+/// Adds the line that names the version.
+fn write_version(text: &mut Vec<u8>) -> Result<(), LabFault>
+    ensures { OnOk result (text.new.items ≡ text.old.items ++ codes "version 3\n") }
+{
+    match write!(text, "version 3\n") {
+        Ok(()) => Ok(()),
+        Err(_) => Err(LabFault::OutOfMemory),
+    }
+}
+
+/// Adds the commands by which a session opens the world.
+fn write_opening(text: &mut Vec<u8>, limits: Limits, policy: PolicyName) -> Result<(), LabFault>
+    ensures { OnOk result (text.new.items ≡ text.old.items ++ opening_text limits policy) }
+{
+    let enclave = Command::Enclave(limits);
+    if is_usual(policy) {
+        return write_command(text, &enclave);
+    }
+    let policy = Command::Policy(policy);
+    write_version(text)?;
+    write_command(text, &enclave)?;
+    write_command(text, &policy)
+}
+
+/// What stands before the events of the script of a run: a comment that tells the variant, and the commands by which a
+/// session opens the world that is played on (own).
+///
+/// # Errors
+/// [`LabFault::OutOfMemory`].
+pub fn head_of(alloc: Global, load: &Load, variant: &Variant) -> Result<Vec<u8>, LabFault>
+    ensures { IfOk result (λ text. text.items
+        ≡ head_text (limits_for (nat_abs load.now.cpus) (length load.now.threads)) variant.now) }
+{
+    let mut text = Vec::new(alloc);
+    write_comment(&mut text, variant)?;
+    write_opening(&mut text, limits_of(load), variant.policy)?;
+    Ok(text)
+}

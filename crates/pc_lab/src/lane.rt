@@ -1,0 +1,103 @@
+//! How far CPUs and threads are.
+
+use pc_load::{Leaving, Step};
+use pc_messages::{Cpu, Tid};
+
+/// How far a CPU's run and its agent's turn are.
+#[derive(Clone, Copy)]
+pub(crate) struct Lane {
+    /// The thread that was committed last.
+    pub last: Option<Tid>,
+    /// The ticks of the thread that runs are counted up to then.
+    pub since: u64,
+    /// The ticks that the thread that runs has run since its commit.
+    pub ran: u64,
+    /// What is left of its quantum.
+    pub quantum: u64,
+    /// Which end of a step holds.
+    pub step: u64,
+    /// Which turn holds.
+    pub turn: u64,
+    /// Whether a turn is due that has not begun.
+    pub is_due: bool,
+    /// The count of posts that the agent read last.
+    pub aseq: u32,
+    /// At so many deltas of its group the agent has looked.
+    pub looked: usize,
+    /// The thread for which the agent was called.
+    pub called_for: Option<Tid>,
+}
+
+impl Lane {
+    /// Nothing has happened.
+    pub(crate) const NEW: Lane = Lane {
+        last: None,
+        since: 0,
+        ran: 0,
+        quantum: 0,
+        step: 0,
+        turn: 0,
+        is_due: false,
+        aseq: 0,
+        looked: 0,
+        called_for: None,
+    };
+}
+
+/// How far a thread is.
+#[derive(Clone, Copy)]
+pub(crate) struct Life {
+    /// The place of the step behind its step of now.
+    pub next: usize,
+    /// How it leaves its CPU.
+    pub leaving: Leaving,
+    /// What is left of its step.
+    pub left: u64,
+    /// How often it was blocked.
+    pub blocks: usize,
+}
+
+/// A delta that was sent.
+#[derive(Clone, Copy)]
+pub(crate) struct SentDelta {
+    pub sender: Cpu,
+    /// The tick from which on others can take it in.
+    pub due: u64,
+    /// The CPUs on which a thread may run that it tells of.
+    pub mask: u64,
+}
+
+/// Whether two steps can be joined.
+fn fit(ticks: u32, more: u32) -> bool {
+    match ticks.checked_add(more) {
+        Some(_) => true,
+        None => false,
+    }
+}
+
+/// Whether the step with this place, at which a thread has run for so many ticks, goes over into the one behind it: it
+/// is a recorded preempt, and the sum is a u32.
+fn goes_over(steps: &[Step], place: usize, ticks: u32) -> bool {
+    match (steps.get(place), steps.get(place.saturating_add(1))) {
+        (Some(step), Some(next)) => step.leaving == Leaving::Preempt && fit(ticks, next.ticks),
+        _ => false,
+    }
+}
+
+/// The step that begins at this place, and the place behind it. Recorded preempts are joined with what follows, unless
+/// they are kept.
+pub(crate) fn joined(steps: &[Step], place: usize, keep: bool) -> Option<(Step, usize)> {
+    let mut ticks: u32 = 0;
+    for place in place..steps.len() {
+        let step = steps[place];
+        ticks = ticks.saturating_add(step.ticks);
+        if keep || !goes_over(steps, place, ticks) {
+            let whole = Step {
+                leaving: step.leaving,
+                ticks,
+            };
+            return Some((whole, place.saturating_add(1)));
+        }
+    }
+    None
+}

@@ -1,0 +1,404 @@
+//! Steps, quanta and turns.
+
+use crate::due::What;
+use crate::fault::LabFault;
+use crate::lane::{Life, SentDelta, joined};
+use crate::run::{Run, Stop};
+use crate::stage::Setting;
+use crate::times::word_of;
+use pc_calls::{AgentCall, EnvCall, Event, Posted, Refusal, Reply};
+use pc_load::{Leaving, Load};
+use pc_messages::{Cpu, Phase, Tid};
+use pc_script::OrderName;
+
+/// The ticks of a run, as a call of the environment takes them: no step has more.
+fn ticks_of(ran: u64) -> u32 {
+    match u32::try_from(ran) {
+        Ok(ran) => ran,
+        Err(_) => u32::MAX,
+    }
+}
+
+/// The thread with a place.
+fn thread_at(place: usize) -> Tid {
+    match u32::try_from(place) {
+        Ok(place) => Tid(place),
+        Err(_) => Tid(u32::MAX),
+    }
+}
+
+impl<K: Setting> Run<K> {
+    /// Counts what the thread that runs on the CPU has run.
+    pub(crate) fn settle(&mut self, cpu: Cpu) {
+        let now = self.stage.tick();
+        let running = self.running(cpu);
+        let stands_still = self.is_in_turn(cpu);
+        let lane = self.lane_mut(cpu);
+        let ticks = now.saturating_sub(lane.since);
+        lane.since = now;
+        let Some(thread) = running else {
+            return;
+        };
+        if stands_still {
+            return;
+        }
+        lane.ran = lane.ran.saturating_add(ticks);
+        lane.quantum = lane.quantum.saturating_sub(ticks);
+        if let Some(life) = self.lives.get_mut(thread.index() as usize) {
+            life.left = life.left.saturating_sub(ticks);
+        }
+    }
+
+    /// What is left of the step of a thread.
+    fn left_of(&self, thread: Tid) -> u64 {
+        match self.lives.get(thread.index() as usize) {
+            Some(life) => life.left,
+            None => 0,
+        }
+    }
+
+    /// The step or the quantum of the thread that runs on the CPU is due to end.
+    fn plan_end(&mut self, cpu: Cpu) -> Result<(), LabFault> {
+        let quantum = self.numbers.quantum;
+        let running = self.running(cpu);
+        let lane = self.lane_mut(cpu);
+        lane.step = lane.step.wrapping_add(1);
+        let (step, of_quantum) = (lane.step, lane.quantum);
+        let Some(thread) = running else {
+            return Ok(());
+        };
+        let left = self.left_of(thread);
+        let ticks = if quantum > 0 {
+            left.min(of_quantum)
+        } else {
+            left
+        };
+        self.put_in(ticks, What::StepEnds, cpu.index() as u64, step)
+    }
+
+    /// A thread was put on the CPU.
+    fn committed(&mut self, cpu: Cpu, thread: Tid) -> Result<(), LabFault> {
+        let now = self.stage.tick();
+        let quantum = self.numbers.quantum as u64;
+        let lane = self.lane_mut(cpu);
+        let is_switch = lane.last != Some(thread);
+        lane.last = Some(thread);
+        lane.ran = 0;
+        lane.since = now;
+        lane.quantum = quantum;
+        if is_switch {
+            self.switches = self.switches.saturating_add(1);
+        }
+        self.plan_end(cpu)
+    }
+
+    /// The agent picks.
+    pub(crate) fn pick(&mut self, cpu: Cpu) -> Result<Reply, LabFault> {
+        let _: (Option<Posted>, Option<Tid>, Option<Cpu>, Option<Refusal>) = (
+            None, None, None, None,
+        );
+        let aseq = self.lane(cpu).aseq;
+        let reply = self.stage.do_event(Event::Pick { cpu, aseq })?;
+        if let Reply::Committed { thread, .. } = reply {
+            self.committed(cpu, thread)?;
+        }
+        Ok(reply)
+    }
+
+    /// Whether the kernel would accept a commit of the thread on the CPU, were it idle.
+    fn can_be_committed(&self, cpu: Cpu, thread: Tid) -> bool {
+        let kernel = self.kernel();
+        let Some(state) = kernel.reported(thread) else {
+            return false;
+        };
+        let is_free = match kernel.status(thread) {
+            Some(status) => status.running_on.is_none(),
+            None => false,
+        };
+        is_free
+            && state.phase == Phase::Ready
+            && state.mask.allows(cpu)
+            && kernel.queue_of(thread) == Some(cpu)
+    }
+
+    /// The first of the CPU's run list that can be committed.
+    fn first(&self, cpu: Cpu) -> Option<Tid> {
+        let agent = self.stage.world().agent(cpu)?;
+        for thread in agent.run_list() {
+            if self.can_be_committed(cpu, *thread) {
+                return Some(*thread);
+            }
+        }
+        None
+    }
+
+    /// The rank of a thread that ran for so many ticks more than the kernel knows: the least stands first.
+    fn rank(&self, thread: Tid, more: u64) -> (u8, u64) {
+        let Some(state) = self.kernel().reported(thread) else {
+            return (0, 0);
+        };
+        let below = 7u8.saturating_sub(state.level.get());
+        let ran = state.ran.saturating_add(more);
+        match self.numbers.order {
+            OrderName::Levels => (below, 0),
+            OrderName::Fifo => (0, 0),
+            OrderName::LeastRan => (0, ran),
+            OrderName::LevelsThenLeastRan => (below, ran),
+        }
+    }
+
+    /// Preempts the thread that runs on the CPU, unless it stands before the first that could run; or only where that
+    /// one stands before it. Says whether it did.
+    fn preempt(&mut self, cpu: Cpu, only_before: bool) -> Result<bool, Stop> {
+        let Some(first) = self.first(cpu) else {
+            return Ok(false);
+        };
+        let Some(thread) = self.running(cpu) else {
+            return Ok(false);
+        };
+        let ran = self.lane(cpu).ran;
+        let its = self.rank(thread, ran);
+        let other = self.rank(first, 0);
+        if !(other < its) && (only_before || its < other) {
+            return Ok(false);
+        }
+        self.preempts = self.preempts.saturating_add(1);
+        let lane = self.lane_mut(cpu);
+        lane.step = lane.step.wrapping_add(1);
+        self.post(Event::Env(EnvCall::Preempt {
+            cpu,
+            ran: ticks_of(ran),
+        }))?;
+        Ok(true)
+    }
+
+    /// The thread goes on to its next step.
+    fn go_on(&mut self, load: &Load, thread: Tid) {
+        let place = thread.index() as usize;
+        let keep = self.numbers.keep;
+        let (Some(plan), Some(life)) = (load.threads().get(place), self.lives.get_mut(place)) else {
+            return;
+        };
+        if let Some((step, next)) = joined(plan.steps.as_slice(), life.next, keep) {
+            life.next = next;
+            life.leaving = step.leaving;
+            life.left = step.ticks as u64;
+        }
+    }
+
+    /// A blocked thread is to be woken when its sleep is over.
+    fn put_waking(&mut self, load: &Load, thread: Tid) -> Result<(), LabFault> {
+        let place = thread.index() as usize;
+        let (Some(plan), Some(life)) = (load.threads().get(place), self.lives.get_mut(place)) else {
+            return Ok(());
+        };
+        let ticks = match plan.sleeps.get(life.blocks) {
+            Some(ticks) => *ticks as u64,
+            None => 0,
+        };
+        life.blocks = life.blocks.saturating_add(1);
+        self.put_in(ticks, What::Waking, thread.index() as u64, 0)
+    }
+
+    /// The thread that runs on the CPU leaves it, as its step says.
+    fn leave(&mut self, load: &Load, cpu: Cpu, thread: Tid, leaving: Leaving) -> Result<(), Stop> {
+        let ran = ticks_of(self.lane(cpu).ran);
+        let call = match leaving {
+            Leaving::Yield => EnvCall::YieldNow { cpu, ran },
+            Leaving::Block => EnvCall::Block { cpu, ran },
+            Leaving::Preempt => EnvCall::Preempt { cpu, ran },
+            Leaving::Die => EnvCall::Die { cpu, ran },
+        };
+        self.go_on(load, thread);
+        self.post(Event::Env(call))?;
+        match leaving {
+            Leaving::Block => self.put_waking(load, thread)?,
+            Leaving::Die => self.dead = self.dead.saturating_add(1),
+            Leaving::Yield | Leaving::Preempt => {}
+        }
+        Ok(())
+    }
+
+    /// A step or a quantum ends on the CPU.
+    pub(crate) fn end_step(&mut self, load: &Load, cpu: Cpu) -> Result<(), Stop> {
+        self.settle(cpu);
+        let Some(thread) = self.running(cpu) else {
+            return Ok(());
+        };
+        let Some(life) = self.lives.get(thread.index() as usize) else {
+            return Ok(());
+        };
+        let (left, leaving) = (life.left, life.leaving);
+        if left == 0 {
+            return self.leave(load, cpu, thread, leaving);
+        }
+        if !self.preempt(cpu, false)? {
+            let quantum = self.numbers.quantum as u64;
+            self.lane_mut(cpu).quantum = quantum;
+            self.plan_end(cpu)?;
+        }
+        Ok(())
+    }
+
+    /// A thread comes.
+    pub(crate) fn create(&mut self, load: &Load, place: usize) -> Result<(), Stop> {
+        let Some(plan) = load.threads().get(place) else {
+            return Ok(());
+        };
+        let Some((step, next)) = joined(plan.steps.as_slice(), 0, self.numbers.keep) else {
+            return Ok(());
+        };
+        self.lives.push(Life {
+            next,
+            leaving: step.leaving,
+            left: step.ticks as u64,
+            blocks: 0,
+        })?;
+        self.refused_at.push(0)?;
+        self.stage.add_waiter(plan.mask, plan.level)?;
+        self.post(Event::Env(EnvCall::Create {
+            queue: plan.queue,
+            mask: plan.mask,
+            ready: true,
+        }))?;
+        if plan.level != 0 {
+            self.post(Event::Env(EnvCall::SetPriority {
+                thread: thread_at(place),
+                level: plan.level,
+            }))?;
+        }
+        Ok(())
+    }
+
+    /// A thread wakes.
+    pub(crate) fn wake(&mut self, thread: Tid) -> Result<(), Stop> {
+        self.post(Event::Env(EnvCall::Wake { thread }))
+    }
+
+    /// The CPUs on which a thread may run of which the delta with this place tells.
+    fn mask_of(&self, place: usize) -> u64 {
+        let Some(delta) = self.stage.world().sent().get(place) else {
+            return 0;
+        };
+        let mut mask = 0;
+        for part in delta.parts() {
+            if let Some(state) = self.kernel().reported(part.thread()) {
+                mask |= state.mask.bits();
+            }
+        }
+        mask
+    }
+
+    /// The group of a CPU.
+    pub(crate) fn group_of(&self, cpu: Cpu) -> usize {
+        self.numbers.group_of(cpu)
+    }
+
+    /// The agent publishes and consumes.
+    fn publish(&mut self, cpu: Cpu) -> Result<(), LabFault> {
+        let _: (Option<Posted>, Option<Tid>, Option<Cpu>, Option<Refusal>) = (
+            None, None, None, None,
+        );
+        let place = self.deltas.len();
+        self.stage.do_event(Event::Publish { cpu, fails: false })?;
+        self.stage.do_event(Event::Consume { cpu })?;
+        let mask = self.mask_of(place);
+        let due = self.stage.tick().saturating_add(self.numbers.delay as u64);
+        self.deltas.push(SentDelta {
+            sender: cpu,
+            due,
+            mask,
+        })?;
+        let group = self.group_of(cpu);
+        if let Some(places) = self.groups.get_mut(group) {
+            places.push(place)?;
+        }
+        Ok(())
+    }
+
+    /// Whether the CPU's queue holds anything.
+    fn holds_news(&self, cpu: Cpu) -> bool {
+        match self.kernel().queued(cpu) {
+            Some((first, second)) => !first.is_empty() || !second.is_empty(),
+            None => false,
+        }
+    }
+
+    /// A turn of the CPU's agent begins.
+    pub(crate) fn turn_begins(&mut self, cpu: Cpu) -> Result<(), LabFault> {
+        let _: (Option<Posted>, Option<Tid>, Option<Cpu>, Option<Refusal>) = (
+            None, None, None, None,
+        );
+        self.settle(cpu);
+        self.lane_mut(cpu).is_due = false;
+        self.in_turns |= word_of(cpu);
+        if self.kernel().is_asleep(cpu) {
+            self.stage.do_event(Event::Agent(AgentCall::Rouse { cpu }))?;
+        }
+        if self.holds_news(cpu) {
+            self.publish(cpu)?;
+        }
+        let aseq = self.kernel().aseq(cpu);
+        let lane = self.lane_mut(cpu);
+        lane.aseq = aseq.unwrap_or(0);
+        lane.step = lane.step.wrapping_add(1);
+        let turn = lane.turn;
+        let cost = self.numbers.cost as u64;
+        self.put_in(cost, What::TurnEnds, cpu.index() as u64, turn)
+    }
+
+    /// A turn ends on a CPU on which a thread runs.
+    fn go_on_running(&mut self, cpu: Cpu) -> Result<(), Stop> {
+        if self.numbers.urgent && self.preempt(cpu, true)? {
+            self.begin_turn(cpu)?;
+            return Ok(());
+        }
+        self.plan_end(cpu)?;
+        self.sleep(cpu)?;
+        Ok(())
+    }
+
+    /// A turn of the CPU's agent ends.
+    pub(crate) fn turn_ends(&mut self, cpu: Cpu) -> Result<(), Stop> {
+        let _: (Option<Posted>, Option<Tid>, Option<Cpu>, Option<Refusal>) = (
+            None, None, None, None,
+        );
+        self.in_turns &= !word_of(cpu);
+        let now = self.stage.tick();
+        self.lane_mut(cpu).since = now;
+        if self.running(cpu).is_some() {
+            return self.go_on_running(cpu);
+        }
+        match self.pick(cpu)? {
+            Reply::Refused(Refusal::Stale(_)) => self.begin_turn(cpu)?,
+            Reply::Refused(Refusal::NothingReady) if self.numbers.steals => {
+                let turn = self.lane(cpu).turn;
+                self.put_in(0, What::Steal, cpu.index() as u64, turn)?;
+            }
+            _ => self.sleep(cpu)?,
+        }
+        Ok(())
+    }
+
+    /// The agent goes to sleep; then the deltas are reported that waited for it.
+    pub(crate) fn sleep(&mut self, cpu: Cpu) -> Result<(), LabFault> {
+        let _: (Option<Posted>, Option<Tid>, Option<Cpu>, Option<Refusal>) = (
+            None, None, None, None,
+        );
+        let lane = self.lane_mut(cpu);
+        lane.called_for = None;
+        let (aseq, is_due) = (lane.aseq, lane.is_due);
+        match self
+            .stage
+            .do_event(Event::Agent(AgentCall::Sleep { cpu, aseq }))?
+        {
+            Reply::Done => {
+                if self.running(cpu).is_none() && !is_due {
+                    self.sleepers |= word_of(cpu);
+                }
+            }
+            _ => self.begin_turn(cpu)?,
+        }
+        self.report_held_back(cpu)
+    }
+}

@@ -1,0 +1,63 @@
+-- Steps that are joined one by one.
+use Rattle.std.proofs.Common.{ℕ, ◌≡◌, ◌+◌, ◌^◌, ◌<◌, ◌⊎◌, Bool, true, false, ltb, ◌&&◌, List, [], ◌∷◌, ◌++◌, length, drop, refl, sym, ap, ◌∙◌, inl, inr, append_assoc, subst, get_or, add-one, drop-cons, take, ◌-◌, arith, rules, tests}
+use Rattle.std.proofs.lemmas.List.{length-drop}
+use Rattle.std.proofs.Math.Seq.{take-length}
+use Rattle.pc_messages.proofs.Bools.{second_true}
+use Rattle.pc_load.specs.declared.load.Step.{Step}
+use Rattle.pc_load.specs.Joining.{is_joined, joined_with, preempts, with_more}
+
+-- the first of the steps has room for more ticks
+abbrev pub HasRoom : ℕ → List Step → Type 0
+HasRoom more [] = Unit {0}
+HasRoom more (step ∷ steps) = more + step.ticks < 2 ^ 32
+
+-- these are done, and the steps from a place on are left, of which the first gets more ticks
+pub record Joined (steps : List Step) (place : ℕ) (done : List Step) (more : ℕ) : Type 0 where
+  pub whole : joined_with 0 steps ≡ done ++ joined_with more (drop place steps)
+  pub room : (more ≡ 0) ⊎ HasRoom more (drop place steps)
+
+-- the step at a place, and those behind it
+pub parted : (steps : List Step) (place : ℕ) (d : Step) → place < length steps → drop place steps ≡ get_or steps place d ∷ drop (place + 1) steps
+parted steps place d below = drop-cons steps place d below ∙ ap (λ n. get_or steps place d ∷ drop n steps) (sym (add-one place))
+
+-- the steps behind it, as they are cut
+pub cut : (steps : List Step) (place : ℕ) → take (length steps - (place + 1)) (drop (place + 1) steps) ≡ drop (place + 1) steps
+cut steps place = ap (λ n. take n (drop (place + 1) steps)) (sym (length-drop (place + 1) steps)) ∙ take-length (drop (place + 1) steps)
+
+joined_room : (more : ℕ) (step : Step) (rest : List Step) → is_joined more step rest ≡ true → HasRoom (more + step.ticks) rest
+joined_room more step [] h = cc
+joined_room more step (next ∷ rest) h =
+    let below : ltb (more + step.ticks + next.ticks) (2 ^ 32) ≡ true = second_true (preempts step.leaving) _ h in search (rules, tests)
+
+joined_on : (more : ℕ) (step : Step) (rest : List Step) → is_joined more step rest ≡ true → joined_with more (step ∷ rest) ≡ joined_with (more + step.ticks) rest
+joined_on more step rest h = rw h refl
+
+kept_on : (more : ℕ) (step : Step) (rest : List Step) → is_joined more step rest ≡ false → joined_with more (step ∷ rest) ≡ with_more more step ∷ joined_with 0 rest
+kept_on more step rest h = rw h refl
+
+pub joins : (steps : List Step) (place : ℕ) (done : List Step) (more : ℕ) (step : Step) → Joined steps place done more
+    → drop place steps ≡ step ∷ drop (place + 1) steps → is_joined more step (drop (place + 1) steps) ≡ true
+    → Joined steps (place + 1) done (more + step.ticks)
+joins steps place done more step h split joined =
+    record {
+      whole = h.whole ∙ ap (λ xs. done ++ joined_with more xs) split ∙ ap (λ xs. done ++ xs) (joined_on more step (drop (place + 1) steps) joined);
+      room = inr (joined_room more step (drop (place + 1) steps) joined);
+    }
+
+pub keeps : (steps : List Step) (place : ℕ) (done : List Step) (more : ℕ) (step : Step) → Joined steps place done more
+    → drop place steps ≡ step ∷ drop (place + 1) steps → is_joined more step (drop (place + 1) steps) ≡ false
+    → Joined steps (place + 1) (done ++ with_more more step ∷ []) 0
+keeps steps place done more step h split kept =
+    record {
+      whole = h.whole ∙ ap (λ xs. done ++ joined_with more xs) split ∙ ap (λ xs. done ++ xs) (kept_on more step (drop (place + 1) steps) kept)
+          ∙ sym (append_assoc done (with_more more step ∷ []) (joined_with 0 (drop (place + 1) steps)));
+      room = inl refl;
+    }
+
+room_at : (more : ℕ) (step : Step) (rest those : List Step) → those ≡ step ∷ rest → (more ≡ 0) ⊎ HasRoom more those → (more ≡ 0) ⊎ (more + step.ticks < 2 ^ 32)
+room_at more step rest those split (inl none) = inl none
+room_at more step rest those split (inr room) = inr (subst (HasRoom more) split room)
+
+pub room_for : (steps : List Step) (place : ℕ) (done : List Step) (more : ℕ) (step : Step) → Joined steps place done more
+    → drop place steps ≡ step ∷ drop (place + 1) steps → (more ≡ 0) ⊎ (more + step.ticks < 2 ^ 32)
+room_for steps place done more step h split = room_at more step (drop (place + 1) steps) (drop place steps) split h.room

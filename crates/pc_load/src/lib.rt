@@ -1,0 +1,16 @@
+//! Loads of the lab: what threads need, and the policies under which it is tried.
+//!
+//! A [`Load`] says of each thread when it comes, for how long it runs and sleeps, and at which level. A [`Variant`] is
+//! a policy with what the lab does by itself: quanta, late news, turns that take time.
+#![tactic(auto)]
+
+mod joining;
+mod load;
+mod variant;
+
+pub use load::{
+    LAST_TICK, Leaving, Load, LoadFault, MOST_LEVEL, MOST_STEPS, Step, ThreadDraft, ThreadLoad,
+};
+pub use variant::{
+    MOST_GROUP, MOST_NAME, MOST_VARIANTS, Variant, VariantDraft, VariantFault, Variants,
+};

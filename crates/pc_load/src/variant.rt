@@ -1,0 +1,147 @@
+//! The policies under which a load is tried.
+
+ghost use Rattle.std.specs.Prelude.{◌≡◌, ◌⊎◌, Some, None, IfOk, IfErr, map};
+ghost use Rattle.pc_load.specs.Variants.{choice_in, choice_of, or_plain, variant_fault};
+ghost use Rattle.pc_load.specs.declared.variant.VariantFault.TheVariants.{OutOfMemory};
+
+mod drafts;
+mod words;
+
+use drafts::{plain, variants_of};
+use pc_script::PolicyName;
+use std::alloc::{AllocError, AllocFailed, Global};
+use std::marker::Model;
+use thiserror::Error;
+
+/// The most variants.
+pub const MOST_VARIANTS: usize = 16;
+
+/// The most letters of a variant's name.
+pub const MOST_NAME: usize = 24;
+
+/// The most CPUs of a group.
+pub const MOST_GROUP: u8 = 64;
+
+/// A policy, and what the lab does by itself (own). Ticks are those of the load.
+#[derive(Debug, Drop)]
+pub struct Variant {
+    /// Its title: 1 to 24 of `a-z 0-9 . -`.
+    pub name: Vec<u8>,
+    /// The order of run lists, and what a steal takes.
+    pub policy: PolicyName,
+    /// After so many ticks a thread may be preempted; 0: never.
+    pub quantum: u32,
+    /// So many CPUs side by side hear of each other and steal from each other: 1 to 64.
+    pub group: u8,
+    /// Ticks from a publish until others can take the delta in.
+    pub delay: u32,
+    /// Ticks that an agent's turn takes on its CPU.
+    pub cost: u32,
+    /// Whether who runs is preempted for one that stands before it.
+    pub urgent: bool,
+    /// Whether recorded preempts are kept.
+    pub keep: bool,
+}
+
+/// A variant as it is asked for, in the words and numbers of a text (own).
+#[derive(Clone, Copy, Debug)]
+pub struct VariantDraft<'a> {
+    /// Its title.
+    pub name: &'a str,
+    /// The word for the order of run lists.
+    pub order: &'a str,
+    /// The word for what a steal takes.
+    pub steals: &'a str,
+    /// After so many ticks a thread may be preempted.
+    pub quantum: i64,
+    /// So many CPUs side by side hear of each other.
+    pub group: i64,
+    /// Ticks from a publish until others can take the delta in.
+    pub delay: i64,
+    /// Ticks that an agent's turn takes on its CPU.
+    pub cost: i64,
+    /// Whether who runs is preempted for one that stands before it.
+    pub urgent: bool,
+    /// Whether recorded preempts are kept.
+    pub keep: bool,
+}
+
+/// Why variants cannot be tried.
+#[derive(Clone, Copy, Debug, PartialEq, Eq, Error)]
+pub enum VariantFault {
+    /// There are at most 16.
+    #[error("there are at most 16 variants")]
+    TooMany,
+    /// The one with this place has a value out of its range, or the name of one before it.
+    #[error("variant {0} is none")]
+    Bad(usize),
+    /// A growth was refused.
+    #[error("out of memory")]
+    OutOfMemory,
+}
+
+impl From<AllocError> for VariantFault {
+    ghost use Rattle.std.specs.Prelude.{◌≡◌};
+    ghost use Rattle.pc_load.specs.declared.variant.VariantFault.TheVariants.{OutOfMemory};
+
+    ghost from_gives = { λ _ fault. fault ≡ OutOfMemory };
+
+    fn from(_error: AllocError) -> VariantFault {
+        VariantFault::OutOfMemory
+    }
+}
+
+impl<T: Drop> From<AllocFailed<T>> for VariantFault {
+    ghost use Rattle.std.specs.Prelude.{◌≡◌};
+    ghost use Rattle.pc_load.specs.declared.variant.VariantFault.TheVariants.{OutOfMemory};
+
+    ghost from_gives = { λ _ fault. fault ≡ OutOfMemory };
+
+    fn from(_error: AllocFailed<T>) -> VariantFault {
+        VariantFault::OutOfMemory
+    }
+}
+
+/// The variants under which a load is tried, at least one (own).
+#[derive(Debug, Drop)]
+pub struct Variants {
+    variants: Vec<Variant>,
+}
+
+impl Model for Variants {
+    ghost use Rattle.std.specs.Prelude.{◌≡◌, None, List, map};
+    ghost use Rattle.pc_load.specs.Variants.{Choice, choice_of, variant_fault};
+
+    ghost Value = { List Choice };
+
+    ghost view = { λ all. map choice_of all.variants.items };
+
+    ghost invariant = { λ all. variant_fault (map choice_of all.variants.items) ≡ None };
+}
+
+impl Variants {
+    /// The variants that are asked for, in their order; where none is, one of all defaults with the name `plain`.
+    pub fn new(alloc: Global, drafts: &[VariantDraft<'_>]) -> Result<Variants, VariantFault>
+        ensures ok { IfOk result (λ _. variant_fault (map choice_in drafts.now) ≡ None) }
+        ensures keeps { IfOk result (λ variants. variants ≡ or_plain (map choice_in drafts.now)) }
+        ensures answers { IfErr result (λ fault.
+            (variant_fault (map choice_in drafts.now) ≡ Some fault) ⊎ (fault ≡ OutOfMemory)) }
+    {
+        if drafts.len() > MOST_VARIANTS {
+            return Err(VariantFault::TooMany);
+        }
+        if drafts.is_empty() {
+            let variants = plain(alloc)?;
+            return Ok(Variants { variants });
+        }
+        let variants = variants_of(alloc, drafts)?;
+        Ok(Variants { variants })
+    }
+
+    /// The variants in their order.
+    pub fn as_slice(&self) -> &[Variant]
+        ensures { map choice_of result.now ≡ self.now }
+    {
+        self.variants.as_slice()
+    }
+}

@@ -1,0 +1,4 @@
+pub mod ListsOfKind
+pub mod Numerals
+pub mod Stages
+pub mod Tables

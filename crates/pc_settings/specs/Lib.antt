@@ -1,0 +1,6 @@
+-- What the TOML texts of the program spell, and what is wrong with a text.
+pub mod Inner
+pub mod Keys
+pub mod LoadTexts
+pub mod Steps
+pub mod Words

@@ -1,0 +1,168 @@
+//! What stands at the keys of a table.
+
+ghost use Rattle.std.specs.Prelude.{◌≡◌, ℤ, Some, None, MatchOption, true, map, option_map, codes};
+ghost use Rattle.toml.specs.Data.{get_member, as_table, as_str, as_integer};
+ghost use Rattle.toml.specs.View.{table_view, view};
+ghost use Rattle.pc_settings.specs.Keys.{integer_at, integer_or, integers_at, list_of, switch_at, tables_at};
+ghost use Rattle.pc_settings.specs.Keys.{text_at, text_or, texts_at};
+ghost use Rattle.pc_settings.specs.Inner.Values.{are_integers, are_tables, are_texts, integer_in, table_in, text_in};
+
+use toml::{Table, Value};
+
+/// What stands at a key.
+fn value_at<'a>(table: &'a Table, key: &str) -> Option<&'a Value>
+    ensures { option_map (λ value. view value.now) result ≡ get_member key.now (table_view table.now) }
+{
+    table.get(key)
+}
+
+/// The integer at a key.
+pub(crate) fn integer_at(table: &Table, key: &str) -> Option<i64>
+    ensures { result ≡ integer_at key.now (table_view table.now) }
+{
+    match value_at(table, key) {
+        Some(value) => value.as_integer(),
+        None => None,
+    }
+}
+
+/// The integer at a key, or this where it is absent.
+pub(crate) fn integer_or(absent: i64, table: &Table, key: &str) -> Option<i64>
+    ensures { result ≡ integer_or absent key.now (table_view table.now) }
+{
+    match value_at(table, key) {
+        Some(value) => value.as_integer(),
+        None => Some(absent),
+    }
+}
+
+/// Whether the setting at a key is on; it is off where it is absent.
+pub(crate) fn switch_at(table: &Table, key: &str) -> Option<bool>
+    ensures { result ≡ switch_at key.now (table_view table.now) }
+{
+    match value_at(table, key) {
+        Some(value) => value.as_bool(),
+        None => Some(false),
+    }
+}
+
+/// The text at a key.
+pub(crate) fn text_at<'a>(table: &'a Table, key: &str) -> Option<&'a str>
+    ensures { option_map (λ text. text.now) result ≡ text_at key.now (table_view table.now) }
+{
+    match value_at(table, key) {
+        Some(value) => value.as_str(),
+        None => None,
+    }
+}
+
+/// The text at a key, or this where it is absent.
+pub(crate) fn text_or<'a>(absent: &'static str, table: &'a Table, key: &str) -> Option<&'a str>
+    ensures { option_map (λ text. text.now) result ≡ text_or absent.now key.now (table_view table.now) }
+{
+    match value_at(table, key) {
+        Some(value) => value.as_str(),
+        None => Some(absent),
+    }
+}
+
+fn are_tables(items: &[Value]) -> bool
+    ensures { result ≡ are_tables items.now }
+{
+    items.iter().all(|item| item.is_table())
+}
+
+fn are_texts(items: &[Value]) -> bool
+    ensures { result ≡ are_texts items.now }
+{
+    items.iter().all(|item| item.is_str())
+}
+
+fn are_integers(items: &[Value]) -> bool
+    ensures { result ≡ are_integers items.now }
+{
+    items.iter().all(|item| item.is_integer())
+}
+
+/// The tables that a value lists.
+fn tables_in(value: &Value) -> Option<&[Value]>
+    ensures { MatchOption result (list_of as_table (view value.now) ≡ None)
+        (λ items. (are_tables items.now ≡ true) × (list_of as_table (view value.now) ≡ Some (map table_in items.now))) }
+{
+    match value.as_array() {
+        Some(items) => {
+            let items = items.as_slice();
+            if are_tables(items) { Some(items) } else { None }
+        }
+        None => None,
+    }
+}
+
+/// The texts that a value lists.
+fn texts_in(value: &Value) -> Option<&[Value]>
+    ensures { MatchOption result (list_of as_str (view value.now) ≡ None)
+        (λ items. (are_texts items.now ≡ true) × (list_of as_str (view value.now) ≡ Some (map text_in items.now))) }
+{
+    match value.as_array() {
+        Some(items) => {
+            let items = items.as_slice();
+            if are_texts(items) { Some(items) } else { None }
+        }
+        None => None,
+    }
+}
+
+/// The integers that a value lists.
+fn integers_in(value: &Value) -> Option<&[Value]>
+    ensures { MatchOption result (list_of as_integer (view value.now) ≡ None)
+        (λ items. (are_integers items.now ≡ true)
+        × (list_of as_integer (view value.now) ≡ Some (map integer_in items.now))) }
+{
+    match value.as_array() {
+        Some(items) => {
+            let items = items.as_slice();
+            if are_integers(items) {
+                Some(items)
+            } else {
+                None
+            }
+        }
+        None => None,
+    }
+}
+
+/// The list of tables at a key, which may be absent.
+pub(crate) fn tables_at<'a>(table: &'a Table, key: &str) -> Option<&'a [Value]>
+    ensures { MatchOption result (tables_at key.now (table_view table.now) ≡ None)
+        (λ items. (are_tables items.now ≡ true)
+        × (tables_at key.now (table_view table.now) ≡ Some (map table_in items.now))) }
+{
+    match value_at(table, key) {
+        Some(value) => tables_in(value),
+        None => Some(&[]),
+    }
+}
+
+/// The list of texts at a key.
+pub(crate) fn texts_at<'a>(table: &'a Table, key: &str) -> Option<&'a [Value]>
+    ensures { MatchOption result (texts_at key.now (table_view table.now) ≡ None)
+        (λ items. (are_texts items.now ≡ true)
+        × (texts_at key.now (table_view table.now) ≡ Some (map text_in items.now))) }
+{
+    match value_at(table, key) {
+        Some(value) => texts_in(value),
+        None => None,
+    }
+}
+
+/// The list of integers at a key, which may be absent.
+pub(crate) fn integers_at<'a>(table: &'a Table, key: &str) -> Option<&'a [Value]>
+    ensures { MatchOption result (integers_at key.now (table_view table.now) ≡ None)
+        (λ items. (are_integers items.now ≡ true)
+        × (integers_at key.now (table_view table.now) ≡ Some (map integer_in items.now))) }
+{
+    match value_at(table, key) {
+        Some(value) => integers_in(value),
+        None => Some(&[]),
+    }
+}

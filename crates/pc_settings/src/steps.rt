@@ -1,0 +1,62 @@
+//! The texts of steps.
+
+ghost use Rattle.std.specs.Prelude.{◌≡◌, IsSome};
+ghost use Rattle.toml.specs.Data.{as_str};
+ghost use Rattle.toml.specs.View.{view};
+ghost use Rattle.pc_settings.specs.Inner.Values.{text_in};
+ghost use Rattle.pc_settings.specs.Steps.{read_after, read_leaving, read_step};
+
+use pc_load::{Leaving, Step};
+use pc_script::count;
+use toml::Value;
+
+/// The number that follows the word.
+fn number_after(word: &[u8], text: &[u8]) -> Option<u32>
+    ensures { result ≡ read_after word.now text.now }
+{
+    match text.strip_prefix(word) {
+        Some(number) => count(number),
+        None => None,
+    }
+}
+
+/// The step that a text is.
+fn step_of(text: &str) -> Option<Step>
+    ensures { result ≡ read_step text.now }
+{
+    let text = text.as_bytes();
+    if let Some(ticks) = number_after(b"yield ", text) {
+        Some(Step {
+            leaving: Leaving::Yield,
+            ticks,
+        })
+    } else if let Some(ticks) = number_after(b"block ", text) {
+        Some(Step {
+            leaving: Leaving::Block,
+            ticks,
+        })
+    } else if let Some(ticks) = number_after(b"preempt ", text) {
+        Some(Step {
+            leaving: Leaving::Preempt,
+            ticks,
+        })
+    } else if let Some(ticks) = number_after(b"die ", text) {
+        Some(Step {
+            leaving: Leaving::Die,
+            ticks,
+        })
+    } else {
+        None
+    }
+}
+
+/// The step that a value is, which is a text.
+pub(crate) fn step_in(value: &Value) -> Option<Step>
+    requires { IsSome (as_str (view value.now)) }
+    ensures { result ≡ read_step (text_in value.now) }
+{
+    match value.as_str() {
+        Some(text) => step_of(text),
+        None => unreachable!(),
+    }
+}
