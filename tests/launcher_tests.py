@@ -7,6 +7,7 @@ Nothing is proved here, and the real rt is not on the path. The last line is 'N 
 import fcntl
 import os
 import pathlib
+import re
 import shutil
 import signal
 import subprocess
@@ -26,7 +27,7 @@ left: low thiserror
 right: low   # beside left
 pc_sim: left right clap
 """
-TOOLS = "awk bash cat cmp cp date dirname env find flock head mkdir mktemp mv python3 readlink rm seq sleep sort tail tee touch".split()
+TOOLS = "awk bash cat chmod cmp cp date dirname env find flock head mkdir mktemp mv python3 readlink rm seq sha256sum sleep sort tail tee touch uname xargs xz".split()
 SECONDS = 30
 AT_ONCE = 8
 
@@ -85,10 +86,11 @@ class Launcher(unittest.TestCase):
         (self.tree / "tools").mkdir()
         shutil.copy(ROOT / "pc-sim", self.tree)
         shutil.copy(ROOT / "test", self.tree)
+        shutil.copy(ROOT / "tools/released", self.tree / "tools")
         self.put_machine(cores=4, gigabytes=100)
         (self.tree / "crates.txt").write_text(CRATES)
         for name in ("low", "left", "right", "pc_sim"):
-            for part in ("src", "specs", "must-fail"):
+            for part in ("src", "specs", "must-fail", "wrong-bodies"):
                 (self.tree / "crates" / name / part).mkdir(parents=True)
             (self.tree / f"crates/{name}/src/lib.rt").write_text(f"// {name}\n")
             (self.tree / f"crates/{name}/specs/Extra.antt").write_text(f"-- {name}\n")
@@ -146,12 +148,12 @@ class Launcher(unittest.TestCase):
         return self.ended(self.begin(*args, **environment))
 
     def calls(self):
-        """What the stand-in was called for, in order: its arguments by crate, and when each began and ended."""
+        """What the stand-in was called for, in order: its arguments by crate but for how many jobs, and when each began and ended."""
         words, began, ended = [], {}, {}
         for line in self.record.read_text().splitlines() if self.record.exists() else []:
             what, name, at, *args = line.split()
             if what == "begin":
-                words.append((name, " ".join(args)))
+                words.append((name, " ".join(args).partition(" --jobs ")[0]))
             (began if what == "begin" else ended)[name] = float(at)
         return words, began, ended
 
@@ -234,6 +236,7 @@ class Launcher(unittest.TestCase):
     def test_a_newer_edit_or_other_file_rebuilds_nothing(self):
         self.put_program()
         (self.tree / "crates/low/must-fail/x.rt").write_text("// an edit\n")
+        (self.tree / "crates/low/wrong-bodies/x.rt").write_text("// another\n")
         (self.tree / "crates/low/src/notes.md").write_text("notes\n")
         self.assertEqual(self.run_it(), (0, "arguments 0:\n<>\n", ""))
         self.assertEqual(self.calls()[0], [])
@@ -354,8 +357,40 @@ class Launcher(unittest.TestCase):
         for low, high in (("low", "left"), ("low", "right"), ("left", "pc_sim"), ("right", "pc_sim")):
             self.assertLessEqual(ended[low], began[high], f"{high} began before {low} was built")
 
+    def test_ends_that_bash_has_noted_by_itself_are_found(self):
+        build = self.tree / "tools/build"
+        text, waits = build.read_text(), "wait -n -p process"
+        self.assertEqual(text.count(waits), 1)
+        build.write_text(text.replace(waits, "false"))
+        status, _, errors = self.run_it()
+        self.assertEqual(status, 0, errors)
+        self.assert_built_once(errors)
+        self.program.unlink()
+        status, _, errors = self.run_it(RT_FAILS="left")
+        self.assertEqual(status, 5, errors)
+        self.assertIn("left could not be built", errors)
+
+    def test_a_crate_that_the_program_does_not_stand_on_is_not_built(self):
+        (self.tree / "crates.txt").write_text(CRATES + "beside: low\n")
+        (self.tree / "crates/beside/src").mkdir(parents=True)
+        status, _, errors = self.run_it()
+        self.assertEqual(status, 0, errors)
+        self.assert_built_once(errors)
+
+    def test_crates_that_can_begin_share_the_jobs(self):
+        self.put_machine(cores=4, gigabytes=100)
+        self.assertEqual(self.run_it(RT_SECONDS="0.25")[0], 0)
+        jobs = dict(re.findall(r"^begin (\w+) \S+ lib --jobs (\d+)$", self.record.read_text(), re.M))
+        self.assertEqual(jobs, {"low": "4", "left": "2", "right": "2"})
+
+    def test_a_job_alone_is_enough_where_more_can_begin_than_there_are_places(self):
+        self.put_machine(cores=1, gigabytes=100)
+        self.assertEqual(self.run_it(RT_SECONDS="0.25")[0], 0)
+        jobs = dict(re.findall(r"^begin (\w+) \S+ lib --jobs (\d+)$", self.record.read_text(), re.M))
+        self.assertEqual(jobs, {"low": "1", "left": "1", "right": "1"})
+
     def test_lines_in_any_order_are_built_lowest_first_and_the_program_last(self):
-        (self.tree / "crates.txt").write_text("pc_sim: left\nleft staticlib: low\nright: low\nlow:")
+        (self.tree / "crates.txt").write_text("pc_sim: left right\nleft staticlib: low\nright: low\nlow:")
         for cores in (1, 4):
             with self.subTest(cores=cores):
                 self.calls_on(cores, 100)
@@ -563,10 +598,12 @@ class Launcher(unittest.TestCase):
         self.wait_for_text(start, "waiting")
         status, out, errors = self.ended(gate)
         self.assertEqual((status, errors), (0, ""))
-        self.assertEqual(out.splitlines()[-1], "cases: --gate-status 0 --gate-line 3 passed, 0 failed --also 12 passed, 0 failed"
+        self.assertEqual(out.splitlines()[-1], "cases: --gate-status 0 --gate-line 3 passed, 0 failed --also 0 passed, 0 failed --also 12 passed, 0 failed"
+                         " --also 19 passed, 0 failed"
                          " --also 2 passed, 0 failed --also 5 passed, 0 failed --also 6 passed, 0 failed --also 7 passed, 0 failed"
                          " --also 8 passed, 0 failed --also 9 passed, 0 failed --also 10 passed, 0 failed --also 13 passed, 0 failed"
                          " --also 11 passed, 0 failed --also 18 passed, 0 failed --also 16 passed, 0 failed --also 17 passed, 0 failed"
+                         " --also 20 passed, 0 failed"
                          " --also 14 passed, 0 failed --also 15 passed, 0 failed --also 4 passed, 0 failed"
                          " --also --short passed, 0 failed")
         self.assertEqual(self.ended(start)[0], 0)
@@ -591,7 +628,8 @@ class Launcher(unittest.TestCase):
     def put_stand_ins_of_tests(self):
         """What `test` runs after the gate: each prints what it was given."""
         (self.tree / "tests").mkdir()
-        (self.tree / "tests/edit_reasons_tests.py").write_text("print('12 passed, 0 failed')\n")
+        (self.tree / "tests/wrong_bodies.py").write_text("print('12 passed, 0 failed')\n")
+        (self.tree / "tests/wrong_bodies_tests.py").write_text("print('19 passed, 0 failed')\n")
         (self.tree / "tests/launcher_tests.py").write_text("print('2 passed, 0 failed')\n")
         (self.tree / "tests/check_documents.py").write_text("print('5 passed, 0 failed')\n")
         (self.tree / "tests/terminal_tests.py").write_text("print('6 passed, 0 failed')\n")
@@ -603,6 +641,7 @@ class Launcher(unittest.TestCase):
         (self.tree / "tests/running_tests.py").write_text("print('11 passed, 0 failed')\n")
         (self.tree / "tests/trace_tests.py").write_text("print('16 passed, 0 failed')\n")
         (self.tree / "tests/lab_tests.py").write_text("print('17 passed, 0 failed')\n")
+        (self.tree / "tests/sweep_tests.py").write_text("print('20 passed, 0 failed')\n")
         (self.tree / "tests/client_tests.py").write_text("print('14 passed, 0 failed')\n")
         (self.tree / "tests/package_tests.py").write_text("print('15 passed, 0 failed')\n")
         (self.tree / "tests/session_tests.py").write_text("print('18 passed, 0 failed')\n")
@@ -613,6 +652,96 @@ class Launcher(unittest.TestCase):
 
     def wait_for_calls(self, count):
         self.wait_until(lambda: len(self.calls()[0]) >= count)
+
+    # The program of release/
+
+    def put_release(self):
+        """Builds, puts the program into release/, and takes it away from where it was built."""
+        self.assertEqual(self.run_it()[0], 0)
+        self.assertEqual(self.ended(self.begin("--make", command="tools/released")), (0, "", ""))
+        shutil.rmtree(self.program.parent)
+        self.forget_calls()
+
+    def assert_builds(self, words, **environment):
+        """A start says that much of release/, and builds."""
+        status, _, errors = self.run_it(**environment)
+        self.assertEqual(status, 0, errors)
+        told = [line for line in errors.splitlines() if "release/" in line]
+        self.assertEqual(told, [f"pc-sim: release/pc-sim.xz {words}: the program is built instead"] if words else [])
+        self.assert_built_once(errors)
+        self.assertEqual(list(self.program.parent.glob("*.[0-9]*")), [])
+
+    def test_a_released_program_of_these_sources_is_started_at_once(self):
+        self.put_release()
+        status, out, errors = self.run_it("a", "b c")
+        self.assertEqual((status, out.splitlines()[0]), (0, "arguments 2:"))
+        self.assertEqual(errors, "pc-sim: the program of release/ was built and proved from exactly these sources; ./test proves them anew\n")
+        self.assertEqual(self.run_it()[2], "")
+        self.assertEqual(self.calls()[0], [])
+
+    def test_a_released_program_needs_no_kit(self):
+        self.put_release()
+        (self.bin / "rt").unlink()
+        self.assertEqual(self.run_it()[0], 0)
+
+    def test_who_asks_for_a_build_gets_one(self):
+        self.put_release()
+        self.assert_builds("", PC_SIM_BUILD="1")
+
+    def test_a_released_program_of_other_sources_is_not_started(self):
+        for change in ("changed", "added", "deleted", "renamed"):
+            with self.subTest(change=change):
+                self.put_release()
+                source = self.tree / "crates/left/src/lib.rt"
+                {
+                    "changed": lambda: source.write_text("// left!\n"), "added": lambda: source.with_name("more.rt").write_text(""),
+                    "deleted": (self.tree / "crates/left/specs/Extra.antt").unlink, "renamed": lambda: source.rename(source.with_name("a.rt")),
+                }[change]()
+                self.assert_builds("")
+                self.forget_calls()
+
+    def test_a_released_program_that_was_cut_short_is_not_started(self):
+        self.put_release()
+        stored = self.tree / "release/pc-sim.xz"
+        stored.write_bytes(stored.read_bytes()[:-20])
+        self.assert_builds("cannot be unpacked")
+
+    def test_a_released_program_of_another_sum_is_not_started(self):
+        self.put_release()
+        sums = self.tree / "release/SUMS"
+        sums.write_text("".join(f"{line[1:64]}{line[0]}{line[64:]}" if line.endswith("program\n") else line for line in sums.open()))
+        self.assert_builds("is not the program of release/SUMS")
+
+    def test_a_released_program_for_another_machine_is_not_started(self):
+        self.put_release()
+        sums = self.tree / "release/SUMS"
+        sums.write_text(sums.read_text().replace(os.uname().machine, "pdp11"))
+        self.assert_builds("is for another machine, pdp11")
+
+    def test_without_xz_the_program_is_built(self):
+        self.put_release()
+        (self.bin / "xz").unlink()
+        self.assert_builds("cannot be unpacked, since there is no xz on the path")
+
+    def test_a_tree_that_cannot_be_written_takes_no_released_program(self):
+        self.put_release()
+        self.program.parent.write_text("no folder")
+        status, _, errors = self.run_it()
+        self.assertEqual(status, 5, errors)
+        self.assertIn("pc-sim: release/pc-sim.xz has no place, since this tree cannot be written", errors)
+
+    def test_the_gate_compares_the_released_program_with_the_one_that_it_built(self):
+        self.put_release()
+        compare = lambda: self.ended(self.begin("--compare", command="tools/released"))[:2]
+        self.assertEqual(self.run_it(PC_SIM_BUILD="1")[0], 0)
+        self.assertEqual(compare(), (0, "1 passed, 0 failed\n"))
+        self.program.write_text(PROGRAM + "# other\n")
+        status, out = compare()
+        self.assertEqual((status, out.splitlines()[-1]), (1, "0 passed, 1 failed"))
+        (self.tree / "crates/left/src/lib.rt").write_text("// left!\n")
+        self.assertEqual(compare(), (0, "released: release/ has no program of these sources\n0 passed, 0 failed\n"))
+        shutil.rmtree(self.tree / "release")
+        self.assertEqual(compare(), (0, "released: release/ has no program of these sources\n0 passed, 0 failed\n"))
 
     # What is handed through
 
