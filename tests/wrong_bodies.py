@@ -1,0 +1,385 @@
+#!/usr/bin/env python3
+"""Tries wrong bodies, many at once, and holds what each is refused for against tests/wrong_bodies.txt.
+
+    tests/wrong_bodies.py [CRATE ..]           the last line is 'N passed, M failed'
+    tests/wrong_bodies.py --told [CRATE ..]    prints what was told of each as lines of the table, with the reasons that stand there
+                                               and WHY where one is wanted; compares nothing
+
+A wrong body is a file crates/NAME/wrong-bodies/*.edit, written as an edit of the kit's own command `rt must-fail` is. That command checks a crate
+anew for each of them; here those of a crate that change different functions are tried in one check, which tells of each function whether it
+is proved, and which goals are not. So one costs a tenth, and it has to be refused by the goal that the table names. A line of the table is
+
+    crate/name-of-the-file: function goal | why another place than the clause that it breaks
+
+of which the last part is there for each that fails in another function than it changes. Function and goal are those that a check prints, the
+function by its modules and its owner; of a goal that is cut off there, `..` stands behind what is printed. The libraries below a crate have to
+be built (by rt ci, or by rt lib): they are taken as they stand in their `out` folders.
+"""
+from __future__ import annotations
+
+import argparse
+import concurrent.futures
+import importlib
+import os
+import pathlib
+import re
+import shutil
+import subprocess
+import sys
+import tempfile
+import time
+from dataclasses import dataclass, field
+from types import ModuleType
+from typing import Any
+
+ROOT = pathlib.Path(__file__).resolve().parent.parent
+TABLE = "tests/wrong_bodies.txt"
+ROW = re.compile(r"(\w+/[\w.-]+): ([\w:+]+ [\w.-]+)(?: \| (\S.*))?")
+FUNCTION = re.compile(r"( *)(?:pub(?:\([\w ]+\))? )?(?:const )?fn (\w+)")
+OWNER = re.compile(r"impl(?:<.*?>)? (?:(?:\w+::)*(\w+)(?:<.*?>)? for )?&?(?:\w+::)*(\w+)")
+# What a check says of a function, and of a proof that no longer fits its goal.
+TOLD = re.compile(r"^fn (\w+)::(\S+): (proved|not proved|no proof|could not tell)(.*)", re.MULTILINE)
+GOAL = re.compile(r"`([\w-]+(?:\.[\w-]+)*)`")
+UNPROVED = re.compile(r"did not prove ((?:`[^`]+`(?:, | and )?)+)")
+PROOF = re.compile(r"(?:\./)?proofs/([\w/+]+?)(?:/Answers|/Invariants)?\.antt:\d+:\d+: error: (?:\d+ declarations? that depends? on )?`([\w-]+)`")
+# A goal that no proof was found for; the line of its function comes behind it.
+NOTE = re.compile(r"note: src/[\w/]+\.rt:\d+:\d+: it is not proved that .*?\(`([\w-]+)`\)")
+ERROR = re.compile(r"src/[\w/]+\.rt:\d+:\d+: error|error\[[\w-]+\]")
+# So much memory a check takes, and so much time.
+MEMORY_OF_A_CHECK, SECONDS_OF_A_CHECK = 3_000_000, 6_000
+
+
+@dataclass(frozen=True)
+class Row:
+    """What a wrong body is refused for, and why at another place than its own clause, where that is so."""
+
+    goal: str
+    why: str = ""
+
+
+@dataclass
+class Change:
+    """A text that stands once in a file, and what stands there in its place."""
+
+    file: str
+    start: int
+    old: str
+    new: str
+
+
+@dataclass
+class WrongBody:
+    """A wrong body, the functions that it changes, and in which it has to be refused."""
+
+    name: str
+    changes: list[Change]
+    changed: set[str] = field(default_factory=set)
+    refused_in: set[str] = field(default_factory=set)
+
+    def has(self, function: str) -> bool:
+        return any(are_one(function, it) for it in self.changed | self.refused_in)
+
+    def meets(self, other: WrongBody) -> bool:
+        """Whether one may fail for the other's sake, where both are tried."""
+        return any(map(self.has, other.changed | other.refused_in))
+
+
+class Bad(Exception):
+    """Why a wrong body cannot be tried, or a line be read."""
+
+
+def are_one(function: str, other: str) -> bool:
+    """Whether two names are of one function. A check puts the modules of the type in front of a method, and the whole trait behind the
+    type; what reads the source has the modules of the file, and the trait without what it is of."""
+    (*modules, name), (*others, other_name) = function.split("::"), other.split("::")
+    if name != other_name or not modules or not others or not (modules[-1][:1] + others[-1][:1]).isupper():
+        return function == other
+    return modules[-1].startswith(others[-1]) or others[-1].startswith(modules[-1])
+
+
+def read_table(text: str) -> dict[str, Row]:
+    rows: dict[str, Row] = {}
+    last = ""
+    for number, line in enumerate(text.splitlines(), 1):
+        row = ROW.fullmatch(line)
+        if not row:
+            raise Bad(f"{TABLE}, line {number}: it cannot be read: {line}")
+        if row[1] <= last:
+            raise Bad(f"{TABLE}, line {number}: {row[1]} stands behind {last}")
+        last = row[1]
+        rows[last] = Row(row[2], row[3] or "")
+    return rows
+
+
+def owner_above(lines: list[str], place: int) -> str:
+    """The owner of a function of an impl: the type, and the trait behind it."""
+    for line in reversed(lines[:place]):
+        impl = OWNER.match(line)
+        if impl:
+            return f"{impl[2]}{impl[1] or ''}::"
+        if line.startswith("}"):
+            break
+    return ""
+
+
+def function_at(lines: list[str], number: int) -> str:
+    """The function that has the line of this number, with its owner."""
+    while number < len(lines) and lines[number - 1].lstrip().startswith("#["):
+        number += 1
+    for place in range(min(number, len(lines)) - 1, -1, -1):
+        begin = FUNCTION.match(lines[place])
+        if begin:
+            end = next((it for it in range(place, len(lines)) if lines[it].startswith(f"{begin[1]}}}")), len(lines))
+            if number <= end + 1:
+                return (owner_above(lines, place) if begin[1] else "") + begin[2]
+    raise Bad(f"no function has line {number}")
+
+
+def function_in(file: str, lines: list[str], number: int) -> str:
+    """The same with its modules."""
+    module = file.removeprefix("src/").removesuffix(".rt")
+    return ("" if module in ("lib", "main") else module.replace("/", "::") + "::") + function_at(lines, number)
+
+
+def changes_of(crate: pathlib.Path, edit: pathlib.Path) -> list[Change]:
+    file, old, changes = "", "", []
+    for line in edit.read_text().splitlines():
+        if line.startswith("file: "):
+            file = line.removeprefix("file: ").strip()
+        elif line.startswith("old: "):
+            old = line.removeprefix("old: ")
+        elif line.startswith("new:"):
+            text = (crate / file).read_text()
+            if not file.startswith("src/") or text.count(old) != 1:
+                raise Bad(f"{old!r} stands {text.count(old)} times in {file}, and not once")
+            changes.append(Change(file, text.find(old), old, line.removeprefix("new:").removeprefix(" ")))
+    if not changes:
+        raise Bad("it changes nothing")
+    return changes
+
+
+def body_of(crate: pathlib.Path, edit: pathlib.Path, row: Row | None) -> WrongBody:
+    body = WrongBody(f"{crate.name}/{edit.stem}", changes_of(crate, edit), refused_in={row.goal.split()[0]} if row else set())
+    for it in body.changes:
+        text = (crate / it.file).read_text()
+        try:
+            body.changed.add(function_in(it.file, text.splitlines(), text.count("\n", 0, it.start) + 1))
+        except Bad:
+            # A row of a table: the function that reads it is named, and why.
+            if not row:
+                raise
+    return body
+
+
+def together(bodies: list[WrongBody]) -> list[list[WrongBody]]:
+    """Bundles of wrong bodies of which no two change, or are to be refused in, one function."""
+    bundles: list[list[WrongBody]] = []
+    for body in bodies:
+        fits = (bundle for bundle in bundles if not any(map(body.meets, bundle)))
+        bundle = next(fits, None)
+        if bundle is None:
+            bundle = []
+            bundles.append(bundle)
+        bundle.append(body)
+    return bundles
+
+
+def kit() -> ModuleType:
+    """The kit's own module, which knows the words of a check: rt itself would build the libraries below anew, behind rt ci."""
+    found = shutil.which("rt")
+    if found is None:
+        raise Bad("the kit's command rt is not on the path")
+    sys.dont_write_bytecode = True
+    sys.path.insert(0, os.path.dirname(os.path.realpath(found)))
+    return importlib.import_module("rtlib")
+
+
+def write_changes(crate: pathlib.Path, changes: list[Change]) -> None:
+    for file in {it.file for it in changes}:
+        text = (crate / file).read_text()
+        for it in sorted((it for it in changes if it.file == file), key=lambda it: -it.start):
+            text = text[: it.start] + it.new + text[it.start + len(it.old):]
+        (crate / file).write_text(text)
+
+
+def check(crate: pathlib.Path, command: list[str], bundle: list[WrongBody]) -> str:
+    """What a check of the crate says with these wrong bodies, of the functions that have to be refused. It leaves the crate as it was."""
+    changes = [it for body in bundle for it in body.changes]
+    was = {file: (crate / file).read_text() for file in {it.file for it in changes}}
+    # The names of the table are those that a check prints. Of one that it does not name yet, all of the crate is asked.
+    named = all(body.refused_in for body in bundle)
+    asked = sorted({it for body in bundle for it in body.refused_in}) if named else []
+    words = [*command, *(word for it in asked for word in ("--only", it))]
+    write_changes(crate, changes)
+    try:
+        ran = subprocess.run(words, cwd=crate, capture_output=True, text=True, errors="replace", timeout=SECONDS_OF_A_CHECK)
+    finally:
+        for file, text in was.items():
+            (crate / file).write_text(text)
+    return ran.stdout + ran.stderr
+
+
+def failures_in(said: str, crate: str) -> dict[str, list[str]]:
+    """The goals that are not proved, by function."""
+    goals: dict[str, list[str]] = {}
+    noted: list[str] = []
+    for line in said.splitlines():
+        told, proof, note = TOLD.match(line), PROOF.match(line), NOTE.match(line)
+        if note:
+            noted.append(note[1])
+        elif told:
+            if told[1] == crate and told[3] != "proved":
+                found = UNPROVED.search(told[4])
+                goals.setdefault(told[2], []).extend([*noted, *(GOAL.findall(found[1]) if found else [])])
+            noted = []
+        elif proof:
+            goals.setdefault(proof[1].replace("/", "::"), []).append(proof[2])
+    return goals
+
+
+def place_told(row: Row, goals: dict[str, list[str]]) -> str:
+    """The function in which the goal of the row is not proved, as the check names it; nothing where it is proved."""
+    function, goal = row.goal.split()
+    fits = lambda it: it.startswith(goal[:-2]) if goal.endswith("..") else it == goal
+    return next((it for it in goals if are_one(it, function) and any(map(fits, goals[it]))), "")
+
+
+def told_of(body: WrongBody, goals: dict[str, list[str]]) -> list[str]:
+    """The goals of its functions that are not proved."""
+    return [f"{function} {goal}" for function in sorted(goals) if body.has(function) for goal in dict.fromkeys(goals[function])]
+
+
+def is_changed(body: WrongBody, row: Row) -> bool:
+    """Whether it is refused in a function that it changes."""
+    return any(are_one(row.goal.split()[0], it) for it in body.changed)
+
+
+def fault_of(body: WrongBody, goals: dict[str, list[str]], rows: dict[str, Row]) -> str:
+    """What is wrong with what a check told of it: nothing, where the goal of the table is not proved."""
+    row, told = rows.get(body.name), ", ".join(told_of(body, goals)) or "nothing"
+    if row is None:
+        return f"{TABLE} does not name it; refused for `{told}`"
+    if not place_told(row, goals):
+        return f"refused for `{told}`, wanted `{row.goal}`"
+    if not row.why and not is_changed(body, row):
+        return f"it fails in another function than it changes, and {TABLE} does not say why"
+    return ""
+
+
+def row_told(body: WrongBody, goals: dict[str, list[str]], rows: dict[str, Row]) -> str:
+    """What a check told of it, as a line of the table: what stands there, where that is told, or the first that is."""
+    row = rows.get(body.name)
+    if row and place_told(row, goals):
+        row = Row(f"{place_told(row, goals)} {row.goal.split()[1]}", row.why)
+    else:
+        row = Row((told_of(body, goals) or ["is proved"])[0], row.why if row else "")
+    asked = "" if is_changed(body, row) else "WHY"
+    return f"{body.name}: {row.goal}" + (f" | {row.why or asked}" if row.why or asked else "")
+
+
+@dataclass(frozen=True)
+class Outcome:
+    """What is wrong with a wrong body, its line of the table as a check tells it, and whether it is worth a check of its own."""
+
+    fault: str
+    line: str = ""
+    is_doubtful: bool = False
+
+
+def judge(said: str, crate: str, bundle: list[WrongBody], rows: dict[str, Row]) -> dict[str, Outcome]:
+    unread = next((line for line in said.splitlines() if ERROR.match(line)), "")
+    if unread or not TOLD.search(said):
+        none = Outcome(f"the check came to no verdict: {unread or said.strip()[-300:]}", is_doubtful=True)
+        return {body.name: none for body in bundle}
+    goals, outcomes = failures_in(said, crate), {}
+    for body in bundle:
+        fault = fault_of(body, goals, rows)
+        is_doubtful = not told_of(body, goals) or body.name in rows and bool(fault)
+        outcomes[body.name] = Outcome(fault, row_told(body, goals, rows), is_doubtful)
+    return outcomes
+
+
+def try_crate(tools: ModuleType, crate: Any, bodies: list[WrongBody], rows: dict[str, Row]) -> dict[str, Outcome]:
+    """What comes of all wrong bodies of a crate. A check begins with what the one before it proved. Where a function calls another one that
+    is wrong, a check may not come to its own goals: what is not told as it should be is tried once more, alone."""
+    outcomes: dict[str, Outcome] = {}
+    with tempfile.TemporaryDirectory(prefix="wrong-bodies-") as room:
+        copy, kept = pathlib.Path(room) / crate.name, pathlib.Path(room) / "kept"
+        for part in tools.PARTS:
+            if os.path.isdir(f"{crate.folder}/{part}"):
+                shutil.copytree(f"{crate.folder}/{part}", copy / part)
+        kept.mkdir()
+        words = crate.words(["--jobs", "1"], keeps=False)
+        command = [tools.RATTLE, "check", *words, "--incremental", str(kept)]
+        bundles = together(bodies)
+        while bundles:
+            bundle, began = bundles.pop(0), time.monotonic()
+            try:
+                outcomes |= judge(check(copy, command, bundle), crate.name, bundle, rows)
+            except (OSError, subprocess.SubprocessError) as fault:
+                outcomes |= {body.name: Outcome(f"it could not be tried: {fault}") for body in bundle}
+            tell_time(time.monotonic() - began, bundle)
+            if len(bundle) > 1:
+                bundles += [[body] for body in bundle if outcomes[body.name].is_doubtful]
+    return outcomes
+
+
+def tell_time(seconds: float, bundle: list[WrongBody]) -> None:
+    if os.environ.get("WRONG_BODIES_TIMES"):
+        print(f"{seconds:.0f} s: {' '.join(body.name for body in bundle)}", file=sys.stderr, flush=True)
+
+
+def places() -> int:
+    """So many checks at once as there are processors and memory for."""
+    free = next((int(line.split()[1]) for line in open("/proc/meminfo") if line.startswith("MemAvailable:")), 0)
+    return max(1, min(os.cpu_count() or 1, free // MEMORY_OF_A_CHECK))
+
+
+def bodies_of(root: pathlib.Path, name: str, folder: str, rows: dict[str, Row]) -> tuple[list[WrongBody], dict[str, str]]:
+    """The wrong bodies of a crate, and why some cannot be tried."""
+    bodies, wrong = [], {}
+    for edit in sorted((root / "crates" / name / folder).glob("*")):
+        try:
+            bodies.append(body_of(root / "crates" / name, edit, rows.get(f"{name}/{edit.stem}")))
+        except (Bad, OSError) as why:
+            wrong[f"{name}/{edit.stem}"] = f"it cannot be tried: {why}"
+    return bodies, wrong
+
+
+def main() -> int:
+    parser = argparse.ArgumentParser(description=__doc__, formatter_class=argparse.RawDescriptionHelpFormatter)
+    parser.add_argument("crates", nargs="*", metavar="CRATE")
+    parser.add_argument("--told", action="store_true", help="print what is told as lines of the table")
+    parser.add_argument("--root", type=pathlib.Path, default=ROOT, help="another clone")
+    parser.add_argument("--folder", default="wrong-bodies", help="another folder of each crate")
+    parser.add_argument("--jobs", type=int, default=0, help="so many checks at once")
+    options = parser.parse_args()
+    root, wrong, tasks, passed = options.root.resolve(), {}, [], 0
+    try:
+        rows, tools = read_table((root / TABLE).read_text()), kit()
+    except Bad as why:
+        print(f"{why}\n0 passed, 1 failed")
+        return 1
+    crates = {crate.name: crate for crate in tools.crates_below(str(root))}
+    for name in options.crates or crates:
+        bodies, bad = bodies_of(root, name, options.folder, rows)
+        wrong |= bad
+        tasks += [(name, bodies)] if bodies else []
+        there = {body.name for body in bodies} | bad.keys()
+        wrong |= {row: f"{TABLE} names it, and it is not there" for row in rows if row.startswith(f"{name}/") and row not in there}
+    tries = lambda task: try_crate(tools, crates[task[0]], task[1], rows)
+    with concurrent.futures.ThreadPoolExecutor(options.jobs or places()) as pool:
+        for outcomes in pool.map(tries, tasks):
+            if options.told:
+                print("".join(f"{outcomes[name].line or name + ': ' + outcomes[name].fault}\n" for name in sorted(outcomes)), end="", flush=True)
+                continue
+            passed += sum(not it.fault for it in outcomes.values())
+            wrong |= {name: it.fault for name, it in outcomes.items() if it.fault}
+    for name in sorted(wrong):
+        print(f"{name}: {wrong[name]}")
+    print(f"{passed} passed, {len(wrong)} failed")
+    return 1 if wrong else 0
+
+
+if __name__ == "__main__":
+    sys.exit(main())

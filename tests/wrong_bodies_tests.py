@@ -1,0 +1,241 @@
+#!/usr/bin/env python3
+"""Tests that tests/wrong_bodies.py can fail, over a made-up crate and a stand-in for the kit.
+
+The last line is 'N passed, M failed'.
+"""
+from __future__ import annotations
+
+import os
+import pathlib
+import subprocess
+import sys
+import tempfile
+import unittest
+
+ROOT = pathlib.Path(__file__).resolve().parent.parent
+SOURCE = """\
+//! Counts.
+
+/// One more.
+pub const fn more(count: u64) -> u64
+    ensures { result }
+{
+    count + 1
+}
+
+impl Count {
+    /// None.
+    pub(crate) fn none() -> Count {
+        Count { value: 0 }
+    }
+}
+
+impl<T: Drop> From<Box<T>> for Count {
+    fn from(told: Box<T>) -> Count {
+        Count { value: told.len() }
+    }
+}
+"""
+# Says of the functions that it is asked for what a file tells it to say where the crate holds a text; keeps what it was asked.
+RT = """\
+#!/usr/bin/env python3
+import json, pathlib, sys
+asked = [word for word, before in zip(sys.argv[1:], sys.argv) if before == "--only"]
+said = json.loads(pathlib.Path(SAYS).read_text())
+text = pathlib.Path("src/count.rt").read_text()
+with open(SAYS + ".asked", "a") as asks:
+    asks.write(f"{' '.join(asked)}: {sorted(pathlib.Path('.').iterdir())[0]}\\n")
+for holds, lines in said.items():
+    there, _, absent = holds.partition("|")
+    if there in text and not (absent and absent in text):
+        print(lines)
+"""
+# What the kit knows of the crate.
+RTLIB = """\
+import pathlib
+
+RATTLE = str(pathlib.Path(__file__).resolve().parent / "rattle")
+PARTS = ("src", "specs", "proofs")
+
+
+class Crate:
+    name = "low"
+
+    def __init__(self, top):
+        self.folder = f"{top}/crates/low"
+
+    def words(self, flags, keeps):
+        assert not keeps
+        return ["--crate-name", self.name, *flags]
+
+
+def crates_below(top):
+    return [Crate(top)]
+"""
+UNPROVED = "fn low::{}: no proof: expected answers in ./proofs/x/Answers.antt; `search` did not prove {}"
+EDITS = {
+    "more-is-two": "old: count + 1\nnew: count + 2",
+    "more-is-none": "old: count + 1\nnew: count",
+    "none-is-one": "old: value: 0\nnew: value: 1",
+    "from-counts-twice": "old: told.len()\nnew: told.len() * 2",
+}
+TABLE = {
+    "from-counts-twice": "count::CountFrom::from returns",
+    "more-is-none": "count::more returns",
+    "more-is-two": "count::more returns",
+    "none-is-one": "count::Count::none returns-clause-fresh",
+}
+SAYS = {
+    "told.len() * 2": UNPROVED.format("count::CountFrom::from", "`returns`"),
+    "count + 2": UNPROVED.format("count::more", "`returns`"),
+    "    count\n": "./proofs/count/more/Answers.antt:3:4: error: `returns`: it differs\nfn low::count::more: not proved",
+    "value: 1": UNPROVED.format("count::Count::none", "`returns-clause-other`, `returns-clause-fresh`"),
+    "": "fn low::count::other: proved",
+}
+
+
+class WrongBodies(unittest.TestCase):
+    def setUp(self) -> None:
+        folder = tempfile.TemporaryDirectory()
+        self.addCleanup(folder.cleanup)
+        self.root = pathlib.Path(folder.name)
+        self.bodies = self.root / "crates/low/wrong-bodies"
+        for it in (self.bodies, self.root / "crates/low/src", self.root / "crates/low/out", self.root / "bin", self.root / "tests"):
+            it.mkdir(parents=True)
+        (self.root / "crates/low/src/count.rt").write_text(SOURCE)
+        self.put_edits(EDITS)
+        self.put_table(TABLE)
+        self.put_says(SAYS)
+        says = repr(str(self.root / "says"))
+        (self.root / "bin/rattle").write_text(RT.replace("SAYS)", f"{says})").replace("SAYS +", f"{says} +"))
+        (self.root / "bin/rt").write_text("#!/bin/sh\n")
+        (self.root / "bin/rtlib.py").write_text(RTLIB)
+        for name in ("rattle", "rt"):
+            (self.root / "bin" / name).chmod(0o755)
+
+    def put_edits(self, edits: dict[str, str]) -> None:
+        for name, text in edits.items():
+            (self.bodies / f"{name}.edit").write_text(f"file: src/count.rt\n{text}\n")
+
+    def put_table(self, rows: dict[str, str]) -> None:
+        (self.root / "tests/wrong_bodies.txt").write_text("".join(f"low/{name}: {row}\n" for name, row in rows.items()))
+
+    def put_says(self, says: dict[str, str]) -> None:
+        import json
+
+        (self.root / "says").write_text(json.dumps(says))
+
+    def put_alone(self, text: str, other: str, said: str) -> None:
+        """What is said of a text where another is not there."""
+        import json
+
+        says = json.loads((self.root / "says").read_text())
+        self.put_says(says | {f"{text}|{other}": said})
+
+    def run_it(self, *words: str, path: str = "") -> tuple[int, list[str]]:
+        command = [sys.executable, str(ROOT / "tests/wrong_bodies.py"), "--root", str(self.root), *words]
+        path = path or f"{self.root / 'bin'}:{os.environ['PATH']}"
+        ran = subprocess.run(command, capture_output=True, text=True, env={**os.environ, "PATH": path}, timeout=60)
+        return ran.returncode, (ran.stdout + ran.stderr).splitlines()
+
+    def fails_by(self, words: str) -> None:
+        status, lines = self.run_it()
+        self.assertEqual(status, 1, lines)
+        self.assertTrue(any(words in line for line in lines), lines)
+
+    def test_each_that_is_refused_for_its_goal_passes(self) -> None:
+        self.assertEqual(self.run_it(), (0, ["4 passed, 0 failed"]))
+
+    def test_those_that_change_one_function_are_tried_one_after_another(self) -> None:
+        self.run_it()
+        asked = (self.root / "says.asked").read_text().splitlines()
+        self.assertEqual([line.split(":")[0].count(" ") for line in asked], [0, 0])
+        self.assertEqual(asked[0].partition(": ")[0], "count::Count::none count::CountFrom::from count::more")
+        self.assertEqual(asked[1].partition(": ")[0], "count::more")
+
+    def test_one_that_a_check_of_many_does_not_tell_is_tried_alone(self) -> None:
+        quiet = {"value: 1": "fn low::count::Count::none: no proof: it calls `low::count::more`, which is not proved"}
+        self.put_says({key: said for key, said in SAYS.items() if key != "value: 1"} | quiet)
+        self.put_alone("value: 1", "told.len() * 2", SAYS["value: 1"])
+        self.assertEqual(self.run_it(), (0, ["4 passed, 0 failed"]))
+        asked = [line.partition(": ")[0] for line in (self.root / "says.asked").read_text().splitlines()]
+        self.assertEqual(asked[2:], ["count::Count::none"])
+
+    def test_a_goal_in_a_note_is_of_the_function_behind_it(self) -> None:
+        note = "note: src/count.rt:12:5: it is not proved that what the function ensures holds when it returns (`{}`); `search` gave up"
+        told = "\n".join([note.format("returns-clause-fresh"), "fn low::count::Count::none: not proved", "fn low::count::more: not proved"])
+        self.put_says(SAYS | {"value: 1": told})
+        self.assertEqual(self.run_it(), (0, ["4 passed, 0 failed"]))
+        self.put_table(TABLE | {"none-is-one": "count::more returns-clause-fresh"})
+        self.fails_by("low/none-is-one: refused for")
+
+    def test_one_that_is_proved_fails(self) -> None:
+        self.put_says(SAYS | {"count + 2": "fn low::count::more: proved"})
+        self.fails_by("low/more-is-two: refused for `nothing`, wanted `count::more returns`")
+
+    def test_one_that_is_refused_for_another_goal_fails(self) -> None:
+        self.put_says(SAYS | {"value: 1": UNPROVED.format("count::Count::none", "`returns-clause-other`")})
+        self.fails_by("low/none-is-one: refused for `count::Count::none returns-clause-other`, wanted")
+
+    def test_one_whose_function_fails_for_what_it_calls_alone_fails(self) -> None:
+        self.put_says(SAYS | {"value: 1": "fn low::count::Count::none: no proof: it calls `low::count::more`, which is not proved"})
+        self.fails_by("low/none-is-one: refused for `nothing`")
+
+    def test_one_that_the_table_does_not_name_fails(self) -> None:
+        self.put_table({name: row for name, row in TABLE.items() if name != "more-is-two"})
+        self.fails_by("low/more-is-two: tests/wrong_bodies.txt does not name it; refused for `count::more returns`")
+
+    def test_a_row_of_none_fails(self) -> None:
+        (self.bodies / "more-is-none.edit").unlink()
+        self.fails_by("low/more-is-none: tests/wrong_bodies.txt names it, and it is not there")
+
+    def test_one_that_cannot_be_applied_fails(self) -> None:
+        for text in ("old: count + 3\nnew: count", "old: Count\nnew: Sum", "new: x"):
+            with self.subTest(text=text):
+                self.put_edits({"more-is-two": text})
+                self.fails_by("low/more-is-two: it cannot be tried")
+
+    def test_one_that_fails_elsewhere_wants_a_reason(self) -> None:
+        elsewhere = "count::Count::none returns-clause-fresh"
+        self.put_says(SAYS | {"count + 2": UNPROVED.format("count::Count::none", "`returns-clause-fresh`")})
+        self.put_table(TABLE | {"more-is-two": elsewhere})
+        self.fails_by("low/more-is-two: it fails in another function than it changes")
+        self.put_table(TABLE | {"more-is-two": f"{elsewhere} | none counts by it"})
+        self.assertEqual(self.run_it(), (0, ["4 passed, 0 failed"]))
+
+    def test_a_check_without_verdict_fails(self) -> None:
+        for said in ("src/count.rt:3:1: error: this is no Rattle", "rattle: out of memory"):
+            with self.subTest(said=said):
+                self.put_says({"": said})
+                self.fails_by("low/none-is-one: the check came to no verdict")
+
+    def test_a_table_that_cannot_be_read_fails(self) -> None:
+        for text in ("low/x\n", "low/b: f g\nlow/a: f g\n"):
+            with self.subTest(text=text):
+                (self.root / "tests/wrong_bodies.txt").write_text(text)
+                self.fails_by("tests/wrong_bodies.txt, line")
+
+    def test_what_is_told_is_printed_as_a_table(self) -> None:
+        self.put_table({})
+        status, lines = self.run_it("--told")
+        self.assertEqual(sorted(lines[:-1]), [f"low/{name}: {row}" for name, row in sorted((TABLE | {
+            "none-is-one": "count::Count::none returns-clause-other"}).items())])
+
+    def test_without_the_kit_it_fails(self) -> None:
+        self.assertEqual(self.run_it(path="/nowhere"), (1, ["the kit's command rt is not on the path", "0 passed, 1 failed"]))
+
+    def test_the_crate_is_left_as_it_was(self) -> None:
+        self.run_it()
+        self.assertEqual((self.root / "crates/low/src/count.rt").read_text(), SOURCE)
+        self.assertEqual(sorted(it.name for it in self.root.iterdir() if it.name.startswith(".")), [])
+
+
+def main() -> int:
+    outcome = unittest.TextTestRunner(verbosity=1).run(unittest.defaultTestLoader.loadTestsFromModule(sys.modules[__name__]))
+    failed = len(outcome.failures) + len(outcome.errors)
+    print(f"{outcome.testsRun - failed} passed, {failed} failed")
+    return 1 if failed else 0
+
+
+if __name__ == "__main__":
+    sys.exit(main())
