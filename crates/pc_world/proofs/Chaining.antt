@@ -1,13 +1,13 @@
 -- Lists of events that were done, or done in part, one list after another.
-use Rattle.std.proofs.Common.{◌≡◌, ℕ, zero, suc, ◌+◌, ◌<◌, false, List, [], ◌∷◌, ◌++◌, ◌⊎◌, refl, sym, ◌∙◌, ap, append_assoc, append-nil, subst, inl, inr, arith}
+use Rattle.std.proofs.Common.{◌≡◌, ℕ, zero, suc, ◌+◌, ◌<◌, false, List, [], ◌∷◌, ◌++◌, refl, sym, ◌∙◌, ap, append_assoc, append-nil, subst, inl, inr, arith}
 use Rattle.std.proofs.lemmas.Bool.{cases_lt}
 use Rattle.pc_calls.specs.declared.event.Event.{Event}
 use Rattle.pc_calls.specs.declared.event.Event.TheVariants as event
 use Rattle.pc_calls.specs.declared.event.Reply.{Reply}
 use Rattle.pc_world.specs.declared.parts.Parts.{Parts}
 use Rattle.pc_world.specs.PlainWorld.{PlainWorld}
-use Rattle.pc_world.specs.RanOut.{IsCutShort, RanOutAtFirst}
-use Rattle.pc_world.specs.Shows.{Does, LeavesWhenRanOut, RunsInPart}
+use Rattle.pc_world.specs.RanOut.{RanOutAmong}
+use Rattle.pc_world.specs.Shows.{Does, LeavesWhenRanOut, RunsOutAmong}
 use Rattle.pc_world.specs.Steps.{Runs, Step}
 use Rattle.pc_world.specs.Inner.Mends.{DoesAll, IsCommit, PicksOrSteals}
 use Rattle.pc_world.proofs.Clearing.{runs_append}
@@ -20,11 +20,11 @@ all_none world w h = (w, [], refl, h)
 pub all_one : (event : Event) (told : Reply) (old new : Parts) → Does (λ w. Step w event) old new told → DoesAll (event ∷ []) old new
 all_one event told old new does w h = let did = does w h in (did.0, told ∷ [], (did.0, did.1, refl), did.2)
 
-pub part_one : (event : Event) (old new : Parts) → LeavesWhenRanOut event old new → RunsInPart (event ∷ []) old new
+pub part_one : (event : Event) (old new : Parts) → LeavesWhenRanOut event old new → RunsOutAmong (event ∷ []) old new
 part_one event old new leaves w h =
     let left = leaves w h in (
       left.0,
-      record { done = []; rest = event ∷ []; replies = []; reached = w; order = refl; ran = refl; next = inr left.1 },
+      record { done = []; next = event; rest = []; replies = []; reached = w; order = refl; ran = refl; found_none = left.1 },
       left.2,
     )
 
@@ -36,41 +36,35 @@ all_then a b old mid new first then' w h =
     (next.0, did.1 ++ next.1, runs_append w did.0 next.0 a b did.1 next.1 did.2 next.2, next.3)
 
 -- a list of which a part was done, and what would follow
-pub cut_first : (a b : List Event) (w new : PlainWorld) → IsCutShort w a new → IsCutShort w (a ++ b) new
+pub cut_first : (a b : List Event) (w new : PlainWorld) → RanOutAmong w a new → RanOutAmong w (a ++ b) new
 cut_first a b w new cut = record {
   done = cut.done;
+  next = cut.next;
   rest = cut.rest ++ b;
   replies = cut.replies;
   reached = cut.reached;
-  order = ap (λ l. l ++ b) cut.order ∙ append_assoc cut.done cut.rest b;
+  order = ap (λ l. l ++ b) cut.order ∙ append_assoc cut.done (cut.next ∷ cut.rest) b;
   ran = cut.ran;
-  next = more cut.next;
+  found_none = cut.found_none;
 }
-  where
-    at_first : (reached : PlainWorld) (rest : List Event) → RanOutAtFirst reached rest new → RanOutAtFirst reached (rest ++ b) new
-    at_first reached [] out = absurd out
-    at_first reached (e ∷ rest) out = out
 
-    more : (new ≡ cut.reached) ⊎ RanOutAtFirst cut.reached cut.rest new → (new ≡ cut.reached) ⊎ RanOutAtFirst cut.reached (cut.rest ++ b) new
-    more (inl same) = inl same
-    more (inr out) = inr (at_first cut.reached cut.rest out)
-
-pub part_first : (a b : List Event) (old new : Parts) → RunsInPart a old new → RunsInPart (a ++ b) old new
+pub part_first : (a b : List Event) (old new : Parts) → RunsOutAmong a old new → RunsOutAmong (a ++ b) old new
 part_first a b old new part w h = let did = part w h in (did.0, cut_first a b w did.0 did.1, did.2)
 
 -- a list that was done, and one of which a part was
-cut_then : (a b : List Event) (w v new : PlainWorld) (told : List Reply) → Runs w a told v → IsCutShort v b new → IsCutShort w (a ++ b) new
+cut_then : (a b : List Event) (w v new : PlainWorld) (told : List Reply) → Runs w a told v → RanOutAmong v b new → RanOutAmong w (a ++ b) new
 cut_then a b w v new told ran cut = record {
   done = a ++ cut.done;
+  next = cut.next;
   rest = cut.rest;
   replies = told ++ cut.replies;
   reached = cut.reached;
-  order = ap (λ l. a ++ l) cut.order ∙ sym (append_assoc a cut.done cut.rest);
+  order = ap (λ l. a ++ l) cut.order ∙ sym (append_assoc a cut.done (cut.next ∷ cut.rest));
   ran = runs_append w v cut.reached a cut.done told cut.replies ran cut.ran;
-  next = cut.next;
+  found_none = cut.found_none;
 }
 
-pub part_then : (a b : List Event) (old mid new : Parts) → DoesAll a old mid → RunsInPart b mid new → RunsInPart (a ++ b) old new
+pub part_then : (a b : List Event) (old mid new : Parts) → DoesAll a old mid → RunsOutAmong b mid new → RunsOutAmong (a ++ b) old new
 part_then a b old mid new first part w h =
     let did = first w h in
     let next = part did.0 did.3 in
@@ -90,10 +84,10 @@ all_next f g grows i old mid new first then' =
     let next : i + 1 ≡ suc i = omega arith in
     subst (λ l. DoesAll l old new) (sym (ap f next ∙ grows i)) (all_then (f i) (g i) old mid new first then')
 
-pub part_next : (f g : ℕ → List Event) → ((n : ℕ) → f (suc n) ≡ f n ++ g n) → (i n : ℕ) → i < n → (old mid new : Parts) → DoesAll (f i) old mid → RunsInPart (g i) mid new → RunsInPart (f n) old new
+pub part_next : (f g : ℕ → List Event) → ((n : ℕ) → f (suc n) ≡ f n ++ g n) → (i n : ℕ) → i < n → (old mid new : Parts) → DoesAll (f i) old mid → RunsOutAmong (g i) mid new → RunsOutAmong (f n) old new
 part_next f g grows i n low old mid new first part =
     let on = grows_on f g grows i n low in
-    subst (λ l. RunsInPart l old new) (sym on.1) (part_first (f i ++ g i) on.0 old new (part_then (f i) (g i) old mid new first part))
+    subst (λ l. RunsOutAmong l old new) (sym on.1) (part_first (f i ++ g i) on.0 old new (part_then (f i) (g i) old mid new first part))
 
 -- the lists of mending
 abbrev pub clears_one : ℕ → List Event

@@ -25,8 +25,8 @@ use Rattle.pc_world.specs.Facts.{EveryEventHasAStep}
 use Rattle.pc_world.specs.Mends.{IsMended, IsMending, MendedIsReached, MendsInPart, NoneWaits, TellsWhatRuns}
 use Rattle.pc_world.specs.PlainWorld.{PlainWorld, opened_by}
 use Rattle.pc_world.specs.Reached.{Reached}
-use Rattle.pc_world.specs.Shows.{Does, IsReached, RunsInPart, ShowsWorld, deltas_of}
-use Rattle.pc_world.specs.RanOut.{IsCutShort}
+use Rattle.pc_world.specs.Shows.{Does, IsReached, RunsOutAmong, ShowsWorld, deltas_of}
+use Rattle.pc_world.specs.RanOut.{RanOutAmong}
 use Rattle.pc_world.specs.Steps.{IsBadCpu, IsRefused, Runs, Step}
 use Rattle.pc_world.specs.Inner.Laws.{KernelLaws}
 use Rattle.pc_world.specs.Inner.Mends.{DoesAll, IsCommit, IsPickedLate, PicksOrSteals}
@@ -71,7 +71,7 @@ pub record Comes (w : PlainWorld) (c : ℕ) (told : Reply) (new : PlainWorld) : 
   pub runs : Runs w (mending w c) (replies ++ told ∷ []) new ⊎ Runs w (mending_by_steal w c) (replies ++ told ∷ []) new
   pub tells : ((t : ℕ) × (told ≡ reply.Committed c t) × (new.kernel.on c ≡ Some t)) ⊎ IsIdleStill w c told new
 
-learning_quiet : (w : PlainWorld) (c : ℕ) → Each IsQuiet (learning w c)
+pub learning_quiet : (w : PlainWorld) (c : ℕ) → Each IsQuiet (learning w c)
 learning_quiet w c =
     let cpus = w.kernel.limits.cpus in
     each_both IsQuiet (clearing cpus) (hearing c (length w.sent + cpus)) (each_clearing IsQuiet (λ c. tt) (λ c. tt) cpus) (each_hearing IsQuiet c (λ k. tt) (length w.sent + cpus))
@@ -326,11 +326,11 @@ module _ (laws : KernelLaws) (law : AWaitingThreadCanBeRun) (old : Parts) (c cpu
   abbrev rest : ℕ → List Event
   rest m = event.Pick c m ∷ event.Steal c ∷ event.Pick c m ∷ []
 
-  pub mends_in_part : (new : Parts) → RunsInPart ((clearing cpus ++ hearing c deltas) ++ event.Pick c n ∷ event.Steal c ∷ event.Pick c n ∷ []) old new → MendsInPart c old new
+  pub mends_in_part : (new : Parts) → RunsOutAmong ((clearing cpus ++ hearing c deltas) ++ event.Pick c n ∷ event.Steal c ∷ event.Pick c n ∷ []) old new → MendsInPart c old new
   mends_in_part new part w h =
       let did = part w h in
       let all : ((clearing cpus ++ hearing c deltas) ++ rest n) ≡ mending_by_steal w c = ap (λ l. l ++ rest n) (begun.learns w h) ∙ ap (λ m. learning w c ++ rest m) (begun.posts w h) in
-      (did.0, (begun.idle w h, subst (λ l. IsCutShort w l did.0) all did.1), did.2)
+      (did.0, (begun.idle w h, subst (λ l. RanOutAmong w l did.0) all did.1), did.2)
 
 -- what steps lead to is reached
 step_reached : (limits : Limits) (w new : PlainWorld) (e : Event) (told : Reply) → Reached limits w → Step w e told new → Reached limits new

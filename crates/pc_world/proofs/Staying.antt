@@ -23,10 +23,10 @@ pub record Stays (P Q : PlainKernel) : Type 0 where
   pub home : ℕ → ℕ
   pub is : Q ≡ record P { eaten = eaten; home = home }
 
-stays_so : (P Q : PlainKernel) → Q ≡ P → Stays P Q
+pub stays_so : (P Q : PlainKernel) → Q ≡ P → Stays P Q
 stays_so P Q same = record { eaten = P.eaten; home = P.home; is = same }
 
-stays_on : (P Q R : PlainKernel) → Stays P Q → Stays Q R → Stays P R
+pub stays_on : (P Q R : PlainKernel) → Stays P Q → Stays Q R → Stays P R
 stays_on P Q R first then' = record {
   eaten = then'.eaten;
   home = then'.home;

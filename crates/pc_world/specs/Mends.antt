@@ -4,9 +4,10 @@ use Rattle.pc_calls.specs.declared.event.Reply.{Reply}
 use Rattle.pc_calls.specs.declared.event.Reply.TheVariants.{Committed, Refused}
 use Rattle.pc_calls.specs.declared.limits.Limits.{Limits}
 use Rattle.pc_calls.specs.declared.refusal.Refusal.TheVariants.{Busy, NothingReady}
+use Rattle.pc_kernel.specs.Reads.{on, shown}
 use Rattle.pc_world.specs.Mending.{IsIdle, IsStolenBy, WaitsFor, mending, mending_by_steal}
 use Rattle.pc_world.specs.PlainWorld.{PlainWorld}
-use Rattle.pc_world.specs.RanOut.{IsCutShort}
+use Rattle.pc_world.specs.RanOut.{RanOutAmong}
 use Rattle.pc_world.specs.Reached.{Reached}
 use Rattle.pc_world.specs.Shows.{ShowsWorld, World}
 use Rattle.pc_world.specs.Steps.{IsRefused, OnCpu, Runs}
@@ -34,14 +35,24 @@ IsMended c w told new =
     OnCpu w c told new (MatchOption (w.kernel.on c) (IsMending w c told new) (λ t. IsRefused w Busy told new))
 
 -- where the CPU is there, and nothing runs on it: some first events of mending by a steal were done, and the next one
--- as far as it goes without memory
+-- found no memory
 abbrev pub RanOutInMending : PlainWorld → ℕ → PlainWorld → Type 0
-RanOutInMending w c new = IsIdle w.kernel c × IsCutShort w (mending_by_steal w c) new
+RanOutInMending w c new = IsIdle w.kernel c × RanOutAmong w (mending_by_steal w c) new
 
 -- for every plain world that is shown before, what want of memory leaves of mending is shown after
 abbrev pub MendsInPart : ℕ → World → World → Type 0
 MendsInPart c old new =
     (w : PlainWorld) → ShowsWorld old w → (w' : PlainWorld) × RanOutInMending w c w' × ShowsWorld new w'
+
+-- the CPU is there, and nothing runs on it, in every plain world that is shown
+abbrev pub ShowsIdle : ℕ → World → Type 0
+ShowsIdle c world = (w : PlainWorld) → ShowsWorld world w → IsIdle w.kernel c
+
+-- each CPU runs what it ran, in all plain worlds that are shown before and after
+abbrev pub RunsTheSame : World → World → Type 0
+RunsTheSame old new =
+    (w w' : PlainWorld) → ShowsWorld old w → ShowsWorld new w' → (c : ℕ)
+    → on (shown w'.kernel) c ≡ on (shown w.kernel) c
 
 -- in every reached world each CPU can be mended, or is refused
 abbrev pub EveryCpuCanBeMended : Type 0

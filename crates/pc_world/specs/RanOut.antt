@@ -55,6 +55,17 @@ abbrev pub RanOutAtFirst : PlainWorld → List Event → PlainWorld → Type 0
 RanOutAtFirst w [] new = ⊥
 RanOutAtFirst w (event ∷ rest) new = RanOut w event new
 
+-- some first of these events were done, in order, and the next one of them found no memory
+pub record RanOutAmong (w : PlainWorld) (events : List Event) (new : PlainWorld) : Type 0 where
+  pub done : List Event
+  pub next : Event
+  pub rest : List Event
+  pub replies : List Reply
+  pub reached : PlainWorld
+  pub order : events ≡ done ++ next ∷ rest
+  pub ran : Runs w done replies reached
+  pub found_none : RanOut reached next new
+
 -- some first events were done, in order, and the next one as far as it goes without memory
 pub record IsCutShort (w : PlainWorld) (events : List Event) (new : PlainWorld) : Type 0 where
   pub done : List Event

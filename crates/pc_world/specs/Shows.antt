@@ -15,7 +15,7 @@ use Rattle.pc_agent.specs.Wires.{sent_by}
 use Rattle.pc_world.specs.declared.parts.Parts.{Parts}
 use Rattle.pc_world.specs.PlainWorld.{PlainWorld}
 use Rattle.pc_world.specs.Reached.{Reached}
-use Rattle.pc_world.specs.RanOut.{IsCutShort, RanOut}
+use Rattle.pc_world.specs.RanOut.{IsCutShort, RanOut, RanOutAmong}
 use Rattle.pc_world.specs.Steps.{Runs}
 
 -- what a world is seen as
@@ -66,6 +66,12 @@ Does step old new told = (w : PlainWorld) → ShowsWorld old w → (w' : PlainWo
 abbrev pub LeavesWhenRanOut : Event → World → World → Type 0
 LeavesWhenRanOut event old new =
     (w : PlainWorld) → ShowsWorld old w → (w' : PlainWorld) × RanOut w event w' × ShowsWorld new w'
+
+-- for every plain world that is shown before, some first of the events were done, and what the next one leaves without
+-- memory is shown after
+abbrev pub RunsOutAmong : List Event → World → World → Type 0
+RunsOutAmong events old new =
+    (w : PlainWorld) → ShowsWorld old w → (w' : PlainWorld) × RanOutAmong w events w' × ShowsWorld new w'
 
 -- what was sent stays sent, and more may follow
 abbrev pub KeepsSent : World → World → Type 0

@@ -3,8 +3,8 @@
 ghost use Rattle.std.specs.Prelude.{IfOk, OnErr, OnOk, false, ◌++◌, ◌∷◌, []};
 ghost use Rattle.pc_world.specs.Inner.Mends.{DoesAll, PicksOrSteals};
 ghost use Rattle.pc_world.specs.Mending.{clearing, hearing};
-ghost use Rattle.pc_world.specs.Mends.{IsMended, MendsInPart};
-ghost use Rattle.pc_world.specs.Shows.{Does, KeepsSent, RunsInPart};
+ghost use Rattle.pc_world.specs.Mends.{IsMended, MendsInPart, RunsTheSame, ShowsIdle};
+ghost use Rattle.pc_world.specs.Shows.{Does, KeepsSent, RunsOutAmong};
 
 use crate::laws::{a_waiting_thread_can_be_run, kernel_laws};
 use crate::world::World;
@@ -18,10 +18,13 @@ impl World {
     /// and picks again. The answer is that of the last pick.
     ///
     /// Refused with `BadCpu`, or with `Busy` where a thread runs on the CPU, it does nothing; `NothingReady` says that
-    /// no thread waits that the agent may take. Where memory runs out, it can be begun anew.
+    /// no thread waits that the agent may take. Want of memory is told at an event that found none: the CPU is idle
+    /// still, every other one runs what it ran, and mending can be begun anew.
     pub fn mend(&mut self, cpu: Cpu) -> Result<Reply, OutOfMemory>
         ensures mended { IfOk result (Does (IsMended cpu) self.old self.new) }
         ensures no_memory { OnErr result (MendsInPart cpu self.old self.new) }
+        ensures idle { OnErr result (ShowsIdle cpu self.new) }
+        ensures running { OnErr result (RunsTheSame self.old self.new) }
         ensures kept { KeepsSent self.old self.new }
     {
         kernel_laws();
@@ -44,7 +47,7 @@ impl World {
     /// The queues of the first so many CPUs are cleared, and the agent takes in the first so many deltas.
     fn learn(&mut self, cpu: Cpu, cpus: u8, deltas: u64) -> Result<(), OutOfMemory>
         ensures done { OnOk result (DoesAll (clearing cpus ++ hearing cpu deltas) self.old self.new) }
-        ensures no_memory { OnErr result (RunsInPart (clearing cpus ++ hearing cpu deltas) self.old self.new) }
+        ensures no_memory { OnErr result (RunsOutAmong (clearing cpus ++ hearing cpu deltas) self.old self.new) }
         ensures kept { KeepsSent self.old self.new }
     {
         self.clear_queues(cpus)?;
@@ -55,7 +58,7 @@ impl World {
     /// The agent of each of the first so many CPUs sends what its queue holds, and removes it there.
     fn clear_queues(&mut self, cpus: u8) -> Result<(), OutOfMemory>
         ensures done { OnOk result (DoesAll (clearing cpus) self.old self.new) }
-        ensures no_memory { OnErr result (RunsInPart (clearing cpus) self.old self.new) }
+        ensures no_memory { OnErr result (RunsOutAmong (clearing cpus) self.old self.new) }
         ensures kept { KeepsSent self.old self.new }
     {
         for index in 0..cpus {
@@ -69,7 +72,7 @@ impl World {
         ensures done { OnOk result
             (DoesAll (Event.Publish cpu false ∷ Event.Consume cpu ∷ []) self.old self.new) }
         ensures no_memory { OnErr result
-            (RunsInPart (Event.Publish cpu false ∷ Event.Consume cpu ∷ []) self.old self.new) }
+            (RunsOutAmong (Event.Publish cpu false ∷ Event.Consume cpu ∷ []) self.old self.new) }
         ensures kept { KeepsSent self.old self.new }
     {
         self.take(Event::Publish { cpu, fails: false })?;
@@ -80,7 +83,7 @@ impl World {
     /// The agent takes in the first so many deltas.
     fn hear(&mut self, cpu: Cpu, deltas: u64) -> Result<(), OutOfMemory>
         ensures done { OnOk result (DoesAll (hearing cpu deltas) self.old self.new) }
-        ensures no_memory { OnErr result (RunsInPart (hearing cpu deltas) self.old self.new) }
+        ensures no_memory { OnErr result (RunsOutAmong (hearing cpu deltas) self.old self.new) }
         ensures kept { KeepsSent self.old self.new }
     {
         for delta in 0..deltas {
@@ -92,7 +95,7 @@ impl World {
     /// The agent picks, under this count of posts; where it commits no thread, it steals and picks again.
     fn pick_or_steal(&mut self, cpu: Cpu, posts: u32) -> Result<Reply, OutOfMemory>
         ensures done { IfOk result (Does (PicksOrSteals cpu posts) self.old self.new) }
-        ensures no_memory { OnErr result (RunsInPart
+        ensures no_memory { OnErr result (RunsOutAmong
             (Event.Pick cpu posts ∷ Event.Steal cpu ∷ Event.Pick cpu posts ∷ []) self.old self.new) }
         ensures kept { KeepsSent self.old self.new }
     {
@@ -109,7 +112,7 @@ impl World {
     /// Takes an event, whatever is replied.
     fn take(&mut self, event: Event) -> Result<(), OutOfMemory>
         ensures done { OnOk result (DoesAll (event ∷ []) self.old self.new) }
-        ensures no_memory { OnErr result (RunsInPart (event ∷ []) self.old self.new) }
+        ensures no_memory { OnErr result (RunsOutAmong (event ∷ []) self.old self.new) }
         ensures kept { KeepsSent self.old self.new }
     {
         // The checker finds the types that a reply nests only where the function names them.

@@ -3,10 +3,12 @@ use Rattle.std.proofs.lemmas.Grind.{common_steps}
 use Rattle.pc_calls.specs.declared.event.Event.TheVariants as event
 use Rattle.pc_kernel.specs.Reads.{on, seen, aseq_of}
 use Rattle.pc_world.specs.Mending.{clearing, hearing}
+use Rattle.pc_world.specs.Mends.{MendsInPart}
 use Rattle.pc_world.specs.Shows.{deltas_of}
 use Rattle.pc_world.proofs.Chaining.{part_first, part_then}
 use Rattle.pc_world.proofs.Mends.{begins, busy, mended, mends_in_part, none_told, not_there}
-use Rattle.pc_world.proofs.Running.{on_err}
+use Rattle.pc_world.proofs.Running.{keeps_then, on_err}
+use Rattle.pc_world.proofs.Wanting.{runs_the_same, shows_idle}
 use Rattle.pc_world.proofs.world.World.mend.Goals as goal
 
 pub returns-in_default-clause-mended : goal.returns-in_default-clause-mended
@@ -20,8 +22,8 @@ returns-then-is_some-clause-mended c =
     let runs : is_some (on (seen k) c.args.cpu) ≡ true = first_of (cc, search rules, grind (arith, common_steps)) in
     busy c.kernel_laws.ensures.reads c.args.self.now k c.args.cpu c.kernel-kernel.ensures c.in-Some.posts c.in-Some.ensures runs
 
-pub returns-in_err-learn-clause-no_memory : goal.returns-in_err-learn-clause-no_memory
-returns-in_err-learn-clause-no_memory c =
+pub returns-in_err-learn : goal.returns-in_err-learn
+returns-in_err-learn c =
     let old = c.args.self.now in
     let cpu = c.args.cpu in
     let k = c.kernel-kernel.result.now in
@@ -32,12 +34,19 @@ returns-in_err-learn-clause-no_memory c =
     let many : deltas ≡ length (deltas_of old) + c.cpus-cpus.result = omega arith in
     let begun = begins c.kernel_laws.ensures.reads old k cpu c.kernel-kernel.ensures c.in-Some.posts c.cpus-cpus.result deltas c.in-Some.ensures free c.cpus-cpus.ensures.count many in
     let rest = event.Pick cpu c.in-Some.posts ∷ event.Steal cpu ∷ event.Pick cpu c.in-Some.posts ∷ [] in
-    on_err c.from_residual.result _
-    (mends_in_part c.kernel_laws.ensures c.a_waiting_thread_can_be_run.ensures old cpu c.cpus-cpus.result c.in-Some.posts deltas begun c.learn.new.self
-    (part_first (clearing c.cpus-cpus.result ++ hearing cpu deltas) rest old c.learn.new.self c.in_err-learn.ensures.no_memory))
+    let part : MendsInPart cpu old c.learn.new.self =
+    mends_in_part c.kernel_laws.ensures c.a_waiting_thread_can_be_run.ensures old cpu c.cpus-cpus.result c.in-Some.posts deltas begun c.learn.new.self
+    (part_first (clearing c.cpus-cpus.result ++ hearing cpu deltas) rest old c.learn.new.self c.in_err-learn.ensures.no_memory) in
+    record {
+      mended = search rules;
+      no_memory = on_err c.from_residual.result _ part;
+      idle = on_err c.from_residual.result _ (shows_idle c.kernel_laws.ensures old c.learn.new.self cpu part c.is_reached.ensures);
+      running = on_err c.from_residual.result _ (runs_the_same c.kernel_laws.ensures old c.learn.new.self cpu part);
+      kept = c.learn.ensures.kept;
+    }
 
-pub returns-in_err-answer-clause-no_memory : goal.returns-in_err-answer-clause-no_memory
-returns-in_err-answer-clause-no_memory c =
+pub returns-in_err-answer : goal.returns-in_err-answer
+returns-in_err-answer c =
     let old = c.args.self.now in
     let cpu = c.args.cpu in
     let k = c.kernel-kernel.result.now in
@@ -48,9 +57,16 @@ returns-in_err-answer-clause-no_memory c =
     let many : deltas ≡ length (deltas_of old) + c.cpus-cpus.result = omega arith in
     let begun = begins c.kernel_laws.ensures.reads old k cpu c.kernel-kernel.ensures c.in-Some.posts c.cpus-cpus.result deltas c.in-Some.ensures free c.cpus-cpus.ensures.count many in
     let rest = event.Pick cpu c.in-Some.posts ∷ event.Steal cpu ∷ event.Pick cpu c.in-Some.posts ∷ [] in
-    on_err c.from_residual-in_err-answer.result _
-    (mends_in_part c.kernel_laws.ensures c.a_waiting_thread_can_be_run.ensures old cpu c.cpus-cpus.result c.in-Some.posts deltas begun c.pick_or_steal.new.self
-    (part_then (clearing c.cpus-cpus.result ++ hearing cpu deltas) rest old c.learn.new.self c.pick_or_steal.new.self c.in_ok-learn.ensures.done c.in_err-answer.ensures.no_memory))
+    let part : MendsInPart cpu old c.pick_or_steal.new.self =
+    mends_in_part c.kernel_laws.ensures c.a_waiting_thread_can_be_run.ensures old cpu c.cpus-cpus.result c.in-Some.posts deltas begun c.pick_or_steal.new.self
+    (part_then (clearing c.cpus-cpus.result ++ hearing cpu deltas) rest old c.learn.new.self c.pick_or_steal.new.self c.in_ok-learn.ensures.done c.in_err-answer.ensures.no_memory) in
+    record {
+      mended = search rules;
+      no_memory = on_err c.from_residual-in_err-answer.result _ part;
+      idle = on_err c.from_residual-in_err-answer.result _ (shows_idle c.kernel_laws.ensures old c.pick_or_steal.new.self cpu part c.is_reached.ensures);
+      running = on_err c.from_residual-in_err-answer.result _ (runs_the_same c.kernel_laws.ensures old c.pick_or_steal.new.self cpu part);
+      kept = keeps_then old c.learn.new.self c.pick_or_steal.new.self c.learn.ensures.kept c.pick_or_steal.ensures.kept;
+    }
 
 pub returns-clause-mended : goal.returns-clause-mended
 returns-clause-mended c =
