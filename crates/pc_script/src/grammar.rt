@@ -1,6 +1,7 @@
 //! From a line to the command that its words spell.
 
-ghost use Rattle.std.specs.Prelude.{◌≡◌, ◌∷◌, List, IsTrue, ◌↔◌, MatchOption};
+ghost use Rattle.std.specs.Prelude.{◌≡◌, ◌∷◌, List, IsTrue, ◌↔◌, MatchOption, None};
+ghost use Rattle.std.specs.Bool.{MatchBool};
 ghost use Rattle.pc_script.specs.Grammar.{Field, AreInRange, Spells, words_of};
 ghost use Rattle.pc_script.specs.Inner.Readings.{IsReading, kinds_of};
 ghost use Rattle.pc_script.specs.Inner.Verbs.{kinds, name_of};
@@ -140,13 +141,16 @@ macro_rules! table {
     };
 }
 
-/// The command of a verb whose fields are the words that are left.
+/// Puts the command of a verb, whose fields are the words that are left, into a place. Answers whether there is one.
 macro_rules! read {
-    ($verb:expr, $words:expr; $($name:ident($($fields:tt)+) => $command:expr),+) => {
+    ($verb:expr, $words:expr, $place:expr; $($name:ident($($fields:tt)+) => $command:expr),+) => {
         match $verb {
             $(Verb::$name => match Arguments::read($words) {
-                Some(pairs!($($fields)+)) => Some($command),
-                None => None,
+                Some(pairs!($($fields)+)) => {
+                    *$place = $command;
+                    true
+                }
+                None => false,
             })+
         }
     };
@@ -183,25 +187,29 @@ macro_rules! troubles {
     };
 }
 
-/// The command of this verb whose fields are the words that are left. It is put into its caller, which then needs no
-/// copy of the command; a hint that the compiler drops where a function would grow large, so what it calls is
-/// kept small.
+/// Puts the command of this verb whose fields are the words that are left into the place. Answers whether there is one.
+///
+/// The place is the caller's, and stays where it is: a command that were handed on as a value would be put together
+/// from the fields of all commands at once, wherever the kinds of commands meet.
 #[inline(always)]
-fn read_as(verb: Verb, words: &mut Words<'_>) -> Option<Command>
-    ensures { MatchOption result
-        ((any : List Field) → kinds_of any ≡ kinds verb → AreInRange any → words_left words.old ≡ words_of any → ⊥)
-        (Spells (name_of verb ∷ words_left words.old)) }
+fn read_as(verb: Verb, words: &mut Words<'_>, place: &mut Command) -> bool
+    ensures { MatchBool result (Spells (name_of verb ∷ words_left words.old) place.new)
+        ((any : List Field) → kinds_of any ≡ kinds verb → AreInRange any → words_left words.old ≡ words_of any → ⊥) }
 {
-    table!(read, verb, words)
+    table!(read, verb, words, place)
 }
 
-/// The command that a line with this first word spells, and with the words that are left after it.
+/// Puts the command that a line with this first word spells, and with the words that are left after it, into the place.
+/// Answers whether there is one.
 #[inline(always)]
-pub(crate) fn command_of(name: &[u8], words: &mut Words<'_>) -> Option<Command>
-    ensures { IsReading (name.now ∷ words_left words.old) result }
+pub(crate) fn read_command(name: &[u8], words: &mut Words<'_>, place: &mut Command) -> bool
+    ensures { MatchBool result (Spells (name.now ∷ words_left words.old) place.new)
+        (IsReading (name.now ∷ words_left words.old) None) }
 {
-    let verb = verb_of(name)?;
-    read_as(verb, words)
+    match verb_of(name) {
+        Some(verb) => read_as(verb, words, place),
+        None => false,
+    }
 }
 
 /// The verb that this word is in a script of the version.

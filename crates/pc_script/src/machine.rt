@@ -28,14 +28,14 @@ pub trait Machine: Drop {
         Self: Sized,
         ensures { StandsAfter profile result [] [] };
 
-    /// Takes a command, and puts what it is answered in the place of the response, whatever that was, so that it isn't
+    /// Takes a command, and puts what it is answered in the place of the response, whatever that was. So neither is
     /// copied on its way. After an error the response is what it was, and the machine isn't used again.
-    fn answer(&mut self, command: Command, response: &mut Response) -> Result<(), AllocError>
+    fn answer(&mut self, command: &Command, response: &mut Response) -> Result<(), AllocError>
         ensures ok { OnOk result ((profile : Profile) (commands : List Command) (responses : List Response)
             → StandsAfter profile self.old commands responses
-            → StandsAfter profile self.new (commands ++ command ∷ []) (responses ++ response.new ∷ [])) }
+            → StandsAfter profile self.new (commands ++ command.now ∷ []) (responses ++ response.new ∷ [])) }
         ensures no_memory { OnErr result ((profile : Profile) (commands : List Command) (responses : List Response)
-            → StandsAfter profile self.old commands responses → RanOut profile commands responses command) }
+            → StandsAfter profile self.old commands responses → RanOut profile commands responses command.now) }
         ensures kept { OnErr result (response.new ≡ response.old) };
 
     ghost is_run_after: { (profile : Profile) (machine : Self) (commands : List Command) (responses : List Response)

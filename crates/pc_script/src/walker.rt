@@ -15,7 +15,7 @@ ghost use Rattle.pc_script.specs.declared.version.Version.{Version};
 
 use crate::command::Command;
 use crate::input::MOST_BYTES;
-use crate::line::{Wish, asked};
+use crate::line::{Asks, NO_COMMAND, read_line};
 use crate::lines::lines_of;
 use crate::machine::Machine;
 use crate::observer::{Line, Observer};
@@ -37,7 +37,8 @@ pub(crate) struct Walker<M: Machine> {
     pub(crate) is_open: bool,
     /// The version that a line named, and the first before.
     pub(crate) version: Version,
-    /// Each response stands where the one before it stood.
+    /// Each command and each response stand where those before them stood.
+    command: Command,
     response: Response,
 }
 
@@ -53,21 +54,21 @@ impl<M: Machine> Walker<M> {
             machine: M::start(alloc, Profile::One),
             is_open: false,
             version: Version::One,
+            command: NO_COMMAND,
             response: Response::Opened,
         }
     }
 
-    /// Has the machine take the command of a line, and tells the observer of it.
+    /// Has the machine take the command of a line, which stands in its place, and tells the observer of it.
     #[inline(always)]
     fn answer<O: Observer<M, W>, W: Write>(
         &mut self,
         line: Line<'_>,
-        command: Command,
         observer: &mut O,
         writer: &mut W,
     ) -> Result<(), ScriptFault>
         requires replies { HasNoReply line.text.now → ⊥ }
-        requires asked { AsksFor self.old.version (words line.text.now) command }
+        requires asked { AsksFor self.old.version (words line.text.now) self.old.command }
         ensures ok { OnOk result (Takes M.StandsAfter O.Tells line.entry.text.now
             (stand self.old.machine self.old.is_open self.old.version observer.old (W.contents writer.old))
             (stand self.new.machine self.new.is_open self.new.version observer.new (W.contents writer.new))) }
@@ -77,9 +78,17 @@ impl<M: Machine> Walker<M> {
             (stand self.new.machine self.new.is_open self.new.version observer.new (W.contents writer.new))) }
     {
         self.is_open = true;
-        observer.expect(&command, &self.machine);
-        match self.machine.answer(command, &mut self.response) {
-            Ok(()) => observer.answered(line, &command, &mut self.response, &self.machine, writer),
+        observer.expect(&self.command, &self.machine);
+        match self.machine.answer(&self.command, &mut self.response) {
+            Ok(()) => {
+                observer.answered(
+                    line,
+                    &self.command,
+                    &mut self.response,
+                    &self.machine,
+                    writer,
+                )
+            }
             Err(_) => Err(ScriptFault::OutOfMemory),
         }
     }
@@ -136,13 +145,13 @@ impl<M: Machine> Walker<M> {
             (stand self.old.machine self.old.is_open self.old.version observer.old (W.contents writer.old))
             (stand self.new.machine self.new.is_open self.new.version observer.new (W.contents writer.new))) }
     {
-        match asked(self.version, line.text) {
-            Wish::Nothing => Ok(true),
-            Wish::Answer(command) => {
-                self.answer(line, command, observer, writer)?;
+        match read_line(self.version, line.text, &mut self.command) {
+            Asks::Nothing => Ok(true),
+            Asks::ForCommand => {
+                self.answer(line, observer, writer)?;
                 Ok(true)
             }
-            Wish::Stop => self.stop(line, observer, writer),
+            Asks::ForStop => self.stop(line, observer, writer),
         }
     }
 }

@@ -126,14 +126,15 @@ fn act(
     alloc: Global,
     profile: Profile,
     enclave: &mut Enclave,
-    command: Command,
+    command: &Command,
     response: &mut Response,
 ) -> Result<(), AllocError>
-    ensures ok { OnOk result (Answers command enclave.old enclave.new response.new) }
-    ensures no_memory { OnErr result ((e : PlainEnclave) → ShowsEnclave enclave.old e → TakesMemoryIn e command) }
+    ensures ok { OnOk result (Answers command.now enclave.old enclave.new response.new) }
+    ensures no_memory { OnErr result
+        ((e : PlainEnclave) → ShowsEnclave enclave.old e → TakesMemoryIn e command.now) }
     ensures kept { OnErr result (response.new ≡ response.old) }
 {
-    match command {
+    match *command {
         Command::Enclave(_) => *response = Response::HaveEnclave,
         Command::Event(event) => {
             enclave.is_untouched = false;
@@ -164,13 +165,13 @@ impl Machine for Session {
         }
     }
 
-    fn answer(&mut self, command: Command, response: &mut Response) -> Result<(), AllocError> {
+    fn answer(&mut self, command: &Command, response: &mut Response) -> Result<(), AllocError> {
         match &mut self.enclave {
             None => open(
                 self.alloc,
                 self.profile,
                 &mut self.enclave,
-                command,
+                *command,
                 response,
             ),
             Some(enclave) => act(self.alloc, self.profile, enclave, command, response),

@@ -177,8 +177,8 @@ impl Machine for Echo {
         Echo { alloc, profile }
     }
 
-    fn answer(&mut self, command: Command, response: &mut Response) -> Result<(), AllocError> {
-        *response = match command {
+    fn answer(&mut self, command: &Command, response: &mut Response) -> Result<(), AllocError> {
+        *response = match *command {
             Command::Enclave(limits) => enclave(self.profile, limits.threads),
             Command::Event(event) => Response::Event(happened(event)),
             Command::Read(question) => told(self.alloc, question)?,

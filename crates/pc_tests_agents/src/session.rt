@@ -13,7 +13,7 @@ fn takes(session: &mut Session, line: &[u8]) -> bool {
         return false;
     };
     let mut response = Response::NoEnclave;
-    session.answer(command, &mut response).is_ok()
+    session.answer(&command, &mut response).is_ok()
 }
 
 /// How many threads the world has, where there is one.
@@ -69,7 +69,7 @@ fn answer_to(session: &mut Session, line: &[u8]) -> Option<Heard> {
         return None;
     };
     let mut response = Response::HaveEnclave;
-    session.answer(command, &mut response).ok()?;
+    session.answer(&command, &mut response).ok()?;
     Some(match response {
         Response::NoEnclave => Heard::NoEnclave,
         Response::Ruled(_) => Heard::Ruled,

@@ -4,11 +4,21 @@ use Rattle.pc_script.specs.Grammar.{Field, Processors, Processor, Queue, Level, 
 use Rattle.pc_script.specs.Grammar.{Target, Failure, Order, Exactness}
 use Rattle.pc_script.specs.Grammar.{field_words, IsInRange, words_of, AreInRange, Spells}
 use Rattle.pc_script.specs.declared.command.Command.{Command}
+use Rattle.pc_script.specs.declared.line.Asks.{Asks}
+use Rattle.pc_script.specs.declared.line.Asks.TheVariants as asks
+use Rattle.pc_script.specs.declared.line.Wish.{Wish}
+use Rattle.pc_script.specs.declared.line.Wish.TheVariants as wish
 
 -- a command was read exactly where the words spell one
 abbrev pub IsReading : List (List ℕ) → Option Command → Type 0
 IsReading spelled None = (command : Command) → Spells spelled command → ⊥
 IsReading spelled (Some command) = Spells spelled command
+
+-- what a line asks for, where its command stands in a place of its own
+abbrev pub wish_of : Asks → Command → Wish
+wish_of asks.Nothing command = wish.Nothing
+wish_of asks.ForCommand command = wish.Answer command
+wish_of asks.ForStop command = wish.Stop
 
 -- What a field says, whatever its value
 pub data Kind : Type 0 where

@@ -63,7 +63,7 @@ impl Machine for Spent {
         Spent { left: ANSWERED }
     }
 
-    fn answer(&mut self, _command: Command, response: &mut Response) -> Result<(), AllocError> {
+    fn answer(&mut self, _command: &Command, response: &mut Response) -> Result<(), AllocError> {
         if self.left == 0 {
             return Err(AllocError);
         }

@@ -33,8 +33,8 @@ impl Machine for Counting {
         Counting { profile, taken: 0 }
     }
 
-    fn answer(&mut self, command: Command, response: &mut Response) -> Result<(), AllocError> {
-        if command == LACKING {
+    fn answer(&mut self, command: &Command, response: &mut Response) -> Result<(), AllocError> {
+        if *command == LACKING {
             return Err(AllocError);
         }
         self.taken = self.taken.saturating_add(1);

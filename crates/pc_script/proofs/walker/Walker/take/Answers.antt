@@ -4,5 +4,5 @@ use Rattle.pc_script.proofs.walker.Walker.take.Goals as goal
 
 pub returns-in-Nothing-clause-ok : goal.returns-in-Nothing-clause-ok
 returns-in-Nothing-clause-ok g c =
-    let quiet : HasNoReply c.args.line.text.now = rw c.in-Nothing.is at c.asked.ensures in
+    let quiet : HasNoReply c.args.line.text.now = rw c.in-Nothing.is at c.read_line.ensures in
     silent quiet
