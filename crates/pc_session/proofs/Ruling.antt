@@ -9,6 +9,7 @@ use Rattle.pc_policy.specs.Rules.{Rules, rules_of}
 use Rattle.pc_policy.specs.declared.agent_policy.AgentPolicy.{AgentPolicy}
 use Rattle.pc_script.specs.declared.command.Command.TheVariants as command
 use Rattle.pc_script.specs.declared.command.PolicyName.{PolicyName}
+use Rattle.pc_script.specs.declared.response.Response.{Response}
 use Rattle.pc_script.specs.declared.response.Response.TheVariants as response
 use Rattle.pc_world.specs.Mends.{IsMended}
 use Rattle.pc_world.specs.PlainWorld.{PlainWorld, opened_by, rules_at}
@@ -17,7 +18,7 @@ use Rattle.pc_world.specs.Steps.{Step}
 use Rattle.pc_session.specs.declared.session.Enclave.{Enclave}
 use Rattle.pc_session.specs.Policies.{AreAll, rules_named}
 use Rattle.pc_session.specs.Session.{IsPolicy, touched, untouched}
-use Rattle.pc_session.specs.Inner.Sessions.{Answers}
+use Rattle.pc_session.specs.Inner.Sessions.{Answers, IsReplied}
 
 -- the rules of a CPU are those of the policy at its place
 rules_there : (policies : List AgentPolicy) (c : ℕ) (other : AgentPolicy) → c < length policies → rules_at policies c ≡ rules_of (get_or policies c other)
@@ -55,6 +56,20 @@ pub happens : (old : Enclave) (next : World) (event : event.Event) (reply : Repl
 happens old next event reply does e h =
     let after = does e.world h.world in
     (touched after.0, record { reply = reply; after = after.0; step = after.1; tells = refl; leaves = refl }, record { world = after.2; untouched = refl })
+
+pub happens_in : (old : Enclave) (next : World) (event : event.Event) (told : Response) → IsReplied (Does (λ w. Step w event) old.world next) told
+    → Answers (command.Event event) old (record { world = next; is_untouched = false }) told
+happens_in old next event (response.Event reply) does = happens old next event reply does
+happens_in old next event response.Opened does = absurd does
+happens_in old next event response.NoEnclave does = absurd does
+happens_in old next event response.HaveEnclave does = absurd does
+happens_in old next event (response.BadLimits field) does = absurd does
+happens_in old next event (response.Status phase thread status) does = absurd does
+happens_in old next event (response.Truth holds) does = absurd does
+happens_in old next event (response.Sameness same) does = absurd does
+happens_in old next event (response.View threads) does = absurd does
+happens_in old next event (response.Refused why) does = absurd does
+happens_in old next event (response.Ruled policy) does = absurd does
 
 pub mends : (old : Enclave) (next : World) (cpu : ℕ) (reply : Reply) → Does (IsMended cpu) old.world next reply
     → Answers (command.Mend cpu) old (record { world = next; is_untouched = false }) (response.Event reply)

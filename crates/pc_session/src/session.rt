@@ -5,12 +5,14 @@ ghost use Rattle.pc_script.specs.declared.command.Command.{Command};
 ghost use Rattle.pc_script.specs.declared.response.Response.{Response};
 ghost use Rattle.pc_session.specs.Session.{IsSession, PlainEnclave, RanOut, TakesMemory, TakesMemoryIn};
 ghost use Rattle.pc_calls.specs.declared.limits.Profile.{Profile};
-ghost use Rattle.pc_session.specs.Inner.Sessions.{Answers, Steps, is_session};
+ghost use Rattle.pc_world.specs.Shows.{Does, LeavesWhenRanOut};
+ghost use Rattle.pc_world.specs.Steps.{Step};
+ghost use Rattle.pc_session.specs.Inner.Sessions.{Answers, IsReplied, Steps, is_session};
 ghost use Rattle.pc_session.specs.Standing.{LeadsToWorld, ShowsEnclave, StandsAfter, lent};
 
 use crate::policies::policies_of;
 use crate::reads::answer_of;
-use pc_calls::{LimitsFault, Profile, Refusal, Reply};
+use pc_calls::{Event, LimitsFault, Profile, Refusal, Reply};
 use pc_messages::Cpu;
 use pc_script::{Command, Machine, PolicyName, Response};
 use pc_world::World;
@@ -93,14 +95,29 @@ fn rule(
     }
 }
 
-/// Puts a reply in the place of a response. Most stand where another reply stood, of which nothing has to be let go.
+/// Has the world take an event, and puts its reply in the place of the response. Most stand where another reply stood,
+/// of which nothing has to be let go.
 #[inline(always)]
-fn put_reply(response: &mut Response, reply: Reply)
-    ensures { response.new ≡ Response.Event reply }
+fn step(world: &mut World, event: &Event, response: &mut Response) -> Result<(), AllocError>
+    ensures ok { OnOk result (IsReplied (Does (λ w. Step w event.now) world.old world.new) response.new) }
+    ensures no_memory { OnErr result (LeavesWhenRanOut event.now world.old world.new) }
+    ensures kept { OnErr result (response.new ≡ response.old) }
 {
     match response {
-        Response::Event(place) => *place = reply,
-        _ => *response = Response::Event(reply),
+        Response::Event(place) => match world.step_in_place(event, place) {
+            Ok(()) => Ok(()),
+            Err(_) => Err(AllocError),
+        },
+        _ => {
+            let mut reply = Reply::Done;
+            match world.step_in_place(event, &mut reply) {
+                Ok(()) => {
+                    *response = Response::Event(reply);
+                    Ok(())
+                }
+                Err(_) => Err(AllocError),
+            }
+        }
     }
 }
 
@@ -114,7 +131,7 @@ fn mend(met: &mut Enclave, cpu: Cpu, response: &mut Response) -> Result<(), Allo
     met.is_untouched = false;
     match met.world.mend(cpu) {
         Ok(reply) => {
-            put_reply(response, reply);
+            *response = Response::Event(reply);
             Ok(())
         }
         Err(_) => Err(AllocError),
@@ -134,18 +151,15 @@ fn act(
         ((e : PlainEnclave) → ShowsEnclave enclave.old e → TakesMemoryIn e command.now) }
     ensures kept { OnErr result (response.new ≡ response.old) }
 {
-    match *command {
+    match command {
         Command::Enclave(_) => *response = Response::HaveEnclave,
         Command::Event(event) => {
             enclave.is_untouched = false;
-            match enclave.world.step(event) {
-                Ok(reply) => put_reply(response, reply),
-                Err(_) => return Err(AllocError),
-            }
+            step(&mut enclave.world, event, response)?;
         }
-        Command::Read(read) => *response = answer_of(alloc, &enclave.world, read)?,
-        Command::Policy(policy) => rule(alloc, profile, enclave, policy, response)?,
-        Command::Mend { cpu } => mend(enclave, cpu, response)?,
+        Command::Read(read) => *response = answer_of(alloc, &enclave.world, *read)?,
+        Command::Policy(policy) => rule(alloc, profile, enclave, *policy, response)?,
+        Command::Mend { cpu } => mend(enclave, *cpu, response)?,
     }
     Ok(())
 }

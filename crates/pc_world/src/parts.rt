@@ -1,6 +1,6 @@
 //! What a world keeps, and what each event does to it.
 
-ghost use Rattle.std.specs.Prelude.{◌≡◌, false, MatchOption, Some, length, slice_get, option_copied};
+ghost use Rattle.std.specs.Prelude.{◌≡◌, false, MatchOption, OnErr, Some, length, slice_get, option_copied};
 ghost use Rattle.pc_kernel.specs.Reads.{seen, is_cpu};
 ghost use Rattle.pc_world.specs.Inner.Agents.{AreOwn};
 ghost use Rattle.pc_world.specs.Inner.Laws.{RunsGoOn};
@@ -45,7 +45,7 @@ fn delta_at(sent: &[Delta], index: u64) -> Option<&Delta>
 }
 
 impl Parts {
-    ghost use Rattle.pc_world.specs.Inner.Handling.{Handles};
+    ghost use Rattle.pc_world.specs.Inner.Handling.{Handles, outcome_of};
     ghost use Rattle.pc_world.specs.Inner.Places.{IsPlace};
 
     /// The CPU's agent; none of a CPU that is not there.
@@ -55,20 +55,21 @@ impl Parts {
         self.agents.get(cpu.index() as usize)
     }
 
-    /// Takes an event.
-    pub(crate) fn handle(&mut self, event: Event) -> Result<Reply, OutOfMemory>
-        ensures { Handles event result self.old self.new }
+    /// Takes an event, and puts what it is replied into the place, which keeps what it held where memory runs out.
+    pub(crate) fn handle(&mut self, event: &Event, reply: &mut Reply) -> Result<(), OutOfMemory>
+        ensures handles { Handles event.now (outcome_of result reply.new) self.old self.new }
+        ensures kept { OnErr result (reply.new ≡ reply.old) }
     {
-        match event {
-            Event::Publish { cpu, fails } => self.publish(cpu, fails),
-            Event::Consume { cpu } => self.consume(cpu),
-            Event::Deliver { cpu, delta } => self.deliver(cpu, delta),
-            Event::Answer { cpu, asker } => self.answer(cpu, asker),
-            Event::Pick { cpu, aseq } => self.pick(cpu, aseq),
-            Event::Steal { cpu } => self.steal(cpu),
-            Event::Crash { cpu } => self.crash(cpu),
-            Event::Env(call) => self.post(call),
-            Event::Agent(call) => self.call(call),
+        match *event {
+            Event::Publish { cpu, fails } => self.publish(cpu, fails, reply),
+            Event::Consume { cpu } => self.consume(cpu, reply),
+            Event::Deliver { cpu, delta } => self.deliver(cpu, delta, reply),
+            Event::Answer { cpu, asker } => self.answer(cpu, asker, reply),
+            Event::Pick { cpu, aseq } => self.pick(cpu, aseq, reply),
+            Event::Steal { cpu } => self.steal(cpu, reply),
+            Event::Crash { cpu } => self.crash(cpu, reply),
+            Event::Env(call) => self.post(call, reply),
+            Event::Agent(call) => self.call(call, reply),
         }
     }
 
@@ -84,147 +85,213 @@ impl Parts {
     }
 
     /// The environment makes this call.
-    fn post(&mut self, call: EnvCall) -> Result<Reply, OutOfMemory>
-        ensures { Handles (Event.Env call) result self.old self.new }
+    fn post(&mut self, call: EnvCall, reply: &mut Reply) -> Result<(), OutOfMemory>
+        ensures handles { Handles (Event.Env call) (outcome_of result reply.new) self.old self.new }
+        ensures kept { OnErr result (reply.new ≡ reply.old) }
     {
         runs_go_on();
         match self.kernel.apply_env(call) {
-            Ok(posted) => Ok(Reply::Posted(posted)),
-            Err(CallFault::Refused(refusal)) => Ok(Reply::Refused(refusal)),
+            Ok(posted) => {
+                *reply = Reply::Posted(posted);
+                Ok(())
+            }
+            Err(CallFault::Refused(refusal)) => {
+                *reply = Reply::Refused(refusal);
+                Ok(())
+            }
             Err(CallFault::OutOfMemory) => Err(OutOfMemory),
         }
     }
 
     /// An agent makes this call.
-    fn call(&mut self, call: AgentCall) -> Result<Reply, OutOfMemory>
-        ensures { Handles (Event.Agent call) result self.old self.new }
+    fn call(&mut self, call: AgentCall, reply: &mut Reply) -> Result<(), OutOfMemory>
+        ensures handles { Handles (Event.Agent call) (outcome_of result reply.new) self.old self.new }
+        ensures kept { OnErr result (reply.new ≡ reply.old) }
     {
         runs_go_on();
         let call = Call::Agent(call);
         match self.kernel.apply(call) {
-            Ok(answer) => Ok(call.reply(answer)),
-            Err(CallFault::Refused(refusal)) => Ok(Reply::Refused(refusal)),
+            Ok(answer) => {
+                *reply = call.reply(answer);
+                Ok(())
+            }
+            Err(CallFault::Refused(refusal)) => {
+                *reply = Reply::Refused(refusal);
+                Ok(())
+            }
             Err(CallFault::OutOfMemory) => Err(OutOfMemory),
         }
     }
 
     /// The agent removes from its queue what it has sent.
-    fn consume(&mut self, cpu: Cpu) -> Result<Reply, OutOfMemory>
-        ensures { Handles (Event.Consume cpu) result self.old self.new }
+    fn consume(&mut self, cpu: Cpu, reply: &mut Reply) -> Result<(), OutOfMemory>
+        ensures handles { Handles (Event.Consume cpu) (outcome_of result reply.new) self.old self.new }
+        ensures kept { OnErr result (reply.new ≡ reply.old) }
     {
         runs_go_on();
         let Some(place) = self.place(cpu) else {
-            return Ok(Reply::Refused(Refusal::BadCpu));
+            *reply = Reply::Refused(Refusal::BadCpu);
+            return Ok(());
         };
         match self.agents[place].consume(&mut self.kernel) {
-            Ok(items) => Ok(Reply::Consumed { items }),
-            Err(refusal) => Ok(Reply::Refused(refusal)),
+            Ok(items) => {
+                *reply = Reply::Consumed { items };
+                Ok(())
+            }
+            Err(refusal) => {
+                *reply = Reply::Refused(refusal);
+                Ok(())
+            }
         }
     }
 
     /// The agent takes in what its queue holds, and sends it, by a wire that may refuse it.
-    fn publish(&mut self, cpu: Cpu, fails: bool) -> Result<Reply, OutOfMemory>
-        ensures { Handles (Event.Publish cpu fails) result self.old self.new }
+    fn publish(&mut self, cpu: Cpu, fails: bool, reply: &mut Reply) -> Result<(), OutOfMemory>
+        ensures handles { Handles (Event.Publish cpu fails) (outcome_of result reply.new) self.old self.new }
+        ensures kept { OnErr result (reply.new ≡ reply.old) }
     {
         runs_go_on();
         let Some(place) = self.place(cpu) else {
-            return Ok(Reply::Refused(Refusal::BadCpu));
+            *reply = Reply::Refused(Refusal::BadCpu);
+            return Ok(());
         };
         let index = self.wire.sent().len() as u64;
         self.wire.set_refuses(fails);
         match self.agents[place].publish(&self.kernel, &mut self.wire) {
-            Ok(items) => Ok(Reply::Published {
-                delta: index,
-                items,
-            }),
-            Err(SendFault::WireFault) => Ok(Reply::Refused(Refusal::WireFault)),
+            Ok(items) => {
+                *reply = Reply::Published {
+                    delta: index,
+                    items,
+                };
+                Ok(())
+            }
+            Err(SendFault::WireFault) => {
+                *reply = Reply::Refused(Refusal::WireFault);
+                Ok(())
+            }
             Err(SendFault::OutOfMemory) => Err(OutOfMemory),
         }
     }
 
     /// The agent takes in the delta with this index.
-    fn deliver(&mut self, cpu: Cpu, index: u64) -> Result<Reply, OutOfMemory>
-        ensures { Handles (Event.Deliver cpu index) result self.old self.new }
+    fn deliver(&mut self, cpu: Cpu, index: u64, reply: &mut Reply) -> Result<(), OutOfMemory>
+        ensures handles { Handles (Event.Deliver cpu index) (outcome_of result reply.new) self.old self.new }
+        ensures kept { OnErr result (reply.new ≡ reply.old) }
     {
         runs_go_on();
         let Some(place) = self.place(cpu) else {
-            return Ok(Reply::Refused(Refusal::BadCpu));
+            *reply = Reply::Refused(Refusal::BadCpu);
+            return Ok(());
         };
         match delta_at(self.wire.sent(), index) {
-            None => Ok(Reply::Refused(Refusal::NoDelta)),
+            None => {
+                *reply = Reply::Refused(Refusal::NoDelta);
+                Ok(())
+            }
             Some(delta) => match self.agents[place].deliver(delta) {
-                Ok(()) => Ok(Reply::Done),
+                Ok(()) => {
+                    *reply = Reply::Done;
+                    Ok(())
+                }
                 Err(fault) => Err(fault),
             },
         }
     }
 
     /// The agent sends what the asker's digest lacks.
-    fn answer(&mut self, cpu: Cpu, asker: Cpu) -> Result<Reply, OutOfMemory>
-        ensures { Handles (Event.Answer cpu asker) result self.old self.new }
+    fn answer(&mut self, cpu: Cpu, asker: Cpu, reply: &mut Reply) -> Result<(), OutOfMemory>
+        ensures handles { Handles (Event.Answer cpu asker) (outcome_of result reply.new) self.old self.new }
+        ensures kept { OnErr result (reply.new ≡ reply.old) }
     {
         sets_are_pairs();
         let Some(place) = self.place(cpu) else {
-            return Ok(Reply::Refused(Refusal::BadCpu));
+            *reply = Reply::Refused(Refusal::BadCpu);
+            return Ok(());
         };
         let Some(other) = self.place(asker) else {
-            return Ok(Reply::Refused(Refusal::BadCpu));
+            *reply = Reply::Refused(Refusal::BadCpu);
+            return Ok(());
         };
         let index = self.wire.sent().len() as u64;
         self.wire.set_refuses(false);
         // What the asker's digest would have, its view has: the digest need not be made.
         match self.agents[place].answer_beyond(self.agents[other].view(), &mut self.wire) {
-            Ok(()) => Ok(Reply::Answered { delta: index }),
+            Ok(()) => {
+                *reply = Reply::Answered { delta: index };
+                Ok(())
+            }
             Err(SendFault::OutOfMemory) => Err(OutOfMemory),
             Err(SendFault::WireFault) => unreachable!(),
         }
     }
 
     /// The agent commits the first thread of its run list that the kernel accepts.
-    fn pick(&mut self, cpu: Cpu, aseq: u32) -> Result<Reply, OutOfMemory>
-        ensures { Handles (Event.Pick cpu aseq) result self.old self.new }
+    fn pick(&mut self, cpu: Cpu, aseq: u32, reply: &mut Reply) -> Result<(), OutOfMemory>
+        ensures handles { Handles (Event.Pick cpu aseq) (outcome_of result reply.new) self.old self.new }
+        ensures kept { OnErr result (reply.new ≡ reply.old) }
     {
         runs_go_on();
         let Some(place) = self.place(cpu) else {
-            return Ok(Reply::Refused(Refusal::BadCpu));
+            *reply = Reply::Refused(Refusal::BadCpu);
+            return Ok(());
         };
         match self.agents[place].pick(&mut self.kernel, aseq) {
-            Ok(thread) => Ok(Reply::Committed { thread, cpu }),
-            Err(refusal) => Ok(Reply::Refused(refusal)),
+            Ok(thread) => {
+                *reply = Reply::Committed { thread, cpu };
+                Ok(())
+            }
+            Err(refusal) => {
+                *reply = Reply::Refused(refusal);
+                Ok(())
+            }
         }
     }
 
     /// The agent takes a thread over that it may.
-    fn steal(&mut self, cpu: Cpu) -> Result<Reply, OutOfMemory>
-        ensures { Handles (Event.Steal cpu) result self.old self.new }
+    fn steal(&mut self, cpu: Cpu, reply: &mut Reply) -> Result<(), OutOfMemory>
+        ensures handles { Handles (Event.Steal cpu) (outcome_of result reply.new) self.old self.new }
+        ensures kept { OnErr result (reply.new ≡ reply.old) }
     {
         runs_go_on();
         let Some(place) = self.place(cpu) else {
-            return Ok(Reply::Refused(Refusal::BadCpu));
+            *reply = Reply::Refused(Refusal::BadCpu);
+            return Ok(());
         };
         match self.agents[place].steal(&mut self.kernel) {
-            Ok(thread) => Ok(Reply::Associated { thread, queue: cpu }),
+            Ok(thread) => {
+                *reply = Reply::Associated { thread, queue: cpu };
+                Ok(())
+            }
             Err(fault) => match fault {
-                CallFault::Refused(refusal) => Ok(Reply::Refused(refusal)),
+                CallFault::Refused(refusal) => {
+                    *reply = Reply::Refused(refusal);
+                    Ok(())
+                }
                 CallFault::OutOfMemory => Err(OutOfMemory),
             },
         }
     }
 
     /// The agent starts again with nothing, and is awake.
-    fn crash(&mut self, cpu: Cpu) -> Result<Reply, OutOfMemory>
-        ensures { Handles (Event.Crash cpu) result self.old self.new }
+    fn crash(&mut self, cpu: Cpu, reply: &mut Reply) -> Result<(), OutOfMemory>
+        ensures handles { Handles (Event.Crash cpu) (outcome_of result reply.new) self.old self.new }
+        ensures kept { OnErr result (reply.new ≡ reply.old) }
     {
         runs_go_on();
         let Some(place) = self.place(cpu) else {
-            return Ok(Reply::Refused(Refusal::BadCpu));
+            *reply = Reply::Refused(Refusal::BadCpu);
+            return Ok(());
         };
         match self.kernel.rouse(cpu) {
             Ok(()) => {
                 self.agents[place].restart();
-                Ok(Reply::Done)
+                *reply = Reply::Done;
+                Ok(())
             }
-            Err(refusal) => Ok(Reply::Refused(refusal)),
+            Err(refusal) => {
+                *reply = Reply::Refused(refusal);
+                Ok(())
+            }
         }
     }
 }

@@ -158,8 +158,23 @@ impl World {
         ensures no_memory { OnErr result (LeavesWhenRanOut event self.old self.new) }
         ensures kept { KeepsSent self.old self.new }
     {
+        let mut reply = Reply::Done;
+        match self.step_in_place(&event, &mut reply) {
+            Ok(()) => Ok(reply),
+            Err(fault) => Err(fault),
+        }
+    }
+
+    /// Takes an event as [`World::step`] does, and puts its reply in the place of another one, so that neither is copied
+    /// on its way. Where memory runs out, the place keeps what it held.
+    pub fn step_in_place(&mut self, event: &Event, reply: &mut Reply) -> Result<(), OutOfMemory>
+        ensures step { OnOk result (Does (λ w. Step w event.now) self.old self.new reply.new) }
+        ensures no_memory { OnErr result (LeavesWhenRanOut event.now self.old self.new) }
+        ensures kept { KeepsSent self.old self.new }
+        ensures unanswered { OnErr result (reply.new ≡ reply.old) }
+    {
         kernel_laws();
-        self.parts.handle(event)
+        self.parts.handle(event, reply)
     }
 
     /// Takes events, one after another, and gives the reply of each. Where memory runs out, some first events were

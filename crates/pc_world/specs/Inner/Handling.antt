@@ -9,6 +9,11 @@ use Rattle.pc_world.specs.Shows.{Does, KeepsSent, ShowsWorld}
 use Rattle.pc_world.specs.RanOut.{RanOut}
 use Rattle.pc_world.specs.Steps.{Step}
 
+-- a reply that was put into a place, or want of memory
+abbrev pub outcome_of : Result (Unit {0}) OutOfMemory → Reply → Result Reply OutOfMemory
+outcome_of (Ok done) told = Ok told
+outcome_of (Err fault) told = Err fault
+
 -- a step with its reply, or what the event leaves without memory
 abbrev pub Outcome : PlainWorld → Event → Result Reply OutOfMemory → PlainWorld → Type 0
 Outcome w event (Ok told) new = Step w event told new

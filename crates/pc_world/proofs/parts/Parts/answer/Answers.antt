@@ -6,8 +6,8 @@ use Rattle.pc_world.proofs.Answering.{answer_done}
 use Rattle.pc_world.proofs.Places.{agent_at}
 use Rattle.pc_world.proofs.parts.Parts.answer.Goals as goal
 
-pub returns-in-Ok : goal.returns-in-Ok
-returns-in-Ok c =
+pub returns-in-Ok-clause-handles : goal.returns-in-Ok-clause-handles
+returns-in-Ok-clause-handles c =
     answer_done c.sets_are_pairs.ensures c.args.self.now _ c.args.cpu c.args.asker c.in-Some.place c.in-Some-place.other c.in-Some.ensures c.in-Some-place.ensures c.index.result.now c.index-2.result.now
     (agent_at c.args.self.now c.args.cpu c.in-Some.place c.index.result.now c.index.result.now c.in-Some.ensures c.index.ensures)
     (agent_at c.args.self.now c.args.asker c.in-Some-place.other c.index-2.result.now c.index-2.result.now c.in-Some-place.ensures c.index-2.ensures) refl refl c.set_refuses.new.self c.set_refuses.ensures.sent

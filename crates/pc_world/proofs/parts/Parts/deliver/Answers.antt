@@ -2,14 +2,14 @@ use Rattle.std.proofs.Common.{slice_get, refl, sym, ap, ◌∙◌}
 use Rattle.pc_world.proofs.Own.{deliver_done, deliver_none, deliver_ran_out}
 use Rattle.pc_world.proofs.parts.Parts.deliver.Goals as goal
 
-pub returns-in-None : goal.returns-in-None
-returns-in-None c =
+pub returns-in-None-clause-handles : goal.returns-in-None-clause-handles
+returns-in-None-clause-handles c =
     deliver_none c.args.self.now _ c.args.cpu c.in-Some.place c.in-Some.ensures c.args.index (ap (λ l. slice_get l c.args.index) (sym c.sent.ensures.same) ∙ sym c.in-None.ensures) refl refl refl
 
-pub returns-in-Ok : goal.returns-in-Ok
-returns-in-Ok c =
+pub returns-in-Ok-clause-handles : goal.returns-in-Ok-clause-handles
+returns-in-Ok-clause-handles c =
     deliver_done c.runs_go_on.ensures c.args.self.now _ c.args.cpu c.in-Some.place c.index_mut.result.now c.deliver.new.self c.in-Some.ensures c.index_mut.ensures.value refl c.args.index _ (ap (λ l. slice_get l c.args.index) (sym c.sent.ensures.same) ∙ sym c.in-Some-delta_at.ensures) refl refl c.in-Ok.ensures.delivers
 
-pub returns-in-Err : goal.returns-in-Err
-returns-in-Err c =
+pub returns-in-Err-clause-handles : goal.returns-in-Err-clause-handles
+returns-in-Err-clause-handles c =
     deliver_ran_out c.runs_go_on.ensures c.args.self.now _ c.args.cpu c.in-Some.place c.index_mut.result.now c.deliver.new.self c.in-Some.ensures c.index_mut.ensures.value refl c.args.index _ (ap (λ l. slice_get l c.args.index) (sym c.sent.ensures.same) ∙ sym c.in-Some-delta_at.ensures) refl refl _ c.in-Err.ensures.delivers

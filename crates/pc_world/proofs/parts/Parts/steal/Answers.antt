@@ -8,19 +8,19 @@ use Rattle.pc_world.proofs.Places.{agent_at, agent_cpu, own_after}
 use Rattle.pc_world.proofs.Own.{steal_done, steal_refused, steal_ran_out}
 use Rattle.pc_world.proofs.parts.Parts.steal.Goals as goal
 
-pub returns-in-Ok : goal.returns-in-Ok
-returns-in-Ok c =
+pub returns-in-Ok-clause-handles : goal.returns-in-Ok-clause-handles
+returns-in-Ok-clause-handles c =
     steal_done c.runs_go_on.ensures c.args.self.now _ c.args.cpu c.in-Some.place c.index_mut.result.now c.steal.new.self c.in-Some.ensures c.index_mut.ensures.value refl c.in-Ok.thread c.in-Ok.ensures.steals refl
 
-pub returns-in-Refused : goal.returns-in-Refused
-returns-in-Refused c =
+pub returns-in-Refused-clause-handles : goal.returns-in-Refused-clause-handles
+returns-in-Refused-clause-handles c =
     steal_refused c.runs_go_on.ensures c.args.self.now _ c.args.cpu c.in-Some.place c.index_mut.result.now c.steal.new.self c.in-Some.ensures c.index_mut.ensures.value refl c.in-Refused.refusal
     (subst (λ r. WhateverShown c.args.self.now.kernel c.index_mut.result.now (λ P run p. Steals P run p r (cpu_of c.index_mut.result.now) c.steal.new.self c.steal.new.kernel)) (c.in-Err.is ∙ ap Err c.in-Refused.is) c.steal.ensures.steals)
     (subst (λ r. OnErr r (c.steal.new.kernel ≡ c.args.self.now.kernel)) c.in-Err.is c.steal.ensures.goes_on.err) refl c.steal.ensures.same.view
     (subst (λ r. OnErr r (c.steal.new.self.list ≡ c.index_mut.result.now.list)) c.in-Err.is c.steal.ensures.list_err) c.steal.ensures.sent c.steal.ensures.same.rules
 
-pub returns-in-OutOfMemory : goal.returns-in-OutOfMemory
-returns-in-OutOfMemory c =
+pub returns-in-OutOfMemory-clause-handles : goal.returns-in-OutOfMemory-clause-handles
+returns-in-OutOfMemory-clause-handles c =
     steal_ran_out c.runs_go_on.ensures c.args.self.now _ c.args.cpu c.in-Some.place c.index_mut.result.now c.steal.new.self c.in-Some.ensures c.index_mut.ensures.value refl _
     (subst (λ r. WhateverShown c.args.self.now.kernel c.index_mut.result.now (λ P run p. Steals P run p r (cpu_of c.index_mut.result.now) c.steal.new.self c.steal.new.kernel)) (c.in-Err.is ∙ ap Err c.in-OutOfMemory.is) c.steal.ensures.steals)
     (subst (λ r. OnErr r (c.steal.new.kernel ≡ c.args.self.now.kernel)) c.in-Err.is c.steal.ensures.goes_on.err) refl c.steal.ensures.same.view
