@@ -11,9 +11,17 @@ use std::io::Read;
 /// The greatest length of a script, in bytes.
 pub const MOST_BYTES: usize = 16_777_216;
 
+/// At most so many bytes are read at once.
+const ROOM_OF_READ: usize = 8_192;
+
 /// Reads once, no more than a byte past the greatest length, and adds what was read to the text. Answers false at
-/// the end.
-fn read_more<R: Read>(reader: &mut R, text: &mut Vec<u8>, most: usize) -> Result<bool, ScriptFault>
+/// the end. The buffer is the caller's, who clears it once for all reads.
+fn read_more<R: Read>(
+    reader: &mut R,
+    buffer: &mut [u8; ROOM_OF_READ],
+    text: &mut Vec<u8>,
+    most: usize,
+) -> Result<bool, ScriptFault>
     requires { length text.old.items ≤ most }
     ensures reads { (bytes : List ℕ) × (length text.old.items + length bytes ≤ most + 1)
         × Consumes (R.remaining reader.old) (R.remaining reader.new) bytes
@@ -23,7 +31,6 @@ fn read_more<R: Read>(reader: &mut R, text: &mut Vec<u8>, most: usize) -> Result
         (IsAtEnd (R.remaining reader.new) × (text.new.items ≡ text.old.items))) }
     ensures not_long { (result ≢ Err ScriptFault.TooLong) × (result ≢ Err ScriptFault.Write) }
 {
-    let mut buffer = [0u8; 8_192];
     let room = buffer.len().min((most - text.len()).saturating_add(1));
     let Ok(count) = reader.read(&mut buffer[..room]) else {
         return Err(ScriptFault::Read);
@@ -55,9 +62,10 @@ pub fn read_bytes<R: Read>(
     ensures reads { (bytes : List ℕ) × (length bytes ≤ most + 1)
         × Consumes (R.remaining reader.old) (R.remaining reader.new) bytes }
 {
+    let mut buffer = [0u8; ROOM_OF_READ];
     let mut text = Vec::new(alloc);
     while text.len() <= most {
-        if !read_more(reader, &mut text, most)? {
+        if !read_more(reader, &mut buffer, &mut text, most)? {
             return Ok(text);
         }
     }
