@@ -165,8 +165,8 @@ impl World {
         }
     }
 
-    /// Takes an event as [`World::step`] does, and puts its reply in the place of another one, so that neither is copied
-    /// on its way. Where memory runs out, the place keeps what it held.
+    /// Takes an event as [`World::step`] does, and puts its reply in the place of another one. So neither is copied on
+    /// its way. Where memory runs out, the place keeps what it held.
     pub fn step_in_place(&mut self, event: &Event, reply: &mut Reply) -> Result<(), OutOfMemory>
         ensures step { OnOk result (Does (λ w. Step w event.now) self.old self.new reply.new) }
         ensures no_memory { OnErr result (LeavesWhenRanOut event.now self.old self.new) }
