@@ -15,6 +15,8 @@ mod lab;
 #[cfg(test)]
 mod session;
 #[cfg(test)]
+mod table;
+#[cfg(test)]
 mod threads;
 #[cfg(test)]
 mod wire;

@@ -1,0 +1,63 @@
+-- What is written of a load under variants.
+use Rattle.std.specs.Prelude.{◌≡◌, ℕ, nat_abs, Bool, List, [], ◌++◌, length, map, bytes_eq}
+use Rattle.std.specs.List.{AllZip, Contains}
+use Rattle.pc_calls.specs.declared.limits.Limits.{Limits}
+use Rattle.pc_lab.specs.Heads.{head_text}
+use Rattle.pc_lab.specs.Texts.{body_text}
+use Rattle.pc_lab.specs.Playing.{IsPlayedBy, limits_for}
+use Rattle.pc_lab.specs.declared.fault.LabFault.{LabFault}
+use Rattle.pc_lab.specs.declared.fault.LabFault.TheVariants as lab
+use Rattle.pc_lab.specs.declared.summary.Played.{Played}
+use Rattle.pc_load.specs.Loads.{Demand}
+use Rattle.pc_load.specs.Variants.{Choice, choice_of}
+use Rattle.pc_load.specs.declared.variant.Variant.{Variant}
+use Rattle.pc_table.specs.Sheets.{text_of}
+use Rattle.pc_table.specs.declared.form.Column.{Column}
+use Rattle.pc_table.specs.declared.form.Form.{Form}
+use Rattle.pc_compare.specs.declared.fault.CompareFault.{CompareFault}
+use Rattle.pc_compare.specs.declared.fault.CompareFault.TheVariants.{ScriptTooLong, TooLong, OutOfMemory}
+
+-- a fault of the lab, as it is told
+abbrev pub fault_of : LabFault → CompareFault
+fault_of lab.OutOfMemory = OutOfMemory
+fault_of lab.ScriptTooLong = ScriptTooLong
+fault_of lab.TooLong = TooLong
+
+-- the limits of the kernel on which a load is played
+abbrev pub limits_in : Demand → Limits
+limits_in load = limits_for (nat_abs load.cpus) (length load.threads)
+
+-- A column has the name of a variant, and the summary of a run of the load that was played under it
+pub record IsRunOf (load : Demand) (variant : Variant) (column : Column) : Type 0 where
+  pub name : column.name.now ≡ variant.name.items
+  pub played : Played
+  pub is_played : IsPlayedBy (limits_in load) variant.policy [] played
+  pub summary : column.summary ≡ played.summary
+
+-- A text compares runs of the load, one that was played under each of the variants, in their order
+pub record Compares (load : Demand) (choices : List Choice) (form : Form) (text : List ℕ) : Type 0 where
+  pub variants : List Variant
+  pub chosen : map choice_of variants ≡ choices
+  pub columns : List Column
+  pub runs : AllZip (IsRunOf load) variants columns
+  pub told : text ≡ text_of form load columns
+
+-- it has this name
+abbrev pub is_named : List ℕ → Choice → Bool
+is_named name choice = bytes_eq choice.name name
+
+-- A text is the script of a run of the load that was played under the variant: what stands in front of the run's
+-- events, and their lines
+pub record IsScript (load : Demand) (variant : Variant) (text : List ℕ) : Type 0 where
+  pub played : Played
+  pub is_played : IsPlayedBy (limits_in load) variant.policy (head_text (limits_in load) variant) played
+  pub told : text ≡ head_text (limits_in load) variant ++ body_text is_played.moments
+
+-- A text is such a script, of the variant that has this name
+pub record IsScriptOf (load : Demand) (choices : List Choice) (name text : List ℕ) : Type 0 where
+  pub variants : List Variant
+  pub chosen : map choice_of variants ≡ choices
+  pub variant : Variant
+  pub there : Contains variants variant
+  pub named : variant.name.items ≡ name
+  pub script : IsScript load variant text

@@ -1,0 +1,58 @@
+//! The table of a load under variants.
+
+ghost use Rattle.std.specs.Prelude.{IfOk};
+ghost use Rattle.std.specs.List.{AllZip};
+ghost use Rattle.pc_compare.specs.Comparing.{Compares, IsRunOf};
+
+use crate::fault::CompareFault;
+use pc_lab::{Chronicle, play};
+use pc_load::{Load, Variant, Variants};
+use pc_table::{Column, Form, text_of};
+use std::alloc::Global;
+
+/// A run of the load under a variant.
+fn column_of<'a>(
+    alloc: Global,
+    load: &Load,
+    variant: &'a Variant,
+) -> Result<Column<'a>, CompareFault>
+    ensures { IfOk result (IsRunOf load.now variant.now) }
+{
+    let played = play(alloc, load, variant, Chronicle::Untold)?;
+    Ok(Column {
+        name: variant.name.as_slice(),
+        summary: played.summary,
+    })
+}
+
+/// A run of the load under each variant.
+fn columns_of<'a>(
+    alloc: Global,
+    load: &Load,
+    variants: &'a [Variant],
+) -> Result<Vec<Column<'a>>, CompareFault>
+    ensures { IfOk result (λ columns. AllZip (IsRunOf load.now) variants.now columns.items) }
+{
+    let mut columns = Vec::new(alloc);
+    for variant in variants {
+        columns.push(column_of(alloc, load, variant)?)?;
+    }
+    Ok(columns)
+}
+
+/// Plays the load under each variant, and tells in this form what is to be told of the runs (own).
+///
+/// # Errors
+/// [`CompareFault::OutOfMemory`] and [`CompareFault::TooLong`]: then nothing was made.
+pub fn compare(
+    alloc: Global,
+    load: &Load,
+    variants: &Variants,
+    form: Form,
+) -> Result<Vec<u8>, CompareFault>
+    ensures { IfOk result (λ text. Compares load.now variants.now form text.items) }
+{
+    let columns = columns_of(alloc, load, variants.as_slice())?;
+    let text = text_of(alloc, load, columns.as_slice(), form)?;
+    Ok(text)
+}

@@ -1,0 +1,69 @@
+//! Why nothing is written.
+
+ghost use Rattle.std.specs.Prelude.{◌≡◌};
+ghost use Rattle.pc_compare.specs.Comparing.{fault_of};
+
+use pc_lab::LabFault;
+use std::alloc::{AllocError, AllocFailed};
+use thiserror::Error;
+
+/// Why a load was not compared, or its script not written (own).
+#[derive(Clone, Copy, Debug, PartialEq, Eq, Error)]
+pub enum CompareFault {
+    /// No variant has that name.
+    #[error("no variant has that name")]
+    NoVariant,
+    /// The script has more than 16,777,216 bytes.
+    #[error("the script is too long")]
+    ScriptTooLong,
+    /// More happens than can be counted.
+    #[error("more happens than can be counted")]
+    TooLong,
+    /// A growth was refused.
+    #[error("out of memory")]
+    OutOfMemory,
+}
+
+/// A fault of the lab, as it is told.
+pub(crate) const fn fault_of(fault: LabFault) -> CompareFault
+    ensures { result ≡ fault_of fault }
+{
+    match fault {
+        LabFault::OutOfMemory => CompareFault::OutOfMemory,
+        LabFault::ScriptTooLong => CompareFault::ScriptTooLong,
+        LabFault::TooLong => CompareFault::TooLong,
+    }
+}
+
+impl From<LabFault> for CompareFault {
+    ghost use Rattle.std.specs.Prelude.{◌≡◌};
+    ghost use Rattle.pc_compare.specs.Comparing.{fault_of};
+
+    ghost from_gives = { λ fault given. given ≡ fault_of fault };
+
+    fn from(fault: LabFault) -> CompareFault {
+        fault_of(fault)
+    }
+}
+
+impl From<AllocError> for CompareFault {
+    ghost use Rattle.std.specs.Prelude.{◌≡◌};
+    ghost use Rattle.pc_compare.specs.declared.fault.CompareFault.TheVariants.{OutOfMemory};
+
+    ghost from_gives = { λ _ fault. fault ≡ OutOfMemory };
+
+    fn from(_error: AllocError) -> CompareFault {
+        CompareFault::OutOfMemory
+    }
+}
+
+impl<T: Drop> From<AllocFailed<T>> for CompareFault {
+    ghost use Rattle.std.specs.Prelude.{◌≡◌};
+    ghost use Rattle.pc_compare.specs.declared.fault.CompareFault.TheVariants.{OutOfMemory};
+
+    ghost from_gives = { λ _ fault. fault ≡ OutOfMemory };
+
+    fn from(_error: AllocFailed<T>) -> CompareFault {
+        CompareFault::OutOfMemory
+    }
+}

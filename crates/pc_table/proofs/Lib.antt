@@ -1,0 +1,3 @@
+-- Proofs.
+pub mod Lists
+pub mod Ranks
