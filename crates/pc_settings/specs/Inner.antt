@@ -1,2 +1,4 @@
 pub mod Drafts
+pub mod PlanDrafts
+pub mod Readings
 pub mod Values

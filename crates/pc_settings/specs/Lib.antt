@@ -2,5 +2,6 @@
 pub mod Inner
 pub mod Keys
 pub mod LoadTexts
+pub mod SettingsText
 pub mod Steps
 pub mod Words

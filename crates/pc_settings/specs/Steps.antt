@@ -1,4 +1,4 @@
--- The texts of a load's steps.
+-- The texts of steps: of a load, and of a run of agents in threads, which are written alike.
 use Rattle.std.specs.Prelude.{ℕ, ◌≡◌, ◌^◌, ◌<◌, ◌↔◌, ◌&&◌, List, [], ◌∷◌, ◌++◌, length, take, drop, nat_lt, Option}
 use Rattle.std.specs.Prelude.{Some, None, option_map, if◌then◌else◌, bytes_eq, codes, decimal}
 use Rattle.std.specs.Str.Parse.{digits_value}
@@ -6,6 +6,9 @@ use Rattle.pc_load.specs.declared.load.Leaving.{Leaving}
 use Rattle.pc_load.specs.declared.load.Leaving.TheVariants.{Yield, Block, Preempt, Die}
 use Rattle.pc_load.specs.declared.load.Step.{Step}
 use Rattle.pc_settings.specs.Keys.{first_some}
+use Rattle.pc_threads.specs.Settings.{ticks}
+use Rattle.pc_threads.specs.declared.settings.plans.Step as run
+use Rattle.pc_threads.specs.declared.settings.plans.Step.TheVariants as run_step
 
 -- how a thread that leaves so is written, with a space behind
 abbrev pub leaving_word : Leaving → List ℕ
@@ -37,3 +40,32 @@ abbrev pub read_step : List ℕ → Option Step
 read_step text =
     first_some
     (read_leaving text Yield ∷ read_leaving text Block ∷ read_leaving text Preempt ∷ read_leaving text Die ∷ [])
+
+-- reading a step gives the step that is written so
+abbrev pub StepsAreReadAsWritten : Type 0
+StepsAreReadAsWritten =
+    (text : List ℕ) (step : Step) → (read_step text ≡ Some step) ↔ ((text ≡ step_text step) × (step.ticks < 2 ^ 32))
+
+-- the step of a load that is written as a step of a run is
+abbrev pub of_run : run.Step → Step
+of_run (run_step.Yield n) = record { leaving = Yield; ticks = n }
+of_run (run_step.Block n) = record { leaving = Block; ticks = n }
+of_run (run_step.Preempt n) = record { leaving = Preempt; ticks = n }
+of_run (run_step.Die n) = record { leaving = Die; ticks = n }
+
+-- the step of a run in which a thread leaves so, after so many ticks
+abbrev pub run_leaving : Leaving → ℕ → run.Step
+run_leaving Yield n = run_step.Yield n
+run_leaving Block n = run_step.Block n
+run_leaving Preempt n = run_step.Preempt n
+run_leaving Die n = run_step.Die n
+
+-- the step of a run that a text is
+abbrev pub read_run_step : List ℕ → Option run.Step
+read_run_step text = option_map (λ step. run_leaving step.leaving step.ticks) (read_step text)
+
+-- reading a step of a run gives the step that is written so
+abbrev pub RunStepsAreReadAsWritten : Type 0
+RunStepsAreReadAsWritten =
+    (text : List ℕ) (step : run.Step)
+    → (read_run_step text ≡ Some step) ↔ ((text ≡ step_text (of_run step)) × (ticks step < 2 ^ 32))

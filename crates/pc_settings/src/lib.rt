@@ -1,11 +1,16 @@
-//! Loads and variants of the lab as TOML texts.
+//! Settings of runs, and loads and variants of the lab, as TOML texts.
 #![tactic(auto)]
 
+mod input;
 mod keys;
 mod loads;
+mod runs;
 mod steps;
 
+pub use input::{TextFault, Unread, read_utf8};
 pub use loads::{LoadField, LoadTextFault, read_load, read_variants};
+pub use runs::{Field, SettingsFault, read_config, write_trouble};
+pub use steps::steps_are_read_as_written;
 
 #[cfg(test)]
 mod tests;

@@ -1,0 +1,208 @@
+//! Settings of a run: a TOML text, and what is asked for by it.
+
+ghost use Rattle.std.specs.Prelude.{◌≡◌, true, map};
+ghost use Rattle.toml.specs.Parse.{parse_document};
+ghost use Rattle.toml.specs.View.{table_view};
+ghost use Rattle.pc_threads.specs.Settings.{plan_of};
+ghost use Rattle.pc_settings.specs.SettingsText.{Reads};
+ghost use Rattle.pc_settings.specs.Inner.PlanDrafts.{told};
+ghost use Rattle.pc_settings.specs.Inner.Readings.{Follows, each, read_draft, read_plan};
+ghost use Rattle.pc_settings.specs.Inner.Readings.{read_restart, read_table, read_text};
+ghost use Rattle.pc_settings.specs.Inner.Values.{are_tables, are_texts, table_in, text_in};
+
+mod draft;
+mod tables;
+mod trouble;
+
+use crate::keys::{integer_at, tables_at};
+use crate::steps::run_step_in;
+use draft::Draft;
+use pc_threads::{Config, ConfigFault, Restart, Step, ThreadPlan};
+use std::alloc::{AllocError, AllocFailed, Global};
+use std::fmt::{self, Display, Formatter, Write};
+use tables::{draft_of, restart_of};
+use thiserror::Error;
+use toml::{Table, Value};
+pub use trouble::write_trouble;
+
+/// A key of the settings.
+#[derive(Clone, Copy, Debug, PartialEq, Eq)]
+pub enum Field {
+    /// How many CPUs there are.
+    Cpus,
+    /// The list of threads.
+    Threads,
+    /// The CPU on whose queue a thread begins.
+    Queue,
+    /// The CPUs on which a thread may run.
+    Mask,
+    /// The list of a thread's steps.
+    Steps,
+    /// The list of restarts.
+    Restarts,
+    /// The CPU whose agent restarts.
+    Cpu,
+    /// The turn before which it does.
+    Turn,
+}
+
+impl Display for Field {
+    ghost use Rattle.std.specs.Prelude.{Some};
+    ghost use Rattle.pc_settings.specs.SettingsText.{key_text};
+
+    ghost output = { λ field. Some (key_text field) };
+
+    fn fmt<W: Write>(&self, f: &mut Formatter<W>) -> Result<(), fmt::Error> {
+        f.write_str(match self {
+            Field::Cpus => "cpus",
+            Field::Threads => "thread",
+            Field::Queue => "thread.queue",
+            Field::Mask => "thread.mask",
+            Field::Steps => "thread.steps",
+            Field::Restarts => "restart",
+            Field::Cpu => "restart.cpu",
+            Field::Turn => "restart.turn",
+        })
+    }
+}
+
+/// Why a text spells no settings.
+#[derive(Clone, Copy, Debug, PartialEq, Eq, Error)]
+pub enum SettingsFault {
+    /// The text is no TOML.
+    #[error("the settings are no TOML")]
+    NotToml,
+    /// This key is absent, or has another type: the first one such.
+    #[error("the key {0} is absent or has another type")]
+    BadField(Field),
+    /// A text that is no step: the first one such, by the places of its thread and of the text.
+    #[error("text {step} of thread {thread} is no step")]
+    BadStep { thread: usize, step: usize },
+    /// The settings are spelled and cannot be asked for.
+    #[error(transparent)]
+    BadConfig(ConfigFault),
+    /// A growth was refused.
+    #[error("out of memory")]
+    OutOfMemory,
+}
+
+impl From<AllocError> for SettingsFault {
+    ghost use Rattle.std.specs.Prelude.{◌≡◌};
+    ghost use Rattle.pc_settings.specs.declared.runs.SettingsFault.TheVariants.{OutOfMemory};
+
+    ghost from_gives = { λ _ fault. fault ≡ OutOfMemory };
+
+    fn from(_error: AllocError) -> SettingsFault {
+        SettingsFault::OutOfMemory
+    }
+}
+
+impl<T: Drop> From<AllocFailed<T>> for SettingsFault {
+    ghost use Rattle.std.specs.Prelude.{◌≡◌};
+    ghost use Rattle.pc_settings.specs.declared.runs.SettingsFault.TheVariants.{OutOfMemory};
+
+    ghost from_gives = { λ _ fault. fault ≡ OutOfMemory };
+
+    fn from(_error: AllocFailed<T>) -> SettingsFault {
+        SettingsFault::OutOfMemory
+    }
+}
+
+/// Reads the settings that a TOML text spells. Other keys are passed over.
+///
+/// The fault is the first in this order: `NotToml`; `BadField`, of `cpus`, of the threads, then of the restarts;
+/// `BadStep`; and `BadConfig`, as `Config::new` has them. Want of memory is told where it comes.
+pub fn read_config(alloc: Global, text: &str) -> Result<Config, SettingsFault>
+    ensures { Reads (parse_document text.now) result }
+{
+    match toml::table_from_str(alloc, text) {
+        Ok(table) => config_of(alloc, &table),
+        Err(error) if error.is_memory() => Err(SettingsFault::OutOfMemory),
+        Err(_) => Err(SettingsFault::NotToml),
+    }
+}
+
+/// The settings that a table spells.
+fn config_of(alloc: Global, table: &Table) -> Result<Config, SettingsFault>
+    ensures { Follows (read_table (table_view table.now)) (λ config. config) result }
+{
+    let cpus = match integer_at(table, "cpus") {
+        Some(cpus) => cpus,
+        None => return Err(SettingsFault::BadField(Field::Cpus)),
+    };
+    let threads = match tables_at(table, "thread") {
+        Some(threads) => drafts_of(alloc, threads)?,
+        None => return Err(SettingsFault::BadField(Field::Threads)),
+    };
+    let restarts = match tables_at(table, "restart") {
+        Some(restarts) => restarts_of(alloc, restarts)?,
+        None => return Err(SettingsFault::BadField(Field::Restarts)),
+    };
+    let plans = plans_of(alloc, threads.as_slice())?;
+    match Config::new(cpus, plans, restarts) {
+        Ok(config) => Ok(config),
+        Err(fault) => Err(SettingsFault::BadConfig(fault)),
+    }
+}
+
+/// The threads as their keys tell them.
+fn drafts_of<'a>(alloc: Global, items: &'a [Value]) -> Result<Vec<Draft<'a>>, SettingsFault>
+    requires { are_tables items.now ≡ true }
+    ensures { Follows (each read_draft 0 (map table_in items.now)) (λ drafts. map told drafts.items) result }
+{
+    let mut drafts = Vec::new(alloc);
+    for item in items {
+        drafts.push(draft_of(item)?)?;
+    }
+    Ok(drafts)
+}
+
+/// The restarts.
+fn restarts_of(alloc: Global, items: &[Value]) -> Result<Vec<Restart>, SettingsFault>
+    requires { are_tables items.now ≡ true }
+    ensures { Follows (each read_restart 0 (map table_in items.now)) (λ restarts. restarts.items) result }
+{
+    let mut restarts = Vec::new(alloc);
+    for item in items {
+        restarts.push(restart_of(item)?)?;
+    }
+    Ok(restarts)
+}
+
+/// The steps of the thread at this place, from their texts.
+fn steps_of(alloc: Global, thread: usize, texts: &[Value]) -> Result<Vec<Step>, SettingsFault>
+    requires { are_texts texts.now ≡ true }
+    ensures { Follows (each (read_text thread) 0 (map text_in texts.now)) (λ steps. steps.items) result }
+{
+    let mut steps = Vec::new(alloc);
+    for (step, text) in texts.iter().enumerate() {
+        match run_step_in(text) {
+            Some(read) => steps.push(read)?,
+            None => return Err(SettingsFault::BadStep { thread, step }),
+        }
+    }
+    Ok(steps)
+}
+
+/// The thread with these steps.
+fn with_steps(draft: &Draft<'_>, steps: Vec<Step>) -> ThreadPlan
+    ensures { plan_of result ≡ record { queue = draft.now.queue; mask = draft.now.mask; steps = steps.items } }
+{
+    ThreadPlan {
+        queue: draft.queue,
+        mask: draft.mask,
+        steps,
+    }
+}
+
+/// The threads with their steps.
+fn plans_of(alloc: Global, drafts: &[Draft<'_>]) -> Result<Vec<ThreadPlan>, SettingsFault>
+    ensures { Follows (each read_plan 0 (map told drafts.now)) (λ plans. map plan_of plans.items) result }
+{
+    let mut plans = Vec::new(alloc);
+    for (thread, draft) in drafts.iter().enumerate() {
+        let steps = steps_of(alloc, thread, draft.texts)?;
+        plans.push(with_steps(draft, steps))?;
+    }
+    Ok(plans)
+}
