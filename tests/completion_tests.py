@@ -102,6 +102,9 @@ class Completions(unittest.TestCase):
         self.assertEqual(self.bash("run", "--script", "examples/fir"), ["examples/first-run.script"])
         self.assertEqual(self.bash("run", "--policy", "f"), ["fifo", "fifo,exact"])
         self.assertEqual(len(self.bash("run", "--policy", "")), 8)
+        self.assertEqual(self.bash("lab", "--csv", "examples/st"), ["examples/steals-and-restarts.toml"])
+        self.assertEqual(self.bash("lab", "--variants", "examples/lab/v"), ["examples/lab/variants.toml"])
+        self.assertEqual(self.bash("lab", "--script", "f"), [])
         self.assertEqual(self.bash("replay", "exam"), ["examples"])
         self.assertEqual(self.bash("replay", "CHANGE"), ["CHANGELOG.md"])
         if shutil.which("fish"):

@@ -1,10 +1,11 @@
 #!/usr/bin/env python3
-"""Tests `tools/lab`: worked rows, every fault, and that the proved program answers each run as the lab expects.
+"""Tests `pc-sim lab` and `tools/lab`: worked rows and every fault of both, and drawn loads of one against the other.
 
-    tests/lab_tests.py [--program PROGRAM] [--loads N]
+    tests/lab_tests.py [--program PROGRAM] [--loads N] [--drawn N]
 
 tests/lab has loads with their tables, CSV, scripts and replies, of which 308 numbers were worked out by hand before,
-and loads that are faulty. N loads are drawn (60). The last line is 'N passed, M failed'.
+and loads that are faulty. N loads are drawn (60) whose runs the program has to answer as `tools/lab` expects, and N (50)
+of which it has to write what `tools/lab` writes, to the byte. The last line is 'N passed, M failed'.
 """
 from __future__ import annotations
 
@@ -20,6 +21,7 @@ ROOT = pathlib.Path(__file__).resolve().parent.parent
 ROWS = ROOT / "tests/lab"
 PROGRAM = ROOT / "crates/pc_sim/out/pc_sim"
 LOADS = 60
+DRAWN = 50
 SECONDS = 300
 ORDERS = ("levels", "fifo", "least-ran", "levels-then-least-ran")
 
@@ -27,6 +29,11 @@ ORDERS = ("levels", "fifo", "least-ran", "levels-then-least-ran")
 def lab(*words: object, folder: pathlib.Path = ROWS) -> subprocess.CompletedProcess[str]:
     command = [sys.executable, str(ROOT / "tools/lab"), *map(str, words)]
     return subprocess.run(command, capture_output=True, text=True, timeout=SECONDS, cwd=folder)
+
+
+def program(*words: object, folder: pathlib.Path = ROWS, given: str = "") -> subprocess.CompletedProcess[str]:
+    command = [str(PROGRAM), "lab", *map(str, words)]
+    return subprocess.run(command, capture_output=True, text=True, timeout=SECONDS, cwd=folder, input=given)
 
 
 def replay(script: pathlib.Path) -> str:
@@ -97,6 +104,61 @@ class Rows(unittest.TestCase):
         self.assertEqual(rows["cpu 1 idle while one waits"], ["70", "0"])
 
 
+class Program(unittest.TestCase):
+    """What the program writes, to the byte."""
+
+    def wrote(self, ended: subprocess.CompletedProcess[str], wanted: str, told: str) -> None:
+        self.assertEqual((ended.returncode, ended.stderr), (0, ""), told)
+        self.assertEqual(ended.stdout, wanted, told)
+
+    def test_tables(self):
+        for load in sorted(ROWS.glob("*.toml")):
+            self.wrote(program(load.name), load.with_suffix(".table").read_text(), load.name)
+            self.wrote(program("-", given=load.read_text()), load.with_suffix(".table").read_text(), load.name)
+
+    def test_csv(self):
+        for load in sorted(ROWS.glob("*.toml")):
+            self.wrote(program(load.name, "--csv"), load.with_suffix(".csv").read_text(), load.name)
+
+    def test_scripts(self):
+        for script in sorted(ROWS.glob("*.script")):
+            load, variant = script.stem.split(".", 1)
+            words = [f"{load}.toml", "--script", variant]
+            self.wrote(program(*words), script.read_text(), script.name)
+            self.wrote(program(*words, "--csv", "--per-cpu"), script.read_text(), script.name)
+
+    def test_the_time_of_each_cpu(self):
+        for load in sorted(ROWS.glob("*.toml")):
+            for words in ([load.name, "--per-cpu"], [load.name, "--per-cpu", "--csv"]):
+                self.wrote(program(*words), lab(*words).stdout, " ".join(words))
+
+    def test_faults(self):
+        for row in (ROWS / "bad/expected").read_text().splitlines():
+            words, wanted = row.split(" = ")
+            ended = program(*words.split(), folder=ROWS / "bad")
+            if wanted == "no fault":
+                self.wrote(ended, (ROWS / "bad" / words).with_suffix(".table").read_text(), row)
+                continue
+            first, *more = ended.stderr.splitlines()
+            self.assertEqual((ended.returncode, ended.stdout, first), (1, "", wanted), row)
+            self.assertEqual(len(more), 1 if wanted == "pc-sim: cannot read" else 0, row)
+
+    def test_drawn_loads(self):
+        """Tables, with the time of each CPU, CSV, and the script of a variant, by the load's variants and by others."""
+        chance = random.Random("program")
+        for _ in range(DRAWN):
+            with tempfile.TemporaryDirectory() as folder:
+                for name in ("load.toml", "variants.toml"):
+                    (pathlib.Path(folder) / name).write_text(drawn_load(chance))
+                text = (pathlib.Path(folder) / "load.toml").read_text()
+                words = ["load.toml"] + (["--variants", "variants.toml"] if chance.random() < 0.3 else [])
+                for more in ([], ["--per-cpu"], ["--per-cpu", "--csv"], ["--script", "v0"]):
+                    wanted = lab(*words, *more, folder=pathlib.Path(folder))
+                    ended = program(*words, *more, folder=pathlib.Path(folder))
+                    self.assertEqual((ended.returncode, ended.stderr), (wanted.returncode, wanted.stderr), text)
+                    self.assertEqual(ended.stdout, wanted.stdout, f"{[*words, *more]}\n{text}")
+
+
 class Drawn(unittest.TestCase):
     def test_the_program_answers_as_runs_expect(self):
         chance = random.Random("lab")
@@ -128,12 +190,13 @@ class Drawn(unittest.TestCase):
 
 
 def main() -> int:
-    global PROGRAM, LOADS
+    global PROGRAM, LOADS, DRAWN
     parser = argparse.ArgumentParser(description=__doc__, formatter_class=argparse.RawDescriptionHelpFormatter)
     parser.add_argument("--program", default=PROGRAM, type=pathlib.Path)
     parser.add_argument("--loads", default=LOADS, type=int, metavar="N")
+    parser.add_argument("--drawn", default=DRAWN, type=int, metavar="N")
     args = parser.parse_args()
-    PROGRAM, LOADS = args.program.resolve(), args.loads
+    PROGRAM, LOADS, DRAWN = args.program.resolve(), args.loads, args.drawn
     result = unittest.TextTestRunner(sys.stdout, verbosity=1).run(
         unittest.defaultTestLoader.loadTestsFromModule(sys.modules[__name__]))
     failed = len(result.failures) + len(result.errors)

@@ -71,7 +71,8 @@ def cases(folder):
         if words[:1] == ["run"] and status in (0, 3):
             continue
         out = None if (case / "stdout-is-not-fixed").exists() else content(case / "stdout")
-        yield Subject(f"case {case.name}", words, given(case, folder), case, out, ending_of(content(case / "stderr")), status)
+        ends, whole = ending_of(content(case / "stderr")), words[:1] == ["lab"]
+        yield Subject(f"case {case.name}", words, given(case, folder), case, out, ends, status, whole=whole)
 
 
 def malformed(folder):
@@ -117,6 +118,7 @@ TOLD = {
     "help of draw": ["draw", "--help"],
     "help of run": ["run", "--help"],
     "help of session": ["session", "--help"],
+    "help of lab": ["lab", "--help"],
     "help of run in short": ["run", "-h"],
     "version": ["--version"],
     "version in short": ["-V"],
@@ -136,6 +138,7 @@ WORDS = {
     "an unknown flag of draw": ["draw", "--per-cpu"],
     "an unknown flag of run": ["run", "--per-thread"],
     "an unknown flag of session": ["session", "--per-cpu"],
+    "an unknown flag of lab": ["lab", "--check"],
     "the version of a command": ["replay", "--version"],
     "two files": ["replay", "a", "b"],
     "two files of run": ["run", "a", "b"],
@@ -144,6 +147,8 @@ WORDS = {
     "a flag twice": ["run", "--draw", "--draw"],
     "a limit that is no number": ["run", "--limit", "soon"],
     "a script without a name": ["run", "--script"],
+    "a variant without a name": ["lab", "--script"],
+    "two loads": ["lab", "a", "b"],
     "a policy that is none": ["run", "--policy", "fastest"],
     "numbers that are none": ["draw", "--cpus", "7-3"],
     "a flag with a value": ["run", "--per-cpu=yes"],
@@ -155,6 +160,7 @@ FILES = {
     "a file without a name to draw": ["draw", ""],
     "settings without a name": ["run", ""],
     "a file without a name to a session": ["session", ""],
+    "a load without a name": ["lab", ""],
     "a name of 100,000 bytes": ["replay", "x" * 100_000],
     "settings by a name of 100,000 bytes": ["run", "x" * 100_000],
     "a file whose name looks like a flag": ["replay", "--", "--fast"],

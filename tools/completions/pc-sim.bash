@@ -6,7 +6,7 @@ _pc_sim_command() {
     local word
     for word; do
         case $word in
-        replay | explain | draw | run | session)
+        replay | explain | draw | run | session | lab)
             echo "$word"
             return
             ;;
@@ -29,6 +29,7 @@ _pc_sim() {
     run) flags="--per-cpu --draw --limit --policy --script -h --help" ;;
     draw) flags="--cpus --lines -h --help" ;;
     session) flags="--explain -h --help" ;;
+    lab) flags="--variants --per-cpu --csv --script -h --help" ;;
     replay | explain) flags="-h --help" ;;
     *) flags="-h --help -V --version" ;;
     esac
@@ -42,14 +43,19 @@ _pc_sim() {
         return
         ;;
     --script)
-        _pc_sim_files "$word" script
+        # Behind `lab` it names a variant.
+        [ "$command" = lab ] || _pc_sim_files "$word" script
+        return
+        ;;
+    --variants)
+        _pc_sim_files "$word" toml
         return
         ;;
     esac
     case $command:$word in
     *:-*) mapfile -t COMPREPLY < <(compgen -W "$flags" -- "$word") ;;
-    :*) mapfile -t COMPREPLY < <(compgen -W "replay explain draw run session" -- "$word") ;;
-    run:*) _pc_sim_files "$word" toml ;;
+    :*) mapfile -t COMPREPLY < <(compgen -W "replay explain draw run session lab" -- "$word") ;;
+    run:* | lab:*) _pc_sim_files "$word" toml ;;
     *) _pc_sim_files "$word" script ;;
     esac
 }

@@ -17,7 +17,9 @@ use Rattle.pc_policy.specs.declared.agent_policy.AgentPolicy.{AgentPolicy}
 use Rattle.pc_program.specs.Numbers.{IsWritten, SpellsNone}
 use Rattle.pc_program.specs.Policies.{Names, NamesNone}
 use Rattle.pc_program.specs.declared.command_line.Command.{Command}
-use Rattle.pc_program.specs.declared.command_line.Command.TheVariants.{Replay, Explain, Draw, Run, Session}
+use Rattle.pc_program.specs.declared.command_line.Command.TheVariants.{Replay, Explain, Draw, Run, Session, Lab}
+use Rattle.pc_program.specs.declared.command_line.VariantsFrom.{VariantsFrom}
+use Rattle.pc_program.specs.declared.command_line.VariantsFrom.TheVariants as from
 use Rattle.pc_program.specs.declared.command_line.CommandFault.{CommandFault}
 use Rattle.pc_program.specs.declared.command_line.CommandFault.TheVariants.{OutOfMemory, BadNumbers, BadPolicy, Clap}
 use Rattle.pc_program.specs.declared.report.ReportForm.{ReportForm}
@@ -66,10 +68,20 @@ run =
 abbrev pub session : App
 session = with_rule (of_file (codes "session")) (flag (codes "explain"))
 
+-- lab [FILE] [--variants FILE] [--per-cpu] [--csv] [--script NAME]
+abbrev pub lab : App
+lab =
+    with_rule
+    (with_rule
+    (with_rule (with_rule (of_file (codes "lab")) (option (codes "variants"))) (flag (codes "per-cpu")))
+    (flag (codes "csv")))
+    (option (codes "script"))
+
 -- the program, which has a version, wants a command, and has no command `help`
 abbrev pub pc_sim : App
 pc_sim =
     with_subcommand
+    (with_subcommand
     (with_subcommand
     (with_subcommand
     (with_subcommand
@@ -80,7 +92,8 @@ pc_sim =
     (of_file (codes "explain")).top)
     drawing.top)
     run.top)
-    session.top
+    session.top)
+    lab.top
 
 -- the file that the word after a command names: none where there is no word, or `-`
 abbrev pub IsInput : Option Text → Option Text → Type 0
@@ -147,6 +160,13 @@ abbrev pub IsNoPolicy : Option (Text × List Row) → Type 0
 IsNoPolicy None = ⊥
 IsNoPolicy (Some met) = (met.0 ≡ codes "run") × IsUnnamed met.1
 
+-- where variants come from by the word behind `--variants`: from the load where there is none, and from the standard
+-- input where it is `-`
+abbrev pub IsFrom : Option Text → VariantsFrom → Type 0
+IsFrom word from.Load = word ≡ None
+IsFrom word from.Input = word ≡ Some (codes "-")
+IsFrom word (from.File name) = (word ≡ Some (string_bytes name)) × (string_bytes name ≢ codes "-")
+
 -- the command with this name and these values is asked for
 abbrev pub IsAsked : Option (Text × List Row) → Command → Type 0
 IsAsked None command = ⊥
@@ -159,6 +179,10 @@ IsAsked (Some met) (Run given form seconds policy script) =
     × (option_map string_bytes script ≡ first_of (codes "script") met.1)
 IsAsked (Some met) (Session given explains) =
     IsOf (codes "session") (option_map string_bytes given) met × (IsTrue explains ↔ IsSet (codes "explain") met.1)
+IsAsked (Some met) (Lab given variants each csv script) =
+    IsOf (codes "lab") (option_map string_bytes given) met × IsFrom (first_of (codes "variants") met.1) variants
+    × (IsTrue each ↔ IsSet (codes "per-cpu") met.1) × (IsTrue csv ↔ IsSet (codes "csv") met.1)
+    × (option_map string_bytes script ≡ first_of (codes "script") met.1)
 
 -- want of memory, numbers or a policy that are none where there is no other fault, or one of these kinds, of which
 -- help and the version are two
@@ -173,4 +197,4 @@ abbrev pub IsCommandMet : Option (Text × List Row) → Type 0
 IsCommandMet None = ⊥
 IsCommandMet (Some met) =
     (met.0 ≡ codes "replay") ⊎ (met.0 ≡ codes "explain") ⊎ (met.0 ≡ codes "draw") ⊎ (met.0 ≡ codes "run")
-    ⊎ (met.0 ≡ codes "session")
+    ⊎ (met.0 ≡ codes "session") ⊎ (met.0 ≡ codes "lab")

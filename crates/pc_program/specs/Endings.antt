@@ -21,8 +21,8 @@ use Rattle.pc_program.specs.declared.ending.Ending.TheVariants.{Finished, FaultL
 use Rattle.pc_program.specs.declared.ending.Ending.TheVariants.{BadCommandLine, OutOfMemory, Settings, Run, CannotStart}
 use Rattle.pc_program.specs.declared.run_text.RunTextFault.{RunTextFault}
 use Rattle.pc_program.specs.declared.run_text.RunTextFault.TheVariants as text
-use Rattle.pc_program.specs.declared.settings.SettingsFault.{SettingsFault}
-use Rattle.pc_program.specs.declared.settings.SettingsFault.TheVariants as settings
+use Rattle.pc_settings.specs.declared.runs.SettingsFault.{SettingsFault}
+use Rattle.pc_settings.specs.declared.runs.SettingsFault.TheVariants as settings
 
 -- how the program ends after the run of a script
 abbrev pub ending_of : Result Outcome ScriptFault → Ending

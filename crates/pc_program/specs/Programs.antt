@@ -12,10 +12,10 @@ use Rattle.pc_threads.specs.Reports.{AddsUp, TellsItsBook}
 use Rattle.pc_threads.specs.declared.report.LoadReport.{LoadReport}
 use Rattle.pc_program.specs.Endings.{ending_of_settings}
 use Rattle.pc_program.specs.ReportText.{IsReport}
-use Rattle.pc_program.specs.Runs.{DoesWhatIsSpelled, SpellsSettings}
+use Rattle.pc_program.specs.Runs.{DoesWhatIsSpelled}
 use Rattle.pc_session.specs.Session.{IsSession, RanOut}
 use Rattle.pc_transcript.specs.Transcripts.{WritesCalls, script_of}
-use Rattle.pc_program.specs.SettingsText.{Reads}
+use Rattle.pc_settings.specs.SettingsText.{Reads, SpellsSettings}
 use Rattle.pc_program.specs.declared.ending.Ending.{Ending}
 use Rattle.pc_program.specs.declared.ending.Ending.TheVariants.{Finished, FaultLine, DrawnToFault, CannotRead}
 use Rattle.pc_program.specs.declared.ending.Ending.TheVariants.{BadCommandLine, OutOfMemory, Settings, Run, CannotStart}
@@ -23,7 +23,7 @@ use Rattle.pc_program.specs.declared.ending.Failure.TheVariants as failure
 use Rattle.pc_program.specs.declared.forms.Form.{Form}
 use Rattle.pc_program.specs.declared.forms.Form.TheVariants.{Replies, Explained, Picture}
 use Rattle.pc_program.specs.declared.report.ReportForm.{ReportForm}
-use Rattle.pc_program.specs.declared.settings.SettingsFault.{SettingsFault}
+use Rattle.pc_settings.specs.declared.runs.SettingsFault.{SettingsFault}
 
 -- after a script of this text: what was written is plainly its output, or what comes before the command at which memory
 -- ran out

@@ -4,7 +4,7 @@ use Rattle.toml.specs.Data.{Members}
 use Rattle.pc_threads.specs.Reports.{DoesAll}
 use Rattle.pc_threads.specs.Settings.{first_fault}
 use Rattle.pc_threads.specs.declared.report.LoadReport.{LoadReport}
-use Rattle.pc_program.specs.SettingsText.{Reads, faults_in, settings_in}
+use Rattle.pc_settings.specs.SettingsText.{Reads, SpellsSettings, faults_in, settings_in}
 use Rattle.pc_program.specs.declared.run_text.RunTextFault.{RunTextFault}
 use Rattle.pc_program.specs.declared.run_text.RunTextFault.TheVariants.{Run, Settings, Write}
 
@@ -12,11 +12,6 @@ use Rattle.pc_program.specs.declared.run_text.RunTextFault.TheVariants.{Run, Set
 abbrev pub DoesWhatIsSpelled : Option Members → LoadReport → Type 0
 DoesWhatIsSpelled (Some table) report = (first_fault (faults_in table) ≡ None) × DoesAll (settings_in table) report
 DoesWhatIsSpelled None report = ⊥
-
--- the text spells settings without fault
-abbrev pub SpellsSettings : Option Members → Type 0
-SpellsSettings (Some table) = first_fault (faults_in table) ≡ None
-SpellsSettings None = ⊥
 
 -- what is said to be wrong with the settings is wrong with the text; a run, and the writing of its report, fail only
 -- where nothing is

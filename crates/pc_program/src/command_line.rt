@@ -7,9 +7,10 @@ ghost use Rattle.clap.specs.Simple.{app_of, subcommand_of, subcommand_rows_of};
 ghost use Rattle.clap.specs.Faults.{fault_of};
 ghost use Rattle.clap.specs.Matches.{found_of};
 ghost use Rattle.pc_program.specs.CommandLine.{IsAsked, IsCommandMet, IsInput, IsLimit, IsNoPart, IsPart, IsRefusal};
-ghost use Rattle.pc_program.specs.CommandLine.{IsNoPolicy, IsPolicy, IsReportForm, IsSpelled, IsUnnamed, IsUnread};
+ghost use Rattle.pc_program.specs.CommandLine.{IsFrom, IsNoPolicy, IsPolicy, IsReportForm, IsSpelled, IsUnnamed};
+ghost use Rattle.pc_program.specs.CommandLine.{IsUnread};
 ghost use Rattle.pc_program.specs.CommandLine.{counted_flag, drawing, flag, limit};
-ghost use Rattle.pc_program.specs.CommandLine.{of_file, option, pc_sim, run, session};
+ghost use Rattle.pc_program.specs.CommandLine.{lab, of_file, option, pc_sim, run, session};
 
 use crate::numbers::numbers_in;
 use crate::policies::policy_named;
@@ -58,6 +59,29 @@ pub enum Command {
         /// Whether each line is explained.
         explains: bool,
     },
+    /// Try a load of the lab under variants of the policy.
+    Lab {
+        file: Option<String>,
+        /// Where the variants come from.
+        variants: VariantsFrom,
+        /// Whether the time of each CPU is told.
+        per_cpu: bool,
+        /// Whether the table is written for other tools.
+        csv: bool,
+        /// The variant whose run is written as a script, in place of the table.
+        script: Option<String>,
+    },
+}
+
+/// Where the variants of a load come from (own).
+#[derive(Debug, Drop)]
+pub enum VariantsFrom {
+    /// From the load's own text.
+    Load,
+    /// From the standard input.
+    Input,
+    /// From the file of this name.
+    File(String),
 }
 
 /// Why there is no command.
@@ -102,6 +126,7 @@ Examples:
   pc-sim run settings.toml --per-cpu
   pc-sim run settings.toml --script run.script
   pc-sim session
+  pc-sim lab load.toml --variants examples/lab/variants.toml
 
 FILE may be `-`, the standard input.
 Exit status: 0 finished; 1 a file or a text has a fault; 2 the command line has one; 3 a run did not
@@ -167,6 +192,32 @@ that is no command is a fault, which changes nothing, and the session goes on. `
 the commands, on standard error.
 Exit status: 0 finished; 1 a line was no command, or a read or a write failed; 4 memory is wanting.
 Sessions are described in docs/FORMATS.md.";
+
+const ABOUT_LAB: &str =
+    "Tries a load under variants of the policy, in virtual time, and compares them in a table";
+
+const AFTER_LAB: &str = "\
+Examples:
+  pc-sim lab load.toml
+  pc-sim lab load.toml --variants variants.toml --csv
+  pc-sim lab load.toml --script fifo | pc-sim explain
+
+Where --script stands, --per-cpu and --csv change nothing.
+Exit status: 0 finished; 1 the load or the variants have a fault, or a read or a write failed; 4 memory
+is wanting.
+Loads, variants and the table are described in docs/LAB.md.";
+
+const LOAD: &str = "the load; without it, and where it is `-`, the standard input is read";
+
+const VARIANTS: &str =
+    "tries the variants of this text in place of the load's own; `-` is the standard input";
+
+const EACH_CPU: &str = "also tells where the time of each CPU went";
+
+const CSV: &str = "writes the table on its side, with all percentiles, for other tools";
+
+const SCRIPT_OF: &str =
+    "writes the run of the variant of this name as a script, in place of the table";
 
 const EXPLAINS: &str = "also says in comments what happened and why";
 
@@ -354,6 +405,23 @@ fn session_parser<'a>(alloc: Global) -> Result<Parser<'a>, AllocError>
         .arg(explains)
 }
 
+/// `lab [FILE] [--variants FILE] [--per-cpu] [--csv] [--script NAME]`
+fn lab_parser<'a>(alloc: Global) -> Result<Parser<'a>, AllocError>
+    ensures { IfOk result (λ parser. app_of parser ≡ lab) }
+{
+    let variants = option_of(alloc, "variants", "FILE", VARIANTS);
+    let per_cpu = flag_of(alloc, "per-cpu", EACH_CPU);
+    let csv = flag_of(alloc, "csv", CSV);
+    let script = option_of(alloc, "script", "NAME", SCRIPT_OF);
+    parser_of_file(alloc, "lab", LOAD)?
+        .about(ABOUT_LAB)
+        .after_help(AFTER_LAB)
+        .arg(variants)?
+        .arg(per_cpu)?
+        .arg(csv)?
+        .arg(script)
+}
+
 /// The program's parser.
 fn parser<'a>(alloc: Global) -> Result<Parser<'a>, AllocError>
     ensures { IfOk result (λ parser. app_of parser ≡ pc_sim) }
@@ -363,6 +431,7 @@ fn parser<'a>(alloc: Global) -> Result<Parser<'a>, AllocError>
     let draw = draw_parser(alloc)?;
     let run = run_parser(alloc)?;
     let session = session_parser(alloc)?;
+    let lab = lab_parser(alloc)?;
     Parser::new(alloc, "pc-sim")
         .version(VERSION)
         .about(ABOUT)
@@ -373,7 +442,8 @@ fn parser<'a>(alloc: Global) -> Result<Parser<'a>, AllocError>
         .subcommand(explain)?
         .subcommand(draw)?
         .subcommand(run)?
-        .subcommand(session)
+        .subcommand(session)?
+        .subcommand(lab)
 }
 
 /// What the matches of a command ask for.
@@ -409,6 +479,16 @@ fn command_of(alloc: Global, matches: &ArgMatches<'_>) -> Result<Command, Comman
     } else if name == "draw" {
         let part = part_of(met)?;
         Ok(Command::Draw { file, part })
+    } else if name == "lab" {
+        let variants = variants_of(alloc, met)?;
+        let script = script_of(alloc, met)?;
+        Ok(Command::Lab {
+            file,
+            variants,
+            per_cpu: is_set(met, "per-cpu"),
+            csv: is_set(met, "csv"),
+            script,
+        })
     } else {
         Ok(Command::Replay { file })
     }
@@ -423,6 +503,17 @@ fn file_of(alloc: Global, matches: &ArgMatches<'_>) -> Result<Option<String>, Al
         None => Ok(None),
         Some(name) if name == "-" => Ok(None),
         Some(name) => Ok(Some(String::from_str(alloc, name)?)),
+    }
+}
+
+/// Where the variants come from.
+fn variants_of(alloc: Global, matches: &ArgMatches<'_>) -> Result<VariantsFrom, AllocError>
+    ensures { IfOk result (IsFrom (first_of (codes "variants") (rows_of (found_of matches.now)))) }
+{
+    match matches.get_str("variants") {
+        None => Ok(VariantsFrom::Load),
+        Some(name) if name == "-" => Ok(VariantsFrom::Input),
+        Some(name) => Ok(VariantsFrom::File(String::from_str(alloc, name)?)),
     }
 }
 
@@ -490,7 +581,7 @@ fn policy_of(matches: &ArgMatches<'_>) -> Result<AgentPolicy, CommandFault>
     }
 }
 
-/// The file into which a script of the run is written; a name is taken as it stands.
+/// The file into which a script of the run is written, or the variant whose script is; a name is taken as it stands.
 fn script_of(alloc: Global, matches: &ArgMatches<'_>) -> Result<Option<String>, AllocError>
     ensures { IfOk result
         (λ file. option_map string_bytes file ≡ first_of (codes "script") (rows_of (found_of matches.now))) }

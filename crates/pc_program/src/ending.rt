@@ -6,8 +6,8 @@ ghost use Rattle.pc_program.specs.Endings.{settings_message, status_of};
 ghost use Rattle.pc_program.specs.Endings.{unsettled_message};
 
 use crate::run_text::RunTextFault;
-use crate::settings::SettingsFault;
 use pc_script::{Conversed, Outcome, ScriptFault};
+use pc_settings::SettingsFault;
 use pc_threads::{ConfigFault, RunFault};
 
 /// How a run of the program ended.

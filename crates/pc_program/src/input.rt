@@ -6,7 +6,7 @@ ghost use Rattle.std.specs.Io.KnownBytes.{Consumes};
 ghost use Rattle.pc_program.specs.Endings.{IsUnread};
 
 use crate::ending::{Ending, Failure};
-use pc_script::{ScriptFault, read_bytes};
+use pc_settings::{TextFault, Unread, read_utf8};
 use std::alloc::Global;
 use std::io::Read;
 
@@ -28,13 +28,11 @@ pub fn read_settings<R: Read>(alloc: Global, reader: &mut R) -> Result<String, E
     ensures reads { (bytes : List ℕ) × (length bytes ≤ MOST_SETTINGS + 1)
         × Consumes (R.remaining reader.old) (R.remaining reader.new) bytes }
 {
-    match read_bytes(alloc, reader, MOST_SETTINGS) {
-        Ok(bytes) => match String::from_utf8(bytes) {
-            Ok(text) => Ok(text),
-            Err(_) => Err(Ending::CannotRead(Failure::NotUtf8)),
-        },
-        Err(ScriptFault::OutOfMemory) => Err(Ending::OutOfMemory),
-        Err(ScriptFault::TooLong) => Err(Ending::CannotRead(Failure::TooLong)),
-        Err(ScriptFault::Read | ScriptFault::Write) => Err(Ending::CannotRead(Failure::Read)),
+    match read_utf8(alloc, reader, MOST_SETTINGS) {
+        Ok(text) => Ok(text),
+        Err(TextFault::Unread(Unread::Failed)) => Err(Ending::CannotRead(Failure::Read)),
+        Err(TextFault::Unread(Unread::TooLong)) => Err(Ending::CannotRead(Failure::TooLong)),
+        Err(TextFault::Unread(Unread::NotUtf8)) => Err(Ending::CannotRead(Failure::NotUtf8)),
+        Err(TextFault::OutOfMemory) => Err(Ending::OutOfMemory),
     }
 }

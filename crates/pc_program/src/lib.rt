@@ -23,19 +23,20 @@ mod progress;
 mod report;
 mod run_text;
 mod scripted;
-mod settings;
 mod talk;
 
-pub use command_line::{Command, CommandFault, read_command};
+pub use command_line::{Command, CommandFault, VariantsFrom, read_command};
 pub use ending::{BadSettings, Ending, Failure, Unsettled};
 pub use forms::{Form, make, make_flushed, run_flushed, run_script};
 pub use input::{MOST_SETTINGS, read_settings};
 pub use pc_draw::{Interval, Part};
 pub use pc_policy::{AgentPolicy, Order, Stealing};
 pub use pc_script::Helper;
+pub use pc_settings::{
+    Field, SettingsFault, read_config, steps_are_read_as_written, write_trouble,
+};
 pub use progress::{Progress, SoFar};
 pub use report::ReportForm;
 pub use run_text::{RunTextFault, run_config};
 pub use scripted::run_scripted;
-pub use settings::{Field, SettingsFault, read_config, steps_are_read_as_written, write_trouble};
 pub use talk::{Manual, converse_flushed};

@@ -8,8 +8,8 @@ ghost use Rattle.pc_program.specs.Runs.{DoesWhatIsSpelled, IsTextsFault};
 
 use crate::progress::Progress;
 use crate::report::{ReportForm, write_report};
-use crate::settings::{SettingsFault, read_config};
 use pc_policy::AgentPolicy;
+use pc_settings::{SettingsFault, read_config};
 use pc_threads::{LoadReport, RunFault, run_agents_by};
 use std::alloc::Global;
 use std::io::Write;

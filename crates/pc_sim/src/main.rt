@@ -1,11 +1,13 @@
 //! `pc-sim`: replays scripts of events on the kernel model and its agents, explains or draws them, answers commands as
-//! they come, or runs agents in threads. What it does is the library's, `pc_program`; here are the words, files and
-//! streams of the machine that it runs on.
+//! they come, runs agents in threads, or tries loads of the lab. What it does is the libraries', `pc_program` and
+//! `pc_trial`; here are the words, files and streams of the machine that it runs on.
 #![tactic(auto)]
 
+mod lab;
 mod met;
 mod streams;
 
+use lab::try_on_machine;
 use met::{Met, Source, say_failure};
 use pc_program::{
     AgentPolicy, Command, CommandFault, Ending, Failure, Form, MOST_SETTINGS, Manual, Progress,
@@ -13,6 +15,7 @@ use pc_program::{
     run_scripted, write_trouble,
 };
 use pc_script::MOST_BYTES;
+use pc_trial::Wanted;
 use std::alloc::Global;
 use std::env;
 use std::fs::File;
@@ -245,7 +248,7 @@ fn run_with_script<R: Threads + Wait + Clock + Sync, S: Write + Copy + Sync, W: 
 }
 
 /// Says on standard error how the program ends, and answers its exit status.
-fn end(rt: &HostRuntime, met: &Met, source: &Source, most: usize) -> ExitCode {
+pub(crate) fn end(rt: &HostRuntime, met: &Met, source: &Source, most: usize) -> ExitCode {
     if let Some(message) = met.ending.message() {
         // Nothing can be said of an error on standard error itself.
         let _ = eprintln!(rt; "{message}");
@@ -305,6 +308,15 @@ fn main(rt: HostRuntime) -> ExitCode {
         Ok(Command::Explain { file }) => make_script(&rt, Form::Explained, file),
         Ok(Command::Draw { file, part }) => make_script(&rt, Form::Picture(part), file),
         Ok(Command::Session { file, explains }) => talk(&rt, explains, file),
+        Ok(
+            Command::Lab {
+                file,
+                variants,
+                per_cpu,
+                csv,
+                script,
+            },
+        ) => try_on_machine(&rt, file, variants, &Wanted::of(per_cpu, csv, script)),
         Ok(
             Command::Run {
                 file,

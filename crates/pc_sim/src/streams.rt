@@ -2,6 +2,8 @@
 
 ghost use Rattle.std.specs.Prelude.{◌≡◌, None};
 
+use crate::met::Source;
+use std::fs::File;
 use std::io::{self, Read, Write};
 
 /// A stream, and the last error that it met.
@@ -23,6 +25,40 @@ impl<S: Drop> Noted<S> {
     /// The last error that the stream met.
     pub(crate) fn fault(&self) -> Option<io::Error> {
         self.fault
+    }
+}
+
+/// The text of a file that is opened at its first read, or else of the standard input.
+#[derive(Drop)]
+pub(crate) struct Opening<'a> {
+    rt: &'a HostRuntime,
+    source: &'a Source,
+    file: Option<File>,
+}
+
+impl<'a> Opening<'a> {
+    /// The text that comes from there; nothing is opened yet.
+    pub(crate) fn new(rt: &'a HostRuntime, source: &'a Source) -> Opening<'a> {
+        Opening {
+            rt,
+            source,
+            file: None,
+        }
+    }
+}
+
+impl Read for Opening<'_> {
+    fn read(&mut self, buf: &mut [u8]) -> io::Result<usize> {
+        let Some(name) = &self.source.0 else {
+            return self.rt.stdin().read(buf);
+        };
+        if self.file.is_none() {
+            self.file = Some(File::open(self.rt, name.as_str())?);
+        }
+        match &mut self.file {
+            Some(file) => file.read(buf),
+            None => Ok(0),
+        }
     }
 }
 

@@ -1,10 +1,11 @@
 //! What no script of tests/cases can say: a script over memory, the words of a command line, and how the program ends.
 
+mod lab;
 mod settings;
 
 use pc_program::{
     Command, CommandFault, Ending, Form, Helper, Interval, Order, Part, ReportForm, Stealing,
-    converse_flushed, make, read_command, run_script,
+    VariantsFrom, converse_flushed, make, read_command, run_script,
 };
 use pc_script::{Outcome, ScriptFault, lines_of};
 use std::alloc::Global;
@@ -71,6 +72,8 @@ enum Asked {
     Draw(Part),
     Run(ReportForm, Option<u32>),
     Session(bool),
+    /// Whether other variants are tried, whether the time of each CPU is told, and whether for other tools.
+    Lab(bool, bool, bool),
 }
 
 fn read_off(
@@ -88,7 +91,19 @@ fn read_off(
             ..
         } => Ok((Asked::Run(form, limit), file)),
         Command::Session { file, explains } => Ok((Asked::Session(explains), file)),
+        Command::Lab {
+            file,
+            variants,
+            per_cpu,
+            csv,
+            ..
+        } => Ok((Asked::Lab(are_others(&variants), per_cpu, csv), file)),
     }
+}
+
+/// Whether variants are those of another text.
+fn are_others(variants: &VariantsFrom) -> bool {
+    !matches!(variants, VariantsFrom::Load)
 }
 
 fn is_named(file: &Option<String>, wanted: Option<&'static str>) -> bool {
@@ -156,7 +171,7 @@ const EACH_REFUSAL: Asked = Asked::Run(ReportForm::EachRefusal, None);
 const PICTURE: Asked = Asked::Run(ReportForm::Picture, None);
 
 /// Words, and what they ask for, of which file.
-static COMMANDS: [(&[&str], Asked, Option<&str>); 21] = [
+static COMMANDS: [(&[&str], Asked, Option<&str>); 24] = [
     (&["pc-sim", "replay"], Asked::Replay, None),
     (
         &["pc-sim", "replay", "a.script"],
@@ -237,6 +252,21 @@ static COMMANDS: [(&[&str], Asked, Option<&str>); 21] = [
         Asked::Session(true),
         Some("a.script"),
     ),
+    (
+        &["pc-sim", "lab", "-"],
+        Asked::Lab(false, false, false),
+        None,
+    ),
+    (
+        &["pc-sim", "lab", "l.toml", "--per-cpu", "--variants", "-"],
+        Asked::Lab(true, true, false),
+        Some("l.toml"),
+    ),
+    (
+        &["pc-sim", "lab", "--variants=v.toml", "--csv", "l.toml"],
+        Asked::Lab(true, false, true),
+        Some("l.toml"),
+    ),
 ];
 
 #[test]
@@ -288,13 +318,14 @@ fn a_session_goes_on_behind_a_fault(rt: HostRuntime) {
 }
 
 /// Words of runs, and the file into which a script is written.
-static SCRIPTS: [(&[&str], Option<&str>); 3] = [
+static SCRIPTS: [(&[&str], Option<&str>); 4] = [
     (&["pc-sim", "run", "s.toml"], None),
     (
         &["pc-sim", "run", "--script", "run.script", "s.toml"],
         Some("run.script"),
     ),
     (&["pc-sim", "run", "--draw", "--script=-", "-"], Some("-")),
+    (&["pc-sim", "lab", "--script", "fifo"], Some("fifo")),
 ];
 
 /// Whether the words name this file for a script.
@@ -305,6 +336,7 @@ fn names_script(
 ) -> Result<bool, CommandFault> {
     match read_command(alloc, words)? {
         Command::Run { script, .. } => Ok(is_named(&script, wanted)),
+        Command::Lab { script, .. } => Ok(is_named(&script, wanted)),
         _ => Ok(false),
     }
 }

@@ -2,7 +2,7 @@ use Rattle.std.proofs.Common.{rules, ap, ap₂, codes, true, ◌≡◌, ◌∙�
 use Rattle.std.proofs.lemmas.Result.{IfOk-weaker}
 use Rattle.clap.specs.Simple.{App, Shape, app_of, app_of_fields, new_app, on_top, with_subcommand}
 use Rattle.clap.proofs.SimpleLemmas.{plain_fields}
-use Rattle.pc_program.specs.CommandLine.{drawing, of_file, run, session}
+use Rattle.pc_program.specs.CommandLine.{drawing, lab, of_file, run, session}
 use Rattle.pc_program.proofs.command_line.parser.Goals as goal
 
 -- what the settings change
@@ -45,6 +45,11 @@ returns c =
     ∙ ap (λ (a : App). with_subcommand (app_of c.in_ok-subcommand-3.field-0) a.top) runs in
     let four = fourth ∙ ap (λ (a : App). with_subcommand a run.top) three in
     let sessions : app_of c.in_ok-session.session ≡ session = c.in_ok-session.ensures in
-    IfOk-weaker c.subcommand-5.result _ _ (λ parser h.
-    h.shape (plain_fields c.in_ok-session.session (ap (λ (a : App). a.top.is_plain) sessions)).globals
-    ∙ ap₂ (λ (a b : App). with_subcommand a b.top) four sessions) c.subcommand-5.ensures
+    let fifth : app_of c.in_ok-subcommand-5.field-0 ≡ with_subcommand (app_of c.in_ok-subcommand-4.field-0) session.top =
+    c.in_ok-subcommand-5.ensures.shape (plain_fields c.in_ok-session.session (ap (λ (a : App). a.top.is_plain) sessions)).globals
+    ∙ ap (λ (a : App). with_subcommand (app_of c.in_ok-subcommand-4.field-0) a.top) sessions in
+    let five = fifth ∙ ap (λ (a : App). with_subcommand a session.top) four in
+    let labs : app_of c.in_ok-lab.lab ≡ lab = c.in_ok-lab.ensures in
+    IfOk-weaker c.subcommand-6.result _ _ (λ parser h.
+    h.shape (plain_fields c.in_ok-lab.lab (ap (λ (a : App). a.top.is_plain) labs)).globals
+    ∙ ap₂ (λ (a b : App). with_subcommand a b.top) five labs) c.subcommand-6.ensures

@@ -3,11 +3,11 @@ use Rattle.clap.specs.Simple.{app_of, is_simple, subcommand_of, subcommand_rows_
 use Rattle.clap.specs.Kinds.{IsAmong}
 use Rattle.clap.specs.Values.{kind_of}
 use Rattle.clap.specs.Faults.{fault_of, is_simple_and_free}
-use Rattle.pc_program.specs.CommandLine.{IsAsked, IsNoPart, IsNoPolicy, IsRefusal, pc_sim}
+use Rattle.pc_program.specs.CommandLine.{IsAsked, IsCommandMet, IsNoPart, IsNoPolicy, IsRefusal, pc_sim}
 use Rattle.pc_program.specs.declared.command_line.CommandFault.{CommandFault}
 use Rattle.pc_program.specs.declared.command_line.CommandFault.TheVariants.{BadNumbers, BadPolicy, OutOfMemory}
 use Rattle.clap.specs.declared.error.kind.ErrorKind.TheVariants as kind
-use Rattle.pc_program.proofs.Commands.{simple, simple_and_free}
+use Rattle.pc_program.proofs.Commands.{command_met, simple, simple_and_free}
 use Rattle.pc_program.proofs.command_line.read_command.Goals as goal
 
 whatever : {A E P : Type 0} (r : Result A E) → P → IfOk r (λ _. P)
@@ -69,4 +69,11 @@ returns-in-Err-2-clause-refused g c =
     )
 
 pub command_of-requires : goal.command_of-requires
-command_of-requires g c = search rules
+command_of-requires g c =
+    let app : app_of c.in_ok-parser.parser ≡ pc_sim = search rules in
+    let free : is_simple_and_free (app_of c.in_ok-parser.parser) ≡ true = ap is_simple_and_free app ∙ simple_and_free in
+    let told = c.in-Ok.ensures.kinds free in
+    let none : fault_of pc_sim (map g.S.AsStr.text c.args.words.now) ≡ [] = ap (λ a. fault_of a (map g.S.AsStr.text c.args.words.now)) (sym app) ∙ told in
+    let met : subcommand_rows_of c.in-Ok.matches ≡ subcommand_of pc_sim (map g.S.AsStr.text c.args.words.now) =
+    (c.in-Ok.ensures.matches (ap is_simple app ∙ simple)).1 ∙ ap (λ a. subcommand_of a (map g.S.AsStr.text c.args.words.now)) app in
+    subst IsCommandMet (sym met) (command_met (map g.S.AsStr.text c.args.words.now) none)

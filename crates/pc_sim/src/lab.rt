@@ -1,0 +1,77 @@
+//! The lab's command: the texts that it reads, where it writes, and what is said at its end.
+
+use crate::end;
+use crate::met::{Met, Source};
+use crate::streams::{Noted, Opening};
+use pc_program::{Ending, Failure, VariantsFrom};
+use pc_trial::{LabEnding, MOST_LOAD, Unread, Wanted, try_load, try_variants};
+use std::io::{self, BufWriter, ErrorKind};
+use std::process::ExitCode;
+
+/// What is met where a text cannot be read for this reason, and the system said that.
+fn unread(why: Unread, said: Option<io::Error>) -> Met {
+    match (why, said) {
+        (Unread::Failed, Some(error)) if error.kind() == ErrorKind::OutOfMemory => {
+            Met::ended(Ending::OutOfMemory)
+        }
+        (Unread::Failed, said) => Met::of(Ending::CannotRead(Failure::Read), said),
+        (Unread::TooLong, _) => Met::ended(Ending::CannotRead(Failure::TooLong)),
+        (Unread::NotUtf8, _) => Met::ended(Ending::CannotRead(Failure::NotUtf8)),
+    }
+}
+
+/// Says how the lab ended that read no text anew and wrote nothing anew, and answers its exit status.
+fn said(rt: &HostRuntime, ending: LabEnding) -> ExitCode {
+    if ending != LabEnding::Finished {
+        // Nothing can be said of an error on standard error itself.
+        let _ = eprintln!(rt; "pc-sim: {ending}");
+    }
+    ExitCode::from(ending.status())
+}
+
+/// Where other variants come from, if they are of another text than the load.
+fn others_of(variants: VariantsFrom) -> Option<Source> {
+    match variants {
+        VariantsFrom::Load => None,
+        VariantsFrom::Input => Some(Source(None)),
+        VariantsFrom::File(name) => Some(Source(Some(name))),
+    }
+}
+
+/// Tries the load of the file, or else of the standard input, and says how that ended. It stands apart, so that no
+/// other command has the room on its stack that a run in virtual time needs.
+#[inline(never)]
+pub(crate) fn try_on_machine(
+    rt: &HostRuntime,
+    file: Option<String>,
+    variants: VariantsFrom,
+    wanted: &Wanted,
+) -> ExitCode {
+    let source = Source(file);
+    let mut load = Noted::new(Opening::new(rt, &source));
+    let Ok(mut writer) = BufWriter::new(rt.alloc(), Noted::new(rt.stdout())) else {
+        return said(rt, LabEnding::OutOfMemory);
+    };
+    let Some(others) = others_of(variants) else {
+        let ending = try_load(rt.alloc(), &mut load, wanted, &mut writer);
+        return match ending {
+            LabEnding::LoadUnread(why) => end(rt, &unread(why, load.fault()), &source, MOST_LOAD),
+            LabEnding::Unwritten => {
+                let met = Met::of(Ending::CannotRead(Failure::Write), writer.get_ref().fault());
+                end(rt, &met, &source, MOST_LOAD)
+            }
+            ending => said(rt, ending),
+        };
+    };
+    let mut other = Noted::new(Opening::new(rt, &others));
+    let ending = try_variants(rt.alloc(), &mut load, &mut other, wanted, &mut writer);
+    match ending {
+        LabEnding::LoadUnread(why) => end(rt, &unread(why, load.fault()), &source, MOST_LOAD),
+        LabEnding::VariantsUnread(why) => end(rt, &unread(why, other.fault()), &others, MOST_LOAD),
+        LabEnding::Unwritten => {
+            let met = Met::of(Ending::CannotRead(Failure::Write), writer.get_ref().fault());
+            end(rt, &met, &source, MOST_LOAD)
+        }
+        ending => said(rt, ending),
+    }
+}

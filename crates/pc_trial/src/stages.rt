@@ -1,0 +1,137 @@
+//! From texts to what is told of them, stage by stage.
+
+ghost use Rattle.std.specs.Prelude.{◌≡◌, ◌≢◌, ◌⊎◌, [], IfOk, IfErr, IfSome};
+ghost use Rattle.std.specs.Io.Buffered.{writer_buffer, writer_contents};
+ghost use Rattle.std.specs.Io.KnownBytes.{Appends};
+ghost use Rattle.toml.specs.Parse.{parse_document};
+ghost use Rattle.pc_settings.specs.LoadTexts.{ReadsLoad, ReadsVariants};
+ghost use Rattle.pc_trial.specs.Tried.{EndsAtLoad, EndsAtTelling, EndsAtVariants, IsOfLoad, IsTold};
+ghost use Rattle.pc_trial.specs.Inner.Stages.{IsLoadOf, IsVariantsOf};
+
+use crate::ending::LabEnding;
+use crate::wanted::Wanted;
+use pc_compare::{CompareFault, Form, compare, script_of};
+use pc_load::{Load, Variants};
+use pc_settings::{LoadTextFault, TextFault, read_load, read_utf8, read_variants};
+use std::alloc::Global;
+use std::io::{BufWriter, Read, Write};
+
+/// The greatest length of the text of a load, and of variants, in bytes.
+pub const MOST_LOAD: usize = 16_777_216;
+
+/// The load and the variants that a text spells.
+fn load_of(alloc: Global, text: &str) -> Result<(Load, Variants), LabEnding>
+    ensures { IsLoadOf text.now result }
+{
+    match read_load(alloc, text) {
+        Ok(read) => Ok(read),
+        Err(LoadTextFault::OutOfMemory) => Err(LabEnding::OutOfMemory),
+        Err(fault) => Err(LabEnding::BadLoad(fault)),
+    }
+}
+
+/// The variants that a text spells.
+fn variants_of(alloc: Global, text: &str) -> Result<Variants, LabEnding>
+    ensures { IsVariantsOf text.now result }
+{
+    match read_variants(alloc, text) {
+        Ok(variants) => Ok(variants),
+        Err(LoadTextFault::OutOfMemory) => Err(LabEnding::OutOfMemory),
+        Err(fault) => Err(LabEnding::BadVariants(fault)),
+    }
+}
+
+/// The load and the variants of the text that a reader gives.
+pub(crate) fn load_in<R: Read>(alloc: Global, reader: &mut R) -> Result<(Load, Variants), LabEnding>
+    ensures ok { IfOk result
+        (λ read. IfSome (R.remaining reader.old) (λ text. ReadsLoad (parse_document text) (Ok read))) }
+    ensures err { IfErr result (λ ending. IfSome (R.remaining reader.old) (λ text. EndsAtLoad text ending)) }
+    ensures unfinished { IfErr result (λ ending. ending ≢ LabEnding.Finished) }
+{
+    match read_utf8(alloc, reader, MOST_LOAD) {
+        Ok(text) => load_of(alloc, text.as_str()),
+        Err(TextFault::Unread(why)) => Err(LabEnding::LoadUnread(why)),
+        Err(TextFault::OutOfMemory) => Err(LabEnding::OutOfMemory),
+    }
+}
+
+/// The variants of the text that a reader gives.
+pub(crate) fn variants_in<R: Read>(alloc: Global, reader: &mut R) -> Result<Variants, LabEnding>
+    ensures ok { IfOk result
+        (λ variants. IfSome (R.remaining reader.old) (λ text. ReadsVariants (parse_document text) (Ok variants))) }
+    ensures err { IfErr result (λ ending. IfSome (R.remaining reader.old) (λ text. EndsAtVariants text ending)) }
+    ensures behind { IfErr result (λ ending. IsOfLoad ending → ⊥) }
+    ensures unfinished { IfErr result (λ ending. ending ≢ LabEnding.Finished) }
+{
+    match read_utf8(alloc, reader, MOST_LOAD) {
+        Ok(text) => variants_of(alloc, text.as_str()),
+        Err(TextFault::Unread(why)) => Err(LabEnding::VariantsUnread(why)),
+        Err(TextFault::OutOfMemory) => Err(LabEnding::OutOfMemory),
+    }
+}
+
+/// The table of all variants. It has no fault but want of memory; no machine plays more than can be counted.
+fn table_of(
+    alloc: Global,
+    load: &Load,
+    variants: &Variants,
+    form: Form,
+) -> Result<Vec<u8>, LabEnding>
+    ensures ok { IfOk result (λ text. IsTold (Wanted.Table form) load.now variants.now text.items) }
+    ensures err { IfErr result (EndsAtTelling (Wanted.Table form) variants.now) }
+{
+    match compare(alloc, load, variants, form) {
+        Ok(text) => Ok(text),
+        Err(_) => Err(LabEnding::OutOfMemory),
+    }
+}
+
+/// The script of the variant of this name.
+fn script_named(
+    alloc: Global,
+    load: &Load,
+    variants: &Variants,
+    name: &String,
+) -> Result<Vec<u8>, LabEnding>
+    ensures ok { IfOk result (λ text. IsTold (Wanted.Script name.now) load.now variants.now text.items) }
+    ensures err { IfErr result (EndsAtTelling (Wanted.Script name.now) variants.now) }
+{
+    match script_of(alloc, load, variants, name.as_str()) {
+        Ok(text) => Ok(text),
+        Err(CompareFault::NoVariant) => Err(LabEnding::NoVariant),
+        Err(CompareFault::ScriptTooLong) => Err(LabEnding::ScriptTooLong),
+        Err(CompareFault::TooLong | CompareFault::OutOfMemory) => Err(LabEnding::OutOfMemory),
+    }
+}
+
+/// The whole text that is wanted.
+pub(crate) fn told(
+    alloc: Global,
+    load: &Load,
+    variants: &Variants,
+    wanted: &Wanted,
+) -> Result<Vec<u8>, LabEnding>
+    ensures ok { IfOk result (λ text. IsTold wanted.now load.now variants.now text.items) }
+    ensures err { IfErr result (EndsAtTelling wanted.now variants.now) }
+{
+    match wanted {
+        Wanted::Table(form) => table_of(alloc, load, variants, *form),
+        Wanted::Script(name) => script_named(alloc, load, variants, name),
+    }
+}
+
+/// Writes a text, and flushes it.
+pub(crate) fn put<W: Write + Drop>(writer: &mut BufWriter<W>, text: &[u8]) -> LabEnding
+    ensures ends { (result ≡ LabEnding.Finished) ⊎ (result ≡ LabEnding.Unwritten) }
+    ensures wrote { result ≡ LabEnding.Finished
+        → Appends (writer_contents W.contents writer.old) (writer_contents W.contents writer.new) text.now }
+    ensures flushed { result ≡ LabEnding.Finished → writer_buffer writer.new ≡ [] }
+{
+    if writer.write_all(text).is_err() {
+        return LabEnding::Unwritten;
+    }
+    match writer.flush() {
+        Ok(()) => LabEnding::Finished,
+        Err(_) => LabEnding::Unwritten,
+    }
+}

@@ -1,0 +1,80 @@
+//! A load that is tried, from its text to what is written of it.
+
+ghost use Rattle.std.specs.Prelude.{◌≡◌, ◌⊎◌, [], Some, None, IfSome};
+ghost use Rattle.std.specs.Io.Buffered.{writer_buffer, writer_contents};
+ghost use Rattle.pc_trial.specs.Tried.{IsOfLoad, IsTried, IsWrittenOf};
+
+use crate::ending::LabEnding;
+use crate::stages::{load_in, put, told, variants_in};
+use crate::wanted::Wanted;
+use pc_load::{Load, Variants};
+use std::alloc::Global;
+use std::io::{BufWriter, Read, Write};
+
+/// Writes what is wanted of a load under these variants, and flushes it.
+fn tell<W: Write + Drop>(
+    alloc: Global,
+    load: &Load,
+    variants: &Variants,
+    wanted: &Wanted,
+    writer: &mut BufWriter<W>,
+) -> LabEnding
+    ensures told { IsWrittenOf wanted.now load.now variants.now (writer_contents W.contents writer.old)
+        (writer_contents W.contents writer.new) result }
+    ensures untouched { (result ≡ LabEnding.Finished) ⊎ (result ≡ LabEnding.Unwritten) ⊎ (writer.new ≡ writer.old) }
+    ensures behind { IsOfLoad result → ⊥ }
+    ensures flushed { result ≡ LabEnding.Finished → writer_buffer writer.new ≡ [] }
+{
+    match told(alloc, load, variants, wanted) {
+        Ok(text) => put(writer, text.as_slice()),
+        Err(ending) => ending,
+    }
+}
+
+/// Tries the load that a reader gives under the variants of its text, writes what is wanted, and flushes it.
+///
+/// Nothing is written but where it is `Finished`, or `Unwritten` by a write that failed. Else it is the first of these:
+/// `LoadUnread`; `BadLoad`, as `read_load` has the faults; `NoVariant`, `ScriptTooLong`; or want of memory.
+pub fn try_load<R: Read, W: Write + Drop>(
+    alloc: Global,
+    load: &mut R,
+    wanted: &Wanted,
+    writer: &mut BufWriter<W>,
+) -> LabEnding
+    ensures told { IfSome (R.remaining load.old)
+        (λ text. IsTried wanted.now text None (writer_contents W.contents writer.old)
+        (writer_contents W.contents writer.new) result) }
+    ensures untouched { (result ≡ LabEnding.Finished) ⊎ (result ≡ LabEnding.Unwritten) ⊎ (writer.new ≡ writer.old) }
+    ensures flushed { result ≡ LabEnding.Finished → writer_buffer writer.new ≡ [] }
+{
+    match load_in(alloc, load) {
+        Ok((load, variants)) => tell(alloc, &load, &variants, wanted, writer),
+        Err(ending) => ending,
+    }
+}
+
+/// The same under the variants of another text, which is read once the load has no fault: behind `BadLoad` it may be
+/// `VariantsUnread`, or `BadVariants` as `read_variants` has the faults.
+pub fn try_variants<R: Read, V: Read, W: Write + Drop>(
+    alloc: Global,
+    load: &mut R,
+    variants: &mut V,
+    wanted: &Wanted,
+    writer: &mut BufWriter<W>,
+) -> LabEnding
+    ensures told { IfSome (R.remaining load.old) (λ text. IfSome (V.remaining variants.old)
+        (λ other. IsTried wanted.now text (Some other) (writer_contents W.contents writer.old)
+        (writer_contents W.contents writer.new) result)) }
+    ensures in_order { IsOfLoad result → variants.new ≡ variants.old }
+    ensures untouched { (result ≡ LabEnding.Finished) ⊎ (result ≡ LabEnding.Unwritten) ⊎ (writer.new ≡ writer.old) }
+    ensures flushed { result ≡ LabEnding.Finished → writer_buffer writer.new ≡ [] }
+{
+    let (load, _) = match load_in(alloc, load) {
+        Ok(read) => read,
+        Err(ending) => return ending,
+    };
+    match variants_in(alloc, variants) {
+        Ok(variants) => tell(alloc, &load, &variants, wanted, writer),
+        Err(ending) => ending,
+    }
+}

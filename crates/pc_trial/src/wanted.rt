@@ -1,0 +1,28 @@
+//! What is asked of the lab.
+
+ghost use Rattle.std.specs.Prelude.{option_map, string_bytes};
+ghost use Rattle.pc_trial.specs.Tried.{IsAskedBy};
+
+use pc_compare::{Form, Layout};
+
+/// What is told of a load that is tried (own).
+#[derive(Debug, Drop)]
+pub enum Wanted {
+    /// A table that compares all variants.
+    Table(Form),
+    /// What happens under the variant of this name, as a script.
+    Script(String),
+}
+
+impl Wanted {
+    /// What is wanted where these flags stand: where a script is named they change nothing.
+    pub fn of(per_cpu: bool, csv: bool, script: Option<String>) -> Wanted
+        ensures { IsAskedBy per_cpu csv (option_map string_bytes script) result }
+    {
+        let layout = if csv { Layout::Csv } else { Layout::Table };
+        match script {
+            Some(name) => Wanted::Script(name),
+            None => Wanted::Table(Form { layout, per_cpu }),
+        }
+    }
+}
