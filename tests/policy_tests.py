@@ -242,6 +242,23 @@ class World:
         return answer
 
 
+    def mend(self, cpu: int) -> str:
+        """All queues are cleared, the agent takes all in, and picks; where nothing is ready then, it steals and picks."""
+        if self.running(cpu) is not None:
+            return "refused Busy"
+        for each in range(self.cpus):
+            self.publish(each, False)
+            self.consume(each)
+        for delta in range(len(self.deltas)):
+            self.deliver(cpu, delta)
+        answer = self.pick(cpu, self.posts[cpu])
+        if not answer.startswith("ok"):
+            self.steal(cpu)
+            answer = self.pick(cpu, self.posts[cpu])
+        self.counts["mends"] += answer.startswith("ok")
+        return answer
+
+
 class Drawn:
     """A script that is drawn, and what the model answers to each of its lines."""
 
@@ -280,6 +297,7 @@ class Drawn:
         deeds: list[tuple[int, Callable[[int, int], None]]] = [
             (6, self.new), (8, self.leaves), (6, self.raises), (3, self.wakes), (2, self.masks), (10, self.takes_in), (14, self.picks),
             (10, self.steals), (8, self.tells), (3, self.answers_other), (2, self.crashes), (2, self.moves), (2, self.ticks), (1, self.late),
+            (1, self.mends),
         ]
         deed = self.chance.choices([deed for _, deed in deeds], [weight for weight, _ in deeds])[0]
         deed(cpu, other)
@@ -324,6 +342,9 @@ class Drawn:
         self.say(f"publish {cpu}{' fail' if fails else ''}", self.world.publish(cpu, fails))
         if self.chance.random() < 0.7:
             self.say(f"consume {cpu}", self.world.consume(cpu))
+
+    def mends(self, cpu: int, other: int) -> None:
+        self.say(f"mend {cpu}", self.world.mend(cpu))
 
     def picks(self, cpu: int, other: int) -> None:
         """Mostly with the count of now, and mostly on an idle CPU."""
@@ -397,7 +418,7 @@ def fault_of(program: pathlib.Path, order: str, exact: bool, scripts: int) -> st
     counts: Counter[str] = Counter()
     for _, more in told:
         counts += more
-    wanted = ["picks", "steals", *(["order"] if order != "levels" else []), *(["other steals"] if exact else [])]
+    wanted = ["picks", "steals", "mends", *(["order"] if order != "levels" else []), *(["other steals"] if exact else [])]
     rare = [what for what in wanted if counts[what] * 4 < scripts]
     return f"too few of {rare}: {dict(counts)}" if rare else None
 
