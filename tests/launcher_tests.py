@@ -733,15 +733,25 @@ class Launcher(unittest.TestCase):
     def test_the_gate_compares_the_released_program_with_the_one_that_it_built(self):
         self.put_release()
         compare = lambda: self.ended(self.begin("--compare", command="tools/released"))[:2]
+        sums = lambda: (self.tree / "release/SUMS").read_text().split()
+        told = lambda out: re.fullmatch(r"released: of sources with the sum (\w{64}) a program with the sum (\w{64}) was built", out.splitlines()[0])
+        none = ["released: release/ has no program of these sources", "0 passed, 0 failed"]
         self.assertEqual(self.run_it(PC_SIM_BUILD="1")[0], 0)
-        self.assertEqual(compare(), (0, "1 passed, 0 failed\n"))
+        status, out = compare()
+        self.assertEqual((status, out.splitlines()[1:]), (0, ["1 passed, 0 failed"]))
+        self.assertEqual(told(out).groups(), (sums()[0], sums()[2]))
         self.program.write_text(PROGRAM + "# other\n")
         status, out = compare()
         self.assertEqual((status, out.splitlines()[-1]), (1, "0 passed, 1 failed"))
+        self.assertEqual(told(out)[1], sums()[0])
+        self.assertNotEqual(told(out)[2], sums()[2])
         (self.tree / "crates/left/src/lib.rt").write_text("// left!\n")
-        self.assertEqual(compare(), (0, "released: release/ has no program of these sources\n0 passed, 0 failed\n"))
+        status, out = compare()
+        self.assertEqual((status, out.splitlines()[1:]), (0, none))
+        self.assertNotEqual(told(out)[1], sums()[0])
         shutil.rmtree(self.tree / "release")
-        self.assertEqual(compare(), (0, "released: release/ has no program of these sources\n0 passed, 0 failed\n"))
+        status, out = compare()
+        self.assertEqual((status, out.splitlines()[1:]), (0, none))
 
     # What is handed through
 
