@@ -189,8 +189,8 @@ macro_rules! troubles {
 
 /// Puts the command of this verb whose fields are the words that are left into the place. Answers whether there is one.
 ///
-/// The place is the caller's, and stays where it is. A command that is handed on as a value is put together from the
-/// fields of all commands wherever their kinds meet.
+/// The place is the caller's, and stays where it is: a command that were handed on as a value would be put together
+/// from the fields of all commands at once, wherever the kinds of commands meet.
 #[inline(always)]
 fn read_as(verb: Verb, words: &mut Words<'_>, place: &mut Command) -> bool
     ensures { MatchBool result (Spells (name_of verb ∷ words_left words.old) place.new)
