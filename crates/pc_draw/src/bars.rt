@@ -1,8 +1,11 @@
 //! The bars of a script's picture: what each row of each lane shows, column by column.
+//!
+//! Up to 1,000 steps each has its own: on an axis of ticks several may stand in one column, and what lasts for no tick
+//! is not shown. Of more steps a column is counted, by its steps or, on an axis of ticks, by its ticks.
 
 use crate::lanes::{Lane, MOST_LANES, Scene};
 use crate::layout::Layout;
-use crate::rows::{FIFTHS, ROWS, Row, Strip, draw_strip, height_of};
+use crate::rows::{Edge, FIFTHS, ROWS, Row, Strip, draw_strip, height_of};
 use crate::step::{Answer, Step};
 use pc_calls::{Event, Reply};
 use pc_messages::Cpu;
@@ -12,12 +15,12 @@ use pc_script::Command;
 /// How many rows all lanes have.
 const MOST_STRIPS: usize = MOST_LANES * ROWS.len();
 
-/// What happened at a CPU in one column.
+/// What happened at a CPU in one column, or in one step. What goes on lasts a step, or for some ticks.
 #[derive(Clone, Copy)]
 struct Tally {
-    /// In how many steps a thread ran.
-    busy: u32,
-    /// The thread of the last step in which one ran.
+    /// In how many steps, or ticks, a thread ran.
+    busy: u64,
+    /// The thread that ran last.
     thread: u32,
     /// Whether another one ran before it.
     is_mixed: bool,
@@ -25,11 +28,11 @@ struct Tally {
     waits: u32,
     /// The most items in the queue.
     items: u32,
-    /// In how many steps nobody ran there while threads waited.
-    idle: u32,
-    /// The most threads that waited anywhere in such a step.
+    /// In how many steps, or ticks, nobody ran there while threads waited.
+    idle: u64,
+    /// The most threads that waited anywhere meanwhile.
     elsewhere: u32,
-    /// Whether the agent slept after some step.
+    /// Whether the agent slept for some of it.
     is_asleep: bool,
     posts: u32,
     deltas: u32,
@@ -56,11 +59,10 @@ const NOTHING: Tally = Tally {
 /// A row that shows nothing yet.
 const BLANK: Strip = Strip {
     value: 0,
-    since: 0,
     line: 0,
-    least: 0,
+    place: 0,
     most: 0,
-    total: 0,
+    least_or_sum: 0,
 };
 
 /// What a row shows in a column: a value, which lasts as long as it is the same, and a count for its title.
@@ -72,8 +74,8 @@ struct Shown {
 
 /// The bars so far.
 #[derive(Drop)]
-pub(crate) struct Bars {
-    layout: Layout,
+pub(crate) struct Bars<'t> {
+    layout: Layout<'t>,
     strips: [Strip; MOST_STRIPS],
     tallies: [Tally; MOST_LANES],
     /// The column that is being counted, its steps so far, and its first and last line.
@@ -81,6 +83,8 @@ pub(crate) struct Bars {
     steps: u32,
     first: u32,
     last: u32,
+    /// On an axis of ticks, how many the last step is behind the first.
+    behind: u64,
 }
 
 /// A count as it is shown: itself, or where a column is of several steps the height of its bar.
@@ -114,19 +118,19 @@ fn shown_if(is_shown: bool, most: u32) -> Shown {
 }
 
 impl Tally {
-    /// Counts what goes on at the CPU after a step.
-    fn count(&mut self, lane: &Lane, elsewhere: u32) {
+    /// Counts what goes on at the CPU, for so many steps or ticks.
+    fn count(&mut self, lane: &Lane, elsewhere: u32, length: u64) {
         match lane.runs {
             Some(thread) => {
                 if self.busy > 0 && self.thread != thread {
                     self.is_mixed = true;
                 }
                 self.thread = thread;
-                self.busy = self.busy.saturating_add(1);
+                self.busy = self.busy.saturating_add(length);
             }
             None => {
                 if elsewhere > 0 {
-                    self.idle = self.idle.saturating_add(1);
+                    self.idle = self.idle.saturating_add(length);
                     self.elsewhere = self.elsewhere.max(elsewhere);
                 }
             }
@@ -136,32 +140,37 @@ impl Tally {
         self.is_asleep |= lane.is_asleep;
     }
 
-    /// Who ran: a thread that did in every step of the column, or the busy fifths of the column, rounded.
-    fn runs(&self, steps: u32) -> Shown {
+    /// Who ran: a thread that did all of the column's length, or the busy fifths of it, rounded.
+    fn runs(&self, length: u64) -> Shown {
         if self.busy == 0 {
             return Shown { value: 0, most: 0 };
         }
-        if self.busy >= steps && !self.is_mixed {
+        if self.busy >= length && !self.is_mixed {
             let value = self.thread.saturating_add(FIFTHS + 1);
             return Shown { value, most: 0 };
         }
-        let doubled = self.busy.saturating_mul(2 * FIFTHS).saturating_add(steps);
+        let most = u64::from(FIFTHS);
+        let doubled = self
+            .busy
+            .saturating_mul(2)
+            .saturating_mul(most)
+            .saturating_add(length);
         let fifths = doubled
-            .checked_div(steps.saturating_mul(2))
-            .unwrap_or(FIFTHS);
+            .checked_div(length.saturating_mul(2))
+            .unwrap_or(most);
         Shown {
-            value: fifths.clamp(1, FIFTHS),
+            value: u32::try_from(fifths.clamp(1, most)).unwrap_or(FIFTHS),
             most: 0,
         }
     }
 
-    /// What a row shows of a column of so many steps.
-    fn shown(&self, row: Row, steps: u32, is_dense: bool) -> Shown {
+    /// What a row shows of a column of so many steps, or ticks.
+    fn shown(&self, row: Row, length: u64, is_dense: bool) -> Shown {
         match row {
             Row::Asleep => shown_if(self.is_asleep, 0),
-            Row::Runs => self.runs(steps),
+            Row::Runs => self.runs(length),
             Row::Idle => shown_if(
-                self.idle > 0 && self.idle.saturating_mul(2) >= steps,
+                self.idle > 0 && self.idle.saturating_mul(2) >= length,
                 self.elsewhere,
             ),
             Row::Waits => counted(self.waits, is_dense),
@@ -174,9 +183,9 @@ impl Tally {
     }
 }
 
-impl Bars {
+impl<'t> Bars<'t> {
     /// Before the first step.
-    pub(crate) fn new(layout: Layout) -> Bars {
+    pub(crate) fn new(layout: Layout<'t>) -> Bars<'t> {
         Bars {
             layout,
             strips: [BLANK; MOST_STRIPS],
@@ -185,52 +194,123 @@ impl Bars {
             steps: 0,
             first: 0,
             last: 0,
+            behind: 0,
         }
     }
 
-    /// Takes a step that is drawn, after which this goes on, and draws the bars that end before its column.
-    pub(crate) fn take(&mut self, index: u32, step: &Step, scene: &Scene, canvas: &mut Canvas) {
+    /// Goes on to a step that is drawn, up to which this went on, and draws the bars that end before it.
+    pub(crate) fn reach(&mut self, index: u32, scene: &Scene, canvas: &mut Canvas) {
         let column = self.layout.column_of(index);
-        if column != self.column {
+        let behind = self.layout.behind(index);
+        if self.layout.counts_ticks() {
+            self.pass(column, behind, scene, canvas);
+        } else if column != self.column || (self.steps > 0 && !self.layout.is_dense) {
             self.end_column(canvas);
-            self.column = column;
-            self.steps = 0;
-            self.tallies = [NOTHING; MOST_LANES];
+            self.begin_column(column);
         }
+        self.behind = behind;
+    }
+
+    /// Counts the ticks up to this one, which is of this column, and draws the bars that end before that.
+    fn pass(&mut self, column: u32, behind: u64, scene: &Scene, canvas: &mut Canvas) {
+        if column != self.column {
+            self.end_ticks(scene, canvas);
+            // What no step interrupts is one column, however wide.
+            let between = self.column.saturating_add(1);
+            if between < column {
+                self.begin_column(between);
+                self.first = self.last;
+                let length = self.length();
+                self.count(scene, length);
+                self.end_column(canvas);
+            }
+            self.begin_column(column);
+            self.behind = self.layout.ticks_before(column);
+        }
+        let length = behind.saturating_sub(self.behind);
+        self.count(scene, length);
+    }
+
+    /// Counts the ticks up to the end of the column, and ends it.
+    fn end_ticks(&mut self, scene: &Scene, canvas: &mut Canvas) {
+        let end = self.layout.ticks_before(self.column.saturating_add(1));
+        let length = end.saturating_sub(self.behind);
+        self.count(scene, length);
+        self.end_column(canvas);
+    }
+
+    /// Takes a step that is drawn, after which this goes on.
+    pub(crate) fn take(&mut self, step: &Step, scene: &Scene) {
         if self.steps == 0 {
             self.first = step.number;
         }
         self.last = step.number;
         self.steps = self.steps.saturating_add(1);
-        self.count(scene);
+        if !self.layout.counts_ticks() {
+            self.count(scene, 1);
+        }
         self.count_step(step);
     }
 
-    /// Draws the bars that last to the end.
-    pub(crate) fn end(&mut self, canvas: &mut Canvas) {
+    /// Draws the bars that last to the end, up to which this goes on.
+    pub(crate) fn end(&mut self, scene: &Scene, canvas: &mut Canvas) {
         if self.steps > 0 {
-            self.end_column(canvas);
+            if self.layout.counts_ticks() {
+                self.end_ticks(scene, canvas);
+            } else {
+                self.end_column(canvas);
+            }
         }
         self.column = self.layout.columns;
         self.first = self.last;
+        let edge = self.edge(self.layout.span);
         let mut place = 0usize;
         for lane in 0..self.layout.lanes {
             let cpu = self.layout.first_cpu.saturating_add(lane);
             for row in &ROWS {
-                self.show(place, cpu, *row, Shown { value: 0, most: 0 }, canvas);
+                self.show(place, cpu, *row, Shown { value: 0, most: 0 }, &edge, canvas);
                 place = place.saturating_add(1);
             }
         }
     }
 
-    /// Counts what goes on.
-    fn count(&mut self, scene: &Scene) {
+    /// Begins to count a column.
+    fn begin_column(&mut self, column: u32) {
+        self.column = column;
+        self.steps = 0;
+        self.tallies = [NOTHING; MOST_LANES];
+    }
+
+    /// How many steps, or ticks, the column has that is being counted.
+    fn length(&self) -> u64 {
+        if self.layout.counts_ticks() {
+            let end = self.layout.ticks_before(self.column.saturating_add(1));
+            end.saturating_sub(self.layout.ticks_before(self.column))
+        } else {
+            u64::from(self.steps)
+        }
+    }
+
+    /// Where a bar begins, or ends, at the column that is being counted, and so many ticks behind the first.
+    fn edge(&self, behind: u64) -> Edge {
+        Edge {
+            column: self.column,
+            line: self.first,
+            behind,
+        }
+    }
+
+    /// Counts what goes on for so many steps, or ticks.
+    fn count(&mut self, scene: &Scene, length: u64) {
+        if length == 0 {
+            return;
+        }
         let waits = scene.waits();
         let cpus = self.layout.cpus as usize;
         let mut cpu = 0usize;
         for tally in self.tallies.iter_mut() {
             if cpu < cpus {
-                tally.count(&scene.lane(cpu), waits);
+                tally.count(&scene.lane(cpu), waits, length);
             }
             cpu = cpu.saturating_add(1);
         }
@@ -282,8 +362,13 @@ impl Bars {
 
     /// Ends the column: draws each bar that does not go on in it.
     fn end_column(&mut self, canvas: &mut Canvas) {
-        let steps = self.steps;
+        let length = self.length();
         let is_dense = self.layout.is_dense;
+        let edge = if self.layout.counts_ticks() {
+            self.edge(self.layout.ticks_before(self.column))
+        } else {
+            self.edge(self.behind)
+        };
         let mut place = 0usize;
         for lane in 0..self.layout.lanes {
             let cpu = self.layout.first_cpu.saturating_add(lane);
@@ -292,35 +377,43 @@ impl Bars {
                 None => NOTHING,
             };
             for row in &ROWS {
-                let shown = tally.shown(*row, steps, is_dense);
-                self.show(place, cpu, *row, shown, canvas);
+                let shown = tally.shown(*row, length, is_dense);
+                self.show(place, cpu, *row, shown, &edge, canvas);
                 place = place.saturating_add(1);
             }
         }
     }
 
-    /// A row shows this in the column.
-    fn show(&mut self, place: usize, cpu: u32, row: Row, shown: Shown, canvas: &mut Canvas) {
-        let since = self.column;
-        let line = self.first;
+    /// A row shows this from there on.
+    fn show(
+        &mut self,
+        place: usize,
+        cpu: u32,
+        row: Row,
+        shown: Shown,
+        edge: &Edge,
+        canvas: &mut Canvas,
+    ) {
         let Some(strip) = self.strips.get_mut(place) else {
             return;
         };
         if strip.value == shown.value {
-            strip.least = strip.least.min(shown.most);
             strip.most = strip.most.max(shown.most);
-            strip.total = strip.total.saturating_add(shown.most);
+            strip.least_or_sum = if row.adds_up() {
+                strip.least_or_sum.saturating_add(shown.most)
+            } else {
+                strip.least_or_sum.min(shown.most)
+            };
             return;
         }
         let old = *strip;
         *strip = Strip {
             value: shown.value,
-            since,
-            line,
-            least: shown.most,
+            line: edge.line,
+            place: edge.place(&self.layout),
             most: shown.most,
-            total: shown.most,
+            least_or_sum: shown.most,
         };
-        draw_strip(canvas, &self.layout, cpu, row, &old, since, line);
+        draw_strip(canvas, &self.layout, cpu, row, &old, edge);
     }
 }

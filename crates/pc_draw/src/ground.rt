@@ -2,13 +2,17 @@
 
 use crate::layout::{LEFT, Layout};
 use crate::step::{Step, Story};
+use crate::ticks::Scale;
 use crate::words::{FaultLine, Of};
 use pc_pen::{Canvas, HEADING, SMALL, background, stroke, words};
 use pc_script::Outcome;
 use std::fmt::Write;
 
-/// The room that a number on the axis needs.
+/// The room that a number on the axis needs, where it has up to seven digits.
 const LABEL: u32 = 56;
+
+/// The room that a digit needs.
+const DIGIT: u32 = 7;
 
 /// The most numbers on the axis.
 const MOST_LABELS: u32 = 80;
@@ -20,7 +24,7 @@ const DISTANCES: [u32; 22] = [
 ];
 
 /// Draws the ground of a script's picture, of which these steps are drawn: its words, its lanes, and its axis.
-pub(crate) fn draw_ground(canvas: &mut Canvas, layout: &Layout, story: &Story, steps: &[Step]) {
+pub(crate) fn draw_ground(canvas: &mut Canvas, layout: &Layout<'_>, story: &Story, steps: &[Step]) {
     background(canvas, layout.width(), layout.height());
     canvas.done();
     head_words(canvas, layout, story);
@@ -28,38 +32,40 @@ pub(crate) fn draw_ground(canvas: &mut Canvas, layout: &Layout, story: &Story, s
     for lane in 0..layout.lanes {
         lane_ground(canvas, layout, layout.first_cpu.saturating_add(lane));
     }
-    axis(canvas, layout, steps);
+    match layout.scale {
+        Scale::Ticks(_) => tick_axis(canvas, layout),
+        _ => axis(canvas, layout, steps),
+    }
     fault(canvas, layout, story.outcome);
 }
 
 /// The words on top.
-fn head_words(canvas: &mut Canvas, layout: &Layout, story: &Story) {
+fn head_words(canvas: &mut Canvas, layout: &Layout<'_>, story: &Story) {
     words(canvas, 8, 20, HEADING);
     let summary = story.summary();
     let _ = write!(canvas, "{summary}");
     canvas.done();
     words(canvas, 8, 38, SMALL);
-    if layout.is_dense {
-        let each = layout
-            .steps
-            .saturating_add(layout.columns.saturating_sub(1))
-            .checked_div(layout.columns)
-            .unwrap_or(1);
-        let _ = write!(
+    let (axis, unit) = match layout.scale {
+        Scale::Lines => ("Lines of the script from left to right", "command"),
+        Scale::NoTick => ("No line \"# at TICK\": lines from left to right", "command"),
+        Scale::Ticks(_) => ("Axis: ticks, from left to right", "tick"),
+    };
+    let _ = match layout.most_in_column() {
+        Some(most) => write!(
             canvas,
-            "Lines of the script from left to right; a column is of up to {each} commands. A lane for each CPU."
-        );
-    } else {
-        let _ = write!(
+            "{axis}; a column is of up to {most} {unit}s. A lane for each CPU."
+        ),
+        None => write!(
             canvas,
-            "Lines of the script from left to right, a column for each command. A lane for each CPU."
-        );
-    }
+            "{axis}, a column for each {unit}. A lane for each CPU."
+        ),
+    };
     canvas.done();
 }
 
 /// The words that tell which part is drawn, where it is not all.
-fn part_words(canvas: &mut Canvas, layout: &Layout) {
+fn part_words(canvas: &mut Canvas, layout: &Layout<'_>) {
     if layout.part.is_all() {
         return;
     }
@@ -70,7 +76,7 @@ fn part_words(canvas: &mut Canvas, layout: &Layout) {
 }
 
 /// The name of a CPU's lane, and of its rows.
-fn lane_ground(canvas: &mut Canvas, layout: &Layout, cpu: u32) {
+fn lane_ground(canvas: &mut Canvas, layout: &Layout<'_>, cpu: u32) {
     let y = layout.lane_top(cpu);
     let end = layout.x(layout.columns);
     stroke(canvas, 4, y, end, y, "stroke=\"#bbb\"");
@@ -102,7 +108,7 @@ fn row_name(canvas: &mut Canvas, y: u32, name: &str) {
 }
 
 /// How many steps lie between two numbers of the axis.
-fn distance(layout: &Layout) -> u32 {
+fn distance(layout: &Layout<'_>) -> u32 {
     for steps in DISTANCES {
         let room = layout.x(layout.column_of(steps)).saturating_sub(LEFT);
         if room >= LABEL {
@@ -113,40 +119,116 @@ fn distance(layout: &Layout) -> u32 {
 }
 
 /// The numbers of the lines, and thin lines at their steps.
-fn axis(canvas: &mut Canvas, layout: &Layout, steps: &[Step]) {
+fn axis(canvas: &mut Canvas, layout: &Layout<'_>, steps: &[Step]) {
     let distance = distance(layout);
-    let top = layout.top();
-    let bottom = layout.bottom();
     for label in 0..MOST_LABELS {
         let index = label.saturating_mul(distance);
         let Some(step) = steps.get(index as usize) else {
             return;
         };
-        let x = layout.middle(index);
-        let number = step.number;
-        stroke(
-            canvas,
-            x,
-            top.saturating_sub(4),
-            x,
-            bottom,
-            "stroke=\"#ddd\"",
-        );
-        let _ = write!(canvas, "line {number}");
-        canvas.done();
-        words(
-            canvas,
-            x.saturating_sub(3),
-            top.saturating_sub(8),
-            "font-size=\"10\" fill=\"#444\"",
-        );
-        let _ = write!(canvas, "{number}");
-        canvas.done();
+        let number = u64::from(step.number);
+        label_at(canvas, layout, layout.middle(index), "line", number);
+    }
+}
+
+/// A number of the axis, and a thin line under it whose title tells what it counts.
+fn label_at(canvas: &mut Canvas, layout: &Layout<'_>, x: u32, unit: &str, number: u64) {
+    let top = layout.top();
+    stroke(
+        canvas,
+        x,
+        top.saturating_sub(4),
+        x,
+        layout.bottom(),
+        "stroke=\"#ddd\"",
+    );
+    let _ = write!(canvas, "{unit} {number}");
+    canvas.done();
+    words(
+        canvas,
+        x.saturating_sub(3),
+        top.saturating_sub(8),
+        "font-size=\"10\" fill=\"#444\"",
+    );
+    let _ = write!(canvas, "{number}");
+    canvas.done();
+}
+
+/// How many digits a number has in decimal.
+fn digits(number: u64) -> u32 {
+    let mut rest = number / 10;
+    let mut count = 1u32;
+    for _ in 0..19 {
+        if rest > 0 {
+            rest /= 10;
+            count = count.saturating_add(1);
+        }
+    }
+    count
+}
+
+/// The room that a number of an axis of ticks needs.
+fn room_of_ticks(layout: &Layout<'_>) -> u32 {
+    let last = layout.first_tick.saturating_add(layout.span);
+    let room = digits(last)
+        .saturating_mul(DIGIT)
+        .saturating_add(DIGIT)
+        .max(LABEL);
+    // Where columns are of several ticks, two numbers may be a column nearer to each other than others are.
+    match layout.most_in_column() {
+        Some(_) => room.saturating_add(layout.column_width),
+        None => room,
+    }
+}
+
+/// How many ticks lie between two numbers of the axis: 1, 2 or 5 times a power of ten.
+fn tick_distance(layout: &Layout<'_>) -> u64 {
+    let wanted = room_of_ticks(layout);
+    let mut power = 1u64;
+    for _ in 0..19 {
+        for factor in [1u64, 2, 5] {
+            let ticks = power.saturating_mul(factor);
+            let column = layout.column_behind(ticks);
+            if layout.x(column).saturating_sub(LEFT) >= wanted {
+                return ticks;
+            }
+        }
+        power = power.saturating_mul(10);
+    }
+    power
+}
+
+/// How many ticks the first round number is behind the first tick; none where that is past the last tick.
+fn first_label(layout: &Layout<'_>, distance: u64) -> u64 {
+    let rest = layout.first_tick.checked_rem(distance).unwrap_or(0);
+    if rest == 0 {
+        return 0;
+    }
+    let behind = distance.saturating_sub(rest);
+    if behind > layout.span { 0 } else { behind }
+}
+
+/// The ticks at round numbers, and thin lines at their columns; where there is no round number, the first tick.
+fn tick_axis(canvas: &mut Canvas, layout: &Layout<'_>) {
+    if layout.steps == 0 {
+        return;
+    }
+    row_name(canvas, layout.top().saturating_sub(8), "tick");
+    let distance = tick_distance(layout);
+    let mut behind = first_label(layout, distance);
+    for _ in 0..MOST_LABELS {
+        let x = layout.middle_at(layout.column_behind(behind));
+        let tick = layout.first_tick.saturating_add(behind);
+        label_at(canvas, layout, x, "tick", tick);
+        behind = match behind.checked_add(distance) {
+            Some(next) if next <= layout.span => next,
+            _ => return,
+        };
     }
 }
 
 /// The line that is a fault, where it is of the part that is drawn.
-fn fault(canvas: &mut Canvas, layout: &Layout, outcome: Outcome) {
+fn fault(canvas: &mut Canvas, layout: &Layout<'_>, outcome: Outcome) {
     let Outcome::FaultLine(number) = outcome else {
         return;
     };

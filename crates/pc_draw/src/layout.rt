@@ -1,12 +1,14 @@
 //! Where things stand in the picture of a script, in pixels.
 //!
 //! Steps go from left to right, each in a column of its own up to [`MOST_SINGLE`] of them; beyond, a column is of
-//! several steps. CPUs have lanes, one under another.
+//! several steps. On an axis of ticks they stand in the column of their tick, and a column is of several ticks where
+//! there are more ticks than columns. CPUs have lanes, one under another.
 
 use crate::legend::legend_height;
 use crate::part::{Interval, Part};
+use crate::ticks::Scale;
 
-/// The most steps that have a column each.
+/// The most steps, or ticks, that have a column each.
 const MOST_SINGLE: u32 = 1_000;
 
 /// The most steps of which no column is made wider to keep the picture small.
@@ -38,8 +40,12 @@ const LEAST_WIDTH: u32 = 720;
 
 /// The sizes of a script's picture.
 #[derive(Clone, Copy)]
-pub(crate) struct Layout {
+pub(crate) struct Layout<'t> {
     pub(crate) part: Part,
+    pub(crate) scale: Scale<'t>,
+    /// On an axis of ticks the first tick that is drawn, and how many ticks the last is behind it.
+    pub(crate) first_tick: u64,
+    pub(crate) span: u64,
     /// How many CPUs there are.
     pub(crate) cpus: u32,
     /// The CPU of the first lane.
@@ -53,37 +59,52 @@ pub(crate) struct Layout {
     pub(crate) columns: u32,
     /// The width of a column.
     pub(crate) column_width: u32,
-    /// Whether a column is of several steps.
+    /// Whether there are so many steps that they are counted column by column.
     pub(crate) is_dense: bool,
 }
 
-impl Layout {
-    /// The sizes for a part that has so many steps, behind so many others, where there are so many CPUs.
-    pub(crate) fn of(part: Part, first_step: u32, steps: u32, cpus: u32) -> Layout {
+impl<'t> Layout<'t> {
+    /// The sizes for a part that has so many steps, behind so many others, where there are so many CPUs. They stand by
+    /// this.
+    pub(crate) fn of(
+        part: Part,
+        scale: Scale<'t>,
+        first_step: u32,
+        steps: u32,
+        cpus: u32,
+    ) -> Layout<'t> {
         let first_cpu = part.cpus.map_or(0, |numbers| numbers.first);
         let lanes = lanes_of(part.cpus, cpus);
-        let columns = columns_of(steps, lanes);
-        let fitting = STEPS_WIDTH.checked_div(columns).unwrap_or(1);
-        let column_width = if steps <= MOST_SINGLE {
-            fitting.clamp(4, 24)
-        } else {
-            fitting.clamp(1, 24)
+        let (first_tick, span) = ticks_drawn(scale);
+        let units = match scale {
+            Scale::Ticks(_) => count_of_ticks(steps, span),
+            _ => steps,
+        };
+        let columns = match scale {
+            Scale::Ticks(_) => units.min(most_columns(steps, lanes)),
+            _ => columns_of(steps, lanes),
         };
         Layout {
             part,
+            scale,
+            first_tick,
+            span,
             cpus,
             first_cpu,
             lanes,
             first_step,
             steps,
             columns,
-            column_width,
+            column_width: width_of(units, columns),
             is_dense: steps > MOST_SINGLE,
         }
     }
 
     /// The column of a step.
     pub(crate) fn column_of(&self, step: u32) -> u32 {
+        if let Scale::Ticks(_) = self.scale {
+            return self.column_behind(self.behind(step));
+        }
         if !self.is_dense {
             return step;
         }
@@ -92,15 +113,75 @@ impl Layout {
         u32::try_from(column).unwrap_or(self.columns)
     }
 
+    /// How many ticks a step is behind the first one; on an axis of lines 0.
+    pub(crate) fn behind(&self, step: u32) -> u64 {
+        match self.scale {
+            Scale::Ticks(ticks) => {
+                let tick = ticks.get(step as usize).copied().unwrap_or(0);
+                tick.saturating_sub(self.first_tick)
+            }
+            _ => 0,
+        }
+    }
+
+    /// How many ticks there are from the first that is drawn to the last, with both.
+    fn ticks(&self) -> u128 {
+        u128::from(self.span).saturating_add(1)
+    }
+
+    /// The column of the tick that is so many behind the first.
+    pub(crate) fn column_behind(&self, behind: u64) -> u32 {
+        let scaled = u128::from(behind).saturating_mul(u128::from(self.columns));
+        let column = scaled.checked_div(self.ticks()).unwrap_or(0);
+        u32::try_from(column).unwrap_or(u32::MAX)
+    }
+
+    /// How many ticks are before those of a column, from the first that is drawn.
+    pub(crate) fn ticks_before(&self, column: u32) -> u64 {
+        let columns = u128::from(self.columns);
+        let scaled = self
+            .ticks()
+            .saturating_mul(u128::from(column))
+            .saturating_add(columns.saturating_sub(1));
+        let before = scaled.checked_div(columns).unwrap_or(0);
+        u64::try_from(before).unwrap_or(u64::MAX)
+    }
+
+    /// How many steps, or ticks, a column is of at most, where it may be of several.
+    pub(crate) fn most_in_column(&self) -> Option<u64> {
+        let (count, is_single) = match self.scale {
+            Scale::Ticks(_) => (self.ticks(), self.ticks() <= u128::from(self.columns)),
+            _ => (u128::from(self.steps), !self.is_dense),
+        };
+        if is_single || self.steps == 0 {
+            return None;
+        }
+        let columns = u128::from(self.columns);
+        let most = count
+            .saturating_add(columns.saturating_sub(1))
+            .checked_div(columns)
+            .unwrap_or(1);
+        Some(u64::try_from(most).unwrap_or(u64::MAX))
+    }
+
+    /// Whether what goes on is counted tick by tick in each column.
+    pub(crate) fn counts_ticks(&self) -> bool {
+        self.is_dense && matches!(self.scale, Scale::Ticks(_))
+    }
+
     /// Where a column begins.
     pub(crate) fn x(&self, column: u32) -> u32 {
         LEFT.saturating_add(column.saturating_mul(self.column_width))
     }
 
+    /// The middle of a column.
+    pub(crate) fn middle_at(&self, column: u32) -> u32 {
+        self.x(column).saturating_add(self.column_width / 2)
+    }
+
     /// The middle of a step's column.
     pub(crate) fn middle(&self, step: u32) -> u32 {
-        self.x(self.column_of(step))
-            .saturating_add(self.column_width / 2)
+        self.middle_at(self.column_of(step))
     }
 
     /// The middle of the column of a step that is counted among all of the script; of one that comes before those that
@@ -181,11 +262,45 @@ fn lanes_of(numbers: Option<Interval>, cpus: u32) -> u32 {
     }
 }
 
-/// How many columns there are.
+/// How many columns there are on an axis of lines.
 fn columns_of(steps: u32, lanes: u32) -> u32 {
     if steps <= MOST_SINGLE {
         steps
-    } else if steps <= MOST_FINE {
+    } else {
+        most_columns(steps, lanes)
+    }
+}
+
+/// The width of a column, where so many steps or ticks stand in so many columns.
+fn width_of(units: u32, columns: u32) -> u32 {
+    let fitting = STEPS_WIDTH.checked_div(columns).unwrap_or(1);
+    if units <= MOST_SINGLE {
+        fitting.clamp(4, 24)
+    } else {
+        fitting.clamp(1, 24)
+    }
+}
+
+/// The first tick that is drawn, and how many ticks the last is behind it.
+fn ticks_drawn(scale: Scale<'_>) -> (u64, u64) {
+    match scale {
+        Scale::Ticks([first, .., last]) => (*first, last.saturating_sub(*first)),
+        Scale::Ticks([only]) => (*only, 0),
+        _ => (0, 0),
+    }
+}
+
+/// How many ticks there are where so many steps are drawn, and the last tick is so many behind the first.
+fn count_of_ticks(steps: u32, span: u64) -> u32 {
+    if steps == 0 {
+        return 0;
+    }
+    u32::try_from(span.saturating_add(1)).unwrap_or(u32::MAX)
+}
+
+/// How many columns there are at most of so many steps, where each may be of several.
+fn most_columns(steps: u32, lanes: u32) -> u32 {
+    if steps <= MOST_FINE {
         STEPS_WIDTH
     } else {
         MOST_PLACES

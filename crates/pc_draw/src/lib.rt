@@ -16,7 +16,9 @@ mod record;
 mod rows;
 mod script;
 mod step;
+mod ticks;
 mod words;
 
 pub use part::{Interval, Part};
 pub use script::draw_script;
+pub use ticks::Axis;

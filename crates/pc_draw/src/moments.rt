@@ -52,8 +52,8 @@ impl Sample {
 
 /// What was shown so far.
 #[derive(Drop)]
-pub(crate) struct Moments {
-    layout: Layout,
+pub(crate) struct Moments<'t> {
+    layout: Layout<'t>,
     crashes: Sample,
     moves: Sample,
     /// How many refused commands were of no lane, where a column is of several steps.
@@ -106,7 +106,7 @@ fn crash_of(step: &Step) -> Option<u8> {
 }
 
 /// Whether a step is a crash in a lane.
-fn is_crash(layout: &Layout, step: &Step) -> bool {
+fn is_crash(layout: &Layout<'_>, step: &Step) -> bool {
     match crash_of(step) {
         Some(cpu) => layout.has_lane(u32::from(cpu)),
         None => false,
@@ -114,12 +114,12 @@ fn is_crash(layout: &Layout, step: &Step) -> bool {
 }
 
 /// Whether a CPU has a lane.
-fn has_lane(layout: &Layout, cpu: Cpu) -> bool {
+fn has_lane(layout: &Layout<'_>, cpu: Cpu) -> bool {
     layout.has_lane(u32::from(cpu.index()))
 }
 
 /// Whether a step gives a thread another home, and one of the two homes has a lane.
-fn is_move(layout: &Layout, step: &Step) -> bool {
+fn is_move(layout: &Layout<'_>, step: &Step) -> bool {
     match step.answer {
         Answer::Event(reply) => tells_move(layout, &reply, step.home),
         _ => false,
@@ -127,7 +127,7 @@ fn is_move(layout: &Layout, step: &Step) -> bool {
 }
 
 /// Whether a thread of this home is told to have another one, and one of the two has a lane.
-fn tells_move(layout: &Layout, reply: &Reply, home: Option<Cpu>) -> bool {
+fn tells_move(layout: &Layout<'_>, reply: &Reply, home: Option<Cpu>) -> bool {
     match (reply, home) {
         (Reply::Associated { queue, .. }, Some(home)) => {
             has_lane(layout, *queue) || has_lane(layout, home)
@@ -140,9 +140,9 @@ fn tells_move(layout: &Layout, reply: &Reply, home: Option<Cpu>) -> bool {
     }
 }
 
-impl Moments {
+impl<'t> Moments<'t> {
     /// Before the first of these steps, which are drawn.
-    pub(crate) fn new(layout: Layout, steps: &[Step]) -> Moments {
+    pub(crate) fn new(layout: Layout<'t>, steps: &[Step]) -> Moments<'t> {
         let mut crashes = 0u32;
         let mut moves = 0u32;
         for step in steps {

@@ -12,13 +12,14 @@ use crate::legend::draw_legend;
 use crate::moments::Moments;
 use crate::part::{Interval, Part};
 use crate::step::{Answer, Step, Story, Traces};
+use crate::ticks::Scale;
 use pc_pen::{Canvas, write_end, write_opening};
 use pc_script::{Command, Line, lines_of};
 use std::io::{self, Write};
 
 /// Writes the bars of the steps that are drawn.
 fn write_bars<W: Write>(
-    layout: &Layout,
+    layout: &Layout<'_>,
     steps: &[Step],
     traces: &Traces,
     canvas: &mut Canvas,
@@ -33,22 +34,23 @@ fn write_bars<W: Write>(
     let mut changed = 0usize;
     for step in steps {
         canvas.clear();
+        bars.reach(index, &scene, canvas);
         if let Some(changes) = traces.changes.as_slice().get(changed..step.changed) {
             scene.apply(changes);
         }
         changed = step.changed;
-        bars.take(index, step, &scene, canvas);
+        bars.take(step, &scene);
         canvas.write_to(writer)?;
         index = index.saturating_add(1);
     }
     canvas.clear();
-    bars.end(canvas);
+    bars.end(&scene, canvas);
     canvas.write_to(writer)
 }
 
 /// Writes what is shown of single steps of those that are drawn, whose lines are those of the text.
 fn write_moments<W: Write>(
-    layout: &Layout,
+    layout: &Layout<'_>,
     text: &[u8],
     steps: &[Step],
     traces: &Traces,
@@ -90,7 +92,7 @@ fn write_moments<W: Write>(
 
 /// Writes the crashes of the steps that are drawn.
 fn write_crashes<W: Write>(
-    moments: &mut Moments,
+    moments: &mut Moments<'_>,
     steps: &[Step],
     canvas: &mut Canvas,
     writer: &mut W,
@@ -109,7 +111,7 @@ fn write_crashes<W: Write>(
 
 /// Writes the marks of the steps that are drawn.
 fn write_marks<W: Write>(
-    layout: &Layout,
+    layout: &Layout<'_>,
     text: &[u8],
     story: &Story,
     steps: &[Step],
@@ -164,12 +166,13 @@ fn narrow(count: usize) -> u32 {
     u32::try_from(count).unwrap_or(u32::MAX)
 }
 
-/// Writes the picture of a part of a script's run, of which the text was.
+/// Writes the picture of a part of a script's run, of which the text was. All its steps stand by this.
 pub(crate) fn write_picture<W: Write>(
     text: &[u8],
     story: &Story,
     traces: &Traces,
     part: Part,
+    scale: Scale<'_>,
     writer: &mut W,
 ) -> io::Result<()>
     ensures { OnOk result (Pictures
@@ -179,7 +182,14 @@ pub(crate) fn write_picture<W: Write>(
     let all = story.steps.as_slice();
     let (first, end) = places_in(all, part.lines);
     let steps = all.get(first..end).unwrap_or(&[]);
-    let layout = Layout::of(part, narrow(first), narrow(steps.len()), cpus_of(all));
+    let scale = scale.of_steps(first, end);
+    let layout = Layout::of(
+        part,
+        scale,
+        narrow(first),
+        narrow(steps.len()),
+        cpus_of(all),
+    );
     write_opening(layout.width(), layout.height(), &story.summary(), writer)?;
     write_marks(&layout, text, story, steps, traces, writer)?;
     write_end(writer)

@@ -1,7 +1,8 @@
 //! The rows of a lane: what a strip of one looks like.
 
 use crate::layout::Layout;
-use crate::words::{Lines, Waiting};
+use crate::ticks::Scale;
+use crate::words::{Extent, Lines, Ticks, Waiting};
 use pc_pen::{Canvas, Count, bar, stroke, thread_bar, words};
 use std::fmt::Write;
 
@@ -26,6 +27,13 @@ pub(crate) enum Row {
     Moves,
     /// How many commands were refused, likewise.
     Refusals,
+}
+
+impl Row {
+    /// Whether a strip of it tells the counts of its columns together, and not the greatest one.
+    pub(crate) fn adds_up(self) -> bool {
+        matches!(self, Row::Posts | Row::Deltas | Row::Moves | Row::Refusals)
+    }
 }
 
 /// All rows.
@@ -53,25 +61,54 @@ pub(crate) const WAITS: &str = "fill=\"#fff\" stroke=\"#000\" stroke-dasharray=\
 /// The greatest height of a bar that shows a count.
 const MOST_HEIGHT: u32 = 10;
 
-/// What a row shows over some columns.
+/// Where a strip begins, or ends: before a column, at a line, and on an axis of ticks so many behind the first.
+#[derive(Clone, Copy)]
+pub(crate) struct Edge {
+    pub(crate) column: u32,
+    pub(crate) line: u32,
+    pub(crate) behind: u64,
+}
+
+impl Edge {
+    /// What tells the edge beside its line: the column, or on an axis of ticks how many it is behind the first.
+    pub(crate) fn place(&self, layout: &Layout<'_>) -> u64 {
+        match layout.scale {
+            Scale::Ticks(_) => self.behind,
+            _ => u64::from(self.column),
+        }
+    }
+
+    /// The edge at which a strip begins.
+    fn of(layout: &Layout<'_>, strip: &Strip) -> Edge {
+        let (column, behind) = match layout.scale {
+            Scale::Ticks(_) => (layout.column_behind(strip.place), strip.place),
+            _ => (u32::try_from(strip.place).unwrap_or(u32::MAX), 0),
+        };
+        Edge {
+            column,
+            line: strip.line,
+            behind,
+        }
+    }
+}
+
+/// What a row shows over some columns. There are hundreds of these on the stack, so it is as small as may be.
 #[derive(Clone, Copy)]
 pub(crate) struct Strip {
     /// What is shown; 0 where nothing is.
     pub(crate) value: u32,
-    /// The first column.
-    pub(crate) since: u32,
-    /// The first line.
+    /// The line and the place of the edge at which it begins.
     pub(crate) line: u32,
-    /// The least and the greatest count of its columns.
-    pub(crate) least: u32,
+    pub(crate) place: u64,
+    /// The greatest count of its columns.
     pub(crate) most: u32,
-    /// The counts of all its columns together.
-    pub(crate) total: u32,
+    /// The least count of its columns; of a row that adds up the counts of all of them together.
+    pub(crate) least_or_sum: u32,
 }
 
 /// What stands before the greatest count of a strip, where it is not that of each column.
 fn up_to(strip: &Strip) -> &'static str {
-    if strip.least < strip.most {
+    if strip.least_or_sum < strip.most {
         "up to "
     } else {
         ""
@@ -86,7 +123,7 @@ struct Span {
     /// The top of its lane.
     y: u32,
     cpu: u32,
-    lines: Lines,
+    extent: Extent,
 }
 
 /// The height of a bar that shows a count: 4 for 1, and more slowly higher than the count.
@@ -113,26 +150,57 @@ fn opacity(fifths: u32) -> &'static str {
     }
 }
 
-/// Draws a strip of a CPU's row that ends before a column, at a line.
+/// How many columns a strip is wide, which ends there: one where it lasts for some ticks of a single column, and none
+/// where it lasts for no tick.
+fn columns_of(since: &Edge, end: &Edge) -> u32 {
+    let columns = end.column.saturating_sub(since.column);
+    if since.behind < end.behind {
+        columns.max(1)
+    } else {
+        columns
+    }
+}
+
+/// Over what a strip goes.
+fn extent_of(layout: &Layout<'_>, since: &Edge, end: &Edge) -> Extent {
+    let ticks = match layout.scale {
+        Scale::Ticks(_) => Some(Ticks(
+            layout.first_tick.saturating_add(since.behind),
+            layout.first_tick.saturating_add(end.behind),
+        )),
+        _ => None,
+    };
+    Extent {
+        lines: Lines(since.line, end.line),
+        ticks,
+    }
+}
+
+/// Draws a strip of a CPU's row that ends there.
 pub(crate) fn draw_strip(
     canvas: &mut Canvas,
-    layout: &Layout,
+    layout: &Layout<'_>,
     cpu: u32,
     row: Row,
     strip: &Strip,
-    end: u32,
-    line: u32,
+    end: &Edge,
 ) {
     if strip.value == 0 {
         return;
     }
-    let x = layout.x(strip.since);
+    let since = Edge::of(layout, strip);
+    let columns = columns_of(&since, end);
+    if columns == 0 {
+        return;
+    }
+    let first = since.column;
+    let x = layout.x(first);
     let span = Span {
         x,
-        width: layout.x(end).saturating_sub(x),
+        width: layout.x(first.saturating_add(columns)).saturating_sub(x),
         y: layout.lane_top(cpu),
         cpu,
-        lines: Lines(strip.line, line),
+        extent: extent_of(layout, &since, end),
     };
     match row {
         Row::Asleep => draw_asleep(canvas, &span),
@@ -158,8 +226,8 @@ fn draw_asleep(canvas: &mut Canvas, span: &Span) {
     let y = span.y.saturating_add(1);
     bar(canvas, span.x, y, span.width, 3, "fill=\"#222\"");
     let cpu = span.cpu;
-    let lines = span.lines;
-    let _ = write!(canvas, "agent {cpu} asleep, {lines}");
+    let extent = span.extent;
+    let _ = write!(canvas, "agent {cpu} asleep, {extent}");
     canvas.done();
 }
 
@@ -176,9 +244,9 @@ fn draw_thread(canvas: &mut Canvas, span: &Span, thread: u32) {
     let y = span.y.saturating_add(8);
     let width = span.width;
     let cpu = span.cpu;
-    let lines = span.lines;
+    let extent = span.extent;
     thread_bar(canvas, x, y, width, 18, thread);
-    let _ = write!(canvas, "t{thread} on CPU {cpu}, {lines}");
+    let _ = write!(canvas, "t{thread} on CPU {cpu}, {extent}");
     canvas.done();
     if width >= room_of(thread) {
         words(
@@ -209,8 +277,8 @@ fn draw_share(canvas: &mut Canvas, span: &Span, fifths: u32) {
     bar(canvas, span.x, y, span.width, 18, opacity(fifths));
     let cpu = span.cpu;
     let share = fifths.saturating_mul(20);
-    let lines = span.lines;
-    let _ = write!(canvas, "CPU {cpu} busy about {share} %, {lines}");
+    let extent = span.extent;
+    let _ = write!(canvas, "CPU {cpu} busy about {share} %, {extent}");
     canvas.done();
 }
 
@@ -220,8 +288,8 @@ fn draw_idle(canvas: &mut Canvas, span: &Span, strip: &Strip) {
     stroke(canvas, span.x, y, to, y, IDLE);
     let waiting = Waiting(strip.most);
     let cpu = span.cpu;
-    let lines = span.lines;
-    let _ = write!(canvas, "CPU {cpu} idle while up to {waiting}, {lines}");
+    let extent = span.extent;
+    let _ = write!(canvas, "CPU {cpu} idle while up to {waiting}, {extent}");
     canvas.done();
 }
 
@@ -229,9 +297,9 @@ fn draw_waits(canvas: &mut Canvas, span: &Span, strip: &Strip) {
     count_bar(canvas, span, 40, strip.most, WAITS);
     let waiting = Waiting(strip.most);
     let cpu = span.cpu;
-    let lines = span.lines;
+    let extent = span.extent;
     let before = up_to(strip);
-    let _ = write!(canvas, "{before}{waiting} for CPU {cpu}, {lines}");
+    let _ = write!(canvas, "{before}{waiting} for CPU {cpu}, {extent}");
     canvas.done();
 }
 
@@ -240,37 +308,37 @@ fn draw_queue(canvas: &mut Canvas, span: &Span, strip: &Strip) {
     let items = Count(u64::from(strip.most), "item");
     let before = up_to(strip);
     let cpu = span.cpu;
-    let lines = span.lines;
-    let _ = write!(canvas, "{before}{items} in queue {cpu}, {lines}");
+    let extent = span.extent;
+    let _ = write!(canvas, "{before}{items} in queue {cpu}, {extent}");
     canvas.done();
 }
 
 fn draw_posts(canvas: &mut Canvas, span: &Span, strip: &Strip) {
     count_bar(canvas, span, 62, strip.most, "fill=\"#000\"");
-    let posts = Count(u64::from(strip.total), "post");
+    let posts = Count(u64::from(strip.least_or_sum), "post");
     let cpu = span.cpu;
-    let lines = span.lines;
-    let _ = write!(canvas, "{posts} to queue {cpu}, {lines}");
+    let extent = span.extent;
+    let _ = write!(canvas, "{posts} to queue {cpu}, {extent}");
     canvas.done();
 }
 
 fn draw_deltas(canvas: &mut Canvas, span: &Span, strip: &Strip) {
     let y = span.y.saturating_add(27);
     bar(canvas, span.x, y, span.width, 2, "fill=\"#777\"");
-    let deltas = Count(u64::from(strip.total), "delta");
+    let deltas = Count(u64::from(strip.least_or_sum), "delta");
     let cpu = span.cpu;
-    let lines = span.lines;
-    let _ = write!(canvas, "{deltas} taken in by agent {cpu}, {lines}");
+    let extent = span.extent;
+    let _ = write!(canvas, "{deltas} taken in by agent {cpu}, {extent}");
     canvas.done();
 }
 
 fn draw_moves(canvas: &mut Canvas, span: &Span, strip: &Strip) {
     let y = span.y.saturating_add(30);
     bar(canvas, span.x, y, span.width, 2, "fill=\"#0072B2\"");
-    let moves = Count(u64::from(strip.total), "move");
+    let moves = Count(u64::from(strip.least_or_sum), "move");
     let cpu = span.cpu;
-    let lines = span.lines;
-    let _ = write!(canvas, "{moves} of threads to queue {cpu}, {lines}");
+    let extent = span.extent;
+    let _ = write!(canvas, "{moves} of threads to queue {cpu}, {extent}");
     canvas.done();
 }
 
@@ -284,9 +352,9 @@ fn draw_refusals(canvas: &mut Canvas, span: &Span, strip: &Strip) {
         2,
         "fill=\"#fff\" stroke=\"#000\" stroke-width=\".5\"",
     );
-    let refused = Count(u64::from(strip.total), "command");
+    let refused = Count(u64::from(strip.least_or_sum), "command");
     let cpu = span.cpu;
-    let lines = span.lines;
-    let _ = write!(canvas, "{refused} refused at CPU {cpu}, {lines}");
+    let extent = span.extent;
+    let _ = write!(canvas, "{refused} refused at CPU {cpu}, {extent}");
     canvas.done();
 }

@@ -9,16 +9,18 @@ ghost use Rattle.pc_session.specs.Session.{IsSession};
 use crate::part::Part;
 use crate::picture::write_picture;
 use crate::record::Recorder;
+use crate::ticks::{Axis, Scale, ticks_along};
 use pc_script::{Outcome, ScriptFault, read_text, walk};
 use pc_session::Session;
 use std::alloc::Global;
 use std::io::{Read, Sink, Write, sink};
 
 /// Reads a script, answers its commands one after another in a session of its own, and writes a picture of this part of
-/// what happened.
+/// what happened, along this axis.
 ///
 /// The whole script is answered whatever the part, and told by the title. At the first line of a part it is drawn how
-/// things stand there.
+/// things stand there. On an axis of ticks a step's tick is that of the last line `# at TICK` above it, and 0 before
+/// any; one that is below the one before is passed over. Only then ticks are kept, one for each step.
 ///
 /// The whole script is answered, and all memory is taken, before the first byte is written. Reading and the faults are
 /// as in [`pc_script::run_script`]; a script that ends at a fault is drawn up to there. The picture is written piece by
@@ -26,6 +28,7 @@ use std::io::{Read, Sink, Write, sink};
 pub fn draw_script<R: Read, W: Write>(
     alloc: Global,
     part: Part,
+    axis: Axis,
     reader: &mut R,
     writer: &mut W,
 ) -> Result<Outcome, ScriptFault>
@@ -49,11 +52,16 @@ pub fn draw_script<R: Read, W: Write>(
         &mut recorder,
         &mut sink(),
     )?;
+    let ticks = match ticks_along(alloc, axis, text.as_slice(), &recorder.story.steps) {
+        Ok(ticks) => ticks,
+        Err(_) => return Err(ScriptFault::OutOfMemory),
+    };
     match write_picture(
         text.as_slice(),
         &recorder.story,
         &recorder.traces,
         part,
+        Scale::of(axis, ticks.as_slice()),
         writer,
     ) {
         Ok(()) => Ok(outcome),

@@ -91,6 +91,39 @@ impl fmt::Display for Lines {
     }
 }
 
+/// The ticks from one to another: `tick 12`, `ticks 12 to 20`.
+#[derive(Clone, Copy)]
+pub(crate) struct Ticks(pub(crate) u64, pub(crate) u64);
+
+impl fmt::Display for Ticks {
+    fn fmt<W: fmt::Write>(&self, f: &mut fmt::Formatter<W>) -> fmt::Result {
+        let from = self.0;
+        let to = self.1;
+        if from == to {
+            write!(f, "tick {from}")
+        } else {
+            write!(f, "ticks {from} to {to}")
+        }
+    }
+}
+
+/// Over what a bar goes: lines, and on an axis of ticks these too, as `lines 12 to 20, ticks 100 to 300`.
+#[derive(Clone, Copy)]
+pub(crate) struct Extent {
+    pub(crate) lines: Lines,
+    pub(crate) ticks: Option<Ticks>,
+}
+
+impl fmt::Display for Extent {
+    fn fmt<W: fmt::Write>(&self, f: &mut fmt::Formatter<W>) -> fmt::Result {
+        let lines = self.lines;
+        match self.ticks {
+            None => write!(f, "{lines}"),
+            Some(ticks) => write!(f, "{lines}, {ticks}"),
+        }
+    }
+}
+
 /// CPUs: `CPU 3`, `CPUs 3 to 7`.
 #[derive(Clone, Copy)]
 struct Cpus(Interval);
