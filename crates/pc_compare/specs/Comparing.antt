@@ -2,6 +2,7 @@
 use Rattle.std.specs.Prelude.{◌≡◌, ℕ, nat_abs, Bool, List, [], ◌++◌, length, map, bytes_eq}
 use Rattle.std.specs.List.{AllZip, Contains}
 use Rattle.pc_calls.specs.declared.limits.Limits.{Limits}
+use Rattle.pc_curves.specs.Waits.{IsPictureOfWaits}
 use Rattle.pc_lab.specs.Heads.{head_text}
 use Rattle.pc_lab.specs.Texts.{body_text}
 use Rattle.pc_lab.specs.Playing.{IsPlayedBy, limits_for}
@@ -41,6 +42,14 @@ pub record Compares (load : Demand) (choices : List Choice) (form : Form) (text 
   pub columns : List Column
   pub runs : AllZip (IsRunOf load) variants columns
   pub told : text ≡ text_of form load columns
+
+-- A text is a picture of the waits of such runs
+pub record Draws (load : Demand) (choices : List Choice) (text : List ℕ) : Type 0 where
+  pub variants : List Variant
+  pub chosen : map choice_of variants ≡ choices
+  pub columns : List Column
+  pub runs : AllZip (IsRunOf load) variants columns
+  pub drawn : IsPictureOfWaits columns text
 
 -- it has this name
 abbrev pub is_named : List ℕ → Choice → Bool

@@ -1,10 +1,11 @@
-//! The table of a load under variants.
+//! The table of a load under variants, and the picture of its waits.
 
 ghost use Rattle.std.specs.Prelude.{IfOk};
 ghost use Rattle.std.specs.List.{AllZip};
-ghost use Rattle.pc_compare.specs.Comparing.{Compares, IsRunOf};
+ghost use Rattle.pc_compare.specs.Comparing.{Compares, Draws, IsRunOf};
 
 use crate::fault::CompareFault;
+use pc_curves::picture_of as waits_of;
 use pc_lab::{Chronicle, play};
 use pc_load::{Load, Variant, Variants};
 use pc_table::{Column, Form, text_of};
@@ -54,5 +55,17 @@ pub fn compare(
 {
     let columns = columns_of(alloc, load, variants.as_slice())?;
     let text = text_of(alloc, load, columns.as_slice(), form)?;
+    Ok(text)
+}
+
+/// Plays the load under each variant, and draws how long threads waited in the runs, as SVG (own).
+///
+/// # Errors
+/// [`CompareFault::OutOfMemory`] and [`CompareFault::TooLong`]: then nothing was made.
+pub fn picture_of(alloc: Global, load: &Load, variants: &Variants) -> Result<Vec<u8>, CompareFault>
+    ensures { IfOk result (λ text. Draws load.now variants.now text.items) }
+{
+    let columns = columns_of(alloc, load, variants.as_slice())?;
+    let text = waits_of(alloc, columns.as_slice())?;
     Ok(text)
 }

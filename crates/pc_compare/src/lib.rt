@@ -1,14 +1,14 @@
 //! A load of the lab under variants of the policy: what the program writes of it.
 //!
-//! [`compare`] plays the load under each variant and writes the table, or CSV; [`script_of`] plays it under one, and
-//! writes the run as a script. Nothing is printed or read here.
+//! [`compare`] plays the load under each variant and writes the table, or CSV, and [`picture_of`] a picture of how long
+//! threads waited; [`script_of`] plays it under one, and writes the run as a script. Nothing is printed or read here.
 #![tactic(auto)]
 
 mod comparison;
 mod fault;
 mod script;
 
-pub use comparison::compare;
+pub use comparison::{compare, picture_of};
 pub use fault::CompareFault;
 pub use pc_table::{Form, Layout};
 pub use script::script_of;

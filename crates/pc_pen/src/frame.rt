@@ -43,6 +43,33 @@ pub fn write_opening<T: fmt::Display, W: Write>(
     write_title(title, writer)
 }
 
+/// Writes the element of a title that is given in bytes.
+fn write_title_bytes<W: Write>(title: &[u8], writer: &mut W) -> io::Result<()>
+    ensures { OnOk result (Appends (W.contents writer.old) (W.contents writer.new)
+        (codes "<title>" ++ (title.now ++ codes "</title>\n"))) }
+{
+    writer.write_all(b"<title>")?;
+    writer.write_all(title)?;
+    writer.write_all(b"</title>\n")
+}
+
+/// The same as `write_opening`, of a title that is given in bytes.
+///
+/// # Errors
+/// Those of the writer: then a part of it may be written.
+pub fn write_opening_bytes<W: Write>(
+    width: u32,
+    height: u32,
+    title: &[u8],
+    writer: &mut W,
+) -> io::Result<()>
+    ensures { OnOk result (Appends (W.contents writer.old) (W.contents writer.new)
+        (opening_text width height title.now)) }
+{
+    write_head(width, height, writer)?;
+    write_title_bytes(title, writer)
+}
+
 /// Writes what ends a picture.
 ///
 /// # Errors

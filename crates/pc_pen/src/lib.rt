@@ -12,7 +12,7 @@ mod phrases;
 mod shape;
 
 pub use canvas::Canvas;
-pub use frame::{write_end, write_opening};
+pub use frame::{write_end, write_opening, write_opening_bytes};
 pub use pen::{
     HEADING, SMALL, arrow, background, bar, bold_cross, hollow_cross, outline, stroke, thread_bar,
     words,

@@ -1,11 +1,12 @@
 -- Which waits there are, and their percentiles.
 use Rattle.std.specs.Prelude.{ℕ, ◌*◌, ◌==◌, Bool, not, ◌&&◌, ◌||◌, nat_le, List, ◌++◌, length, map, filter, Option, min}
-use Rattle.std.specs.Prelude.{true, count_by}
+use Rattle.std.specs.Prelude.{true, false, None, count_by}
 use Rattle.std.specs.Int.{div_ceil}
 use Rattle.std.specs.List.{reduce}
 use Rattle.std.specs.Option.{option_map_or}
 use Rattle.pc_lab.specs.declared.summary.Summary.{Summary}
 use Rattle.pc_lab.specs.declared.waits.Wait.{Wait}
+use Rattle.pc_table.specs.declared.figures.Figures.{Figures}
 use Rattle.pc_table.specs.declared.rows.Which.{Which}
 
 -- it is one of these waits: of the woken alone, or of all; of that level, or of each
@@ -36,3 +37,21 @@ rank_in percent count = div_ceil (percent * count) 100
 -- the percentile of these numbers; none where there are no numbers
 abbrev pub percentile : ℕ → List ℕ → Option ℕ
 percentile percent numbers = of_rank (rank_in percent (length numbers)) numbers
+
+-- every wait: of each level, and whatever it was that made its thread ready
+abbrev pub every_wait : Which
+every_wait = record { is_woken = false; level = None }
+
+-- what is told of waits in a picture: how many they are, and three percentiles of how long they lasted
+abbrev pub figures_in : List ℕ → Figures
+figures_in ticks =
+    record {
+      waits = length ticks;
+      p50 = percentile 50 ticks;
+      p90 = percentile 90 ticks;
+      p99 = percentile 99 ticks;
+    }
+
+-- the same of all waits of a run
+abbrev pub figures_of : Summary → Figures
+figures_of summary = figures_in (ticks_of every_wait summary)

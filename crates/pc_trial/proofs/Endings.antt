@@ -1,13 +1,11 @@
 -- How the lab ends at the texts of a load and of variants.
-use Rattle.std.proofs.Common.{ℕ, List, Option, Some, None, Ok, IfSome}
-use Rattle.toml.specs.Parse.{parse_document}
+use Rattle.std.proofs.Common.{ℕ, List, Option, Some, None, IfSome}
 use Rattle.pc_load.specs.declared.load.Load.{Load}
 use Rattle.pc_load.specs.declared.variant.Variants.{Variants}
-use Rattle.pc_settings.specs.LoadTexts.{ReadsLoad, ReadsVariants}
 use Rattle.pc_trial.specs.declared.ending.LabEnding.{LabEnding}
 use Rattle.pc_trial.specs.declared.ending.LabEnding.TheVariants.{Finished, LoadUnread, BadLoad, VariantsUnread, BadVariants, NoVariant, ScriptTooLong, OutOfMemory, Unwritten}
 use Rattle.pc_trial.specs.declared.wanted.Wanted.{Wanted}
-use Rattle.pc_trial.specs.Tried.{AreSpelled, EndsAtVariants, IsTried, IsWrittenOf, SpellsLoad}
+use Rattle.pc_trial.specs.Tried.{AreSpelled, EndsAtVariants, IsTried, IsWrittenOf, Lists, Spells, SpellsLoad}
 
 -- of what is spelled
 tried_spelled : (wanted : Wanted) (text : List ℕ) (other : Option (List ℕ)) (load : Load) (variants : Variants) (old new : Option (List ℕ)) (ending : LabEnding)
@@ -27,7 +25,7 @@ abbrev Tried2 : Wanted → (left others old new : Option (List ℕ)) → LabEndi
 Tried2 wanted left others old new ending = IfSome left (λ text. IfSome others (λ other. IsTried wanted text (Some other) old new ending))
 
 pub tried_other : (wanted : Wanted) (left others : Option (List ℕ)) (load : Load) (own variants : Variants) (old new : Option (List ℕ)) (ending : LabEnding)
-    → IfSome left (λ text. ReadsLoad (parse_document text) (Ok (load, own))) → IfSome others (λ text. ReadsVariants (parse_document text) (Ok variants))
+    → IfSome left (λ text. Spells text load own) → IfSome others (λ text. Lists text variants)
     → IsWrittenOf wanted load variants old new ending → Tried2 wanted left others old new ending
 tried_other wanted None others load own variants old new ending spelled listed h = tt
 tried_other wanted (Some text) None load own variants old new ending spelled listed h = tt
@@ -47,7 +45,7 @@ at_variants wanted text other old new ScriptTooLong spelled h = absurd h
 at_variants wanted text other old new Unwritten spelled h = absurd h
 
 pub others_at_variants : (wanted : Wanted) (left others : Option (List ℕ)) (load : Load) (own : Variants) (old new : Option (List ℕ)) (ending : LabEnding)
-    → IfSome left (λ text. ReadsLoad (parse_document text) (Ok (load, own))) → IfSome others (λ text. EndsAtVariants text ending) → Tried2 wanted left others old new ending
+    → IfSome left (λ text. Spells text load own) → IfSome others (λ text. EndsAtVariants text ending) → Tried2 wanted left others old new ending
 others_at_variants wanted None others load own old new ending spelled h = tt
 others_at_variants wanted (Some text) None load own old new ending spelled h = tt
 others_at_variants wanted (Some text) (Some other) load own old new ending spelled h = at_variants wanted text other old new ending (load, own, spelled) h

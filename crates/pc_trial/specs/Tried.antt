@@ -1,5 +1,5 @@
 -- What the lab wrote, by how it ended.
-use Rattle.std.specs.Prelude.{ℕ, ◌≡◌, ◌≢◌, ◌<◌, Bool, true, false, List, length, Option, Some, None, Ok, Err}
+use Rattle.std.specs.Prelude.{ℕ, ◌≡◌, ◌≢◌, ◌<◌, ◌≤◌, Bool, true, false, List, length, Option, Some, None, Ok, Err}
 use Rattle.std.specs.Prelude.{IsUtf8, string_bytes}
 use Rattle.std.specs.List.{list_any}
 use Rattle.std.specs.Option.{IsSomeAnd}
@@ -12,7 +12,7 @@ use Rattle.pc_settings.specs.declared.input.Unread.{Unread}
 use Rattle.pc_settings.specs.declared.input.Unread.TheVariants.{Failed, TooLong, NotUtf8}
 use Rattle.pc_settings.specs.declared.loads.LoadTextFault.{LoadTextFault}
 use Rattle.pc_settings.specs.declared.loads.LoadTextFault.TheVariants as fault
-use Rattle.pc_compare.specs.Comparing.{Compares, IsScriptOf, is_named}
+use Rattle.pc_compare.specs.Comparing.{Compares, Draws, IsScriptOf, is_named}
 use Rattle.pc_table.specs.declared.form.Form.{Form}
 use Rattle.pc_table.specs.declared.form.Layout.{Layout}
 use Rattle.pc_table.specs.declared.form.Layout.TheVariants as layout
@@ -20,58 +20,73 @@ use Rattle.pc_trial.specs.declared.ending.LabEnding.{LabEnding}
 use Rattle.pc_trial.specs.declared.ending.LabEnding.TheVariants.{Finished, LoadUnread, BadLoad, VariantsUnread}
 use Rattle.pc_trial.specs.declared.ending.LabEnding.TheVariants.{BadVariants, NoVariant, ScriptTooLong, OutOfMemory}
 use Rattle.pc_trial.specs.declared.ending.LabEnding.TheVariants.{Unwritten}
-use Rattle.pc_trial.specs.declared.stages.TheConstants.{MOST_LOAD}
 use Rattle.pc_trial.specs.declared.wanted.Wanted.{Wanted}
-use Rattle.pc_trial.specs.declared.wanted.Wanted.TheVariants.{Table, Script}
+use Rattle.pc_trial.specs.declared.wanted.Wanted.TheVariants.{Table, Picture, Script}
 
 -- how a table is written, as `--csv` stands there or not
 abbrev pub layout_by : Bool → Layout
 layout_by true = layout.Csv
 layout_by false = layout.Table
 
--- what is wanted by flags and the name behind `--script`: where a script is named they change nothing
-abbrev pub IsAskedBy : (per_cpu csv : Bool) → Option (List ℕ) → Wanted → Type 0
-IsAskedBy per_cpu csv None (Table form) = form ≡ record { layout = layout_by csv; per_cpu = per_cpu }
-IsAskedBy per_cpu csv (Some name) (Script given) = string_bytes given ≡ name
-IsAskedBy per_cpu csv None (Script given) = ⊥
-IsAskedBy per_cpu csv (Some name) (Table form) = ⊥
+-- what is wanted by flags and the name behind `--script`: where a script is named they change nothing, and where a
+-- picture is asked for those of the table change nothing
+abbrev pub IsAskedBy : (per_cpu csv picture : Bool) → Option (List ℕ) → Wanted → Type 0
+IsAskedBy per_cpu csv false None (Table form) = form ≡ record { layout = layout_by csv; per_cpu = per_cpu }
+IsAskedBy per_cpu csv true None Picture = Unit {0}
+IsAskedBy per_cpu csv picture (Some name) (Script given) = string_bytes given ≡ name
+IsAskedBy per_cpu csv true None (Table form) = ⊥
+IsAskedBy per_cpu csv false None Picture = ⊥
+IsAskedBy per_cpu csv picture None (Script given) = ⊥
+IsAskedBy per_cpu csv picture (Some name) (Table form) = ⊥
+IsAskedBy per_cpu csv picture (Some name) Picture = ⊥
 
--- the text that is wanted of a load under variants: the table that compares them, or the script of the named one
+-- the text that is wanted of a load under variants: the table that compares them, a picture of their waits, or the
+-- script of the named one
 abbrev pub IsTold : Wanted → Load → Variants → List ℕ → Type 0
 IsTold (Table form) load variants text = Compares load variants form text
+IsTold Picture load variants text = Draws load variants text
 IsTold (Script name) load variants text = IsScriptOf load variants (string_bytes name) text
 
--- a script is wanted
-abbrev pub IsScript : Wanted → Type 0
-IsScript (Table form) = ⊥
-IsScript (Script name) = Unit {0}
+-- a script is wanted of a variant that is there
+abbrev pub IsOfOne : Wanted → Variants → Type 0
+IsOfOne (Table form) variants = ⊥
+IsOfOne Picture variants = ⊥
+IsOfOne (Script name) variants = list_any (is_named (string_bytes name)) variants ≡ true
 
 -- a script is wanted of a variant that is not there
 abbrev pub IsOfNone : Wanted → Variants → Type 0
 IsOfNone (Table form) variants = ⊥
+IsOfNone Picture variants = ⊥
 IsOfNone (Script name) variants = list_any (is_named (string_bytes name)) variants ≡ false
 
 -- why this text was not read
 abbrev pub IsUnread : Unread → List ℕ → Type 0
 IsUnread Failed text = Unit {0}
-IsUnread TooLong text = MOST_LOAD < length text
+IsUnread TooLong text = 16777216 < length text
 IsUnread NotUtf8 text = IsUtf8 text → ⊥
+
+-- a text is read, and spells this load and these variants without a fault
+abbrev pub Spells : List ℕ → Load → Variants → Type 0
+Spells text load variants = (length text ≤ 16777216) × ReadsLoad (parse_document text) (Ok (load, variants))
+
+-- a text is read, and spells these variants without a fault
+abbrev pub Lists : List ℕ → Variants → Type 0
+Lists text variants = (length text ≤ 16777216) × ReadsVariants (parse_document text) (Ok variants)
 
 -- the load and the variants that the texts spell, without a fault: the variants of the load's own text, or of another
 abbrev pub AreSpelled : List ℕ → Option (List ℕ) → Load → Variants → Type 0
-AreSpelled text None load variants = ReadsLoad (parse_document text) (Ok (load, variants))
-AreSpelled text (Some other) load variants =
-    ((own : Variants) × ReadsLoad (parse_document text) (Ok (load, own)))
-    × ReadsVariants (parse_document other) (Ok variants)
+AreSpelled text None load variants = Spells text load variants
+AreSpelled text (Some other) load variants = ((own : Variants) × Spells text load own) × Lists other variants
 
--- the text of a load has no fault
+-- the text of a load is read, and has no fault
 abbrev pub SpellsLoad : List ℕ → Type 0
-SpellsLoad text = (load : Load) × (variants : Variants) × ReadsLoad (parse_document text) (Ok (load, variants))
+SpellsLoad text = (load : Load) × (variants : Variants) × Spells text load variants
 
 -- the lab ends at the text of the load: it cannot be read, this is its first fault, or memory was wanting
 abbrev pub EndsAtLoad : List ℕ → LabEnding → Type 0
 EndsAtLoad text (LoadUnread why) = IsUnread why text
-EndsAtLoad text (BadLoad first) = ReadsLoad (parse_document text) (Err first) × (first ≢ fault.OutOfMemory)
+EndsAtLoad text (BadLoad first) =
+    (length text ≤ 16777216) × ReadsLoad (parse_document text) (Err first) × (first ≢ fault.OutOfMemory)
 EndsAtLoad text OutOfMemory = Unit {0}
 EndsAtLoad text Finished = ⊥
 EndsAtLoad text (VariantsUnread why) = ⊥
@@ -83,7 +98,8 @@ EndsAtLoad text Unwritten = ⊥
 -- the lab ends at the text of the variants, likewise
 abbrev pub EndsAtVariants : List ℕ → LabEnding → Type 0
 EndsAtVariants text (VariantsUnread why) = IsUnread why text
-EndsAtVariants text (BadVariants first) = ReadsVariants (parse_document text) (Err first) × (first ≢ fault.OutOfMemory)
+EndsAtVariants text (BadVariants first) =
+    (length text ≤ 16777216) × ReadsVariants (parse_document text) (Err first) × (first ≢ fault.OutOfMemory)
 EndsAtVariants text OutOfMemory = Unit {0}
 EndsAtVariants text Finished = ⊥
 EndsAtVariants text (LoadUnread why) = ⊥
@@ -95,7 +111,7 @@ EndsAtVariants text Unwritten = ⊥
 -- the lab ends before anything is written of a load and variants that are spelled
 abbrev pub EndsAtTelling : Wanted → Variants → LabEnding → Type 0
 EndsAtTelling wanted variants NoVariant = IsOfNone wanted variants
-EndsAtTelling wanted variants ScriptTooLong = IsScript wanted
+EndsAtTelling wanted variants ScriptTooLong = IsOfOne wanted variants
 EndsAtTelling wanted variants OutOfMemory = Unit {0}
 EndsAtTelling wanted variants Finished = ⊥
 EndsAtTelling wanted variants (LoadUnread why) = ⊥

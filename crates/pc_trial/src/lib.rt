@@ -1,4 +1,4 @@
-//! The lab as a command: a load and variants from texts, and the table or the script that is told of them.
+//! The lab as a command: a load and variants from texts, and the table, the picture or the script that is told of them.
 //!
 //! [`try_load`] tries a load under the variants of its own text, [`try_variants`] under those of another text, which is
 //! read once the load has no fault.

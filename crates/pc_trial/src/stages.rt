@@ -1,16 +1,14 @@
 //! From texts to what is told of them, stage by stage.
 
-ghost use Rattle.std.specs.Prelude.{◌≡◌, ◌≢◌, ◌⊎◌, [], IfOk, IfErr, IfSome};
+ghost use Rattle.std.specs.Prelude.{◌≡◌, ◌≢◌, ◌⊎◌, ◌≤◌, ◌+◌, ℕ, List, [], length, IfOk, IfErr, IfSome};
 ghost use Rattle.std.specs.Io.Buffered.{writer_buffer, writer_contents};
-ghost use Rattle.std.specs.Io.KnownBytes.{Appends};
-ghost use Rattle.toml.specs.Parse.{parse_document};
-ghost use Rattle.pc_settings.specs.LoadTexts.{ReadsLoad, ReadsVariants};
-ghost use Rattle.pc_trial.specs.Tried.{EndsAtLoad, EndsAtTelling, EndsAtVariants, IsOfLoad, IsTold};
+ghost use Rattle.std.specs.Io.KnownBytes.{Appends, Consumes};
+ghost use Rattle.pc_trial.specs.Tried.{EndsAtLoad, EndsAtTelling, EndsAtVariants, IsOfLoad, IsTold, Lists, Spells};
 ghost use Rattle.pc_trial.specs.Inner.Stages.{IsLoadOf, IsVariantsOf};
 
 use crate::ending::LabEnding;
 use crate::wanted::Wanted;
-use pc_compare::{CompareFault, Form, compare, script_of};
+use pc_compare::{CompareFault, Form, compare, picture_of, script_of};
 use pc_load::{Load, Variants};
 use pc_settings::{LoadTextFault, TextFault, read_load, read_utf8, read_variants};
 use std::alloc::Global;
@@ -21,6 +19,7 @@ pub const MOST_LOAD: usize = 16_777_216;
 
 /// The load and the variants that a text spells.
 fn load_of(alloc: Global, text: &str) -> Result<(Load, Variants), LabEnding>
+    requires { length text.now ≤ 16777216 }
     ensures { IsLoadOf text.now result }
 {
     match read_load(alloc, text) {
@@ -32,6 +31,7 @@ fn load_of(alloc: Global, text: &str) -> Result<(Load, Variants), LabEnding>
 
 /// The variants that a text spells.
 fn variants_of(alloc: Global, text: &str) -> Result<Variants, LabEnding>
+    requires { length text.now ≤ 16777216 }
     ensures { IsVariantsOf text.now result }
 {
     match read_variants(alloc, text) {
@@ -44,9 +44,11 @@ fn variants_of(alloc: Global, text: &str) -> Result<Variants, LabEnding>
 /// The load and the variants of the text that a reader gives.
 pub(crate) fn load_in<R: Read>(alloc: Global, reader: &mut R) -> Result<(Load, Variants), LabEnding>
     ensures ok { IfOk result
-        (λ read. IfSome (R.remaining reader.old) (λ text. ReadsLoad (parse_document text) (Ok read))) }
+        (λ read. IfSome (R.remaining reader.old) (λ text. Spells text read.0 read.1)) }
     ensures err { IfErr result (λ ending. IfSome (R.remaining reader.old) (λ text. EndsAtLoad text ending)) }
     ensures unfinished { IfErr result (λ ending. ending ≢ LabEnding.Finished) }
+    ensures reads { (bytes : List ℕ) × (length bytes ≤ 16777217)
+        × Consumes (R.remaining reader.old) (R.remaining reader.new) bytes }
 {
     match read_utf8(alloc, reader, MOST_LOAD) {
         Ok(text) => load_of(alloc, text.as_str()),
@@ -58,10 +60,12 @@ pub(crate) fn load_in<R: Read>(alloc: Global, reader: &mut R) -> Result<(Load, V
 /// The variants of the text that a reader gives.
 pub(crate) fn variants_in<R: Read>(alloc: Global, reader: &mut R) -> Result<Variants, LabEnding>
     ensures ok { IfOk result
-        (λ variants. IfSome (R.remaining reader.old) (λ text. ReadsVariants (parse_document text) (Ok variants))) }
+        (λ variants. IfSome (R.remaining reader.old) (λ text. Lists text variants)) }
     ensures err { IfErr result (λ ending. IfSome (R.remaining reader.old) (λ text. EndsAtVariants text ending)) }
     ensures behind { IfErr result (λ ending. IsOfLoad ending → ⊥) }
     ensures unfinished { IfErr result (λ ending. ending ≢ LabEnding.Finished) }
+    ensures reads { (bytes : List ℕ) × (length bytes ≤ 16777217)
+        × Consumes (R.remaining reader.old) (R.remaining reader.new) bytes }
 {
     match read_utf8(alloc, reader, MOST_LOAD) {
         Ok(text) => variants_of(alloc, text.as_str()),
@@ -81,6 +85,17 @@ fn table_of(
     ensures err { IfErr result (EndsAtTelling (Wanted.Table form) variants.now) }
 {
     match compare(alloc, load, variants, form) {
+        Ok(text) => Ok(text),
+        Err(_) => Err(LabEnding::OutOfMemory),
+    }
+}
+
+/// The picture of the waits under all variants, which has no other fault either.
+fn picture_drawn(alloc: Global, load: &Load, variants: &Variants) -> Result<Vec<u8>, LabEnding>
+    ensures ok { IfOk result (λ text. IsTold Wanted.Picture load.now variants.now text.items) }
+    ensures err { IfErr result (EndsAtTelling Wanted.Picture variants.now) }
+{
+    match picture_of(alloc, load, variants) {
         Ok(text) => Ok(text),
         Err(_) => Err(LabEnding::OutOfMemory),
     }
@@ -116,6 +131,7 @@ pub(crate) fn told(
 {
     match wanted {
         Wanted::Table(form) => table_of(alloc, load, variants, *form),
+        Wanted::Picture => picture_drawn(alloc, load, variants),
         Wanted::Script(name) => script_named(alloc, load, variants, name),
     }
 }

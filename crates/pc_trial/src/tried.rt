@@ -1,7 +1,8 @@
 //! A load that is tried, from its text to what is written of it.
 
-ghost use Rattle.std.specs.Prelude.{◌≡◌, ◌⊎◌, [], Some, None, IfSome};
+ghost use Rattle.std.specs.Prelude.{◌≡◌, ◌⊎◌, ◌≤◌, ℕ, List, [], Some, None, length, IfSome};
 ghost use Rattle.std.specs.Io.Buffered.{writer_buffer, writer_contents};
+ghost use Rattle.std.specs.Io.KnownBytes.{Consumes};
 ghost use Rattle.pc_trial.specs.Tried.{IsOfLoad, IsTried, IsWrittenOf};
 
 use crate::ending::LabEnding;
@@ -33,7 +34,8 @@ fn tell<W: Write + Drop>(
 
 /// Tries the load that a reader gives under the variants of its text, writes what is wanted, and flushes it.
 ///
-/// Nothing is written but where it is `Finished`, or `Unwritten` by a write that failed. Else it is the first of these:
+/// At most one byte more than [`MOST_LOAD`](crate::MOST_LOAD) is read. Nothing is written but where it is `Finished`,
+/// or `Unwritten` by a write that failed. Else it is the first of these:
 /// `LoadUnread`; `BadLoad`, as `read_load` has the faults; `NoVariant`, `ScriptTooLong`; or want of memory.
 pub fn try_load<R: Read, W: Write + Drop>(
     alloc: Global,
@@ -46,6 +48,8 @@ pub fn try_load<R: Read, W: Write + Drop>(
         (writer_contents W.contents writer.new) result) }
     ensures untouched { (result ≡ LabEnding.Finished) ⊎ (result ≡ LabEnding.Unwritten) ⊎ (writer.new ≡ writer.old) }
     ensures flushed { result ≡ LabEnding.Finished → writer_buffer writer.new ≡ [] }
+    ensures reads { (bytes : List ℕ) × (length bytes ≤ 16777217)
+        × Consumes (R.remaining load.old) (R.remaining load.new) bytes }
 {
     match load_in(alloc, load) {
         Ok((load, variants)) => tell(alloc, &load, &variants, wanted, writer),
@@ -68,6 +72,10 @@ pub fn try_variants<R: Read, V: Read, W: Write + Drop>(
     ensures in_order { IsOfLoad result → variants.new ≡ variants.old }
     ensures untouched { (result ≡ LabEnding.Finished) ⊎ (result ≡ LabEnding.Unwritten) ⊎ (writer.new ≡ writer.old) }
     ensures flushed { result ≡ LabEnding.Finished → writer_buffer writer.new ≡ [] }
+    ensures reads { (bytes : List ℕ) × (length bytes ≤ 16777217)
+        × Consumes (R.remaining load.old) (R.remaining load.new) bytes }
+    ensures reads_variants { (bytes : List ℕ) × (length bytes ≤ 16777217)
+        × Consumes (V.remaining variants.old) (V.remaining variants.new) bytes }
 {
     let (load, _) = match load_in(alloc, load) {
         Ok(read) => read,

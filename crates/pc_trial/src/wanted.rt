@@ -10,18 +10,22 @@ use pc_compare::{Form, Layout};
 pub enum Wanted {
     /// A table that compares all variants.
     Table(Form),
+    /// A picture of how long threads waited under each variant.
+    Picture,
     /// What happens under the variant of this name, as a script.
     Script(String),
 }
 
 impl Wanted {
-    /// What is wanted where these flags stand: where a script is named they change nothing.
-    pub fn of(per_cpu: bool, csv: bool, script: Option<String>) -> Wanted
-        ensures { IsAskedBy per_cpu csv (option_map string_bytes script) result }
+    /// What is wanted where these flags stand. Where a script is named they change nothing, and where a picture is
+    /// asked for the flags of the table change nothing.
+    pub fn of(per_cpu: bool, csv: bool, picture: bool, script: Option<String>) -> Wanted
+        ensures { IsAskedBy per_cpu csv picture (option_map string_bytes script) result }
     {
         let layout = if csv { Layout::Csv } else { Layout::Table };
         match script {
             Some(name) => Wanted::Script(name),
+            None if picture => Wanted::Picture,
             None => Wanted::Table(Form { layout, per_cpu }),
         }
     }

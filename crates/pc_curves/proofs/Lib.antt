@@ -1,0 +1,2 @@
+-- Proofs.
+pub mod Waits
