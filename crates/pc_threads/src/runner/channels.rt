@@ -5,7 +5,8 @@ use crate::runner::inbox::{Inbox, Note};
 use crate::runner::restarts::restarts_later;
 use crate::settings::Config;
 use crossbeam_channel::{Receiver, SendError, Sender};
-use pc_delta::{Delta, Digest};
+use pc_delta::{Delta, Digest, take_in};
+use pc_join::OutOfMemory;
 use pc_messages::{Cpu, Phase};
 use pc_view::View;
 use std::alloc::{AllocError, Global};
@@ -148,6 +149,20 @@ impl Channels {
     /// Whether the run is given up.
     pub(crate) fn is_given_up(&self) -> bool {
         self.given_up.load(Ordering::SeqCst)
+    }
+
+    /// Takes into the views of the agents, by CPUs, what each was told and had not taken when it ended. All have ended.
+    pub(crate) fn take_last_news<R: Wait>(
+        &self,
+        rt: &R,
+        views: &mut [View],
+    ) -> Result<(), OutOfMemory> {
+        for (inbox, view) in self.inboxes.iter().zip(views.iter_mut()) {
+            for delta in inbox.take_news(rt) {
+                take_in(view, &delta)?;
+            }
+        }
+        Ok(())
     }
 
     /// Tells all agents to end. One for whose note there is no memory may wait on.

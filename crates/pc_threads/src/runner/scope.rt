@@ -11,7 +11,7 @@ use crate::runner::desk::Desk;
 use crate::runner::driver::drive_all;
 use crate::runner::gate::Gate;
 use crate::runner::ledgers::{Names, Pool, Purse};
-use crate::runner::threads::{Joined, join_all, start_all};
+use crate::runner::threads::{Joined, join_all, start_all, with_last_news};
 use crate::runner::turns::Served;
 use crate::settings::Config;
 use std::collections::VecDeque;
@@ -112,7 +112,7 @@ where
     Ok(Ended {
         purse,
         pool,
-        joined: joined?,
+        joined: with_last_news(rt, &desk.channels, joined?)?,
     })
 }
 

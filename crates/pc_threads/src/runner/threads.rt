@@ -7,6 +7,7 @@ ghost use Rattle.pc_threads.specs.Inner.Shares.{HasDone, idle};
 
 use crate::book::RunFault;
 use crate::report::Row;
+use crate::runner::channels::Channels;
 use crate::runner::desk::Desk;
 use crate::runner::faults::fault_of;
 use crate::runner::gate::Gate;
@@ -126,5 +127,22 @@ pub(crate) fn join_all<N: Names, R: Threads>(
     match fault {
         Some(fault) => Err(fault),
         None => Ok(Joined { rows, views }),
+    }
+}
+
+/// The same, where each agent has taken in what it was told by its end. One that ends while another reads its last
+/// items is told of them behind its end, and that other one may restart, and forget them, before it ends itself.
+pub(crate) fn with_last_news<R: Wait>(
+    rt: &R,
+    channels: &Channels,
+    joined: Joined,
+) -> Result<Joined, RunFault>
+    ensures rows { IfOk result (λ all. all.rows ≡ joined.rows) }
+    ensures views { IfOk result (λ all. vec_len all.views ≡ vec_len joined.views) }
+{
+    let Joined { rows, mut views } = joined;
+    match channels.take_last_news(rt, views.as_mut_slice()) {
+        Ok(()) => Ok(Joined { rows, views }),
+        Err(_) => Err(RunFault::OutOfMemory),
     }
 }
