@@ -27,9 +27,9 @@ _pc_sim() {
     COMPREPLY=()
     case $command in
     run) flags="--per-cpu --draw --limit --policy --script -h --help" ;;
-    draw) flags="--cpus --lines -h --help" ;;
+    draw) flags="--cpus --lines --time -h --help" ;;
     session) flags="--explain -h --help" ;;
-    lab) flags="--variants --per-cpu --csv --script -h --help" ;;
+    lab) flags="--variants --per-cpu --csv --picture --script -h --help" ;;
     replay | explain) flags="-h --help" ;;
     *) flags="-h --help -V --version" ;;
     esac

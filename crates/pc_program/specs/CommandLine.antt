@@ -10,6 +10,8 @@ use Rattle.clap.specs.Values.{kind_of}
 use Rattle.clap.specs.declared.builder.action.ArgAction.TheVariants.{Count, Set, SetTrue}
 use Rattle.clap.specs.declared.builder.value_parser.ValueParser.TheVariants.{Unsigned}
 use Rattle.clap.specs.declared.error.kind.ErrorKind.TheVariants as kind
+use Rattle.pc_draw.specs.declared.ticks.Axis.{Axis}
+use Rattle.pc_draw.specs.declared.ticks.Axis.TheVariants.{Lines, Ticks}
 use Rattle.pc_draw.specs.declared.part.Interval.{Interval}
 use Rattle.pc_draw.specs.declared.part.Part.{Part}
 use Rattle.pc_policy.specs.Rules.{rules_of, usual}
@@ -45,9 +47,11 @@ counted_flag name = record (new_rule name) { long = Some name; action = Some Cou
 abbrev pub option : Text → Rule
 option name = record (new_rule name) { long = Some name; action = Some Set; value_names = 1 }
 
--- draw [FILE] [--cpus NUMBERS] [--lines NUMBERS]
+-- draw [FILE] [--cpus NUMBERS] [--lines NUMBERS] [--time]
 abbrev pub drawing : App
-drawing = with_rule (with_rule (of_file (codes "draw")) (option (codes "cpus"))) (option (codes "lines"))
+drawing =
+    with_rule (with_rule (with_rule (of_file (codes "draw")) (option (codes "cpus"))) (option (codes "lines")))
+    (flag (codes "time"))
 
 -- --limit SECONDS
 abbrev pub limit : Rule
@@ -68,13 +72,15 @@ run =
 abbrev pub session : App
 session = with_rule (of_file (codes "session")) (flag (codes "explain"))
 
--- lab [FILE] [--variants FILE] [--per-cpu] [--csv] [--script NAME]
+-- lab [FILE] [--variants FILE] [--per-cpu] [--csv] [--picture] [--script NAME]
 abbrev pub lab : App
 lab =
     with_rule
     (with_rule
+    (with_rule
     (with_rule (with_rule (of_file (codes "lab")) (option (codes "variants"))) (flag (codes "per-cpu")))
     (flag (codes "csv")))
+    (flag (codes "picture")))
     (option (codes "script"))
 
 -- the program, which has a version, wants a command, and has no command `help`
@@ -137,6 +143,11 @@ abbrev pub IsPart : Part → List Row → Type 0
 IsPart part rows =
     IsSpelled (first_of (codes "cpus") rows) part.cpus × IsSpelled (first_of (codes "lines") rows) part.lines
 
+-- what goes to the right in a picture: ticks where `--time` stands, and else lines
+abbrev pub IsAxis : Axis → List Row → Type 0
+IsAxis Ticks rows = IsSet (codes "time") rows
+IsAxis Lines rows = IsSet (codes "time") rows → ⊥
+
 -- the word behind an option spells no numbers
 abbrev pub IsUnread : Text → List Row → Type 0
 IsUnread name rows = IsSomeAnd (first_of name rows) SpellsNone
@@ -172,16 +183,18 @@ abbrev pub IsAsked : Option (Text × List Row) → Command → Type 0
 IsAsked None command = ⊥
 IsAsked (Some met) (Replay given) = IsOf (codes "replay") (option_map string_bytes given) met
 IsAsked (Some met) (Explain given) = IsOf (codes "explain") (option_map string_bytes given) met
-IsAsked (Some met) (Draw given part) = IsOf (codes "draw") (option_map string_bytes given) met × IsPart part met.1
+IsAsked (Some met) (Draw given part axis) =
+    IsOf (codes "draw") (option_map string_bytes given) met × IsPart part met.1 × IsAxis axis met.1
 IsAsked (Some met) (Run given form seconds policy script) =
     IsOf (codes "run") (option_map string_bytes given) met × IsReportForm form met.1
     × IsLimit (one_of (codes "limit") met.1) seconds × IsPolicy (first_of (codes "policy") met.1) policy
     × (option_map string_bytes script ≡ first_of (codes "script") met.1)
 IsAsked (Some met) (Session given explains) =
     IsOf (codes "session") (option_map string_bytes given) met × (IsTrue explains ↔ IsSet (codes "explain") met.1)
-IsAsked (Some met) (Lab given variants each csv script) =
+IsAsked (Some met) (Lab given variants each csv picture script) =
     IsOf (codes "lab") (option_map string_bytes given) met × IsFrom (first_of (codes "variants") met.1) variants
     × (IsTrue each ↔ IsSet (codes "per-cpu") met.1) × (IsTrue csv ↔ IsSet (codes "csv") met.1)
+    × (IsTrue picture ↔ IsSet (codes "picture") met.1)
     × (option_map string_bytes script ≡ first_of (codes "script") met.1)
 
 -- want of memory, numbers or a policy that are none where there is no other fault, or one of these kinds, of which

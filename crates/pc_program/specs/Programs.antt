@@ -67,7 +67,7 @@ IsDrawn text old new CannotStart = ⊥
 abbrev pub IsMade : Form → (text : List ℕ) (old new : Option (List ℕ)) → Ending → Type 0
 IsMade Replies text old new ending = IsAnswered (λ written. written) text old new ending
 IsMade Explained text old new ending = IsAnswered without_comments text old new ending
-IsMade (Picture part) text old new ending = IsDrawn text old new ending
+IsMade (Picture part axis) text old new ending = IsDrawn text old new ending
 
 -- after a run by settings: the report of a run that did what they ask for, or nothing
 abbrev pub IsReported : (settings : Option Members) (form : ReportForm) (old new : Option (List ℕ)) → Ending → Type 0

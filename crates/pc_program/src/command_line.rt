@@ -6,9 +6,9 @@ ghost use Rattle.clap.specs.Walk.{first_of, one_of, rows_of, rule_of};
 ghost use Rattle.clap.specs.Simple.{app_of, subcommand_of, subcommand_rows_of};
 ghost use Rattle.clap.specs.Faults.{fault_of};
 ghost use Rattle.clap.specs.Matches.{found_of};
-ghost use Rattle.pc_program.specs.CommandLine.{IsAsked, IsCommandMet, IsInput, IsLimit, IsNoPart, IsPart, IsRefusal};
-ghost use Rattle.pc_program.specs.CommandLine.{IsFrom, IsNoPolicy, IsPolicy, IsReportForm, IsSpelled, IsUnnamed};
-ghost use Rattle.pc_program.specs.CommandLine.{IsUnread};
+ghost use Rattle.pc_program.specs.CommandLine.{IsAsked, IsAxis, IsCommandMet, IsInput, IsLimit, IsNoPart, IsPart};
+ghost use Rattle.pc_program.specs.CommandLine.{IsFrom, IsNoPolicy, IsPolicy, IsRefusal, IsReportForm, IsSpelled};
+ghost use Rattle.pc_program.specs.CommandLine.{IsUnnamed, IsUnread};
 ghost use Rattle.pc_program.specs.CommandLine.{counted_flag, drawing, flag, limit};
 ghost use Rattle.pc_program.specs.CommandLine.{lab, of_file, option, pc_sim, run, session};
 
@@ -18,7 +18,7 @@ use crate::report::ReportForm;
 use clap::builder::ValueParser;
 use clap::error::ErrorKind;
 use clap::{Arg, ArgAction, ArgMatches, Command as Parser, Error};
-use pc_draw::{Interval, Part};
+use pc_draw::{Axis, Interval, Part};
 use pc_policy::AgentPolicy;
 use std::alloc::{AllocError, Global};
 use std::convert::AsStr;
@@ -40,6 +40,8 @@ pub enum Command {
         file: Option<String>,
         /// What part of it is drawn.
         part: Part,
+        /// What goes to the right.
+        axis: Axis,
     },
     /// Run agents in threads by settings.
     Run {
@@ -68,6 +70,8 @@ pub enum Command {
         per_cpu: bool,
         /// Whether the table is written for other tools.
         csv: bool,
+        /// Whether the waits are drawn, in place of the table.
+        picture: bool,
         /// The variant whose run is written as a script, in place of the table.
         script: Option<String>,
     },
@@ -159,10 +163,12 @@ const AFTER_DRAW: &str = "\
 Examples:
   pc-sim draw examples/crash-and-steal.script >picture.svg
   pc-sim draw examples/crash-and-steal.script --cpus 1 --lines 10-20 >part.svg
+  pc-sim lab load.toml --script fifo | pc-sim draw --time >times.svg
 
 NUMBERS are two with `-` between, of which the second is not below the first, or one.
 
-Time goes to the right, a step for each command; each CPU has a lane. A browser shows the picture.
+Time goes to the right, a step for each command, or with --time by the ticks that comments `# at TICK`
+tell; each CPU has a lane. A browser shows the picture.
 Exit status: 0 finished; 1 a line is no command, or a read or a write failed; 4 memory is wanting.
 What is drawn is described in docs/FORMATS.md.";
 
@@ -200,9 +206,10 @@ const AFTER_LAB: &str = "\
 Examples:
   pc-sim lab load.toml
   pc-sim lab load.toml --variants variants.toml --csv
+  pc-sim lab load.toml --picture >waits.svg
   pc-sim lab load.toml --script fifo | pc-sim explain
 
-Where --script stands, --per-cpu and --csv change nothing.
+Where --script stands, --picture, --per-cpu and --csv change nothing; where --picture stands, these two.
 Exit status: 0 finished; 1 the load or the variants have a fault, or a read or a write failed; 4 memory
 is wanting.
 Loads, variants and the table are described in docs/LAB.md.";
@@ -216,6 +223,8 @@ const EACH_CPU: &str = "also tells where the time of each CPU went";
 
 const CSV: &str = "writes the table on its side, with all percentiles, for other tools";
 
+const WAITS: &str = "draws how long threads waited, as SVG, in place of the table";
+
 const SCRIPT_OF: &str =
     "writes the run of the variant of this name as a script, in place of the table";
 
@@ -228,6 +237,8 @@ const SCRIPT: &str = "the script; without it, and where it is `-`, the standard 
 const CPUS: &str = "draws the lanes of these CPUs alone, counted from 0";
 
 const LINES: &str = "draws what happens at these lines of the script alone, counted from 1";
+
+const TIME: &str = "draws by the ticks that the comments `# at TICK` tell, and not by lines";
 
 const LIMIT: &str = "gives the run up after so many seconds";
 
@@ -353,17 +364,19 @@ fn explain_parser<'a>(alloc: Global) -> Result<Parser<'a>, AllocError>
     )
 }
 
-/// `draw [FILE] [--cpus NUMBERS] [--lines NUMBERS]`
+/// `draw [FILE] [--cpus NUMBERS] [--lines NUMBERS] [--time]`
 fn draw_parser<'a>(alloc: Global) -> Result<Parser<'a>, AllocError>
     ensures { IfOk result (λ parser. app_of parser ≡ drawing) }
 {
     let cpus = option_of(alloc, "cpus", "NUMBERS", CPUS);
     let lines = option_of(alloc, "lines", "NUMBERS", LINES);
+    let time = flag_of(alloc, "time", TIME);
     parser_of_file(alloc, "draw", SCRIPT)?
         .about(ABOUT_DRAW)
         .after_help(AFTER_DRAW)
         .arg(cpus)?
-        .arg(lines)
+        .arg(lines)?
+        .arg(time)
 }
 
 /// The option `--policy NAME`.
@@ -405,13 +418,14 @@ fn session_parser<'a>(alloc: Global) -> Result<Parser<'a>, AllocError>
         .arg(explains)
 }
 
-/// `lab [FILE] [--variants FILE] [--per-cpu] [--csv] [--script NAME]`
+/// `lab [FILE] [--variants FILE] [--per-cpu] [--csv] [--picture] [--script NAME]`
 fn lab_parser<'a>(alloc: Global) -> Result<Parser<'a>, AllocError>
     ensures { IfOk result (λ parser. app_of parser ≡ lab) }
 {
     let variants = option_of(alloc, "variants", "FILE", VARIANTS);
     let per_cpu = flag_of(alloc, "per-cpu", EACH_CPU);
     let csv = flag_of(alloc, "csv", CSV);
+    let picture = flag_of(alloc, "picture", WAITS);
     let script = option_of(alloc, "script", "NAME", SCRIPT_OF);
     parser_of_file(alloc, "lab", LOAD)?
         .about(ABOUT_LAB)
@@ -419,6 +433,7 @@ fn lab_parser<'a>(alloc: Global) -> Result<Parser<'a>, AllocError>
         .arg(variants)?
         .arg(per_cpu)?
         .arg(csv)?
+        .arg(picture)?
         .arg(script)
 }
 
@@ -478,7 +493,11 @@ fn command_of(alloc: Global, matches: &ArgMatches<'_>) -> Result<Command, Comman
         })
     } else if name == "draw" {
         let part = part_of(met)?;
-        Ok(Command::Draw { file, part })
+        Ok(Command::Draw {
+            file,
+            part,
+            axis: axis_of(met),
+        })
     } else if name == "lab" {
         let variants = variants_of(alloc, met)?;
         let script = script_of(alloc, met)?;
@@ -487,6 +506,7 @@ fn command_of(alloc: Global, matches: &ArgMatches<'_>) -> Result<Command, Comman
             variants,
             per_cpu: is_set(met, "per-cpu"),
             csv: is_set(met, "csv"),
+            picture: is_set(met, "picture"),
             script,
         })
     } else {
@@ -527,6 +547,17 @@ fn part_of(matches: &ArgMatches<'_>) -> Result<Part, CommandFault>
     let cpus = numbers_of(matches, "cpus")?;
     let lines = numbers_of(matches, "lines")?;
     Ok(Part { cpus, lines })
+}
+
+/// What goes to the right in a picture.
+fn axis_of(matches: &ArgMatches<'_>) -> Axis
+    ensures { IsAxis result (rows_of (found_of matches.now)) }
+{
+    if is_set(matches, "time") {
+        Axis::Ticks
+    } else {
+        Axis::Lines
+    }
 }
 
 /// The numbers that the word behind an option spells; none without a word.

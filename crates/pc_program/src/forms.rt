@@ -15,7 +15,7 @@ use crate::ending::{Ending, Failure};
 use crate::progress::Progress;
 use crate::report::ReportForm;
 use crate::run_text::run_config;
-use pc_draw::{Part, draw_script};
+use pc_draw::{Axis, Part, draw_script};
 use pc_explain::explain_script;
 use pc_policy::AgentPolicy;
 use pc_script::{Outcome, ScriptFault};
@@ -33,8 +33,8 @@ pub enum Form {
     Replies,
     /// These, with comments between that explain them.
     Explained,
-    /// A picture of this part of what happened.
-    Picture(Part),
+    /// A picture of this part of what happened, by this axis.
+    Picture(Part, Axis),
 }
 
 /// Reads a script, answers its commands one after another on a world of its own, and writes the replies.
@@ -76,11 +76,17 @@ fn explained<R: Read, W: Write>(alloc: Global, reader: &mut R, writer: &mut W) -
     Ending::from(explain_script(alloc, reader, writer))
 }
 
-fn picture<R: Read, W: Write>(alloc: Global, part: Part, reader: &mut R, writer: &mut W) -> Ending
+fn picture<R: Read, W: Write>(
+    alloc: Global,
+    part: Part,
+    axis: Axis,
+    reader: &mut R,
+    writer: &mut W,
+) -> Ending
     ensures { IfSome (R.remaining reader.old)
         (λ text. IsDrawn text (W.contents writer.old) (W.contents writer.new) result) }
 {
-    Ending::of_picture(draw_script(alloc, part, reader, writer))
+    Ending::of_picture(draw_script(alloc, part, axis, reader, writer))
 }
 
 /// Reads a script, makes this of it, writes it, and tells how it ended. Nothing is flushed.
@@ -94,7 +100,7 @@ pub fn make<R: Read, W: Write>(alloc: Global, form: Form, reader: &mut R, writer
     match form {
         Form::Replies => replies(alloc, reader, writer),
         Form::Explained => explained(alloc, reader, writer),
-        Form::Picture(part) => picture(alloc, part, reader, writer),
+        Form::Picture(part, axis) => picture(alloc, part, axis, reader, writer),
     }
 }
 

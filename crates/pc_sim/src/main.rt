@@ -5,25 +5,23 @@
 
 mod lab;
 mod met;
+mod run;
 mod streams;
 
 use lab::try_on_machine;
 use met::{Met, Source, say_failure};
 use pc_program::{
-    AgentPolicy, Command, CommandFault, Ending, Failure, Form, MOST_SETTINGS, Manual, Progress,
-    ReportForm, SoFar, converse_flushed, make_flushed, read_command, read_settings, run_flushed,
-    run_scripted, write_trouble,
+    Command, CommandFault, Ending, Failure, Form, Manual, converse_flushed, make_flushed,
+    read_command,
 };
 use pc_script::MOST_BYTES;
 use pc_trial::Wanted;
+use run::run_on_machine;
 use std::alloc::Global;
 use std::env;
 use std::fs::File;
-use std::io::{self, BufWriter, IsTerminal, Read, Stderr, Write};
+use std::io::{self, BufWriter, IsTerminal, Read, Write};
 use std::process::ExitCode;
-use std::sync::Wait;
-use std::thread::Threads;
-use std::time::{Clock, Duration, Instant};
 use streams::Noted;
 
 /// Makes what is asked for of the text that a stream gives, through a buffer of its own.
@@ -142,111 +140,6 @@ fn talk(rt: &HostRuntime, explains: bool, file: Option<String>) -> ExitCode {
     end(rt, &met, &source, MOST_BYTES)
 }
 
-/// The settings text that a stream gives.
-fn settings_in<R: Read + Drop>(alloc: Global, reader: R) -> Result<String, Met> {
-    let mut reader = Noted::new(reader);
-    match read_settings(alloc, &mut reader) {
-        Ok(text) => Ok(text),
-        Err(ending) => Err(Met::of(ending, reader.fault())),
-    }
-}
-
-/// The settings text of the file, or else of the standard input.
-fn settings_of(rt: &HostRuntime, source: &Source) -> Result<String, Met> {
-    match &source.0 {
-        None => settings_in(rt.alloc(), rt.stdin()),
-        Some(name) => match File::open(rt, name.as_str()) {
-            Ok(file) => settings_in(rt.alloc(), file),
-            Err(error) => Err(Met::unopened(error)),
-        },
-    }
-}
-
-/// Standard error, where a person reads it at a terminal.
-fn screen_of(rt: &HostRuntime) -> Option<Stderr> {
-    let stderr = rt.stderr();
-    if stderr.is_terminal() {
-        Some(stderr)
-    } else {
-        None
-    }
-}
-
-/// When a run that begins now is given up. Where the clock cannot be read it is not.
-fn deadline_of(rt: &HostRuntime, limit: Option<u32>) -> Option<Instant> {
-    let seconds = limit? as u64;
-    Instant::now(rt)
-        .ok()?
-        .checked_add(Duration::from_secs(seconds))
-}
-
-/// Runs agents by a settings text, and reports through a buffer of its own.
-fn run_settings<R: Threads + Wait + Clock + Sync, S: Write + Copy + Sync, W: Write + Drop>(
-    rt: &R,
-    alloc: Global,
-    text: &str,
-    policy: AgentPolicy,
-    form: ReportForm,
-    progress: &Progress<S>,
-    writer: W,
-) -> Met {
-    let Ok(mut writer) = BufWriter::new(alloc, Noted::new(writer)) else {
-        return Met::ended(Ending::OutOfMemory);
-    };
-    let ending = run_flushed(rt, alloc, text, policy, form, progress, &mut writer);
-    Met::of(ending, writer.get_ref().fault())
-}
-
-/// A file into which the calls of a run are written.
-#[derive(Drop)]
-struct ScriptFile {
-    name: String,
-    file: File,
-}
-
-/// The file of this name, made or emptied, where there is a name.
-fn script_file(rt: &HostRuntime, name: Option<String>) -> Result<Option<ScriptFile>, Met> {
-    let Some(name) = name else { return Ok(None) };
-    match File::create(rt, name.as_str()) {
-        Ok(file) => Ok(Some(ScriptFile { name, file })),
-        Err(error) => Err(Met::unmade(error, name)),
-    }
-}
-
-/// The same, and writes the calls as a script into the file, through another buffer.
-fn run_with_script<R: Threads + Wait + Clock + Sync, S: Write + Copy + Sync, W: Write + Drop>(
-    rt: &R,
-    alloc: Global,
-    text: &str,
-    policy: AgentPolicy,
-    form: ReportForm,
-    progress: &Progress<S>,
-    script: ScriptFile,
-    writer: W,
-) -> Met {
-    let ScriptFile { name, file } = script;
-    let Ok(mut script) = BufWriter::new(alloc, Noted::new(file)) else {
-        return Met::ended(Ending::OutOfMemory);
-    };
-    let Ok(mut writer) = BufWriter::new(alloc, Noted::new(writer)) else {
-        return Met::ended(Ending::OutOfMemory);
-    };
-    let ending = run_scripted(
-        rt,
-        alloc,
-        text,
-        policy,
-        form,
-        progress,
-        &mut script,
-        &mut writer,
-    );
-    match script.get_ref().fault() {
-        Some(said) => Met::of_file(ending, said, name),
-        None => Met::of(ending, writer.get_ref().fault()),
-    }
-}
-
 /// Says on standard error how the program ends, and answers its exit status.
 pub(crate) fn end(rt: &HostRuntime, met: &Met, source: &Source, most: usize) -> ExitCode {
     if let Some(message) = met.ending.message() {
@@ -270,23 +163,6 @@ fn make_script(rt: &HostRuntime, form: Form, file: Option<String>) -> ExitCode {
     end(rt, &met, &source, MOST_BYTES)
 }
 
-/// The same of a run by a settings text. Of settings that have a fault it says which, and of a run that did not settle
-/// how far it came.
-fn end_run(rt: &HostRuntime, met: &Met, source: &Source, text: &str, so_far: SoFar) -> ExitCode {
-    let status = end(rt, met, source, MOST_SETTINGS);
-    // Nothing can be said of an error on standard error itself.
-    match met.ending {
-        Ending::Settings(_) => {
-            let _ = write_trouble(rt.alloc(), text, &mut rt.stderr());
-        }
-        Ending::Run(_) => {
-            let _ = eprintln!(rt; "pc-sim: {so_far}");
-        }
-        _ => {}
-    }
-    status
-}
-
 /// What a session says first at a terminal.
 const GREETING: &str =
     "pc-sim: each command is answered as it comes; ? lists them, and pc-sim explain explains a script";
@@ -306,7 +182,7 @@ fn main(rt: HostRuntime) -> ExitCode {
     match command_of(&rt) {
         Ok(Command::Replay { file }) => make_script(&rt, Form::Replies, file),
         Ok(Command::Explain { file }) => make_script(&rt, Form::Explained, file),
-        Ok(Command::Draw { file, part }) => make_script(&rt, Form::Picture(part), file),
+        Ok(Command::Draw { file, part, axis }) => make_script(&rt, Form::Picture(part, axis), file),
         Ok(Command::Session { file, explains }) => talk(&rt, explains, file),
         Ok(
             Command::Lab {
@@ -314,9 +190,15 @@ fn main(rt: HostRuntime) -> ExitCode {
                 variants,
                 per_cpu,
                 csv,
+                picture,
                 script,
             },
-        ) => try_on_machine(&rt, file, variants, &Wanted::of(per_cpu, csv, script)),
+        ) => try_on_machine(
+            &rt,
+            file,
+            variants,
+            &Wanted::of(per_cpu, csv, picture, script),
+        ),
         Ok(
             Command::Run {
                 file,
@@ -325,40 +207,7 @@ fn main(rt: HostRuntime) -> ExitCode {
                 policy,
                 script,
             },
-        ) => {
-            let (alloc, source) = (rt.alloc(), Source(file));
-            match settings_of(&rt, &source) {
-                Ok(text) => {
-                    let text = text.as_str();
-                    let progress = Progress::new(screen_of(&rt), deadline_of(&rt, limit));
-                    // The file is made before the run begins, which may take long.
-                    let met = match script_file(&rt, script) {
-                        Ok(None) => run_settings(
-                            &rt,
-                            alloc,
-                            text,
-                            policy,
-                            form,
-                            &progress,
-                            rt.stdout(),
-                        ),
-                        Ok(Some(script)) => run_with_script(
-                            &rt,
-                            alloc,
-                            text,
-                            policy,
-                            form,
-                            &progress,
-                            script,
-                            rt.stdout(),
-                        ),
-                        Err(met) => met,
-                    };
-                    end_run(&rt, &met, &source, text, progress.so_far())
-                }
-                Err(met) => end(&rt, &met, &source, MOST_SETTINGS),
-            }
-        }
+        ) => run_on_machine(&rt, &rt, file, form, limit, policy, script),
         Err(met) => end(&rt, &met, &Source(None), MOST_BYTES),
     }
 }

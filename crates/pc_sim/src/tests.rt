@@ -4,7 +4,7 @@ mod lab;
 mod settings;
 
 use pc_program::{
-    Command, CommandFault, Ending, Form, Helper, Interval, Order, Part, ReportForm, Stealing,
+    Axis, Command, CommandFault, Ending, Form, Helper, Interval, Order, Part, ReportForm, Stealing,
     VariantsFrom, converse_flushed, make, read_command, run_script,
 };
 use pc_script::{Outcome, ScriptFault, lines_of};
@@ -32,17 +32,18 @@ fn has_line(text: &[u8], wanted: &'static [u8]) -> bool {
     false
 }
 
-/// Whether this part of the script is drawn to this ending, with this title.
+/// Whether this part of the script is drawn by this axis to this ending, with this title.
 fn is_drawn(
     alloc: Global,
     part: Part,
+    axis: Axis,
     script: &'static [u8],
     ending: Ending,
     title: &'static [u8],
 ) -> bool {
     let mut reader = script;
     let mut writer = Vec::new(alloc);
-    make(alloc, Form::Picture(part), &mut reader, &mut writer) == ending
+    make(alloc, Form::Picture(part, axis), &mut reader, &mut writer) == ending
         && has_line(writer.as_slice(), title)
         && has_line(writer.as_slice(), b"</svg>")
 }
@@ -55,25 +56,45 @@ const ONE: Part = Part {
 
 #[test]
 fn a_script_is_drawn_over_memory(rt: HostRuntime) {
-    let whole = b"enclave 2 8 100 16 1000\ntick 5\ntick 0\n";
+    let whole = b"enclave 2 8 100 16 1000\n# at 7\ntick 5\ntick 0\n";
     let title = b"<title>commands 3, refused 1</title>";
-    assert!(rt; is_drawn(rt.alloc(), Part::ALL, whole, Ending::Finished, title));
-    assert!(rt; is_drawn(rt.alloc(), ONE, whole, Ending::Finished, title));
+    assert!(rt;
+        is_drawn(
+            rt.alloc(),
+            Part::ALL,
+            Axis::Lines,
+            whole,
+            Ending::Finished,
+            title
+        )
+    );
+    assert!(rt; is_drawn(rt.alloc(), ONE, Axis::Ticks, whole, Ending::Finished, title));
     let cut = b"wake t0\n\nwalk\n";
     let title = b"<title>commands 1, refused 1, fault line 3</title>";
-    assert!(rt; is_drawn(rt.alloc(), Part::ALL, cut, Ending::DrawnToFault, title));
+    assert!(rt;
+        is_drawn(
+            rt.alloc(),
+            Part::ALL,
+            Axis::Ticks,
+            cut,
+            Ending::DrawnToFault,
+            title
+        )
+    );
 }
 
-/// What a command line asks for: which command, of which part, how a report is told, and how long a run may take.
+/// What a command line asks for: which command, of which part by which axis, how a report is told, and how long a run
+/// may take.
 #[derive(Clone, Copy, Debug, PartialEq, Eq)]
 enum Asked {
     Replay,
     Explain,
-    Draw(Part),
+    Draw(Part, Axis),
     Run(ReportForm, Option<u32>),
     Session(bool),
-    /// Whether other variants are tried, whether the time of each CPU is told, and whether for other tools.
-    Lab(bool, bool, bool),
+    /// Whether other variants are tried, whether the time of each CPU is told, whether for other tools, and whether the
+    /// waits are drawn.
+    Lab(bool, bool, bool, bool),
 }
 
 fn read_off(
@@ -83,7 +104,7 @@ fn read_off(
     match read_command(alloc, words)? {
         Command::Replay { file } => Ok((Asked::Replay, file)),
         Command::Explain { file } => Ok((Asked::Explain, file)),
-        Command::Draw { file, part } => Ok((Asked::Draw(part), file)),
+        Command::Draw { file, part, axis } => Ok((Asked::Draw(part, axis), file)),
         Command::Run {
             file,
             form,
@@ -96,8 +117,12 @@ fn read_off(
             variants,
             per_cpu,
             csv,
+            picture,
             ..
-        } => Ok((Asked::Lab(are_others(&variants), per_cpu, csv), file)),
+        } => Ok((
+            Asked::Lab(are_others(&variants), per_cpu, csv, picture),
+            file,
+        )),
     }
 }
 
@@ -138,25 +163,36 @@ fn first_other(
     Ok(None)
 }
 
-const WHOLE: Asked = Asked::Draw(Part::ALL);
+const WHOLE: Asked = Asked::Draw(Part::ALL, Axis::Lines);
 
-const FIVE_CPUS: Asked = Asked::Draw(Part {
-    cpus: Some(Interval { first: 3, last: 7 }),
-    lines: None,
-});
+const BY_TICKS: Asked = Asked::Draw(Part::ALL, Axis::Ticks);
 
-const ONE_LINE: Asked = Asked::Draw(Part {
-    cpus: None,
-    lines: Some(Interval { first: 9, last: 9 }),
-});
+const FIVE_CPUS: Asked = Asked::Draw(
+    Part {
+        cpus: Some(Interval { first: 3, last: 7 }),
+        lines: None,
+    },
+    Axis::Lines,
+);
 
-const CPUS_AND_LINES: Asked = Asked::Draw(Part {
-    cpus: Some(Interval { first: 0, last: 0 }),
-    lines: Some(Interval {
-        first: 1_000,
-        last: u32::MAX,
-    }),
-});
+const ONE_LINE: Asked = Asked::Draw(
+    Part {
+        cpus: None,
+        lines: Some(Interval { first: 9, last: 9 }),
+    },
+    Axis::Lines,
+);
+
+const CPUS_AND_LINES: Asked = Asked::Draw(
+    Part {
+        cpus: Some(Interval { first: 0, last: 0 }),
+        lines: Some(Interval {
+            first: 1_000,
+            last: u32::MAX,
+        }),
+    },
+    Axis::Lines,
+);
 
 const TOTALS: Asked = Asked::Run(ReportForm::Totals, None);
 
@@ -171,7 +207,7 @@ const EACH_REFUSAL: Asked = Asked::Run(ReportForm::EachRefusal, None);
 const PICTURE: Asked = Asked::Run(ReportForm::Picture, None);
 
 /// Words, and what they ask for, of which file.
-static COMMANDS: [(&[&str], Asked, Option<&str>); 24] = [
+static COMMANDS: [(&[&str], Asked, Option<&str>); 26] = [
     (&["pc-sim", "replay"], Asked::Replay, None),
     (
         &["pc-sim", "replay", "a.script"],
@@ -186,6 +222,7 @@ static COMMANDS: [(&[&str], Asked, Option<&str>); 24] = [
     (&["pc-sim", "explain", "-"], Asked::Explain, None),
     (&["pc-sim", "draw", "a.script"], WHOLE, Some("a.script")),
     (&["pc-sim", "draw", "-"], WHOLE, None),
+    (&["pc-sim", "draw", "--time"], BY_TICKS, None),
     (
         &["pc-sim", "draw", "--cpus", "3-7", "a.script"],
         FIVE_CPUS,
@@ -254,17 +291,22 @@ static COMMANDS: [(&[&str], Asked, Option<&str>); 24] = [
     ),
     (
         &["pc-sim", "lab", "-"],
-        Asked::Lab(false, false, false),
+        Asked::Lab(false, false, false, false),
         None,
     ),
     (
         &["pc-sim", "lab", "l.toml", "--per-cpu", "--variants", "-"],
-        Asked::Lab(true, true, false),
+        Asked::Lab(true, true, false, false),
         Some("l.toml"),
     ),
     (
         &["pc-sim", "lab", "--variants=v.toml", "--csv", "l.toml"],
-        Asked::Lab(true, false, true),
+        Asked::Lab(true, false, true, false),
+        Some("l.toml"),
+    ),
+    (
+        &["pc-sim", "lab", "--picture", "l.toml"],
+        Asked::Lab(false, false, false, true),
         Some("l.toml"),
     ),
 ];

@@ -37,7 +37,7 @@ fn ended(
 /// Whether the lab ends so, and writes that.
 fn is_so(alloc: Global, row: &Row) -> Result<bool, Fail> {
     let (load, others, script, ending, output) = *row;
-    let wanted = Wanted::of(true, true, Some(String::from_str(alloc, script)?));
+    let wanted = Wanted::of(true, true, true, Some(String::from_str(alloc, script)?));
     let mut writer = BufWriter::new(alloc, Vec::new(alloc))?;
     let same = ended(alloc, load, others, &wanted, &mut writer) == ending;
     Ok(same && writer.get_ref().as_slice() == output.as_bytes())

@@ -15,5 +15,6 @@ returns-in_ok-script-2-clause-asked c =
     let from : IsFrom (first_of (codes "variants") (rows_of (found_of c.in-Some.met.now))) c.in_ok-variants.variants = search rules in
     let each : IsTrue c.is_set-then-eq-5.result ↔ IsSet (codes "per-cpu") (rows_of (found_of c.in-Some.met.now)) = search rules in
     let csv : IsTrue c.is_set-then-eq-5-2.result ↔ IsSet (codes "csv") (rows_of (found_of c.in-Some.met.now)) = search rules in
+    let picture : IsTrue c.is_set-then-eq-5-3.result ↔ IsSet (codes "picture") (rows_of (found_of c.in-Some.met.now)) = search rules in
     let script : option_map string_bytes c.in_ok-script-2.script ≡ first_of (codes "script") (rows_of (found_of c.in-Some.met.now)) = search rules in
-    subst (λ m. IsAsked m (Lab c.in_ok-file.file c.in_ok-variants.variants c.is_set-then-eq-5.result c.is_set-then-eq-5-2.result c.in_ok-script-2.script)) (sym met) ((name, file), from, each, csv, script)
+    subst (λ m. IsAsked m (Lab c.in_ok-file.file c.in_ok-variants.variants c.is_set-then-eq-5.result c.is_set-then-eq-5-2.result c.is_set-then-eq-5-3.result c.in_ok-script-2.script)) (sym met) ((name, file), from, each, csv, picture, script)

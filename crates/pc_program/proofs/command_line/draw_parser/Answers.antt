@@ -1,7 +1,7 @@
 use Rattle.std.proofs.Common.{ap, ap₂, codes, ◌≡◌, ◌∙◌}
 use Rattle.std.proofs.lemmas.Result.{IfOk-weaker}
 use Rattle.clap.specs.Simple.{app_of, app_of_fields, with_rule}
-use Rattle.pc_program.specs.CommandLine.{of_file, option}
+use Rattle.pc_program.specs.CommandLine.{flag, of_file, option}
 use Rattle.pc_program.proofs.command_line.draw_parser.Goals as goal
 
 pub returns : goal.returns
@@ -10,4 +10,6 @@ returns c =
     ap app_of_fields c.after_help.ensures ∙ ap app_of_fields c.about.ensures ∙ c.in_ok-parser_of_file.ensures in
     let first : app_of c.in_ok-arg.field-0 ≡ with_rule (of_file (codes "draw")) (option (codes "cpus")) =
     c.in_ok-arg.ensures.shape c.option_of-cpus.ensures.local ∙ ap₂ with_rule of c.option_of-cpus.ensures.rule in
-    IfOk-weaker c.arg-2.result _ _ (λ parser h. h.shape c.option_of-lines.ensures.local ∙ ap₂ with_rule first c.option_of-lines.ensures.rule) c.arg-2.ensures
+    let second : app_of c.in_ok-arg-2.field-0 ≡ with_rule (with_rule (of_file (codes "draw")) (option (codes "cpus"))) (option (codes "lines")) =
+    c.in_ok-arg-2.ensures.shape c.option_of-lines.ensures.local ∙ ap₂ with_rule first c.option_of-lines.ensures.rule in
+    IfOk-weaker c.arg-3.result _ _ (λ parser h. h.shape c.flag_of-time.ensures.local ∙ ap₂ with_rule second c.flag_of-time.ensures.rule) c.arg-3.ensures

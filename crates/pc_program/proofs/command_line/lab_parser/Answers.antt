@@ -15,4 +15,8 @@ returns c =
     let sided : app_of c.in_ok-arg-3.field-0 ≡
     with_rule (with_rule (with_rule (of_file (codes "lab")) (option (codes "variants"))) (flag (codes "per-cpu"))) (flag (codes "csv")) =
     c.in_ok-arg-3.ensures.shape c.flag_of-csv.ensures.local ∙ ap₂ with_rule each c.flag_of-csv.ensures.rule in
-    IfOk-weaker c.arg-4.result _ _ (λ parser h. h.shape c.option_of-script.ensures.local ∙ ap₂ with_rule sided c.option_of-script.ensures.rule) c.arg-4.ensures
+    let drawn : app_of c.in_ok-arg-4.field-0 ≡
+    with_rule (with_rule (with_rule (with_rule (of_file (codes "lab")) (option (codes "variants"))) (flag (codes "per-cpu"))) (flag (codes "csv")))
+    (flag (codes "picture")) =
+    c.in_ok-arg-4.ensures.shape c.flag_of-picture.ensures.local ∙ ap₂ with_rule sided c.flag_of-picture.ensures.rule in
+    IfOk-weaker c.arg-5.result _ _ (λ parser h. h.shape c.option_of-script.ensures.local ∙ ap₂ with_rule drawn c.option_of-script.ensures.rule) c.arg-5.ensures

@@ -1,0 +1,181 @@
+//! The command that runs agents in threads: its settings, its screen, its limit, and the file of its calls.
+
+use crate::end;
+use crate::met::{Met, Source};
+use crate::streams::Noted;
+use pc_program::{
+    AgentPolicy, Ending, MOST_SETTINGS, Progress, ReportForm, SoFar, read_settings, run_flushed,
+    run_scripted, write_trouble,
+};
+use std::alloc::Global;
+use std::fs::File;
+use std::io::{BufWriter, IsTerminal, Read, Stderr, Write};
+use std::process::ExitCode;
+use std::sync::Wait;
+use std::thread::Threads;
+use std::time::{Clock, Duration, Instant};
+
+/// The settings text that a stream gives.
+fn settings_in<R: Read + Drop>(alloc: Global, reader: R) -> Result<String, Met> {
+    let mut reader = Noted::new(reader);
+    match read_settings(alloc, &mut reader) {
+        Ok(text) => Ok(text),
+        Err(ending) => Err(Met::of(ending, reader.fault())),
+    }
+}
+
+/// The settings text of the file, or else of the standard input.
+fn settings_of(rt: &HostRuntime, source: &Source) -> Result<String, Met> {
+    match &source.0 {
+        None => settings_in(rt.alloc(), rt.stdin()),
+        Some(name) => match File::open(rt, name.as_str()) {
+            Ok(file) => settings_in(rt.alloc(), file),
+            Err(error) => Err(Met::unopened(error)),
+        },
+    }
+}
+
+/// Standard error, where a person reads it at a terminal.
+fn screen_of(rt: &HostRuntime) -> Option<Stderr> {
+    let stderr = rt.stderr();
+    if stderr.is_terminal() {
+        Some(stderr)
+    } else {
+        None
+    }
+}
+
+/// When a run that begins now is given up. Where the clock cannot be read it is not.
+fn deadline_of(rt: &HostRuntime, limit: Option<u32>) -> Option<Instant> {
+    let seconds = limit? as u64;
+    Instant::now(rt)
+        .ok()?
+        .checked_add(Duration::from_secs(seconds))
+}
+
+/// Runs agents by a settings text, and reports through a buffer of its own.
+fn run_settings<R: Threads + Wait + Clock + Sync, S: Write + Copy + Sync, W: Write + Drop>(
+    rt: &R,
+    alloc: Global,
+    text: &str,
+    policy: AgentPolicy,
+    form: ReportForm,
+    progress: &Progress<S>,
+    writer: W,
+) -> Met {
+    let Ok(mut writer) = BufWriter::new(alloc, Noted::new(writer)) else {
+        return Met::ended(Ending::OutOfMemory);
+    };
+    let ending = run_flushed(rt, alloc, text, policy, form, progress, &mut writer);
+    Met::of(ending, writer.get_ref().fault())
+}
+
+/// A file into which the calls of a run are written.
+#[derive(Drop)]
+struct ScriptFile {
+    name: String,
+    file: File,
+}
+
+/// The file of this name, made or emptied, where there is a name.
+fn script_file(rt: &HostRuntime, name: Option<String>) -> Result<Option<ScriptFile>, Met> {
+    let Some(name) = name else { return Ok(None) };
+    match File::create(rt, name.as_str()) {
+        Ok(file) => Ok(Some(ScriptFile { name, file })),
+        Err(error) => Err(Met::unmade(error, name)),
+    }
+}
+
+/// The same, and writes the calls as a script into the file, through another buffer.
+fn run_with_script<R: Threads + Wait + Clock + Sync, S: Write + Copy + Sync, W: Write + Drop>(
+    rt: &R,
+    alloc: Global,
+    text: &str,
+    policy: AgentPolicy,
+    form: ReportForm,
+    progress: &Progress<S>,
+    script: ScriptFile,
+    writer: W,
+) -> Met {
+    let ScriptFile { name, file } = script;
+    let Ok(mut script) = BufWriter::new(alloc, Noted::new(file)) else {
+        return Met::ended(Ending::OutOfMemory);
+    };
+    let Ok(mut writer) = BufWriter::new(alloc, Noted::new(writer)) else {
+        return Met::ended(Ending::OutOfMemory);
+    };
+    let ending = run_scripted(
+        rt,
+        alloc,
+        text,
+        policy,
+        form,
+        progress,
+        &mut script,
+        &mut writer,
+    );
+    match script.get_ref().fault() {
+        Some(said) => Met::of_file(ending, said, name),
+        None => Met::of(ending, writer.get_ref().fault()),
+    }
+}
+
+/// The same of a run by a settings text. Of settings that have a fault it says which, and of a run that did not settle
+/// how far it came.
+fn end_run(rt: &HostRuntime, met: &Met, source: &Source, text: &str, so_far: SoFar) -> ExitCode {
+    let status = end(rt, met, source, MOST_SETTINGS);
+    // Nothing can be said of an error on standard error itself.
+    match met.ending {
+        Ending::Settings(_) => {
+            let _ = write_trouble(rt.alloc(), text, &mut rt.stderr());
+        }
+        Ending::Run(_) => {
+            let _ = eprintln!(rt; "pc-sim: {so_far}");
+        }
+        _ => {}
+    }
+    status
+}
+
+/// Runs agents by a settings text, and where a file is named writes their calls as a script, too. That file is made
+/// before the run begins, which may take long. Threads come of a handle of their own: `rt` lends none outside `main`.
+fn run_told<R: Threads + Wait + Clock + Sync>(
+    rt: &HostRuntime,
+    threads: &R,
+    text: &str,
+    policy: AgentPolicy,
+    form: ReportForm,
+    script: Option<String>,
+    progress: &Progress<Stderr>,
+) -> Met {
+    let (alloc, out) = (rt.alloc(), rt.stdout());
+    match script_file(rt, script) {
+        Ok(None) => run_settings(threads, alloc, text, policy, form, progress, out),
+        Ok(Some(script)) => {
+            run_with_script(threads, alloc, text, policy, form, progress, script, out)
+        }
+        Err(met) => met,
+    }
+}
+
+/// Runs agents by the settings of the file, or else of the standard input, and says how that ended.
+pub(crate) fn run_on_machine<R: Threads + Wait + Clock + Sync>(
+    rt: &HostRuntime,
+    threads: &R,
+    file: Option<String>,
+    form: ReportForm,
+    limit: Option<u32>,
+    policy: AgentPolicy,
+    script: Option<String>,
+) -> ExitCode {
+    let source = Source(file);
+    match settings_of(rt, &source) {
+        Ok(text) => {
+            let text = text.as_str();
+            let progress = Progress::new(screen_of(rt), deadline_of(rt, limit));
+            let met = run_told(rt, threads, text, policy, form, script, &progress);
+            end_run(rt, &met, &source, text, progress.so_far())
+        }
+        Err(met) => end(rt, &met, &source, MOST_SETTINGS),
+    }
+}
