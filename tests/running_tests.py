@@ -60,6 +60,30 @@ def run(*words: str, text: str) -> subprocess.CompletedProcess[str]:
     return subprocess.run([str(PROGRAM), *words], input=text, capture_output=True, text=True, timeout=SECONDS)
 
 
+def script_of(policy: str, text: str) -> list[str]:
+    """The lines of the script of a run by this policy."""
+    with tempfile.TemporaryDirectory() as folder:
+        script = pathlib.Path(folder) / "run.script"
+        ended = run("run", "--policy", policy, "--script", str(script), text=text)
+        if (ended.returncode, ended.stderr) != (0, ""):
+            raise AssertionError((policy, text, ended))
+        return script.read_text().splitlines()
+
+
+def commits_of(lines: list[str]) -> list[str]:
+    """Which threads were committed, in order."""
+    return [line.split()[2] for line in lines if line.startswith("commit ")]
+
+
+def picked(policy: str, lines: list[str]) -> list[str]:
+    """Which threads an agent of one CPU picks by this policy, where the script of a run has it commit one."""
+    order, *exact = policy.split(",")
+    picks = [re.sub(r"^commit 0 t\d+ ", "pick 0 ", line) for line in lines]
+    ended = run("replay", text="\n".join(["version 3", picks[0], " ".join(["policy", order, *exact]), *picks[1:], ""]))
+    replies = ended.stdout.splitlines()[2:]
+    return [reply.split()[1] for line, reply in zip(picks[1:], replies[1:], strict=True) if line.startswith("pick ")]
+
+
 def counts_of(line: str) -> dict[str, int]:
     """The counts of a CPU's line, by their words."""
     words = CPU_LINE.fullmatch(line)[2].split()
@@ -125,9 +149,13 @@ class Runs(unittest.TestCase):
             steps = len(re.findall(r'"(?:yield|block|preempt|die) ', text))
             reports = set()
             for policy in POLICIES:
-                ended = run("run", "--policy", policy, text=text)
+                ended = run("run", "--policy", policy, "--per-cpu", "--per-cpu", text=text)
                 self.assertEqual((ended.returncode, ended.stderr), (0, ""), (policy, text))
-                reports.add(ended.stdout)
+                lines = ended.stdout.splitlines()
+                reports.add("\n".join(lines[:4]))
+                # An exact steal is of a thread of which all is known, so also that it is not dead.
+                dead = sum(counts_of(line)["Dead"] for line in lines[4:])
+                self.assertFalse(policy.endswith(",exact") and dead, (policy, text))
             self.assertEqual(len(reports), 1, text)
             self.assertIn(f"\ncommits {steps}\n", reports.pop(), text)
 
@@ -137,12 +165,47 @@ class Runs(unittest.TestCase):
         text = "cpus = 1\n" + "".join(plan.text() for plan in plans)
         wanted = {"fifo": ["t0", "t1", "t2", "t0", "t1", "t2", "t2"], "least-ran": ["t0", "t1", "t2", "t2", "t2", "t1", "t0"]}
         for policy, threads in wanted.items():
-            with tempfile.TemporaryDirectory() as folder:
-                script = pathlib.Path(folder) / "run.script"
-                ended = run("run", "--policy", policy, "--script", str(script), text=text)
-                self.assertEqual((ended.returncode, ended.stderr), (0, ""))
-                commits = [line.split()[2] for line in script.read_text().splitlines() if line.startswith("commit ")]
-            self.assertEqual(commits, threads, policy)
+            self.assertEqual(commits_of(script_of(policy, text)), threads, policy)
+
+    def test_exact_steals_take_the_fewest_ticks(self):
+        """The first agent forgets both threads behind the yield, and is told of both again: it steals the first one, by
+        its name, or the one that did not run yet. `fifo` has both alike, and then the name counts."""
+        plans = [Plan(0, 1, ["yield 5", "die 1"]), Plan(0, 1, ["die 1"])]
+        text = "cpus = 2\n" + "".join(plan.text() for plan in plans) + "[[restart]]\ncpu = 0\nturn = 2\n"
+        by_name, by_ticks = ["t0", "t0", "t1"], ["t0", "t1", "t0"]
+        wanted = {"least-ran": by_name, "least-ran,exact": by_ticks, "fifo": by_name, "fifo,exact": by_name}
+        for policy, threads in wanted.items():
+            self.assertEqual(commits_of(script_of(policy, text)), threads, policy)
+
+    def test_a_run_of_one_agent_commits_what_it_picks(self):
+        """An agent of a script, which looks where that of the run did, picks by the same policy what that one committed,
+        and by another one, for some settings, something else. All threads of a run have level 0, so `fifo` is `levels`."""
+        rng = random.Random(83)
+        others = {"fifo": 0, "fifo,exact": 0, "least-ran": 0, "least-ran,exact": 0}
+        for _ in range(DRAWN // 4):
+            steps = [[f"{rng.choice(LEAVES[:3])} {rng.randint(0, 9)}" for _ in range(rng.randint(1, 6))] for _ in range(5)]
+            text = "cpus = 1\n" + "".join(Plan(0, 1, [*each, "die 1"]).text() for each in steps)
+            for policy in others:
+                lines = script_of(policy, text)
+                self.assertEqual(picked(policy, lines), commits_of(lines), (policy, text))
+                other = "least-ran" if policy.startswith("fifo") else "levels"
+                others[policy] += picked(other, lines) != commits_of(lines)
+        self.assertTrue(all(others.values()), others)
+
+    def test_who_commits_or_sleeps_has_read_all(self):
+        """An agent's commit and its sleep are accepted under the count of posts that it read, and it has removed what it
+        read by then: so nothing is left in its queue, which a look before each of both tells."""
+        rng = random.Random(47)
+        for _ in range(DRAWN):
+            text = drawn(rng)
+            looked = []
+            for line in script_of("levels", text):
+                verb, *words = line.split()
+                looked += [f"publish {words[0]}", line] if verb in ("commit", "sleep") else [line]
+            replies = run("replay", text="\n".join([*looked, ""])).stdout.splitlines()
+            for line, behind, reply in zip(looked, [*looked[1:], ""], replies, strict=True):
+                if line.startswith("publish ") and behind.startswith(("commit ", "sleep ")):
+                    self.assertRegex(reply, r"\Aok d\d+ items 0\Z", (behind, text))
 
     def test_a_long_run_is_given_up(self):
         """However fast the machine is: the program is stopped, once its run has begun, until its limit is over."""

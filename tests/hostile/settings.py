@@ -262,18 +262,14 @@ def spoilt(chance, text):
     return "".join(words).encode("latin-1" if chance.random() < 0.5 else "utf-8")
 
 
-MANY_RESTARTS = 32  # So many agents that restart may ask and answer each other for minutes.
-
-
 def may_wait(text):
-    """Whether a run may wait without end, as docs/FORMATS.md says: several agents restart, and some thread may run only on their CPUs, or
-    many do."""
+    """Whether a run may wait without end, as docs/FORMATS.md says: two agents restart or more, and some thread may run only where they do."""
     try:
         settings = tomllib.loads(text.decode())
         restarting = {row["cpu"] for row in settings["restart"]}
         mask = sum(1 << cpu for cpu in restarting if 0 <= cpu < 64)
         bound = any(thread["mask"] & ~mask == 0 for thread in settings.get("thread", []))
-        return len(restarting) >= MANY_RESTARTS or len(restarting) >= 2 and bound
+        return len(restarting) >= 2 and bound
     except (ValueError, KeyError, TypeError):
         return False
 

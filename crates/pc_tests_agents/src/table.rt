@@ -1,6 +1,7 @@
-//! Worked loads of the lab, compared: tables and CSV to the byte, of which the numbers were found by hand.
+//! Worked loads of the lab, compared: tables and CSV to the byte, of which the numbers were found by hand, and what a
+//! picture begins with.
 
-use pc_compare::{CompareFault, Form, Layout, compare, script_of};
+use pc_compare::{CompareFault, Form, Layout, compare, picture_of, script_of};
 use pc_load::{Leaving, Load, Step, ThreadDraft, VariantDraft, Variants};
 use std::alloc::Global;
 
@@ -318,6 +319,20 @@ static NONE_SCRIPT: &[u8] = b"\
     sleep 0 0\n\
     ";
 
+/// What the picture of the same eight threads begins with.
+static STEALS_HEAD: &[u8] = b"\
+    <svg xmlns=\"http://www.w3.org/2000/svg\" width=\"820\" height=\"562\" viewBox=\"0 0 820 562\"\
+    \x20font-family=\"sans-serif\">\n\
+    <title>alone: waits 8, p50 30, p90 70, p99 70; steals: waits 8, p50 10, p90 30, p99 30</title>\n\
+    ";
+
+/// What a picture of no threads begins with.
+static NONE_HEAD: &[u8] = b"\
+    <svg xmlns=\"http://www.w3.org/2000/svg\" width=\"820\" height=\"544\" viewBox=\"0 0 820 544\"\
+    \x20font-family=\"sans-serif\">\n\
+    <title>plain: waits 0, p50 -, p90 -, p99 -</title>\n\
+    ";
+
 /// A thread of CPU 0's queue.
 fn draft(
     alloc: Global,
@@ -478,6 +493,34 @@ fn nothing_is_told(alloc: Global) -> Result<bool, CompareFault> {
     Ok(table && csv)
 }
 
+/// The picture of runs of the load.
+fn picture(
+    alloc: Global,
+    load: &Load,
+    drafts: &[VariantDraft<'_>],
+) -> Result<Vec<u8>, CompareFault> {
+    let variants = variants_of(alloc, drafts)?;
+    picture_of(alloc, load, &variants)
+}
+
+/// Whether the picture of the eight threads begins so.
+fn steals_are_drawn(alloc: Global) -> Result<bool, CompareFault> {
+    let load = eight(alloc)?;
+    let alone = VariantDraft {
+        group: 1,
+        ..plain("alone")
+    };
+    let text = picture(alloc, &load, &[alone, plain("steals")])?;
+    Ok(text.as_slice().starts_with(STEALS_HEAD))
+}
+
+/// Whether the picture of no threads begins so.
+fn nothing_is_drawn(alloc: Global) -> Result<bool, CompareFault> {
+    let load = none(alloc)?;
+    let text = picture(alloc, &load, &[])?;
+    Ok(text.as_slice().starts_with(NONE_HEAD))
+}
+
 /// The script of the run of no threads under the variant of this name.
 fn script(alloc: Global, name: &str) -> Result<Vec<u8>, CompareFault> {
     let load = none(alloc)?;
@@ -517,6 +560,14 @@ fn tables_of_refusals_are_the_worked_ones(rt: HostRuntime) {
 fn tables_of_nothing_have_dashes(rt: HostRuntime) {
     let is_told = nothing_is_told(rt.alloc()).expect(&rt, "ample memory");
     assert!(rt; is_told);
+}
+
+#[test]
+fn pictures_tell_the_worked_percentiles(rt: HostRuntime) {
+    let is_drawn = steals_are_drawn(rt.alloc()).expect(&rt, "ample memory");
+    assert!(rt; is_drawn);
+    let is_empty = nothing_is_drawn(rt.alloc()).expect(&rt, "ample memory");
+    assert!(rt; is_empty);
 }
 
 #[test]

@@ -21,14 +21,19 @@ const STALE: Order<'static> = Order {
     plans: &TWO_STEPS,
     turns: &[],
     // The third agent knows no more than the second one, and answers nothing. It is the only one that can wake the
-    // second one for its third turn.
-    holds: &[(1, 1, 0, 3), (1, 4, DRIVER, 1), (0, 4, 1, 7)],
+    // second one for its third turn, in which the thread is dead.
+    holds: &[
+        (1, 1, 0, 3),
+        (1, 4, DRIVER, 1),
+        (0, 4, 1, 7),
+        (1, 7, DRIVER, 2),
+    ],
     rests: &[],
 };
 
 #[test]
 fn a_stale_steal_is_counted_and_all_are_asked(rt: HostRuntime) {
-    const FACTS: [Fact<'static>; 2] = [Fact::Totals([1, 3, 2, 2]), Fact::SomeStale];
+    const FACTS: [Fact<'static>; 2] = [Fact::Totals([1, 3, 2, 2]), Fact::SecondStale(1)];
     comes_to_ordered(&rt, rt.alloc(), &STALE, &FACTS);
 }
 
@@ -88,10 +93,26 @@ const PENDING: Order<'static> = Order {
     rests: &[],
 };
 
+// In the second turn of the first agent the thread runs, and in its third one it is dead. The second agent does its own
+// third one when the first one is told the end.
 #[test]
 fn a_pending_steal_is_counted_and_all_are_asked(rt: HostRuntime) {
-    const FACTS: [Fact<'static>; 2] = [Fact::Totals([1, 2, 1, 1]), Fact::Pending(1)];
-    comes_to_ordered(&rt, rt.alloc(), &PENDING, &FACTS);
+    const ORDER: Order<'static> = Order {
+        holds: &[
+            (1, 1, SENDERS, 1),
+            (SENDERS, 1, 1, 6),
+            (ASKER, 1, 0, 6),
+            (1, 7, 0, 10),
+        ],
+        ..PENDING
+    };
+    const FACTS: [Fact<'static>; 4] = [
+        Fact::Totals([1, 2, 1, 1]),
+        Fact::Pending(1),
+        Fact::FirstCounts([2, 1, 0, 0, 0, 3]),
+        Fact::FirstRefused([1, 1, 1, 0]),
+    ];
+    comes_to_ordered(&rt, rt.alloc(), &ORDER, &FACTS);
 }
 
 // Both agents start again after the first one alone has removed its thread's first message, so nobody knows it. Each
@@ -178,6 +199,42 @@ fn a_block_and_its_wake_are_both_told(rt: HostRuntime) {
         rests: &[],
     };
     comes_to_ordered(&rt, rt.alloc(), &ORDER, &[Fact::Totals([1, 4, 2, 2])]);
+}
+
+// The agent has read the block, and is held where it has told of that until the thread is woken. So its pick is stale,
+// and it may not sleep: nothing would tell it of the wake.
+#[test]
+fn a_pick_and_a_sleep_are_under_the_count_that_was_read(rt: HostRuntime) {
+    const ORDER: Order<'static> = Order {
+        cpus: 1,
+        plans: &[(0, 1, &[Step::Block(1), Step::Die(1)])],
+        turns: &[],
+        holds: &[(WAKER, 1, SENDERS, 2), (SENDERS, 2, DRIVER, 1)],
+        rests: &[],
+    };
+    const FACTS: [Fact<'static>; 3] = [
+        Fact::Totals([1, 4, 2, 2]),
+        Fact::FirstCounts([4, 2, 0, 1, 0, 2]),
+        Fact::FirstRefused([0, 1, 1, 0]),
+    ];
+    comes_to_ordered(&rt, rt.alloc(), &ORDER, &FACTS);
+}
+
+// The second agent begins its second turn when the first one has ended, and reads the end of its thread there. What
+// wakes it for that gives it a third turn, before which it forgets it: the first one was told behind its end.
+#[test]
+fn what_is_told_behind_an_end_is_taken_in(rt: HostRuntime) {
+    const ORDER: Order<'static> = Order {
+        cpus: 2,
+        plans: &[(1, 2, &[Step::Die(1)])],
+        turns: &[(1, 1), (1, 3)],
+        // The first agent has answered, which gives the second one its second turn, when its own second one begins. Its
+        // seventh point is where it copies at the end.
+        holds: &[(1, 3, 0, 4), (1, 4, 0, 7)],
+        rests: &[],
+    };
+    const FACTS: [Fact<'static>; 2] = [Fact::Totals([1, 2, 1, 1]), Fact::Rouses(2)];
+    comes_to_ordered(&rt, rt.alloc(), &ORDER, &FACTS);
 }
 
 // Each agent has a restart to come that does not, so what the other one publishes wakes it. Each publishes four times.

@@ -52,15 +52,15 @@ pub(crate) enum Fact<'a> {
     EachCounts([u64; 6]),
     /// Some agent took a thread over.
     SomeSteal,
-    /// Some agent's pick or steal was refused as stale.
-    SomeStale,
+    /// So many picks and steals of the second agent were refused as stale.
+    SecondStale(u64),
     /// So many steals were refused as messages were pending.
     Pending(u64),
     /// What the first agent was refused by name: busy, nothing ready, nothing to steal, dead.
     FirstRefused([u64; 4]),
     /// The same, of the last agent: dead alone.
     LastDead(u64),
-    /// How many calls woke an agent that started again.
+    /// How many calls woke the second agent, which started again.
     Rouses(usize),
     /// Fewer calls than that are listed.
     FewerCalls(usize),
@@ -115,7 +115,7 @@ fn is_so_of(rows: &[Row], fact: &Fact<'_>) -> bool {
         Fact::FirstCounts(wanted) => has_counted(rows.first(), wanted),
         Fact::EachCounts(wanted) => each_counted(rows, wanted),
         Fact::SomeSteal => rows.iter().any(|row| row.steals >= 1),
-        Fact::SomeStale => rows.iter().any(|row| row.stale >= 1),
+        Fact::SecondStale(wanted) => rows.get(1).map(|row| row.stale) == Some(wanted),
         Fact::Pending(wanted) => pending(rows) == wanted,
         Fact::FirstRefused(wanted) => rows.first().map(refused) == Some(wanted),
         Fact::LastDead(wanted) => rows.last().map(|row| row.dead) == Some(wanted),
@@ -123,11 +123,11 @@ fn is_so_of(rows: &[Row], fact: &Fact<'_>) -> bool {
     }
 }
 
-/// How many of the calls wake an agent that started again.
+/// How many of the calls wake the second agent, which started again.
 fn rouses(calls: &[(Call, Answer)]) -> usize {
     calls
         .iter()
-        .filter(|entry| matches!(entry.0, Call::Agent(AgentCall::Rouse { .. })))
+        .filter(|entry| matches!(entry.0, Call::Agent(AgentCall::Rouse { cpu: Cpu(1) })))
         .count()
 }
 
