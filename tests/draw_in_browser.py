@@ -1,11 +1,11 @@
 #!/usr/bin/env python3
 """Has a real browser show pictures that the built program draws, and keeps what it shows as PNG.
 
-    tests/draw_in_browser.py [--program PROGRAM] [--browser BROWSER] [--to FOLDER] [FILE ..]
+    tests/draw_in_browser.py [--program PROGRAM] [--browser BROWSER] [--to FOLDER] [--variants FILE] [FILE ..]
 
-FILE is a script or settings (of which the report is drawn); without one, three of examples/. It needs headless Chromium (Debian's package
-`chromium`). ./test does not need it: the pictures are for people, and docs/pictures keeps three. A picture that the browser cannot parse, or that shows
-no element, is a failure. The last line is 'N passed, M failed'.
+FILE is a script or settings (of which the report is drawn); without one, three of examples/. With --variants it is a load of the lab, whose waits are
+drawn under these variants. It needs headless Chromium (Debian's package `chromium`). ./test does not need it: the pictures are for people, and
+docs/pictures keeps four. A picture that the browser cannot parse, or that shows no element, is a failure. The last line is 'N passed, M failed'.
 """
 from __future__ import annotations
 
@@ -36,8 +36,10 @@ document.title = `faults ${{faults}} shown ${{shown}} titles ${{picture.querySel
 </script>"""
 
 
-def drawn(program: pathlib.Path, file: pathlib.Path) -> bytes:
+def drawn(program: pathlib.Path, file: pathlib.Path, variants: pathlib.Path | None) -> bytes:
     words = ["run", "--draw"] if file.suffix == ".toml" else ["draw"]
+    if variants:
+        words = ["lab", "--picture", "--variants", str(variants)]
     run = subprocess.run([str(program), *words, str(file)], stdout=subprocess.PIPE, timeout=SECONDS)
     if run.returncode not in (0, 1) or not run.stdout:
         raise ValueError(f"{program.name} ended with {run.returncode}")
@@ -59,11 +61,11 @@ def browse(browser: str, folder: pathlib.Path, *words: str) -> str:
     return run.stdout
 
 
-def fault_of(browser: str, program: pathlib.Path, file: pathlib.Path, to: pathlib.Path) -> str | None:
+def fault_of(browser: str, program: pathlib.Path, file: pathlib.Path, variants: pathlib.Path | None, to: pathlib.Path) -> str | None:
     """What is wrong with the picture of the file, of which PNG and SVG are put into the folder."""
-    picture = drawn(program, file)
+    picture = drawn(program, file, variants)
     width, height = size_of(picture)
-    name = f"{file.stem}-report" if file.suffix == ".toml" else file.stem
+    name = f"{file.stem}-waits" if variants else f"{file.stem}-report" if file.suffix == ".toml" else file.stem
     svg, png = (to / f"{name}{suffix}" for suffix in (".svg", ".png"))
     svg.write_bytes(picture)
     with tempfile.TemporaryDirectory() as name:
@@ -88,13 +90,14 @@ def main() -> int:
     parser.add_argument("--program", type=pathlib.Path, default=PROGRAM)
     parser.add_argument("--browser", default=shutil.which("chromium") or "chromium")
     parser.add_argument("--to", type=pathlib.Path, default=pathlib.Path(tempfile.gettempdir()))
+    parser.add_argument("--variants", type=pathlib.Path, metavar="FILE")
     parser.add_argument("file", type=pathlib.Path, nargs="*", default=EXAMPLES)
     options = parser.parse_args()
     options.to.mkdir(parents=True, exist_ok=True)
     passed = failed = 0
     for file in options.file:
         try:
-            fault = fault_of(options.browser, options.program, file, options.to)
+            fault = fault_of(options.browser, options.program, file, options.variants, options.to)
         except (OSError, ValueError, subprocess.SubprocessError) as error:
             fault = str(error)
         passed, failed = (passed, failed + 1) if fault else (passed + 1, failed)

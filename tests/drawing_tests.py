@@ -778,11 +778,15 @@ class Drawings(unittest.TestCase):
 def main() -> int:
     parser = argparse.ArgumentParser(description=__doc__, formatter_class=argparse.RawDescriptionHelpFormatter)
     parser.add_argument("--program", type=pathlib.Path, default=PROGRAM)
-    Drawings.program = parser.parse_args().program.resolve()
+    program = parser.parse_args().program.resolve()
+    from timed_drawings import TimedDrawings  # it takes helpers from here
+
     passed = failed = 0
-    for test in unittest.defaultTestLoader.getTestCaseNames(Drawings):
+    cases = [(kind, name) for kind in (Drawings, TimedDrawings) for name in sorted(vars(kind)) if name.startswith("test")]
+    for kind, test in cases:
+        kind.program = program
         result = unittest.TestResult()
-        Drawings(test).run(result)
+        kind(test).run(result)
         faults = [text for _, text in [*result.failures, *result.errors]]
         passed, failed = (passed, failed + 1) if faults else (passed + 1, failed)
         for fault in faults:

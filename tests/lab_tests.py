@@ -4,26 +4,68 @@
     tests/lab_tests.py [--program PROGRAM] [--loads N] [--drawn N]
 
 tests/lab has loads with their tables, CSV, scripts and replies, of which 308 numbers were worked out by hand before,
-and loads that are faulty. N loads are drawn (60) whose runs the program has to answer as `tools/lab` expects, and N (50)
-of which it has to write what `tools/lab` writes, to the byte. The last line is 'N passed, M failed'.
+and loads that are faulty. N loads are drawn (60) whose runs the program has to answer as `tools/lab` expects, and N
+(50) of which it has to write what `tools/lab` writes, to the byte. What a picture has to show is worked out here from
+the CSV and the waits of `tools/lab`. The last line is 'N passed, M failed'.
 """
 from __future__ import annotations
 
 import argparse
+import bisect
+import csv
+import math
 import pathlib
 import random
+import re
 import subprocess
 import sys
 import tempfile
 import unittest
+import xml.etree.ElementTree as ElementTree
+from dataclasses import dataclass
 
 ROOT = pathlib.Path(__file__).resolve().parent.parent
+sys.path.insert(0, str(ROOT / "tools"))
+from lab_load import load_of, variants_of  # noqa: E402
+from lab_run import Run  # noqa: E402
+
 ROWS = ROOT / "tests/lab"
 PROGRAM = ROOT / "crates/pc_sim/out/pc_sim"
 LOADS = 60
 DRAWN = 50
 SECONDS = 300
 ORDERS = ("levels", "fifo", "least-ran", "levels-then-least-ran")
+SVG = "{http://www.w3.org/2000/svg}"
+PERCENTS = (50, 90, 99)
+# The frame of a picture of waits: where waits of 0 and of 1 tick stand, and the other edges.
+LEFT, FIRST, RIGHT, TOP, BOTTOM = 56, 92, 780, 56, 456
+# The shares that have a line, in hundredths, and those of them that are told at the left edge.
+SHARES, TOLD_SHARES = (0, 25, 50, 75, 90, 99, 100), (0, 25, 50, 75, 90, 100)
+# The legend: where its first line stands, how high a line is, and where its columns begin or end.
+HEAD, LINE = 514, 18
+COLUMNS = {132: "start", 430: "end", 550: "end", 670: "end", 780: "end"}
+# Where an element is, and how it looks. Nothing else may be told of one: nothing hides or moves it.
+PLACES = {"x", "y", "x1", "y1", "x2", "y2", "width", "height", "d"}
+LOOKS = {"fill", "stroke", "stroke-width", "stroke-dasharray", "font-size", "font-weight", "text-anchor"}
+# How many files of tests/lab end like this, and how many rows tests/lab/bad/expected has.
+FILES = {".toml": 8, ".table": 8, ".csv": 8, ".script": 20, ".replies": 20}
+FAULTS, MOST_BYTES = 59, 16_777_216
+
+
+def files(suffix: str) -> list[pathlib.Path]:
+    """The files of tests/lab that end so. None is missing, and none is there that is not counted."""
+    found = sorted(ROWS.glob(f"*{suffix}"))
+    if len(found) != FILES[suffix]:
+        raise AssertionError(f"{len(found)} files of tests/lab end with {suffix}, and not {FILES[suffix]}")
+    return found
+
+
+def faults() -> list[str]:
+    """The rows that tell what is wrong with the loads of tests/lab/bad."""
+    rows = (ROWS / "bad/expected").read_text().splitlines()
+    if len(rows) != FAULTS:
+        raise AssertionError(f"{len(rows)} rows tell faults, and not {FAULTS}")
+    return rows
 
 
 def lab(*words: object, folder: pathlib.Path = ROWS) -> subprocess.CompletedProcess[str]:
@@ -38,6 +80,113 @@ def program(*words: object, folder: pathlib.Path = ROWS, given: str = "") -> sub
 
 def replay(script: pathlib.Path) -> str:
     return subprocess.run([str(PROGRAM), "replay", str(script)], capture_output=True, text=True, timeout=SECONDS).stdout
+
+
+@dataclass
+class Told:
+    """What `tools/lab` tells of a run: the title of its curve, its percentiles, and how long each wait lasted."""
+
+    name: str
+    title: str
+    percentiles: dict[int, int]
+    waits: list[int]
+
+
+def told_of(load: pathlib.Path, variants: pathlib.Path | None = None) -> list[Told]:
+    """The same of each variant: the percentiles as the CSV has them."""
+    words = [load, *(["--variants", variants] if variants else [])]
+    rows = list(csv.DictReader(lab(*words, "--csv").stdout.splitlines()))
+    read = load_of(load.read_bytes())
+    tried = variants_of(variants.read_bytes()) if variants else read.variants
+    all_told = []
+    for row, variant in zip(rows, tried, strict=True):
+        waits = sorted(wait.ticks for wait in Run(read, variant).run().waits)
+        cells = {percent: row[f"wait_p{percent}"] for percent in PERCENTS}
+        title = f"{row['variant']}: waits {len(waits)}"
+        title += "".join(f", p{percent} {cell or '-'}" for percent, cell in cells.items())
+        percentiles = {percent: int(cell) for percent, cell in cells.items() if cell}
+        all_told.append(Told(row["variant"], title, percentiles, waits))
+    return all_told
+
+
+class Picture:
+    """A picture of waits, taken apart: of curves, marks, lines and bars their places and looks, by their titles."""
+
+    def __init__(self, text: str) -> None:
+        root = ElementTree.fromstring(text)
+        self.title = root.find(f"{SVG}title").text
+        self.size = int(root.get("width")), int(root.get("height"))
+        self.elements = list(root)[1:]
+        self.words = [it.text for it in self.all_of("text")]
+        self.curves: dict[str, list[tuple[int, int]]] = {}
+        self.marks: dict[str, list[tuple[int, int]]] = {}
+        self.looks: dict[str, list[dict[str, str]]] = {}
+        self.lines: dict[tuple[int, int, int, int], list[tuple[str, dict[str, str]]]] = {}
+        for path in self.all_of("path"):
+            self.take_path(path)
+        for line in self.all_of("line"):
+            place = tuple(int(line.get(name)) for name in ("x1", "y1", "x2", "y2"))
+            self.lines.setdefault(place, []).append((line[0].text, look_of(line)))
+
+    def all_of(self, kind: str) -> list[ElementTree.Element]:
+        return [it for it in self.elements if it.tag == SVG + kind]
+
+    def take_path(self, path: ElementTree.Element) -> None:
+        title, steps, look = path.find(f"{SVG}title").text, path.get("d"), look_of(path)
+        x, y = map(int, re.match(r"M(\d+),(\d+) ", steps).groups())
+        if " waits " in title:
+            ups = [(int(to), int(up)) for to, up in re.findall(r"H(\d+)V(\d+)", steps)]
+            self.curves[title] = [(x, y), *ups]
+        else:
+            self.marks.setdefault(title, []).append((x, y))
+            look["shape"] = steps[steps.index(" "):]
+        self.looks.setdefault(title, []).append(look)
+
+    def said(self, x: int | None = None, y: int | None = None) -> list[tuple[int, int, str, str]]:
+        """The words in this column, or at this height: where, what, and which end of them is there."""
+        words = [(int(it.get("x")), int(it.get("y")), it.text, it.get("text-anchor", "start"))
+                 for it in self.all_of("text")]
+        return sorted(it for it in words if x in (None, it[0]) and y in (None, it[1]))
+
+
+def look_of(element: ElementTree.Element) -> dict[str, str]:
+    """How an element looks, wherever it is."""
+    return {name: value for name, value in element.items() if name not in PLACES}
+
+
+def light_of(colour: str | None) -> float:
+    """How light a colour is: 0 is black, and 1 is white, and what has none."""
+    digits = (colour or "").removeprefix("#")
+    if not re.fullmatch(r"[0-9A-Fa-f]{3}|[0-9A-Fa-f]{6}", digits):
+        return 1
+    digits = "".join(2 * digit for digit in digits) if len(digits) == 3 else digits
+    red, green, blue = (int(digits[place:place + 2], 16) / 255 for place in (0, 2, 4))
+    return 0.2126 * red + 0.7152 * green + 0.0722 * blue
+
+
+def room_of(element: ElementTree.Element) -> list[tuple[float, float]]:
+    """Two corners of what an element takes: of words about their width, of a path five pixels around its beginning."""
+    at = [float(element.get(name, 0)) for name in ("x", "y", "x1", "y1", "x2", "y2", "width", "height")]
+    if element.tag == SVG + "rect":
+        return [(at[0], at[1]), (at[0] + at[6], at[1] + at[7])]
+    if element.tag == SVG + "line":
+        return [(at[2], at[3]), (at[4], at[5])]
+    if element.tag == SVG + "text":
+        wide = len(element.text) * int(element.get("font-size")) * 0.55
+        left = at[0] - wide * {"start": 0, "middle": 0.5, "end": 1}[element.get("text-anchor", "start")]
+        return [(left, at[1] - 8), (left + wide, at[1] + 2)]
+    x, y = map(int, re.match(r"M(\d+),(\d+) ", element.get("d")).groups())
+    return [(x - 5, y - 5), (x + 5, y + 5)]
+
+
+def place_of(ticks: int, decades: int) -> float:
+    """Where a wait stands: its logarithm, but for 0."""
+    return LEFT if ticks == 0 else FIRST + (RIGHT - FIRST) * math.log10(ticks) / decades
+
+
+def height_at(points: list[tuple[int, int]], x: int) -> int:
+    """How high a curve is above the bottom edge behind its step at this column of pixels."""
+    return BOTTOM - min((y for at, y in points if at <= x), default=BOTTOM)
 
 
 def drawn_load(chance: random.Random) -> str:
@@ -65,27 +214,26 @@ def drawn_load(chance: random.Random) -> str:
 
 class Rows(unittest.TestCase):
     def test_tables(self):
-        for load in sorted(ROWS.glob("*.toml")):
+        for load in files(".toml"):
             ended = lab(load.name)
             self.assertEqual((ended.returncode, ended.stderr), (0, ""), load.name)
             self.assertEqual(ended.stdout, load.with_suffix(".table").read_text(), load.name)
+        self.assertEqual([it.stem for it in files(".table")], [it.stem for it in files(".toml")])
 
     def test_csv(self):
-        for load in sorted(ROWS.glob("*.toml")):
+        for load in files(".toml"):
             self.assertEqual(lab(load.name, "--csv").stdout, load.with_suffix(".csv").read_text(), load.name)
+        self.assertEqual([it.stem for it in files(".csv")], [it.stem for it in files(".toml")])
 
     def test_scripts_and_what_they_are_answered(self):
-        scripts = sorted(ROWS.glob("*.script"))
-        self.assertEqual(len(scripts), 20)
-        for script in scripts:
+        self.assertEqual([it.stem for it in files(".replies")], [it.stem for it in files(".script")])
+        for script in files(".script"):
             load, variant = script.stem.split(".", 1)
             self.assertEqual(lab(f"{load}.toml", "--script", variant).stdout, script.read_text(), script.name)
             self.assertEqual(replay(script), script.with_suffix(".replies").read_text(), script.name)
 
     def test_faults(self):
-        rows = (ROWS / "bad/expected").read_text().splitlines()
-        self.assertEqual(len(rows), 59)
-        for row in rows:
+        for row in faults():
             words, wanted = row.split(" = ")
             ended = lab(*words.split(), folder=ROWS / "bad")
             if wanted == "no fault":
@@ -112,28 +260,28 @@ class Program(unittest.TestCase):
         self.assertEqual(ended.stdout, wanted, told)
 
     def test_tables(self):
-        for load in sorted(ROWS.glob("*.toml")):
+        for load in files(".toml"):
             self.wrote(program(load.name), load.with_suffix(".table").read_text(), load.name)
             self.wrote(program("-", given=load.read_text()), load.with_suffix(".table").read_text(), load.name)
 
     def test_csv(self):
-        for load in sorted(ROWS.glob("*.toml")):
+        for load in files(".toml"):
             self.wrote(program(load.name, "--csv"), load.with_suffix(".csv").read_text(), load.name)
 
     def test_scripts(self):
-        for script in sorted(ROWS.glob("*.script")):
+        for script in files(".script"):
             load, variant = script.stem.split(".", 1)
             words = [f"{load}.toml", "--script", variant]
             self.wrote(program(*words), script.read_text(), script.name)
             self.wrote(program(*words, "--csv", "--per-cpu"), script.read_text(), script.name)
 
     def test_the_time_of_each_cpu(self):
-        for load in sorted(ROWS.glob("*.toml")):
+        for load in files(".toml"):
             for words in ([load.name, "--per-cpu"], [load.name, "--per-cpu", "--csv"]):
                 self.wrote(program(*words), lab(*words).stdout, " ".join(words))
 
     def test_faults(self):
-        for row in (ROWS / "bad/expected").read_text().splitlines():
+        for row in faults():
             words, wanted = row.split(" = ")
             ended = program(*words.split(), folder=ROWS / "bad")
             if wanted == "no fault":
@@ -142,6 +290,33 @@ class Program(unittest.TestCase):
             first, *more = ended.stderr.splitlines()
             self.assertEqual((ended.returncode, ended.stdout, first), (1, "", wanted), row)
             self.assertEqual(len(more), 1 if wanted == "pc-sim: cannot read" else 0, row)
+
+    def test_a_script_past_the_greatest_length(self):
+        """Three threads leave their CPU 300,000 times, and each time takes more than 56 bytes to tell."""
+        steps = 99_999 * '"yield 1", ' + '"die 1"'
+        with tempfile.TemporaryDirectory() as folder:
+            load = pathlib.Path(folder) / "load.toml"
+            load.write_text("cpus = 1\n" + 3 * f"[[thread]]\nqueue = 0\nmask = 1\nsteps = [{steps}]\n")
+            for name, wanted in (("plain", "pc-sim: lab ScriptTooLong\n"), ("none", "pc-sim: lab NoVariant\n")):
+                ended = program(load, "--script", name)
+                self.assertEqual((ended.returncode, ended.stdout, ended.stderr), (1, "", wanted))
+
+    def test_variants_of_the_greatest_length(self):
+        """A comment makes a text as long as one may be, and a byte longer."""
+        variants = '[[variant]]\nname = "fifo"\norder = "fifo"\n[[variant]]\nname = "levels"\nkeep = true\n'
+        load = ROWS / "3-levels.toml"
+        with tempfile.TemporaryDirectory() as folder:
+            short, long = pathlib.Path(folder) / "short.toml", pathlib.Path(folder) / "long.toml"
+            short.write_text(variants)
+            wanted = lab(load, "--variants", short)
+            self.assertEqual((wanted.returncode, wanted.stdout.split()[:3]), (0, ["variant", "fifo", "levels"]))
+            long.write_text((variants + "#").ljust(MOST_BYTES, "x"))
+            self.assertEqual(long.stat().st_size, 16_777_216)
+            self.wrote(program(load, "--variants", long), wanted.stdout, "16,777,216 bytes")
+            long.write_text((variants + "#").ljust(MOST_BYTES + 1, "x"))
+            ended = program(load, "--variants", "long.toml", folder=pathlib.Path(folder))
+            told = 'pc-sim: cannot read\npc-sim: "long.toml": it has more than 16777216 bytes\n'
+            self.assertEqual((ended.returncode, ended.stdout, ended.stderr), (1, "", told))
 
     def test_drawn_loads(self):
         """Tables, with the time of each CPU, CSV, and the script of a variant, by the load's variants and by others."""
@@ -159,6 +334,226 @@ class Program(unittest.TestCase):
                     self.assertEqual(ended.stdout, wanted.stdout, f"{[*words, *more]}\n{text}")
 
 
+class Pictures(unittest.TestCase):
+    """What the program draws."""
+
+    def drawn(self, *words: object, given: str = "") -> str:
+        ended = program(*words, "--picture", given=given)
+        self.assertEqual((ended.returncode, ended.stderr), (0, ""), words)
+        return ended.stdout
+
+    def shows(self, load: pathlib.Path, variants: pathlib.Path | None = None) -> Picture:
+        """A picture shows what is told of the load."""
+        words = [load, *(["--variants", variants] if variants else [])]
+        picture, all_told = Picture(self.drawn(*words)), told_of(load, variants)
+        text = load.read_text()
+        self.assertEqual(picture.title, "; ".join(told.title for told in all_told), text)
+        self.assertEqual(picture.size, (820, 526 + 18 * len(all_told)), text)
+        longest = max([wait for told in all_told for wait in told.waits], default=0)
+        decades = next(count for count in range(1, 21) if 10**count >= longest)
+        self.assertEqual(list(picture.curves), [told.title for told in all_told if told.waits], text)
+        self.seen(picture, text)
+        self.shares(picture, text)
+        self.ticks(picture, decades, text)
+        heads = ["variant", *(f"p{percent}" for percent in PERCENTS), "waits"]
+        self.assertEqual(picture.said(y=HEAD), self.row(HEAD, heads), text)
+        for place, told in enumerate(all_told):
+            self.marks(picture, told, decades, text)
+            self.legend(picture, told, HEAD + LINE * (place + 1), text)
+            if told.waits:
+                self.curve(picture.curves[told.title], told.waits, decades, text)
+        return picture
+
+    def seen(self, picture: Picture, text: str) -> None:
+        """Every element is within the picture, and can be seen on its white ground, which lies below all others."""
+        (width, height), ground = picture.size, picture.elements[0]
+        self.assertEqual((ground.tag, room_of(ground)), (f"{SVG}rect", [(0, 0), (width, height)]), text)
+        self.assertEqual(look_of(ground), {"fill": "#fff"}, text)
+        for element in picture.elements[1:]:
+            told = f"{ElementTree.tostring(element)}\n{text}"
+            look = look_of(element)
+            self.assertIn(element.tag, {SVG + kind for kind in ("rect", "line", "path", "text")}, told)
+            self.assertLessEqual(set(look), LOOKS, told)
+            for x, y in room_of(element):
+                self.assertTrue(0 <= x <= width and 0 <= y <= height, told)
+            self.assertGreater(float(look.get("stroke-width", 1)), 0, told)
+            if element.tag == f"{SVG}text":
+                self.assertTrue(element.text and int(look["font-size"]) >= 10 and light_of(look["fill"]) < 0.4, told)
+            else:
+                self.assertLess(min(light_of(look.get("fill", "none")), light_of(look.get("stroke"))), 0.9, told)
+            if element.tag == f"{SVG}rect":
+                self.assertEqual(look["fill"], "none", "it covers what is below it: " + told)
+
+    def shares(self, picture: Picture, text: str) -> None:
+        """Each share has its line and is told at its height; percentiles are named on the right. All are framed."""
+        for share in SHARES:
+            lines = picture.lines.get((LEFT, BOTTOM - 4 * share, RIGHT, BOTTOM - 4 * share), [])
+            self.assertEqual([title for title, _ in lines], [f"{share} % of the waits"], text)
+        told = [(46, BOTTOM - 4 * share + 4, f"{share} %", "end") for share in TOLD_SHARES]
+        self.assertEqual(picture.said(x=46), sorted(told), text)
+        named = [(RIGHT + 6, BOTTOM - 4 * percent + 4, f"p{percent}", "start") for percent in PERCENTS]
+        self.assertEqual(picture.said(x=RIGHT + 6), sorted(named), text)
+        frame, = picture.all_of("rect")[1:]
+        self.assertEqual((frame[0].text, room_of(frame)), ("all waits", [(LEFT, TOP), (RIGHT, BOTTOM)]), text)
+        self.assertLess(light_of(frame.get("stroke")), 0.4, text)
+
+    def ticks(self, picture: Picture, decades: int, text: str) -> None:
+        """Each power of ten has its line and is told below it, and 0 is told too. On an axis of at most eight decades
+        twice and five times each of them have lines."""
+        powers = [str(10**power) if decades <= 8 or power < 5 else f"10^{power}" for power in range(decades + 1)]
+        told = picture.said(y=BOTTOM + 18)
+        self.assertEqual([it[2:] for it in told], [(words, "middle") for words in ["0", *powers]], text)
+        wanted = [LEFT, *(place_of(10**power, decades) for power in range(decades + 1))]
+        for (x, _, words, _), place in zip(told, wanted, strict=True):
+            self.assertAlmostEqual(x, place, delta=1, msg=f"{words}\n{text}")
+        upright = sorted((*place, title) for place, lines in picture.lines.items() for title, _ in lines
+                         if place[0] == place[2])
+        powers = [(x, TOP, x, BOTTOM + 6, f"10^{power}") for power, (x, *_) in enumerate(told[1:])]
+        self.assertEqual([it for it in upright if it[1] == TOP], powers, text)
+        between = [factor * 10**power for power in range(decades) for factor in (2, 5)] if decades <= 8 else []
+        short = [it for it in upright if it[1] != TOP]
+        self.assertEqual([it[1:2] + it[3:] for it in short], [(BOTTOM, BOTTOM + 4, str(it)) for it in between], text)
+        for (x, *_), ticks in zip(short, between, strict=True):
+            self.assertAlmostEqual(x, place_of(ticks, decades), delta=1, msg=text)
+
+    def row(self, y: int, cells: list[str]) -> list[tuple[int, int, str, str]]:
+        """The words of a line of the legend."""
+        return [(x, y, cell, anchor) for (x, anchor), cell in zip(COLUMNS.items(), cells, strict=True)]
+
+    def legend(self, picture: Picture, told: Told, y: int, text: str) -> None:
+        """A variant's line has its name and its numbers, and a sample and a mark that look like its curve's."""
+        cells = [str(told.percentiles.get(percent, "-")) for percent in PERCENTS]
+        self.assertEqual(picture.said(y=y), self.row(y, [told.name, *cells, str(len(told.waits))]), text)
+        (title, sample), = picture.lines[LEFT, y - 4, LEFT + 64, y - 4]
+        self.assertEqual((title, picture.marks[told.name]), (told.name, [(LEFT + 32, y - 4)]), text)
+        mark, = picture.looks[told.name]
+        curves = picture.looks.get(told.title, [])
+        self.assertEqual(curves, [sample] if told.waits else [], text)
+        for percent, ticks in told.percentiles.items():
+            self.assertEqual(picture.looks[f"{told.name}: p{percent} {ticks}"], [mark], text)
+        self.assertEqual(sample["fill"], "none", text)
+        self.assertLess(light_of(sample["stroke"]), 0.4, text)
+        self.assertEqual({mark["fill"], mark["stroke"]} - {"#fff"}, {sample["stroke"]}, text)
+
+    def marks(self, picture: Picture, told: Told, decades: int, text: str) -> None:
+        """Each percentile has one mark, at its share, and the name has another in the legend."""
+        self.assertEqual(len(picture.marks[told.name]), 1, text)
+        for percent in PERCENTS:
+            ticks = told.percentiles.get(percent)
+            places = picture.marks.get(f"{told.name}: p{percent} {ticks}", [])
+            if ticks is None:
+                self.assertEqual(places, [], text)
+                continue
+            (x, y), = places
+            self.assertAlmostEqual(x, place_of(ticks, decades), delta=1, msg=text)
+            self.assertEqual(y, BOTTOM - (BOTTOM - TOP) * percent // 100, text)
+            points = picture.curves[told.title]
+            self.assertTrue(height_at(points, x - 1) < BOTTOM - y <= height_at(points, x), "a mark beside its curve")
+
+    def curve(self, points: list[tuple[int, int]], waits: list[int], decades: int, text: str) -> None:
+        """It climbs from the corner to the other one, and is everywhere as high as the share of shorter waits."""
+        self.assertEqual((points[0], points[-1]), ((LEFT, BOTTOM), (RIGHT, TOP)), text)
+        self.assertLessEqual(len(points), RIGHT - LEFT + 3, text)
+        for (x, y), (to, up) in zip(points[1:-1], points[2:-1]):
+            self.assertTrue(x < to and y > up, text)
+        self.assertTrue(all(LEFT <= x <= RIGHT and TOP <= y <= BOTTOM for x, y in points), text)
+        places = [place_of(wait, decades) for wait in waits]
+        for x in range(LEFT, RIGHT + 1):
+            least, most = (bisect.bisect_right(places, x + by) for by in (-1, 1))
+            high = height_at(points, x) * len(waits) / (BOTTOM - TOP)
+            self.assertLessEqual(least - len(waits) / (BOTTOM - TOP), high, f"at {x}\n{text}")
+            self.assertLessEqual(high, most, f"at {x}\n{text}")
+
+    def test_worked_loads(self):
+        for load in files(".toml"):
+            self.shows(load)
+
+    def test_drawn_loads(self):
+        chance = random.Random("picture")
+        with tempfile.TemporaryDirectory() as folder:
+            load, variants = pathlib.Path(folder) / "load.toml", pathlib.Path(folder) / "variants.toml"
+            for _ in range(DRAWN):
+                load.write_text(drawn_load(chance))
+                variants.write_text(drawn_load(chance))
+                self.shows(load, variants if chance.random() < 0.3 else None)
+
+    def shows_text(self, text: str) -> Picture:
+        with tempfile.TemporaryDirectory() as folder:
+            load = pathlib.Path(folder) / "load.toml"
+            load.write_text(text)
+            return self.shows(load)
+
+    def thread(self, *steps: str, level: int = 0) -> str:
+        words = str(list(steps)).replace("'", '"')
+        return f"[[thread]]\nqueue = 0\nmask = 1\nlevel = {level}\nsteps = {words}\n"
+
+    def test_no_waits(self):
+        picture = self.shows_text("cpus = 1\n")
+        self.assertEqual(picture.title, "plain: waits 0, p50 -, p90 -, p99 -")
+        self.assertEqual((picture.curves, list(picture.marks)), ({}, ["plain"]))
+        self.assertEqual(picture.words.count("-"), 3)
+
+    def test_one_wait(self):
+        picture = self.shows_text("cpus = 1\n" + self.thread("die 5"))
+        self.assertEqual(picture.title, "plain: waits 1, p50 0, p90 0, p99 0")
+        self.assertEqual(picture.curves[picture.title], [(LEFT, BOTTOM), (LEFT, TOP), (RIGHT, TOP)])
+
+    def test_a_wait_that_had_not_ended_counts(self):
+        """At tick 7 one of two has waited since tick 0."""
+        picture = self.shows_text("cpus = 1\nuntil = 7\n" + 2 * self.thread("die 10"))
+        self.assertEqual(picture.title, "plain: waits 2, p50 0, p90 7, p99 7")
+
+    def test_waits_of_nothing_and_of_2_to_the_40(self):
+        """A thread of level 7 runs for 2^40 ticks in 257 steps, and six others wait for it."""
+        steps = ["yield 4294967295"] * 256 + ["die 256"]
+        picture = self.shows_text("cpus = 1\n" + self.thread(*steps, level=7) + 6 * self.thread("die 0"))
+        self.assertEqual(picture.title, f"plain: waits 263, p50 0, p90 0, p99 {2**40}")
+        (x, y), = picture.marks[f"plain: p99 {2**40}"]
+        self.assertAlmostEqual(x, FIRST + (RIGHT - FIRST) * math.log10(2**40) / 13, delta=1)
+        self.assertIn("10^13", picture.words)
+
+    def test_decades_are_told_in_digits_where_there_is_room(self):
+        picture = self.shows_text("cpus = 1\n" + 2 * self.thread("die 99999999"))
+        self.assertLessEqual({"0", "1", "10", "100000000"}, set(picture.words))
+        picture = self.shows_text("cpus = 1\n" + 2 * self.thread("die 100000001"))
+        self.assertLessEqual({"0", "1", "10", "10000", "10^5", "10^9"}, set(picture.words))
+        self.assertNotIn("100000", picture.words)
+
+    def test_sixteen_variants_can_be_told_apart(self):
+        names = [f"{place}.{'x' * place}-y" for place in range(16)]
+        variants = "".join(f'[[variant]]\nname = "{name}"\nquantum = {place}\n' for place, name in enumerate(names))
+        picture = self.shows_text("cpus = 1\n" + 3 * self.thread("die 20") + variants)
+        self.assertEqual(len(picture.curves), 16)
+        dashes = {picture.looks[title][0].get("stroke-dasharray") for title in picture.curves}
+        marks = {(look["shape"], look["fill"] == "#fff") for look in (picture.looks[name][0] for name in names)}
+        self.assertEqual((len(dashes), len(marks)), (16, 16))
+
+    def test_many_waits_make_no_large_picture(self):
+        """20,000 waits: the points of a curve are as few as the columns of pixels."""
+        steps = [f"yield {place % 977}" for place in range(9999)] + ["die 3"]
+        self.shows_text("cpus = 1\n" + 2 * self.thread(*steps) + '[[variant]]\nname = "fifo"\norder = "fifo"\n')
+
+    def test_what_wins(self):
+        """A script that is named goes before a picture, and a picture before a table."""
+        load = ROWS / "2-steals.toml"
+        picture, script = self.drawn(load), lab(load, "--script", "alone").stdout
+        self.assertEqual(self.drawn(load, "--csv", "--per-cpu"), picture)
+        self.assertEqual(self.drawn("-", given=load.read_text()), picture)
+        self.assertEqual(self.drawn(load, "--script", "alone"), script)
+        self.assertEqual(self.drawn(load, "--csv", "--script", "alone", "--per-cpu"), script)
+
+    def test_faults(self):
+        for row in faults():
+            words, wanted = row.split(" = ")
+            ended = program(*words.split(), "--picture", folder=ROWS / "bad")
+            if wanted == "no fault":
+                self.assertEqual((ended.returncode, ended.stderr), (0, ""), row)
+                self.shows(ROWS / "bad" / words)
+            else:
+                told = (ended.returncode, ended.stdout, ended.stderr.splitlines()[0])
+                self.assertEqual(told, (1, "", wanted), row)
+
+
 class Drawn(unittest.TestCase):
     def test_the_program_answers_as_runs_expect(self):
         chance = random.Random("lab")
@@ -168,8 +563,10 @@ class Drawn(unittest.TestCase):
                 load.write(text)
                 load.flush()
                 ended = lab(load.name, "--check", "--per-cpu", "--program", PROGRAM)
-            self.assertEqual((ended.returncode, ended.stderr), (0, ""), text)
-            self.balances(ended.stdout, text)
+                own = program(load.name, "--per-cpu")
+            for told in (ended, own):
+                self.assertEqual((told.returncode, told.stderr), (0, ""), text)
+                self.balances(told.stdout, text)
 
     def balances(self, table: str, text: str) -> None:
         """The time of each CPU is that of the run; where it is done, the ticks that were run are those of the steps."""
@@ -178,7 +575,11 @@ class Drawn(unittest.TestCase):
         for line in table.splitlines():
             name, *cells = [cell for cell in line[:names].split("  ") if cell.strip()]
             rows[name.strip()] = [cell.strip() for cell in cells]
-        cpus = sum(name.startswith("cpu ") and name.endswith(" ran") for name in rows)
+        cpus = int(re.match(r"cpus = (\d+)\n", text)[1])
+        kinds = ("ran", "in turns", "idle", "idle while one waits")
+        spent = [f"cpu {cpu} {kind}" for cpu in range(cpus) for kind in kinds]
+        self.assertEqual([name for name in rows if name.startswith("cpu ")], spent, text)
+        self.assertEqual({len(rows[name]) for name in ("end", "makespan", *spent)}, {text.count("[[variant]]")}, text)
         for place, end in enumerate(rows["end"]):
             for cpu in range(cpus):
                 spent = sum(int(rows[f"cpu {cpu} {what}"][place]) for what in ("ran", "in turns", "idle"))

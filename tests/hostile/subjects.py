@@ -143,6 +143,7 @@ WORDS = {
     "two files": ["replay", "a", "b"],
     "two files of run": ["run", "a", "b"],
     "a flag of the other command": ["replay", "--per-cpu"],
+    "a flag of the lab": ["draw", "--picture"],
     "a flag before its command": ["--per-cpu", "run"],
     "a flag twice": ["run", "--draw", "--draw"],
     "a limit that is no number": ["run", "--limit", "soon"],
@@ -189,6 +190,12 @@ def drawn(script):
     return dataclasses.replace(script, name=f"drawn {script.name}", words=words, out=None, err=err, whole=True)
 
 
+def timed(script):
+    """Its picture by ticks, which are kept beside its steps."""
+    picture = drawn(script)
+    return dataclasses.replace(picture, name=f"timed {picture.name}", words=["draw", "--time", *script.words[1:]])
+
+
 def talked(script):
     """The same script, asked line by line."""
     return dataclasses.replace(script, name=f"session of {script.name}", words=["session", *script.words[1:]])
@@ -217,6 +224,7 @@ def replayed(folder):
         if ends_with_its_fault(script):
             yield talked(script)
             yield explained_talk(script)
+    yield from map(timed, examples())
     yield from cases(folder)
     yield from faulty(folder)
     yield from command_lines()
