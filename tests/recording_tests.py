@@ -1,5 +1,6 @@
 #!/usr/bin/env python3
 """Tests tools/from-perf-sched: on short texts written here, with scripts worked out by hand, and on the recordings of examples/recordings.
+It also tests what of tools/record-loads needs no perf.
 
     tests/recording_tests.py [--program PROGRAM]
 
@@ -13,6 +14,7 @@ import importlib.machinery
 import importlib.util
 import pathlib
 import re
+import shutil
 import subprocess
 import sys
 import tempfile
@@ -24,6 +26,7 @@ from dataclasses import dataclass
 
 ROOT = pathlib.Path(__file__).resolve().parent.parent
 TOOL = ROOT / "tools/from-perf-sched"
+RECORD = ROOT / "tools/record-loads"
 KEPT = ROOT / "examples/recordings"
 SECONDS = 120
 ENCLAVE = "enclave {} {} 1000000 65536 4294967295"
@@ -631,14 +634,21 @@ class Recordings(Texts):
             self.assertEqual(refusals(made.script, replies), made.refused(), path.name)
 
     def test_the_tutorial_prints_what_it_says(self) -> None:
+        self.prints_what_it_says("TUTORIAL", 10)
+
+    def test_the_page_of_the_lab_prints_what_it_says(self) -> None:
+        self.prints_what_it_says("LAB", 0)
+
+    def prints_what_it_says(self, page: str, least: int) -> None:
         """Each command behind a dollar sign is typed, in order; where the page still has a TODO, what it prints is passed over."""
         if not self.program:
             return
-        steps = tutorial_steps((ROOT / "docs/TUTORIAL.md").read_text())
-        self.assertGreater(len(steps), 10)
+        steps = tutorial_steps((ROOT / f"docs/{page}.md").read_text())
+        self.assertGreater(len(steps), least)
         with tempfile.TemporaryDirectory() as folder:
             for name in ("examples", "tools", "docs"):
                 pathlib.Path(folder, name).symlink_to(ROOT / name)
+            pathlib.Path(folder, "pc-sim").symlink_to(self.program)
             for command, wanted in steps:
                 if "TODO" in wanted:
                     continue
@@ -656,6 +666,89 @@ class Recordings(Texts):
         return [f"{int(it):,}" for it in (events, threads, commits, accepted, moves, moved)] + [refused]
 
 
+class Loads(unittest.TestCase):
+    """What tools/record-loads does without perf."""
+
+    def told(self, *words: object, **more: object) -> subprocess.CompletedProcess[str]:
+        command = [sys.executable, str(RECORD), *map(str, words)]
+        return subprocess.run(command, capture_output=True, text=True, timeout=SECONDS, **more)  # type: ignore[call-overload]
+
+    def test_a_kept_recording_beside_the_lab(self) -> None:
+        """What was recorded is told as the tool has it, and the nearest variant as tools/lab has it."""
+        with tempfile.TemporaryDirectory() as name:
+            folder = pathlib.Path(name, "pool")
+            folder.mkdir()
+            shutil.copy(KEPT / "python-pool.txt", folder / "recording.txt")
+            ended = self.told("--to", name, "--keep", "--lab", ROOT / "tools/lab", "pool")
+            self.assertEqual((ended.returncode, ended.stderr), (0, ""))
+            recorded = cells_of((folder / "waits").read_text())
+            words = re.search(r"Nearest: `([\w-]+)`, quantum ([\d,]+), (not )?urgent, cost (\d+)\.", ended.stdout)
+            order, quantum, is_not, cost = words.groups()
+            (folder / "nearest.toml").write_text(
+                f'[[variant]]\nname = "nearest"\norder = "{order}"\nquantum = {quantum.replace(",", "")}\n'
+                f"urgent = {'false' if is_not else 'true'}\ncost = {cost}\n")
+            command = [str(ROOT / "tools/lab"), "load.toml", "--variants", "nearest.toml"]
+            lab = cells_of(subprocess.run(command, cwd=folder, capture_output=True, text=True, timeout=SECONDS).stdout)
+        rows = [[cell.strip().replace(",", "") for cell in line.strip("|").split("|")]
+                for line in ended.stdout.replace("**pool** ", "").splitlines() if re.match(r"\| (wait|woken|makespan)", line)]
+        self.assertEqual(len(rows), 6)
+        for title, *cells in rows:
+            name = title.removesuffix(" ms")
+            wanted = [int(table[name]) for table in (recorded, lab)]
+            self.assertEqual(cells[:2], [str(round(it / 1_000) if "ms" in title else it) for it in wanted], name)
+
+    def test_a_load_and_the_waits_that_were_recorded(self) -> None:
+        """By hand. 7 runs for 10, waits for 20 behind R, runs for 5 and sleeps for 15 from 35; 8 is woken at 50 and waits for 10."""
+        text = switch(0, 0, 0, "R", 7) + switch(10, 0, 7, "R", 9) + switch(30, 0, 9, "R+", 7) + switch(35, 0, 7, "S", 9)
+        text += wake(50, 0, 9, 7, 0) + wake(50, 0, 9, 8, 0) + switch(60, 0, 9, "X", 8) + switch(64, 0, 8, "Z", 7)
+        with tempfile.TemporaryDirectory() as folder:
+            command = [str(TOOL), "-", "-o", "/dev/null", "--load", f"{folder}/load", "--waits", f"{folder}/waits"]
+            run = subprocess.run(command, input=text + switch(70, 0, 7, "S", 0), capture_output=True, text=True, timeout=SECONDS)
+            self.assertEqual(run.returncode, 0, run.stderr)
+            load, waits = pathlib.Path(folder, "load").read_text(), pathlib.Path(folder, "waits").read_text()
+        self.assertEqual(load, "cpus = 1\n\n" + "\n".join(
+            f"# {name}\n[[thread]]\nqueue = 0\nmask = 1\nstart = {start}\nsteps = [{steps}]\nsleeps = {sleeps}\n"
+            for name, start, steps, sleeps in [
+                ("t0 is p7", 0, '"preempt 10", "block 5", "die 6"', [15]),
+                ("t1 is p9", 10, '"preempt 20", "die 25"', []),
+                ("t2 is p8", 50, '"die 4"', []),
+            ]))
+        wanted = {"variant": "recorded", "makespan": 70, "commits": 6, "wait p50": 5, "wait p90": 20, "wait p99": 20, "wait max": 20,
+                  "wait sum": 49, "woken p50": 0, "woken p90": 14, "woken p99": 14, "woken max": 14, "woken sum": 24, "ticks ran": 70}
+        self.assertEqual(cells_of(waits), {name: str(value) for name, value in wanted.items()})
+
+    def test_by_how_much_numbers_are_off(self) -> None:
+        """By hand: 1 is added to all, so the first are 2 and 8, 9 and 3, which are off by 4 and 3."""
+        off_by = load_tool(RECORD).off_by
+        self.assertAlmostEqual(off_by([1, 8], [7, 2]), 12 ** 0.5)
+        self.assertAlmostEqual(off_by([0, 5], [0, 5]), 1)
+
+    def test_variants_are_spelled_as_the_lab_reads_them(self) -> None:
+        tool = load_tool(RECORD)
+        variants = tool.tried()[:8] + [tool.replace(change(tool.DEFAULT), name=word) for word, change in tool.CHANGES.items()]
+        read = importlib.import_module("lab_load").variants_of("".join(map(tool.spelled, variants)).encode())
+        self.assertEqual(read, variants)
+
+    def test_what_is_not_there_is_told(self) -> None:
+        with tempfile.TemporaryDirectory() as folder:
+            ended = self.told("--to", folder, "web", env={"PATH": ""})
+            wanting = "no perf (Debian's package linux-perf) and no nginx (Debian's package nginx) and no wrk (Debian's package wrk)"
+            self.assertEqual(ended.stderr, f"record-loads: web is passed over: there is {wanting}\n")
+            self.assertEqual((ended.returncode, ended.stdout), (1, ""))
+            ended = self.told("--to", folder, "--keep", "nice")
+            self.assertEqual((ended.returncode, ended.stdout), (1, ""))
+            self.assertIn("nice is passed over: from-perf-sched: ", ended.stderr)
+
+    def test_a_kind_that_there_is_not(self) -> None:
+        self.assertEqual(self.told("--to", "/none", "poetry").returncode, 2)
+        self.assertIn("compiler, web, pool, nice, database", self.told("--help").stdout)
+
+
+def cells_of(table: str) -> dict[str, str]:
+    """The rows of a table with one variant, by their names."""
+    return {line[:26].strip(): line[26:].strip() for line in table.splitlines()}
+
+
 def tutorial_steps(page: str) -> list[tuple[str, str]]:
     """The commands of the page, each with what it prints."""
     steps: list[tuple[str, str]] = []
@@ -666,13 +759,13 @@ def tutorial_steps(page: str) -> list[tuple[str, str]]:
     return steps
 
 
-def load_tool() -> types.ModuleType:
+def load_tool(path: pathlib.Path = TOOL) -> types.ModuleType:
     """The tool as a module. What stands beside it is found there."""
     sys.dont_write_bytecode = True
-    if str(TOOL.parent) not in sys.path:
-        sys.path.insert(0, str(TOOL.parent))
-    loader = importlib.machinery.SourceFileLoader("from_perf_sched", str(TOOL))
-    spec = importlib.util.spec_from_loader("from_perf_sched", loader)
+    if str(path.parent) not in sys.path:
+        sys.path.insert(0, str(path.parent))
+    loader = importlib.machinery.SourceFileLoader(path.name.replace("-", "_"), str(path))
+    spec = importlib.util.spec_from_loader(loader.name, loader)
     assert spec is not None
     module = importlib.util.module_from_spec(spec)
     loader.exec_module(module)
@@ -685,7 +778,7 @@ def main() -> int:
     options = parser.parse_args()
     Texts.program = options.program and options.program.resolve()
     passed = failed = 0
-    for kind in (Texts, Recordings):
+    for kind in (Texts, Recordings, Loads):
         for test in unittest.defaultTestLoader.getTestCaseNames(kind):
             if kind is Recordings and test in vars(Texts):
                 continue

@@ -1,7 +1,8 @@
 #!/usr/bin/env python3
 """Runs the built program on every case and on every example, as both compilers built it, and compares bytes.
 
-An example is a script or settings of examples/ beside what it prints, and docs/WALK_THROUGH.md is what tools/walk_through.py makes of one of them.
+An example is a script or settings of examples/ beside what it prints, or a load of examples/lab beside the table that the lab makes of it;
+docs/WALK_THROUGH.md is what tools/walk_through.py makes of one of them.
 A case is a folder of tests/cases:
   args      the arguments, one a line (none: `replay`)
   stdin     the standard input, or make-stdin, a shell script that writes it (none: empty)
@@ -85,8 +86,9 @@ def faults_of(case, program, explained=False):
 
 
 def faults_of_example(example, program, explained=False):
-    """What differs from the output that stands beside an example, a script or settings, as a list of texts."""
-    command = "run" if example.suffix == ".toml" else "explain" if explained else "replay"
+    """What differs from the output that stands beside an example, a script, settings or a load, as a list of texts."""
+    of_toml = "lab" if example.parent.name == "lab" else "run"
+    command = of_toml if example.suffix == ".toml" else "explain" if explained else "replay"
     run = subprocess.run([str(program), command, str(example)], capture_output=True, timeout=SECONDS)
     if explained:
         run.stdout = without_comments(run.stdout)
@@ -141,7 +143,8 @@ def main():
         print("no case in tests/cases")
         failed += 1
     examples = sorted(path for path in (ROOT / "examples").iterdir() if path.suffix in (".script", ".toml"))
-    for case in [*cases, *examples, PAGE]:
+    loads = sorted(path.with_suffix(".toml") for path in (ROOT / "examples/lab").glob("*.output"))
+    for case in [*cases, *examples, *loads, PAGE]:
         for program in programs:
             try:
                 found = faults(case, program)

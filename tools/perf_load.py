@@ -54,8 +54,9 @@ class Timed:
         self.waits.append(Wait(tick - life.ready_since, 0, life.is_woken))
 
     def left(self, name: int, word: str, ticks: int, tick: int) -> None:
+        """Who left while it could run on did so by the recorded scheduler's doing, as far as a recording can tell."""
         life = self.lives[name]
-        life.steps.append((word, ticks))
+        life.steps.append(("preempt" if word == "yield" else word, ticks))
         life.blocked_since = life.ready_since = tick
         life.is_woken = False
 

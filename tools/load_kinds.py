@@ -1,0 +1,175 @@
+"""The kinds of loads that `record-loads` records: what each wants, and how it begins."""
+from __future__ import annotations
+
+import contextlib
+import os
+import pathlib
+import random
+import shutil
+import signal
+import subprocess
+import sys
+import time
+from collections.abc import Callable
+from dataclasses import dataclass
+
+CPUS = os.cpu_count() or 1
+HALF = max(CPUS // 2, 1)
+SLOW = 600  # seconds until what should have ended counts as stuck
+
+PART = """
+static int part_{0}(const char *text, int left) {{
+    int sum = {0}, places[64] = {{0}};
+    for (const char *at = text; *at && left; at++, left--) {{
+        switch (*at % 7) {{ case 0: sum += *at; break; case 1: sum ^= left; break; default: places[sum & 63]++; }}
+        for (int place = 0; place < 64; place++) sum += places[place] * (left + place);
+    }}
+    return printf("%d %zu", sum, strlen(text));
+}}
+"""
+MAKEFILE = "all: $(patsubst %.c,%.o,$(wildcard *.c))\n%.o: %.c\n\tgcc -O2 -c -o $@ $<\n"
+SITE = """daemon off; worker_processes {workers}; pid {folder}/pid; error_log {folder}/errors; {user}
+events {{ worker_connections 512; }}
+http {{ access_log {folder}/log; client_body_temp_path {folder}/body; proxy_temp_path {folder}/proxy;
+fastcgi_temp_path {folder}/fastcgi; uwsgi_temp_path {folder}/uwsgi; scgi_temp_path {folder}/scgi;
+server {{ listen 127.0.0.1:{port}; root {folder}; }} }}
+"""
+POOL = """import multiprocessing, time
+def work(size):
+    return sum(range(size))
+with multiprocessing.Pool({workers}) as pool:
+    while True:
+        pool.map(work, [1_000 << place % 7 for place in range(64)], 1)
+        time.sleep(0.01)
+"""
+BUSY = "import os; os.nice({nice})\nwhile True: pass"
+SLEEPER = """import random, time
+while True:
+    time.sleep(random.uniform(0.001, 0.008))
+    sum(range(random.randrange(1_000, 20_000)))
+"""
+
+
+class Fault(Exception):
+    """Why a kind is passed over."""
+
+
+def run(*words: object, **options: object) -> subprocess.CompletedProcess[str]:
+    return subprocess.run([str(word) for word in words], stdin=subprocess.DEVNULL, capture_output=True, text=True,
+                          timeout=SLOW, **options)  # type: ignore[call-overload,no-any-return]
+
+
+def last_line(text: str) -> str:
+    return (text.strip().splitlines() or ["it does not say why"])[-1]
+
+
+def found(command: str) -> str | None:
+    """Where a command is. Debian keeps the servers of PostgreSQL off the path, and users' paths off /usr/sbin."""
+    path = os.environ.get("PATH", "")
+    servers = sorted(pathlib.Path("/usr/lib/postgresql").glob("*/bin"))
+    return shutil.which(command, path=":".join([path, "/usr/sbin", *map(str, reversed(servers))]) if path else path)
+
+
+class Running:
+    """The processes of a load in a folder of its own; they end in the opposite order of their beginning."""
+
+    def __init__(self, stack: contextlib.ExitStack, folder: pathlib.Path, user: str | None = None) -> None:
+        self.stack, self.folder = stack, folder
+        self.who = {"user": user, "group": user, "extra_groups": []} if user else {}
+
+    def by(self, user: str | None) -> Running:
+        return Running(self.stack, self.folder, user)
+
+    def begin(self, *words: object, end: int = signal.SIGTERM) -> None:
+        none = subprocess.DEVNULL
+        child = subprocess.Popen([str(word) for word in words], cwd=self.folder, stdin=none, stdout=none, stderr=none,
+                                 start_new_session=True, **self.who)  # type: ignore[call-overload]
+        self.stack.callback(self.end, child, end)
+
+    def end(self, child: subprocess.Popen[bytes], how: int) -> None:
+        for signum in (how, signal.SIGKILL):
+            with contextlib.suppress(ProcessLookupError):
+                os.killpg(child.pid, signum)
+            with contextlib.suppress(subprocess.TimeoutExpired):
+                child.wait(10)
+
+    def do(self, *words: object) -> None:
+        """What has to end before the load goes on."""
+        told = run(*words, cwd=self.folder, **self.who)
+        if told.returncode:
+            raise Fault(f"{words[0]}: {last_line(told.stderr)}")
+
+
+def compiler(it: Running) -> None:
+    for place in range(6 * CPUS):
+        text = "#include <stdio.h>\n#include <string.h>\n" + "".join(PART.format(part) for part in range(40))
+        calls = " + ".join(f"part_{part}(text, {part})" for part in range(40))
+        (it.folder / f"file{place}.c").write_text(f"{text}\nint all_{place}(const char *text) {{ return {calls}; }}\n")
+    (it.folder / "Makefile").write_text(MAKEFILE)
+    it.begin("sh", "-c", f"while make -s -B -j {2 * CPUS}; do :; done")
+
+
+def web(it: Running) -> None:
+    (it.folder / "small").write_bytes(b"." * 1_000)
+    (it.folder / "large").write_bytes(b"." * 200_000)
+    port = random.randrange(20_000, 30_000)
+    user = "user root;" if os.geteuid() == 0 else ""
+    (it.folder / "conf").write_text(SITE.format(workers=HALF, folder=it.folder, port=port, user=user))
+    it.do(found("nginx"), "-t", "-p", it.folder, "-c", it.folder / "conf")
+    it.begin(found("nginx"), "-p", it.folder, "-c", it.folder / "conf")
+    time.sleep(0.5)
+    for name, clients in (("small", 16), ("large", 4)):
+        it.begin("wrk", "-t", 2, "-c", clients, "-d", SLOW, f"http://127.0.0.1:{port}/{name}")
+
+
+def pool(it: Running) -> None:
+    it.begin(sys.executable, "-c", POOL.format(workers=2 * CPUS))
+
+
+def nice(it: Running) -> None:
+    for value in (0, 5, 10, 19):
+        for _ in range(HALF):
+            it.begin(sys.executable, "-c", BUSY.format(nice=value))
+    for _ in range(2 * CPUS):
+        it.begin(sys.executable, "-c", SLEEPER)
+
+
+def database(it: Running) -> None:
+    """A server of its own, in memory where it can be, so that the disk of a machine does not decide."""
+    if os.geteuid() == 0:
+        it = it.by("postgres")
+        shutil.chown(it.folder, "postgres", "postgres")
+    data, server = it.folder / "data", ("-k", it.folder, "-h", "", "-c", "fsync=off")
+    it.do(found("initdb"), "-D", data, "-A", "trust", "-U", "postgres")
+    it.begin(found("postgres"), "-D", data, *server, end=signal.SIGINT)
+    time.sleep(2)
+    client = ("pgbench", "-h", it.folder, "-U", "postgres")
+    it.do(*client, "-i", "-q", "-s", 10, "postgres")
+    it.begin(*client, "-c", 4 * CPUS, "-j", 2, "-T", SLOW, "postgres")
+
+
+@dataclass(frozen=True)
+class Kind:
+    """What it is, which commands of which Debian packages it wants, and how it begins."""
+
+    title: str
+    wants: dict[str, str]
+    begin: Callable[[Running], None]
+
+
+KINDS = {
+    "compiler": Kind(
+        f"`make -j {2 * CPUS}` of {6 * CPUS} files in C", {"make": "make", "gcc": "gcc"}, compiler),
+    "web": Kind(
+        f"nginx with {HALF} workers under wrk with 20 connections", {"nginx": "nginx", "wrk": "wrk"},
+        web),
+    "pool": Kind(
+        f"bursts of 64 tasks for {2 * CPUS} processes of Python's `multiprocessing`", {}, pool),
+    "nice": Kind(
+        f"{4 * HALF} busy loops of niceness 0, 5, 10 and 19 beside {2 * CPUS} threads that sleep and wake", {},
+        nice),
+    "database": Kind(
+        f"PostgreSQL under pgbench with {4 * CPUS} clients",
+        {"postgres": "postgresql", "initdb": "postgresql", "pgbench": "postgresql-contrib"},
+        database),
+}
