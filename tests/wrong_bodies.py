@@ -7,19 +7,21 @@
 
 A wrong body is a file crates/NAME/wrong-bodies/*.edit, written as an edit of the kit's own command `rt must-fail` is. That command checks a crate
 anew for each of them; here those of a crate that change different functions are tried in one check, which tells of each function whether it
-is proved, and which goals are not. So one costs a tenth, and it has to be refused by the goal that the table names. A line of the table is
+is proved, and which goals are not. The other functions of the crate have no body then: only their contracts are looked at. So one costs a
+twentieth, and it has to be refused by the goal that the table names. A line of the table is
 
     crate/name-of-the-file: function goal | why another place than the clause that it breaks
 
 of which the last part is there for each that fails in another function than it changes. Function and goal are those that a check prints, the
 function by its modules and its owner; of a goal that is cut off there, `..` stands behind what is printed. The libraries below a crate have to
-be built (by rt ci, or by rt lib): they are taken as they stand in their `out` folders.
+be built (by rt ci, or by rt lib), and the crate itself as well: they are taken as they stand in their `out` folders.
 """
 from __future__ import annotations
 
 import argparse
 import concurrent.futures
 import importlib
+import json
 import os
 import pathlib
 import re
@@ -184,6 +186,62 @@ def together(bodies: list[WrongBody]) -> list[list[WrongBody]]:
     return bundles
 
 
+def body_at(lines: list[str], place: int) -> tuple[int, int] | None:
+    """The lines on which the body of the function that begins there is opened and closed; of one that has to keep its body, none: what is
+    computed at compile time, and what answers a type that only its body tells."""
+    begin = FUNCTION.match(lines[place])
+    if not begin or "const fn" in lines[place]:
+        return None
+    closes = next((it for it in range(place, len(lines)) if lines[it] == f"{begin[1]}}}"), len(lines))
+    opens = next((it for it in range(place, closes) if lines[it] == f"{begin[1]}{{" or lines[it].endswith((" {", "{}", ";"))), closes)
+    if opens == closes or lines[opens].endswith(("{}", ";")) or "-> impl " in " ".join(lines[place:opens + 1]):
+        return None
+    return opens, closes
+
+
+def without_bodies(file: str, text: str, kept: set[str]) -> tuple[str, list[str]]:
+    """The text of a file in which only these functions have bodies, and the names of the others."""
+    lines, emptied, place = text.splitlines(), [], 0
+    written: list[str] = []
+    while place < len(lines):
+        body = body_at(lines, place)
+        name = function_in(file, lines, place + 1) if body else ""
+        if body and not any(are_one(name, it) for it in kept):
+            emptied.append(name)
+            written += [*lines[place:body[0] + 1], "unreachable!()"]
+            place = body[1]
+        written.append(lines[place])
+        place += 1
+    return "\n".join(written) + "\n", emptied
+
+
+def proofs_made(crate: Any) -> list[str]:
+    """The functions of which a build of the crate had a proof, by their paths."""
+    try:
+        made = pathlib.Path(f"{crate.folder}/out/rlib/{crate.name}.rlib/toolchain/made.json").read_text().splitlines()
+    except OSError:
+        return []
+    found = (re.fullmatch(r"proofs/([\w/]+)/Proof", json.loads(line)[0]) for line in made)
+    return [it[1] for it in found if it]
+
+
+def empty_others(copy: pathlib.Path, made: list[str], kept: set[str]) -> None:
+    """Leaves only these functions of a crate their bodies. What the others' contracts say is taken as proved: their proofs are holes."""
+    emptied: list[str] = []
+    for file in sorted((copy / "src").rglob("*.rt")):
+        text, names = without_bodies(str(file.relative_to(copy)), file.read_text(), kept)
+        file.write_text(text)
+        emptied += names
+    for path in made:
+        if any(are_one(path.replace("/", "::"), it) for it in emptied):
+            folder, last = copy / "proofs" / path, path.rpartition("/")[2]
+            folder.mkdir(parents=True, exist_ok=True)
+            for file in ("Answers.antt", "Invariants.antt"):
+                (folder / file).unlink(missing_ok=True)
+            statement = f"use Rattle.{copy.name}.proofs.{path.replace('/', '.')}.Statement.{{statement}}"
+            (folder / "Proof.antt").write_text(f"{statement}\n\npub {last}_spec : {{M : Type 1}} → statement M\n{last}_spec = ?\n")
+
+
 def kit() -> ModuleType:
     """The kit's own module, which knows the words of a check: rt itself would build the libraries below anew, behind rt ci."""
     found = shutil.which("rt")
@@ -202,20 +260,18 @@ def write_changes(crate: pathlib.Path, changes: list[Change]) -> None:
         (crate / file).write_text(text)
 
 
-def check(crate: pathlib.Path, command: list[str], bundle: list[WrongBody]) -> str:
-    """What a check of the crate says with these wrong bodies, of the functions that have to be refused. It leaves the crate as it was."""
-    changes = [it for body in bundle for it in body.changes]
-    was = {file: (crate / file).read_text() for file in {it.file for it in changes}}
+def check(whole: pathlib.Path, made: list[str], command: list[str], bundle: list[WrongBody]) -> str:
+    """What a check says of a copy of the crate with these wrong bodies, of the functions that have to be refused."""
     # The names of the table are those that a check prints. Of one that it does not name yet, all of the crate is asked.
     named = all(body.refused_in for body in bundle)
     asked = sorted({it for body in bundle for it in body.refused_in}) if named else []
     words = [*command, *(word for it in asked for word in ("--only", it))]
-    write_changes(crate, changes)
-    try:
-        ran = subprocess.run(words, cwd=crate, capture_output=True, text=True, errors="replace", timeout=SECONDS_OF_A_CHECK)
-    finally:
-        for file, text in was.items():
-            (crate / file).write_text(text)
+    with tempfile.TemporaryDirectory(prefix="wrong-bodies-") as room:
+        copy = pathlib.Path(shutil.copytree(whole, pathlib.Path(room) / whole.name))
+        write_changes(copy, [it for body in bundle for it in body.changes])
+        if named:
+            empty_others(copy, made, {it for body in bundle for it in body.changed | body.refused_in})
+        ran = subprocess.run(words, cwd=copy, capture_output=True, text=True, errors="replace", timeout=SECONDS_OF_A_CHECK)
     return ran.stdout + ran.stderr
 
 
@@ -300,8 +356,8 @@ def judge(said: str, crate: str, bundle: list[WrongBody], rows: dict[str, Row]) 
 
 
 def try_crate(tools: ModuleType, crate: Any, bodies: list[WrongBody], rows: dict[str, Row]) -> dict[str, Outcome]:
-    """What comes of all wrong bodies of a crate. A check begins with what the one before it proved. Where a function calls another one that
-    is wrong, a check may not come to its own goals: what is not told as it should be is tried once more, alone."""
+    """What comes of all wrong bodies of a crate. A check begins with what the one before it made of definitions and contracts. What is not
+    told as it should be, since another wrong body stood in its way, is tried once more, alone."""
     outcomes: dict[str, Outcome] = {}
     with tempfile.TemporaryDirectory(prefix="wrong-bodies-") as room:
         copy, kept = pathlib.Path(room) / crate.name, pathlib.Path(room) / "kept"
@@ -309,13 +365,14 @@ def try_crate(tools: ModuleType, crate: Any, bodies: list[WrongBody], rows: dict
             if os.path.isdir(f"{crate.folder}/{part}"):
                 shutil.copytree(f"{crate.folder}/{part}", copy / part)
         kept.mkdir()
+        made = proofs_made(crate)
         words = crate.words(["--jobs", "1"], keeps=False)
         command = [tools.RATTLE, "check", *words, "--incremental", str(kept)]
         bundles = together(bodies)
         while bundles:
             bundle, began = bundles.pop(0), time.monotonic()
             try:
-                outcomes |= judge(check(copy, command, bundle), crate.name, bundle, rows)
+                outcomes |= judge(check(copy, made, command, bundle), crate.name, bundle, rows)
             except (OSError, subprocess.SubprocessError) as fault:
                 outcomes |= {body.name: Outcome(f"it could not be tried: {fault}") for body in bundle}
             tell_time(time.monotonic() - began, bundle)

@@ -35,6 +35,36 @@ impl<T: Drop> From<Box<T>> for Count {
         Count { value: told.len() }
     }
 }
+
+/// Fewer.
+fn fewer(
+    count: u64,
+) -> u64
+    requires { 0 < count }
+{
+    if count > 9 {
+        return 9;
+    }
+    count - 1
+}
+
+const fn nine() -> u64 {
+    9
+}
+
+fn nines() -> impl Iterator {
+    nine()..nine()
+}
+
+trait Counts {
+    fn count(&self) -> u64;
+
+    fn forget(&mut self) {}
+
+    fn is_none(&self) -> bool {
+        self.count() == 0
+    }
+}
 """
 # Says of the functions that it is asked for what a file tells it to say where the crate holds a text; keeps what it was asked.
 RT = """\
@@ -43,6 +73,9 @@ import json, pathlib, sys
 asked = [word for word, before in zip(sys.argv[1:], sys.argv) if before == "--only"]
 said = json.loads(pathlib.Path(SAYS).read_text())
 text = pathlib.Path("src/count.rt").read_text()
+pathlib.Path(SAYS + ".text").write_text(text)
+proofs = {str(file): file.read_text() for file in pathlib.Path("proofs").rglob("*.antt")}
+pathlib.Path(SAYS + ".proofs").write_text(json.dumps(proofs))
 with open(SAYS + ".asked", "a") as asks:
     asks.write(f"{' '.join(asked)}: {sorted(pathlib.Path('.').iterdir())[0]}\\n")
 for holds, lines in said.items():
@@ -152,6 +185,34 @@ class WrongBodies(unittest.TestCase):
         self.assertEqual([line.split(":")[0].count(" ") for line in asked], [0, 0])
         self.assertEqual(asked[0].partition(": ")[0], "count::Count::none count::CountFrom::from count::more")
         self.assertEqual(asked[1].partition(": ")[0], "count::more")
+
+    def test_other_functions_have_no_bodies(self) -> None:
+        self.run_it()
+        text = (self.root / "says.text").read_text()
+        emptied = SOURCE.replace("    if count > 9 {\n        return 9;\n    }\n    count - 1\n", "unreachable!()\n")
+        emptied = emptied.replace("        self.count() == 0\n", "unreachable!()\n")
+        # The last check is of 'more-is-two' alone.
+        for body in ("        Count { value: 0 }\n", "        Count { value: told.len() }\n"):
+            emptied = emptied.replace(body, "unreachable!()\n")
+        self.assertEqual(text, emptied.replace("count + 1", "count + 2"))
+
+    def test_what_other_functions_promise_is_taken_as_proved(self) -> None:
+        import json
+
+        made = self.root / "crates/low/out/rlib/low.rlib/toolchain"
+        made.mkdir(parents=True)
+        paths = ("count/fewer", "count/more", "count/CountFrom/from", "count/gone")
+        (made / "made.json").write_text("".join(json.dumps([f"proofs/{path}/Proof", 1]) + "\n" for path in paths))
+        for path in ("count/fewer", "count/more"):
+            (self.root / "crates/low/proofs" / path).mkdir(parents=True)
+            (self.root / "crates/low/proofs" / path / "Answers.antt").write_text("its own\n")
+        self.run_it()
+        proofs = json.loads((self.root / "says.proofs").read_text())
+        self.assertEqual(sorted(proofs), ["proofs/count/CountFrom/from/Proof.antt", "proofs/count/fewer/Proof.antt",
+                                          "proofs/count/more/Answers.antt"])
+        self.assertEqual(proofs["proofs/count/fewer/Proof.antt"], "use Rattle.low.proofs.count.fewer.Statement.{statement}\n\n"
+                         "pub fewer_spec : {M : Type 1} → statement M\nfewer_spec = ?\n")
+        self.assertEqual((self.root / "crates/low/proofs/count/fewer/Answers.antt").read_text(), "its own\n")
 
     def test_one_that_a_check_of_many_does_not_tell_is_tried_alone(self) -> None:
         quiet = {"value: 1": "fn low::count::Count::none: no proof: it calls `low::count::more`, which is not proved"}
