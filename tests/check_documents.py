@@ -45,7 +45,7 @@ EXAMPLE = "pc_example"
 
 # Errors that may be want of memory.
 WANTING = re.compile(
-    r"->.*Result<.*\b(?:OutOfMemory|AllocError|(?:Limits|Queue|Call|Send|Delta|Run|Script|Settings|Command|RunText|Text|Transcript)Fault)\b", re.S)
+    r"->.*Result<.*\b(?:OutOfMemory|AllocError|(?!(?:Mask|Level|Config)Fault)\w+Fault)\b", re.S)
 # An ending of the program may be one too, where the call may allocate.
 ENDING = re.compile(r"\balloc: Global\b.*->.*\b(?:Lab)?Ending\b", re.S)
 
