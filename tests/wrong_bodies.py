@@ -6,9 +6,10 @@
                                                and WHY where one is wanted; compares nothing
 
 A wrong body is a file crates/NAME/wrong-bodies/*.edit, written as an edit of the kit's own command `rt must-fail` is. That command checks a crate
-anew for each of them; here those of a crate that change different functions are tried in one check, which tells of each function whether it
-is proved, and which goals are not. The other functions of the crate have no body then: only their contracts are looked at. So one costs a
-twentieth, and it has to be refused by the goal that the table names. A line of the table is
+anew for each of them; here those of a crate are tried in one check, which tells of each function whether it is proved, and which goals are
+not. Of those that change one function, one stands in the function, and each other in a copy of it. The other functions of the crate have no
+body then: only their contracts are looked at. So one costs a twentieth, and it has to be refused by the goal that the table names. A line of
+the table is
 
     crate/name-of-the-file: function goal | why another place than the clause that it breaks
 
@@ -20,6 +21,7 @@ from __future__ import annotations
 
 import argparse
 import concurrent.futures
+import dataclasses
 import importlib
 import json
 import os
@@ -47,6 +49,8 @@ PROOF = re.compile(r"(?:\./)?proofs/([\w/+]+?)(?:/Answers|/Invariants)?\.antt:\d
 # A goal that no proof was found for; the line of its function comes behind it.
 NOTE = re.compile(r"note: src/[\w/]+\.rt:\d+:\d+: it is not proved that .*?\(`([\w-]+)`\)")
 ERROR = re.compile(r"src/[\w/]+\.rt:\d+:\d+: error|error\[[\w-]+\]")
+# What stands behind the name of a function's copy.
+COPY = re.compile(r"_copied_\d+$")
 # So much memory a check takes, and so much time.
 MEMORY_OF_A_CHECK, SECONDS_OF_A_CHECK = 3_000_000, 6_000
 
@@ -71,19 +75,30 @@ class Change:
 
 @dataclass
 class WrongBody:
-    """A wrong body, the functions that it changes, and in which it has to be refused."""
+    """A wrong body, the functions that it changes, and in which it has to be refused. Where it stands in a copy of its function, `copy` is what
+    stands behind the name there."""
 
     name: str
     changes: list[Change]
     changed: set[str] = field(default_factory=set)
     refused_in: set[str] = field(default_factory=set)
+    can_be_copied: bool = False
+    copy: str = ""
 
     def has(self, function: str) -> bool:
         return any(are_one(function, it) for it in self.changed | self.refused_in)
 
     def meets(self, other: WrongBody) -> bool:
         """Whether one may fail for the other's sake, where both are tried."""
-        return any(map(self.has, other.changed | other.refused_in))
+        return not self.copy and not other.copy and any(map(self.has, other.changed | other.refused_in))
+
+    def asked(self) -> set[str]:
+        """The functions that a check is asked for, by their names there."""
+        return {it + self.copy for it in self.refused_in}
+
+    def kept(self) -> set[str]:
+        """The functions that need their bodies, by their names there."""
+        return {it + self.copy for it in self.changed | self.refused_in}
 
 
 class Bad(Exception):
@@ -124,8 +139,8 @@ def owner_above(lines: list[str], place: int) -> str:
     return ""
 
 
-def function_at(lines: list[str], number: int) -> str:
-    """The function that has the line of this number, with its owner."""
+def lines_at(lines: list[str], number: int) -> tuple[int, int]:
+    """The first line, from 0, of the function that has the line of this number, and the last."""
     while number < len(lines) and lines[number - 1].lstrip().startswith("#["):
         number += 1
     for place in range(min(number, len(lines)) - 1, -1, -1):
@@ -133,8 +148,20 @@ def function_at(lines: list[str], number: int) -> str:
         if begin:
             end = next((it for it in range(place, len(lines)) if lines[it].startswith(f"{begin[1]}}}")), len(lines))
             if number <= end + 1:
-                return (owner_above(lines, place) if begin[1] else "") + begin[2]
+                return place, end
     raise Bad(f"no function has line {number}")
+
+
+def function_at(lines: list[str], number: int) -> str:
+    """The function that has the line of this number, with its owner."""
+    place, _ = lines_at(lines, number)
+    return (owner_above(lines, place) if lines[place].startswith(" ") else "") + FUNCTION.match(lines[place])[2]
+
+
+def is_of_a_trait(lines: list[str], place: int) -> bool:
+    """Whether the function that begins there is one of a trait: a copy of it would be none."""
+    outer = next((it for it in reversed(lines[:place]) if it and not it.startswith((" ", "/"))), "")
+    return lines[place].startswith(" ") and (not outer.startswith("impl") or " for " in outer)
 
 
 def function_in(file: str, lines: list[str], number: int) -> str:
@@ -170,15 +197,36 @@ def body_of(crate: pathlib.Path, edit: pathlib.Path, row: Row | None) -> WrongBo
             # A row of a table: the function that reads it is named, and why.
             if not row:
                 raise
+    body.can_be_copied = is_within_one(crate, body)
     return body
 
 
+def is_within_one(crate: pathlib.Path, body: WrongBody) -> bool:
+    """Whether a wrong body changes one function, of no trait, and has to be refused there."""
+    spans = set()
+    for it in body.changes:
+        text = (crate / it.file).read_text()
+        lines, number = text.splitlines(), text.count("\n", 0, it.start) + 1
+        try:
+            begin, _ = lines_at(lines, number)
+        except Bad:
+            return False
+        if is_of_a_trait(lines, begin):
+            return False
+        spans.add((it.file, begin))
+    return len(spans) == 1 and all(any(are_one(it, other) for other in body.changed) for it in body.refused_in)
+
+
 def together(bodies: list[WrongBody]) -> list[list[WrongBody]]:
-    """Bundles of wrong bodies of which no two change, or are to be refused in, one function."""
+    """Bundles of wrong bodies of which no two change, or are to be refused in, one function, those in copies of their functions aside."""
     bundles: list[list[WrongBody]] = []
+    copies = 0
     for body in bodies:
         fits = (bundle for bundle in bundles if not any(map(body.meets, bundle)))
         bundle = next(fits, None)
+        if bundle is None and bundles and body.can_be_copied:
+            bundle, copies = bundles[0], copies + 1
+            body.copy = f"_copied_{copies}"
         if bundle is None:
             bundle = []
             bundles.append(bundle)
@@ -260,17 +308,51 @@ def write_changes(crate: pathlib.Path, changes: list[Change]) -> None:
         (crate / file).write_text(text)
 
 
+def copied_function(whole: pathlib.Path, body: WrongBody) -> tuple[str, int, list[str]]:
+    """The file of a wrong body's function, the line behind its end, from 0, and the lines of a copy that is changed. A change is within a line."""
+    first = body.changes[0]
+    text = (whole / first.file).read_text()
+    begin, end = lines_at(text.splitlines(), text.count("\n", 0, first.start) + 1)
+    for it in sorted(body.changes, key=lambda it: -it.start):
+        text = text[: it.start] + it.new + text[it.start + len(it.old):]
+    lines = text.splitlines()[begin:end + 1]
+    lines[0] = re.sub(r"\bfn (\w+)", rf"fn \1{body.copy}", lines[0], count=1)
+    return first.file, end + 1, lines
+
+
+def copy_proofs(copy: pathlib.Path, body: WrongBody) -> None:
+    """A function's copy has the function's own proofs."""
+    for folder in [it for it in (copy / "proofs").rglob("*") if it.is_dir()]:
+        path = folder.relative_to(copy / "proofs").as_posix()
+        if body.has(path.replace("/", "::")):
+            dotted = f"proofs.{path.replace('/', '.')}"
+            shutil.copytree(folder, f"{folder}{body.copy}")
+            for file in pathlib.Path(f"{folder}{body.copy}").rglob("*.antt"):
+                file.write_text(file.read_text().replace(f"{dotted}.", f"{dotted}{body.copy}."))
+
+
+def add_copies(whole: pathlib.Path, copy: pathlib.Path, bodies: list[WrongBody]) -> None:
+    """Adds the copies of functions in which these wrong bodies stand, from the last on."""
+    for file, place, added in sorted((copied_function(whole, body) for body in bodies), key=lambda it: -it[1]):
+        lines = (copy / file).read_text().splitlines()
+        lines[place:place] = ["", *added]
+        (copy / file).write_text("\n".join(lines) + "\n")
+    for body in bodies:
+        copy_proofs(copy, body)
+
+
 def check(whole: pathlib.Path, made: list[str], command: list[str], bundle: list[WrongBody]) -> str:
     """What a check says of a copy of the crate with these wrong bodies, of the functions that have to be refused."""
     # The names of the table are those that a check prints. Of one that it does not name yet, all of the crate is asked.
     named = all(body.refused_in for body in bundle)
-    asked = sorted({it for body in bundle for it in body.refused_in}) if named else []
+    asked = sorted({it for body in bundle for it in body.asked()}) if named else []
     words = [*command, *(word for it in asked for word in ("--only", it))]
     with tempfile.TemporaryDirectory(prefix="wrong-bodies-") as room:
         copy = pathlib.Path(shutil.copytree(whole, pathlib.Path(room) / whole.name))
-        write_changes(copy, [it for body in bundle for it in body.changes])
+        write_changes(copy, [it for body in bundle for it in body.changes if not body.copy])
+        add_copies(whole, copy, [body for body in bundle if body.copy])
         if named:
-            empty_others(copy, made, {it for body in bundle for it in body.changed | body.refused_in})
+            empty_others(copy, made, {it for body in bundle for it in body.kept()})
         ran = subprocess.run(words, cwd=copy, capture_output=True, text=True, errors="replace", timeout=SECONDS_OF_A_CHECK)
     return ran.stdout + ran.stderr
 
@@ -291,6 +373,13 @@ def failures_in(said: str, crate: str) -> dict[str, list[str]]:
         elif proof:
             goals.setdefault(proof[1].replace("/", "::"), []).append(proof[2])
     return goals
+
+
+def goals_of(body: WrongBody, goals: dict[str, list[str]]) -> dict[str, list[str]]:
+    """The goals that are not proved with this wrong body: a copy's stand in place of the function's."""
+    if body.copy:
+        return {it.removesuffix(body.copy): goals[it] for it in goals if it.endswith(body.copy)}
+    return {it: goals[it] for it in goals if not COPY.search(it)}
 
 
 def place_told(row: Row, goals: dict[str, list[str]]) -> str:
@@ -347,8 +436,9 @@ def judge(said: str, crate: str, bundle: list[WrongBody], rows: dict[str, Row]) 
     if unread or not TOLD.search(said):
         none = Outcome(f"the check came to no verdict: {unread or said.strip()[-300:]}", is_doubtful=True)
         return {body.name: none for body in bundle}
-    goals, outcomes = failures_in(said, crate), {}
+    all_goals, outcomes = failures_in(said, crate), {}
     for body in bundle:
+        goals = goals_of(body, all_goals)
         fault = fault_of(body, goals, rows)
         is_doubtful = not told_of(body, goals) or body.name in rows and bool(fault)
         outcomes[body.name] = Outcome(fault, row_told(body, goals, rows), is_doubtful)
@@ -377,7 +467,8 @@ def try_crate(tools: ModuleType, crate: Any, bodies: list[WrongBody], rows: dict
                 outcomes |= {body.name: Outcome(f"it could not be tried: {fault}") for body in bundle}
             tell_time(time.monotonic() - began, bundle)
             if len(bundle) > 1:
-                bundles += [[body] for body in bundle if outcomes[body.name].is_doubtful]
+                alone = [body for body in bundle if outcomes[body.name].is_doubtful]
+                bundles += [[dataclasses.replace(body, copy="")] for body in alone]
     return outcomes
 
 

@@ -120,7 +120,8 @@ TABLE = {
 }
 SAYS = {
     "told.len() * 2": UNPROVED.format("count::CountFrom::from", "`returns`"),
-    "count + 2": UNPROVED.format("count::more", "`returns`"),
+    "fn more_copied_1": UNPROVED.format("count::more_copied_1", "`returns`"),
+    "count + 2|more_copied": UNPROVED.format("count::more", "`returns`"),
     "    count\n": "./proofs/count/more/Answers.antt:3:4: error: `returns`: it differs\nfn low::count::more: not proved",
     "value: 1": UNPROVED.format("count::Count::none", "`returns-clause-other`, `returns-clause-fresh`"),
     "": "fn low::count::other: proved",
@@ -179,22 +180,29 @@ class WrongBodies(unittest.TestCase):
     def test_each_that_is_refused_for_its_goal_passes(self) -> None:
         self.assertEqual(self.run_it(), (0, ["4 passed, 0 failed"]))
 
-    def test_those_that_change_one_function_are_tried_one_after_another(self) -> None:
+    def asked(self) -> list[str]:
+        """The functions that each check was asked for."""
+        return [line.partition(": ")[0] for line in (self.root / "says.asked").read_text().splitlines()]
+
+    def test_those_that_change_one_function_stand_in_copies_of_it(self) -> None:
         self.run_it()
-        asked = (self.root / "says.asked").read_text().splitlines()
-        self.assertEqual([line.split(":")[0].count(" ") for line in asked], [0, 0])
-        self.assertEqual(asked[0].partition(": ")[0], "count::Count::none count::CountFrom::from count::more")
-        self.assertEqual(asked[1].partition(": ")[0], "count::more")
+        self.assertEqual(self.asked(), ["count::Count::none count::CountFrom::from count::more count::more_copied_1"])
+
+    def test_those_that_change_one_function_of_a_trait_are_tried_one_after_another(self) -> None:
+        self.put_edits({"from-counts-none": "old: told.len()\nnew: told.none()"})
+        self.put_table({"from-counts-none": TABLE["from-counts-twice"]} | TABLE)
+        self.put_says(SAYS | {"told.none()": SAYS["told.len() * 2"]})
+        self.assertEqual(self.run_it(), (0, ["5 passed, 0 failed"]))
+        self.assertEqual(self.asked(), ["count::Count::none count::CountFrom::from count::more", "count::CountFrom::from count::more"])
 
     def test_other_functions_have_no_bodies(self) -> None:
         self.run_it()
         text = (self.root / "says.text").read_text()
         emptied = SOURCE.replace("    if count > 9 {\n        return 9;\n    }\n    count - 1\n", "unreachable!()\n")
         emptied = emptied.replace("        self.count() == 0\n", "unreachable!()\n")
-        # The last check is of 'more-is-two' alone.
-        for body in ("        Count { value: 0 }\n", "        Count { value: told.len() }\n"):
-            emptied = emptied.replace(body, "unreachable!()\n")
-        self.assertEqual(text, emptied.replace("count + 1", "count + 2"))
+        changed = emptied.replace("value: 0", "value: 1").replace("told.len()", "told.len() * 2").replace("count + 1", "count")
+        copy = "\npub const fn more_copied_1(count: u64) -> u64\n    ensures { result }\n{\n    count + 2\n}\n"
+        self.assertEqual(text, changed.replace("    count\n}\n", f"    count\n}}\n{copy}"))
 
     def test_what_other_functions_promise_is_taken_as_proved(self) -> None:
         import json
@@ -205,22 +213,24 @@ class WrongBodies(unittest.TestCase):
         (made / "made.json").write_text("".join(json.dumps([f"proofs/{path}/Proof", 1]) + "\n" for path in paths))
         for path in ("count/fewer", "count/more"):
             (self.root / "crates/low/proofs" / path).mkdir(parents=True)
-            (self.root / "crates/low/proofs" / path / "Answers.antt").write_text("its own\n")
+            text = f"use Rattle.low.proofs.{path.replace('/', '.')}.Goals as goal\n"
+            (self.root / "crates/low/proofs" / path / "Answers.antt").write_text(text)
         self.run_it()
         proofs = json.loads((self.root / "says.proofs").read_text())
-        self.assertEqual(sorted(proofs), ["proofs/count/CountFrom/from/Proof.antt", "proofs/count/fewer/Proof.antt",
-                                          "proofs/count/more/Answers.antt"])
+        self.assertEqual(sorted(proofs), ["proofs/count/fewer/Proof.antt", "proofs/count/more/Answers.antt",
+                                          "proofs/count/more_copied_1/Answers.antt"])
+        self.assertEqual(proofs["proofs/count/more_copied_1/Answers.antt"], "use Rattle.low.proofs.count.more_copied_1.Goals as goal\n")
         self.assertEqual(proofs["proofs/count/fewer/Proof.antt"], "use Rattle.low.proofs.count.fewer.Statement.{statement}\n\n"
                          "pub fewer_spec : {M : Type 1} → statement M\nfewer_spec = ?\n")
-        self.assertEqual((self.root / "crates/low/proofs/count/fewer/Answers.antt").read_text(), "its own\n")
+        self.assertEqual((self.root / "crates/low/proofs/count/fewer/Answers.antt").read_text(),
+                         "use Rattle.low.proofs.count.fewer.Goals as goal\n")
 
     def test_one_that_a_check_of_many_does_not_tell_is_tried_alone(self) -> None:
         quiet = {"value: 1": "fn low::count::Count::none: no proof: it calls `low::count::more`, which is not proved"}
         self.put_says({key: said for key, said in SAYS.items() if key != "value: 1"} | quiet)
         self.put_alone("value: 1", "told.len() * 2", SAYS["value: 1"])
         self.assertEqual(self.run_it(), (0, ["4 passed, 0 failed"]))
-        asked = [line.partition(": ")[0] for line in (self.root / "says.asked").read_text().splitlines()]
-        self.assertEqual(asked[2:], ["count::Count::none"])
+        self.assertEqual(self.asked()[1:], ["count::Count::none"])
 
     def test_a_goal_in_a_note_is_of_the_function_behind_it(self) -> None:
         note = "note: src/count.rt:12:5: it is not proved that what the function ensures holds when it returns (`{}`); `search` gave up"
@@ -231,7 +241,7 @@ class WrongBodies(unittest.TestCase):
         self.fails_by("low/none-is-one: refused for")
 
     def test_one_that_is_proved_fails(self) -> None:
-        self.put_says(SAYS | {"count + 2": "fn low::count::more: proved"})
+        self.put_says(SAYS | {"fn more_copied_1": "fn low::count::more_copied_1: proved", "count + 2|more_copied": "fn low::count::more: proved"})
         self.fails_by("low/more-is-two: refused for `nothing`, wanted `count::more returns`")
 
     def test_one_that_is_refused_for_another_goal_fails(self) -> None:
@@ -258,7 +268,7 @@ class WrongBodies(unittest.TestCase):
 
     def test_one_that_fails_elsewhere_wants_a_reason(self) -> None:
         elsewhere = "count::Count::none returns-clause-fresh"
-        self.put_says(SAYS | {"count + 2": UNPROVED.format("count::Count::none", "`returns-clause-fresh`")})
+        self.put_says(SAYS | {"count + 2|more_copied": UNPROVED.format("count::Count::none", "`returns-clause-fresh`")})
         self.put_table(TABLE | {"more-is-two": elsewhere})
         self.fails_by("low/more-is-two: it fails in another function than it changes")
         self.put_table(TABLE | {"more-is-two": f"{elsewhere} | none counts by it"})
