@@ -38,6 +38,21 @@ fn others_of(variants: VariantsFrom) -> Option<Source> {
     }
 }
 
+/// Whether the load and its variants would both be the standard input, which has one text.
+fn are_one_text(source: &Source, variants: &VariantsFrom) -> bool {
+    match variants {
+        VariantsFrom::Input => source.0.is_none(),
+        VariantsFrom::Load | VariantsFrom::File(_) => false,
+    }
+}
+
+/// Says that one text cannot be both, and answers the exit status of a command line that has a fault.
+fn refuse_one_text(rt: &HostRuntime, source: &Source) -> ExitCode {
+    let status = end(rt, &Met::ended(Ending::BadCommandLine), source, MOST_LOAD);
+    let _ = eprintln!(rt; "pc-sim: the load and its variants cannot both be the standard input");
+    status
+}
+
 /// Tries the load of the file, or else of the standard input, and says how that ended. It stands apart, so that no
 /// other command has the room on its stack that a run in virtual time needs.
 #[inline(never)]
@@ -48,6 +63,9 @@ pub(crate) fn try_on_machine(
     wanted: &Wanted,
 ) -> ExitCode {
     let source = Source(file);
+    if are_one_text(&source, &variants) {
+        return refuse_one_text(rt, &source);
+    }
     let mut load = Noted::new(Opening::new(rt, &source));
     let Ok(mut writer) = BufWriter::new(rt.alloc(), Noted::new(rt.stdout())) else {
         return said(rt, LabEnding::OutOfMemory);
