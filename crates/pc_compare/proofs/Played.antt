@@ -12,6 +12,7 @@ use Rattle.pc_lab.specs.declared.fault.LabFault.TheVariants as lab
 use Rattle.pc_compare.specs.declared.fault.CompareFault.TheVariants.{NoVariant}
 use Rattle.pc_load.specs.Variants.{Choice, choice_of}
 use Rattle.pc_lab.specs.Heads.{head_text}
+use Rattle.pc_lab.specs.Limits.{limits_for}
 use Rattle.pc_lab.specs.Playing.{IsPlayedBy}
 use Rattle.pc_lab.specs.Stages.{Holds}
 use Rattle.pc_lab.specs.Texts.{body_text}
@@ -19,7 +20,7 @@ use Rattle.pc_lab.specs.declared.chronicle.Chronicle.TheVariants.{Script}
 use Rattle.pc_lab.specs.declared.summary.Played.{Played}
 use Rattle.pc_load.specs.Loads.{Demand}
 use Rattle.pc_load.specs.declared.variant.Variant.{Variant}
-use Rattle.pc_compare.specs.Comparing.{IsScript, fault_of, is_named, limits_in}
+use Rattle.pc_compare.specs.Comparing.{IsScript, fault_of, is_named}
 
 -- two lists go on side by side
 pub zip_push : {A B : Type 0} (R : A → B → Type 0) (xs : List A) (ys : List B) (x : A) (y : B) → AllZip R xs ys → R x y → AllZip R (xs ++ x ∷ []) (ys ++ y ∷ [])
@@ -30,12 +31,12 @@ zip_push R (a ∷ xs) (b ∷ ys) x y all one = (all.0, zip_push R xs ys x y all.
 
 -- a run that left a script has its head and the lines of its moments
 pub scripted : (load : Demand) (variant : Variant) (before : List ℕ) (played : Played) (text : Vec ℕ Global)
-    → IsPlayedBy (limits_in load) variant.policy before played → played.chronicle ≡ Script text
-    → before ≡ head_text (limits_in load) variant → IsScript load variant text.items
+    → IsPlayedBy load variant.policy variant.keep before played → played.chronicle ≡ Script text
+    → before ≡ head_text (limits_for load) variant → IsScript load variant text.items
 scripted load variant before played text is same head =
-    let both : (is' : IsPlayedBy (limits_in load) variant.policy before played) × (text.items ≡ before ++ body_text is'.moments) =
+    let both : (is' : IsPlayedBy load variant.policy variant.keep before played) × (text.items ≡ before ++ body_text is'.moments) =
     (is, subst (λ chronicle. Holds before chronicle is.moments) same is.told) in
-    let moved = subst (λ b. (is' : IsPlayedBy (limits_in load) variant.policy b played) × (text.items ≡ b ++ body_text is'.moments)) head both in
+    let moved = subst (λ b. (is' : IsPlayedBy load variant.policy variant.keep b played) × (text.items ≡ b ++ body_text is'.moments)) head both in
     record { played = played; is_played = moved.0; told = moved.1 }
 
 -- a variant that has the name is one of the choices that have it
@@ -57,6 +58,7 @@ pub not_missing : (fault : LabFault) → fault_of fault ≡ NoVariant → ⊥
 not_missing lab.OutOfMemory same = cc
 not_missing lab.ScriptTooLong same = cc
 not_missing lab.TooLong same = cc
+not_missing lab.Unaccounted same = cc
 
 -- bytes that are equal
 pub same_bytes : (xs ys : List ℕ) → bytes_eq xs ys ≡ true → xs ≡ ys

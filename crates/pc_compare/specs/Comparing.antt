@@ -1,11 +1,11 @@
 -- What is written of a load under variants.
-use Rattle.std.specs.Prelude.{◌≡◌, ℕ, nat_abs, Bool, List, [], ◌++◌, length, map, bytes_eq}
+use Rattle.std.specs.Prelude.{◌≡◌, ℕ, Bool, List, [], ◌++◌, map, bytes_eq}
 use Rattle.std.specs.List.{AllZip, Contains}
-use Rattle.pc_calls.specs.declared.limits.Limits.{Limits}
 use Rattle.pc_curves.specs.Waits.{IsPictureOfWaits}
 use Rattle.pc_lab.specs.Heads.{head_text}
+use Rattle.pc_lab.specs.Limits.{limits_for}
 use Rattle.pc_lab.specs.Texts.{body_text}
-use Rattle.pc_lab.specs.Playing.{IsPlayedBy, limits_for}
+use Rattle.pc_lab.specs.Playing.{IsPlayedBy}
 use Rattle.pc_lab.specs.declared.fault.LabFault.{LabFault}
 use Rattle.pc_lab.specs.declared.fault.LabFault.TheVariants as lab
 use Rattle.pc_lab.specs.declared.summary.Played.{Played}
@@ -16,23 +16,29 @@ use Rattle.pc_table.specs.Sheets.{text_of}
 use Rattle.pc_table.specs.declared.form.Column.{Column}
 use Rattle.pc_table.specs.declared.form.Form.{Form}
 use Rattle.pc_compare.specs.declared.fault.CompareFault.{CompareFault}
-use Rattle.pc_compare.specs.declared.fault.CompareFault.TheVariants.{ScriptTooLong, TooLong, OutOfMemory}
+use Rattle.pc_compare.specs.declared.fault.CompareFault.TheVariants.{NoVariant, ScriptTooLong, TooLong}
+use Rattle.pc_compare.specs.declared.fault.CompareFault.TheVariants.{Unaccounted, OutOfMemory}
 
 -- a fault of the lab, as it is told
 abbrev pub fault_of : LabFault → CompareFault
 fault_of lab.OutOfMemory = OutOfMemory
 fault_of lab.ScriptTooLong = ScriptTooLong
 fault_of lab.TooLong = TooLong
+fault_of lab.Unaccounted = Unaccounted
 
--- the limits of the kernel on which a load is played
-abbrev pub limits_in : Demand → Limits
-limits_in load = limits_for (nat_abs load.cpus) (length load.threads)
+-- runs that leave no script can have this fault: it is not that there is no variant, nor that a script is too long
+abbrev pub IsOfRuns : CompareFault → Type 0
+IsOfRuns NoVariant = ⊥
+IsOfRuns ScriptTooLong = ⊥
+IsOfRuns TooLong = Unit {0}
+IsOfRuns Unaccounted = Unit {0}
+IsOfRuns OutOfMemory = Unit {0}
 
 -- A column has the name of a variant, and the summary of a run of the load that was played under it
 pub record IsRunOf (load : Demand) (variant : Variant) (column : Column) : Type 0 where
   pub name : column.name.now ≡ variant.name.items
   pub played : Played
-  pub is_played : IsPlayedBy (limits_in load) variant.policy [] played
+  pub is_played : IsPlayedBy load variant.policy variant.keep [] played
   pub summary : column.summary ≡ played.summary
 
 -- A text compares runs of the load, one that was played under each of the variants, in their order
@@ -59,8 +65,8 @@ is_named name choice = bytes_eq choice.name name
 -- events, and their lines
 pub record IsScript (load : Demand) (variant : Variant) (text : List ℕ) : Type 0 where
   pub played : Played
-  pub is_played : IsPlayedBy (limits_in load) variant.policy (head_text (limits_in load) variant) played
-  pub told : text ≡ head_text (limits_in load) variant ++ body_text is_played.moments
+  pub is_played : IsPlayedBy load variant.policy variant.keep (head_text (limits_for load) variant) played
+  pub told : text ≡ head_text (limits_for load) variant ++ body_text is_played.moments
 
 -- A text is such a script, of the variant that has this name
 pub record IsScriptOf (load : Demand) (choices : List Choice) (name text : List ℕ) : Type 0 where

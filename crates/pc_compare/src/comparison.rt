@@ -1,10 +1,10 @@
 //! The table of a load under variants, and the picture of its waits.
 
-ghost use Rattle.std.specs.Prelude.{IfOk};
+ghost use Rattle.std.specs.Prelude.{IfErr, IfOk};
 ghost use Rattle.std.specs.List.{AllZip};
-ghost use Rattle.pc_compare.specs.Comparing.{Compares, Draws, IsRunOf};
+ghost use Rattle.pc_compare.specs.Comparing.{Compares, Draws, IsOfRuns, IsRunOf};
 
-use crate::fault::CompareFault;
+use crate::fault::{CompareFault, untold_fault_of};
 use pc_curves::picture_of as waits_of;
 use pc_lab::{Chronicle, play};
 use pc_load::{Load, Variant, Variants};
@@ -17,13 +17,16 @@ fn column_of<'a>(
     load: &Load,
     variant: &'a Variant,
 ) -> Result<Column<'a>, CompareFault>
-    ensures { IfOk result (IsRunOf load.now variant.now) }
+    ensures run { IfOk result (IsRunOf load.now variant.now) }
+    ensures faults { IfErr result IsOfRuns }
 {
-    let played = play(alloc, load, variant, Chronicle::Untold)?;
-    Ok(Column {
-        name: variant.name.as_slice(),
-        summary: played.summary,
-    })
+    match play(alloc, load, variant, Chronicle::Untold) {
+        Ok(played) => Ok(Column {
+            name: variant.name.as_slice(),
+            summary: played.summary,
+        }),
+        Err(fault) => Err(untold_fault_of(fault)),
+    }
 }
 
 /// A run of the load under each variant.
@@ -32,7 +35,8 @@ fn columns_of<'a>(
     load: &Load,
     variants: &'a [Variant],
 ) -> Result<Vec<Column<'a>>, CompareFault>
-    ensures { IfOk result (λ columns. AllZip (IsRunOf load.now) variants.now columns.items) }
+    ensures runs { IfOk result (λ columns. AllZip (IsRunOf load.now) variants.now columns.items) }
+    ensures faults { IfErr result IsOfRuns }
 {
     let mut columns = Vec::new(alloc);
     for variant in variants {
@@ -44,14 +48,15 @@ fn columns_of<'a>(
 /// Plays the load under each variant, and tells in this form what is to be told of the runs (own).
 ///
 /// # Errors
-/// [`CompareFault::OutOfMemory`] and [`CompareFault::TooLong`]: then nothing was made.
+/// [`CompareFault::OutOfMemory`], [`CompareFault::TooLong`] and [`CompareFault::Unaccounted`]: then nothing was made.
 pub fn compare(
     alloc: Global,
     load: &Load,
     variants: &Variants,
     form: Form,
 ) -> Result<Vec<u8>, CompareFault>
-    ensures { IfOk result (λ text. Compares load.now variants.now form text.items) }
+    ensures told { IfOk result (λ text. Compares load.now variants.now form text.items) }
+    ensures faults { IfErr result IsOfRuns }
 {
     let columns = columns_of(alloc, load, variants.as_slice())?;
     let text = text_of(alloc, load, columns.as_slice(), form)?;
@@ -61,9 +66,10 @@ pub fn compare(
 /// Plays the load under each variant, and draws how long threads waited in the runs, as SVG (own).
 ///
 /// # Errors
-/// [`CompareFault::OutOfMemory`] and [`CompareFault::TooLong`]: then nothing was made.
+/// [`CompareFault::OutOfMemory`], [`CompareFault::TooLong`] and [`CompareFault::Unaccounted`]: then nothing was made.
 pub fn picture_of(alloc: Global, load: &Load, variants: &Variants) -> Result<Vec<u8>, CompareFault>
-    ensures { IfOk result (λ text. Draws load.now variants.now text.items) }
+    ensures drawn { IfOk result (λ text. Draws load.now variants.now text.items) }
+    ensures faults { IfErr result IsOfRuns }
 {
     let columns = columns_of(alloc, load, variants.as_slice())?;
     let text = waits_of(alloc, columns.as_slice())?;

@@ -1,7 +1,7 @@
 //! Why nothing is written.
 
 ghost use Rattle.std.specs.Prelude.{◌≡◌};
-ghost use Rattle.pc_compare.specs.Comparing.{fault_of};
+ghost use Rattle.pc_compare.specs.Comparing.{IsOfRuns, fault_of};
 
 use pc_lab::LabFault;
 use std::alloc::{AllocError, AllocFailed};
@@ -19,6 +19,9 @@ pub enum CompareFault {
     /// More happens than can be counted.
     #[error("more happens than can be counted")]
     TooLong,
+    /// What was run is not what the load needs. No run that was seen ends so.
+    #[error("the run does not add up to its load")]
+    Unaccounted,
     /// A growth was refused.
     #[error("out of memory")]
     OutOfMemory,
@@ -32,6 +35,18 @@ pub(crate) const fn fault_of(fault: LabFault) -> CompareFault
         LabFault::OutOfMemory => CompareFault::OutOfMemory,
         LabFault::ScriptTooLong => CompareFault::ScriptTooLong,
         LabFault::TooLong => CompareFault::TooLong,
+        LabFault::Unaccounted => CompareFault::Unaccounted,
+    }
+}
+
+/// The fault of a run that leaves no script, which can't be too long.
+pub(crate) const fn untold_fault_of(fault: LabFault) -> CompareFault
+    ensures { IsOfRuns result }
+{
+    match fault {
+        LabFault::ScriptTooLong | LabFault::TooLong => CompareFault::TooLong,
+        LabFault::OutOfMemory => CompareFault::OutOfMemory,
+        LabFault::Unaccounted => CompareFault::Unaccounted,
     }
 }
 

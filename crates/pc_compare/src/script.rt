@@ -1,6 +1,7 @@
 //! The script of a load under a variant.
 
-ghost use Rattle.std.specs.Prelude.{◌≡◌, ◌≤◌, ◌↔◌, Err, IfOk, MatchOption, bytes_eq, false, true, length, position};
+ghost use Rattle.std.specs.Prelude.{◌≡◌, ◌<◌, ◌≤◌, ◌↔◌, Err, IfOk, MatchOption, bytes_eq, false, true, length};
+ghost use Rattle.std.specs.Prelude.{position};
 ghost use Rattle.std.specs.List.{Contains, list_any};
 ghost use Rattle.pc_compare.specs.Comparing.{IsScript, IsScriptOf, is_named};
 
@@ -13,6 +14,7 @@ use std::alloc::Global;
 fn within_room(text: Vec<u8>) -> Result<Vec<u8>, LabFault>
     ensures same { IfOk result (λ script. script ≡ text) }
     ensures short { IfOk result (λ script. length script.items ≤ 16777216) }
+    ensures long { result ≡ Err LabFault.ScriptTooLong → 16777216 < length text.items }
 {
     if text.len() > MOST_BYTES {
         return Err(LabFault::ScriptTooLong);
@@ -69,8 +71,8 @@ fn find<'a>(variants: &'a [Variant], name: &[u8]) -> Option<&'a Variant>
 /// Plays the load under the variant of this name, and tells the run as a script (own).
 ///
 /// # Errors
-/// [`CompareFault::NoVariant`], [`CompareFault::ScriptTooLong`], [`CompareFault::OutOfMemory`] and
-/// [`CompareFault::TooLong`]: then nothing was made.
+/// [`CompareFault::NoVariant`], [`CompareFault::ScriptTooLong`], [`CompareFault::OutOfMemory`],
+/// [`CompareFault::TooLong`] and [`CompareFault::Unaccounted`]: then nothing was made.
 pub fn script_of(
     alloc: Global,
     load: &Load,

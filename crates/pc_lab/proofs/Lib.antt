@@ -1,4 +1,6 @@
 -- Proofs.
+pub mod Accounting
+pub mod Comings
 pub mod Counting
 pub mod Staging
 pub mod Texts

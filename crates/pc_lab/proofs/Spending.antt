@@ -1,24 +1,15 @@
--- Times that are written one after another.
-use Rattle.std.proofs.Common.{◌≡◌, ◌≢◌, ◌≤◌, ◌+◌, ℕ, List, ◌++◌, All, length, take, slice_set, sym, subst, arith}
-use Rattle.std.specs.List.{AllWithin}
-use Rattle.std.proofs.lemmas.List.{get_or-set_other, length-set}
-use Rattle.std.proofs.lemmas.List.Elements.{All-from_all_within, AllWithin-upto}
-use Rattle.std.proofs.Math.Seq.{take-append_seam}
+-- Accounts, as time goes by.
+use Rattle.std.proofs.Common.{◌≤◌, ℕ, List, Option, None, Some, IfSome, All, arith}
+use Rattle.std.proofs.lemmas.List.Elements.{All-weaker}
+use Rattle.pc_lab.specs.Times.{IsKept}
+use Rattle.pc_lab.specs.declared.times.Account.{Account}
 
--- what stands behind a place stays when that is written
-pub later : {X : Type 0} (P : X → Type 0) (xs : List X) (i n : ℕ) (v : X) → AllWithin P xs i n → AllWithin P (slice_set xs i v) (i + 1) n
-later P xs i n v all k d low high =
-    let other : k ≢ i = λ same. absurd (omega (arith, low, same)) in
-    subst P (sym (get_or-set_other xs i k v d other)) (all k d (omega (arith, low)) high)
+-- accounts that are not behind a tick are not behind a later one
+pub kept_later : (tick now : ℕ) (accounts : List Account) → tick ≤ now → All (IsKept tick) accounts → All (IsKept now) accounts
+kept_later tick now accounts later all =
+    All-weaker (IsKept tick) (IsKept now) (λ account kept. record { whole = kept.whole; past = omega (arith, kept.past, later) }) accounts all
 
--- and so does the end
-pub later_all : {X : Type 0} (P : X → Type 0) (xs : List X) (i : ℕ) (v : X) → AllWithin P xs i (length xs)
-    → AllWithin P (slice_set xs i v) (i + 1) (length (slice_set xs i v))
-later_all P xs i v all = subst (λ n. AllWithin P (slice_set xs i v) (i + 1) n) (sym (length-set xs i v)) (later P xs i (length xs) v all)
-
--- all of them, when all were written
-pub all_of : {X : Type 0} (P : X → Type 0) (xs ys : List X) (i len : ℕ) → AllWithin P xs 0 i → length xs ≤ i → len ≡ length xs
-    → All P (take len (xs ++ ys))
-all_of P xs ys i len all end' same =
-    subst (λ n. All P (take n (xs ++ ys))) (sym same)
-    (subst (λ zs. All P zs) (sym (take-append_seam xs ys)) (All-from_all_within P xs (AllWithin-upto P xs 0 i (length xs) end' all)))
+-- and neither is what was told last
+pub told_later : (told : Option ℕ) (tick now : ℕ) → tick ≤ now → IfSome told (λ last. last ≤ tick) → IfSome told (λ last. last ≤ now)
+told_later None tick now later past = past
+told_later (Some last) tick now later past = omega (arith, past, later)

@@ -1,11 +1,13 @@
 -- A stage goes on by one event.
-use Rattle.std.proofs.Common.{◌≡◌, ◌≤◌, ◌<◌, ◌+◌, ◌∙◌, ℕ, zero, suc, List, [], ◌∷◌, ◌++◌, Option, Some, None, IfSome, All, get_or, length, if◌then◌else◌, refl, sym, ap, subst, arith}
+use Rattle.std.proofs.Common.{◌≡◌, ◌≤◌, ◌<◌, ◌+◌, ◌∙◌, ℕ, zero, suc, List, [], ◌∷◌, ◌++◌, Bool, true, false, Option, Some, None, IfSome, All, get_or, length, is_some, slice_get, if◌then◌else◌, refl, sym, ap, subst, arith}
 use Rattle.std.proofs.lemmas.List.{append_assoc, append-nil, length-append}
+use Rattle.std.proofs.lemmas.List.Elements.{All-nil, All-push}
 use Rattle.pc_calls.specs.declared.event.Event.{Event}
 use Rattle.pc_calls.specs.declared.event.Reply.{Reply}
-use Rattle.pc_calls.specs.declared.limits.Limits.{Limits}
 use Rattle.pc_policy.specs.Rules.{Rules, rules_of}
 use Rattle.pc_policy.specs.declared.agent_policy.AgentPolicy.{AgentPolicy}
+use Rattle.pc_load.specs.Loads.{Demand}
+use Rattle.pc_script.specs.Grammar.{AreInRange, event_row}
 use Rattle.pc_script.specs.declared.command.PolicyName.{PolicyName}
 use Rattle.pc_world.specs.PlainWorld.{opened_by, rules_at}
 use Rattle.pc_world.specs.Shows.{Does, ShowsWorld, World}
@@ -15,10 +17,13 @@ use Rattle.pc_lab.specs.declared.chronicle.Chronicle.{Chronicle}
 use Rattle.pc_lab.specs.declared.chronicle.Chronicle.TheVariants.{Untold, Script}
 use Rattle.pc_lab.specs.declared.counted.Counted.{Counted}
 use Rattle.pc_lab.specs.declared.counted.Counted.TheVariants.{Commit}
-use Rattle.pc_lab.specs.Moments.{Leads, Moment, last_tick}
+use Rattle.pc_lab.specs.Creations.{Creation, creation_at, creation_in, creations_of, is_posted}
+use Rattle.pc_lab.specs.Limits.{limits_for}
+use Rattle.pc_lab.specs.Moments.{IsNoAnswer, IsWritten, Leads, Moment, last_tick}
 use Rattle.pc_lab.specs.Moments as moments
-use Rattle.pc_lab.specs.Stages.{AreAll, Holds, IsRun, Tells, rules_named, text_in}
+use Rattle.pc_lab.specs.Stages.{AreAll, Holds, IsRun, MayCome, Tells, rules_named, text_in}
 use Rattle.pc_lab.specs.Texts.{body_text, moment_text}
+use Rattle.pc_lab.proofs.Comings.{first_on, many_on}
 use Rattle.pc_lab.proofs.Counting as counting
 use Rattle.pc_lab.proofs.Texts.{last_one, one_more}
 
@@ -34,16 +39,20 @@ each_at rules [] all c low = absurd (omega (arith, low))
 each_at rules (policy ∷ policies) all c low = rules_there (policy ∷ policies) c policy low ∙ all c policy low
 
 -- at the start nothing has happened
-pub opened : (limits : Limits) (policy : PolicyName) (before : List ℕ) (world : World) (chronicle : Chronicle) (policies : List AgentPolicy) (tally : List ℕ)
-    → AreAll (rules_named policy) limits.cpus policies → ShowsWorld world (opened_by (rules_at policies) limits) → Holds before chronicle []
-    → ((what : Counted) → counted_in tally what ≡ 0) → IsRun limits policy before world chronicle None 0 tally 0
-opened limits policy before world chronicle policies tally all shows holds counts =
+pub opened : (load : Demand) (policy : PolicyName) (before : List ℕ) (world : World) (chronicle : Chronicle) (policies : List AgentPolicy) (tally : List ℕ)
+    → AreAll (rules_named policy) (limits_for load).cpus policies → ShowsWorld world (opened_by (rules_at policies) (limits_for load)) → Holds before chronicle []
+    → ((what : Counted) → counted_in tally what ≡ 0) → IsRun load policy before world chronicle None 0 tally 0 0
+opened load policy before world chronicle policies tally all shows holds counts =
     record {
       each = rules_at policies;
       same = λ c low. each_at (rules_named policy) policies all.each c (omega (arith, low, all.many));
       moments = [];
-      plain = opened_by (rules_at policies) limits;
+      plain = opened_by (rules_at policies) (limits_for load);
       leads = moments.nothing;
+      written = All-nil IsWritten;
+      answers_none = All-nil (λ moment. IsNoAnswer moment.event);
+      created = refl;
+      many = refl;
       shows = shows;
       last = refl;
       holds = holds;
@@ -62,15 +71,22 @@ holds_one before (Script old) (Script new) moments moment holds tells =
     let lines = moment_text (last_tick None moments) moment in
     tells ∙ ap (λ text. text ++ lines) holds ∙ append_assoc before (body_text moments) lines ∙ ap (λ text. before ++ text) (sym (one_more None moments moment))
 
+-- a creation that was accepted is the one that was asked for
+accepted : (posted : Bool) (asked : Option Creation) (one : Creation) → (if posted then asked else None) ≡ Some one → asked ≡ Some one
+accepted true asked one is = is
+accepted false asked one is = cc
+
 -- an event was taken
-pub goes_on : (limits : Limits) (policy : PolicyName) (before : List ℕ) (old new : World) (chronicle chronicle' : Chronicle) (told : Option ℕ)
-    (tick events : ℕ) (tally tally' : List ℕ) (waits waits' : ℕ) (event : Event) (reply : Reply)
-    → IsRun limits policy before old chronicle told events tally waits → IfSome told (λ last. last ≤ tick)
+pub goes_on : (load : Demand) (policy : PolicyName) (before : List ℕ) (old new : World) (chronicle chronicle' : Chronicle) (told : Option ℕ)
+    (tick events : ℕ) (tally tally' : List ℕ) (waits waits' came came' : ℕ) (event : Event) (reply : Reply)
+    → IsRun load policy before old chronicle told events tally waits came → IfSome told (λ last. last ≤ tick)
+    → MayCome load (record { tick = tick; came = came }) event → AreInRange (event_row event).fields → IsNoAnswer event
     → Does (λ w. Step w event) old new reply → Tells told tick event chronicle chronicle'
     → Counts (counted_as event reply) tally tally'
     → waits' ≡ waits + (if is_counted Commit (counted_as event reply) then 1 else 0)
-    → IsRun limits policy before new chronicle' (Some tick) (events + 1) tally' waits'
-goes_on limits policy before old new chronicle chronicle' told tick events tally tally' waits waits' event reply run low does tells counts more =
+    → came' ≡ came + (if is_some (creation_in (record { tick = tick; event = event; reply = reply })) then 1 else 0)
+    → IsRun load policy before new chronicle' (Some tick) (events + 1) tally' waits' came'
+goes_on load policy before old new chronicle chronicle' told tick events tally tally' waits waits' came came' event reply run low next ranges none does tells counts more comes =
     let moment : Moment = record { tick = tick; event = event; reply = reply } in
     let after = does run.plain run.shows in
     record {
@@ -79,6 +95,11 @@ goes_on limits policy before old new chronicle chronicle' told tick events tally
       moments = run.moments ++ moment ∷ [];
       plain = after.0;
       leads = moments.one_more run.moments moment run.leads (subst (λ last. IfSome last (λ t. t ≤ tick)) run.last low) after.1;
+      written = All-push IsWritten run.moments moment run.written ranges;
+      answers_none = All-push (λ m. IsNoAnswer m.event) run.moments moment run.answers_none none;
+      created = first_on run.moments moment (creations_of load) run.created
+          (λ one is. subst (λ n. slice_get (creations_of load) n ≡ Some one) run.many (next one (accepted (is_posted reply) (creation_at tick event) one is)));
+      many = comes ∙ ap (λ n. n + (if is_some (creation_in moment) then 1 else 0)) run.many ∙ sym (many_on run.moments moment);
       shows = after.2;
       last = sym (last_one None run.moments moment);
       holds = holds_one before chronicle chronicle' run.moments moment run.holds (subst (λ last. Tells last tick event chronicle chronicle') run.last tells);

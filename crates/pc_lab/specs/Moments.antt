@@ -1,7 +1,9 @@
 -- What happens in a run, and when.
 use Rattle.std.specs.Prelude.{ℕ, ◌≤◌, List, [], ◌∷◌, ◌++◌, Option, Some, None, IfSome}
 use Rattle.pc_calls.specs.declared.event.Event.{Event}
+use Rattle.pc_calls.specs.declared.event.Event.TheVariants as event
 use Rattle.pc_calls.specs.declared.event.Reply.{Reply}
+use Rattle.pc_script.specs.Grammar.{AreInRange, event_row}
 use Rattle.pc_world.specs.PlainWorld.{PlainWorld}
 use Rattle.pc_world.specs.Steps.{Step}
 
@@ -10,6 +12,15 @@ pub record Moment : Type 0 where
   pub tick : ℕ
   pub event : Event
   pub reply : Reply
+
+-- an event is no answer to a digest
+abbrev pub IsNoAnswer : Event → Type 0
+IsNoAnswer (event.Answer cpu asker) = ⊥
+IsNoAnswer other = Unit {0}
+
+-- the numbers of its event are in the ranges of a script's fields
+abbrev pub IsWritten : Moment → Type 0
+IsWritten moment = AreInRange (event_row moment.event).fields
 
 -- the tick of the last of these moments; where there is none, the one before
 abbrev pub last_tick : Option ℕ → List Moment → Option ℕ

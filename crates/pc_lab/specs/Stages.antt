@@ -1,7 +1,7 @@
 -- What a stage holds while a run goes on.
-use Rattle.std.specs.Prelude.{◌≡◌, ℕ, ◌<◌, List, [], ◌++◌, Option, None, All, if◌then◌else◌, length}
+use Rattle.std.specs.Prelude.{◌≡◌, ℕ, ◌<◌, List, [], ◌++◌, Option, Some, None, All, if◌then◌else◌, length, slice_get}
 use Rattle.pc_calls.specs.declared.event.Event.{Event}
-use Rattle.pc_calls.specs.declared.limits.Limits.{Limits}
+use Rattle.pc_load.specs.Loads.{Demand}
 use Rattle.pc_policy.specs.Rankings.{Ranking, all_alike, by_levels, least_ran, levels_then_least_ran}
 use Rattle.pc_policy.specs.Rules.{Rules, rules_of}
 use Rattle.pc_policy.specs.declared.agent_policy.AgentPolicy.{AgentPolicy}
@@ -15,7 +15,9 @@ use Rattle.pc_lab.specs.declared.chronicle.Chronicle.TheVariants.{Untold, Script
 use Rattle.pc_lab.specs.declared.counted.Counted.{Counted}
 use Rattle.pc_lab.specs.declared.counted.Counted.TheVariants.{Commit}
 use Rattle.pc_lab.specs.Counting.{count_of, counted_in}
-use Rattle.pc_lab.specs.Moments.{Leads, Moment, last_tick}
+use Rattle.pc_lab.specs.Creations.{AreFirst, Creation, creation_at, creations, creations_of}
+use Rattle.pc_lab.specs.Limits.{limits_for}
+use Rattle.pc_lab.specs.Moments.{IsNoAnswer, IsWritten, Leads, Moment, last_tick}
 use Rattle.pc_lab.specs.Texts.{body_text, event_line, is_told, tick_line}
 
 -- the ranking of an order
@@ -42,15 +44,29 @@ abbrev pub Holds : List ℕ → Chronicle → List Moment → Type 0
 Holds before Untold moments = Unit {0}
 Holds before (Script text) moments = text.items ≡ before ++ body_text moments
 
--- Moments have led from the start of a world with these limits, in which each agent goes by the policy, to what the
--- world shows; the chronicle holds them behind a text, and all counts are theirs
-pub record IsRun (limits : Limits) (policy : PolicyName) (before : List ℕ) (world : World) (chronicle : Chronicle)
-    (told : Option ℕ) (events : ℕ) (tally : List ℕ) (waits : ℕ) : Type 0 where
+-- what a stage is seen as: the tick of now, and how many threads have come
+pub record Now : Type 0 where
+  pub tick : ℕ
+  pub came : ℕ
+
+-- where the event is a creation, it is that of the load's next thread, now
+abbrev pub MayCome : Demand → Now → Event → Type 0
+MayCome load now event =
+    (one : Creation) → creation_at now.tick event ≡ Some one → slice_get (creations_of load) now.came ≡ Some one
+
+-- Moments have led from the start of a world for a load, in which each agent goes by the policy, to what the world
+-- shows; threads came as the load has them, the chronicle holds the moments behind a text, and all counts are theirs
+pub record IsRun (load : Demand) (policy : PolicyName) (before : List ℕ) (world : World) (chronicle : Chronicle)
+    (told : Option ℕ) (events : ℕ) (tally : List ℕ) (waits came : ℕ) : Type 0 where
   pub each : ℕ → Rules
-  pub same : (c : ℕ) → c < limits.cpus → each c ≡ rules_named policy
+  pub same : (c : ℕ) → c < (limits_for load).cpus → each c ≡ rules_named policy
   pub moments : List Moment
   pub plain : PlainWorld
-  pub leads : Leads (opened_by each limits) moments plain
+  pub leads : Leads (opened_by each (limits_for load)) moments plain
+  pub written : All IsWritten moments
+  pub answers_none : All (λ moment. IsNoAnswer moment.event) moments
+  pub created : AreFirst (creations moments) (creations_of load)
+  pub many : came ≡ length (creations moments)
   pub shows : ShowsWorld world plain
   pub last : told ≡ last_tick None moments
   pub holds : Holds before chronicle moments

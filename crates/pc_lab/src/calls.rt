@@ -3,7 +3,7 @@
 use crate::fault::LabFault;
 use crate::run::Run;
 use crate::stage::Setting;
-use crate::times::{has, word_of};
+use crate::times::{has, lowest_of, word_of};
 use pc_delta::Part;
 use pc_messages::{Cpu, Phase, Tid};
 
@@ -12,7 +12,7 @@ fn lowest(word: u64) -> Option<Cpu> {
     if word == 0 {
         None
     } else {
-        Some(Cpu((word.trailing_zeros() % 64) as u8))
+        Some(lowest_of(word))
     }
 }
 
@@ -28,19 +28,19 @@ impl<K: Setting> Run<K> {
     }
 
     /// Of the agents that sleep on idle CPUs, calls the first above the thread's home for it, or the lowest.
-    pub(crate) fn call(&mut self, thread: Tid) -> Result<(), LabFault> {
+    pub(crate) fn call(&mut self, thread: Tid) {
         let Some(state) = self.kernel().reported(thread) else {
-            return Ok(());
+            return;
         };
         let Some(home) = self.kernel().queue_of(thread) else {
-            return Ok(());
+            return;
         };
         let is_free = match self.kernel().status(thread) {
             Some(status) => status.running_on.is_none(),
             None => false,
         };
         if !is_free || state.phase != Phase::Ready {
-            return Ok(());
+            return;
         }
         let able = self.kin(self.sleepers & state.mask.bits(), home);
         let called = match lowest(able & above(home)) {
@@ -49,9 +49,8 @@ impl<K: Setting> Run<K> {
         };
         if let Some(cpu) = called {
             self.lane_mut(cpu).called_for = Some(thread);
-            self.begin_turn(cpu)?;
+            self.begin_turn(cpu);
         }
-        Ok(())
     }
 
     /// How many parts the delta with this place has.
@@ -82,47 +81,44 @@ impl<K: Setting> Run<K> {
     }
 
     /// Calls agents for what the delta with this place reports.
-    fn call_for(&mut self, place: usize) -> Result<(), LabFault> {
+    fn call_for(&mut self, place: usize) {
         for part in 0..self.parts_of(place) {
             if let Some(thread) = self.newest_in(place, part) {
-                self.call(thread)?;
+                self.call(thread);
             }
         }
-        Ok(())
     }
 
     /// Calls agents for the deltas that waited until this one sleeps.
-    pub(crate) fn report_held_back(&mut self, cpu: Cpu) -> Result<(), LabFault> {
+    pub(crate) fn report_held_back(&mut self, cpu: Cpu) {
         if self.held_back.is_empty() {
-            return Ok(());
+            return;
         }
         for index in 0..self.held_back.len() {
             if let Some((sender, place)) = self.held_back.get(index).copied() {
                 if sender == cpu {
-                    self.call_for(place)?;
+                    self.call_for(place);
                 }
             }
         }
         self.held_back.retain(|held| held.0 != cpu);
-        Ok(())
     }
 
     /// Calls the agents again that were refused a steal of the thread as late.
-    fn call_again(&mut self, thread: Tid) -> Result<(), LabFault> {
+    fn call_again(&mut self, thread: Tid) {
         let Some(asked) = self.refused_at.get_mut(thread.index() as usize) else {
-            return Ok(());
+            return;
         };
         let word = *asked;
         *asked = 0;
         if word == 0 {
-            return Ok(());
+            return;
         }
         for cpu in 0..64u8 {
             if has(word & self.sleepers, Cpu(cpu)) {
-                self.begin_turn(Cpu(cpu))?;
+                self.begin_turn(Cpu(cpu));
             }
         }
-        Ok(())
     }
 
     /// The delta with this place can be taken in.
@@ -134,11 +130,11 @@ impl<K: Setting> Run<K> {
         if self.is_in_turn(sender) && self.running(sender).is_none() {
             self.held_back.push((sender, place))?;
         } else {
-            self.call_for(place)?;
+            self.call_for(place);
         }
         for part in 0..self.parts_of(place) {
             if let Some(part) = self.part_of(place, part) {
-                self.call_again(part.thread())?;
+                self.call_again(part.thread());
             }
         }
         Ok(())

@@ -1,6 +1,9 @@
 //! What is due, and when.
 
+use crate::ends::Ends;
 use crate::fault::LabFault;
+use crate::times::{lowest_of, word_of};
+use pc_messages::Cpu;
 use std::alloc::Global;
 use std::cmp::Reverse;
 use std::collections::BinaryHeap;
@@ -24,40 +27,121 @@ pub(crate) struct Due {
     pub what: What,
     /// The CPU, the thread, or the index of the delta.
     pub number: u64,
-    /// Which step or turn of the CPU it belongs to: it holds while that one does.
-    pub token: u64,
 }
 
-/// The due things that are not due in the order in which they come up.
+/// A thread wakes: who wakes first is the least.
+#[derive(Clone, Copy, Debug, PartialEq, Eq, PartialOrd, Ord)]
+struct Waking {
+    tick: u64,
+    thread: u64,
+}
+
+/// The due things but creations and deltas, which are due in the order in which they come up.
 #[derive(Drop)]
 pub(crate) struct Agenda {
-    heap: BinaryHeap<Reverse<Due>>,
+    ends: Ends,
+    wakings: BinaryHeap<Reverse<Waking>>,
+    /// The CPUs on which a turn begins now.
+    begins: u64,
+    /// The CPUs whose agents steal now.
+    steals: u64,
+}
+
+/// The first of two things.
+pub(crate) fn first_of(one: Option<Due>, other: Option<Due>) -> Option<Due> {
+    match (one, other) {
+        (Some(one), Some(other)) => Some(if one < other { one } else { other }),
+        (None, other) => other,
+        (one, None) => one,
+    }
 }
 
 impl Agenda {
     /// Nothing is due.
     pub(crate) fn new(alloc: Global) -> Agenda {
         Agenda {
-            heap: BinaryHeap::new(alloc),
+            ends: Ends::new(),
+            wakings: BinaryHeap::new(alloc),
+            begins: 0,
+            steals: 0,
         }
     }
 
-    /// A thing is due.
-    pub(crate) fn put(&mut self, due: Due) -> Result<(), LabFault> {
-        self.heap.push(Reverse(due))?;
+    /// The step of the thread that runs on the CPU ends at a tick, or its quantum.
+    pub(crate) fn put_step_end(&mut self, cpu: Cpu, tick: u64) {
+        self.ends.put(cpu, tick, false);
+    }
+
+    /// The turn of the CPU's agent ends at a tick; the thread that runs there stands still until then.
+    pub(crate) fn put_turn_end(&mut self, cpu: Cpu, tick: u64) {
+        self.ends.put(cpu, tick, true);
+    }
+
+    /// A thread wakes at a tick.
+    pub(crate) fn put_waking(&mut self, thread: u64, tick: u64) -> Result<(), LabFault> {
+        self.wakings.push(Reverse(Waking { tick, thread }))?;
         Ok(())
     }
 
-    /// The first thing.
-    pub(crate) fn first(&self) -> Option<Due> {
-        match self.heap.peek() {
-            Some(due) => Some(due.0),
+    /// A turn of the CPU's agent begins now. What is left of the old one is left out: its end, or its steal.
+    pub(crate) fn put_turn(&mut self, cpu: Cpu) {
+        self.begins |= word_of(cpu);
+        self.steals &= !word_of(cpu);
+        self.ends.drop_turn(cpu);
+    }
+
+    /// The CPU's agent steals now.
+    pub(crate) fn put_steal(&mut self, cpu: Cpu) {
+        self.steals |= word_of(cpu);
+    }
+
+    /// The first waking.
+    fn first_waking(&self) -> Option<Due> {
+        match self.wakings.peek() {
+            Some(waking) => Some(Due {
+                tick: waking.0.tick,
+                what: What::Waking,
+                number: waking.0.thread,
+            }),
             None => None,
         }
     }
 
-    /// Takes the first thing out.
-    pub(crate) fn take_first(&mut self) {
-        let _ = self.heap.pop();
+    /// The first of the things of now, which is this tick.
+    fn first_now(&self, tick: u64) -> Option<Due> {
+        let (what, cpus) = if self.begins != 0 {
+            (What::TurnBegins, self.begins)
+        } else {
+            (What::Steal, self.steals)
+        };
+        if cpus == 0 {
+            return None;
+        }
+        Some(Due {
+            tick,
+            what,
+            number: lowest_of(cpus).index() as u64,
+        })
+    }
+
+    /// The first thing, where it is this tick.
+    pub(crate) fn first(&self, now: u64) -> Option<Due> {
+        first_of(
+            first_of(self.ends.first(), self.first_waking()),
+            self.first_now(now),
+        )
+    }
+
+    /// Takes the first thing out, which is of this kind.
+    pub(crate) fn take_first(&mut self, what: What) {
+        match what {
+            What::StepEnds | What::TurnEnds => self.ends.take_first(),
+            What::Waking => {
+                let _ = self.wakings.pop();
+            }
+            What::TurnBegins => self.begins &= self.begins.wrapping_sub(1),
+            What::Steal => self.steals &= self.steals.wrapping_sub(1),
+            What::Creation | What::Delta => {}
+        }
     }
 }

@@ -16,6 +16,9 @@ pub enum LabFault {
     /// More happens than can be counted.
     #[error("more happens than can be counted")]
     TooLong,
+    /// What was run is not what the load needs. No run that was seen ends so.
+    #[error("the run does not add up to its load")]
+    Unaccounted,
 }
 
 impl From<AllocError> for LabFault {

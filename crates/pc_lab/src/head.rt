@@ -1,9 +1,9 @@
 //! What stands before the events of a script.
 
-ghost use Rattle.std.specs.Prelude.{◌≡◌, ◌++◌, codes, nat_abs, length, IfOk, OnOk};
+ghost use Rattle.std.specs.Prelude.{◌≡◌, ◌++◌, codes, IfOk, OnOk};
 ghost use Rattle.pc_load.specs.Variants.{variant_text};
 ghost use Rattle.pc_lab.specs.Heads.{command_line, head_text, is_levels, is_usual, opening_text};
-ghost use Rattle.pc_lab.specs.Playing.{limits_for};
+ghost use Rattle.pc_lab.specs.Limits.{limits_for};
 
 use crate::fault::LabFault;
 use crate::player::limits_of;
@@ -80,8 +80,7 @@ fn write_opening(text: &mut Vec<u8>, limits: Limits, policy: PolicyName) -> Resu
 /// # Errors
 /// [`LabFault::OutOfMemory`].
 pub fn head_of(alloc: Global, load: &Load, variant: &Variant) -> Result<Vec<u8>, LabFault>
-    ensures { IfOk result (λ text. text.items
-        ≡ head_text (limits_for (nat_abs load.now.cpus) (length load.now.threads)) variant.now) }
+    ensures { IfOk result (λ text. text.items ≡ head_text (limits_for load.now) variant.now) }
 {
     let mut text = Vec::new(alloc);
     write_comment(&mut text, variant)?;

@@ -14,10 +14,6 @@ pub(crate) struct Lane {
     pub ran: u64,
     /// What is left of its quantum.
     pub quantum: u64,
-    /// Which end of a step holds.
-    pub step: u64,
-    /// Which turn holds.
-    pub turn: u64,
     /// Whether a turn is due that has not begun.
     pub is_due: bool,
     /// The count of posts that the agent read last.
@@ -35,8 +31,6 @@ impl Lane {
         since: 0,
         ran: 0,
         quantum: 0,
-        step: 0,
-        turn: 0,
         is_due: false,
         aseq: 0,
         looked: 0,
@@ -63,8 +57,17 @@ pub(crate) struct SentDelta {
     pub sender: Cpu,
     /// The tick from which on others can take it in.
     pub due: u64,
+}
+
+/// A delta that the agents of a group are to look at. They go through a list of these, so that what they look at stands
+/// side by side.
+#[derive(Clone, Copy)]
+pub(crate) struct News {
     /// The CPUs on which a thread may run that it tells of.
     pub mask: u64,
+    /// Its index.
+    pub delta: u32,
+    pub sender: Cpu,
 }
 
 /// Whether two steps can be joined.

@@ -5,15 +5,18 @@
 //! as `specs/Playing.antt` says.
 #![tactic(auto)]
 
+mod account;
 mod calls;
 mod chronicle;
 mod counted;
 mod due;
+mod ends;
 mod fault;
 mod head;
 mod lane;
 mod player;
 mod policies;
+mod ranges;
 mod run;
 mod stage;
 mod steals;
@@ -21,7 +24,9 @@ mod summary;
 mod times;
 mod turns;
 mod waits;
+mod wanted;
 
+pub use account::check_account;
 pub use chronicle::{Chronicle, MOST_BYTES};
 pub use counted::{Counted, Tally};
 pub use fault::LabFault;

@@ -1,11 +1,12 @@
 //! A load is played under a variant of the policy.
 
-ghost use Rattle.std.specs.Prelude.{◌≡◌, [], IfOk, length, nat_abs};
-ghost use Rattle.pc_lab.specs.Playing.{IsPlayedBy, limits_for};
+ghost use Rattle.std.specs.Prelude.{◌≡◌, [], IfOk};
+ghost use Rattle.pc_lab.specs.Limits.{limits_for};
+ghost use Rattle.pc_lab.specs.Playing.{IsPlayedBy};
 ghost use Rattle.pc_lab.specs.Stages.{Holds, text_in};
 
 use crate::chronicle::Chronicle;
-use crate::due::{Due, What};
+use crate::due::{Due, What, first_of};
 use crate::fault::LabFault;
 use crate::run::{Numbers, Run, Stop};
 use crate::stage::{Setting, Stage};
@@ -18,7 +19,7 @@ use std::marker::Brand;
 
 /// The limits of the kernel on which a load is played.
 pub fn limits_of(load: &Load) -> Limits
-    ensures { result ≡ limits_for (nat_abs load.now.cpus) (length load.now.threads) }
+    ensures { result ≡ limits_for load.now }
 {
     let threads = load.threads().len().min(u32::MAX as usize) as u32;
     Limits {
@@ -54,15 +55,6 @@ fn place_of(number: u64) -> usize {
     }
 }
 
-/// The first of two things.
-fn first_of(one: Option<Due>, other: Option<Due>) -> Option<Due> {
-    match (one, other) {
-        (Some(one), Some(other)) => Some(if one < other { one } else { other }),
-        (None, other) => other,
-        (one, None) => one,
-    }
-}
-
 impl<K: Setting> Run<K> {
     /// The next creation.
     fn next_creation(&self, load: &Load) -> Option<Due> {
@@ -72,48 +64,34 @@ impl<K: Setting> Run<K> {
             tick: plan.start as u64,
             what: What::Creation,
             number: place as u64,
-            token: 0,
         })
     }
 
     /// The next delta that is due.
     fn next_delta(&self) -> Option<Due> {
-        if !self.numbers.steals {
-            return None;
-        }
         let delta = self.deltas.get(self.told)?;
         Some(Due {
             tick: delta.due,
             what: What::Delta,
             number: self.told as u64,
-            token: 0,
         })
     }
 
     /// Takes the next thing out.
     fn take_next(&mut self, load: &Load) -> Option<Due> {
         let others = first_of(self.next_creation(load), self.next_delta());
-        let due = first_of(self.agenda.first(), others)?;
+        let due = first_of(self.agenda.first(self.stage.tick()), others)?;
         match due.what {
-            What::Creation => {}
             What::Delta => self.told = self.told.saturating_add(1),
-            _ => self.agenda.take_first(),
+            what => self.agenda.take_first(what),
         }
         Some(due)
     }
 
-    /// Whether the thing still holds.
-    fn holds(&self, due: &Due) -> bool {
-        let lane = self.lane(cpu_of(due.number));
-        match due.what {
-            What::StepEnds => due.token == lane.step,
-            What::TurnBegins | What::TurnEnds | What::Steal => due.token == lane.turn,
-            What::Waking | What::Creation | What::Delta => true,
-        }
-    }
-
     /// Does a thing.
-    fn do_due(&mut self, load: &Load, due: &Due) -> Result<(), Stop> {
+    fn do_due(&mut self, load: &Load, due: &Due) -> Result<(), Stop>
+        requires { load.now ≡ K.load }
+    {
         let number = due.number;
         match due.what {
             What::StepEnds => self.end_step(load, cpu_of(number))?,
@@ -137,28 +115,29 @@ impl<K: Setting> Run<K> {
 
     /// The run stops at the tick at which it is to stop.
     fn stop(&mut self, load: &Load) -> Ending {
-        self.stage.advance(load.until(), self.in_turns);
+        self.stage.advance(load.until());
         Ending::Until
     }
 
     /// Does the next thing, unless the run ends in front of it.
-    fn do_next(&mut self, load: &Load) -> Result<Option<Ending>, Stop> {
+    fn do_next(&mut self, load: &Load) -> Result<Option<Ending>, Stop>
+        requires { load.now ≡ K.load }
+    {
         let Some(due) = self.take_next(load) else {
             return Ok(Some(self.stop(load)));
         };
-        if !self.holds(&due) {
-            return Ok(None);
-        }
         if due.tick >= load.until() {
             return Ok(Some(self.stop(load)));
         }
-        self.stage.advance(due.tick, self.in_turns);
+        self.stage.advance(due.tick);
         self.do_due(load, &due)?;
         Ok(None)
     }
 
     /// Does all that is due.
-    fn do_all(&mut self, load: &Load) -> Result<Ending, Stop> {
+    fn do_all(&mut self, load: &Load) -> Result<Ending, Stop>
+        requires { load.now ≡ K.load }
+    {
         self.begin(load.cpus())?;
         for _ in 0..u64::MAX {
             if self.dead >= load.threads().len() {
@@ -176,17 +155,17 @@ impl<K: Setting> Run<K> {
 fn play_as<K: Setting>(
     alloc: Global,
     load: &Load,
-    limits: Limits,
     variant: &Variant,
     chronicle: Chronicle,
 ) -> Result<Played, LabFault>
-    requires limits { limits ≡ K.limits }
+    requires load { load.now ≡ K.load }
     requires policy { variant.now.policy ≡ K.policy }
+    requires keep { variant.now.keep ≡ K.keep }
     requires before { Holds K.before chronicle [] }
-    ensures { IfOk result (IsPlayedBy K.limits K.policy K.before) }
+    ensures { IfOk result (IsPlayedBy K.load K.policy K.keep K.before) }
 {
-    let stage: Stage<K> = Stage::open(alloc, limits, variant.policy, chronicle)?;
-    let mut run = Run::new(alloc, stage, Numbers::of(variant, limits.cpus))?;
+    let stage: Stage<K> = Stage::open(alloc, load, variant.policy, chronicle)?;
+    let mut run = Run::new(alloc, stage, Numbers::of(variant, load.cpus()))?;
     let ending = match run.do_all(load) {
         Ok(ending) => ending,
         Err(Stop::NumbersSpent) => Ending::NumbersSpent,
@@ -198,7 +177,7 @@ fn play_as<K: Setting>(
         preempts,
         ..
     } = run;
-    stage.end(ending, switches, preempts)
+    stage.end(alloc, load, variant.keep, ending, switches, preempts)
 }
 
 /// Plays a load under a variant of the policy, on a world of its own, from tick 0 on (own).
@@ -207,15 +186,15 @@ fn play_as<K: Setting>(
 /// of the tick at which it stops or of a later one, or where a post is refused as `NumbersSpent`.
 ///
 /// # Errors
-/// [`LabFault::OutOfMemory`], [`LabFault::ScriptTooLong`] and [`LabFault::TooLong`]: then nothing is told of the run.
+/// [`LabFault::OutOfMemory`], [`LabFault::ScriptTooLong`], [`LabFault::TooLong`] and [`LabFault::Unaccounted`]: then
+/// nothing is told of the run.
 pub fn play(
     alloc: Global,
     load: &Load,
     variant: &Variant,
     chronicle: Chronicle,
 ) -> Result<Played, LabFault>
-    ensures { IfOk result (IsPlayedBy (limits_for (nat_abs load.now.cpus) (length load.now.threads)) variant.now.policy
-        (text_in chronicle)) }
+    ensures { IfOk result (IsPlayedBy load.now variant.now.policy variant.now.keep (text_in chronicle)) }
 {
-    play_as::<Brand>(alloc, load, limits_of(load), variant, chronicle)
+    play_as::<Brand>(alloc, load, variant, chronicle)
 }

@@ -1,12 +1,14 @@
 //! A run, as far as it has come.
 
 ghost use Rattle.std.specs.Prelude.{◌<◌};
+ghost use Rattle.pc_lab.specs.Creations.{CreatesNone};
+ghost use Rattle.pc_lab.specs.Moments.{IsNoAnswer};
 
-use crate::due::{Agenda, Due, What};
+use crate::due::Agenda;
 use crate::fault::LabFault;
-use crate::lane::{Lane, Life, SentDelta};
+use crate::lane::{Lane, Life, News, SentDelta};
 use crate::stage::{Setting, Stage};
-use crate::times::{has, word_of};
+use crate::times::word_of;
 use pc_calls::{Event, Posted, Refusal, Reply};
 use pc_kernel::Kernel;
 use pc_load::Variant;
@@ -89,11 +91,14 @@ pub(crate) struct Run<K: Setting> {
     pub agenda: Agenda,
     /// So many threads have died.
     pub dead: usize,
+    /// What was sent, where agents steal.
     pub deltas: Vec<SentDelta>,
     /// So many deltas were due.
     pub told: usize,
-    /// Of each group the places of its deltas.
-    pub groups: Vec<Vec<usize>>,
+    /// So many deltas can be taken in.
+    pub ripe: usize,
+    /// Of each group its deltas.
+    pub groups: Vec<Vec<News>>,
     /// Of each group the CPUs.
     pub kin: [u64; 64],
     /// By thread, the CPUs whose agents were refused a steal of it as late.
@@ -102,8 +107,6 @@ pub(crate) struct Run<K: Setting> {
     pub held_back: Vec<(Cpu, usize)>,
     /// The idle CPUs whose agents sleep, and have no turn due.
     pub sleepers: u64,
-    /// The CPUs whose agents are in a turn.
-    pub in_turns: u64,
     pub switches: u64,
     pub preempts: u64,
 }
@@ -137,12 +140,12 @@ impl<K: Setting> Run<K> {
             dead: 0,
             deltas: Vec::new(alloc),
             told: 0,
+            ripe: 0,
             groups,
             kin,
             refused_at: Vec::new(alloc),
             held_back: Vec::new(alloc),
             sleepers: 0,
-            in_turns: 0,
             switches: 0,
             preempts: 0,
         })
@@ -168,42 +171,38 @@ impl<K: Setting> Run<K> {
         &mut self.lanes[place_of(cpu)]
     }
 
-    /// A thing is due so many ticks from now.
-    pub(crate) fn put_in(
-        &mut self,
-        ticks: u64,
-        what: What,
-        number: u64,
-        token: u64,
-    ) -> Result<(), LabFault> {
-        self.agenda.put(Due {
-            tick: self.stage.tick().saturating_add(ticks),
-            what,
-            number,
-            token,
-        })
+    /// The tick of so many ticks from now.
+    pub(crate) fn tick_in(&self, ticks: u64) -> u64 {
+        self.stage.tick().saturating_add(ticks)
     }
 
     /// A turn of the CPU's agent is due at once; what is left of the old one is left out.
-    pub(crate) fn begin_turn(&mut self, cpu: Cpu) -> Result<(), LabFault> {
-        let lane = self.lane_mut(cpu);
-        lane.turn = lane.turn.wrapping_add(1);
-        lane.is_due = true;
-        let turn = lane.turn;
+    pub(crate) fn begin_turn(&mut self, cpu: Cpu) {
+        self.lane_mut(cpu).is_due = true;
         self.sleepers &= !word_of(cpu);
-        self.put_in(0, What::TurnBegins, cpu.index() as u64, turn)
+        self.agenda.put_turn(cpu);
     }
 
     /// Posts a message, which may wake an agent.
-    pub(crate) fn post(&mut self, event: Event) -> Result<(), Stop> {
+    pub(crate) fn post(&mut self, event: Event) -> Result<(), Stop>
+        requires { CreatesNone event × IsNoAnswer event }
+    {
+        let reply = self.stage.do_event(event)?;
+        self.note_post(&reply)
+    }
+
+    /// Notes what was replied to a post: which agent it woke.
+    pub(crate) fn note_post(&mut self, reply: &Reply) -> Result<(), Stop> {
         let _: (Option<Posted>, Option<Tid>, Option<Cpu>, Option<Refusal>) = (
             None, None, None, None,
         );
-        match self.stage.do_event(event)? {
-            Reply::Posted(posted) => match posted.woken {
-                Some(cpu) => Ok(self.begin_turn(cpu)?),
-                None => Ok(()),
-            },
+        match *reply {
+            Reply::Posted(posted) => {
+                if let Some(cpu) = posted.woken {
+                    self.begin_turn(cpu);
+                }
+                Ok(())
+            }
             Reply::Refused(Refusal::NumbersSpent) => Err(Stop::NumbersSpent),
             _ => Ok(()),
         }
@@ -211,6 +210,6 @@ impl<K: Setting> Run<K> {
 
     /// Whether the CPU's agent is in a turn.
     pub(crate) fn is_in_turn(&self, cpu: Cpu) -> bool {
-        has(self.in_turns, cpu)
+        self.stage.is_in_turn(cpu)
     }
 }

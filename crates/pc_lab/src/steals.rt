@@ -1,7 +1,7 @@
 //! Steals.
 
 use crate::fault::LabFault;
-use crate::lane::SentDelta;
+use crate::lane::News;
 use crate::run::Run;
 use crate::stage::Setting;
 use crate::times::{has, word_of};
@@ -10,18 +10,27 @@ use pc_messages::{Cpu, Tid};
 use pc_run_queue::runs_on;
 
 impl<K: Setting> Run<K> {
-    /// The delta at this place of the list of the CPU's group, and its place among all.
-    fn heard_at(&self, cpu: Cpu, place: usize) -> Option<(usize, SentDelta)> {
-        let places = self.groups.get(self.group_of(cpu))?;
-        let delta = places.get(place).copied()?;
-        Some((delta, self.deltas.get(delta).copied()?))
+    /// The delta at this place of the list of a group.
+    fn news_at(&self, group: usize, place: usize) -> Option<News> {
+        self.groups.get(group)?.get(place).copied()
     }
 
-    /// How many deltas the CPU's group has.
-    fn heard_in_all(&self, cpu: Cpu) -> usize {
-        match self.groups.get(self.group_of(cpu)) {
-            Some(places) => places.len(),
+    /// How many deltas a group has.
+    fn news_in_all(&self, group: usize) -> usize {
+        match self.groups.get(group) {
+            Some(news) => news.len(),
             None => 0,
+        }
+    }
+
+    /// Looks which deltas can be taken in now.
+    fn ripen(&mut self) {
+        let now = self.stage.tick();
+        for place in self.ripe..self.deltas.len() {
+            match self.deltas.get(place) {
+                Some(delta) if delta.due <= now => self.ripe = place.saturating_add(1),
+                _ => return,
+            }
         }
     }
 
@@ -30,18 +39,20 @@ impl<K: Setting> Run<K> {
         let _: (Option<Posted>, Option<Tid>, Option<Cpu>, Option<Refusal>) = (
             None, None, None, None,
         );
-        for place in self.lane(cpu).looked..self.heard_in_all(cpu) {
-            let Some((index, delta)) = self.heard_at(cpu, place) else {
+        self.ripen();
+        let group = self.group_of(cpu);
+        for place in self.lane(cpu).looked..self.news_in_all(group) {
+            let Some(news) = self.news_at(group, place) else {
                 return Ok(());
             };
-            if delta.due > self.stage.tick() {
+            if news.delta as usize >= self.ripe {
                 return Ok(());
             }
             self.lane_mut(cpu).looked = place.saturating_add(1);
-            if delta.sender != cpu && has(delta.mask, cpu) {
+            if news.sender != cpu && has(news.mask, cpu) {
                 self.stage.do_event(Event::Deliver {
                     cpu,
-                    delta: index as u64,
+                    delta: news.delta as u64,
                 })?;
             }
         }
@@ -89,8 +100,9 @@ impl<K: Setting> Run<K> {
         self.pick(cpu)?;
         match called_for {
             Some(thread) if thread != stolen => self.call(thread),
-            _ => Ok(()),
+            _ => {}
         }
+        Ok(())
     }
 
     /// The thread for which the agent was called, which it is not from now on.

@@ -1,8 +1,11 @@
 //! Steps, quanta and turns.
 
-use crate::due::What;
+ghost use Rattle.std.specs.Prelude.{◌≡◌};
+ghost use Rattle.pc_lab.specs.Creations.{CreatesNone};
+ghost use Rattle.pc_lab.specs.Moments.{IsNoAnswer};
+
 use crate::fault::LabFault;
-use crate::lane::{Life, SentDelta, joined};
+use crate::lane::{Life, News, SentDelta, joined};
 use crate::run::{Run, Stop};
 use crate::stage::Setting;
 use crate::times::word_of;
@@ -24,6 +27,18 @@ fn thread_at(place: usize) -> Tid {
     match u32::try_from(place) {
         Ok(place) => Tid(place),
         Err(_) => Tid(u32::MAX),
+    }
+}
+
+/// How a thread that has run for so many ticks leaves its CPU.
+fn leaving_by(leaving: Leaving, cpu: Cpu, ran: u32) -> EnvCall
+    ensures { CreatesNone (Event.Env result) × IsNoAnswer (Event.Env result) }
+{
+    match leaving {
+        Leaving::Yield => EnvCall::YieldNow { cpu, ran },
+        Leaving::Block => EnvCall::Block { cpu, ran },
+        Leaving::Preempt => EnvCall::Preempt { cpu, ran },
+        Leaving::Die => EnvCall::Die { cpu, ran },
     }
 }
 
@@ -58,26 +73,22 @@ impl<K: Setting> Run<K> {
     }
 
     /// The step or the quantum of the thread that runs on the CPU is due to end.
-    fn plan_end(&mut self, cpu: Cpu) -> Result<(), LabFault> {
-        let quantum = self.numbers.quantum;
-        let running = self.running(cpu);
-        let lane = self.lane_mut(cpu);
-        lane.step = lane.step.wrapping_add(1);
-        let (step, of_quantum) = (lane.step, lane.quantum);
-        let Some(thread) = running else {
-            return Ok(());
+    fn plan_end(&mut self, cpu: Cpu) {
+        let Some(thread) = self.running(cpu) else {
+            return;
         };
         let left = self.left_of(thread);
-        let ticks = if quantum > 0 {
-            left.min(of_quantum)
+        let ticks = if self.numbers.quantum > 0 {
+            left.min(self.lane(cpu).quantum)
         } else {
             left
         };
-        self.put_in(ticks, What::StepEnds, cpu.index() as u64, step)
+        let tick = self.tick_in(ticks);
+        self.agenda.put_step_end(cpu, tick);
     }
 
     /// A thread was put on the CPU.
-    fn committed(&mut self, cpu: Cpu, thread: Tid) -> Result<(), LabFault> {
+    fn committed(&mut self, cpu: Cpu, thread: Tid) {
         let now = self.stage.tick();
         let quantum = self.numbers.quantum as u64;
         let lane = self.lane_mut(cpu);
@@ -89,7 +100,7 @@ impl<K: Setting> Run<K> {
         if is_switch {
             self.switches = self.switches.saturating_add(1);
         }
-        self.plan_end(cpu)
+        self.plan_end(cpu);
     }
 
     /// The agent picks.
@@ -100,7 +111,7 @@ impl<K: Setting> Run<K> {
         let aseq = self.lane(cpu).aseq;
         let reply = self.stage.do_event(Event::Pick { cpu, aseq })?;
         if let Reply::Committed { thread, .. } = reply {
-            self.committed(cpu, thread)?;
+            self.committed(cpu, thread);
         }
         Ok(reply)
     }
@@ -163,8 +174,6 @@ impl<K: Setting> Run<K> {
             return Ok(false);
         }
         self.preempts = self.preempts.saturating_add(1);
-        let lane = self.lane_mut(cpu);
-        lane.step = lane.step.wrapping_add(1);
         self.post(Event::Env(EnvCall::Preempt {
             cpu,
             ran: ticks_of(ran),
@@ -197,20 +206,15 @@ impl<K: Setting> Run<K> {
             None => 0,
         };
         life.blocks = life.blocks.saturating_add(1);
-        self.put_in(ticks, What::Waking, thread.index() as u64, 0)
+        let tick = self.tick_in(ticks);
+        self.agenda.put_waking(thread.index() as u64, tick)
     }
 
     /// The thread that runs on the CPU leaves it, as its step says.
     fn leave(&mut self, load: &Load, cpu: Cpu, thread: Tid, leaving: Leaving) -> Result<(), Stop> {
         let ran = ticks_of(self.lane(cpu).ran);
-        let call = match leaving {
-            Leaving::Yield => EnvCall::YieldNow { cpu, ran },
-            Leaving::Block => EnvCall::Block { cpu, ran },
-            Leaving::Preempt => EnvCall::Preempt { cpu, ran },
-            Leaving::Die => EnvCall::Die { cpu, ran },
-        };
         self.go_on(load, thread);
-        self.post(Event::Env(call))?;
+        self.post(Event::Env(leaving_by(leaving, cpu, ran)))?;
         match leaving {
             Leaving::Block => self.put_waking(load, thread)?,
             Leaving::Die => self.dead = self.dead.saturating_add(1),
@@ -235,13 +239,15 @@ impl<K: Setting> Run<K> {
         if !self.preempt(cpu, false)? {
             let quantum = self.numbers.quantum as u64;
             self.lane_mut(cpu).quantum = quantum;
-            self.plan_end(cpu)?;
+            self.plan_end(cpu);
         }
         Ok(())
     }
 
     /// A thread comes.
-    pub(crate) fn create(&mut self, load: &Load, place: usize) -> Result<(), Stop> {
+    pub(crate) fn create(&mut self, load: &Load, place: usize) -> Result<(), Stop>
+        requires { load.now ≡ K.load }
+    {
         let Some(plan) = load.threads().get(place) else {
             return Ok(());
         };
@@ -256,11 +262,8 @@ impl<K: Setting> Run<K> {
         })?;
         self.refused_at.push(0)?;
         self.stage.add_waiter(plan.mask, plan.level)?;
-        self.post(Event::Env(EnvCall::Create {
-            queue: plan.queue,
-            mask: plan.mask,
-            ready: true,
-        }))?;
+        let reply = self.stage.create(load)?;
+        self.note_post(&reply)?;
         if plan.level != 0 {
             self.post(Event::Env(EnvCall::SetPriority {
                 thread: thread_at(place),
@@ -294,24 +297,35 @@ impl<K: Setting> Run<K> {
         self.numbers.group_of(cpu)
     }
 
+    /// The agents of the CPU's group are to take in what its agent has sent.
+    fn announce(&mut self, cpu: Cpu) -> Result<(), LabFault> {
+        let place = self.deltas.len();
+        let mask = self.mask_of(place);
+        let due = self.tick_in(self.numbers.delay as u64);
+        self.deltas.push(SentDelta { sender: cpu, due })?;
+        let group = self.group_of(cpu);
+        let Ok(delta) = u32::try_from(place) else {
+            return Err(LabFault::TooLong);
+        };
+        if let Some(news) = self.groups.get_mut(group) {
+            news.push(News {
+                mask,
+                delta,
+                sender: cpu,
+            })?;
+        }
+        Ok(())
+    }
+
     /// The agent publishes and consumes.
     fn publish(&mut self, cpu: Cpu) -> Result<(), LabFault> {
         let _: (Option<Posted>, Option<Tid>, Option<Cpu>, Option<Refusal>) = (
             None, None, None, None,
         );
-        let place = self.deltas.len();
         self.stage.do_event(Event::Publish { cpu, fails: false })?;
         self.stage.do_event(Event::Consume { cpu })?;
-        let mask = self.mask_of(place);
-        let due = self.stage.tick().saturating_add(self.numbers.delay as u64);
-        self.deltas.push(SentDelta {
-            sender: cpu,
-            due,
-            mask,
-        })?;
-        let group = self.group_of(cpu);
-        if let Some(places) = self.groups.get_mut(group) {
-            places.push(place)?;
+        if self.numbers.steals {
+            self.announce(cpu)?;
         }
         Ok(())
     }
@@ -331,7 +345,7 @@ impl<K: Setting> Run<K> {
         );
         self.settle(cpu);
         self.lane_mut(cpu).is_due = false;
-        self.in_turns |= word_of(cpu);
+        self.stage.enter_turn(cpu);
         if self.kernel().is_asleep(cpu) {
             self.stage.do_event(Event::Agent(AgentCall::Rouse { cpu }))?;
         }
@@ -339,21 +353,19 @@ impl<K: Setting> Run<K> {
             self.publish(cpu)?;
         }
         let aseq = self.kernel().aseq(cpu);
-        let lane = self.lane_mut(cpu);
-        lane.aseq = aseq.unwrap_or(0);
-        lane.step = lane.step.wrapping_add(1);
-        let turn = lane.turn;
-        let cost = self.numbers.cost as u64;
-        self.put_in(cost, What::TurnEnds, cpu.index() as u64, turn)
+        self.lane_mut(cpu).aseq = aseq.unwrap_or(0);
+        let tick = self.tick_in(self.numbers.cost as u64);
+        self.agenda.put_turn_end(cpu, tick);
+        Ok(())
     }
 
     /// A turn ends on a CPU on which a thread runs.
     fn go_on_running(&mut self, cpu: Cpu) -> Result<(), Stop> {
         if self.numbers.urgent && self.preempt(cpu, true)? {
-            self.begin_turn(cpu)?;
+            self.begin_turn(cpu);
             return Ok(());
         }
-        self.plan_end(cpu)?;
+        self.plan_end(cpu);
         self.sleep(cpu)?;
         Ok(())
     }
@@ -363,17 +375,16 @@ impl<K: Setting> Run<K> {
         let _: (Option<Posted>, Option<Tid>, Option<Cpu>, Option<Refusal>) = (
             None, None, None, None,
         );
-        self.in_turns &= !word_of(cpu);
+        self.stage.leave_turn(cpu);
         let now = self.stage.tick();
         self.lane_mut(cpu).since = now;
         if self.running(cpu).is_some() {
             return self.go_on_running(cpu);
         }
         match self.pick(cpu)? {
-            Reply::Refused(Refusal::Stale(_)) => self.begin_turn(cpu)?,
+            Reply::Refused(Refusal::Stale(_)) => self.begin_turn(cpu),
             Reply::Refused(Refusal::NothingReady) if self.numbers.steals => {
-                let turn = self.lane(cpu).turn;
-                self.put_in(0, What::Steal, cpu.index() as u64, turn)?;
+                self.agenda.put_steal(cpu);
             }
             _ => self.sleep(cpu)?,
         }
@@ -397,8 +408,9 @@ impl<K: Setting> Run<K> {
                     self.sleepers |= word_of(cpu);
                 }
             }
-            _ => self.begin_turn(cpu)?,
+            _ => self.begin_turn(cpu),
         }
-        self.report_held_back(cpu)
+        self.report_held_back(cpu);
+        Ok(())
     }
 }

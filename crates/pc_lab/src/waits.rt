@@ -5,9 +5,9 @@ ghost use Rattle.pc_lab.specs.Counting.{counted_as, is_counted};
 ghost use Rattle.pc_lab.specs.declared.counted.Counted.TheVariants.{Commit};
 
 use crate::fault::LabFault;
-use crate::times::{has, word_of};
+use crate::wanted::Wanted;
 use pc_calls::{EnvCall, Event, Posted, Reply};
-use pc_messages::{Cpu, Tid};
+use pc_messages::Tid;
 use std::alloc::Global;
 
 /// How long a thread was ready before it ran, in ticks (own).
@@ -37,19 +37,8 @@ pub(crate) struct Waits {
     waiters: Vec<Waiter>,
     /// Those that ended by a commit, in that order.
     pub ended: Vec<Wait>,
-    /// How many threads wait for each CPU.
-    wanted_by: [u32; 64],
-    /// The CPUs for which a thread waits.
-    pub wanted: u64,
-}
-
-/// The CPUs for which a thread waits, with the CPU among them or not.
-fn with_bit(word: u64, cpu: Cpu, is_in: bool) -> u64 {
-    if is_in {
-        word | word_of(cpu)
-    } else {
-        word & !word_of(cpu)
-    }
+    /// For which CPUs threads wait.
+    pub wanted: Wanted,
 }
 
 impl Waits {
@@ -61,8 +50,7 @@ impl Waits {
             alloc,
             waiters: Vec::new(alloc),
             ended: Vec::new(alloc),
-            wanted_by: [0; 64],
-            wanted: 0,
+            wanted: Wanted::NONE,
         }
     }
 
@@ -80,32 +68,6 @@ impl Waits {
         Ok(())
     }
 
-    /// One thread more or less waits for the CPU.
-    fn want(&mut self, cpu: Cpu, is_more: bool)
-        ensures { self.new.ended ≡ self.old.ended }
-    {
-        let place = (cpu.index() % 64) as usize;
-        let count = self.wanted_by[place];
-        let count = if is_more {
-            count.saturating_add(1)
-        } else {
-            count.saturating_sub(1)
-        };
-        self.wanted_by[place] = count;
-        self.wanted = with_bit(self.wanted, cpu, count > 0);
-    }
-
-    /// One thread more or less waits for these CPUs.
-    fn want_all(&mut self, mask: u64, is_more: bool)
-        ensures { self.new.ended ≡ self.old.ended }
-    {
-        for cpu in 0..64u8 {
-            if has(mask, Cpu(cpu)) {
-                self.want(Cpu(cpu), is_more);
-            }
-        }
-    }
-
     /// The thread waits from this tick on.
     fn begin(&mut self, thread: Tid, tick: u64, is_woken: bool)
         ensures { self.new.ended ≡ self.old.ended }
@@ -119,7 +81,7 @@ impl Waits {
         waiter.since = tick;
         let mask = waiter.mask;
         if !was_ready {
-            self.want_all(mask, true);
+            self.wanted.add(mask);
         }
     }
 
@@ -150,7 +112,7 @@ impl Waits {
         waiter.is_ready = false;
         let mask = waiter.mask;
         if was_ready {
-            self.want_all(mask, false);
+            self.wanted.remove(mask);
         }
     }
 

@@ -1,8 +1,13 @@
 //! Worked loads of the lab: a script to the byte, and counts that were found by hand.
 
-use pc_lab::{Chronicle, Counted, Ending, LabFault, Played, Summary, head_of, play};
+use pc_calls::{AgentCall, EnvCall, Event};
+use pc_lab::{
+    Chronicle, Counted, Ending, LabFault, Played, Summary, check_account, head_of, limits_of, play,
+};
 use pc_load::{Leaving, Load, Step, ThreadDraft, Variant};
+use pc_messages::{Cpu, Tid};
 use pc_script::{OrderName, PolicyName};
+use pc_world::World;
 use std::alloc::Global;
 
 /// One CPU: a thread of 100 ticks in front of ten of one, in the order of their creation.
@@ -108,6 +113,103 @@ fn played_in_groups(alloc: Global, group: u8) -> Result<[u64; 8], LabFault> {
     })
 }
 
+/// What is told of a run of two threads of 3 and 5 ticks on one CPU, of which each was committed once: how it ended,
+/// how long each thread ran, as it died, the level of the first, how long the CPU ran, and the preempts; and whether it
+/// adds up to them.
+type Told = (Ending, [u32; 2], u8, u64, u64, bool);
+
+const TOLD: &[Told] = &[
+    (Ending::Done, [3, 5], 0, 8, 0, true),
+    (Ending::Done, [4, 5], 0, 8, 0, false),
+    (Ending::Done, [3, 4], 0, 8, 0, false),
+    (Ending::Done, [4, 4], 0, 8, 0, false),
+    (Ending::Done, [3, 5], 1, 8, 0, false),
+    (Ending::Done, [3, 5], 0, 9, 0, false),
+    (Ending::Done, [3, 5], 0, 7, 0, false),
+    (Ending::Done, [3, 5], 0, 8, 1, false),
+    (Ending::Until, [1, 0], 0, 1, 0, true),
+];
+
+/// A thread of CPU 0 comes.
+fn creation() -> Event {
+    Event::Env(EnvCall::Create {
+        queue: Cpu(0),
+        mask: 1,
+        ready: true,
+    })
+}
+
+/// The thread is put on the CPU, behind so many posts.
+fn commit(thread: u32, aseq: u32) -> Event {
+    Event::Agent(AgentCall::Commit {
+        cpu: Cpu(0),
+        thread: Tid(thread),
+        aseq,
+    })
+}
+
+/// The thread that runs dies.
+fn death(ran: u32) -> Event {
+    Event::Env(EnvCall::Die { cpu: Cpu(0), ran })
+}
+
+/// A world in which both threads ran for so long, and the first had this level.
+fn lived(alloc: Global, load: &Load, ran: [u32; 2], level: u8) -> Result<World, LabFault> {
+    let Ok(mut world) = World::new(alloc, limits_of(load)) else {
+        return Err(LabFault::OutOfMemory);
+    };
+    let [first, second] = ran;
+    let level = EnvCall::SetPriority {
+        thread: Tid(0),
+        level,
+    };
+    let events = [
+        creation(),
+        creation(),
+        Event::Env(level),
+        commit(0, 3),
+        death(first),
+        commit(1, 4),
+        death(second),
+    ];
+    world.run(&events)?;
+    Ok(world)
+}
+
+/// Whether it adds up, or does not, as it should.
+fn is_judged(
+    alloc: Global,
+    load: &Load,
+    summary: &mut Summary,
+    told: &Told,
+) -> Result<bool, LabFault> {
+    let (ending, ran, level, by_cpu, preempts, adds_up) = *told;
+    let world = lived(alloc, load, ran, level)?;
+    summary.ending = ending;
+    summary.preempts = preempts;
+    if let Some(time) = summary.times.first_mut() {
+        time.ran = by_cpu;
+    }
+    match check_account(alloc, load, false, world.kernel(), summary) {
+        Ok(()) => Ok(adds_up),
+        Err(LabFault::Unaccounted) => Ok(!adds_up),
+        Err(fault) => Err(fault),
+    }
+}
+
+/// The place of the first of these of which it is not so.
+fn first_wrong(alloc: Global, all: &[Told]) -> Result<Option<usize>, LabFault> {
+    let load = load_of(alloc, 1, 1, &[3, 5])?;
+    let variant = variant_of(alloc, b"fifo", OrderName::Fifo, 1)?;
+    let Played { mut summary, .. } = play(alloc, &load, &variant, Chronicle::Untold)?;
+    for (place, told) in all.iter().enumerate() {
+        if !is_judged(alloc, &load, &mut summary, told)? {
+            return Ok(Some(place));
+        }
+    }
+    Ok(None)
+}
+
 #[test]
 fn a_convoy_is_told(rt: HostRuntime) {
     let alloc = rt.alloc();
@@ -122,4 +224,10 @@ fn kin_take_threads_over(rt: HostRuntime) {
     assert_eq!(rt; alone, [80, 8, 8, 0, 16, 8, 0, 50]);
     let together = played_in_groups(alloc, 64).expect(&rt, "ample memory");
     assert_eq!(rt; together, [40, 8, 8, 4, 16, 7, 4, 61]);
+}
+
+#[test]
+fn a_run_that_does_not_add_up_is_not_told(rt: HostRuntime) {
+    let wrong = first_wrong(rt.alloc(), TOLD).expect(&rt, "ample memory");
+    assert_eq!(rt; wrong, None);
 }

@@ -3,7 +3,7 @@ use Rattle.std.proofs.Common.{ℕ, List, Option, Some, None, IfSome}
 use Rattle.pc_load.specs.declared.load.Load.{Load}
 use Rattle.pc_load.specs.declared.variant.Variants.{Variants}
 use Rattle.pc_trial.specs.declared.ending.LabEnding.{LabEnding}
-use Rattle.pc_trial.specs.declared.ending.LabEnding.TheVariants.{Finished, LoadUnread, BadLoad, VariantsUnread, BadVariants, NoVariant, ScriptTooLong, OutOfMemory, Unwritten}
+use Rattle.pc_trial.specs.declared.ending.LabEnding.TheVariants.{Finished, LoadUnread, BadLoad, VariantsUnread, BadVariants, NoVariant, ScriptTooLong, Unaccounted, OutOfMemory, Unwritten}
 use Rattle.pc_trial.specs.declared.wanted.Wanted.{Wanted}
 use Rattle.pc_trial.specs.Tried.{AreSpelled, EndsAtVariants, IsTried, IsWrittenOf, Lists, Spells, SpellsLoad}
 
@@ -13,6 +13,7 @@ tried_spelled : (wanted : Wanted) (text : List ℕ) (other : Option (List ℕ)) 
 tried_spelled wanted text other load variants old new Finished spelled h = (load, variants, spelled, h)
 tried_spelled wanted text other load variants old new NoVariant spelled h = (load, variants, spelled, h)
 tried_spelled wanted text other load variants old new ScriptTooLong spelled h = (load, variants, spelled, h)
+tried_spelled wanted text other load variants old new Unaccounted spelled h = (load, variants, spelled, h)
 tried_spelled wanted text other load variants old new OutOfMemory spelled h = tt
 tried_spelled wanted text other load variants old new Unwritten spelled h = tt
 tried_spelled wanted text other load variants old new (LoadUnread why) spelled h = absurd h
@@ -42,6 +43,7 @@ at_variants wanted text other old new (LoadUnread why) spelled h = absurd h
 at_variants wanted text other old new (BadLoad first) spelled h = absurd h
 at_variants wanted text other old new NoVariant spelled h = absurd h
 at_variants wanted text other old new ScriptTooLong spelled h = absurd h
+at_variants wanted text other old new Unaccounted spelled h = absurd h
 at_variants wanted text other old new Unwritten spelled h = absurd h
 
 pub others_at_variants : (wanted : Wanted) (left others : Option (List ℕ)) (load : Load) (own : Variants) (old new : Option (List ℕ)) (ending : LabEnding)

@@ -10,16 +10,14 @@ use Rattle.pc_load.specs.declared.variant.Variants.{Variants}
 use Rattle.pc_settings.specs.LoadTexts.{ReadsLoad, ReadsVariants}
 use Rattle.pc_settings.specs.declared.input.Unread.{Unread}
 use Rattle.pc_settings.specs.declared.input.Unread.TheVariants.{Failed, TooLong, NotUtf8}
-use Rattle.pc_settings.specs.declared.loads.LoadTextFault.{LoadTextFault}
 use Rattle.pc_settings.specs.declared.loads.LoadTextFault.TheVariants as fault
 use Rattle.pc_compare.specs.Comparing.{Compares, Draws, IsScriptOf, is_named}
-use Rattle.pc_table.specs.declared.form.Form.{Form}
 use Rattle.pc_table.specs.declared.form.Layout.{Layout}
 use Rattle.pc_table.specs.declared.form.Layout.TheVariants as layout
 use Rattle.pc_trial.specs.declared.ending.LabEnding.{LabEnding}
 use Rattle.pc_trial.specs.declared.ending.LabEnding.TheVariants.{Finished, LoadUnread, BadLoad, VariantsUnread}
-use Rattle.pc_trial.specs.declared.ending.LabEnding.TheVariants.{BadVariants, NoVariant, ScriptTooLong, OutOfMemory}
-use Rattle.pc_trial.specs.declared.ending.LabEnding.TheVariants.{Unwritten}
+use Rattle.pc_trial.specs.declared.ending.LabEnding.TheVariants.{BadVariants, NoVariant, ScriptTooLong, Unaccounted}
+use Rattle.pc_trial.specs.declared.ending.LabEnding.TheVariants.{OutOfMemory, Unwritten}
 use Rattle.pc_trial.specs.declared.wanted.Wanted.{Wanted}
 use Rattle.pc_trial.specs.declared.wanted.Wanted.TheVariants.{Table, Picture, Script}
 
@@ -93,6 +91,7 @@ EndsAtLoad text (VariantsUnread why) = ⊥
 EndsAtLoad text (BadVariants first) = ⊥
 EndsAtLoad text NoVariant = ⊥
 EndsAtLoad text ScriptTooLong = ⊥
+EndsAtLoad text Unaccounted = ⊥
 EndsAtLoad text Unwritten = ⊥
 
 -- the lab ends at the text of the variants, likewise
@@ -106,12 +105,14 @@ EndsAtVariants text (LoadUnread why) = ⊥
 EndsAtVariants text (BadLoad first) = ⊥
 EndsAtVariants text NoVariant = ⊥
 EndsAtVariants text ScriptTooLong = ⊥
+EndsAtVariants text Unaccounted = ⊥
 EndsAtVariants text Unwritten = ⊥
 
 -- the lab ends before anything is written of a load and variants that are spelled
 abbrev pub EndsAtTelling : Wanted → Variants → LabEnding → Type 0
 EndsAtTelling wanted variants NoVariant = IsOfNone wanted variants
 EndsAtTelling wanted variants ScriptTooLong = IsOfOne wanted variants
+EndsAtTelling wanted variants Unaccounted = IsOfNone wanted variants → ⊥
 EndsAtTelling wanted variants OutOfMemory = Unit {0}
 EndsAtTelling wanted variants Finished = ⊥
 EndsAtTelling wanted variants (LoadUnread why) = ⊥
@@ -127,6 +128,7 @@ IsWrittenOf wanted load variants old new Finished =
 IsWrittenOf wanted load variants old new Unwritten = Unit {0}
 IsWrittenOf wanted load variants old new NoVariant = EndsAtTelling wanted variants NoVariant
 IsWrittenOf wanted load variants old new ScriptTooLong = EndsAtTelling wanted variants ScriptTooLong
+IsWrittenOf wanted load variants old new Unaccounted = EndsAtTelling wanted variants Unaccounted
 IsWrittenOf wanted load variants old new OutOfMemory = Unit {0}
 IsWrittenOf wanted load variants old new (LoadUnread why) = ⊥
 IsWrittenOf wanted load variants old new (BadLoad first) = ⊥
@@ -144,6 +146,9 @@ IsTried wanted text other old new NoVariant =
 IsTried wanted text other old new ScriptTooLong =
     (load : Load) × (variants : Variants) × AreSpelled text other load variants
     × IsWrittenOf wanted load variants old new ScriptTooLong
+IsTried wanted text other old new Unaccounted =
+    (load : Load) × (variants : Variants) × AreSpelled text other load variants
+    × IsWrittenOf wanted load variants old new Unaccounted
 IsTried wanted text other old new (LoadUnread why) = EndsAtLoad text (LoadUnread why)
 IsTried wanted text other old new (BadLoad first) = EndsAtLoad text (BadLoad first)
 IsTried wanted text other old new (VariantsUnread why) =
@@ -162,5 +167,6 @@ IsOfLoad (VariantsUnread why) = ⊥
 IsOfLoad (BadVariants first) = ⊥
 IsOfLoad NoVariant = ⊥
 IsOfLoad ScriptTooLong = ⊥
+IsOfLoad Unaccounted = ⊥
 IsOfLoad OutOfMemory = ⊥
 IsOfLoad Unwritten = ⊥

@@ -3,8 +3,8 @@ use Rattle.std.specs.Prelude.{ℕ, List, codes}
 use Rattle.pc_settings.specs.Words.{fault_text}
 use Rattle.pc_trial.specs.declared.ending.LabEnding.{LabEnding}
 use Rattle.pc_trial.specs.declared.ending.LabEnding.TheVariants.{Finished, LoadUnread, BadLoad, VariantsUnread}
-use Rattle.pc_trial.specs.declared.ending.LabEnding.TheVariants.{BadVariants, NoVariant, ScriptTooLong, OutOfMemory}
-use Rattle.pc_trial.specs.declared.ending.LabEnding.TheVariants.{Unwritten}
+use Rattle.pc_trial.specs.declared.ending.LabEnding.TheVariants.{BadVariants, NoVariant, ScriptTooLong, Unaccounted}
+use Rattle.pc_trial.specs.declared.ending.LabEnding.TheVariants.{OutOfMemory, Unwritten}
 
 -- the exit status
 abbrev pub status_of : LabEnding → ℕ
@@ -15,6 +15,7 @@ status_of (VariantsUnread why) = 1
 status_of (BadVariants fault) = 1
 status_of NoVariant = 1
 status_of ScriptTooLong = 1
+status_of Unaccounted = 1
 status_of OutOfMemory = 4
 status_of Unwritten = 1
 
@@ -27,5 +28,6 @@ ending_text (VariantsUnread why) = codes "cannot read"
 ending_text (BadVariants fault) = fault_text fault
 ending_text NoVariant = codes "lab NoVariant"
 ending_text ScriptTooLong = codes "lab ScriptTooLong"
+ending_text Unaccounted = codes "lab Unaccounted"
 ending_text OutOfMemory = codes "out of memory"
 ending_text Unwritten = codes "cannot read"

@@ -23,6 +23,8 @@ pub enum LabEnding {
     NoVariant,
     /// The script has more than 16,777,216 bytes.
     ScriptTooLong,
+    /// What was run is not what the load needs. No run that was seen ends so.
+    Unaccounted,
     /// A growth was refused, or more happens than can be counted.
     OutOfMemory,
     /// A write failed.
@@ -58,6 +60,7 @@ impl Display for LabEnding {
             LabEnding::BadLoad(fault) | LabEnding::BadVariants(fault) => write!(f, "{fault}"),
             LabEnding::NoVariant => f.write_str("lab NoVariant"),
             LabEnding::ScriptTooLong => f.write_str("lab ScriptTooLong"),
+            LabEnding::Unaccounted => f.write_str("lab Unaccounted"),
             LabEnding::OutOfMemory => f.write_str("out of memory"),
         }
     }

@@ -74,7 +74,8 @@ pub(crate) fn variants_in<R: Read>(alloc: Global, reader: &mut R) -> Result<Vari
     }
 }
 
-/// The table of all variants. It has no fault but want of memory; no machine plays more than can be counted.
+/// The table of all variants. Its faults are that a run does not add up, and want of memory; no machine plays more than
+/// can be counted.
 fn table_of(
     alloc: Global,
     load: &Load,
@@ -86,17 +87,19 @@ fn table_of(
 {
     match compare(alloc, load, variants, form) {
         Ok(text) => Ok(text),
+        Err(CompareFault::Unaccounted) => Err(LabEnding::Unaccounted),
         Err(_) => Err(LabEnding::OutOfMemory),
     }
 }
 
-/// The picture of the waits under all variants, which has no other fault either.
+/// The picture of the waits under all variants, which has no other faults either.
 fn picture_drawn(alloc: Global, load: &Load, variants: &Variants) -> Result<Vec<u8>, LabEnding>
     ensures ok { IfOk result (λ text. IsTold Wanted.Picture load.now variants.now text.items) }
     ensures err { IfErr result (EndsAtTelling Wanted.Picture variants.now) }
 {
     match picture_of(alloc, load, variants) {
         Ok(text) => Ok(text),
+        Err(CompareFault::Unaccounted) => Err(LabEnding::Unaccounted),
         Err(_) => Err(LabEnding::OutOfMemory),
     }
 }
@@ -115,6 +118,7 @@ fn script_named(
         Ok(text) => Ok(text),
         Err(CompareFault::NoVariant) => Err(LabEnding::NoVariant),
         Err(CompareFault::ScriptTooLong) => Err(LabEnding::ScriptTooLong),
+        Err(CompareFault::Unaccounted) => Err(LabEnding::Unaccounted),
         Err(CompareFault::TooLong | CompareFault::OutOfMemory) => Err(LabEnding::OutOfMemory),
     }
 }

@@ -36,7 +36,8 @@ fn tell<W: Write + Drop>(
 ///
 /// At most one byte more than [`MOST_LOAD`](crate::MOST_LOAD) is read. Nothing is written but where it is `Finished`,
 /// or `Unwritten` by a write that failed. Else it is the first of these:
-/// `LoadUnread`; `BadLoad`, as `read_load` has the faults; `NoVariant`, `ScriptTooLong`; or want of memory.
+/// `LoadUnread`; `BadLoad`, as `read_load` has the faults; `NoVariant`, `ScriptTooLong`, `Unaccounted`; or want of
+/// memory.
 pub fn try_load<R: Read, W: Write + Drop>(
     alloc: Global,
     load: &mut R,

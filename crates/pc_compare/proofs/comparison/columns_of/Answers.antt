@@ -8,7 +8,7 @@ use Rattle.pc_compare.proofs.comparison.columns_of.Goals as goal
 pub loop-variant-preserved : goal.loop-variant-preserved
 loop-variant-preserved c =
     let those = take c.loop-variant.variant-index c.args.variants.now in
-    let one : IsRunOf c.args.load.now c.variant-item.result c.in_ok-column_of.field-0 = c.in_ok-column_of.ensures in
+    let one : IsRunOf c.args.load.now c.variant-item.result c.in_ok-column_of.field-0 = c.in_ok-column_of.ensures.run in
     let more = take_more c.args.variants.now c.loop-variant.variant-index c.variant-item.result c.loop-variant-test.true
     ∙ ap (λ variant. those ++ variant ∷ []) (sym c.variant-item.is) in
     let items = (c.in_ok-push.ensures).items in

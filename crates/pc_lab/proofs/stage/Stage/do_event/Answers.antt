@@ -1,18 +1,9 @@
-use Rattle.std.proofs.Common.{ℕ, Some, length, sym, subst, arith}
-use Rattle.pc_lab.specs.Stages.{IsRun}
-use Rattle.pc_lab.proofs.Staging.{goes_on}
+use Rattle.std.proofs.Common.{◌≡◌, ◌∙◌, Some, None, sym}
 use Rattle.pc_lab.proofs.stage.Stage.do_event.Goals as goal
 
-pub invariant_of-self-2 : goal.invariant_of-self-2
-invariant_of-self-2 g c =
-    let old = c.self.inside in
-    let run = c.self.invariant.0 c.if-self.false in
-    let next =
-    goes_on g.K.Setting.limits g.K.Setting.policy g.K.Setting.before old.world c.step.new.self old.chronicle c.add.new.self old.told old.tick old.events old.tally
-    c.add-2.new.self (length old.waits.ended.items) (length c.note.new.self.ended.items) c.args.event c.in-Ok.reply run c.self.invariant.1 c.in-Ok.ensures.step
-    c.in_ok-add.ensures c.in_ok-add-2.ensures.ok c.in_ok-note.ensures in
-    let counted =
-    subst
-    (λ (n : ℕ). IsRun g.K.Setting.limits g.K.Setting.policy g.K.Setting.before c.step.new.self c.add.new.self (Some old.tick) n c.add-2.new.self
-    (length c.note.new.self.ended.items)) (sym c.in_ok-self-inside.ensures) next in
-    (λ cut. counted, omega arith, c.self.invariant.2)
+pub take_event-requires : goal.take_event-requires
+take_event-requires g c = (
+  λ one is.
+      let none : None ≡ Some one = sym (c.requires.0 c.args.self.now.tick) ∙ is in cc,
+  c.requires.1,
+)

@@ -1,0 +1,6 @@
+use Rattle.std.proofs.Common.{All}
+use Rattle.pc_lab.specs.Times.{IsWhole}
+use Rattle.pc_lab.proofs.times.Times.up_to.Given as goal
+
+abbrev pub invariant-loop-account : goal.invariant-loop-account
+invariant-loop-account l = All (IsWhole l.now) l.times.items
