@@ -242,15 +242,15 @@ class Launcher(unittest.TestCase):
         self.assertEqual(self.calls()[0], [])
 
     def test_the_crates_of_the_tests_are_not_built(self):
-        (self.tree / "crates.txt").write_text(CRATES + "pc_tests: low left\npc_tests_agents: low left right\npc_example: low\n")
-        for name in ["pc_tests", "pc_tests_agents", "pc_example"]:
+        (self.tree / "crates.txt").write_text(CRATES + "pc_tests: low left\npc_tests_agents: low left right\npc_example: low\npc_replayed: low\n")
+        for name in ["pc_tests", "pc_tests_agents", "pc_example", "pc_replayed"]:
             (self.tree / f"crates/{name}/src").mkdir(parents=True)
         self.set_dates(-100)
         status, out, errors = self.run_it("x")
         self.assertEqual((status, out), (0, "arguments 1:\n<x>\n"))
         self.assert_built_once(errors)
         self.forget_calls()
-        for name in ["pc_tests", "pc_tests_agents", "pc_example"]:
+        for name in ["pc_tests", "pc_tests_agents", "pc_example", "pc_replayed"]:
             (self.tree / f"crates/{name}/src/lib.rt").write_text("// tests\n")
         self.assertEqual(self.run_it("x"), (0, "arguments 1:\n<x>\n", ""))
         self.assertEqual(self.calls()[0], [])

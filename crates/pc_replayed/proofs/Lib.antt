@@ -1,0 +1,10 @@
+pub mod Printed
+pub mod Lines
+pub mod Heads
+pub mod Ranges
+pub mod Elsewhere
+pub mod Going
+pub mod Replaying
+pub mod OneScript
+pub mod OneSession
+pub mod OneOutputs
