@@ -11,6 +11,3 @@ pub use input::{TextFault, Unread, read_utf8};
 pub use loads::{LoadField, LoadTextFault, read_load, read_variants};
 pub use runs::{Field, SettingsFault, read_config, write_trouble};
 pub use steps::steps_are_read_as_written;
-
-#[cfg(test)]
-mod tests;

@@ -15,6 +15,8 @@ mod lab;
 #[cfg(test)]
 mod session;
 #[cfg(test)]
+mod settings;
+#[cfg(test)]
 mod table;
 #[cfg(test)]
 mod threads;

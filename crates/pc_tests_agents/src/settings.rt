@@ -1,7 +1,7 @@
 //! Texts of loads: what is wrong with them, and what is read.
 
-use crate::{read_load, read_variants};
 use pc_load::{LAST_TICK, Leaving, Load, Step, ThreadLoad, Variant, Variants};
+use pc_settings::{read_load, read_variants};
 use std::alloc::{AllocError, Global};
 
 /// A thread that has no fault.
