@@ -14,6 +14,9 @@ use std::simd::prelude::*;
 /// How many bytes are looked at together for a space.
 const LANES: usize = 8;
 
+/// How many of them in a text that has fewer.
+const FEW_LANES: usize = 4;
+
 /// How many bytes are looked at together for a line feed.
 const LINE_LANES: usize = 32;
 
@@ -99,12 +102,29 @@ fn first_space_from(text: &[u8], from: usize) -> Option<usize>
     Some(from + place)
 }
 
+/// Where the first space is in a text of fewer than eight bytes. The first four are looked at together: the words of
+/// commands have three at least.
+fn first_space_in_few(text: &[u8]) -> Option<usize>
+    ensures { IsFirstByte (is_byte 32) text.now result }
+{
+    if text.len() < FEW_LANES {
+        return first_space_from(text, 0);
+    }
+    let spaces = u8x4::from_slice(text)
+        .simd_eq(u8x4::splat(b' '))
+        .to_bitmask();
+    if spaces == 0 {
+        return first_space_from(text, FEW_LANES);
+    }
+    Some(spaces.trailing_zeros() as usize)
+}
+
 /// Where the first space is. The first eight bytes are looked at together: few words are longer.
 fn first_space(text: &[u8]) -> Option<usize>
     ensures { IsFirstByte (is_byte 32) text.now result }
 {
     if text.len() < LANES {
-        return first_space_from(text, 0);
+        return first_space_in_few(text);
     }
     let spaces = u8x8::from_slice(text)
         .simd_eq(u8x8::splat(b' '))
@@ -116,6 +136,7 @@ fn first_space(text: &[u8]) -> Option<usize>
 }
 
 /// The first word of a text, and the text after it: words are the parts between spaces that aren't empty.
+#[inline(always)]
 pub fn first_word(text: &[u8]) -> Option<(&[u8], &[u8])>
     ensures { MatchOption result (words text.now ≡ []) (λ cut. words text.now ≡ cut.0.now ∷ words cut.1.now) }
 {
