@@ -1,5 +1,5 @@
 -- Numbers that are taken from a text where they stand.
-use Rattle.std.proofs.Common.{◌≡◌, ◌∙◌, ℕ, suc, ◌<◌, ◌≤◌, ◌+◌, ◌*◌, ◌-◌, ◌^◌, eqb, not, true, List, [], ◌∷◌, Option, Some, None, Result, Ok, Err, get_or, length, take, drop, decimal, refl, sym, subst, ap, arith, inl, inr}
+use Rattle.std.proofs.Common.{◌≡◌, ◌∙◌, ℕ, zero, suc, ◌<◌, ◌≤◌, ◌+◌, ◌*◌, ◌-◌, ◌^◌, eqb, not, true, List, [], ◌∷◌, Option, Some, None, Result, Ok, Err, get_or, length, take, drop, decimal, refl, sym, subst, ap, arith, inl, inr, zero-add}
 use Rattle.std.specs.Bool.{MatchBool}
 use Rattle.std.specs.Int.{IsInRange}
 use Rattle.std.specs.Result.{result_ok, OkIff}
@@ -15,7 +15,7 @@ use Rattle.std.proofs.Math.Nat.{pow-le-pow_right}
 use Rattle.pc_script.specs.Grammar.{thread_name}
 use Rattle.pc_script.specs.Inner.Taking.{IsTaken, StartsWithNoSpace, TakesNumber, word_end}
 use Rattle.pc_script.specs.Text.{words}
-use Rattle.pc_script.proofs.Numerals.{own, IsPlain, IsPlain-decimal, is_digit_at, value_more}
+use Rattle.pc_script.proofs.Numerals.{own, HasRead, IsPlain, IsPlain-decimal, is_digit_at, read_more, read_none, value_more}
 use Rattle.pc_script.proofs.Splits.{word_end-is, words-none, words-start}
 
 -- the digits in front are no spaces
@@ -63,6 +63,45 @@ beyond text count digits within no_space =
                 absurd (no_space (eqb-true (get_or text count 0) 32 (subst (λ k. eqb (get_or text k 0) 32 ≡ true) same at)))
           ]
     ]
+
+-- digits that were read before a space or the end are the next word
+read_word : (text : List ℕ) (count value : ℕ) → HasRead text count value → 0 < count → count ≤ length text → (count < length text → get_or text count 0 ≡ 32)
+    → IsPlain (take count text) → words text ≡ decimal value ∷ words (drop count text)
+read_word text count value read some within at plain =
+    let digit = digit_there text count 0 read.digits within some in
+    let end = ends_at text count read.digits within at in
+    let first = words-start text (omega (arith, some, within)) (λ _ is. omega (arith, is, digit)) in
+    let named = names_value text count read.digits (omega (arith, read.small, read.number)) plain in
+    let named_so : take count text ≡ decimal value = named ∙ ap decimal (sym read.number) in
+    let cut : words text ≡ take count text ∷ words (drop count text) = rw end at first in
+    cut ∙ ap (λ word. word ∷ words (drop count text)) named_so
+
+-- a digit stands within its text
+digit_within : (text : List ℕ) (place : ℕ) → IsInRange 48 57 (get_or text place 0) → place < length text
+digit_within [] place digit = absurd (omega (arith, digit))
+digit_within (x ∷ xs) zero digit = omega arith
+digit_within (x ∷ xs) (suc place) digit = omega (arith, digit_within xs place digit)
+
+-- one digit
+pub takes_digit : (text : List ℕ) → IsInRange 48 57 (get_or text 0 0) → (1 < length text → get_or text 1 0 ≡ 32)
+    → words text ≡ decimal (get_or text 0 0 - 48) ∷ words (drop 1 text)
+takes_digit text first at =
+    let some = digit_within text 0 first in
+    let read : HasRead text 1 (get_or text 0 0 - 48) = subst (HasRead text 1) (zero-add (get_or text 0 0 - 48)) (read_more text 0 0 (read_none text) some first (omega (arith, first))) in
+    let size : length (take 1 text) ≡ 1 = length-take-le 1 text (omega (arith, some)) in
+    read_word text 1 (get_or text 0 0 - 48) read (omega arith) (omega (arith, some)) at (omega (arith, size), (λ _. size))
+
+-- two digits, of which the first is no zero
+pub takes_two_digits : (text : List ℕ) → IsInRange 48 57 (get_or text 0 0) → (get_or text 0 0 ≡ 48 → ⊥) → IsInRange 48 57 (get_or text 1 0)
+    → (2 < length text → get_or text 2 0 ≡ 32)
+    → words text ≡ decimal ((get_or text 0 0 - 48) * 10 + (get_or text 1 0 - 48)) ∷ words (drop 2 text)
+takes_two_digits text first no_zero second at =
+    let more = digit_within text 1 second in
+    let one : HasRead text 1 (get_or text 0 0 - 48) = subst (HasRead text 1) (zero-add (get_or text 0 0 - 48)) (read_more text 0 0 (read_none text) (omega (arith, more)) first (omega (arith, first))) in
+    let read = read_more text 1 (get_or text 0 0 - 48) one more second (omega (arith, first, second)) in
+    let size : length (take 2 text) ≡ 2 = length-take-le 2 text (omega (arith, more)) in
+    let front : get_or (take 2 text) 0 0 ≡ get_or text 0 0 = get_or-take 2 text 0 0 (omega arith) in
+    read_word text 2 _ read (omega arith) (omega (arith, more)) at (omega (arith, size), (λ zero. absurd (no_zero (sym front ∙ zero))))
 
 length-word : (text : List ℕ) → length (take (word_end text) text) ≡ word_end text
 length-word text = length-take-le (word_end text) text (prefix_len-le-length (λ b. not (eqb b 32)) text)

@@ -163,8 +163,44 @@ impl<'a> Words<'a> {
         u32::try_from(wide).ok()
     }
 
+    /// Takes the next word, where it stands in front and is a number of one or two digits; nothing otherwise.
+    ///
+    /// Most CPUs are such numbers, and most lines name one.
+    #[inline(always)]
+    fn small_number(&mut self) -> Option<u8>
+        ensures { MatchOption result (words_left self.new ≡ words_left self.old)
+            (λ n. (n < 100) × (words_left self.old ≡ decimal n ∷ words_left self.new)) }
+    {
+        let text = self.rest;
+        if text.is_empty() || !text[0].is_ascii_digit() {
+            return None;
+        }
+        let first = text[0] - b'0';
+        if is_end(text, 1) {
+            self.rest = &text[1..];
+            return Some(first);
+        }
+        if first == 0 || !text[1].is_ascii_digit() || !is_end(text, 2) {
+            return None;
+        }
+        self.rest = &text[2..];
+        Some(first * 10 + (text[1] - b'0'))
+    }
+
     /// Takes the next word, where it is a number below 2 ^ 8.
+    #[inline(always)]
     pub(crate) fn byte(&mut self) -> Option<u8>
+        ensures { TakesNumber (2 ^ 8) decimal (words_left self.old) (words_left self.new) result }
+    {
+        match self.small_number() {
+            Some(small) => Some(small),
+            None => self.any_byte(),
+        }
+    }
+
+    /// Takes the next word, where it is a number below 2 ^ 8, wherever it starts.
+    #[inline(never)]
+    fn any_byte(&mut self) -> Option<u8>
         ensures { TakesNumber (2 ^ 8) decimal (words_left self.old) (words_left self.new) result }
     {
         let wide = self.number()?;
