@@ -53,6 +53,8 @@ pub enum Verb {
 }
 
 /// The verb that this word is.
+// Inlined: what is done for a verb then follows where its word was found, and the verb is not handed on.
+#[inline(always)]
 fn verb_of(word: &[u8]) -> Option<Verb>
     ensures { MatchOption result ((any : Verb) → word.now ≡ name_of any → ⊥) (λ verb. word.now ≡ name_of verb) }
 {
