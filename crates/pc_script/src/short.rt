@@ -3,7 +3,7 @@
 //! A script has a line for each of its commands, so these are not written piece by piece through a formatter: each is
 //! put together here, from its last byte to its first.
 
-ghost use Rattle.std.specs.Prelude.{◌≡◌, ◌++◌, ◌≤◌, ◌<◌, ◌+◌, MatchOption, [], decimal, drop, length};
+ghost use Rattle.std.specs.Prelude.{◌≡◌, ◌++◌, ◌≤◌, ◌<◌, ◌+◌, MatchOption, [], codes, decimal, drop, length};
 ghost use Rattle.pc_script.specs.Inner.Outputs.{row_text};
 ghost use Rattle.pc_script.specs.Responses.{level_text, limit_text, number_or_dash, phase_text, posted_text};
 ghost use Rattle.pc_script.specs.Responses.{refusal_text, reported_text};
@@ -172,62 +172,63 @@ pub(crate) fn write_row(line: &mut LineEnd, shown: &ShownThread)
     line.text(b"t");
 }
 
-/// Writes a refusal by its name, and its argument where it has one.
-fn write_refusal(line: &mut LineEnd, refusal: Refusal)
+/// Writes `refused`, a refusal by its name, and its argument where it has one.
+fn write_refusal(line: &mut LineEnd, refusal: &Refusal)
     requires fits { line.old.start + 1 ≡ ROOM }
-    ensures start { (20 ≤ line.new.start) × (line.new.start < ROOM) }
-    ensures written { drop line.new.start line.new.bytes ≡ refusal_text refusal ++ drop line.old.start line.old.bytes }
+    ensures start { line.new.start < ROOM }
+    ensures written { drop line.new.start line.new.bytes
+        ≡ (codes "refused " ++ refusal_text refusal.now) ++ drop line.old.start line.old.bytes }
 {
     match refusal {
-        Refusal::BadCpu => line.text(b"BadCpu"),
-        Refusal::EmptyMask => line.text(b"EmptyMask"),
-        Refusal::MaskTooWide => line.text(b"MaskTooWide"),
-        Refusal::BadLevel => line.text(b"BadLevel"),
-        Refusal::NamesSpent => line.text(b"NamesSpent"),
-        Refusal::NumbersSpent => line.text(b"NumbersSpent"),
-        Refusal::QueueFull => line.text(b"QueueFull"),
-        Refusal::PostsSpent => line.text(b"PostsSpent"),
-        Refusal::UnknownThread => line.text(b"UnknownThread"),
-        Refusal::Dead => line.text(b"Dead"),
-        Refusal::NotBlocked => line.text(b"NotBlocked"),
-        Refusal::NotReady => line.text(b"NotReady"),
-        Refusal::IdleCpu => line.text(b"IdleCpu"),
-        Refusal::OnForbiddenCpu => line.text(b"OnForbiddenCpu"),
-        Refusal::TooMany => line.text(b"TooMany"),
+        Refusal::BadCpu => line.text(b"refused BadCpu"),
+        Refusal::EmptyMask => line.text(b"refused EmptyMask"),
+        Refusal::MaskTooWide => line.text(b"refused MaskTooWide"),
+        Refusal::BadLevel => line.text(b"refused BadLevel"),
+        Refusal::NamesSpent => line.text(b"refused NamesSpent"),
+        Refusal::NumbersSpent => line.text(b"refused NumbersSpent"),
+        Refusal::QueueFull => line.text(b"refused QueueFull"),
+        Refusal::PostsSpent => line.text(b"refused PostsSpent"),
+        Refusal::UnknownThread => line.text(b"refused UnknownThread"),
+        Refusal::Dead => line.text(b"refused Dead"),
+        Refusal::NotBlocked => line.text(b"refused NotBlocked"),
+        Refusal::NotReady => line.text(b"refused NotReady"),
+        Refusal::IdleCpu => line.text(b"refused IdleCpu"),
+        Refusal::OnForbiddenCpu => line.text(b"refused OnForbiddenCpu"),
+        Refusal::TooMany => line.text(b"refused TooMany"),
         Refusal::Stale(now) => {
-            line.number(u64::from(now));
-            line.text(b"Stale ");
+            line.number(u64::from(*now));
+            line.text(b"refused Stale ");
         }
-        Refusal::Pending => line.text(b"Pending"),
+        Refusal::Pending => line.text(b"refused Pending"),
         Refusal::Running(cpu) => {
             line.number(u64::from(cpu.index()));
-            line.text(b"Running ");
+            line.text(b"refused Running ");
         }
         Refusal::NotYours(queue) => {
             line.number(u64::from(queue.index()));
-            line.text(b"NotYours ");
+            line.text(b"refused NotYours ");
         }
-        Refusal::Forbidden => line.text(b"Forbidden"),
-        Refusal::Busy => line.text(b"Busy"),
-        Refusal::NoDelta => line.text(b"NoDelta"),
-        Refusal::NothingReady => line.text(b"NothingReady"),
-        Refusal::NothingToSteal => line.text(b"NothingToSteal"),
-        Refusal::WireFault => line.text(b"WireFault"),
-        Refusal::TooLate => line.text(b"TooLate"),
+        Refusal::Forbidden => line.text(b"refused Forbidden"),
+        Refusal::Busy => line.text(b"refused Busy"),
+        Refusal::NoDelta => line.text(b"refused NoDelta"),
+        Refusal::NothingReady => line.text(b"refused NothingReady"),
+        Refusal::NothingToSteal => line.text(b"refused NothingToSteal"),
+        Refusal::WireFault => line.text(b"refused WireFault"),
+        Refusal::TooLate => line.text(b"refused TooLate"),
     }
 }
 
 /// Writes what an event is replied.
 #[inline(always)]
-fn write_reply(line: &mut LineEnd, reply: Reply)
+fn write_reply(line: &mut LineEnd, reply: &Reply)
     requires fits { line.old.start + 1 ≡ ROOM }
     ensures start { line.new.start < ROOM }
-    ensures written { drop line.new.start line.new.bytes ≡ reply_text reply ++ drop line.old.start line.old.bytes }
+    ensures written { drop line.new.start line.new.bytes ≡ reply_text reply.now ++ drop line.old.start line.old.bytes }
 {
     match reply {
         Reply::Done => line.text(b"ok"),
         Reply::Posted(posted) => {
-            write_posted(line, posted);
+            write_posted(line, *posted);
             line.text(b"ok ");
         }
         Reply::Associated { thread, queue } => {
@@ -251,22 +252,19 @@ fn write_reply(line: &mut LineEnd, reply: Reply)
         Reply::Published { delta, items } => write_pair(
             line,
             b"ok d",
-            delta,
+            *delta,
             b" items ",
-            u64::from(items),
+            u64::from(*items),
         ),
         Reply::Consumed { items } => {
-            line.number(u64::from(items));
+            line.number(u64::from(*items));
             line.text(b"ok ");
         }
         Reply::Answered { delta } => {
-            line.number(delta);
+            line.number(*delta);
             line.text(b"ok d");
         }
-        Reply::Refused(refusal) => {
-            write_refusal(line, refusal);
-            line.text(b"refused ");
-        }
+        Reply::Refused(refusal) => write_refusal(line, refusal),
     }
 }
 
@@ -280,7 +278,7 @@ pub(crate) fn write_line<'a>(line: &mut LineEnd, response: &'a Response) -> Opti
 {
     line.text(b"\n");
     match response {
-        Response::Event(reply) => write_reply(line, *reply),
+        Response::Event(reply) => write_reply(line, reply),
         Response::Status {
             thread,
             status,
@@ -297,10 +295,7 @@ pub(crate) fn write_line<'a>(line: &mut LineEnd, response: &'a Response) -> Opti
             line.text(limit_name(*limit).as_bytes());
             line.text(b"refused BadLimits ");
         }
-        Response::Refused(refusal) => {
-            write_refusal(line, *refusal);
-            line.text(b"refused ");
-        }
+        Response::Refused(refusal) => write_refusal(line, refusal),
         Response::Ruled(_) => line.text(b"ok"),
         Response::View(threads) => return Some(threads),
     }
