@@ -4,8 +4,11 @@ ghost use Rattle.std.specs.Prelude.{◌≡◌, List, [], ◌∷◌, ◌++◌, No
 ghost use Rattle.pc_script.specs.declared.command.Command.{Command};
 ghost use Rattle.pc_script.specs.declared.response.Response.{Response};
 ghost use Rattle.pc_session.specs.Session.{IsSession, PlainEnclave, RanOut, TakesMemory, TakesMemoryIn};
+ghost use Rattle.pc_session.specs.Session.{TakesMemoryToRead};
+ghost use Rattle.pc_session.specs.Reads.{IsRead};
+ghost use Rattle.pc_world.specs.PlainWorld.{PlainWorld};
 ghost use Rattle.pc_calls.specs.declared.limits.Profile.{Profile};
-ghost use Rattle.pc_world.specs.Shows.{Does, LeavesWhenRanOut};
+ghost use Rattle.pc_world.specs.Shows.{Does, LeavesWhenRanOut, ShowsWorld};
 ghost use Rattle.pc_world.specs.Steps.{Step};
 ghost use Rattle.pc_session.specs.Inner.Sessions.{Answers, IsReplied, Steps, is_session};
 ghost use Rattle.pc_session.specs.Standing.{LeadsToWorld, ShowsEnclave, StandsAfter, lent};
@@ -14,7 +17,7 @@ use crate::policies::policies_of;
 use crate::reads::answer_of;
 use pc_calls::{Event, LimitsFault, Profile, Refusal, Reply};
 use pc_messages::Cpu;
-use pc_script::{Command, Machine, PolicyName, Response};
+use pc_script::{Command, Machine, PolicyName, Read, Response};
 use pc_world::World;
 use std::alloc::{AllocError, Global};
 
@@ -35,6 +38,10 @@ pub struct Session {
 }
 
 /// Answers a command that meets no world.
+///
+/// This stands apart, as all does that another command than an event needs: an event is answered where the walk over the
+/// lines is, and nothing of the others is made ready for it.
+#[inline(never)]
 fn open(
     alloc: Global,
     profile: Profile,
@@ -67,6 +74,7 @@ fn open(
 
 /// Answers a policy. Where no event was taken yet, a world with the same limits is opened in the place of the old one,
 /// which nothing has changed.
+#[inline(never)]
 fn rule(
     alloc: Global,
     profile: Profile,
@@ -95,6 +103,23 @@ fn rule(
     }
 }
 
+/// Has the world take an event, and puts its reply in the place of a response of any kind.
+#[inline(never)]
+fn step_anew(world: &mut World, event: &Event, response: &mut Response) -> Result<(), AllocError>
+    ensures ok { OnOk result (IsReplied (Does (λ w. Step w event.now) world.old world.new) response.new) }
+    ensures no_memory { OnErr result (LeavesWhenRanOut event.now world.old world.new) }
+    ensures kept { OnErr result (response.new ≡ response.old) }
+{
+    let mut reply = Reply::Done;
+    match world.step_in_place(event, &mut reply) {
+        Ok(()) => {
+            *response = Response::Event(reply);
+            Ok(())
+        }
+        Err(_) => Err(AllocError),
+    }
+}
+
 /// Has the world take an event, and puts its reply in the place of the response. Most stand where another reply stood,
 /// of which nothing has to be let go.
 #[inline(always)]
@@ -108,20 +133,12 @@ fn step(world: &mut World, event: &Event, response: &mut Response) -> Result<(),
             Ok(()) => Ok(()),
             Err(_) => Err(AllocError),
         },
-        _ => {
-            let mut reply = Reply::Done;
-            match world.step_in_place(event, &mut reply) {
-                Ok(()) => {
-                    *response = Response::Event(reply);
-                    Ok(())
-                }
-                Err(_) => Err(AllocError),
-            }
-        }
+        _ => step_anew(world, event, response),
     }
 }
 
 /// Mends a CPU, which counts as an event.
+#[inline(never)]
 fn mend(met: &mut Enclave, cpu: Cpu, response: &mut Response) -> Result<(), AllocError>
     ensures ok { OnOk result (Answers (Command.Mend cpu) met.old met.new response.new) }
     ensures no_memory { OnErr result
@@ -138,7 +155,19 @@ fn mend(met: &mut Enclave, cpu: Cpu, response: &mut Response) -> Result<(), Allo
     }
 }
 
+/// Answers a question.
+#[inline(never)]
+fn tell(alloc: Global, world: &World, read: Read, response: &mut Response) -> Result<(), AllocError>
+    ensures ok { OnOk result ((w : PlainWorld) → ShowsWorld world.now w → IsRead w read response.new) }
+    ensures no_memory { OnErr result ((w : PlainWorld) → ShowsWorld world.now w → TakesMemoryToRead w read) }
+    ensures kept { OnErr result (response.new ≡ response.old) }
+{
+    *response = answer_of(alloc, world, read)?;
+    Ok(())
+}
+
 /// Answers a command that meets a world.
+#[inline(always)]
 fn act(
     alloc: Global,
     profile: Profile,
@@ -157,7 +186,7 @@ fn act(
             enclave.is_untouched = false;
             step(&mut enclave.world, event, response)?;
         }
-        Command::Read(read) => *response = answer_of(alloc, &enclave.world, *read)?,
+        Command::Read(read) => tell(alloc, &enclave.world, *read, response)?,
         Command::Policy(policy) => rule(alloc, profile, enclave, *policy, response)?,
         Command::Mend { cpu } => mend(enclave, *cpu, response)?,
     }
@@ -179,6 +208,7 @@ impl Machine for Session {
         }
     }
 
+    #[inline(always)]
     fn answer(&mut self, command: &Command, response: &mut Response) -> Result<(), AllocError> {
         match &mut self.enclave {
             None => open(
