@@ -3,3 +3,4 @@ pub mod Handling
 pub mod Laws
 pub mod Mends
 pub mod Places
+pub mod Putting

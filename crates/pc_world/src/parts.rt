@@ -3,10 +3,11 @@
 ghost use Rattle.std.specs.Prelude.{◌≡◌, false, MatchOption, OnErr, Some, length, slice_get, option_copied};
 ghost use Rattle.pc_kernel.specs.Reads.{seen, is_cpu};
 ghost use Rattle.pc_world.specs.Inner.Agents.{AreOwn};
+ghost use Rattle.pc_world.specs.Inner.Putting.{IsPut};
 ghost use Rattle.pc_world.specs.Inner.Laws.{RunsGoOn};
 
 use pc_agent::{Agent, KeptWire, SendFault, agents_stay_as_the_run_goes_on};
-use pc_calls::{AgentCall, Call, CallFault, EnvCall, Event, Refusal, Reply};
+use pc_calls::{AgentCall, Call, CallFault, EnvCall, Event, Posted, Refusal, Reply};
 use pc_delta::Delta;
 use pc_delta::laws::{parts_stay_as_the_run_goes_on, sets_are_pairs};
 use pc_join::OutOfMemory;
@@ -42,6 +43,27 @@ fn delta_at(sent: &[Delta], index: u64) -> Option<&Delta>
     ensures { option_copied result ≡ slice_get sent.now index }
 {
     sent.get(usize::try_from(index).ok()?)
+}
+
+/// Puts what a call of the environment is answered into the place, which keeps what it held where memory ran out.
+// Inlined at each kind of call: an outcome that were handed on from where the kinds meet would be put together from
+// the fields of all of them, and taken apart again.
+#[inline(always)]
+fn put_posted(outcome: Result<Posted, CallFault>, reply: &mut Reply) -> Result<(), OutOfMemory>
+    ensures put { IsPut outcome result reply.new }
+    ensures kept { OnErr result (reply.new ≡ reply.old) }
+{
+    match outcome {
+        Ok(posted) => {
+            *reply = Reply::Posted(posted);
+            Ok(())
+        }
+        Err(CallFault::Refused(refusal)) => {
+            *reply = Reply::Refused(refusal);
+            Ok(())
+        }
+        Err(CallFault::OutOfMemory) => Err(OutOfMemory),
+    }
 }
 
 impl Parts {
@@ -90,16 +112,23 @@ impl Parts {
         ensures kept { OnErr result (reply.new ≡ reply.old) }
     {
         runs_go_on();
-        match self.kernel.apply_env(call) {
-            Ok(posted) => {
-                *reply = Reply::Posted(posted);
-                Ok(())
+        let kernel = &mut self.kernel;
+        match call {
+            EnvCall::Create { queue, mask, ready } => {
+                put_posted(kernel.create(queue, mask, ready), reply)
             }
-            Err(CallFault::Refused(refusal)) => {
-                *reply = Reply::Refused(refusal);
-                Ok(())
+            EnvCall::Wake { thread } => put_posted(kernel.wake(thread), reply),
+            EnvCall::Block { cpu, ran } => put_posted(kernel.block(cpu, ran), reply),
+            EnvCall::YieldNow { cpu, ran } => put_posted(kernel.yield_now(cpu, ran), reply),
+            EnvCall::Preempt { cpu, ran } => put_posted(kernel.preempt(cpu, ran), reply),
+            EnvCall::Die { cpu, ran } => put_posted(kernel.die(cpu, ran), reply),
+            EnvCall::SetAffinity { thread, mask } => {
+                put_posted(kernel.set_affinity(thread, mask), reply)
             }
-            Err(CallFault::OutOfMemory) => Err(OutOfMemory),
+            EnvCall::SetPriority { thread, level } => {
+                put_posted(kernel.set_priority(thread, level), reply)
+            }
+            EnvCall::Tick { cpu } => put_posted(kernel.tick(cpu), reply),
         }
     }
 
