@@ -39,8 +39,8 @@ pub struct Session {
 
 /// Answers a command that meets no world.
 ///
-/// This stands apart, as all does that another command than an event needs: an event is answered where the walk over the
-/// lines is, and nothing of the others is made ready for it.
+/// This stands apart, as all does that another command than an event needs: an event is answered where the walk over
+/// the lines is, and nothing of the others is made ready for it.
 #[inline(never)]
 fn open(
     alloc: Global,
