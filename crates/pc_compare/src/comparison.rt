@@ -5,6 +5,7 @@ ghost use Rattle.std.specs.List.{AllZip};
 ghost use Rattle.pc_compare.specs.Comparing.{Compares, Draws, IsOfRuns, IsRunOf};
 
 use crate::fault::{CompareFault, untold_fault_of};
+use crate::watcher::{Nobody, SoFar, Watcher};
 use pc_curves::picture_of as waits_of;
 use pc_lab::{Chronicle, play};
 use pc_load::{Load, Variant, Variants};
@@ -29,18 +30,28 @@ fn column_of<'a>(
     }
 }
 
-/// A run of the load under each variant.
-fn columns_of<'a>(
+/// A run of the load under each variant, of each of which the watcher is told.
+fn columns_of<'a, W: Watcher>(
     alloc: Global,
     load: &Load,
     variants: &'a [Variant],
+    watcher: &mut W,
 ) -> Result<Vec<Column<'a>>, CompareFault>
     ensures runs { IfOk result (λ columns. AllZip (IsRunOf load.now) variants.now columns.items) }
     ensures faults { IfErr result IsOfRuns }
 {
     let mut columns = Vec::new(alloc);
+    let mut events: u64 = 0;
     for variant in variants {
-        columns.push(column_of(alloc, load, variant)?)?;
+        let column = column_of(alloc, load, variant)?;
+        events = events.saturating_add(column.summary.events);
+        columns.push(column)?;
+        let (all, played) = (variants.len(), columns.len());
+        watcher.played(SoFar {
+            all,
+            played,
+            events,
+        });
     }
     Ok(columns)
 }
@@ -58,7 +69,24 @@ pub fn compare(
     ensures told { IfOk result (λ text. Compares load.now variants.now form text.items) }
     ensures faults { IfErr result IsOfRuns }
 {
-    let columns = columns_of(alloc, load, variants.as_slice())?;
+    compare_watched(alloc, load, variants, form, &mut Nobody)
+}
+
+/// Does what [`compare`] does. The watcher is told of each run that was played, when it was.
+///
+/// # Errors
+/// Those of [`compare`].
+pub fn compare_watched<W: Watcher>(
+    alloc: Global,
+    load: &Load,
+    variants: &Variants,
+    form: Form,
+    watcher: &mut W,
+) -> Result<Vec<u8>, CompareFault>
+    ensures told { IfOk result (λ text. Compares load.now variants.now form text.items) }
+    ensures faults { IfErr result IsOfRuns }
+{
+    let columns = columns_of(alloc, load, variants.as_slice(), watcher)?;
     let text = text_of(alloc, load, columns.as_slice(), form)?;
     Ok(text)
 }
@@ -71,7 +99,23 @@ pub fn picture_of(alloc: Global, load: &Load, variants: &Variants) -> Result<Vec
     ensures drawn { IfOk result (λ text. Draws load.now variants.now text.items) }
     ensures faults { IfErr result IsOfRuns }
 {
-    let columns = columns_of(alloc, load, variants.as_slice())?;
+    picture_watched(alloc, load, variants, &mut Nobody)
+}
+
+/// Does what [`picture_of`] does. The watcher is told of each run that was played, when it was.
+///
+/// # Errors
+/// Those of [`picture_of`].
+pub fn picture_watched<W: Watcher>(
+    alloc: Global,
+    load: &Load,
+    variants: &Variants,
+    watcher: &mut W,
+) -> Result<Vec<u8>, CompareFault>
+    ensures drawn { IfOk result (λ text. Draws load.now variants.now text.items) }
+    ensures faults { IfErr result IsOfRuns }
+{
+    let columns = columns_of(alloc, load, variants.as_slice(), watcher)?;
     let text = waits_of(alloc, columns.as_slice())?;
     Ok(text)
 }

@@ -4,4 +4,4 @@ use Rattle.pc_compare.specs.Comparing.{IsRunOf}
 use Rattle.pc_compare.proofs.comparison.columns_of.Given as goal
 
 abbrev pub invariant-loop-variant : goal.invariant-loop-variant
-invariant-loop-variant l = AllZip (IsRunOf l.load) (take l.variant-index l.variants) l.columns.items
+invariant-loop-variant g l = AllZip (IsRunOf l.load) (take l.variant-index l.variants) l.columns.items

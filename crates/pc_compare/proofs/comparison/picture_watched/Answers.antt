@@ -1,9 +1,9 @@
 use Rattle.std.proofs.Common.{subst}
 use Rattle.pc_curves.specs.Waits.{IsPictureOfWaits}
-use Rattle.pc_compare.proofs.comparison.picture_of.Goals as goal
+use Rattle.pc_compare.proofs.comparison.picture_watched.Goals as goal
 
 pub returns-clause-drawn : goal.returns-clause-drawn
-returns-clause-drawn c =
+returns-clause-drawn g c =
     record {
       variants = c.as_slice.result.now;
       chosen = c.as_slice.ensures;

@@ -1,9 +1,9 @@
 use Rattle.std.proofs.Common.{◌∙◌, ap}
 use Rattle.pc_table.specs.Sheets.{text_of}
-use Rattle.pc_compare.proofs.comparison.compare.Goals as goal
+use Rattle.pc_compare.proofs.comparison.compare_watched.Goals as goal
 
 pub returns-clause-told : goal.returns-clause-told
-returns-clause-told c =
+returns-clause-told g c =
     record {
       variants = c.as_slice.result.now;
       chosen = c.as_slice.ensures;
