@@ -59,9 +59,21 @@ class Sweep(unittest.TestCase):
                 self.assertEqual({key: row[key] for key in want}, want)
                 self.assertTrue(all(not value for key, value in row.items() if key not in (*want, "load")))
 
+    def strict_lab(self) -> str:
+        """A lab that takes no word twice, as the program does not."""
+        lab = self.top / "strict lab"
+        lab.write_text(f"#!/bin/sh\n[ -z \"$(printf '%s\\n' \"$@\" | sort | uniq -d)\" ] && {ROOT}/tools/lab \"$@\"\n")
+        lab.chmod(0o755)
+        return f"'{lab}'"
+
+    @unittest.skipUnless(shutil.which("parallel"), "no GNU parallel")
+    def test_no_word_is_given_twice(self) -> None:
+        self.assertEqual(self.sweep("--lab", self.strict_lab(), *LOADS[:2]).returncode, 0)
+        self.assertEqual(self.sweep("--lab", self.strict_lab(), *LOADS[:2], "--variants", VARIANTS).returncode, 0)
+
     @unittest.skipUnless(shutil.which("parallel"), "no GNU parallel")
     def test_files_of_variants_are_combined_with_loads(self) -> None:
-        other = self.top / "two.toml"
+        other = self.top / "two + 'three'.toml"
         other.write_text('[[variant]]\nname = "a"\n[[variant]]\nname = "b"\norder = "fifo"\n')
         self.assertEqual(self.sweep(*LOADS[:2], "--variants", VARIANTS, "--variants", str(other)).returncode, 0)
         self.assertEqual([(row["load"], row["variant"]) for row in self.rows() if row["variants"] == str(other)],
