@@ -2,9 +2,9 @@
 
 use crate::end;
 use crate::met::{Met, Source};
-use crate::streams::{Noted, Opening};
+use crate::streams::{Noted, Opening, screen_of};
 use pc_program::{Ending, Failure, VariantsFrom};
-use pc_trial::{LabEnding, MOST_LOAD, Unread, Wanted, try_load, try_variants};
+use pc_trial::{LabEnding, MOST_LOAD, Progress, Unread, Wanted, try_load, try_variants};
 use std::io::{self, BufWriter, ErrorKind};
 use std::process::ExitCode;
 
@@ -53,6 +53,23 @@ fn refuse_one_text(rt: &HostRuntime, source: &Source) -> ExitCode {
     status
 }
 
+/// Says how the lab ended whose load comes from there, where the system said that of the load and of what was written,
+/// and answers its exit status.
+fn end_lab(
+    rt: &HostRuntime,
+    ending: LabEnding,
+    source: &Source,
+    load: Option<io::Error>,
+    written: Option<io::Error>,
+) -> ExitCode {
+    let met = match ending {
+        LabEnding::LoadUnread(why) => unread(why, load),
+        LabEnding::Unwritten => Met::of(Ending::CannotRead(Failure::Write), written),
+        ending => return said(rt, ending),
+    };
+    end(rt, &met, source, MOST_LOAD)
+}
+
 /// Tries the load of the file, or else of the standard input, and says how that ended. It stands apart, so that no
 /// other command has the room on its stack that a run in virtual time needs.
 #[inline(never)]
@@ -67,29 +84,25 @@ pub(crate) fn try_on_machine(
         return refuse_one_text(rt, &source);
     }
     let mut load = Noted::new(Opening::new(rt, &source));
+    let mut progress = Progress::new(screen_of(rt));
     let Ok(mut writer) = BufWriter::new(rt.alloc(), Noted::new(rt.stdout())) else {
         return said(rt, LabEnding::OutOfMemory);
     };
     let Some(others) = others_of(variants) else {
-        let ending = try_load(rt.alloc(), &mut load, wanted, &mut writer);
-        return match ending {
-            LabEnding::LoadUnread(why) => end(rt, &unread(why, load.fault()), &source, MOST_LOAD),
-            LabEnding::Unwritten => {
-                let met = Met::of(Ending::CannotRead(Failure::Write), writer.get_ref().fault());
-                end(rt, &met, &source, MOST_LOAD)
-            }
-            ending => said(rt, ending),
-        };
+        let ending = try_load(rt.alloc(), &mut load, wanted, &mut progress, &mut writer);
+        return end_lab(rt, ending, &source, load.fault(), writer.get_ref().fault());
     };
     let mut other = Noted::new(Opening::new(rt, &others));
-    let ending = try_variants(rt.alloc(), &mut load, &mut other, wanted, &mut writer);
-    match ending {
-        LabEnding::LoadUnread(why) => end(rt, &unread(why, load.fault()), &source, MOST_LOAD),
-        LabEnding::VariantsUnread(why) => end(rt, &unread(why, other.fault()), &others, MOST_LOAD),
-        LabEnding::Unwritten => {
-            let met = Met::of(Ending::CannotRead(Failure::Write), writer.get_ref().fault());
-            end(rt, &met, &source, MOST_LOAD)
-        }
-        ending => said(rt, ending),
+    let ending = try_variants(
+        rt.alloc(),
+        &mut load,
+        &mut other,
+        wanted,
+        &mut progress,
+        &mut writer,
+    );
+    if let LabEnding::VariantsUnread(why) = ending {
+        return end(rt, &unread(why, other.fault()), &others, MOST_LOAD);
     }
+    end_lab(rt, ending, &source, load.fault(), writer.get_ref().fault())
 }

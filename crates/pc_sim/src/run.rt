@@ -2,14 +2,14 @@
 
 use crate::end;
 use crate::met::{Met, Source};
-use crate::streams::Noted;
+use crate::streams::{Noted, screen_of};
 use pc_program::{
     AgentPolicy, Ending, MOST_SETTINGS, Progress, ReportForm, SoFar, read_settings, run_flushed,
     run_scripted, write_trouble,
 };
 use std::alloc::Global;
 use std::fs::File;
-use std::io::{BufWriter, IsTerminal, Read, Stderr, Write};
+use std::io::{BufWriter, Read, Stderr, Write};
 use std::process::ExitCode;
 use std::sync::Wait;
 use std::thread::Threads;
@@ -32,16 +32,6 @@ fn settings_of(rt: &HostRuntime, source: &Source) -> Result<String, Met> {
             Ok(file) => settings_in(rt.alloc(), file),
             Err(error) => Err(Met::unopened(error)),
         },
-    }
-}
-
-/// Standard error, where a person reads it at a terminal.
-fn screen_of(rt: &HostRuntime) -> Option<Stderr> {
-    let stderr = rt.stderr();
-    if stderr.is_terminal() {
-        Some(stderr)
-    } else {
-        None
     }
 }
 

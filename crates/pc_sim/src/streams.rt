@@ -1,10 +1,20 @@
-//! Streams of the machine that keep why they failed.
+//! Streams of the machine: those that keep why they failed, and the screen that a person reads.
 
 ghost use Rattle.std.specs.Prelude.{◌≡◌, None};
 
 use crate::met::Source;
 use std::fs::File;
-use std::io::{self, Read, Write};
+use std::io::{self, IsTerminal, Read, Stderr, Write};
+
+/// Standard error, where a person reads it at a terminal.
+pub(crate) fn screen_of(rt: &HostRuntime) -> Option<Stderr> {
+    let stderr = rt.stderr();
+    if stderr.is_terminal() {
+        Some(stderr)
+    } else {
+        None
+    }
+}
 
 /// A stream, and the last error that it met.
 #[derive(Drop)]

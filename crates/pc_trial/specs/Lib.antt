@@ -1,4 +1,5 @@
--- What the lab is asked for, how it ends, and what it wrote and says then.
+-- What the lab is asked for, how it ends, what it wrote and says then, and what it tells meanwhile.
 pub mod Inner
+pub mod Progress
 pub mod Tried
 pub mod Words

@@ -8,7 +8,7 @@ ghost use Rattle.pc_trial.specs.Inner.Stages.{IsLoadOf, IsVariantsOf};
 
 use crate::ending::LabEnding;
 use crate::wanted::Wanted;
-use pc_compare::{CompareFault, Form, compare, picture_of, script_of};
+use pc_compare::{CompareFault, Form, Watcher, compare_watched, picture_watched, script_of};
 use pc_load::{Load, Variants};
 use pc_settings::{LoadTextFault, TextFault, read_load, read_utf8, read_variants};
 use std::alloc::Global;
@@ -76,16 +76,17 @@ pub(crate) fn variants_in<R: Read>(alloc: Global, reader: &mut R) -> Result<Vari
 
 /// The table of all variants. Its faults are that a run does not add up, and want of memory; no machine plays more than
 /// can be counted.
-fn table_of(
+fn table_of<W: Watcher>(
     alloc: Global,
     load: &Load,
     variants: &Variants,
     form: Form,
+    watcher: &mut W,
 ) -> Result<Vec<u8>, LabEnding>
     ensures ok { IfOk result (λ text. IsTold (Wanted.Table form) load.now variants.now text.items) }
     ensures err { IfErr result (EndsAtTelling (Wanted.Table form) variants.now) }
 {
-    match compare(alloc, load, variants, form) {
+    match compare_watched(alloc, load, variants, form, watcher) {
         Ok(text) => Ok(text),
         Err(CompareFault::Unaccounted) => Err(LabEnding::Unaccounted),
         Err(_) => Err(LabEnding::OutOfMemory),
@@ -93,11 +94,16 @@ fn table_of(
 }
 
 /// The picture of the waits under all variants, which has no other faults either.
-fn picture_drawn(alloc: Global, load: &Load, variants: &Variants) -> Result<Vec<u8>, LabEnding>
+fn picture_drawn<W: Watcher>(
+    alloc: Global,
+    load: &Load,
+    variants: &Variants,
+    watcher: &mut W,
+) -> Result<Vec<u8>, LabEnding>
     ensures ok { IfOk result (λ text. IsTold Wanted.Picture load.now variants.now text.items) }
     ensures err { IfErr result (EndsAtTelling Wanted.Picture variants.now) }
 {
-    match picture_of(alloc, load, variants) {
+    match picture_watched(alloc, load, variants, watcher) {
         Ok(text) => Ok(text),
         Err(CompareFault::Unaccounted) => Err(LabEnding::Unaccounted),
         Err(_) => Err(LabEnding::OutOfMemory),
@@ -123,19 +129,20 @@ fn script_named(
     }
 }
 
-/// The whole text that is wanted.
-pub(crate) fn told(
+/// The whole text that is wanted. Where a run of each variant is, the watcher is told of these.
+pub(crate) fn told<W: Watcher>(
     alloc: Global,
     load: &Load,
     variants: &Variants,
     wanted: &Wanted,
+    watcher: &mut W,
 ) -> Result<Vec<u8>, LabEnding>
     ensures ok { IfOk result (λ text. IsTold wanted.now load.now variants.now text.items) }
     ensures err { IfErr result (EndsAtTelling wanted.now variants.now) }
 {
     match wanted {
-        Wanted::Table(form) => table_of(alloc, load, variants, *form),
-        Wanted::Picture => picture_drawn(alloc, load, variants),
+        Wanted::Table(form) => table_of(alloc, load, variants, *form, watcher),
+        Wanted::Picture => picture_drawn(alloc, load, variants, watcher),
         Wanted::Script(name) => script_named(alloc, load, variants, name),
     }
 }

@@ -6,18 +6,20 @@ ghost use Rattle.std.specs.Io.KnownBytes.{Consumes};
 ghost use Rattle.pc_trial.specs.Tried.{IsOfLoad, IsTried, IsWrittenOf};
 
 use crate::ending::LabEnding;
+use crate::progress::Progress;
 use crate::stages::{load_in, put, told, variants_in};
 use crate::wanted::Wanted;
 use pc_load::{Load, Variants};
 use std::alloc::Global;
 use std::io::{BufWriter, Read, Write};
 
-/// Writes what is wanted of a load under these variants, and flushes it.
-fn tell<W: Write + Drop>(
+/// Writes what is wanted of a load under these variants, and flushes it. Nothing is left of the progress then.
+fn tell<S: Write + Drop, W: Write + Drop>(
     alloc: Global,
     load: &Load,
     variants: &Variants,
     wanted: &Wanted,
+    progress: &mut Progress<S>,
     writer: &mut BufWriter<W>,
 ) -> LabEnding
     ensures told { IsWrittenOf wanted.now load.now variants.now (writer_contents W.contents writer.old)
@@ -26,7 +28,9 @@ fn tell<W: Write + Drop>(
     ensures behind { IsOfLoad result → ⊥ }
     ensures flushed { result ≡ LabEnding.Finished → writer_buffer writer.new ≡ [] }
 {
-    match told(alloc, load, variants, wanted) {
+    let made = told(alloc, load, variants, wanted, progress);
+    progress.end();
+    match made {
         Ok(text) => put(writer, text.as_slice()),
         Err(ending) => ending,
     }
@@ -37,11 +41,12 @@ fn tell<W: Write + Drop>(
 /// At most one byte more than [`MOST_LOAD`](crate::MOST_LOAD) is read. Nothing is written but where it is `Finished`,
 /// or `Unwritten` by a write that failed. Else it is the first of these:
 /// `LoadUnread`; `BadLoad`, as `read_load` has the faults; `NoVariant`, `ScriptTooLong`, `Unaccounted`; or want of
-/// memory.
-pub fn try_load<R: Read, W: Write + Drop>(
+/// memory. The progress is told of each variant that was played for a table or a picture, when it was.
+pub fn try_load<R: Read, S: Write + Drop, W: Write + Drop>(
     alloc: Global,
     load: &mut R,
     wanted: &Wanted,
+    progress: &mut Progress<S>,
     writer: &mut BufWriter<W>,
 ) -> LabEnding
     ensures told { IfSome (R.remaining load.old)
@@ -53,18 +58,19 @@ pub fn try_load<R: Read, W: Write + Drop>(
         × Consumes (R.remaining load.old) (R.remaining load.new) bytes }
 {
     match load_in(alloc, load) {
-        Ok((load, variants)) => tell(alloc, &load, &variants, wanted, writer),
+        Ok((load, variants)) => tell(alloc, &load, &variants, wanted, progress, writer),
         Err(ending) => ending,
     }
 }
 
 /// The same under the variants of another text, which is read once the load has no fault: behind `BadLoad` it may be
 /// `VariantsUnread`, or `BadVariants` as `read_variants` has the faults.
-pub fn try_variants<R: Read, V: Read, W: Write + Drop>(
+pub fn try_variants<R: Read, V: Read, S: Write + Drop, W: Write + Drop>(
     alloc: Global,
     load: &mut R,
     variants: &mut V,
     wanted: &Wanted,
+    progress: &mut Progress<S>,
     writer: &mut BufWriter<W>,
 ) -> LabEnding
     ensures told { IfSome (R.remaining load.old) (λ text. IfSome (V.remaining variants.old)
@@ -83,7 +89,7 @@ pub fn try_variants<R: Read, V: Read, W: Write + Drop>(
         Err(ending) => return ending,
     };
     match variants_in(alloc, variants) {
-        Ok(variants) => tell(alloc, &load, &variants, wanted, writer),
+        Ok(variants) => tell(alloc, &load, &variants, wanted, progress, writer),
         Err(ending) => ending,
     }
 }

@@ -2,9 +2,9 @@
 
 use pc_load::{LoadFault, VariantFault};
 use pc_settings::{LoadField, LoadTextFault};
-use pc_trial::{LabEnding, Wanted, try_load, try_variants};
+use pc_trial::{LabEnding, Progress, Wanted, try_load, try_variants};
 use std::alloc::Global;
-use std::io::BufWriter;
+use std::io::{BufWriter, Stderr};
 use std::test::Fail;
 
 /// A load, the variants of another text, the variant whose script is wanted, how that ends, and what is written.
@@ -25,11 +25,12 @@ fn ended(
     writer: &mut BufWriter<Vec<u8>>,
 ) -> LabEnding {
     let mut load = load.as_bytes();
+    let mut nobody = Progress::<Stderr>::new(None);
     match others {
-        None => try_load(alloc, &mut load, wanted, writer),
+        None => try_load(alloc, &mut load, wanted, &mut nobody, writer),
         Some(others) => {
             let mut others = others.as_bytes();
-            try_variants(alloc, &mut load, &mut others, wanted, writer)
+            try_variants(alloc, &mut load, &mut others, wanted, &mut nobody, writer)
         }
     }
 }
