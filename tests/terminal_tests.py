@@ -1,5 +1,5 @@
 #!/usr/bin/env python3
-"""Tests what the built program tells a person at a terminal while a run goes on, as both compilers built it; the terminal is a made-up one.
+"""Tests what the built program tells a person at a terminal while a run or the lab goes on, as both compilers built it; the terminal is a made-up one.
 
     tests/terminal_tests.py [--program PROGRAM]
 
@@ -28,6 +28,34 @@ STEPS = THREADS * (YIELDS + 1)
 REPORT = f"threads {THREADS}\nmessages {THREADS + STEPS}\ncommits {STEPS}\nran {STEPS}\n".encode()
 SHORT = "cpus = 1\n[[thread]]\nqueue = 0\nmask = 1\nsteps = [\"yield 1\", \"die 2\"]\n"
 SHORT_REPORT = b"threads 1\nmessages 3\ncommits 2\nran 3\n"
+
+# Two threads of so many ticks on one CPU. Each commit costs five events: pick, preempt or die, publish, consume and sleep; a first
+# sleep and two creations come before.
+TICKS = 100_000
+
+
+def events(commits):
+    return 5 * commits + 3
+
+
+def load_of(*quanta):
+    """The load under fifo, with a variant for each of these quanta."""
+    thread = f'[[thread]]\nqueue = 0\nmask = 1\nsteps = ["die {TICKS}"]\n'
+    variant = '[[variant]]\nname = "{}"\norder = "fifo"\nquantum = {}\n'
+    return "cpus = 1\n" + 2 * thread + "".join(variant.format(f"v{place}", quantum) for place, quantum in enumerate(quanta))
+
+
+def commits_of(*quanta):
+    """A commit for each quantum that the ticks fill."""
+    return [2 * TICKS // quantum for quantum in quanta]
+
+
+QUANTA = (1, 1000, 1)
+LOAD = load_of(*QUANTA)
+COMMITS = commits_of(*QUANTA)
+# A line is due each 1,000,000 events, so the second variant has none.
+FIRST, ALL = events(COMMITS[0]), sum(map(events, COMMITS))
+LAB_LINES = (f"\r1 of 3 variants played, {FIRST} events\x1b[K" f"\r3 of 3 variants played, {ALL} events\x1b[K" "\r\x1b[K").encode()
 
 ERASED = rb"\r\x1b\[K"
 LINE = rb"\r(\d+) of 40 threads dead, (\d+) messages\x1b\[K"
@@ -60,28 +88,28 @@ class Terminal:
 class Lines(unittest.TestCase):
     program = None
 
-    def begin(self, settings, **streams):
-        """A run by the settings, whose standard output is a pipe where nothing else is said."""
+    def begin(self, settings, *words, **streams):
+        """A run by the settings, or what the words say of them, whose standard output is a pipe where nothing else is said."""
         file = tempfile.NamedTemporaryFile("w", suffix=".toml")
         self.addCleanup(file.close)
         file.write(settings)
         file.flush()
-        words = [str(self.program), "run", file.name]
+        words = [str(self.program), *(words or ["run"]), file.name]
         run = subprocess.Popen(words, stdin=subprocess.DEVNULL, **{"stdout": subprocess.PIPE, **streams})
         self.addCleanup(run.kill)
         return run
 
-    def run_it(self, settings, **streams):
+    def run_it(self, settings, *words, **streams):
         """The status, and standard output where it is a pipe."""
-        run = self.begin(settings, **streams)
+        run = self.begin(settings, *words, **streams)
         out, _ = run.communicate(timeout=SECONDS)
         return run.returncode, out
 
-    def at_a_terminal(self, settings):
+    def at_a_terminal(self, settings, *words):
         """The status, standard output, and what the terminal got that is standard error alone."""
         terminal = Terminal()
         try:
-            status, out = self.run_it(settings, stderr=terminal.line)
+            status, out = self.run_it(settings, *words, stderr=terminal.line)
         finally:
             written = terminal.close()
         return status, out, written
@@ -147,6 +175,59 @@ class Lines(unittest.TestCase):
         os.close(screen)
         out, _ = run.communicate(timeout=SECONDS)
         self.assertEqual((run.returncode, out), (0, REPORT))
+
+    def elsewhere(self, settings, *words):
+        """The status, standard output, and standard error that is a file."""
+        with tempfile.TemporaryFile() as errors:
+            status, out = self.run_it(settings, *words, stderr=errors)
+            errors.seek(0)
+            return status, out, errors.read()
+
+    def test_a_lab_at_a_terminal_tells_how_many_variants_were_played(self):
+        for words in (["lab"], ["lab", "--csv"], ["lab", "--picture"]):
+            status, out, written = self.at_a_terminal(LOAD, *words)
+            self.assertEqual((status, written), (0, LAB_LINES))
+            self.assertEqual(self.elsewhere(LOAD, *words), (0, out, b""))
+        self.assertIn(f"commits {' '.join(map(str, COMMITS))}\n", self.words_of_table(LOAD))
+
+    def words_of_table(self, load):
+        """The table, with one space between words."""
+        _, out = self.run_it(load, "lab")
+        return re.sub(" +", " ", out.decode())
+
+    def test_a_table_stands_on_a_clean_line(self):
+        terminal = Terminal()
+        try:
+            status, _ = self.run_it(LOAD, "lab", stdout=terminal.line, stderr=terminal.line)
+        finally:
+            written = terminal.close()
+        _, table = self.run_it(LOAD, "lab")
+        self.assertEqual((status, written), (0, LAB_LINES + table.replace(b"\n", b"\r\n")))
+
+    def test_a_short_lab_tells_nothing(self):
+        status, out, written = self.at_a_terminal(load_of(1000, 100), "lab")
+        self.assertEqual((status, written), (0, b""))
+        self.assertEqual(out, self.run_it(load_of(1000, 100), "lab")[1])
+
+    def test_a_script_of_the_lab_is_one_run_of_which_nothing_is_told(self):
+        status, out, written = self.at_a_terminal(load_of(2), "lab", "--script", "v0")
+        self.assertEqual((status, written), (0, b""))
+        self.assertEqual(self.elsewhere(load_of(2), "lab", "--script", "v0"), (0, out, b""))
+
+    def test_what_else_the_lab_says_at_a_terminal_stays(self):
+        self.assertEqual(self.at_a_terminal("cpus = 0\n", "lab"), (1, b"", b"pc-sim: lab BadCpus\r\n"))
+
+    def test_what_cannot_be_written_is_told_on_a_clean_line(self):
+        if not os.path.exists("/dev/full"):
+            self.skipTest("no /dev/full")
+        terminal = Terminal()
+        try:
+            with open("/dev/full", "wb") as full:
+                status, _ = self.run_it(LOAD, "lab", stdout=full, stderr=terminal.line)
+        finally:
+            written = terminal.close()
+        said = b"pc-sim: cannot read\r\npc-sim: the standard output: No space left on device (os error 28)\r\n"
+        self.assertEqual((status, written), (1, LAB_LINES + said))
 
 
 def main():
