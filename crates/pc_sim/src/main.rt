@@ -211,6 +211,3 @@ fn main(rt: HostRuntime) -> ExitCode {
         Err(met) => end(&rt, &met, &Source(None), MOST_BYTES),
     }
 }
-
-#[cfg(test)]
-mod tests;

@@ -1,8 +1,5 @@
 //! What no script of tests/cases can say: a script over memory, the words of a command line, and how the program ends.
 
-mod lab;
-mod settings;
-
 use pc_program::{
     Axis, Command, CommandFault, Ending, Form, Helper, Interval, Order, Part, ReportForm, Stealing,
     VariantsFrom, converse_flushed, make, read_command, run_script,
