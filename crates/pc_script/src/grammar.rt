@@ -13,7 +13,9 @@ use crate::fields::{
     Arguments, Count, Exactness, Failure, Index, Level, Mask, Order, Processor, Processors, Queue,
     State, Target, Thread,
 };
-use crate::trouble::{Trouble, Wanted, one_too_many, trouble_with, trouble_with_last};
+use crate::trouble::{
+    Trouble, Wanted, field_and_word, five_fields, last_field, three_fields, two_fields,
+};
 use crate::version::Version;
 use crate::words::Words;
 use pc_calls::{AgentCall, EnvCall, Event, Limits};
@@ -158,25 +160,26 @@ macro_rules! read {
     };
 }
 
-/// The first trouble with fields that should be the words from a place on. A failure and an exactness stand last.
+/// The first trouble with the words that are left behind a verb's, which should be these fields. A failure and an
+/// exactness stand last. Each is one call: what matches in each other cost a proof grows faster than they do.
 macro_rules! first_trouble {
-    ($verb:expr, $words:expr, $place:expr; Failure($last:pat)) => {
-        trouble_with_last($verb, $words, $place, b"fail", Wanted::Failure)
+    ($verb:expr, $words:expr; $first:ident($value:pat), Failure($last:pat)) => {
+        field_and_word::<$first>($verb, $words, b"fail", Wanted::Failure)
     };
-    ($verb:expr, $words:expr, $place:expr; Exactness($last:pat)) => {
-        trouble_with_last($verb, $words, $place, b"exact", Wanted::Exactness)
+    ($verb:expr, $words:expr; $first:ident($value:pat), Exactness($last:pat)) => {
+        field_and_word::<$first>($verb, $words, b"exact", Wanted::Exactness)
     };
-    ($verb:expr, $words:expr, $place:expr; $last:ident($value:pat)) => {
-        match trouble_with::<$last>($verb, $words, $place) {
-            Some(trouble) => Some(trouble),
-            None => one_too_many($verb, $words, $place + 1),
-        }
+    ($verb:expr, $words:expr; $last:ident($value:pat)) => {
+        last_field::<$last>($verb, $words, 2)
     };
-    ($verb:expr, $words:expr, $place:expr; $first:ident($value:pat), $($others:tt)+) => {
-        match trouble_with::<$first>($verb, $words, $place) {
-            Some(trouble) => Some(trouble),
-            None => first_trouble!($verb, $words, $place + 1; $($others)+),
-        }
+    ($verb:expr, $words:expr; $first:ident($value:pat), $last:ident($other:pat)) => {
+        two_fields::<$first, $last>($verb, $words, 2)
+    };
+    ($verb:expr, $words:expr; $first:ident($value:pat), $second:ident($other:pat), $last:ident($another:pat)) => {
+        three_fields::<$first, $second, $last>($verb, $words, 2)
+    };
+    ($verb:expr, $words:expr; $first:ident($value:pat), $($others:ident($values:pat)),+) => {
+        five_fields::<$first, $($others),+>($verb, $words)
     };
 }
 
@@ -184,7 +187,7 @@ macro_rules! first_trouble {
 macro_rules! troubles {
     ($verb:expr, $words:expr; $($name:ident($($fields:tt)+) => $command:expr),+) => {
         match $verb {
-            $(Verb::$name => first_trouble!($verb, $words, 2; $($fields)+),)+
+            $(Verb::$name => first_trouble!($verb, $words; $($fields)+),)+
         }
     };
 }

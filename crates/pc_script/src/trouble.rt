@@ -85,7 +85,7 @@ fn first_trouble(version: Version, line: &[u8]) -> Trouble<'_> {
 }
 
 /// The trouble with the next word, which should be this field.
-pub(crate) fn trouble_with<'a, F: Argument>(
+fn trouble_with<'a, F: Argument>(
     verb: Verb,
     words: &mut Words<'a>,
     place: u32,
@@ -110,7 +110,7 @@ pub(crate) fn trouble_with<'a, F: Argument>(
 }
 
 /// The trouble with the next word, which should be this last one, or not be there.
-pub(crate) fn trouble_with_last<'a>(
+fn trouble_with_last<'a>(
     verb: Verb,
     words: &mut Words<'a>,
     place: u32,
@@ -130,13 +130,72 @@ pub(crate) fn trouble_with_last<'a>(
 }
 
 /// The trouble with a word behind the last.
-pub(crate) fn one_too_many<'a>(
+fn one_too_many<'a>(verb: Verb, words: &mut Words<'a>, place: u32) -> Option<Trouble<'a>> {
+    match words.next() {
+        Some(word) => Some(Trouble::TooMany { verb, place, word }),
+        None => None,
+    }
+}
+
+/// The trouble with the words from this place on, which should be this field.
+pub(crate) fn last_field<'a, A: Argument>(
     verb: Verb,
     words: &mut Words<'a>,
     place: u32,
 ) -> Option<Trouble<'a>> {
-    match words.next() {
-        Some(word) => Some(Trouble::TooMany { verb, place, word }),
-        None => None,
+    match trouble_with::<A>(verb, words, place) {
+        Some(trouble) => Some(trouble),
+        None => one_too_many(verb, words, place.saturating_add(1)),
+    }
+}
+
+/// The trouble with the words from this place on, which should be these fields.
+pub(crate) fn two_fields<'a, A: Argument, B: Argument>(
+    verb: Verb,
+    words: &mut Words<'a>,
+    place: u32,
+) -> Option<Trouble<'a>> {
+    match trouble_with::<A>(verb, words, place) {
+        Some(trouble) => Some(trouble),
+        None => last_field::<B>(verb, words, place.saturating_add(1)),
+    }
+}
+
+/// The trouble with the words from this place on, which should be these fields.
+pub(crate) fn three_fields<'a, A: Argument, B: Argument, C: Argument>(
+    verb: Verb,
+    words: &mut Words<'a>,
+    place: u32,
+) -> Option<Trouble<'a>> {
+    match trouble_with::<A>(verb, words, place) {
+        Some(trouble) => Some(trouble),
+        None => two_fields::<B, C>(verb, words, place.saturating_add(1)),
+    }
+}
+
+/// The trouble with the words behind the first, which should be these fields.
+pub(crate) fn five_fields<'a, A: Argument, B: Argument, C: Argument, D: Argument, E: Argument>(
+    verb: Verb,
+    words: &mut Words<'a>,
+) -> Option<Trouble<'a>> {
+    if let Some(trouble) = trouble_with::<A>(verb, words, 2) {
+        return Some(trouble);
+    }
+    match trouble_with::<B>(verb, words, 3) {
+        Some(trouble) => Some(trouble),
+        None => three_fields::<C, D, E>(verb, words, 4),
+    }
+}
+
+/// The trouble with the words behind the first, which should be this field, and then this word or none.
+pub(crate) fn field_and_word<'a, A: Argument>(
+    verb: Verb,
+    words: &mut Words<'a>,
+    word: &[u8],
+    wanted: Wanted,
+) -> Option<Trouble<'a>> {
+    match trouble_with::<A>(verb, words, 2) {
+        Some(trouble) => Some(trouble),
+        None => trouble_with_last(verb, words, 3, word, wanted),
     }
 }
