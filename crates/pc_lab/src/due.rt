@@ -72,6 +72,21 @@ impl Agenda {
         self.ends.put(cpu, tick, false);
     }
 
+    /// The quantum of the thread that runs on the CPU ends at a tick, of which nothing comes before another one, if
+    /// nothing else changes.
+    pub(crate) fn put_quantum_end(&mut self, cpu: Cpu, tick: u64, change: u64) {
+        self.ends.put_quantum(cpu, tick, change);
+    }
+
+    /// The first tick at which one of these things may change anything.
+    pub(crate) fn first_change(&self, now: u64) -> u64 {
+        let first = match first_of(self.first_waking(), self.first_now(now)) {
+            Some(due) => due.tick,
+            None => u64::MAX,
+        };
+        first.min(self.ends.first_change())
+    }
+
     /// The turn of the CPU's agent ends at a tick; the thread that runs there stands still until then.
     pub(crate) fn put_turn_end(&mut self, cpu: Cpu, tick: u64) {
         self.ends.put(cpu, tick, true);

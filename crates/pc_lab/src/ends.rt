@@ -3,10 +3,12 @@
 use crate::due::{Due, What};
 use pc_messages::Cpu;
 
-/// When a step or a turn ends.
+/// When a step, a quantum or a turn ends.
 #[derive(Clone, Copy)]
 struct End {
     tick: u64,
+    /// The first tick at which anything can come of it. A quantum that ends earlier begins anew.
+    change: u64,
     is_turn: bool,
 }
 
@@ -14,6 +16,7 @@ impl End {
     /// No run comes to that tick: a load ends before, and no step is as long.
     const NEVER: End = End {
         tick: u64::MAX,
+        change: u64::MAX,
         is_turn: false,
     };
 
@@ -93,7 +96,35 @@ impl Ends {
 
     /// A step or a turn ends on the CPU at a tick, and what was to end there does not.
     pub(crate) fn put(&mut self, cpu: Cpu, tick: u64, is_turn: bool) {
-        self.set(cpu.index(), End { tick, is_turn });
+        self.set(
+            cpu.index(),
+            End {
+                tick,
+                change: tick,
+                is_turn,
+            },
+        );
+    }
+
+    /// A quantum ends on the CPU at a tick, but if nothing else changes, nothing comes of it before another one.
+    pub(crate) fn put_quantum(&mut self, cpu: Cpu, tick: u64, change: u64) {
+        self.set(
+            cpu.index(),
+            End {
+                tick,
+                change,
+                is_turn: false,
+            },
+        );
+    }
+
+    /// The first tick at which anything can come of what ends.
+    pub(crate) fn first_change(&self) -> u64 {
+        let mut first = u64::MAX;
+        for end in self.ends.as_slice() {
+            first = first.min(end.change);
+        }
+        first
     }
 
     /// A turn that was to end on the CPU does not.

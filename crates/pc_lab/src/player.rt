@@ -57,7 +57,7 @@ fn place_of(number: u64) -> usize {
 
 impl<K: Setting> Run<K> {
     /// The next creation.
-    fn next_creation(&self, load: &Load) -> Option<Due> {
+    pub(crate) fn next_creation(&self, load: &Load) -> Option<Due> {
         let place = self.lives.len();
         let plan = load.threads().get(place)?;
         Some(Due {
@@ -68,7 +68,7 @@ impl<K: Setting> Run<K> {
     }
 
     /// The next delta that is due.
-    fn next_delta(&self) -> Option<Due> {
+    pub(crate) fn next_delta(&self) -> Option<Due> {
         let delta = self.deltas.get(self.told)?;
         Some(Due {
             tick: delta.due,

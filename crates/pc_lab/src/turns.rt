@@ -4,6 +4,7 @@ ghost use Rattle.std.specs.Prelude.{◌≡◌};
 ghost use Rattle.pc_lab.specs.Creations.{CreatesNone};
 ghost use Rattle.pc_lab.specs.Moments.{IsNoAnswer};
 
+use crate::due::first_of;
 use crate::fault::LabFault;
 use crate::lane::{Life, News, SentDelta, joined};
 use crate::run::{Run, Stop};
@@ -223,6 +224,51 @@ impl<K: Setting> Run<K> {
         Ok(())
     }
 
+    /// The least whole quanta that are so many ticks or more.
+    fn whole_quanta(&self, ticks: u64) -> u64 {
+        let quantum = self.numbers.quantum as u64;
+        match ticks.saturating_sub(1).checked_div(quantum) {
+            Some(quanta) => quanta.saturating_add(1).saturating_mul(quantum),
+            None => u64::MAX,
+        }
+    }
+
+    /// For how many ticks the thread that runs on the CPU stands before the first that could run, if nothing changes.
+    fn ticks_before(&self, cpu: Cpu, thread: Tid) -> u64 {
+        let Some(first) = self.first(cpu) else {
+            return u64::MAX;
+        };
+        let (level, ran) = self.rank(thread, self.lane(cpu).ran);
+        let (other_level, other_ran) = self.rank(first, 0);
+        if level < other_level {
+            u64::MAX
+        } else {
+            other_ran.saturating_sub(ran)
+        }
+    }
+
+    /// The first tick at which anything may change.
+    fn first_change(&self, load: &Load) -> u64 {
+        let first = self.agenda.first_change(self.stage.tick());
+        match first_of(self.next_creation(load), self.next_delta()) {
+            Some(due) => first.min(due.tick),
+            None => first,
+        }
+    }
+
+    /// A quantum of the thread that runs on the CPU ended without a preempt, and begins anew. As many as nothing can
+    /// come of are one, so that a run takes no longer than its events.
+    fn begin_quanta(&mut self, load: &Load, cpu: Cpu, thread: Tid) {
+        let left = self.left_of(thread);
+        let until_preempt = self.whole_quanta(self.ticks_before(cpu, thread));
+        let still = self.first_change(load).saturating_sub(self.stage.tick());
+        let quanta = until_preempt.min(self.whole_quanta(still));
+        self.lane_mut(cpu).quantum = quanta;
+        let tick = self.tick_in(left.min(quanta));
+        let change = self.tick_in(left.min(until_preempt));
+        self.agenda.put_quantum_end(cpu, tick, change);
+    }
+
     /// A step or a quantum ends on the CPU.
     pub(crate) fn end_step(&mut self, load: &Load, cpu: Cpu) -> Result<(), Stop> {
         self.settle(cpu);
@@ -237,9 +283,7 @@ impl<K: Setting> Run<K> {
             return self.leave(load, cpu, thread, leaving);
         }
         if !self.preempt(cpu, false)? {
-            let quantum = self.numbers.quantum as u64;
-            self.lane_mut(cpu).quantum = quantum;
-            self.plan_end(cpu);
+            self.begin_quanta(load, cpu, thread);
         }
         Ok(())
     }
