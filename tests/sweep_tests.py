@@ -18,7 +18,7 @@ import unittest
 
 ROOT = pathlib.Path(__file__).resolve().parent.parent
 SWEEP = ROOT / "tools/sweep"
-LOADS = [str(ROOT / f"tests/lab/{name}.toml") for name in ("1-convoy", "2-steals", "3-levels", "4-delay")]
+LOADS = [str(ROOT / f"examples/lab/worked/{name}.toml") for name in ("1-convoy", "2-steals", "3-levels", "4-delay")]
 VARIANTS = str(ROOT / "examples/lab/variants.toml")
 
 
@@ -30,7 +30,8 @@ class Sweep(unittest.TestCase):
         self.to = self.top / "a sweep"
 
     def sweep(self, *words: str, **more: object) -> subprocess.CompletedProcess[str]:
-        command = [str(SWEEP), "--to", str(self.to), *words]
+        lab = [] if "--lab" in words else ["--lab", f"'{ROOT}/tools/lab'"]
+        command = [str(SWEEP), "--to", str(self.to), *lab, *words]
         return subprocess.run(command, capture_output=True, text=True, timeout=100, **more)  # type: ignore[call-overload]
 
     def rows(self) -> list[dict[str, str]]:
@@ -58,6 +59,21 @@ class Sweep(unittest.TestCase):
             for row, want in zip(found, wanted):
                 self.assertEqual({key: row[key] for key in want}, want)
                 self.assertTrue(all(not value for key, value in row.items() if key not in (*want, "load")))
+
+    @unittest.skipUnless(shutil.which("parallel"), "no GNU parallel")
+    def test_the_usual_lab_is_the_program(self) -> None:
+        """That of the tree in which the tool stands, or else the one on the path."""
+        for folder in ("a tree", "bin"):
+            tools = self.top / folder / "tools"
+            tools.mkdir(parents=True)
+            sweep = shutil.copy(SWEEP, tools / "sweep")
+            program = (tools if folder == "bin" else tools.parent) / "pc-sim"
+            program.write_text(f"#!/bin/sh\necho {program} >>'{self.top}/ran'\n[ $1 = lab ] && shift && {ROOT}/tools/lab \"$@\"\n")
+            program.chmod(0o755)
+            path = {"PATH": f"{tools}:{os.environ['PATH']}"}
+            ran = subprocess.run([sweep, "--to", str(self.top / f"to {folder}"), LOADS[0]], env=os.environ | path, timeout=100)
+            self.assertEqual(ran.returncode, 0)
+            self.assertEqual((self.top / "ran").read_text().splitlines()[-1], str(program))
 
     def strict_lab(self) -> str:
         """A lab that takes no word twice, as the program does not."""
