@@ -20,6 +20,7 @@
 A line for each finding, how much was looked at, and then `N passed, M failed`, of these checks. The exit status is 0 only where
 none failed. The last four are those of tests/tidy.py.
 """
+import fnmatch
 import pathlib
 import re
 import shutil
@@ -500,7 +501,8 @@ class Checker:
             name = str(example.relative_to(folder))
             if example == page:
                 continue
-            self.expect(name in told, "examples/README.md", f"it does not tell of `{name}`")
+            is_told = name in told or any(fnmatch.fnmatchcase(name, it) for it in told if "*" in it)
+            self.expect(is_told, "examples/README.md", f"it does not tell of `{name}`")
             if example.suffix in inputs and example.parent == folder:
                 self.expect(example.with_suffix(".output").is_file(), f"examples/{name}", "it has no output beside it")
             elif example.suffix == ".output":

@@ -3,8 +3,8 @@
 
     tests/lab_tests.py [--program PROGRAM] [--loads N] [--drawn N]
 
-tests/lab has loads with their tables, CSV, scripts and replies, of which 308 numbers were worked out by hand before,
-and loads that are faulty. N loads are drawn (60) whose runs the program has to answer as `tools/lab` expects, and N
+examples/lab/worked has loads with their tables, CSV, scripts and replies, of which 308 numbers were worked out by hand
+before, and tests/lab_faults loads that are faulty. N loads are drawn (60) whose runs the program has to answer as `tools/lab` expects, and N
 (50) of which it has to write what `tools/lab` writes, to the byte. What a picture has to show is worked out here from
 the CSV and the waits of `tools/lab`. The last line is 'N passed, M failed'.
 """
@@ -29,7 +29,7 @@ sys.path.insert(0, str(ROOT / "tools"))
 from lab_load import load_of, variants_of  # noqa: E402
 from lab_run import Run  # noqa: E402
 
-ROWS = ROOT / "tests/lab"
+ROWS, BAD = ROOT / "examples/lab/worked", ROOT / "tests/lab_faults"
 PROGRAM = ROOT / "crates/pc_sim/out/pc_sim"
 LOADS = 60
 DRAWN = 50
@@ -47,22 +47,22 @@ COLUMNS = {132: "start", 430: "end", 550: "end", 670: "end", 780: "end"}
 # Where an element is, and how it looks. Nothing else may be told of one: nothing hides or moves it.
 PLACES = {"x", "y", "x1", "y1", "x2", "y2", "width", "height", "d"}
 LOOKS = {"fill", "stroke", "stroke-width", "stroke-dasharray", "font-size", "font-weight", "text-anchor"}
-# How many files of tests/lab end like this, and how many rows tests/lab/bad/expected has.
+# How many worked files end like this, and how many rows tests/lab_faults/expected has.
 FILES = {".toml": 8, ".table": 8, ".csv": 8, ".script": 20, ".replies": 20}
 FAULTS, MOST_BYTES = 59, 16_777_216
 
 
 def files(suffix: str) -> list[pathlib.Path]:
-    """The files of tests/lab that end so. None is missing, and none is there that is not counted."""
+    """The worked files that end so. None is missing, and none is there that is not counted."""
     found = sorted(ROWS.glob(f"*{suffix}"))
     if len(found) != FILES[suffix]:
-        raise AssertionError(f"{len(found)} files of tests/lab end with {suffix}, and not {FILES[suffix]}")
+        raise AssertionError(f"{len(found)} worked files end with {suffix}, and not {FILES[suffix]}")
     return found
 
 
 def faults() -> list[str]:
-    """The rows that tell what is wrong with the loads of tests/lab/bad."""
-    rows = (ROWS / "bad/expected").read_text().splitlines()
+    """The rows that tell what is wrong with the loads of tests/lab_faults."""
+    rows = (BAD / "expected").read_text().splitlines()
     if len(rows) != FAULTS:
         raise AssertionError(f"{len(rows)} rows tell faults, and not {FAULTS}")
     return rows
@@ -235,9 +235,9 @@ class Rows(unittest.TestCase):
     def test_faults(self):
         for row in faults():
             words, wanted = row.split(" = ")
-            ended = lab(*words.split(), folder=ROWS / "bad")
+            ended = lab(*words.split(), folder=BAD)
             if wanted == "no fault":
-                table = (ROWS / "bad" / words).with_suffix(".table").read_text()
+                table = (BAD / words).with_suffix(".table").read_text()
                 self.assertEqual((ended.returncode, ended.stdout, ended.stderr), (0, table, ""), row)
             else:
                 self.assertEqual((ended.returncode, ended.stdout, ended.stderr), (1, "", wanted + "\n"), row)
@@ -283,9 +283,9 @@ class Program(unittest.TestCase):
     def test_faults(self):
         for row in faults():
             words, wanted = row.split(" = ")
-            ended = program(*words.split(), folder=ROWS / "bad")
+            ended = program(*words.split(), folder=BAD)
             if wanted == "no fault":
-                self.wrote(ended, (ROWS / "bad" / words).with_suffix(".table").read_text(), row)
+                self.wrote(ended, (BAD / words).with_suffix(".table").read_text(), row)
                 continue
             first, *more = ended.stderr.splitlines()
             self.assertEqual((ended.returncode, ended.stdout, first), (1, "", wanted), row)
@@ -300,6 +300,24 @@ class Program(unittest.TestCase):
             for name, wanted in (("plain", "pc-sim: lab ScriptTooLong\n"), ("none", "pc-sim: lab NoVariant\n")):
                 ended = program(load, "--script", name)
                 self.assertEqual((ended.returncode, ended.stdout, ended.stderr), (1, "", wanted))
+
+    def test_quanta_of_which_nothing_comes_cost_no_time(self):
+        """Worked out by hand. Two threads run alone, for some 2^32 quanta each; and one that stands before the other that
+        waits is preempted where it no longer does, at the end of its 15th quantum."""
+        thread = "[[thread]]\nqueue = {}\nmask = {}\nstart = {}\nsteps = {}\nsleeps = {}\n"
+        alone = thread.format(0, 1, 0, ["die 4294967295"], []) + thread.format(1, 2, 0, ["die 4294967290"], [])
+        before = thread.format(0, 1, 0, ["block 100", "die 50"], [1]) + thread.format(0, 1, 100, ["die 300"], [])
+        variant = '[[variant]]\nname = "short"\norder = "least-ran"\nquantum = {}\n'
+        with tempfile.TemporaryDirectory() as folder:
+            load = pathlib.Path(folder) / "load.toml"
+            load.write_text("cpus = 2\n" + alone.replace("'", '"') + variant.format(1))
+            rows = dict(line.rsplit(None, 1) for line in program(load).stdout.splitlines())
+            wanted = {"end": "done", "makespan": "4294967295", "commits": "2", "preempts": "0", "ticks ran": "8589934585"}
+            self.assertEqual({name: rows.get(name) for name in wanted}, wanted)
+            load.write_text("cpus = 1\n" + before.replace("'", '"') + variant.format(7))
+            lines = program(load, "--script", "short").stdout.splitlines()
+            first = next(place for place, line in enumerate(lines) if line.startswith("preempt"))
+            self.assertEqual(lines[first - 1:first + 1], ["# at 205", "preempt 0 105"])
 
     def test_variants_of_the_greatest_length(self):
         """A comment makes a text as long as one may be, and a byte longer."""
@@ -545,10 +563,10 @@ class Pictures(unittest.TestCase):
     def test_faults(self):
         for row in faults():
             words, wanted = row.split(" = ")
-            ended = program(*words.split(), "--picture", folder=ROWS / "bad")
+            ended = program(*words.split(), "--picture", folder=BAD)
             if wanted == "no fault":
                 self.assertEqual((ended.returncode, ended.stderr), (0, ""), row)
-                self.shows(ROWS / "bad" / words)
+                self.shows(BAD / words)
             else:
                 told = (ended.returncode, ended.stdout, ended.stderr.splitlines()[0])
                 self.assertEqual(told, (1, "", wanted), row)

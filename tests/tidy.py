@@ -20,7 +20,7 @@ STRING = re.compile(r"//[^\n]*|b?r(#*)\".*?\"\1|b?\"(?:[^\"\\]|\\.)*\"|b?'(?:[^'
 # Folders of what is made.
 UNTRACKED = {".git", ".mypy_cache", ".trees", "__pycache__", "dist", "out"}
 # What a tool looks for by itself, and so nobody has to name.
-FOUND_BY_NAME = re.compile(r"^(?:tests/(?:cases|lab)/|README\.md$)")
+FOUND_BY_NAME = re.compile(r"^(?:tests/(?:cases|lab_faults)/|examples/lab/worked/|README\.md$)")
 
 
 def all_files(root):

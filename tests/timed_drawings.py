@@ -363,7 +363,7 @@ class TimedDrawings(Drawings):
         self.assertIn("Only a part of it: CPUs 1 to 2, lines 7 to 10.", [words.text for words in words_in(root)])
 
     def test_examples_and_loads_of_the_lab_stand_by_their_ticks(self) -> None:
-        scripts = {file.name: file.read_text() for file in sorted((ROOT / "tests/lab").glob("*.script"))}
+        scripts = {file.name: file.read_text() for file in sorted((ROOT / "examples/lab/worked").glob("*.script"))}
         scripts |= {file.name: timed_script(front_of(file.read_text(), MOST_SINGLE - 100), place) for place, file in enumerate(SCRIPTS)}
         for name in ("shell-pipelines", "python-pool"):
             scripts[name] = self.recorded(name)
@@ -381,10 +381,10 @@ class TimedDrawings(Drawings):
             return made.read_text()
 
     def test_a_script_of_the_lab_is_piped(self) -> None:
-        load = str(ROOT / "tests/lab/2-steals.toml")
+        load = str(ROOT / "examples/lab/worked/2-steals.toml")
         made = self.run_program("lab", load, "--script", "steals")
         self.assertEqual((made.returncode, made.stderr), (0, ""))
-        self.assertEqual(made.stdout, (ROOT / "tests/lab/2-steals.steals.script").read_text())
+        self.assertEqual(made.stdout, (ROOT / "examples/lab/worked/2-steals.steals.script").read_text())
         self.assertGreater(self.shown_by_ticks(front_of(made.stdout, MOST_SINGLE)).total(), 0)
 
     def test_many_steps_over_many_ticks(self) -> None:
