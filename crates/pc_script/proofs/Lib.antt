@@ -10,3 +10,4 @@ pub mod Taking
 pub mod Talking
 pub mod Walking
 pub mod ShownRows
+pub mod Placing

@@ -26,6 +26,7 @@ mod observer;
 mod outcome;
 mod output;
 mod piece;
+mod place;
 mod response;
 mod run;
 mod session;
