@@ -49,6 +49,7 @@ mod agents;
 pub mod laws;
 mod mend;
 mod parts;
+mod posts;
 mod world;
 
 pub use pc_calls::{Event, Reply};

@@ -3,11 +3,10 @@
 ghost use Rattle.std.specs.Prelude.{◌≡◌, false, MatchOption, OnErr, Some, length, slice_get, option_copied};
 ghost use Rattle.pc_kernel.specs.Reads.{seen, is_cpu};
 ghost use Rattle.pc_world.specs.Inner.Agents.{AreOwn};
-ghost use Rattle.pc_world.specs.Inner.Putting.{IsPut};
 ghost use Rattle.pc_world.specs.Inner.Laws.{RunsGoOn};
 
 use pc_agent::{Agent, KeptWire, SendFault, agents_stay_as_the_run_goes_on};
-use pc_calls::{AgentCall, Call, CallFault, EnvCall, Event, Posted, Refusal, Reply};
+use pc_calls::{AgentCall, Call, CallFault, EnvCall, Event, Refusal, Reply};
 use pc_delta::Delta;
 use pc_delta::laws::{parts_stay_as_the_run_goes_on, sets_are_pairs};
 use pc_join::OutOfMemory;
@@ -30,7 +29,7 @@ pub(crate) struct Parts {
 }
 
 /// What holds of a run holds of each run that goes on from it.
-fn runs_go_on()
+pub(crate) fn runs_go_on()
     ensures { RunsGoOn }
 {
     calls_extend_the_run();
@@ -45,27 +44,6 @@ fn delta_at(sent: &[Delta], index: u64) -> Option<&Delta>
     sent.get(usize::try_from(index).ok()?)
 }
 
-/// Puts what a call of the environment is answered into the place, which keeps what it held where memory ran out.
-// Inlined at each kind of call: an outcome that were handed on from where the kinds meet would be put together from
-// the fields of all of them, and taken apart again.
-#[inline(always)]
-fn put_posted(outcome: Result<Posted, CallFault>, reply: &mut Reply) -> Result<(), OutOfMemory>
-    ensures put { IsPut outcome result reply.new }
-    ensures kept { OnErr result (reply.new ≡ reply.old) }
-{
-    match outcome {
-        Ok(posted) => {
-            *reply = Reply::Posted(posted);
-            Ok(())
-        }
-        Err(CallFault::Refused(refusal)) => {
-            *reply = Reply::Refused(refusal);
-            Ok(())
-        }
-        Err(CallFault::OutOfMemory) => Err(OutOfMemory),
-    }
-}
-
 impl Parts {
     ghost use Rattle.pc_world.specs.Inner.Handling.{Handles, outcome_of};
     ghost use Rattle.pc_world.specs.Inner.Places.{IsPlace};
@@ -78,18 +56,21 @@ impl Parts {
     }
 
     /// Takes an event, and puts what it is replied into the place, which keeps what it held where memory runs out.
+    ///
+    /// It only hands on: a call of the environment is done in a few steps, and where an event of an agent stood in the
+    /// same function, each would save the registers and clear the room that such an event wants.
     pub(crate) fn handle(&mut self, event: &Event, reply: &mut Reply) -> Result<(), OutOfMemory>
         ensures handles { Handles event.now (outcome_of result reply.new) self.old self.new }
         ensures kept { OnErr result (reply.new ≡ reply.old) }
     {
-        match *event {
-            Event::Publish { cpu, fails } => self.publish(cpu, fails, reply),
-            Event::Consume { cpu } => self.consume(cpu, reply),
-            Event::Deliver { cpu, delta } => self.deliver(cpu, delta, reply),
-            Event::Answer { cpu, asker } => self.answer(cpu, asker, reply),
-            Event::Pick { cpu, aseq } => self.pick(cpu, aseq, reply),
-            Event::Steal { cpu } => self.steal(cpu, reply),
-            Event::Crash { cpu } => self.crash(cpu, reply),
+        match event {
+            Event::Publish { cpu, fails } => self.publish(*cpu, *fails, reply),
+            Event::Consume { cpu } => self.consume(*cpu, reply),
+            Event::Deliver { cpu, delta } => self.deliver(*cpu, *delta, reply),
+            Event::Answer { cpu, asker } => self.answer(*cpu, *asker, reply),
+            Event::Pick { cpu, aseq } => self.pick(*cpu, *aseq, reply),
+            Event::Steal { cpu } => self.steal(*cpu, reply),
+            Event::Crash { cpu } => self.crash(*cpu, reply),
             Event::Env(call) => self.post(call, reply),
             Event::Agent(call) => self.call(call, reply),
         }
@@ -107,38 +88,32 @@ impl Parts {
     }
 
     /// The environment makes this call.
-    fn post(&mut self, call: EnvCall, reply: &mut Reply) -> Result<(), OutOfMemory>
-        ensures handles { Handles (Event.Env call) (outcome_of result reply.new) self.old self.new }
+    #[inline(always)]
+    fn post(&mut self, call: &EnvCall, reply: &mut Reply) -> Result<(), OutOfMemory>
+        ensures handles { Handles (Event.Env call.now) (outcome_of result reply.new) self.old self.new }
         ensures kept { OnErr result (reply.new ≡ reply.old) }
     {
-        runs_go_on();
-        let kernel = &mut self.kernel;
         match call {
-            EnvCall::Create { queue, mask, ready } => {
-                put_posted(kernel.create(queue, mask, ready), reply)
-            }
-            EnvCall::Wake { thread } => put_posted(kernel.wake(thread), reply),
-            EnvCall::Block { cpu, ran } => put_posted(kernel.block(cpu, ran), reply),
-            EnvCall::YieldNow { cpu, ran } => put_posted(kernel.yield_now(cpu, ran), reply),
-            EnvCall::Preempt { cpu, ran } => put_posted(kernel.preempt(cpu, ran), reply),
-            EnvCall::Die { cpu, ran } => put_posted(kernel.die(cpu, ran), reply),
-            EnvCall::SetAffinity { thread, mask } => {
-                put_posted(kernel.set_affinity(thread, mask), reply)
-            }
-            EnvCall::SetPriority { thread, level } => {
-                put_posted(kernel.set_priority(thread, level), reply)
-            }
-            EnvCall::Tick { cpu } => put_posted(kernel.tick(cpu), reply),
+            EnvCall::Create { queue, mask, ready } => self.create(*queue, *mask, *ready, reply),
+            EnvCall::Wake { thread } => self.wake(*thread, reply),
+            EnvCall::Block { cpu, ran } => self.block(*cpu, *ran, reply),
+            EnvCall::YieldNow { cpu, ran } => self.yield_now(*cpu, *ran, reply),
+            EnvCall::Preempt { cpu, ran } => self.preempt(*cpu, *ran, reply),
+            EnvCall::Die { cpu, ran } => self.die(*cpu, *ran, reply),
+            EnvCall::SetAffinity { thread, mask } => self.set_affinity(*thread, *mask, reply),
+            EnvCall::SetPriority { thread, level } => self.set_priority(*thread, *level, reply),
+            EnvCall::Tick { cpu } => self.tick(*cpu, reply),
         }
     }
 
     /// An agent makes this call.
-    fn call(&mut self, call: AgentCall, reply: &mut Reply) -> Result<(), OutOfMemory>
-        ensures handles { Handles (Event.Agent call) (outcome_of result reply.new) self.old self.new }
+    #[inline(never)]
+    fn call(&mut self, call: &AgentCall, reply: &mut Reply) -> Result<(), OutOfMemory>
+        ensures handles { Handles (Event.Agent call.now) (outcome_of result reply.new) self.old self.new }
         ensures kept { OnErr result (reply.new ≡ reply.old) }
     {
         runs_go_on();
-        let call = Call::Agent(call);
+        let call = Call::Agent(*call);
         match self.kernel.apply(call) {
             Ok(answer) => {
                 *reply = call.reply(answer);
@@ -153,6 +128,7 @@ impl Parts {
     }
 
     /// The agent removes from its queue what it has sent.
+    #[inline(never)]
     fn consume(&mut self, cpu: Cpu, reply: &mut Reply) -> Result<(), OutOfMemory>
         ensures handles { Handles (Event.Consume cpu) (outcome_of result reply.new) self.old self.new }
         ensures kept { OnErr result (reply.new ≡ reply.old) }
@@ -175,6 +151,7 @@ impl Parts {
     }
 
     /// The agent takes in what its queue holds, and sends it, by a wire that may refuse it.
+    #[inline(never)]
     fn publish(&mut self, cpu: Cpu, fails: bool, reply: &mut Reply) -> Result<(), OutOfMemory>
         ensures handles { Handles (Event.Publish cpu fails) (outcome_of result reply.new) self.old self.new }
         ensures kept { OnErr result (reply.new ≡ reply.old) }
@@ -203,6 +180,7 @@ impl Parts {
     }
 
     /// The agent takes in the delta with this index.
+    #[inline(never)]
     fn deliver(&mut self, cpu: Cpu, index: u64, reply: &mut Reply) -> Result<(), OutOfMemory>
         ensures handles { Handles (Event.Deliver cpu index) (outcome_of result reply.new) self.old self.new }
         ensures kept { OnErr result (reply.new ≡ reply.old) }
@@ -228,6 +206,7 @@ impl Parts {
     }
 
     /// The agent sends what the asker's digest lacks.
+    #[inline(never)]
     fn answer(&mut self, cpu: Cpu, asker: Cpu, reply: &mut Reply) -> Result<(), OutOfMemory>
         ensures handles { Handles (Event.Answer cpu asker) (outcome_of result reply.new) self.old self.new }
         ensures kept { OnErr result (reply.new ≡ reply.old) }
@@ -255,6 +234,7 @@ impl Parts {
     }
 
     /// The agent commits the first thread of its run list that the kernel accepts.
+    #[inline(never)]
     fn pick(&mut self, cpu: Cpu, aseq: u32, reply: &mut Reply) -> Result<(), OutOfMemory>
         ensures handles { Handles (Event.Pick cpu aseq) (outcome_of result reply.new) self.old self.new }
         ensures kept { OnErr result (reply.new ≡ reply.old) }
@@ -277,6 +257,7 @@ impl Parts {
     }
 
     /// The agent takes a thread over that it may.
+    #[inline(never)]
     fn steal(&mut self, cpu: Cpu, reply: &mut Reply) -> Result<(), OutOfMemory>
         ensures handles { Handles (Event.Steal cpu) (outcome_of result reply.new) self.old self.new }
         ensures kept { OnErr result (reply.new ≡ reply.old) }
@@ -302,6 +283,7 @@ impl Parts {
     }
 
     /// The agent starts again with nothing, and is awake.
+    #[inline(never)]
     fn crash(&mut self, cpu: Cpu, reply: &mut Reply) -> Result<(), OutOfMemory>
         ensures handles { Handles (Event.Crash cpu) (outcome_of result reply.new) self.old self.new }
         ensures kept { OnErr result (reply.new ≡ reply.old) }

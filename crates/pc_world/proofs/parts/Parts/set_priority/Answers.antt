@@ -1,0 +1,8 @@
+use Rattle.std.proofs.Common.{refl}
+use Rattle.pc_calls.specs.declared.call.EnvCall.TheVariants as calls
+use Rattle.pc_world.proofs.Posting.{posted}
+use Rattle.pc_world.proofs.parts.Parts.set_priority.Goals as goal
+
+pub returns-clause-handles : goal.returns-clause-handles
+returns-clause-handles c =
+    posted c.runs_go_on.ensures c.args.self.now _ (calls.SetPriority c.args.thread c.args.level) c.set_priority.result c.put_posted.result c.put_posted.new.reply refl refl c.set_priority.ensures c.put_posted.ensures.put
