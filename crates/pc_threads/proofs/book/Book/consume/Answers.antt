@@ -16,3 +16,12 @@ returns-in-Err-clause-consumes c = rw (← c.self.view_is) c.in-Err.ensures.cons
 
 pub returns-in-Ok-clause-extends : goal.returns-in-Ok-clause-extends
 returns-in-Ok-clause-extends c = rw (← c.self.view_is) c.in-Ok.ensures.goes_on.extends
+
+pub returns-in-Err-clause-own : goal.returns-in-Err-clause-own
+returns-in-Err-clause-own c = rw (← c.self.view_is) c.in-Err.ensures.own
+
+pub returns-in-Ok-clause-consumes : goal.returns-in-Ok-clause-consumes
+returns-in-Ok-clause-consumes c = rw (← c.self.view_is) c.in-Ok.ensures.consumes
+
+pub returns-in-Ok-clause-own : goal.returns-in-Ok-clause-own
+returns-in-Ok-clause-own c = rw (← c.self.view_is) c.in-Ok.ensures.own

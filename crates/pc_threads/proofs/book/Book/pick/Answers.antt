@@ -16,3 +16,12 @@ returns-in-Err-clause-picks c = rw (← c.self.view_is) c.in-Err.ensures.picks
 
 pub returns-in-Ok-clause-extends : goal.returns-in-Ok-clause-extends
 returns-in-Ok-clause-extends c = rw (← c.self.view_is) c.in-Ok.ensures.goes_on.extends
+
+pub returns-in-Err-clause-own : goal.returns-in-Err-clause-own
+returns-in-Err-clause-own c = rw (← c.self.view_is) c.in-Err.ensures.own
+
+pub returns-in-Ok-clause-picks : goal.returns-in-Ok-clause-picks
+returns-in-Ok-clause-picks c = rw (← c.self.view_is) c.in-Ok.ensures.picks
+
+pub returns-in-Ok-clause-own : goal.returns-in-Ok-clause-own
+returns-in-Ok-clause-own c = rw (← c.self.view_is) c.in-Ok.ensures.own

@@ -24,3 +24,12 @@ returns-in-Err-clause-own c _ =
 
 pub returns-in-Ok-clause-extends : goal.returns-in-Ok-clause-extends
 returns-in-Ok-clause-extends c = rw (← c.self.view_is) c.in-Ok.ensures.goes_on.extends
+
+pub returns-in-Ok-clause-steals : goal.returns-in-Ok-clause-steals
+returns-in-Ok-clause-steals c _ = rw (← c.self.view_is) c.in-Ok.ensures.steals
+
+pub returns-in-Ok-clause-own : goal.returns-in-Ok-clause-own
+returns-in-Ok-clause-own c _ = rw (← c.self.view_is) c.in-Ok.ensures.own
+
+pub returns-in-Err-clause-steals : goal.returns-in-Err-clause-steals
+returns-in-Err-clause-steals c _ = rw (← c.self.view_is) c.in-Err.ensures.steals
