@@ -475,15 +475,7 @@ fn command_of(alloc: Global, matches: &ArgMatches<'_>) -> Result<Command, Comman
     };
     let file = file_of(alloc, met)?;
     if name == "run" {
-        let policy = policy_of(met)?;
-        let script = script_of(alloc, met)?;
-        Ok(Command::Run {
-            file,
-            form: form_of(met),
-            limit: limit_of(met),
-            policy,
-            script,
-        })
+        run_of(alloc, file, met)
     } else if name == "explain" {
         Ok(Command::Explain { file })
     } else if name == "session" {
@@ -492,26 +484,67 @@ fn command_of(alloc: Global, matches: &ArgMatches<'_>) -> Result<Command, Comman
             explains: is_set(met, "explain"),
         })
     } else if name == "draw" {
-        let part = part_of(met)?;
-        Ok(Command::Draw {
-            file,
-            part,
-            axis: axis_of(met),
-        })
+        drawing_of(file, met)
     } else if name == "lab" {
-        let variants = variants_of(alloc, met)?;
-        let script = script_of(alloc, met)?;
-        Ok(Command::Lab {
-            file,
-            variants,
-            per_cpu: is_set(met, "per-cpu"),
-            csv: is_set(met, "csv"),
-            picture: is_set(met, "picture"),
-            script,
-        })
+        Ok(lab_of(alloc, file, met)?)
     } else {
         Ok(Command::Replay { file })
     }
+}
+
+/// The run of this file that the matches of `run` ask for.
+fn run_of(
+    alloc: Global,
+    file: Option<String>,
+    met: &ArgMatches<'_>,
+) -> Result<Command, CommandFault>
+    requires { IsInput (first_of (codes "FILE") (rows_of (found_of met.now))) (option_map string_bytes file) }
+    ensures asked { IfOk result (IsAsked (Some (codes "run", rows_of (found_of met.now)))) }
+    ensures fault { IfErr result (λ fault. (fault ≡ CommandFault.OutOfMemory) ⊎ (fault ≡ CommandFault.BadPolicy)) }
+    ensures policy { result ≡ Err CommandFault.BadPolicy → IsUnnamed (rows_of (found_of met.now)) }
+{
+    let policy = policy_of(met)?;
+    let script = script_of(alloc, met)?;
+    Ok(Command::Run {
+        file,
+        form: form_of(met),
+        limit: limit_of(met),
+        policy,
+        script,
+    })
+}
+
+/// The picture of this file that the matches of `draw` ask for.
+fn drawing_of(file: Option<String>, met: &ArgMatches<'_>) -> Result<Command, CommandFault>
+    requires { IsInput (first_of (codes "FILE") (rows_of (found_of met.now))) (option_map string_bytes file) }
+    ensures asked { IfOk result (IsAsked (Some (codes "draw", rows_of (found_of met.now)))) }
+    ensures fault { IfErr result (λ fault. (fault ≡ CommandFault.BadNumbers)
+        × (IsUnread (codes "cpus") (rows_of (found_of met.now))
+        ⊎ IsUnread (codes "lines") (rows_of (found_of met.now)))) }
+{
+    let part = part_of(met)?;
+    Ok(Command::Draw {
+        file,
+        part,
+        axis: axis_of(met),
+    })
+}
+
+/// What the matches of `lab` ask for, of the load in this file.
+fn lab_of(alloc: Global, file: Option<String>, met: &ArgMatches<'_>) -> Result<Command, AllocError>
+    requires { IsInput (first_of (codes "FILE") (rows_of (found_of met.now))) (option_map string_bytes file) }
+    ensures { IfOk result (IsAsked (Some (codes "lab", rows_of (found_of met.now)))) }
+{
+    let variants = variants_of(alloc, met)?;
+    let script = script_of(alloc, met)?;
+    Ok(Command::Lab {
+        file,
+        variants,
+        per_cpu: is_set(met, "per-cpu"),
+        csv: is_set(met, "csv"),
+        picture: is_set(met, "picture"),
+        script,
+    })
 }
 
 /// The named file; none of the standard input, which `-` names too.
