@@ -1,11 +1,13 @@
 //! Tests: the calls that events are, what a call is replied, and the ranges of limits.
 
+use crate::rows::{Row, each_holds, none_is_wrong};
 use pc_calls::{
     AgentCall, Answer, Call, CallFault, EnvCall, Event, LimitField, Limits, MOST_CPUS,
     MOST_NUMBERS, MOST_POSTS, MOST_ROOM, MOST_THREADS, MOST_THREADS_TWO, Posted, Profile, Refusal,
     Reply,
 };
 use pc_messages::{Cpu, Tid};
+use std::alloc::Global;
 
 const fn limits(cpus: u8, threads: u32, numbers: u32, room: u32, posts: u32) -> Limits {
     Limits {
@@ -48,19 +50,11 @@ const POSTS: Option<LimitField> = Some(LimitField::Posts);
 /// A profile, limits in the order of their names, and the first that is out of its range.
 type Asked = (Profile, (u8, u32, u32, u32, u32), Option<LimitField>);
 
-fn is_first_bad(asked: &Asked) -> bool {
-    let (cpus, threads, numbers, room, posts) = asked.1;
-    bad_field(&limits(cpus, threads, numbers, room, posts), asked.0) == asked.2
-}
-
-/// The place of the first row of which something else is told.
-fn first_wrong(rows: &[Asked]) -> Option<usize> {
-    for (place, asked) in rows.iter().enumerate() {
-        if !is_first_bad(asked) {
-            return Some(place);
-        }
+impl Row for Asked {
+    fn holds(&self, _alloc: Global) -> bool {
+        let (cpus, threads, numbers, room, posts) = self.1;
+        bad_field(&limits(cpus, threads, numbers, room, posts), self.0) == self.2
     }
-    None
 }
 
 // Limits that are nothing, in both profiles, and limits that are too large beside the greatest.
@@ -88,7 +82,7 @@ fn the_first_limit_that_is_out_of_its_range(rt: HostRuntime) {
         (TWO, (1, 65_536, 1, 1, 1), THREADS),
         (TWO, (1, 1, 16_000_001, 1, 1), NUMBERS),
     ];
-    assert_eq!(rt; first_wrong(&ROWS), None);
+    each_holds(&rt, rt.alloc(), &ROWS);
 }
 
 fn call_of(event: &Event) -> Option<Call> {
@@ -182,7 +176,7 @@ fn first_other_call() -> Option<usize> {
 
 #[test]
 fn which_call_an_event_is(rt: HostRuntime) {
-    assert_eq!(rt; first_other_call(), None);
+    none_is_wrong(&rt, first_other_call());
 }
 
 fn replied(call: &Call, answer: Answer) -> Reply {
@@ -260,7 +254,7 @@ fn first_other_reply() -> Option<usize> {
 
 #[test]
 fn what_calls_are_replied(rt: HostRuntime) {
-    assert_eq!(rt; first_other_reply(), None);
+    none_is_wrong(&rt, first_other_reply());
 }
 
 /// A refusal as a fault.

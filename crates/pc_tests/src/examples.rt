@@ -2,6 +2,7 @@
 
 ghost use Rattle.std.specs.Prelude.{Some};
 
+use crate::rows::is_so;
 use pc_delta::{Delta, Digest, delta_since, take_in};
 use pc_kernel::{Kernel, Limits};
 use pc_messages::{Cpu, Kind, Mask, MaskFault, Message, Reported, Tid};
@@ -76,13 +77,13 @@ fn known_by_both(alloc: Global) -> Result<u32, Fail> {
 
 #[test]
 fn a_kernel_commits_a_thread(rt: HostRuntime) -> Result<(), Fail> {
-    assert_eq!(rt; committed(rt.alloc())?, Some(Tid(0)));
+    is_so(&rt, committed(rt.alloc())? == Some(Tid(0)));
     Ok(())
 }
 
 #[test]
 fn two_views_are_merged(rt: HostRuntime) -> Result<(), Fail> {
-    assert_eq!(rt; known_by_both(rt.alloc())?, 2);
+    is_so(&rt, known_by_both(rt.alloc())? == 2);
     Ok(())
 }
 
@@ -109,7 +110,7 @@ fn parts_of_answers(alloc: Global) -> Result<(usize, usize), Fail> {
 
 #[test]
 fn a_digest_is_answered(rt: HostRuntime) -> Result<(), Fail> {
-    assert_eq!(rt; parts_of_answers(rt.alloc())?, (1, 0));
+    is_so(&rt, parts_of_answers(rt.alloc())? == (1, 0));
     Ok(())
 }
 
@@ -156,12 +157,12 @@ fn least_first(alloc: Global) -> Result<Option<Tid>, Fail> {
 
 #[test]
 fn a_policy_of_ones_own_is_taken(rt: HostRuntime) -> Result<(), Fail> {
-    assert_eq!(rt; least_first(rt.alloc())?, Some(Tid(0)));
+    is_so(&rt, least_first(rt.alloc())? == Some(Tid(0)));
     Ok(())
 }
 
 #[test]
 fn a_ready_thread_is_listed(rt: HostRuntime) -> Result<(), Fail> {
-    assert_eq!(rt; listed_first(rt.alloc())?, Some(Tid(0)));
+    is_so(&rt, listed_first(rt.alloc())? == Some(Tid(0)));
     Ok(())
 }

@@ -5,6 +5,7 @@ mod caller;
 mod calls;
 mod reads;
 
+use crate::rows::{Step as Walked, first_wrong, is_so, none_is_wrong};
 use pc_kernel::{
     Call, CallFault, EnvCall, Kernel, LimitField, Limits, LimitsFault, Posted, Profile, Refusal,
     Status,
@@ -91,23 +92,29 @@ enum Way {
     AsValue,
 }
 
-fn first_wrong_of(kernel: &mut Kernel, way: Way, steps: &[Step]) -> Option<usize> {
-    for (place, step) in steps.iter().enumerate() {
-        if !calls::holds(kernel, way, step) {
-            return Some(place);
-        }
+/// A kernel, and how it is called.
+#[derive(Drop)]
+struct Called {
+    kernel: Kernel,
+    way: Way,
+}
+
+impl Walked<Called> for Step {
+    fn holds(&self, _alloc: Global, called: &mut Called) -> bool {
+        calls::holds(&mut called.kernel, called.way, self)
     }
-    None
 }
 
 /// The place of the first step that does not hold of a new kernel and the steps before it.
-fn first_wrong(alloc: Global, way: Way, steps: &[Step]) -> Result<Option<usize>, LimitsFault> {
-    let mut kernel = Kernel::new(alloc, SMALL)?;
-    Ok(first_wrong_of(&mut kernel, way, steps))
+fn first_wrong_of(alloc: Global, way: Way, steps: &[Step]) -> Option<usize> {
+    match Kernel::new(alloc, SMALL) {
+        Ok(kernel) => first_wrong(alloc, &mut Called { kernel, way }, steps),
+        Err(_) => Some(0),
+    }
 }
 
 fn each_holds(rt: &impl Abort, alloc: Global, way: Way, steps: &[Step]) {
-    assert_eq!(rt; first_wrong(alloc, way, steps), Ok(None));
+    none_is_wrong(rt, first_wrong_of(alloc, way, steps));
 }
 
 // Without contracts, as the function below, so that a test's proof does not carry those of the kernel.
@@ -119,7 +126,7 @@ fn fault_of_many(alloc: Global) -> Option<LimitsFault> {
 #[test]
 fn the_profile_of_new(rt: HostRuntime) {
     let fault = LimitsFault::BadLimits(LimitField::Threads);
-    assert_eq!(rt; fault_of_many(rt.alloc()), Some(fault));
+    is_so(&rt, fault_of_many(rt.alloc()) == Some(fault));
 }
 
 fn has_many(alloc: Global) -> bool {
@@ -131,5 +138,5 @@ fn has_many(alloc: Global) -> bool {
 
 #[test]
 fn the_profile_of_new_in(rt: HostRuntime) {
-    assert!(rt; has_many(rt.alloc()));
+    is_so(&rt, has_many(rt.alloc()));
 }

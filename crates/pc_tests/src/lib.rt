@@ -23,6 +23,8 @@ mod queue;
 #[cfg(test)]
 mod refreshes;
 #[cfg(test)]
+mod rows;
+#[cfg(test)]
 mod run_queue;
 #[cfg(test)]
 mod script;

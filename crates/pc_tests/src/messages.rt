@@ -1,8 +1,9 @@
+use crate::rows::{Row, each_holds};
 use pc_messages::{
     Cpu, GREATEST_NUMBER, Kind, Level, LevelFault, Mask, MaskFault, Message, Phase, Reported, Tid,
     is_same_kind, is_same_state,
 };
-use std::process::Abort;
+use std::alloc::Global;
 
 /// A kind by its numbers: no constant holds a mask or a level.
 #[derive(Clone, Copy)]
@@ -47,7 +48,7 @@ fn kind(part: &Part) -> Option<Kind> {
 
 /// What is told of masks, levels, kinds and states.
 #[derive(Clone, Copy)]
-enum Step<'a> {
+enum Step {
     /// Why there is no such mask of two CPUs.
     Fault(u64, Option<MaskFault>),
     /// The bits of such a mask.
@@ -68,7 +69,7 @@ enum Step<'a> {
     HasNoMask(Part),
     Raises(Part, u8),
     /// The state after these kinds: phase, mask, ticks and level.
-    Folds(&'a [Part], Phase, u64, u64, u8),
+    Folds(&'static [Part], Phase, u64, u64, u8),
     NothingFoldsToNothing,
     BeginsNothing(Part),
     Alike(Part, Part, bool),
@@ -112,7 +113,7 @@ fn is_well_formed(number: u32, part: &Part, wanted: bool) -> bool {
 }
 
 /// What a kind gives.
-fn gives(kind: &Kind, step: &Step<'_>) -> bool {
+fn gives(kind: &Kind, step: &Step) -> bool {
     match *step {
         Step::IsCreated(_, wanted) => kind.is_created() == wanted,
         Step::Ran(_, wanted) => kind.ran() == wanted,
@@ -124,7 +125,7 @@ fn gives(kind: &Kind, step: &Step<'_>) -> bool {
     }
 }
 
-fn part_gives(part: &Part, step: &Step<'_>) -> bool {
+fn part_gives(part: &Part, step: &Step) -> bool {
     match kind(part) {
         Some(kind) => gives(&kind, step),
         None => false,
@@ -178,7 +179,7 @@ fn are_states_alike(one: Option<bool>, other: Option<bool>, wanted: bool) -> boo
     is_same_state(state(one), state(other)) == wanted
 }
 
-fn is_told(step: &Step<'_>) -> bool {
+fn is_told(step: &Step) -> bool {
     match step {
         Step::WellFormed(number, part, wanted) => is_well_formed(*number, part, *wanted),
         Step::Folds(parts, phase, mask, ran, level) => folds(parts, *phase, *mask, *ran, *level),
@@ -195,36 +196,24 @@ fn is_told(step: &Step<'_>) -> bool {
     }
 }
 
-fn holds(step: &Step<'_>) -> bool {
-    match *step {
-        Step::Fault(bits, wanted) => Mask::new(bits, 2).err() == wanted,
-        Step::Bits(bits) => has_bits(bits),
-        Step::Allows(bits, cpus, cpu, wanted) => allows(bits, cpus, cpu, wanted),
-        Step::Level(number, wanted) => level_of(number) == wanted,
-        Step::Lowest(wanted) => Level::LOWEST.get() == wanted,
-        Step::Thread(number) => Tid(number).index() == number,
-        Step::Cpu(number) => Cpu(number).index() == number,
-        _ => is_told(step),
-    }
-}
-
-/// The place of the first step that does not hold.
-fn first_wrong(steps: &[Step<'_>]) -> Option<usize> {
-    for (place, step) in steps.iter().enumerate() {
-        if !holds(step) {
-            return Some(place);
+impl Row for Step {
+    fn holds(&self, _alloc: Global) -> bool {
+        match *self {
+            Step::Fault(bits, wanted) => Mask::new(bits, 2).err() == wanted,
+            Step::Bits(bits) => has_bits(bits),
+            Step::Allows(bits, cpus, cpu, wanted) => allows(bits, cpus, cpu, wanted),
+            Step::Level(number, wanted) => level_of(number) == wanted,
+            Step::Lowest(wanted) => Level::LOWEST.get() == wanted,
+            Step::Thread(number) => Tid(number).index() == number,
+            Step::Cpu(number) => Cpu(number).index() == number,
+            _ => is_told(self),
         }
     }
-    None
-}
-
-fn each_holds(rt: &impl Abort, steps: &[Step<'_>]) {
-    assert_eq!(rt; first_wrong(steps), None);
 }
 
 #[test]
 fn masks(rt: HostRuntime) {
-    static STEPS: [Step<'static>; 10] = [
+    static STEPS: [Step; 10] = [
         Step::Fault(0, Some(MaskFault::EmptyMask)),
         Step::Fault(4, Some(MaskFault::MaskTooWide)),
         Step::Fault(3, None),
@@ -236,24 +225,24 @@ fn masks(rt: HostRuntime) {
         Step::Allows(9_223_372_036_854_775_808, 64, 63, true),
         Step::Allows(9_223_372_036_854_775_808, 64, 0, false),
     ];
-    each_holds(&rt, &STEPS);
+    each_holds(&rt, rt.alloc(), &STEPS);
 }
 
 #[test]
 fn levels_and_names(rt: HostRuntime) {
-    static STEPS: [Step<'static>; 5] = [
+    static STEPS: [Step; 5] = [
         Step::Level(8, Err(LevelFault::BadLevel)),
         Step::Level(7, Ok(7)),
         Step::Lowest(0),
         Step::Thread(7),
         Step::Cpu(63),
     ];
-    each_holds(&rt, &STEPS);
+    each_holds(&rt, rt.alloc(), &STEPS);
 }
 
 #[test]
 fn well_formed(rt: HostRuntime) {
-    static STEPS: [Step<'static>; 7] = [
+    static STEPS: [Step; 7] = [
         Step::WellFormed(1, Part::Created(3, true), true),
         Step::WellFormed(2, Part::Wakeup, true),
         Step::WellFormed(GREATEST_NUMBER, Part::Wakeup, true),
@@ -262,12 +251,12 @@ fn well_formed(rt: HostRuntime) {
         Step::WellFormed(2, Part::Created(3, true), false),
         Step::WellFormed(GREATEST_NUMBER + 1, Part::Wakeup, false),
     ];
-    each_holds(&rt, &STEPS);
+    each_holds(&rt, rt.alloc(), &STEPS);
 }
 
 #[test]
 fn what_a_kind_gives(rt: HostRuntime) {
-    static STEPS: [Step<'static>; 6] = [
+    static STEPS: [Step; 6] = [
         Step::IsCreated(Part::Wakeup, false),
         Step::Ran(Part::Yield(4), 4),
         Step::Moves(Part::Dead(4), Some(Phase::Dead)),
@@ -275,7 +264,7 @@ fn what_a_kind_gives(rt: HostRuntime) {
         Step::Raises(Part::Priority(5), 5),
         Step::HasNoMask(Part::Blocked(1)),
     ];
-    each_holds(&rt, &STEPS);
+    each_holds(&rt, rt.alloc(), &STEPS);
 }
 
 // A thread that is created blocked with mask 3, woken, put off its CPU after 4 ticks, given level 5 and then 2, and
@@ -290,17 +279,17 @@ fn the_state_of_a_list(rt: HostRuntime) {
         Part::Priority(2),
         Part::Affinity(2),
     ];
-    static STEPS: [Step<'static>; 3] = [
+    static STEPS: [Step; 3] = [
         Step::Folds(SIX, Phase::Ready, 2, 4, 2),
         Step::NothingFoldsToNothing,
         Step::BeginsNothing(Part::Wakeup),
     ];
-    each_holds(&rt, &STEPS);
+    each_holds(&rt, rt.alloc(), &STEPS);
 }
 
 #[test]
 fn kinds_and_states_are_compared(rt: HostRuntime) {
-    static STEPS: [Step<'static>; 9] = [
+    static STEPS: [Step; 9] = [
         Step::Alike(Part::Wakeup, Part::Wakeup, true),
         Step::Alike(Part::Affinity(3), Part::Affinity(2), false),
         Step::Alike(Part::Blocked(1), Part::Blocked(2), false),
@@ -311,5 +300,5 @@ fn kinds_and_states_are_compared(rt: HostRuntime) {
         Step::StatesAlike(None, Some(true), false),
         Step::StatesAlike(Some(true), None, false),
     ];
-    each_holds(&rt, &STEPS);
+    each_holds(&rt, rt.alloc(), &STEPS);
 }

@@ -1,5 +1,6 @@
 //! Sets of names, and walks over the names that another set lacks.
 
+use crate::rows::{Row, each_holds, is_so};
 use pc_join::{NameSet, OutOfMemory};
 use pc_messages::Tid;
 use pc_run_queue::RunQueue;
@@ -79,18 +80,18 @@ fn are_left(mut set: NameSet) -> bool {
 #[test]
 fn names_are_added_and_taken_out_alone(rt: HostRuntime) {
     const ADDED: &[u32] = &[0, 63, 64, 63, 4_095, 65_535, 65_536, LAST];
-    assert!(rt; are_alone(rt.alloc(), ADDED));
+    is_so(&rt, are_alone(rt.alloc(), ADDED));
 }
 
 /// A walk: the names of a set, those of another one, where it begins, and the name that it finds.
-type Walk<'a> = (&'a [u32], &'a [u32], u32, Option<u32>);
+type Walk = (&'static [u32], &'static [u32], u32, Option<u32>);
 
 fn name(number: Option<u32>) -> Option<Tid> {
     Some(Tid(number?))
 }
 
 /// Whether the set finds this of its first names outside of the others.
-fn set_finds(alloc: Global, set: &NameSet, walk: &Walk<'_>) -> bool {
+fn set_finds(alloc: Global, set: &NameSet, walk: &Walk) -> bool {
     match set_of(alloc, walk.1) {
         Ok(others) => set.next_outside(&others, Tid(walk.2)) == name(walk.3),
         Err(_) => false,
@@ -98,33 +99,25 @@ fn set_finds(alloc: Global, set: &NameSet, walk: &Walk<'_>) -> bool {
 }
 
 /// The same of a run list of the others.
-fn list_finds(alloc: Global, set: &NameSet, walk: &Walk<'_>) -> bool {
+fn list_finds(alloc: Global, set: &NameSet, walk: &Walk) -> bool {
     match list_of(alloc, walk.1) {
         Ok(list) => list.next_outside(set, Tid(walk.2)) == name(walk.3),
         Err(_) => false,
     }
 }
 
-fn is_found(alloc: Global, walk: &Walk<'_>) -> bool {
-    match set_of(alloc, walk.0) {
-        Ok(set) => set_finds(alloc, &set, walk) && list_finds(alloc, &set, walk),
-        Err(_) => false,
-    }
-}
-
-/// The place of the first walk that finds another name.
-fn first_wrong(alloc: Global, walks: &[Walk<'_>]) -> Option<usize> {
-    for (place, walk) in walks.iter().enumerate() {
-        if !is_found(alloc, walk) {
-            return Some(place);
+impl Row for Walk {
+    fn holds(&self, alloc: Global) -> bool {
+        match set_of(alloc, self.0) {
+            Ok(set) => set_finds(alloc, &set, self) && list_finds(alloc, &set, self),
+            Err(_) => false,
         }
     }
-    None
 }
 
 #[test]
 fn a_walk_finds_the_least_name_that_the_others_lack(rt: HostRuntime) {
-    static WALKS: [Walk<'static>; 14] = [
+    static WALKS: [Walk; 14] = [
         (&[], &[], 0, None),
         (&[0], &[], 0, Some(0)),
         (&[0], &[0], 0, None),
@@ -140,5 +133,5 @@ fn a_walk_finds_the_least_name_that_the_others_lack(rt: HostRuntime) {
         (&[LAST], &[LAST - 1], LAST, Some(LAST)),
         (&[LAST], &[LAST], LAST, None),
     ];
-    assert_eq!(rt; first_wrong(rt.alloc(), &WALKS), None);
+    each_holds(&rt, rt.alloc(), &WALKS);
 }

@@ -1,5 +1,6 @@
 //! Run lists of ten threads by each policy that is built in: refreshed at once, and a name after another.
 
+use crate::rows::{Try, first_failed, none_is_wrong};
 use crate::run_queue::are_names;
 use pc_join::OutOfMemory;
 use pc_messages::{Cpu, Kind, Level, Mask, Message, Tid};
@@ -175,34 +176,34 @@ fn lists_by(
     )
 }
 
-fn holds(alloc: Global, view: &View, which: Which, wanted: &[u32]) -> Result<bool, AllocError> {
-    let policy = policy_of(alloc, which)?;
-    lists_by(alloc, &policy, view, wanted)
+/// A policy, and the names of the list by it.
+type Row = (Which, &'static [u32]);
+
+impl Try<View, AllocError> for Row {
+    fn tries(&self, alloc: Global, view: &mut View) -> Result<bool, AllocError> {
+        let policy = policy_of(alloc, self.0)?;
+        lists_by(alloc, &policy, view, self.1)
+    }
 }
 
 /// The place of the first policy by which the list is another one.
-fn first_wrong(alloc: Global, rows: &[(Which, &[u32])]) -> Result<Option<usize>, AllocError> {
+fn first_wrong(alloc: Global, rows: &[Row]) -> Option<usize> {
     let mut view = View::new(alloc);
     if !make_all(&mut view) {
-        return Ok(Some(rows.len()));
+        return Some(rows.len());
     }
-    for (place, row) in rows.iter().enumerate() {
-        if !holds(alloc, &view, row.0, row.1)? {
-            return Ok(Some(place));
-        }
-    }
-    Ok(None)
+    first_failed(alloc, &mut view, rows)
 }
 
 // Those of one rank stand in the order in which they were touched first.
 #[test]
 fn each_policy_has_its_order(rt: HostRuntime) {
-    const ROWS: &[(Which, &[u32])] = &[
+    const ROWS: &[Row] = &[
         (Which::Levels, &[1, 4, 9, 5, 3, 0, 8, 6, 2]),
         (Which::Fifo, &[6, 3, 9, 1, 0, 4, 8, 2, 5]),
         (Which::LeastRan, &[6, 2, 3, 8, 4, 5, 0, 9, 1]),
         (Which::LevelsThenLeastRan, &[4, 1, 5, 9, 3, 8, 0, 6, 2]),
         (Which::Table, &[5, 1, 8, 2, 9, 0, 4]),
     ];
-    assert_eq!(rt; first_wrong(rt.alloc(), ROWS), Ok(None));
+    none_is_wrong(&rt, first_wrong(rt.alloc(), ROWS));
 }

@@ -1,7 +1,7 @@
+use crate::rows::{Step as Walked, first_wrong, none_is_wrong};
 use pc_messages::{Cpu, Item, Kind, Mask, Message, Tid};
 use pc_queue::{CpuQueue, ItemQueue, QueueFault, TooMany};
 use std::alloc::Global;
-use std::process::Abort;
 
 /// An item by its name: the first one has a mask, which no constant can hold.
 #[derive(Clone, Copy)]
@@ -50,10 +50,10 @@ fn are_items(items: &[Item], names: &[Name]) -> bool {
 
 /// What is done to a queue, and what it answers or is read of it.
 #[derive(Clone, Copy)]
-enum Step<'a> {
+enum Step {
     Posts(Name, Result<(), QueueFault>),
     Consumes(u32, Result<(), TooMany>),
-    Peeks(u32, &'a [Name]),
+    Peeks(u32, &'static [Name]),
     Empty(bool),
     Refuses(Option<QueueFault>),
     Holds(u32),
@@ -78,7 +78,7 @@ fn peeks(queue: &CpuQueue, count: u32, wanted: &[Name]) -> bool {
     }
 }
 
-fn tells(queue: &CpuQueue, step: &Step<'_>) -> bool {
+fn tells(queue: &CpuQueue, step: &Step) -> bool {
     match *step {
         Step::Peeks(count, wanted) => peeks(queue, count, wanted),
         Step::Empty(wanted) => queue.is_empty() == wanted,
@@ -92,27 +92,24 @@ fn tells(queue: &CpuQueue, step: &Step<'_>) -> bool {
     }
 }
 
-fn holds(queue: &mut CpuQueue, step: &Step<'_>) -> bool {
-    match *step {
-        Step::Posts(name, wanted) => posts(queue, name, wanted),
-        Step::Consumes(count, wanted) => queue.consume(count) == wanted,
-        _ => tells(queue, step),
+impl Walked<CpuQueue> for Step {
+    fn holds(&self, _alloc: Global, queue: &mut CpuQueue) -> bool {
+        match *self {
+            Step::Posts(name, wanted) => posts(queue, name, wanted),
+            Step::Consumes(count, wanted) => queue.consume(count) == wanted,
+            _ => tells(queue, self),
+        }
     }
 }
 
 /// The place of the first step that does not hold of a new queue with this room and so many posts, and the steps
 /// before it.
-fn first_wrong(alloc: Global, room: u32, posts: u32, steps: &[Step<'_>]) -> Option<usize> {
+fn first_wrong_of(alloc: Global, room: u32, posts: u32, steps: &[Step]) -> Option<usize> {
     if room < 1 || posts < 1 {
         return Some(0);
     }
     let mut queue = CpuQueue::new(alloc, room, posts);
-    for (place, step) in steps.iter().enumerate() {
-        if !holds(&mut queue, step) {
-            return Some(place);
-        }
-    }
-    None
+    first_wrong(alloc, &mut queue, steps)
 }
 
 // The same of a queue without counts.
@@ -144,7 +141,7 @@ fn items_are(queue: &ItemQueue, count: u32, wanted: &[Name]) -> bool {
     items_peeked(queue, count, wanted) && (count < queue.len() || items_stand(queue, wanted))
 }
 
-fn tells_items(queue: &ItemQueue, step: &Step<'_>) -> bool {
+fn tells_items(queue: &ItemQueue, step: &Step) -> bool {
     match *step {
         Step::Peeks(count, wanted) => items_are(queue, count, wanted),
         Step::Empty(wanted) => queue.is_empty() == wanted,
@@ -156,33 +153,22 @@ fn tells_items(queue: &ItemQueue, step: &Step<'_>) -> bool {
     }
 }
 
-fn holds_items(queue: &mut ItemQueue, step: &Step<'_>) -> bool {
-    match *step {
-        Step::Posts(name, wanted) => item_posted(queue, name, wanted),
-        Step::Consumes(count, wanted) => queue.consume(count) == wanted,
-        _ => tells_items(queue, step),
+impl Walked<ItemQueue> for Step {
+    fn holds(&self, _alloc: Global, queue: &mut ItemQueue) -> bool {
+        match *self {
+            Step::Posts(name, wanted) => item_posted(queue, name, wanted),
+            Step::Consumes(count, wanted) => queue.consume(count) == wanted,
+            _ => tells_items(queue, self),
+        }
     }
 }
 
-fn first_wrong_of_items(alloc: Global, room: u32, posts: u32, steps: &[Step<'_>]) -> Option<usize> {
+fn first_wrong_of_items(alloc: Global, room: u32, posts: u32, steps: &[Step]) -> Option<usize> {
     if room < 1 || posts < 1 {
         return Some(0);
     }
     let mut queue = ItemQueue::new(alloc, room, posts);
-    for (place, step) in steps.iter().enumerate() {
-        if !holds_items(&mut queue, step) {
-            return Some(place);
-        }
-    }
-    None
-}
-
-fn each_holds(rt: &impl Abort, alloc: Global, room: u32, posts: u32, steps: &[Step<'_>]) {
-    assert_eq!(rt; first_wrong(alloc, room, posts, steps), None);
-}
-
-fn each_holds_of_items(rt: &impl Abort, alloc: Global, room: u32, posts: u32, steps: &[Step<'_>]) {
-    assert_eq!(rt; first_wrong_of_items(alloc, room, posts, steps), None);
+    first_wrong(alloc, &mut queue, steps)
 }
 
 const TAKEN: Result<(), QueueFault> = Ok(());
@@ -194,7 +180,7 @@ const SPENT: Result<(), QueueFault> = Err(QueueFault::PostsSpent);
 // Room for two items and three posts in all: the room is wanting at the third item, the posts at the fourth post.
 #[test]
 fn room_and_posts(rt: HostRuntime) {
-    static STEPS: [Step<'static>; 23] = [
+    static STEPS: [Step; 23] = [
         Step::Empty(true),
         Step::Refuses(None),
         Step::Posts(Name::First, TAKEN),
@@ -219,14 +205,14 @@ fn room_and_posts(rt: HostRuntime) {
         Step::Posts(Name::Tick, SPENT),
         Step::Posted(3),
     ];
-    each_holds(&rt, rt.alloc(), 2, 3, &STEPS);
+    none_is_wrong(&rt, first_wrong_of(rt.alloc(), 2, 3, &STEPS));
 }
 
 // A thread with several items held is pending until the last of them goes. Where room and posts are wanting together,
 // the room is told first.
 #[test]
 fn several_of_one_thread_and_a_full_queue_whose_posts_are_spent(rt: HostRuntime) {
-    static SEVERAL: [Step<'static>; 10] = [
+    static SEVERAL: [Step; 10] = [
         Step::Posts(Name::First, TAKEN),
         Step::Posts(Name::Tick, TAKEN),
         Step::Posts(Name::Second, TAKEN),
@@ -238,20 +224,20 @@ fn several_of_one_thread_and_a_full_queue_whose_posts_are_spent(rt: HostRuntime)
         Step::Consumes(1, Ok(())),
         Step::Pending(0, false),
     ];
-    static FULL_AND_SPENT: [Step<'static>; 4] = [
+    static FULL_AND_SPENT: [Step; 4] = [
         Step::Posts(Name::Tick, TAKEN),
         Step::Posts(Name::Tick, FULL),
         Step::Consumes(1, Ok(())),
         Step::Posts(Name::Tick, SPENT),
     ];
-    each_holds(&rt, rt.alloc(), 4, 4, &SEVERAL);
-    each_holds(&rt, rt.alloc(), 1, 1, &FULL_AND_SPENT);
+    none_is_wrong(&rt, first_wrong_of(rt.alloc(), 4, 4, &SEVERAL));
+    none_is_wrong(&rt, first_wrong_of(rt.alloc(), 1, 1, &FULL_AND_SPENT));
 }
 
 // A queue without counts, of room for two items and three posts in all.
 #[test]
 fn room_and_posts_without_counts(rt: HostRuntime) {
-    static STEPS: [Step<'static>; 22] = [
+    static STEPS: [Step; 22] = [
         Step::Empty(true),
         Step::Refuses(None),
         Step::Posts(Name::First, TAKEN),
@@ -275,14 +261,14 @@ fn room_and_posts_without_counts(rt: HostRuntime) {
         Step::Posts(Name::Tick, SPENT),
         Step::Posted(3),
     ];
-    each_holds_of_items(&rt, rt.alloc(), 2, 3, &STEPS);
+    none_is_wrong(&rt, first_wrong_of_items(rt.alloc(), 2, 3, &STEPS));
 }
 
 // Items are removed across the end of the ring.
 #[test]
 fn items_round_the_ring(rt: HostRuntime) {
     const MIXED: &[Name] = &[Name::Tick, Name::OtherTick, Name::OtherTick, Name::Tick];
-    static STEPS: [Step<'static>; 12] = [
+    static STEPS: [Step; 12] = [
         Step::Posts(Name::OtherTick, TAKEN),
         Step::Posts(Name::OtherTick, TAKEN),
         Step::Posts(Name::OtherTick, TAKEN),
@@ -296,5 +282,5 @@ fn items_round_the_ring(rt: HostRuntime) {
         Step::Peeks(9, &[Name::OtherTick, Name::Tick]),
         Step::Posted(7),
     ];
-    each_holds_of_items(&rt, rt.alloc(), 4, 9, &STEPS);
+    none_is_wrong(&rt, first_wrong_of_items(rt.alloc(), 4, 9, &STEPS));
 }

@@ -2,6 +2,7 @@
 //! that are drawn.
 
 use crate::policies::{Which, create, leave, policy_of, raise, tell};
+use crate::rows::{Row as Told, each_holds, is_so};
 use crate::run_queue::are_names;
 use pc_join::OutOfMemory;
 use pc_messages::{Cpu, Kind, Level, Tid};
@@ -126,19 +127,15 @@ fn lists_by(alloc: Global, policy: &Order, row: &Row) -> Result<bool, OutOfMemor
     )
 }
 
-fn holds(alloc: Global, row: &Row) -> Result<bool, OutOfMemory> {
+fn is_listed(alloc: Global, row: &Row) -> Result<bool, OutOfMemory> {
     let policy = policy_of(alloc, row.0)?;
     lists_by(alloc, &policy, row)
 }
 
-/// The place of the first row by which the list is another one.
-fn first_wrong(alloc: Global, rows: &[Row]) -> Result<Option<usize>, OutOfMemory> {
-    for (place, row) in rows.iter().enumerate() {
-        if !holds(alloc, row)? {
-            return Ok(Some(place));
-        }
+impl Told for Row {
+    fn holds(&self, alloc: Global) -> bool {
+        is_listed(alloc, self) == Ok(true)
     }
-    Ok(None)
 }
 
 // A moved name stands behind those equals that stood before it, and before the others: up, down, from both sides, past
@@ -196,7 +193,7 @@ fn a_moved_name_keeps_its_place_among_equals(rt: HostRuntime) {
             &[1, 4, 7, 5, 3, 2, 6],
         ),
     ];
-    assert_eq!(rt; first_wrong(rt.alloc(), ROWS), Ok(None));
+    each_holds(&rt, rt.alloc(), ROWS);
 }
 
 #[test]
@@ -251,7 +248,7 @@ fn by_each_policy_the_moved_are_put_where_they_belong(rt: HostRuntime) {
             &[5, 7, 2, 0, 4],
         ),
     ];
-    assert_eq!(rt; first_wrong(rt.alloc(), ROWS), Ok(None));
+    each_holds(&rt, rt.alloc(), ROWS);
 }
 
 // Thread 0 is ready on both CPUs and of level 3, thread 7 is blocked, and thread 9 is none.
@@ -268,7 +265,7 @@ fn tells_ranks(alloc: Global) -> bool {
 
 #[test]
 fn a_rank_is_of_those_that_may_run(rt: HostRuntime) {
-    assert!(rt; tells_ranks(rt.alloc()));
+    is_so(&rt, tells_ranks(rt.alloc()));
 }
 
 /// A number below eight, drawn anew.
@@ -356,5 +353,5 @@ fn count_right(alloc: Global, draws: u32) -> Result<u32, OutOfMemory> {
 
 #[test]
 fn drawn_levels_are_in_the_order_of_a_hand(rt: HostRuntime) {
-    assert_eq!(rt; count_right(rt.alloc(), 200), Ok(200));
+    is_so(&rt, count_right(rt.alloc(), 200) == Ok(200));
 }

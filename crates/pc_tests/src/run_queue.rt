@@ -1,12 +1,12 @@
 //! Run lists of views of three threads, with ample memory.
 
+use crate::rows::{Step as Walked, first_wrong, none_is_wrong};
 use pc_join::OutOfMemory;
 use pc_messages::{Cpu, Kind, Level, Mask, Message, Tid};
 use pc_policy::Order;
 use pc_run_queue::RunQueue;
 use pc_view::View;
 use std::alloc::{AllocError, Global};
-use std::process::Abort;
 
 /// Which threads there are.
 #[derive(Clone, Copy)]
@@ -25,15 +25,15 @@ enum Threads {
 
 /// What is done to a list, or told of it. A thread is meant by its number.
 #[derive(Clone, Copy)]
-enum Step<'a> {
+enum Step {
     /// The list and the view are new, and there are these threads.
     Starts(Threads),
     /// The list on the CPU is refreshed, and these names are touched.
-    Refreshes(u8, &'a [u32]),
+    Refreshes(u8, &'static [u32]),
     /// The same, and then of the settled list, where the last names are touched.
-    Settles(u8, &'a [u32], &'a [u32]),
+    Settles(u8, &'static [u32], &'static [u32]),
     /// The list is refreshed, and of the settled one the first name leaves and is touched again.
-    Retouches(u8, &'a [u32]),
+    Retouches(u8, &'static [u32]),
     /// The thread's second message says that it blocked.
     Blocks(u32),
     Puts(u32),
@@ -42,7 +42,7 @@ enum Step<'a> {
     Removes(u32),
     TakesFirst(Option<u32>),
     TakesLast(Option<u32>),
-    Lists(&'a [u32]),
+    Lists(&'static [u32]),
     Has(u32, bool),
     First(Option<u32>),
 }
@@ -246,7 +246,7 @@ fn lists(queue: &RunQueue, wanted: &[u32]) -> bool {
 }
 
 /// The steps that need no view.
-fn tells(queue: &mut RunQueue, step: &Step<'_>) -> bool {
+fn tells(queue: &mut RunQueue, step: &Step) -> bool {
     match *step {
         Step::Puts(name) => puts(queue, name),
         Step::Removes(name) => removes(queue, name),
@@ -259,49 +259,44 @@ fn tells(queue: &mut RunQueue, step: &Step<'_>) -> bool {
     }
 }
 
-fn holds(alloc: Global, queue: &mut RunQueue, view: &mut View, step: &Step<'_>) -> bool {
-    match *step {
-        Step::Starts(threads) => starts(alloc, queue, view, threads),
-        Step::Refreshes(cpu, touched) => refreshes(alloc, queue, view, cpu, touched) == Ok(()),
-        Step::Settles(cpu, first, then) => settles(alloc, queue, view, cpu, [first, then])
-            == Ok(()),
-        Step::Retouches(cpu, touched) => retouches(alloc, queue, view, cpu, touched) == Ok(()),
-        Step::Blocks(thread) => block(view, thread),
-        Step::PutsInOrder(name, wanted) => puts_in_order(queue, view, name, wanted),
-        _ => tells(queue, step),
-    }
+/// A list, and a view.
+#[derive(Drop)]
+struct Listed {
+    queue: RunQueue,
+    view: View,
 }
 
-fn first_wrong_of(
-    alloc: Global,
-    queue: &mut RunQueue,
-    view: &mut View,
-    steps: &[Step<'_>],
-) -> Option<usize> {
-    for (place, step) in steps.iter().enumerate() {
-        if !holds(alloc, queue, view, step) {
-            return Some(place);
+impl Walked<Listed> for Step {
+    fn holds(&self, alloc: Global, it: &mut Listed) -> bool {
+        let queue = &mut it.queue;
+        let view = &mut it.view;
+        match *self {
+            Step::Starts(threads) => starts(alloc, queue, view, threads),
+            Step::Refreshes(cpu, touched) => refreshes(alloc, queue, view, cpu, touched) == Ok(()),
+            Step::Settles(cpu, first, then) => settles(alloc, queue, view, cpu, [first, then])
+                == Ok(()),
+            Step::Retouches(cpu, touched) => retouches(alloc, queue, view, cpu, touched) == Ok(()),
+            Step::Blocks(thread) => block(view, thread),
+            Step::PutsInOrder(name, wanted) => puts_in_order(queue, view, name, wanted),
+            _ => tells(queue, self),
         }
     }
-    None
 }
 
 /// The place of the first step that does not hold of an empty list, a view of nothing and the steps before it.
-fn first_wrong(alloc: Global, steps: &[Step<'_>]) -> Option<usize> {
-    let mut queue = RunQueue::new(alloc);
-    let mut view = View::new(alloc);
-    first_wrong_of(alloc, &mut queue, &mut view, steps)
-}
-
-fn each_holds(rt: &impl Abort, alloc: Global, steps: &[Step<'_>]) {
-    assert_eq!(rt; first_wrong(alloc, steps), None);
+fn first_wrong_of(alloc: Global, steps: &[Step]) -> Option<usize> {
+    let mut listed = Listed {
+        queue: RunQueue::new(alloc),
+        view: View::new(alloc),
+    };
+    first_wrong(alloc, &mut listed, steps)
 }
 
 // Those that may run are listed once. Touched names stand at the end of a settled list of their level, which stays
 // where they may not run.
 #[test]
 fn the_highest_level_comes_first(rt: HostRuntime) {
-    static STEPS: [Step<'static>; 33] = [
+    static STEPS: [Step; 33] = [
         Step::Starts(Threads::Mixed),
         Step::Refreshes(0, &[2, 1, 0, 0]),
         Step::Lists(&[0]),
@@ -336,13 +331,13 @@ fn the_highest_level_comes_first(rt: HostRuntime) {
         Step::Settles(1, &[0], &[1, 2, 7]),
         Step::Lists(&[0, 2]),
     ];
-    each_holds(&rt, rt.alloc(), &STEPS);
+    none_is_wrong(&rt, first_wrong_of(rt.alloc(), &STEPS));
 }
 
 // A few names are put in one by one, of more the list is sorted: the same names in the same order.
 #[test]
 fn touched_names_stand_behind_those_of_their_level(rt: HostRuntime) {
-    static STEPS: [Step<'static>; 6] = [
+    static STEPS: [Step; 6] = [
         Step::Starts(Threads::Twenty),
         Step::Settles(0, &[0, 1, 2, 3, 4, 5, 6, 7, 8, 9], &[11, 12, 10, 3, 11]),
         Step::Lists(&[2, 5, 8, 11, 1, 4, 7, 10, 0, 3, 6, 9, 12]),
@@ -356,12 +351,12 @@ fn touched_names_stand_behind_those_of_their_level(rt: HostRuntime) {
             2, 5, 8, 17, 14, 11, 1, 4, 7, 19, 16, 13, 10, 0, 3, 6, 9, 18, 15, 12,
         ]),
     ];
-    each_holds(&rt, rt.alloc(), &STEPS);
+    none_is_wrong(&rt, first_wrong_of(rt.alloc(), &STEPS));
 }
 
 #[test]
 fn names_are_put_at_the_end_and_leave_from_any_place(rt: HostRuntime) {
-    static PUT: [Step<'static>; 7] = [
+    static PUT: [Step; 7] = [
         Step::Starts(Threads::Mixed),
         Step::Refreshes(1, &[2, 0]),
         Step::Has(5, false),
@@ -370,7 +365,7 @@ fn names_are_put_at_the_end_and_leave_from_any_place(rt: HostRuntime) {
         Step::Has(5, true),
         Step::First(Some(2)),
     ];
-    static REMOVED: [Step<'static>; 10] = [
+    static REMOVED: [Step; 10] = [
         Step::Starts(Threads::Ready),
         Step::Refreshes(0, &[0, 1, 2]),
         Step::Removes(1),
@@ -382,7 +377,7 @@ fn names_are_put_at_the_end_and_leave_from_any_place(rt: HostRuntime) {
         Step::Removes(2),
         Step::Lists(&[]),
     ];
-    static TAKEN: [Step<'static>; 13] = [
+    static TAKEN: [Step; 13] = [
         Step::Starts(Threads::Ready),
         Step::Refreshes(0, &[2, 0, 1]),
         Step::TakesFirst(Some(2)),
@@ -397,15 +392,15 @@ fn names_are_put_at_the_end_and_leave_from_any_place(rt: HostRuntime) {
         Step::TakesLast(None),
         Step::Has(0, false),
     ];
-    each_holds(&rt, rt.alloc(), &PUT);
-    each_holds(&rt, rt.alloc(), &REMOVED);
-    each_holds(&rt, rt.alloc(), &TAKEN);
+    none_is_wrong(&rt, first_wrong_of(rt.alloc(), &PUT));
+    none_is_wrong(&rt, first_wrong_of(rt.alloc(), &REMOVED));
+    none_is_wrong(&rt, first_wrong_of(rt.alloc(), &TAKEN));
 }
 
 // Where the second alone is raised it stands in order behind nobody, and everyone behind it.
 #[test]
 fn a_name_put_at_the_end_is_in_order_behind_no_lower_level(rt: HostRuntime) {
-    static STEPS: [Step<'static>; 13] = [
+    static STEPS: [Step; 13] = [
         Step::Starts(Threads::OneRaised),
         Step::Refreshes(0, &[1]),
         Step::PutsInOrder(0, true),
@@ -420,13 +415,13 @@ fn a_name_put_at_the_end_is_in_order_behind_no_lower_level(rt: HostRuntime) {
         Step::PutsInOrder(1, true),
         Step::Lists(&[1]),
     ];
-    each_holds(&rt, rt.alloc(), &STEPS);
+    none_is_wrong(&rt, first_wrong_of(rt.alloc(), &STEPS));
 }
 
 // An empty list has no first.
 #[test]
 fn a_refresh_keeps_the_order_and_drops_the_blocked(rt: HostRuntime) {
-    static STEPS: [Step<'static>; 13] = [
+    static STEPS: [Step; 13] = [
         Step::Starts(Threads::Ready),
         Step::Refreshes(0, &[2, 1]),
         Step::Refreshes(0, &[0, 1]),
@@ -441,5 +436,5 @@ fn a_refresh_keeps_the_order_and_drops_the_blocked(rt: HostRuntime) {
         Step::Removes(0),
         Step::Lists(&[]),
     ];
-    each_holds(&rt, rt.alloc(), &STEPS);
+    none_is_wrong(&rt, first_wrong_of(rt.alloc(), &STEPS));
 }

@@ -13,6 +13,7 @@ mod troubles;
 mod waiting;
 mod walking;
 
+use crate::rows::Row;
 use pc_calls::{AgentCall, EnvCall, Event, LimitField, Posted, Profile, Refusal, Reply, Status};
 use pc_messages::{Cpu, Level, Mask, Phase, Reported, Tid};
 use pc_script::{
@@ -21,7 +22,6 @@ use pc_script::{
 };
 use std::alloc::{AllocError, Global};
 use std::io::{Read, Write};
-use std::process::Abort;
 
 /// Gives as many responses as it took commands: `ok` to `enclave`, and to the others what their arguments make.
 #[derive(Drop)]
@@ -191,18 +191,24 @@ impl Machine for Echo {
     ghost is_run_after = { λ _ _ _ _ h. h };
 }
 
+/// What is told of a blocked thread that ran five ticks.
+fn blocked() -> Option<Reported> {
+    let mask = Mask::new(3, 2).ok()?;
+    Some(Reported {
+        phase: Phase::Blocked,
+        mask,
+        ran: 5,
+        level: Level::LOWEST,
+    })
+}
+
 /// Two threads, the second without its first message.
 fn shown(alloc: Global) -> Result<ShownThreads, AllocError> {
     let mut threads = ShownThreads::new(alloc);
     threads.push(ShownThread {
         thread: Tid(0),
         upto: 2,
-        reported: Mask::new(3, 2).ok().map(|mask| Reported {
-            phase: Phase::Blocked,
-            mask,
-            ran: 5,
-            level: Level::LOWEST,
-        }),
+        reported: blocked(),
         early: EarlyNumbers::new(alloc),
     })?;
     let mut early = EarlyNumbers::new(alloc);
@@ -241,19 +247,10 @@ fn ends_so(
     runs(alloc, &mut reader, &mut writer) == wanted && writer.as_slice() == output
 }
 
-/// The place of the first script that writes something else or ends otherwise.
-fn first_wrong(alloc: Global, rows: &[Ended]) -> Option<usize> {
-    for (place, (script, output, wanted)) in rows.iter().enumerate() {
-        if !ends_so(alloc, script, output, *wanted) {
-            return Some(place);
-        }
+impl Row for Ended {
+    fn holds(&self, alloc: Global) -> bool {
+        ends_so(alloc, self.0, self.1, self.2)
     }
-    None
-}
-
-/// Asserts of each script what is written of it and how it ends.
-fn each_ends(rt: &impl Abort, alloc: Global, rows: &[Ended]) {
-    assert_eq!(rt; first_wrong(alloc, rows), None);
 }
 
 /// The script was read to its end.
@@ -262,17 +259,11 @@ const FINISHED: Result<Outcome, ScriptFault> = Ok(Outcome::Finished);
 /// What is written where the first line is a fault.
 const FAULT: &[u8] = b"fault line 1\n";
 
-/// The place of the first line that is no fault.
-fn first_without_fault(alloc: Global, lines: &[&[u8]]) -> Option<usize> {
-    for (place, line) in lines.iter().enumerate() {
-        if !ends_so(alloc, line, FAULT, Ok(Outcome::FaultLine(1))) {
-            return Some(place);
-        }
-    }
-    None
-}
+/// A line that is a fault.
+type Faulty = &'static [u8];
 
-/// Asserts that each line is a fault.
-fn each_is_fault(rt: &impl Abort, alloc: Global, lines: &[&[u8]]) {
-    assert_eq!(rt; first_without_fault(alloc, lines), None);
+impl Row for Faulty {
+    fn holds(&self, alloc: Global) -> bool {
+        ends_so(alloc, self, FAULT, Ok(Outcome::FaultLine(1)))
+    }
 }

@@ -2,12 +2,11 @@
 
 ghost use Rattle.std.specs.Prelude.{◌≡◌};
 
+use crate::rows::{Case as Row, Failed, Try, each_case, first_failed, none_is_wrong};
 use pc_join::{ByName, Join, OutOfMemory};
 use pc_messages::{Kind, Level, Mask, Message, Phase, Reported, Tid};
 use pc_thread_view::{FoldedPrefix, OneMessage, ThreadView};
 use std::alloc::Global;
-use std::process::Abort;
-use std::test::Fail;
 
 /// What a message says.
 #[derive(Clone, Copy)]
@@ -26,12 +25,12 @@ enum Says {
 /// A message by its number.
 type Told = (u32, Says);
 
-fn created(ready: bool) -> Result<Kind, Fail> {
+fn created(ready: bool) -> Result<Kind, Failed> {
     let mask = Mask::new(3, 2)?;
     Ok(Kind::Created { mask, ready })
 }
 
-fn kind_of(says: Says) -> Result<Kind, Fail> {
+fn kind_of(says: Says) -> Result<Kind, Failed> {
     match says {
         Says::Blocked => created(false),
         Says::Ready => created(true),
@@ -42,7 +41,7 @@ fn kind_of(says: Says) -> Result<Kind, Fail> {
     }
 }
 
-fn message_of(thread: u32, told: Told) -> Result<Message, Fail> {
+fn message_of(thread: u32, told: Told) -> Result<Message, Failed> {
     let (number, says) = told;
     Ok(Message {
         thread: Tid(thread),
@@ -52,7 +51,7 @@ fn message_of(thread: u32, told: Told) -> Result<Message, Fail> {
 }
 
 // The view that took in one message.
-fn first_of(alloc: Global, told: Told) -> Result<ThreadView, Fail> {
+fn first_of(alloc: Global, told: Told) -> Result<ThreadView, Failed> {
     let message = message_of(0, told)?;
     if message.is_well_formed() {
         Ok(ThreadView::of(alloc, message.number, message.kind))
@@ -62,7 +61,7 @@ fn first_of(alloc: Global, told: Told) -> Result<ThreadView, Fail> {
 }
 
 /// Takes in a message, as a step that always holds where it can be done.
-fn puts(view: &mut ThreadView, told: Told) -> Result<bool, Fail> {
+fn puts(view: &mut ThreadView, told: Told) -> Result<bool, Failed> {
     let message = message_of(0, told)?;
     if !message.is_well_formed() {
         return Err("not well formed".into());
@@ -81,13 +80,13 @@ const fn arrival(number: u32) -> Told {
 }
 
 // The view that took in this message, and then that one.
-fn pair(alloc: Global, first: Told, then: Told) -> Result<ThreadView, Fail> {
+fn pair(alloc: Global, first: Told, then: Told) -> Result<ThreadView, Failed> {
     let mut view = first_of(alloc, first)?;
     puts(&mut view, then)?;
     Ok(view)
 }
 
-fn put_all(view: &mut ThreadView, numbers: &[u32]) -> Result<(), Fail> {
+fn put_all(view: &mut ThreadView, numbers: &[u32]) -> Result<(), Failed> {
     for number in numbers {
         puts(view, arrival(*number))?;
     }
@@ -95,7 +94,7 @@ fn put_all(view: &mut ThreadView, numbers: &[u32]) -> Result<(), Fail> {
 }
 
 // The view that took in the message of this number, and then these.
-fn arrived(alloc: Global, first: u32, numbers: &[u32]) -> Result<ThreadView, Fail> {
+fn arrived(alloc: Global, first: u32, numbers: &[u32]) -> Result<ThreadView, Failed> {
     let mut view = first_of(alloc, arrival(first))?;
     put_all(&mut view, numbers)?;
     Ok(view)
@@ -107,7 +106,7 @@ fn arrived_within(
     numbers: &[u32],
     from: usize,
     to: usize,
-) -> Result<ThreadView, Fail> {
+) -> Result<ThreadView, Failed> {
     match numbers.get(from..to) {
         Some(within) => arrived(alloc, first, within),
         None => Err("no such places".into()),
@@ -127,13 +126,13 @@ const fn state(mask: Mask) -> Reported
 }
 
 /// The four messages as a prefix with its state.
-fn four(alloc: Global) -> Result<ThreadView, Fail> {
+fn four(alloc: Global) -> Result<ThreadView, Failed> {
     let mask = Mask::new(3, 2)?;
     Ok(ThreadView::folded(alloc, 4, state(mask)))
 }
 
 /// The first nine messages that arrive as a prefix with its state.
-fn nine(alloc: Global) -> Result<ThreadView, Fail> {
+fn nine(alloc: Global) -> Result<ThreadView, Failed> {
     let reported = Reported {
         phase: Phase::Ready,
         mask: Mask::new(3, 2)?,
@@ -148,7 +147,7 @@ const FAR_APART: u32 = 400;
 
 /// A view of the messages from 2 on, each of which tells as many ticks as its number. Of two that arrive one after
 /// another the numbers are 149 apart, so that most stand among the others, with hundreds before and behind.
-fn scattered(alloc: Global) -> Result<ThreadView, Fail> {
+fn scattered(alloc: Global) -> Result<ThreadView, Failed> {
     let mut view = ThreadView::of(alloc, 2, Kind::Preempted { ran: 2 });
     for turn in 1..FAR_APART {
         let number = 2 + turn * 149 % FAR_APART;
@@ -179,7 +178,7 @@ const ODD: Part = Part::Pair((1, Says::Blocked), (3, Says::Blocks(2)));
 /// The second and the fourth.
 const EVEN: Part = Part::Pair((2, Says::Wakes), (4, Says::Wakes));
 
-fn part_of(alloc: Global, part: Part) -> Result<ThreadView, Fail> {
+fn part_of(alloc: Global, part: Part) -> Result<ThreadView, Failed> {
     match part {
         Part::Pair(first, then) => pair(alloc, first, then),
         Part::Arrived(first, numbers) => arrived(alloc, first, numbers),
@@ -196,13 +195,13 @@ fn join_both<V: Join>(first: &V, other: &V) -> Result<V, OutOfMemory> {
     Ok(joined)
 }
 
-fn joined_with(alloc: Global, view: &ThreadView, part: Part) -> Result<ThreadView, Fail> {
+fn joined_with(alloc: Global, view: &ThreadView, part: Part) -> Result<ThreadView, Failed> {
     let other = part_of(alloc, part)?;
     Ok(join_both(view, &other)?)
 }
 
 /// The join of a view of the first messages and one of the others.
-fn joined(alloc: Global, first: Part, others: Part) -> Result<ThreadView, Fail> {
+fn joined(alloc: Global, first: Part, others: Part) -> Result<ThreadView, Failed> {
     let view = part_of(alloc, first)?;
     joined_with(alloc, &view, others)
 }
@@ -214,7 +213,7 @@ enum Start {
     Joined(Part, Part),
 }
 
-fn start_of(alloc: Global, start: Start) -> Result<ThreadView, Fail> {
+fn start_of(alloc: Global, start: Start) -> Result<ThreadView, Failed> {
     match start {
         Start::Of(part) => part_of(alloc, part),
         Start::Joined(first, others) => joined(alloc, first, others),
@@ -240,7 +239,7 @@ fn first_early(view: &ThreadView) -> Option<(u32, Kind)> {
     view.early().first().copied()
 }
 
-fn begins_with(view: &ThreadView, told: Told) -> Result<bool, Fail> {
+fn begins_with(view: &ThreadView, told: Told) -> Result<bool, Failed> {
     let (number, says) = told;
     let kind = kind_of(says)?;
     Ok(first_early(view) == Some((number, kind)))
@@ -320,11 +319,11 @@ enum Step {
     Ascends,
 }
 
-fn is_view(view: &ThreadView, other: Result<ThreadView, Fail>) -> Result<bool, Fail> {
+fn is_view(view: &ThreadView, other: Result<ThreadView, Failed>) -> Result<bool, Failed> {
     Ok(is_same(view, &other?))
 }
 
-fn copied(view: &ThreadView) -> Result<ThreadView, Fail> {
+fn copied(view: &ThreadView) -> Result<ThreadView, Failed> {
     Ok(view.try_copy()?)
 }
 
@@ -337,7 +336,7 @@ fn is_beside(
     view: &ThreadView,
     part: Part,
     wanted: (bool, bool, bool),
-) -> Result<bool, Fail> {
+) -> Result<bool, Failed> {
     let part = part_of(alloc, part)?;
     Ok(beside(view, &part) == wanted)
 }
@@ -369,7 +368,7 @@ fn reads(view: &ThreadView, step: &Step) -> bool {
     }
 }
 
-fn tells_of(alloc: Global, view: &ThreadView, step: &Step) -> Result<bool, Fail> {
+fn tells_of(alloc: Global, view: &ThreadView, step: &Step) -> Result<bool, Failed> {
     match *step {
         Step::Begins(number, says) => begins_with(view, (number, says)),
         Step::Copied => is_view(view, copied(view)),
@@ -383,7 +382,7 @@ fn tells_of(alloc: Global, view: &ThreadView, step: &Step) -> Result<bool, Fail>
 
 /// Closes a gap of a view with a far message: the number after it, and then the one that is lacking. Whether the view
 /// tells nothing else.
-fn closes(view: &mut ThreadView, before: u32, lacking: u32, after: u32) -> Result<bool, Fail> {
+fn closes(view: &mut ThreadView, before: u32, lacking: u32, after: u32) -> Result<bool, Failed> {
     puts(view, (after, Says::Preempts(1)))?;
     let waits = tells(view, before, &[after, 9_000]);
     puts(view, (lacking, Says::Preempts(1)))?;
@@ -392,7 +391,7 @@ fn closes(view: &mut ThreadView, before: u32, lacking: u32, after: u32) -> Resul
 
 /// Closes one gap after another of a view with a far message. The first pair of messages after which it tells
 /// anything else.
-fn first_open(view: &mut ThreadView) -> Result<Option<u32>, Fail> {
+fn first_open(view: &mut ThreadView) -> Result<Option<u32>, Failed> {
     for pair in 1..500u32 {
         if !closes(view, 2 * pair - 1, 2 * pair, 2 * pair + 1)? {
             return Ok(Some(pair));
@@ -401,56 +400,31 @@ fn first_open(view: &mut ThreadView) -> Result<Option<u32>, Fail> {
     Ok(None)
 }
 
-fn holds(alloc: Global, view: &mut ThreadView, step: &Step) -> Result<bool, Fail> {
-    match *step {
-        Step::Puts(number, says) => puts(view, (number, says)),
-        Step::Takes(number) => puts(view, arrival(number)),
-        Step::Closes => Ok(first_open(view)? == None),
-        _ => tells_of(alloc, view, step),
-    }
-}
-
-/// The place of the first step that does not hold of the view, after the steps before it.
-fn first_wrong_step(
-    alloc: Global,
-    view: &mut ThreadView,
-    steps: &[Step],
-) -> Result<Option<usize>, Fail> {
-    for (place, step) in steps.iter().enumerate() {
-        if !holds(alloc, view, step)? {
-            return Ok(Some(place));
+impl Try<ThreadView, Failed> for Step {
+    fn tries(&self, alloc: Global, view: &mut ThreadView) -> Result<bool, Failed> {
+        match *self {
+            Step::Puts(number, says) => puts(view, (number, says)),
+            Step::Takes(number) => puts(view, arrival(number)),
+            Step::Closes => Ok(first_open(view)? == None),
+            _ => tells_of(alloc, view, self),
         }
     }
-    Ok(None)
 }
 
 /// A view, and steps of it.
 type Case = (Start, &'static [Step]);
 
-fn first_wrong_of(alloc: Global, case: &Case) -> Result<Option<usize>, Fail> {
-    let (start, steps) = *case;
-    let mut view = start_of(alloc, start)?;
-    first_wrong_step(alloc, &mut view, steps)
-}
-
-/// The places of the first case with a wrong step, and of that step.
-fn first_wrong(alloc: Global, cases: &[Case]) -> Result<Option<(usize, usize)>, Fail> {
-    for (place, case) in cases.iter().enumerate() {
-        if let Some(step) = first_wrong_of(alloc, case)? {
-            return Ok(Some((place, step)));
+impl Row for Case {
+    fn first_wrong(&self, alloc: Global) -> Option<usize> {
+        match start_of(alloc, self.0) {
+            Ok(mut view) => first_failed(alloc, &mut view, self.1),
+            Err(_) => Some(0),
         }
     }
-    Ok(None)
-}
-
-/// Asserts each step of each view, after the steps before it.
-fn each_holds(rt: &impl Abort, alloc: Global, cases: &[Case]) -> Result<(), Fail> {
-    assert_eq!(rt; first_wrong(alloc, cases)?, None);
-    Ok(())
 }
 
 #[test]
-fn messages_past_a_gap_are_early(rt: HostRuntime) -> Result<(), Fail> {
+fn messages_past_a_gap_are_early(rt: HostRuntime) {
     const CASES: &[Case] = &[
         (
             Start::Of(ODD),
@@ -475,12 +449,12 @@ fn messages_past_a_gap_are_early(rt: HostRuntime) -> Result<(), Fail> {
             ],
         ),
     ];
-    each_holds(&rt, rt.alloc(), CASES)
+    each_case(&rt, rt.alloc(), CASES);
 }
 
 // A known number changes nothing, and a far one is early.
 #[test]
-fn a_join_closes_the_gaps_and_covers_its_parts(rt: HostRuntime) -> Result<(), Fail> {
+fn a_join_closes_the_gaps_and_covers_its_parts(rt: HostRuntime) {
     const CASES: &[Case] = &[(
         Start::Joined(ODD, EVEN),
         &[
@@ -497,7 +471,7 @@ fn a_join_closes_the_gaps_and_covers_its_parts(rt: HostRuntime) -> Result<(), Fa
             Step::Copied,
         ],
     )];
-    each_holds(&rt, rt.alloc(), CASES)
+    each_case(&rt, rt.alloc(), CASES);
 }
 
 const ASCENDING: [u32; 12] = [1, 2, 3, 4, 5, 6, 7, 8, 9, 10, 11, 12];
@@ -533,7 +507,7 @@ const TEN_TO_50: [u32; 41] = [
 // Each batch comes before those that are held, and the numbers of it stand close behind the first; what is held
 // already, near the front or not, changes nothing.
 #[test]
-fn late_batches_stand_in_ascending_order(rt: HostRuntime) -> Result<(), Fail> {
+fn late_batches_stand_in_ascending_order(rt: HostRuntime) {
     const CASES: &[Case] = &[
         (
             Start::Of(Part::Within(50, &LATE_BATCHES, 0, 40)),
@@ -560,14 +534,14 @@ fn late_batches_stand_in_ascending_order(rt: HostRuntime) -> Result<(), Fail> {
             &[Step::As(Start::Of(Part::Arrived(50, &LATE_BATCHES)))],
         ),
     ];
-    each_holds(&rt, rt.alloc(), CASES)
+    each_case(&rt, rt.alloc(), CASES);
 }
 
 /// All thirteen but the first.
 const PAST_THE_FIRST: [u32; 12] = [2, 3, 4, 5, 6, 7, 8, 9, 10, 11, 12, 13];
 
 #[test]
-fn messages_in_any_order_are_folded(rt: HostRuntime) -> Result<(), Fail> {
+fn messages_in_any_order_are_folded(rt: HostRuntime) {
     const WHOLE: &[Step] = &[Step::Whole];
     const CASES: &[Case] = &[
         (
@@ -591,11 +565,11 @@ fn messages_in_any_order_are_folded(rt: HostRuntime) -> Result<(), Fail> {
             WHOLE,
         ),
     ];
-    each_holds(&rt, rt.alloc(), CASES)
+    each_case(&rt, rt.alloc(), CASES);
 }
 
 #[test]
-fn early_messages_ascend_whatever_their_order(rt: HostRuntime) -> Result<(), Fail> {
+fn early_messages_ascend_whatever_their_order(rt: HostRuntime) {
     const ASCEND: &[Step] = &[Step::Tells(0, &PAST_THE_FIRST)];
     const CASES: &[Case] = &[
         (Start::Of(Part::Within(13, &DESCENDING, 0, 11)), ASCEND),
@@ -631,20 +605,20 @@ fn early_messages_ascend_whatever_their_order(rt: HostRuntime) -> Result<(), Fai
             ],
         ),
     ];
-    each_holds(&rt, rt.alloc(), CASES)
+    each_case(&rt, rt.alloc(), CASES);
 }
 
 #[test]
-fn a_far_message_waits_while_gaps_close(rt: HostRuntime) -> Result<(), Fail> {
+fn a_far_message_waits_while_gaps_close(rt: HostRuntime) {
     const CASES: &[Case] = &[(
         Start::Of(Part::Arrived(9_000, &[1])),
         &[Step::Closes, Step::Has(9_000, true)],
     )];
-    each_holds(&rt, rt.alloc(), CASES)
+    each_case(&rt, rt.alloc(), CASES);
 }
 
 #[test]
-fn scattered_messages_stand_in_ascending_order(rt: HostRuntime) -> Result<(), Fail> {
+fn scattered_messages_stand_in_ascending_order(rt: HostRuntime) {
     const CASES: &[Case] = &[(
         Start::Of(Part::Scattered),
         &[
@@ -662,7 +636,7 @@ fn scattered_messages_stand_in_ascending_order(rt: HostRuntime) -> Result<(), Fa
             Step::Tells(401, &[]),
         ],
     )];
-    each_holds(&rt, rt.alloc(), CASES)
+    each_case(&rt, rt.alloc(), CASES);
 }
 
 /// What is put under a thread's name as a piece, or told of the thread.
@@ -675,7 +649,7 @@ enum Put {
     Of(u32, Step),
 }
 
-fn puts_one(threads: &mut ByName<ThreadView>, thread: u32, told: Told) -> Result<bool, Fail> {
+fn puts_one(threads: &mut ByName<ThreadView>, thread: u32, told: Told) -> Result<bool, Failed> {
     let message = message_of(thread, told)?;
     if !message.is_well_formed() {
         return Err("not well formed".into());
@@ -688,7 +662,7 @@ fn puts_one(threads: &mut ByName<ThreadView>, thread: u32, told: Told) -> Result
     Ok(true)
 }
 
-fn puts_four(threads: &mut ByName<ThreadView>, thread: u32) -> Result<bool, Fail> {
+fn puts_four(threads: &mut ByName<ThreadView>, thread: u32) -> Result<bool, Failed> {
     let reported = state(Mask::new(3, 2)?);
     threads.put_piece(Tid(thread), FoldedPrefix { upto: 4, reported })?;
     Ok(true)
@@ -699,43 +673,32 @@ fn thread_tells(
     threads: &ByName<ThreadView>,
     thread: u32,
     step: &Step,
-) -> Result<bool, Fail> {
+) -> Result<bool, Failed> {
     match threads.get(Tid(thread)) {
         Some(view) => tells_of(alloc, view, step),
         None => Ok(false),
     }
 }
 
-fn put_holds(alloc: Global, threads: &mut ByName<ThreadView>, put: &Put) -> Result<bool, Fail> {
-    match put {
-        Put::One(thread, number, says) => puts_one(threads, *thread, (*number, *says)),
-        Put::Four(thread) => puts_four(threads, *thread),
-        Put::Of(thread, step) => thread_tells(alloc, threads, *thread, step),
+impl Try<ByName<ThreadView>, Failed> for Put {
+    fn tries(&self, alloc: Global, threads: &mut ByName<ThreadView>) -> Result<bool, Failed> {
+        match self {
+            Put::One(thread, number, says) => puts_one(threads, *thread, (*number, *says)),
+            Put::Four(thread) => puts_four(threads, *thread),
+            Put::Of(thread, step) => thread_tells(alloc, threads, *thread, step),
+        }
     }
 }
 
 /// The place of the first that does not hold, after those before it.
-fn first_wrong_of_puts(
-    alloc: Global,
-    threads: &mut ByName<ThreadView>,
-    puts: &[Put],
-) -> Result<Option<usize>, Fail> {
-    for (place, put) in puts.iter().enumerate() {
-        if !put_holds(alloc, threads, put)? {
-            return Ok(Some(place));
-        }
-    }
-    Ok(None)
-}
-
-fn first_wrong_put(alloc: Global, puts: &[Put]) -> Result<Option<usize>, Fail> {
+fn first_wrong_put(alloc: Global, puts: &[Put]) -> Option<usize> {
     let mut threads = ByName::new(alloc);
-    first_wrong_of_puts(alloc, &mut threads, puts)
+    first_failed(alloc, &mut threads, puts)
 }
 
 // A known message changes nothing, a prefix takes along what follows it, and one that is known changes nothing.
 #[test]
-fn pieces_are_joined_under_near_and_far_names(rt: HostRuntime) -> Result<(), Fail> {
+fn pieces_are_joined_under_near_and_far_names(rt: HostRuntime) {
     const PUTS: &[Put] = &[
         Put::One(2, 3, Says::Wakes),
         Put::One(2, 6, Says::Wakes),
@@ -762,6 +725,5 @@ fn pieces_are_joined_under_near_and_far_names(rt: HostRuntime) -> Result<(), Fai
         Put::One(70_000, 5, Says::Wakes),
         Put::Of(70_000, Step::Tells(5, &[])),
     ];
-    assert_eq!(rt; first_wrong_put(rt.alloc(), PUTS)?, None);
-    Ok(())
+    none_is_wrong(&rt, first_wrong_put(rt.alloc(), PUTS));
 }

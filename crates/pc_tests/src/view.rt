@@ -1,12 +1,11 @@
 //! Messages of two threads, in other orders and divisions, with ample memory.
 
+use crate::rows::{Case as Row, Failed, each_case};
 use pc_join::{Join, OutOfMemory};
 use pc_kernel::{CallFault, Kernel, Limits};
 use pc_messages::{Cpu, Kind, Level, Mask, Message, Phase, Reported, Tid};
 use pc_view::{Stranger, View, audit, complete};
 use std::alloc::Global;
-use std::process::Abort;
-use std::test::Fail;
 
 /// What a message says.
 #[derive(Clone, Copy)]
@@ -33,12 +32,12 @@ const ODD: [Told; 2] = [(0, 1, Says::Blocked), (0, 3, Says::Blocks)];
 /// The second and the fourth of t0, and the first of t1.
 const EVEN: [Told; 3] = [(0, 2, Says::Wakes), (0, 4, Says::Wakes), (1, 1, Says::Same)];
 
-fn created(bits: u64, ready: bool) -> Result<Kind, Fail> {
+fn created(bits: u64, ready: bool) -> Result<Kind, Failed> {
     let mask = Mask::new(bits, 2)?;
     Ok(Kind::Created { mask, ready })
 }
 
-fn kind_of(says: Says) -> Result<Kind, Fail> {
+fn kind_of(says: Says) -> Result<Kind, Failed> {
     match says {
         Says::Blocked => created(3, false),
         Says::Same => created(3, true),
@@ -49,7 +48,7 @@ fn kind_of(says: Says) -> Result<Kind, Fail> {
     }
 }
 
-fn puts(view: &mut View, thread: u32, number: u32, kind: Kind) -> Result<(), Fail> {
+fn puts(view: &mut View, thread: u32, number: u32, kind: Kind) -> Result<(), Failed> {
     let message = Message {
         thread: Tid(thread),
         number,
@@ -62,7 +61,7 @@ fn puts(view: &mut View, thread: u32, number: u32, kind: Kind) -> Result<(), Fai
     Ok(())
 }
 
-fn puts_all(view: &mut View, messages: &[Told]) -> Result<(), Fail> {
+fn puts_all(view: &mut View, messages: &[Told]) -> Result<(), Failed> {
     for (thread, number, says) in messages {
         puts(view, *thread, *number, kind_of(*says)?)?;
     }
@@ -70,25 +69,25 @@ fn puts_all(view: &mut View, messages: &[Told]) -> Result<(), Fail> {
 }
 
 /// A view that took in these messages.
-fn view_of(alloc: Global, messages: &[Told]) -> Result<View, Fail> {
+fn view_of(alloc: Global, messages: &[Told]) -> Result<View, Failed> {
     let mut view = View::new(alloc);
     puts_all(&mut view, messages)?;
     Ok(view)
 }
 
-fn merges_view(view: &mut View, other: &View) -> Result<(), Fail> {
+fn merges_view(view: &mut View, other: &View) -> Result<(), Failed> {
     view.merge(other)?;
     Ok(())
 }
 
 /// Merges a view of these messages into the view.
-fn merges(alloc: Global, view: &mut View, messages: &[Told]) -> Result<(), Fail> {
+fn merges(alloc: Global, view: &mut View, messages: &[Told]) -> Result<(), Failed> {
     let other = view_of(alloc, messages)?;
     merges_view(view, &other)
 }
 
 /// A view that merged a view of each of the messages.
-fn view_of_each(alloc: Global, messages: &[Told]) -> Result<View, Fail> {
+fn view_of_each(alloc: Global, messages: &[Told]) -> Result<View, Failed> {
     let mut view = View::new(alloc);
     for told in messages {
         merges(alloc, &mut view, &[*told])?;
@@ -97,7 +96,7 @@ fn view_of_each(alloc: Global, messages: &[Told]) -> Result<View, Fail> {
 }
 
 /// A view of the first messages, into which one of the others was merged.
-fn merged(alloc: Global, first: &[Told], others: &[Told]) -> Result<View, Fail> {
+fn merged(alloc: Global, first: &[Told], others: &[Told]) -> Result<View, Failed> {
     let mut view = view_of(alloc, first)?;
     merges(alloc, &mut view, others)?;
     Ok(view)
@@ -109,23 +108,23 @@ fn join_both<V: Join>(first: &V, other: &V) -> Result<V, OutOfMemory> {
     Ok(joined)
 }
 
-fn joined_views(first: &View, other: &View) -> Result<View, Fail> {
+fn joined_views(first: &View, other: &View) -> Result<View, Failed> {
     Ok(join_both(first, other)?)
 }
 
-fn joined_with(alloc: Global, view: &View, messages: &[Told]) -> Result<View, Fail> {
+fn joined_with(alloc: Global, view: &View, messages: &[Told]) -> Result<View, Failed> {
     let other = view_of(alloc, messages)?;
     joined_views(view, &other)
 }
 
 /// A view of the first messages, joined with one of the others.
-fn joined(alloc: Global, first: &[Told], others: &[Told]) -> Result<View, Fail> {
+fn joined(alloc: Global, first: &[Told], others: &[Told]) -> Result<View, Failed> {
     let view = view_of(alloc, first)?;
     joined_with(alloc, &view, others)
 }
 
 /// Takes in t0's first four messages as a prefix with its state.
-fn folds(view: &mut View) -> Result<(), Fail> {
+fn folds(view: &mut View) -> Result<(), Failed> {
     let mask = Mask::new(3, 2)?;
     let reported = Reported {
         phase: Phase::Ready,
@@ -138,7 +137,7 @@ fn folds(view: &mut View) -> Result<(), Fail> {
 }
 
 /// A view that has t0's first four messages as a prefix with its state, and these messages.
-fn folded(alloc: Global, messages: &[Told]) -> Result<View, Fail> {
+fn folded(alloc: Global, messages: &[Told]) -> Result<View, Failed> {
     let mut view = View::new(alloc);
     folds(&mut view)?;
     puts_all(&mut view, messages)?;
@@ -160,7 +159,7 @@ enum Start {
     Folded(&'static [Told]),
 }
 
-fn start_of(alloc: Global, start: Start) -> Result<View, Fail> {
+fn start_of(alloc: Global, start: Start) -> Result<View, Failed> {
     match start {
         Start::Of(messages) => view_of(alloc, messages),
         Start::Each(messages) => view_of_each(alloc, messages),
@@ -251,7 +250,7 @@ fn is_walked(view: &View, threads: &[(u32, u32)]) -> bool {
 }
 
 // A kernel of two CPUs whose only message is the Created of t0, ready, with a mask of both.
-fn kernel_of_one(alloc: Global) -> Result<Kernel, Fail> {
+fn kernel_of_one(alloc: Global) -> Result<Kernel, Failed> {
     let limits = Limits {
         cpus: 2,
         threads: 8,
@@ -289,7 +288,7 @@ fn adds_a_thread(kernel: &mut Kernel) -> bool {
 }
 
 /// A kernel with t0, ready, and t1, which was created blocked and woken.
-fn kernel_of_three(alloc: Global) -> Result<Kernel, Fail> {
+fn kernel_of_three(alloc: Global) -> Result<Kernel, Failed> {
     let mut kernel = kernel_of_one(alloc)?;
     if adds_a_thread(&mut kernel) {
         Ok(kernel)
@@ -325,7 +324,7 @@ fn answers(view: &View, kernel: &Kernel, asks: Asks) -> bool {
     }
 }
 
-fn kernel_answers(view: &View, kernel: Result<Kernel, Fail>, asks: Asks) -> Result<bool, Fail> {
+fn kernel_answers(view: &View, kernel: Result<Kernel, Failed>, asks: Asks) -> Result<bool, Failed> {
     Ok(answers(view, &kernel?, asks))
 }
 
@@ -357,11 +356,11 @@ enum Step {
     Three(Asks),
 }
 
-fn is_view(view: &View, other: Result<View, Fail>) -> Result<bool, Fail> {
+fn is_view(view: &View, other: Result<View, Failed>) -> Result<bool, Failed> {
     Ok(is_same(view, &other?))
 }
 
-fn copied(view: &View) -> Result<View, Fail> {
+fn copied(view: &View) -> Result<View, Failed> {
     Ok(view.try_copy()?)
 }
 
@@ -370,13 +369,13 @@ fn beside(view: &View, part: &View) -> (bool, bool, bool) {
     (is_same(view, part), covers(view, part), covers(part, view))
 }
 
-fn beside_odd(alloc: Global, view: &View) -> Result<(bool, bool, bool), Fail> {
+fn beside_odd(alloc: Global, view: &View) -> Result<(bool, bool, bool), Failed> {
     let part = view_of(alloc, &ODD)?;
     Ok(beside(view, &part))
 }
 
 /// Whether that holds of the view and of another, or of a kernel.
-fn compares(alloc: Global, view: &View, step: &Step) -> Result<bool, Fail> {
+fn compares(alloc: Global, view: &View, step: &Step) -> Result<bool, Failed> {
     match *step {
         Step::As(start, wanted) => Ok(is_view(view, start_of(alloc, start))? == wanted),
         Step::Copied => is_view(view, copied(view)),
@@ -401,47 +400,36 @@ fn tells(view: &View, step: &Step) -> bool {
     }
 }
 
-fn holds(alloc: Global, view: &View, step: &Step) -> Result<bool, Fail> {
+fn holds(alloc: Global, view: &View, step: &Step) -> Result<bool, Failed> {
     Ok(tells(view, step) || compares(alloc, view, step)?)
 }
 
 /// The place of the first step that does not hold of the view.
-fn first_wrong_step(alloc: Global, view: &View, steps: &[Step]) -> Result<Option<usize>, Fail> {
+fn first_wrong_step(alloc: Global, view: &View, steps: &[Step]) -> Option<usize> {
     for (place, step) in steps.iter().enumerate() {
-        if !holds(alloc, view, step)? {
-            return Ok(Some(place));
+        match holds(alloc, view, step) {
+            Ok(true) => {}
+            Ok(false) | Err(_) => return Some(place),
         }
     }
-    Ok(None)
+    None
 }
 
 /// A view, and what it tells.
 type Case = (Start, &'static [Step]);
 
-fn first_wrong_of(alloc: Global, case: &Case) -> Result<Option<usize>, Fail> {
-    let (start, steps) = *case;
-    let view = start_of(alloc, start)?;
-    first_wrong_step(alloc, &view, steps)
-}
-
-/// The places of the first case with a wrong step, and of that step.
-fn first_wrong(alloc: Global, cases: &[Case]) -> Result<Option<(usize, usize)>, Fail> {
-    for (place, case) in cases.iter().enumerate() {
-        if let Some(step) = first_wrong_of(alloc, case)? {
-            return Ok(Some((place, step)));
+impl Row for Case {
+    fn first_wrong(&self, alloc: Global) -> Option<usize> {
+        match start_of(alloc, self.0) {
+            Ok(view) => first_wrong_step(alloc, &view, self.1),
+            Err(_) => Some(0),
         }
     }
-    Ok(None)
-}
-
-fn each_holds(rt: &impl Abort, alloc: Global, cases: &[Case]) -> Result<(), Fail> {
-    assert_eq!(rt; first_wrong(alloc, cases)?, None);
-    Ok(())
 }
 
 // What was merged is covered, and a folded prefix is as its messages.
 #[test]
-fn merges_and_joins_do_not_depend_on_the_order(rt: HostRuntime) -> Result<(), Fail> {
+fn merges_and_joins_do_not_depend_on_the_order(rt: HostRuntime) {
     const CASES: &[Case] = &[
         (
             Start::Merged(&ODD, &EVEN),
@@ -467,11 +455,11 @@ fn merges_and_joins_do_not_depend_on_the_order(rt: HostRuntime) -> Result<(), Fa
             &[Step::As(Start::Merged(&ODD, &EVEN), true)],
         ),
     ];
-    each_holds(&rt, rt.alloc(), CASES)
+    each_case(&rt, rt.alloc(), CASES);
 }
 
 #[test]
-fn what_is_known_without_a_gap(rt: HostRuntime) -> Result<(), Fail> {
+fn what_is_known_without_a_gap(rt: HostRuntime) {
     const CASES: &[Case] = &[
         (Start::Of(&ODD), &[Step::Knows(1, 1, false)]),
         // The first of t0 and the third; of t1 nothing; of t2 the third alone.
@@ -485,25 +473,25 @@ fn what_is_known_without_a_gap(rt: HostRuntime) -> Result<(), Fail> {
         ),
         (Start::Of(&[]), &[Step::Nothing(true)]),
     ];
-    each_holds(&rt, rt.alloc(), CASES)
+    each_case(&rt, rt.alloc(), CASES);
 }
 
 /// The first message of t2 and of t0.
 const TWO_THREADS: [Told; 2] = [(2, 1, Says::Blocked), (0, 1, Says::Blocked)];
 
 #[test]
-fn threads_of_near_names_are_walked_before_the_others(rt: HostRuntime) -> Result<(), Fail> {
+fn threads_of_near_names_are_walked_before_the_others(rt: HostRuntime) {
     const CASES: &[Case] = &[(
         Start::Joined(&TWO_THREADS, &[(70_000, 1, Says::Blocked)]),
         &[Step::Near(&[0, 2]), Step::Far(&[70_000])],
     )];
-    each_holds(&rt, rt.alloc(), CASES)
+    each_case(&rt, rt.alloc(), CASES);
 }
 
 #[test]
-fn threads_are_walked_in_order(rt: HostRuntime) -> Result<(), Fail> {
+fn threads_are_walked_in_order(rt: HostRuntime) {
     const CASES: &[Case] = &[(Start::Of(&TWO_THREADS), &[Step::Walked(&[(0, 1), (2, 1)])])];
-    each_holds(&rt, rt.alloc(), CASES)
+    each_case(&rt, rt.alloc(), CASES);
 }
 
 /// Views beside kernels, and what is the first stranger.
@@ -563,13 +551,13 @@ const STRANGERS: &[Case] = &[
 // early messages; of a thread that the kernel does not know the first number that is told is strange. In the kernel of
 // three messages the second of t1 is a Wakeup.
 #[test]
-fn strangers_to_a_kernel(rt: HostRuntime) -> Result<(), Fail> {
-    each_holds(&rt, rt.alloc(), STRANGERS)
+fn strangers_to_a_kernel(rt: HostRuntime) {
+    each_case(&rt, rt.alloc(), STRANGERS);
 }
 
 // A view that is not of the kernel's run may know more than the kernel has.
 #[test]
-fn a_view_is_complete_where_it_has_the_last_message(rt: HostRuntime) -> Result<(), Fail> {
+fn a_view_is_complete_where_it_has_the_last_message(rt: HostRuntime) {
     const CASES: &[Case] = &[
         (
             Start::Each(&[(0, 1, Says::Same)]),
@@ -589,5 +577,5 @@ fn a_view_is_complete_where_it_has_the_last_message(rt: HostRuntime) -> Result<(
             &[Step::Three(Asks::Complete(1, false))],
         ),
     ];
-    each_holds(&rt, rt.alloc(), CASES)
+    each_case(&rt, rt.alloc(), CASES);
 }

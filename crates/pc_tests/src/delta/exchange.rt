@@ -6,10 +6,9 @@ use super::{
     Delta, Digest, Global, Kind, OutOfMemory, Part, Shape, View, delta, delta_beyond, delta_since,
     one, part, take_all, take_in,
 };
+use crate::rows::{Case as Row, Failed, each_case, is_so};
 use pc_join::Join;
 use pc_messages::{Cpu, Item, Message, Phase, Tid};
-use std::process::Abort;
-use std::test::Fail;
 
 fn joined<V: Join>(first: &V, other: &V) -> Result<V, OutOfMemory> {
     let mut both = first.try_copy()?;
@@ -20,12 +19,12 @@ fn joined<V: Join>(first: &V, other: &V) -> Result<V, OutOfMemory> {
 /// A wakeup, then the created thread as a folded part, then the wakeup again.
 const THREE: [Shape; 3] = [Shape::Wakeup(2), Shape::Folded(1, 0), Shape::Wakeup(2)];
 
-fn adds_delta(alloc: Global, deltas: &mut Vec<Delta>, shape: &Shape) -> Result<(), Fail> {
+fn adds_delta(alloc: Global, deltas: &mut Vec<Delta>, shape: &Shape) -> Result<(), Failed> {
     deltas.push(delta(alloc, &[*shape])?)?;
     Ok(())
 }
 
-fn three_deltas(alloc: Global) -> Result<Vec<Delta>, Fail> {
+fn three_deltas(alloc: Global) -> Result<Vec<Delta>, Failed> {
     let mut deltas = Vec::new(alloc);
     for shape in &THREE {
         adds_delta(alloc, &mut deltas, shape)?;
@@ -33,13 +32,13 @@ fn three_deltas(alloc: Global) -> Result<Vec<Delta>, Fail> {
     Ok(deltas)
 }
 
-fn takes_three(alloc: Global, view: &mut View) -> Result<(), Fail> {
+fn takes_three(alloc: Global, view: &mut View) -> Result<(), Failed> {
     let deltas = three_deltas(alloc)?;
     take_all(view, &deltas)?;
     Ok(())
 }
 
-fn view_of_three(alloc: Global) -> Result<View, Fail> {
+fn view_of_three(alloc: Global) -> Result<View, Failed> {
     let mut view = View::new(alloc);
     takes_three(alloc, &mut view)?;
     Ok(view)
@@ -82,7 +81,7 @@ enum Step {
 }
 
 // Without contracts, as the functions below, so that a test's proof does not carry those of deltas.
-fn takes(alloc: Global, view: &mut View, shapes: &[Shape]) -> Result<bool, Fail> {
+fn takes(alloc: Global, view: &mut View, shapes: &[Shape]) -> Result<bool, Failed> {
     let told = delta(alloc, shapes)?;
     take_in(view, &told)?;
     Ok(true)
@@ -106,7 +105,7 @@ fn reports(view: &View) -> Option<(Phase, u64, u64)> {
 }
 
 /// Whether the delta has so many parts, and this one first, where one is asked for.
-fn tells(delta: &Delta, count: usize, first: Option<Shape>) -> Result<bool, Fail> {
+fn tells(delta: &Delta, count: usize, first: Option<Shape>) -> Result<bool, Failed> {
     let Some(shape) = first else {
         return Ok(delta.parts().len() == count);
     };
@@ -119,7 +118,7 @@ fn is_told(
     told: Result<Delta, OutOfMemory>,
     count: usize,
     first: Option<Shape>,
-) -> Result<bool, Fail> {
+) -> Result<bool, Failed> {
     tells(&told?, count, first)
 }
 
@@ -147,12 +146,12 @@ fn is_as_joined(first: &Digest, other: &Digest) -> Result<bool, OutOfMemory> {
     Ok(is_same_digest(first, other) && is_same_digest(&both, first))
 }
 
-fn digest_of_three(alloc: Global) -> Result<Digest, Fail> {
+fn digest_of_three(alloc: Global) -> Result<Digest, Failed> {
     let view = view_of_three(alloc)?;
     Ok(digest(alloc, &view)?)
 }
 
-fn is_of_three(alloc: Global, digest: &Digest) -> Result<bool, Fail> {
+fn is_of_three(alloc: Global, digest: &Digest) -> Result<bool, Failed> {
     let other = digest_of_three(alloc)?;
     Ok(is_as_joined(digest, &other)?)
 }
@@ -192,17 +191,17 @@ fn is_same_view(first: &View, other: &View) -> bool {
     first == other
 }
 
-fn is_three(alloc: Global, view: &View) -> Result<bool, Fail> {
+fn is_three(alloc: Global, view: &View) -> Result<bool, Failed> {
     let three = view_of_three(alloc)?;
     Ok(is_same_view(view, &three))
 }
 
-fn is_answer(alloc: Global, told: &Delta, view: &View, asker: &View) -> Result<bool, Fail> {
+fn is_answer(alloc: Global, told: &Delta, view: &View, asker: &View) -> Result<bool, Failed> {
     let other = answer(alloc, view, asker)?;
     Ok(have_same_parts(told, &other))
 }
 
-fn is_answered_alike(alloc: Global, view: &View, asker: &View) -> Result<bool, Fail> {
+fn is_answered_alike(alloc: Global, view: &View, asker: &View) -> Result<bool, Failed> {
     let beyond = answer_beyond(alloc, view, asker)?;
     is_answer(alloc, &beyond, view, asker)
 }
@@ -250,7 +249,7 @@ fn fills(alloc: Global, view: &View, asker: &View) -> Result<bool, OutOfMemory> 
 }
 
 /// Whether that is told of the digest.
-fn digest_tells(alloc: Global, digest: &Digest, step: &Step) -> Result<bool, Fail> {
+fn digest_tells(alloc: Global, digest: &Digest, step: &Step) -> Result<bool, Failed> {
     match *step {
         Step::Has(thread, number, wanted) => Ok(digest.has(Tid(thread), number) == wanted),
         Step::DigestEmpty(wanted) => Ok(digest.is_empty() == wanted),
@@ -263,13 +262,13 @@ fn digest_tells(alloc: Global, digest: &Digest, step: &Step) -> Result<bool, Fai
     }
 }
 
-fn own_digest_tells(alloc: Global, view: &View, step: &Step) -> Result<bool, Fail> {
+fn own_digest_tells(alloc: Global, view: &View, step: &Step) -> Result<bool, Failed> {
     let own = digest(alloc, view)?;
     digest_tells(alloc, &own, step)
 }
 
 /// Whether that is told of the view, and of its answers.
-fn answers(alloc: Global, view: &View, asker: &View, step: &Step) -> Result<bool, Fail> {
+fn answers(alloc: Global, view: &View, asker: &View, step: &Step) -> Result<bool, Failed> {
     match *step {
         Step::TellsAll(count, first) => is_told(all_told(alloc, view), count, first),
         Step::TellsItself(count) => is_told(answer(alloc, view, view), count, None),
@@ -283,7 +282,7 @@ fn answers(alloc: Global, view: &View, asker: &View, step: &Step) -> Result<bool
     }
 }
 
-fn holds(alloc: Global, view: &mut View, asker: &View, step: &Step) -> Result<bool, Fail> {
+fn holds(alloc: Global, view: &mut View, asker: &View, step: &Step) -> Result<bool, Failed> {
     match *step {
         Step::Takes(shapes) => takes(alloc, view, shapes),
         Step::Three => is_three(alloc, view),
@@ -301,7 +300,7 @@ enum Start {
     Three,
 }
 
-fn start_of(alloc: Global, start: Start) -> Result<View, Fail> {
+fn start_of(alloc: Global, start: Start) -> Result<View, Failed> {
     match start {
         Start::Nothing => Ok(View::new(alloc)),
         Start::Three => view_of_three(alloc),
@@ -309,54 +308,38 @@ fn start_of(alloc: Global, start: Start) -> Result<View, Fail> {
 }
 
 /// The place of the first step that does not hold of the view, and the one that asks, after the steps before it.
-fn first_wrong_step(
-    alloc: Global,
-    view: &mut View,
-    asker: &View,
-    steps: &[Step],
-) -> Result<Option<usize>, Fail> {
+fn first_wrong_step(alloc: Global, view: &mut View, asker: &View, steps: &[Step]) -> Option<usize> {
     for (place, step) in steps.iter().enumerate() {
-        if !holds(alloc, view, asker, step)? {
-            return Ok(Some(place));
+        match holds(alloc, view, asker, step) {
+            Ok(true) => {}
+            Ok(false) | Err(_) => return Some(place),
         }
     }
-    Ok(None)
+    None
 }
 
 /// A view, one that asks, and steps of them.
 type Case = (Start, Start, &'static [Step]);
 
-fn first_wrong_beside(alloc: Global, asker: &View, case: &Case) -> Result<Option<usize>, Fail> {
-    let (start, _, steps) = *case;
-    let mut view = start_of(alloc, start)?;
-    first_wrong_step(alloc, &mut view, asker, steps)
+fn first_wrong_beside(alloc: Global, asker: &View, case: &Case) -> Option<usize> {
+    match start_of(alloc, case.0) {
+        Ok(mut view) => first_wrong_step(alloc, &mut view, asker, case.2),
+        Err(_) => Some(0),
+    }
 }
 
-fn first_wrong_of(alloc: Global, case: &Case) -> Result<Option<usize>, Fail> {
-    let asker = start_of(alloc, case.1)?;
-    first_wrong_beside(alloc, &asker, case)
-}
-
-/// The places of the first case with a wrong step, and of that step.
-fn first_wrong(alloc: Global, cases: &[Case]) -> Result<Option<(usize, usize)>, Fail> {
-    for (place, case) in cases.iter().enumerate() {
-        if let Some(step) = first_wrong_of(alloc, case)? {
-            return Ok(Some((place, step)));
+impl Row for Case {
+    fn first_wrong(&self, alloc: Global) -> Option<usize> {
+        match start_of(alloc, self.1) {
+            Ok(asker) => first_wrong_beside(alloc, &asker, self),
+            Err(_) => Some(0),
         }
     }
-    Ok(None)
-}
-
-fn each_holds(rt: &impl Abort, alloc: Global, cases: &[Case]) -> Result<(), Fail> {
-    assert_eq!(rt; first_wrong(alloc, cases)?, None);
-    Ok(())
 }
 
 // A delta that contradicts the view is safe.
 #[test]
-fn deltas_are_taken_in_and_an_answer_to_an_empty_digest_tells_all(
-    rt: HostRuntime,
-) -> Result<(), Fail> {
+fn deltas_are_taken_in_and_an_answer_to_an_empty_digest_tells_all(rt: HostRuntime) {
     const CASES: &[Case] = &[
         (
             Start::Three,
@@ -382,12 +365,12 @@ fn deltas_are_taken_in_and_an_answer_to_an_empty_digest_tells_all(
             ],
         ),
     ];
-    each_holds(&rt, rt.alloc(), CASES)
+    each_case(&rt, rt.alloc(), CASES);
 }
 
 // A view is answered as its digest is. Prefixes of four messages and of the most are told by their state, in one part.
 #[test]
-fn an_answer_tells_what_is_lacking(rt: HostRuntime) -> Result<(), Fail> {
+fn an_answer_tells_what_is_lacking(rt: HostRuntime) {
     const CASES: &[Case] = &[
         (
             Start::Three,
@@ -422,11 +405,11 @@ fn an_answer_tells_what_is_lacking(rt: HostRuntime) -> Result<(), Fail> {
             ],
         ),
     ];
-    each_holds(&rt, rt.alloc(), CASES)
+    each_case(&rt, rt.alloc(), CASES);
 }
 
 #[test]
-fn what_a_digest_has(rt: HostRuntime) -> Result<(), Fail> {
+fn what_a_digest_has(rt: HostRuntime) {
     const CASES: &[Case] = &[(
         Start::Three,
         Start::Nothing,
@@ -443,7 +426,7 @@ fn what_a_digest_has(rt: HostRuntime) -> Result<(), Fail> {
             Step::DigestCopied,
         ],
     )];
-    each_holds(&rt, rt.alloc(), CASES)
+    each_case(&rt, rt.alloc(), CASES);
 }
 
 /// A message that contradicts a folded part.
@@ -454,7 +437,7 @@ const LATE_PREFIX: [Shape; 3] = [Shape::Wakeup(5), Shape::Dead(3, 1), Shape::Fol
 
 // Nothing grows past the parts.
 #[test]
-fn contradicting_parts_are_safe(rt: HostRuntime) -> Result<(), Fail> {
+fn contradicting_parts_are_safe(rt: HostRuntime) {
     const CASES: &[Case] = &[
         (
             Start::Nothing,
@@ -476,7 +459,7 @@ fn contradicting_parts_are_safe(rt: HostRuntime) -> Result<(), Fail> {
             ],
         ),
     ];
-    each_holds(&rt, rt.alloc(), CASES)
+    each_case(&rt, rt.alloc(), CASES);
 }
 
 // A wakeup, as a queue holds it.
@@ -496,9 +479,8 @@ fn are_ticks_untold(alloc: Global) -> Result<bool, OutOfMemory> {
     Ok(none.parts().is_empty())
 }
 
-#[test]
-fn a_delta_tells_each_queued_message(rt: HostRuntime) -> Result<(), Fail> {
-    assert!(rt; are_ticks_untold(rt.alloc())?);
+/// Whether each queued message is told, in its order.
+fn are_told(alloc: Global) -> Result<bool, OutOfMemory> {
     let items = [
         Item::Tick(Cpu(0)),
         queued(1, 2),
@@ -506,12 +488,17 @@ fn a_delta_tells_each_queued_message(rt: HostRuntime) -> Result<(), Fail> {
         queued(0, 3),
         queued(1, 2),
     ];
-    let told = Delta::of_items(rt.alloc(), &items)?;
+    let told = Delta::of_items(alloc, &items)?;
     let expected = [
         one(1, 2, Kind::Wakeup),
         one(0, 3, Kind::Wakeup),
         one(1, 2, Kind::Wakeup),
     ];
-    assert!(rt; told.parts() == expected.as_slice());
-    Ok(())
+    Ok(told.parts() == expected.as_slice())
+}
+
+#[test]
+fn a_delta_tells_each_queued_message(rt: HostRuntime) {
+    is_so(&rt, are_ticks_untold(rt.alloc()) == Ok(true));
+    is_so(&rt, are_told(rt.alloc()) == Ok(true));
 }

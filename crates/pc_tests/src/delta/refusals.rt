@@ -1,11 +1,10 @@
 //! Which parts make no delta, and why.
 
 use super::{Says, Shape, refusal};
+use crate::rows::{Row as Told, each_holds};
 use pc_delta::DeltaFault;
 use pc_messages::Tid;
 use std::alloc::Global;
-use std::process::Abort;
-use std::test::Fail;
 
 /// Whether parts make a delta, and why not.
 #[derive(Clone, Copy)]
@@ -36,25 +35,13 @@ fn fault_of(answer: Answer) -> Option<DeltaFault> {
 /// Some parts, and what is answered to them.
 type Row = (&'static [Shape], Answer);
 
-fn is_refused(alloc: Global, row: &Row) -> Result<bool, Fail> {
-    let (parts, wanted) = *row;
-    Ok(refusal(alloc, parts)? == fault_of(wanted))
-}
-
-/// The place of the first row whose parts are answered otherwise.
-fn first_wrong(alloc: Global, rows: &[Row]) -> Result<Option<usize>, Fail> {
-    for (place, row) in rows.iter().enumerate() {
-        if !is_refused(alloc, row)? {
-            return Ok(Some(place));
+impl Told for Row {
+    fn holds(&self, alloc: Global) -> bool {
+        match refusal(alloc, self.0) {
+            Ok(found) => found == fault_of(self.1),
+            Err(_) => false,
         }
     }
-    Ok(None)
-}
-
-/// Each list of parts is refused as it should be, or not at all.
-fn each_is_refused(rt: &impl Abort, alloc: Global, rows: &[Row]) -> Result<(), Fail> {
-    assert_eq!(rt; first_wrong(alloc, rows)?, None);
-    Ok(())
 }
 
 /// The most ticks that a message can tell of.
@@ -68,7 +55,7 @@ const ALL_TICKS: u64 = 68_719_480_000_000_000;
 
 // Of two faults in one part the first is answered; of two parts, either way round, that of the first part.
 #[test]
-fn each_fault_of_a_part_and_the_first_of_two(rt: HostRuntime) -> Result<(), Fail> {
+fn each_fault_of_a_part_and_the_first_of_two(rt: HostRuntime) {
     const ROWS: &[Row] = &[
         (&[Shape::Folded(0, 0)], Answer::Zero),
         (&[Shape::Wakeup(0)], Answer::Zero),
@@ -105,7 +92,7 @@ fn each_fault_of_a_part_and_the_first_of_two(rt: HostRuntime) -> Result<(), Fail
             Answer::Zero,
         ),
     ];
-    each_is_refused(&rt, rt.alloc(), ROWS)
+    each_holds(&rt, rt.alloc(), ROWS);
 }
 
 /// Conflicts about t1's third message, and t0's fifth and second.
@@ -137,7 +124,7 @@ const ONE_CONFLICT: [Shape; 4] = [
 
 // The least of several conflicts is answered.
 #[test]
-fn parts_that_differ_conflict(rt: HostRuntime) -> Result<(), Fail> {
+fn parts_that_differ_conflict(rt: HostRuntime) {
     const ROWS: &[Row] = &[
         (&[Shape::Wakeup(2), Shape::Yield(2)], Answer::Conflict(0, 2)),
         (
@@ -157,5 +144,5 @@ fn parts_that_differ_conflict(rt: HostRuntime) -> Result<(), Fail> {
         (&TWO_CONFLICTS, Answer::Conflict(0, 5)),
         (&ONE_CONFLICT, Answer::Conflict(1, 3)),
     ];
-    each_is_refused(&rt, rt.alloc(), ROWS)
+    each_holds(&rt, rt.alloc(), ROWS);
 }

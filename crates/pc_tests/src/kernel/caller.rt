@@ -5,6 +5,7 @@ ghost use Rattle.pc_calls.specs.AgentCalls.{associates, commits};
 ghost use Rattle.pc_kernel.specs.Answers.{Replays};
 
 use super::{SMALL, Step, Way, each_holds};
+use crate::rows::is_so;
 use pc_kernel::{AgentCall, Answer, Call, CallFault, EnvCall, Kernel, LimitsFault};
 use pc_messages::{Cpu, Tid};
 use std::alloc::Global;
@@ -102,5 +103,5 @@ fn third_is_done(alloc: Global) -> Result<bool, LimitsFault> {
 
 #[test]
 fn three_calls_in_a_row(rt: HostRuntime) {
-    assert_eq!(rt; third_is_done(rt.alloc()), Ok(true));
+    is_so(&rt, third_is_done(rt.alloc()) == Ok(true));
 }

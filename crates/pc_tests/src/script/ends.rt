@@ -1,11 +1,11 @@
 //! How the reading and the writing of a script end.
 
 use super::{FINISHED, runs};
+use crate::rows::{Row as Told, each_holds, is_so, none_is_wrong};
 use pc_script::{Outcome, ScriptFault};
 use std::alloc::Global;
 use std::io;
 use std::io::{Error, ErrorKind, Read, Write};
-use std::process::Abort;
 
 /// Gives this byte so often, at most as many at a time as there is room for, and then fails or ends.
 #[derive(Drop)]
@@ -162,28 +162,16 @@ enum Row {
     Fills(&'static [u8], usize),
 }
 
-fn holds(alloc: Global, row: &Row) -> bool {
-    match *row {
-        Row::Gives(byte, length, fails, ended, left) => {
-            read_over(alloc, byte, length, fails) == (ended, left, true)
-        }
-        Row::Counts(length, fails, reads) => reads_of(alloc, length, fails) == reads,
-        Row::Fills(script, room) => fills(alloc, script, room),
-    }
-}
-
-/// The place of the first row that does not hold.
-fn first_wrong(alloc: Global, rows: &[Row]) -> Option<usize> {
-    for (place, row) in rows.iter().enumerate() {
-        if !holds(alloc, row) {
-            return Some(place);
+impl Told for Row {
+    fn holds(&self, alloc: Global) -> bool {
+        match *self {
+            Row::Gives(byte, length, fails, ended, left) => {
+                read_over(alloc, byte, length, fails) == (ended, left, true)
+            }
+            Row::Counts(length, fails, reads) => reads_of(alloc, length, fails) == reads,
+            Row::Fills(script, room) => fills(alloc, script, room),
         }
     }
-    None
-}
-
-fn each_holds(rt: &impl Abort, alloc: Global, rows: &[Row]) {
-    assert_eq!(rt; first_wrong(alloc, rows), None);
 }
 
 #[test]
@@ -240,7 +228,7 @@ fn what_was_written_before_a_failed_write_is_a_front_of_the_output(rt: HostRunti
     const OUTPUT: &[u8] =
         b"ok\nrefused Stale 1\nt0 upto 2 blocked mask 3 ran 5 early -\nt12 upto 0 - early 2 1000000\nend\n\
 t0 upto 2 blocked mask 3 ran 5 early -\nt12 upto 0 - early 2 1000000\nend\nfault line 6\n";
-    assert_eq!(rt; first_other_front(rt.alloc(), SCRIPT, OUTPUT), None);
+    none_is_wrong(&rt, first_other_front(rt.alloc(), SCRIPT, OUTPUT));
 }
 
 #[test]
@@ -288,5 +276,5 @@ fn greatest(alloc: Global) -> (Result<Outcome, ScriptFault>, usize) {
 
 #[test]
 fn a_script_of_the_greatest_length_is_answered_whole(rt: HostRuntime) {
-    assert_eq!(rt; greatest(rt.alloc()), (FINISHED, 16 * 2_097_152));
+    is_so(&rt, greatest(rt.alloc()) == (FINISHED, 16 * 2_097_152));
 }

@@ -1,6 +1,7 @@
 //! Lines that are faults.
 
-use super::{Ended, FAULT, each_ends, each_is_fault};
+use super::{Ended, FAULT, Faulty};
+use crate::rows::each_holds;
 use pc_script::{Outcome, ScriptFault};
 
 /// How a script ends.
@@ -54,12 +55,12 @@ fn a_fault_ends_the_script(rt: HostRuntime) {
         (b"wake t\xff", FAULT, AT_1),
         (b"\xc2\xa0", FAULT, AT_1),
     ];
-    each_ends(&rt, rt.alloc(), &ROWS);
+    each_holds(&rt, rt.alloc(), &ROWS);
 }
 
 #[test]
 fn malformed_calls_of_the_environment_are_faults(rt: HostRuntime) {
-    static LINES: [&[u8]; 36] = [
+    static LINES: [Faulty; 36] = [
         b"enclave 256 1 1 1 1",
         b"enclave 02 8 100 16 1000",
         b"enclave 1 4294967296 1 1 1",
@@ -97,12 +98,12 @@ fn malformed_calls_of_the_environment_are_faults(rt: HostRuntime) {
         b"die 0 -",
         b"Die 0 0",
     ];
-    each_is_fault(&rt, rt.alloc(), &LINES);
+    each_holds(&rt, rt.alloc(), &LINES);
 }
 
 #[test]
 fn malformed_steps_of_agents_are_faults(rt: HostRuntime) {
-    static LINES: [&[u8]; 25] = [
+    static LINES: [Faulty; 25] = [
         b"associate 0 0 1",
         b"associate t0 256 1",
         b"associate t0 0",
@@ -129,12 +130,12 @@ fn malformed_steps_of_agents_are_faults(rt: HostRuntime) {
         b"publish 0 Fail",
         b"publish 0 fail fail",
     ];
-    each_is_fault(&rt, rt.alloc(), &LINES);
+    each_holds(&rt, rt.alloc(), &LINES);
 }
 
 #[test]
 fn malformed_deliveries_comparisons_and_versions_are_faults(rt: HostRuntime) {
-    static LINES: [&[u8]; 28] = [
+    static LINES: [Faulty; 28] = [
         b"deliver 0",
         b"deliver 256 0",
         b"deliver 0 d0",
@@ -164,5 +165,5 @@ fn malformed_deliveries_comparisons_and_versions_are_faults(rt: HostRuntime) {
         b"version t2",
         b"Version 2",
     ];
-    each_is_fault(&rt, rt.alloc(), &LINES);
+    each_holds(&rt, rt.alloc(), &LINES);
 }

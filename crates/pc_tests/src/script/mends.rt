@@ -1,6 +1,7 @@
 //! Lines that mend a CPU: what they ask for in each version, how they are written, and how they are answered.
 
-use super::{FINISHED, each_ends};
+use super::FINISHED;
+use crate::rows::{Step, each_holds, first_wrong, is_so, none_is_wrong};
 use pc_messages::Cpu;
 use pc_script::{Command, Version, Wish, asked};
 use std::alloc::{AllocError, Global};
@@ -21,14 +22,15 @@ fn wish_of(version: Version, line: &[u8]) -> Wish {
     asked(version, line)
 }
 
-/// The place of the first line that asks for something else.
-fn first_misread(version: Version, rows: &[Asked]) -> Option<usize> {
-    for (place, (line, cpu)) in rows.iter().enumerate() {
-        if wish_of(version, line) != wish(*cpu) {
-            return Some(place);
-        }
+impl Step<Version> for Asked {
+    fn holds(&self, _alloc: Global, version: &mut Version) -> bool {
+        wish_of(*version, self.0) == wish(self.1)
     }
-    None
+}
+
+fn first_misread(alloc: Global, version: Version, rows: &[Asked]) -> Option<usize> {
+    let mut version = version;
+    first_wrong(alloc, &mut version, rows)
 }
 
 #[test]
@@ -44,14 +46,14 @@ fn version_3_mends(rt: HostRuntime) {
         (b"Mend 0", None),
         (b"mends 0", None),
     ];
-    assert_eq!(rt; first_misread(Version::Three, &ROWS), None);
+    none_is_wrong(&rt, first_misread(rt.alloc(), Version::Three, &ROWS));
 }
 
 #[test]
 fn versions_1_and_2_do_not(rt: HostRuntime) {
     static ROWS: [Asked; 2] = [(b"mend 0", None), (b"mend", None)];
-    assert_eq!(rt; first_misread(Version::One, &ROWS), None);
-    assert_eq!(rt; first_misread(Version::Two, &ROWS), None);
+    none_is_wrong(&rt, first_misread(rt.alloc(), Version::One, &ROWS));
+    none_is_wrong(&rt, first_misread(rt.alloc(), Version::Two, &ROWS));
 }
 
 fn text_of(alloc: Global, command: &Command) -> Result<String, AllocError> {
@@ -68,8 +70,8 @@ fn is_written(alloc: Global, cpu: u8, text: &str) -> bool {
 
 #[test]
 fn a_mend_is_written_as_it_is_read(rt: HostRuntime) {
-    assert!(rt; is_written(rt.alloc(), 0, "mend 0"));
-    assert!(rt; is_written(rt.alloc(), 63, "mend 63"));
+    is_so(&rt, is_written(rt.alloc(), 0, "mend 0"));
+    is_so(&rt, is_written(rt.alloc(), 63, "mend 63"));
 }
 
 #[test]
@@ -79,5 +81,5 @@ fn a_mend_is_answered_as_an_event_is(rt: HostRuntime) {
         b"ok\nok\nok t0 c1\nrefused Busy\n",
         FINISHED,
     )];
-    each_ends(&rt, rt.alloc(), &ROWS);
+    each_holds(&rt, rt.alloc(), &ROWS);
 }

@@ -1,8 +1,8 @@
 //! Lines that give a policy: what they ask for in each version, and how they are written.
 
+use crate::rows::{Step, first_wrong, is_so, none_is_wrong};
 use pc_script::{Command, OrderName, PolicyName, Version, Wish, asked};
 use std::alloc::{AllocError, Global};
-use std::process::Abort;
 
 /// A line, and the policy that it asks for in version 3.
 type Asked = (&'static [u8], Option<(OrderName, bool)>);
@@ -20,14 +20,15 @@ fn wish_of(version: Version, line: &[u8]) -> Wish {
     asked(version, line)
 }
 
-/// The place of the first line that asks for something else.
-fn first_misread(version: Version, rows: &[Asked]) -> Option<usize> {
-    for (place, (line, policy)) in rows.iter().enumerate() {
-        if wish_of(version, line) != wish(*policy) {
-            return Some(place);
-        }
+impl Step<Version> for Asked {
+    fn holds(&self, _alloc: Global, version: &mut Version) -> bool {
+        wish_of(*version, self.0) == wish(self.1)
     }
-    None
+}
+
+fn first_misread(alloc: Global, version: Version, rows: &[Asked]) -> Option<usize> {
+    let mut version = version;
+    first_wrong(alloc, &mut version, rows)
 }
 
 #[test]
@@ -51,7 +52,7 @@ fn version_3_has_policies(rt: HostRuntime) {
         (b"policy fifo exact exact", None),
         (b"policy fifo levels", None),
     ];
-    assert_eq!(rt; first_misread(Version::Three, &ROWS), None);
+    none_is_wrong(&rt, first_misread(rt.alloc(), Version::Three, &ROWS));
 }
 
 #[test]
@@ -61,8 +62,8 @@ fn versions_1_and_2_have_none(rt: HostRuntime) {
         (b"policy fifo exact", None),
         (b"policy", None),
     ];
-    assert_eq!(rt; first_misread(Version::One, &ROWS), None);
-    assert_eq!(rt; first_misread(Version::Two, &ROWS), None);
+    none_is_wrong(&rt, first_misread(rt.alloc(), Version::One, &ROWS));
+    none_is_wrong(&rt, first_misread(rt.alloc(), Version::Two, &ROWS));
 }
 
 fn text_of(alloc: Global, command: &Command) -> Result<String, AllocError> {
@@ -80,13 +81,13 @@ fn is_written(alloc: Global, order: OrderName, exact: bool, text: &str) -> bool 
 
 #[test]
 fn policies_are_written_as_they_are_read(rt: HostRuntime) {
-    assert!(rt; is_written(rt.alloc(), OrderName::Levels, false, "policy levels"));
-    assert!(rt;
-        is_written(
-            rt.alloc(),
-            OrderName::LeastRan,
-            true,
-            "policy least-ran exact"
-        )
+    const EXACT: &str = "policy least-ran exact";
+    is_so(
+        &rt,
+        is_written(rt.alloc(), OrderName::Levels, false, "policy levels"),
+    );
+    is_so(
+        &rt,
+        is_written(rt.alloc(), OrderName::LeastRan, true, EXACT),
     );
 }

@@ -1,6 +1,7 @@
 //! Lines that are read, and what is written of the answers.
 
-use super::{Ended, FINISHED, each_ends};
+use super::{Ended, FINISHED};
+use crate::rows::each_holds;
 
 #[test]
 fn arguments_reach_the_machine_and_its_answers_are_written(rt: HostRuntime) {
@@ -42,7 +43,7 @@ fn arguments_reach_the_machine_and_its_answers_are_written(rt: HostRuntime) {
         (b"same 0 1\nsame 1 1", b"differ\nequal\n", FINISHED),
         (b"complete 1 t0\ncomplete 1 t1", b"yes\nno\n", FINISHED),
     ];
-    each_ends(&rt, rt.alloc(), &ROWS);
+    each_holds(&rt, rt.alloc(), &ROWS);
 }
 
 // The first line with words picks the version, and is answered.
@@ -89,5 +90,5 @@ fn silent_lines_have_no_reply_and_a_version_line_has(rt: HostRuntime) {
             FINISHED,
         ),
     ];
-    each_ends(&rt, rt.alloc(), &ROWS);
+    each_holds(&rt, rt.alloc(), &ROWS);
 }

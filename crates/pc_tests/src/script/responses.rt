@@ -1,6 +1,7 @@
 //! The texts of responses.
 
 use super::shown;
+use crate::rows::{Row, each_holds, is_so, none_is_wrong};
 use pc_calls::{LimitField, Posted, Refusal, Reply, Status};
 use pc_messages::{Cpu, Level, Mask, Phase, Reported, Tid};
 use pc_script::{EarlyNumbers, OrderName, PolicyName, Response, ShownThread, ShownThreads};
@@ -113,21 +114,13 @@ fn is_written(alloc: Global, response: Response, text: &str) -> bool {
     }
 }
 
-fn is_told(alloc: Global, line: &Line, text: &str) -> bool {
-    match response(line) {
-        Some(response) => is_written(alloc, response, text),
-        None => false,
-    }
-}
-
-/// The place of the first line of which something else is written.
-fn first_wrong(alloc: Global, rows: &[(Line, &str)]) -> Option<usize> {
-    for (place, (line, text)) in rows.iter().enumerate() {
-        if !is_told(alloc, line, text) {
-            return Some(place);
+impl Row for (Line, &'static str) {
+    fn holds(&self, alloc: Global) -> bool {
+        match response(&self.0) {
+            Some(response) => is_written(alloc, response, self.1),
+            None => false,
         }
     }
-    None
 }
 
 fn is_event(alloc: Global, refusal: &Refusal, text: &str) -> bool {
@@ -192,7 +185,7 @@ const fn refusal(place: usize) -> Option<(Refusal, &'static str)> {
 
 #[test]
 fn each_refusal_has_its_name(rt: HostRuntime) {
-    assert_eq!(rt; first_misnamed(rt.alloc()), None);
+    none_is_wrong(&rt, first_misnamed(rt.alloc()));
 }
 
 #[test]
@@ -235,7 +228,7 @@ fn what_is_answered_in_a_line(rt: HostRuntime) {
         (Line::Sameness(false), "differ"),
         (Line::Ruled(OrderName::Fifo), "ok"),
     ];
-    assert_eq!(rt; first_wrong(rt.alloc(), &ROWS), None);
+    each_holds(&rt, rt.alloc(), &ROWS);
 }
 
 /// What is told of a ready thread of level 5.
@@ -310,8 +303,8 @@ fn are_listed(alloc: Global, one: Tid, other: Tid) -> bool {
 fn threads_are_shown_in_their_order(rt: HostRuntime) {
     const RAISED: &str = "t1 upto 2 ready mask 3 ran 0 level 5 early -";
     const TWO: &str = "t0 upto 2 blocked mask 3 ran 5 early -\nt12 upto 0 - early 2 1000000\nend";
-    assert!(rt; is_raised_shown(rt.alloc(), RAISED));
-    assert!(rt; are_shown(rt.alloc(), TWO));
-    assert!(rt; are_kept(rt.alloc(), &[7, 3]));
-    assert!(rt; are_listed(rt.alloc(), Tid(0), Tid(12)));
+    is_so(&rt, is_raised_shown(rt.alloc(), RAISED));
+    is_so(&rt, are_shown(rt.alloc(), TWO));
+    is_so(&rt, are_kept(rt.alloc(), &[7, 3]));
+    is_so(&rt, are_listed(rt.alloc(), Tid(0), Tid(12)));
 }

@@ -1,9 +1,9 @@
 //! The reading of texts up to a greatest length, and their lines, words and numbers.
 
 use super::ends::Repeated;
+use crate::rows::{Row as Told, each_holds, none_is_wrong};
 use pc_script::{ScriptFault, count, first_word, lines_of, number, read_bytes, read_text};
 use std::alloc::Global;
-use std::process::Abort;
 
 /// How many bytes a reader gives before it ends, or fails; the greatest length; how many of them were read as a text,
 /// or why none was; and how many the reader would give still.
@@ -25,25 +25,16 @@ fn read_up_to(alloc: Global, reader: &mut Repeated, most: usize) -> Result<Vec<u
     read_bytes(alloc, reader, most)
 }
 
-fn is_read(alloc: Global, row: &Row) -> bool {
-    let (left, fails, most, wanted, rest) = *row;
-    let mut reader = Repeated {
-        byte: b'x',
-        left,
-        fails,
-    };
-    let read = read_up_to(alloc, &mut reader, most);
-    length_of(read, b'x') == wanted && reader.left == rest
-}
-
-/// The place of the first row that is read otherwise.
-fn first_misread(alloc: Global, rows: &[Row]) -> Option<usize> {
-    for (place, row) in rows.iter().enumerate() {
-        if !is_read(alloc, row) {
-            return Some(place);
-        }
+impl Told for Row {
+    fn holds(&self, alloc: Global) -> bool {
+        let mut reader = Repeated {
+            byte: b'x',
+            left: self.0,
+            fails: self.1,
+        };
+        let read = read_up_to(alloc, &mut reader, self.2);
+        length_of(read, b'x') == self.3 && reader.left == self.4
     }
-    None
 }
 
 const TOO_LONG: Result<usize, ScriptFault> = Err(ScriptFault::TooLong);
@@ -73,7 +64,7 @@ fn no_more_is_read_than_one_byte_past_the_greatest_length(rt: HostRuntime) {
         (20_001, true, 20_000, TOO_LONG, 0),
         (20_000, false, usize::MAX, Ok(20_000), 0),
     ];
-    assert_eq!(rt; first_misread(rt.alloc(), &ROWS), None);
+    each_holds(&rt, rt.alloc(), &ROWS);
 }
 
 fn text_of(alloc: Global, mut script: &[u8]) -> Result<Vec<u8>, ScriptFault> {
@@ -104,7 +95,7 @@ fn first_other(alloc: Global, rows: &[&'static [u8]]) -> Option<usize> {
 #[test]
 fn a_text_is_read_as_it_stands(rt: HostRuntime) {
     static ROWS: [&[u8]; 4] = [b"", b"\n", b"wake t1\r\n\n# \xff\x00", b"version 2\nshow 0"];
-    assert_eq!(rt; first_other(rt.alloc(), &ROWS), None);
+    none_is_wrong(&rt, first_other(rt.alloc(), &ROWS));
 }
 
 /// A text, its first line, the first two words of that, and the numbers that the second is: one of 64 bits, and one of
@@ -139,26 +130,14 @@ fn are_numbers(word: Option<&[u8]>, wide: Option<u64>, narrow: Option<u32>) -> b
     }
 }
 
-fn are_words(row: &Words) -> bool {
-    let second = word_at(row.1, 1);
-    first_line(row.0) == Some(row.1)
-        && word_at(row.1, 0) == row.2
-        && second == row.3
-        && are_numbers(second, row.4, row.5)
-}
-
-/// The place of the first text with other words.
-fn first_misspelled(rows: &[Words]) -> Option<usize> {
-    for (place, row) in rows.iter().enumerate() {
-        if !are_words(row) {
-            return Some(place);
-        }
+impl Told for Words {
+    fn holds(&self, _alloc: Global) -> bool {
+        let second = word_at(self.1, 1);
+        first_line(self.0) == Some(self.1)
+            && word_at(self.1, 0) == self.2
+            && second == self.3
+            && are_numbers(second, self.4, self.5)
     }
-    None
-}
-
-fn each_is_spelled(rt: &impl Abort, rows: &[Words]) {
-    assert_eq!(rt; first_misspelled(rows), None);
 }
 
 #[test]
@@ -216,7 +195,7 @@ fn a_line_is_taken_apart(rt: HostRuntime) {
         ),
         (b"walk\n", b"walk", Some(b"walk"), None, None, None),
     ];
-    each_is_spelled(&rt, &ROWS);
+    each_holds(&rt, rt.alloc(), &ROWS);
 }
 
 /// How many lines a text has, those behind a place alone.
@@ -228,24 +207,23 @@ fn lines_in(rest: Option<&[u8]>) -> u32 {
     lines
 }
 
-/// The place of the first text with another count of lines.
-fn first_miscounted(rows: &[(Option<&'static [u8]>, u32)]) -> Option<usize> {
-    for (place, (text, wanted)) in rows.iter().enumerate() {
-        if lines_in(*text) != *wanted {
-            return Some(place);
-        }
+/// What follows a place of a text, and how many lines it has.
+type Counted = (Option<&'static [u8]>, u32);
+
+impl Told for Counted {
+    fn holds(&self, _alloc: Global) -> bool {
+        lines_in(self.0) == self.1
     }
-    None
 }
 
 #[test]
 fn a_line_feed_at_the_end_has_an_empty_line_behind_it(rt: HostRuntime) {
-    static ROWS: [(Option<&[u8]>, u32); 5] = [
+    static ROWS: [Counted; 5] = [
         (None, 0),
         (Some(b""), 1),
         (Some(b"x"), 1),
         (Some(b"x\n"), 2),
         (Some(b"\n\r\n y"), 3),
     ];
-    assert_eq!(rt; first_miscounted(&ROWS), None);
+    each_holds(&rt, rt.alloc(), &ROWS);
 }

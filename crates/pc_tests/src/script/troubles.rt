@@ -1,8 +1,9 @@
 //! What is wrong with a line that is no command: which word, and what was wanted there. Worked out by hand from
 //! docs/FORMATS.md.
 
+use crate::rows::{Step, first_wrong, none_is_wrong};
 use pc_script::{Trouble, Verb, Version, Wanted, trouble_in};
-use std::process::Abort;
+use std::alloc::Global;
 
 /// A line, and its trouble: the verb, the place of a word, that word, and what was wanted.
 #[derive(Clone, Copy)]
@@ -49,28 +50,16 @@ fn told(version: Version, line: &[u8]) -> Option<Trouble<'_>> {
     trouble_in(version, line)
 }
 
-fn is_told(version: Version, row: &Row) -> bool {
-    told(version, line_of(row)) == trouble_of(row)
-}
-
-/// The place of the first line of which another trouble is told.
-fn first_wrong(version: Version, rows: &[Row]) -> Option<usize> {
-    for (place, row) in rows.iter().enumerate() {
-        if !is_told(version, row) {
-            return Some(place);
-        }
+impl Step<Version> for Row {
+    fn holds(&self, _alloc: Global, version: &mut Version) -> bool {
+        told(*version, line_of(self)) == trouble_of(self)
     }
-    None
 }
 
-/// Asserts what is told of each line in a script of the version.
-fn each_is_told_in(rt: &impl Abort, version: Version, rows: &[Row]) {
-    assert_eq!(rt; first_wrong(version, rows), None);
-}
-
-/// Asserts what is told of each line.
-fn each_is_told(rt: &impl Abort, rows: &[Row]) {
-    each_is_told_in(rt, Version::One, rows);
+/// The place of the first line of which another trouble is told in a script of the version.
+fn first_wrong_in(alloc: Global, version: Version, rows: &[Row]) -> Option<usize> {
+    let mut version = version;
+    first_wrong(alloc, &mut version, rows)
 }
 
 #[test]
@@ -85,7 +74,7 @@ fn a_wrong_word_of_a_policy_is_told_in_version_3(rt: HostRuntime) {
         Row::Fine(b" policy  least-ran  exact "),
         Row::Missing(b"wake", Verb::Wake, 2, Wanted::Thread),
     ];
-    each_is_told_in(&rt, Version::Three, &ROWS);
+    none_is_wrong(&rt, first_wrong_in(rt.alloc(), Version::Three, &ROWS));
 }
 
 #[test]
@@ -95,8 +84,8 @@ fn no_earlier_version_has_policies(rt: HostRuntime) {
         Row::NoCommand(b"policy", b"policy"),
         Row::Fine(b"wake t0"),
     ];
-    each_is_told_in(&rt, Version::One, &ROWS);
-    each_is_told_in(&rt, Version::Two, &ROWS);
+    none_is_wrong(&rt, first_wrong_in(rt.alloc(), Version::One, &ROWS));
+    none_is_wrong(&rt, first_wrong_in(rt.alloc(), Version::Two, &ROWS));
 }
 
 #[test]
@@ -153,7 +142,7 @@ fn a_missing_word_is_told_by_its_place(rt: HostRuntime) {
         Row::Missing(b"complete", Verb::Complete, 2, Wanted::Cpu),
         Row::Missing(b"  complete   0  ", Verb::Complete, 3, Wanted::Thread),
     ];
-    each_is_told(&rt, &ROWS);
+    none_is_wrong(&rt, first_wrong_in(rt.alloc(), Version::One, &ROWS));
 }
 
 #[test]
@@ -251,7 +240,7 @@ fn a_wrong_word_of_a_call_is_told_with_what_was_wanted(rt: HostRuntime) {
         Row::Wrong(b" block  x ", Verb::Block, 2, b"x", Wanted::Cpu),
         Row::Wrong(b"tick \xff", Verb::Tick, 2, b"\xff", Wanted::Cpu),
     ];
-    each_is_told(&rt, &ROWS);
+    none_is_wrong(&rt, first_wrong_in(rt.alloc(), Version::One, &ROWS));
 }
 
 #[test]
@@ -314,7 +303,7 @@ fn a_wrong_word_of_an_agent_is_told_with_what_was_wanted(rt: HostRuntime) {
         Row::Wrong(b"same 0 t1", Verb::Same, 3, b"t1", Wanted::Cpu),
         Row::Wrong(b"complete 0 0", Verb::Complete, 3, b"0", Wanted::Thread),
     ];
-    each_is_told(&rt, &ROWS);
+    none_is_wrong(&rt, first_wrong_in(rt.alloc(), Version::One, &ROWS));
 }
 
 #[test]
@@ -352,7 +341,7 @@ fn a_word_behind_the_last_is_one_too_many(rt: HostRuntime) {
         Row::TooMany(b"complete 0 t0 x", Verb::Complete, 4, b"x"),
         Row::TooMany(b"  tick   0   x  ", Verb::Tick, 3, b"x"),
     ];
-    each_is_told(&rt, &ROWS);
+    none_is_wrong(&rt, first_wrong_in(rt.alloc(), Version::One, &ROWS));
 }
 
 #[test]
@@ -384,5 +373,5 @@ fn a_line_whose_first_word_is_no_commands_or_that_is_no_fault(rt: HostRuntime) {
         Row::Fine(b"config 0 255"),
         Row::Fine(b"deliver 0 18446744073709551615"),
     ];
-    each_is_told(&rt, &ROWS);
+    none_is_wrong(&rt, first_wrong_in(rt.alloc(), Version::One, &ROWS));
 }

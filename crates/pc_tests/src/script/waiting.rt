@@ -3,11 +3,11 @@
 
 use super::ends::{UNWRITTEN, is_front};
 use super::{FINISHED, ends_so, runs};
+use crate::rows::{Row as Told, each_holds};
 use pc_calls::{Profile, Refusal, Reply};
 use pc_script::{Command, Machine, Outcome, Response, ScriptFault, run_script};
 use std::alloc::{AllocError, Global};
 use std::io::{self, Error, ErrorKind, Write};
-use std::process::Abort;
 
 /// So many times a text, and then another.
 fn repeated(alloc: Global, text: &[u8], times: u32, end: &[u8]) -> Result<Vec<u8>, AllocError> {
@@ -185,7 +185,7 @@ fn makes_writes(
     Ok(counted(alloc, script.as_slice(), fails_at) == wanted)
 }
 
-fn holds(alloc: Global, row: &Row) -> Result<bool, AllocError> {
+fn comes_of(alloc: Global, row: &Row) -> Result<bool, AllocError> {
     match *row {
         Row::Answers(times, end, answered, wanted) => answers(alloc, times, end, answered, wanted),
         Row::Fills(room, wanted) => fills(alloc, room, wanted),
@@ -196,18 +196,10 @@ fn holds(alloc: Global, row: &Row) -> Result<bool, AllocError> {
     }
 }
 
-/// The place of the first row that does not hold.
-fn first_wrong(alloc: Global, rows: &[Row]) -> Result<Option<usize>, AllocError> {
-    for (place, row) in rows.iter().enumerate() {
-        if !holds(alloc, row)? {
-            return Ok(Some(place));
-        }
+impl Told for Row {
+    fn holds(&self, alloc: Global) -> bool {
+        comes_of(alloc, self) == Ok(true)
     }
-    Ok(None)
-}
-
-fn each_holds(rt: &impl Abort, alloc: Global, rows: &[Row]) {
-    assert_eq!(rt; first_wrong(alloc, rows), Ok(None));
 }
 
 #[test]

@@ -1,6 +1,7 @@
 //! What an observer is told of the lines of a script, in which order, and what ends the walk over them.
 
 use super::FINISHED;
+use crate::rows::{Row, Step, each_holds, first_wrong, none_is_wrong};
 use pc_calls::{Event, Profile, Reply};
 use pc_messages::Cpu;
 use pc_script::{
@@ -8,7 +9,6 @@ use pc_script::{
 };
 use std::alloc::{AllocError, Global};
 use std::io::Write;
-use std::process::Abort;
 
 /// Answers how many commands it took so far; for `crash 9` it finds no memory.
 #[derive(Drop)]
@@ -206,13 +206,20 @@ fn walked(
 /// A script, what the observer notes of it, and how the walk ends.
 type Walked = (&'static [u8], &'static [u8], Result<Outcome, ScriptFault>);
 
-/// Whether an observer who gives up behind so many lines notes that, the walk ends so, and nothing is written.
-fn is_walked(alloc: Global, row: &Walked, left: u32, fault: ScriptFault) -> bool {
+/// How many lines an observer is told of before the one at which it gives up, and by which fault.
+#[derive(Clone, Copy)]
+struct Patience {
+    left: u32,
+    fault: ScriptFault,
+}
+
+/// Whether an observer with this patience notes that, the walk ends so, and nothing is written.
+fn is_walked(alloc: Global, row: &Walked, patience: Patience) -> bool {
     let mut notes = Notes {
         text: Vec::new(alloc),
         expected: None,
-        left,
-        fault,
+        left: patience.left,
+        fault: patience.fault,
     };
     let mut writer: Vec<u8> = Vec::new(alloc);
     walked(alloc, row.0, &mut notes, &mut writer) == row.2
@@ -220,18 +227,19 @@ fn is_walked(alloc: Global, row: &Walked, left: u32, fault: ScriptFault) -> bool
         && writer.is_empty()
 }
 
-/// The place of the first script over which another walk leads.
-fn first_wrong(alloc: Global, rows: &[Walked]) -> Option<usize> {
-    for (place, row) in rows.iter().enumerate() {
-        if !is_walked(alloc, row, u32::MAX, ScriptFault::Write) {
-            return Some(place);
-        }
+impl Step<Patience> for Walked {
+    fn holds(&self, alloc: Global, patience: &mut Patience) -> bool {
+        is_walked(alloc, self, *patience)
     }
-    None
 }
 
-fn each_is_walked(rt: &impl Abort, alloc: Global, rows: &[Walked]) {
-    assert_eq!(rt; first_wrong(alloc, rows), None);
+/// The place of the first script over which another walk leads, where the observer does not give up.
+fn first_other(alloc: Global, rows: &[Walked]) -> Option<usize> {
+    let mut patience = Patience {
+        left: u32::MAX,
+        fault: ScriptFault::Write,
+    };
+    first_wrong(alloc, &mut patience, rows)
 }
 
 // A line is told of after its command was expected and answered, with its number and its text as it stands.
@@ -258,7 +266,7 @@ answered 2 2 enclave 1 2 3 4 5\nexpect 0 2 one\nanswered 3 3 wake t1\n",
             FINISHED,
         ),
     ];
-    each_is_walked(&rt, rt.alloc(), &ROWS);
+    none_is_wrong(&rt, first_other(rt.alloc(), &ROWS));
 }
 
 #[test]
@@ -296,7 +304,7 @@ fn nothing_is_told_after_a_fault_or_want_of_memory(rt: HostRuntime) {
             Err(ScriptFault::OutOfMemory),
         ),
     ];
-    each_is_walked(&rt, rt.alloc(), &ROWS);
+    none_is_wrong(&rt, first_other(rt.alloc(), &ROWS));
 }
 
 #[test]
@@ -354,22 +362,25 @@ fn the_version_is_named_by_the_first_line_that_has_a_reply_alone(rt: HostRuntime
             FINISHED,
         ),
     ];
-    each_is_walked(&rt, rt.alloc(), &ROWS);
+    none_is_wrong(&rt, first_other(rt.alloc(), &ROWS));
 }
 
-/// The place of the first script over which another walk leads, if the observer gives up behind so many lines.
-fn first_not_ended(alloc: Global, rows: &[(u32, ScriptFault, Walked)]) -> Option<usize> {
-    for (place, (left, fault, row)) in rows.iter().enumerate() {
-        if !is_walked(alloc, row, *left, *fault) {
-            return Some(place);
-        }
+/// How many lines the observer is told of before the one at which it gives up, by which fault, and the walk.
+type GivenUp = (u32, ScriptFault, Walked);
+
+impl Row for GivenUp {
+    fn holds(&self, alloc: Global) -> bool {
+        let patience = Patience {
+            left: self.0,
+            fault: self.1,
+        };
+        is_walked(alloc, &self.2, patience)
     }
-    None
 }
 
 #[test]
 fn an_observer_that_gives_up_ends_the_walk(rt: HostRuntime) {
-    static ROWS: [(u32, ScriptFault, Walked); 9] = [
+    static ROWS: [GivenUp; 9] = [
         (0, ScriptFault::Write, (b"# x\n\n", b"", FINISHED)),
         (
             0,
@@ -444,5 +455,5 @@ fn an_observer_that_gives_up_ends_the_walk(rt: HostRuntime) {
             ),
         ),
     ];
-    assert_eq!(rt; first_not_ended(rt.alloc(), &ROWS), None);
+    each_holds(&rt, rt.alloc(), &ROWS);
 }

@@ -1,9 +1,9 @@
 use Rattle.std.proofs.Common.{subst, sym, refl, arith}
 use Rattle.pc_tests.proofs.Wakeups.{IsQuiet, tellable}
-use Rattle.pc_tests.proofs.delta.exchange.a_delta_tells_each_queued_message.Goals as goal
+use Rattle.pc_tests.proofs.delta.exchange.are_told.Goals as goal
 
 pub of_items-requires : goal.of_items-requires
-of_items-requires g c = record {
+of_items-requires c = record {
   tellable = tellable _ (
     tt,
     (
