@@ -1,57 +1,51 @@
 //! Lines that spell a command, with the greatest and the least numbers, and lines that spell none.
 
+use crate::rows::{Row, each_holds};
 use pc_calls::{AgentCall, EnvCall, Event, Limits};
 use pc_messages::{Cpu, Tid};
 use pc_script::{Command, Read, Version, Wish, asked};
-use std::process::Abort;
+use std::alloc::Global;
 
 // Without contracts, as the function below, so that a test's proof does not carry that of lines.
 fn wish_of(line: &[u8]) -> Wish {
     asked(Version::One, line)
 }
 
-/// Asserts what each line asks for.
-fn each_is_read(rt: &impl Abort, rows: &[(&[u8], Wish)]) {
-    for (line, wanted) in rows {
-        assert_eq!(rt; wish_of(line), *wanted);
+/// A line, and what it asks for.
+type Asked = (&'static [u8], Wish);
+
+impl Row for Asked {
+    fn holds(&self, _alloc: Global) -> bool {
+        wish_of(self.0) == self.1
     }
 }
 
-/// The command of an event.
-const fn event(event: Event) -> Wish {
-    Wish::Answer(Command::Event(event))
+/// An event as what a line says.
+#[derive(Clone, Copy)]
+enum Says {
+    Event(Event),
+    Env(EnvCall),
+    Agent(AgentCall),
+    Asks(Read),
 }
 
-/// The command of a call of the environment.
-const fn env(call: EnvCall) -> Wish {
-    event(Event::Env(call))
-}
+/// A line, and the command that it spells.
+type Spelled = (&'static [u8], Says);
 
-/// The command of a call of an agent.
-const fn agent(call: AgentCall) -> Wish {
-    event(Event::Agent(call))
-}
-
-const fn read(question: Read) -> Wish {
-    Wish::Answer(Command::Read(question))
-}
-
-const fn enclave(cpus: u8, threads: u32, numbers: u32, room: u32, posts: u32) -> Wish {
-    Wish::Answer(Command::Enclave(Limits {
-        cpus,
-        threads,
-        numbers,
-        room,
-        posts,
-    }))
-}
-
-const fn create(queue: u8, mask: u64, ready: bool) -> Wish {
-    env(EnvCall::Create {
-        queue: Cpu(queue),
-        mask,
-        ready,
+/// What a line asks for that says this.
+fn wish(says: Says) -> Wish {
+    Wish::Answer(match says {
+        Says::Event(event) => Command::Event(event),
+        Says::Env(call) => Command::Event(Event::Env(call)),
+        Says::Agent(call) => Command::Event(Event::Agent(call)),
+        Says::Asks(question) => Command::Read(question),
     })
+}
+
+impl Row for Spelled {
+    fn holds(&self, _alloc: Global) -> bool {
+        wish_of(self.0) == wish(self.1)
+    }
 }
 
 /// The last CPU that a line can name.
@@ -60,165 +54,243 @@ const LAST: Cpu = Cpu(255);
 /// The last thread that a line can name.
 const LAST_THREAD: Tid = Tid(4_294_967_295);
 
+const NO_LIMITS: Wish = Wish::Answer(Command::Enclave(Limits {
+    cpus: 0,
+    threads: 0,
+    numbers: 0,
+    room: 0,
+    posts: 0,
+}));
+
+const LIMITS: Wish = Wish::Answer(Command::Enclave(Limits {
+    cpus: 255,
+    threads: 1,
+    numbers: 4_294_967_295,
+    room: 20,
+    posts: 4_294_967_294,
+}));
+
 #[test]
 fn enclaves_and_calls_of_the_environment_are_read(rt: HostRuntime) {
-    let affinity = EnvCall::SetAffinity {
-        thread: LAST_THREAD,
-        mask: 18_446_744_073_709_551_615,
-    };
-    let priority = EnvCall::SetPriority {
-        thread: Tid(0),
-        level: 255,
-    };
-    let block = EnvCall::Block {
-        cpu: LAST,
-        ran: 4_294_967_295,
-    };
-    let yielded = EnvCall::YieldNow {
-        cpu: Cpu(1),
-        ran: 2,
-    };
-    let preempt = EnvCall::Preempt {
-        cpu: Cpu(0),
-        ran: 4,
-    };
-    let die = EnvCall::Die {
-        cpu: Cpu(0),
-        ran: 0,
-    };
-    let rows = [
-        (b"enclave 0 0 0 0 0".as_slice(), enclave(0, 0, 0, 0, 0)),
-        (
-            b"enclave 255 1 4294967295 20 4294967294",
-            enclave(255, 1, 4_294_967_295, 20, 4_294_967_294),
-        ),
+    const ENCLAVES: [Asked; 2] = [
+        (b"enclave 0 0 0 0 0", NO_LIMITS),
+        (b"enclave 255 1 4294967295 20 4294967294", LIMITS),
+    ];
+    const CALLS: [Spelled; 10] = [
         (
             b"create 255 18446744073709551615 ready",
-            create(255, 18_446_744_073_709_551_615, true),
+            Says::Env(EnvCall::Create {
+                queue: LAST,
+                mask: 18_446_744_073_709_551_615,
+                ready: true,
+            }),
         ),
-        (b"create 0 0 blocked", create(0, 0, false)),
+        (
+            b"create 0 0 blocked",
+            Says::Env(EnvCall::Create {
+                queue: Cpu(0),
+                mask: 0,
+                ready: false,
+            }),
+        ),
         (
             b"wake t4294967295",
-            env(EnvCall::Wake {
+            Says::Env(EnvCall::Wake {
                 thread: LAST_THREAD,
             }),
         ),
-        (b"affinity t4294967295 18446744073709551615", env(affinity)),
-        (b"priority t0 255", env(priority)),
-        (b"tick 255", env(EnvCall::Tick { cpu: LAST })),
-        (b"block 255 4294967295", env(block)),
-        (b"yield 1 2", env(yielded)),
-        (b"preempt 0 4", env(preempt)),
-        (b"die 0 0", env(die)),
+        (
+            b"affinity t4294967295 18446744073709551615",
+            Says::Env(EnvCall::SetAffinity {
+                thread: LAST_THREAD,
+                mask: 18_446_744_073_709_551_615,
+            }),
+        ),
+        (
+            b"priority t0 255",
+            Says::Env(EnvCall::SetPriority {
+                thread: Tid(0),
+                level: 255,
+            }),
+        ),
+        (b"tick 255", Says::Env(EnvCall::Tick { cpu: LAST })),
+        (
+            b"block 255 4294967295",
+            Says::Env(EnvCall::Block {
+                cpu: LAST,
+                ran: 4_294_967_295,
+            }),
+        ),
+        (
+            b"yield 1 2",
+            Says::Env(EnvCall::YieldNow {
+                cpu: Cpu(1),
+                ran: 2,
+            }),
+        ),
+        (
+            b"preempt 0 4",
+            Says::Env(EnvCall::Preempt {
+                cpu: Cpu(0),
+                ran: 4,
+            }),
+        ),
+        (
+            b"die 0 0",
+            Says::Env(EnvCall::Die {
+                cpu: Cpu(0),
+                ran: 0,
+            }),
+        ),
     ];
-    each_is_read(&rt, &rows);
+    each_holds(&rt, rt.alloc(), &ENCLAVES);
+    each_holds(&rt, rt.alloc(), &CALLS);
 }
 
 #[test]
 fn calls_of_agents_and_questions_are_read(rt: HostRuntime) {
-    let associate = AgentCall::Associate {
-        thread: LAST_THREAD,
-        queue: LAST,
-        number: 16,
-    };
-    let commit = AgentCall::Commit {
-        cpu: LAST,
-        thread: Tid(7),
-        aseq: 4_294_967_295,
-    };
-    let sleep = AgentCall::Sleep {
-        cpu: Cpu(1),
-        aseq: 4_294_967_295,
-    };
-    let set = AgentCall::Config {
-        queue: Cpu(0),
-        target: Some(LAST),
-    };
-    let unset = AgentCall::Config {
-        queue: LAST,
-        target: None,
-    };
-    let same = Read::Same {
-        cpu: LAST,
-        other: Cpu(0),
-    };
-    let complete = Read::Complete {
-        cpu: Cpu(1),
-        thread: LAST_THREAD,
-    };
-    let rows = [
-        (b"associate t4294967295 255 16".as_slice(), agent(associate)),
-        (b"commit 255 t7 4294967295", agent(commit)),
-        (b"sleep 1 4294967295", agent(sleep)),
-        (b"rouse 0", agent(AgentCall::Rouse { cpu: Cpu(0) })),
-        (b"config 0 255", agent(set)),
-        (b"config 255 -", agent(unset)),
-        (b"consume 255", event(Event::Consume { cpu: LAST })),
-        (b"status t10", read(Read::Status { thread: Tid(10) })),
-        (b"asleep 0", read(Read::Asleep { cpu: Cpu(0) })),
-        (b"show 9", read(Read::Show { cpu: Cpu(9) })),
-        (b"same 255 0", read(same)),
-        (b"complete 1 t4294967295", read(complete)),
+    const ROWS: [Spelled; 12] = [
+        (
+            b"associate t4294967295 255 16",
+            Says::Agent(AgentCall::Associate {
+                thread: LAST_THREAD,
+                queue: LAST,
+                number: 16,
+            }),
+        ),
+        (
+            b"commit 255 t7 4294967295",
+            Says::Agent(AgentCall::Commit {
+                cpu: LAST,
+                thread: Tid(7),
+                aseq: 4_294_967_295,
+            }),
+        ),
+        (
+            b"sleep 1 4294967295",
+            Says::Agent(AgentCall::Sleep {
+                cpu: Cpu(1),
+                aseq: 4_294_967_295,
+            }),
+        ),
+        (b"rouse 0", Says::Agent(AgentCall::Rouse { cpu: Cpu(0) })),
+        (
+            b"config 0 255",
+            Says::Agent(AgentCall::Config {
+                queue: Cpu(0),
+                target: Some(LAST),
+            }),
+        ),
+        (
+            b"config 255 -",
+            Says::Agent(AgentCall::Config {
+                queue: LAST,
+                target: None,
+            }),
+        ),
+        (b"consume 255", Says::Event(Event::Consume { cpu: LAST })),
+        (b"status t10", Says::Asks(Read::Status { thread: Tid(10) })),
+        (b"asleep 0", Says::Asks(Read::Asleep { cpu: Cpu(0) })),
+        (b"show 9", Says::Asks(Read::Show { cpu: Cpu(9) })),
+        (
+            b"same 255 0",
+            Says::Asks(Read::Same {
+                cpu: LAST,
+                other: Cpu(0),
+            }),
+        ),
+        (
+            b"complete 1 t4294967295",
+            Says::Asks(Read::Complete {
+                cpu: Cpu(1),
+                thread: LAST_THREAD,
+            }),
+        ),
     ];
-    each_is_read(&rt, &rows);
+    each_holds(&rt, rt.alloc(), &ROWS);
 }
 
-const fn publish(cpu: Cpu, fails: bool) -> Wish {
-    event(Event::Publish { cpu, fails })
-}
+/// A line that delivers, with its CPU and its delta.
+type Delivered = (&'static [u8], u8, u64);
 
-const fn deliver(cpu: Cpu, delta: u64) -> Wish {
-    event(Event::Deliver { cpu, delta })
+impl Row for Delivered {
+    fn holds(&self, _alloc: Global) -> bool {
+        let deliver = Event::Deliver {
+            cpu: Cpu(self.1),
+            delta: self.2,
+        };
+        wish_of(self.0) == Wish::Answer(Command::Event(deliver))
+    }
 }
 
 #[test]
 fn what_agents_do_is_read_with_spaces_anywhere(rt: HostRuntime) {
-    let pick = Event::Pick {
-        cpu: LAST,
-        aseq: 4_294_967_295,
-    };
-    let answer = Event::Answer {
-        cpu: Cpu(0),
-        asker: LAST,
-    };
-    let rows = [
-        (b"publish 255".as_slice(), publish(LAST, false)),
-        (b"publish 0 fail", publish(Cpu(0), true)),
-        (b"pick 255 4294967295", event(pick)),
-        (b"steal 255", event(Event::Steal { cpu: LAST })),
-        (b"crash 0", event(Event::Crash { cpu: Cpu(0) })),
+    const STEPS: [Spelled; 6] = [
+        (
+            b"publish 255",
+            Says::Event(Event::Publish {
+                cpu: LAST,
+                fails: false,
+            }),
+        ),
+        (
+            b"publish 0 fail",
+            Says::Event(Event::Publish {
+                cpu: Cpu(0),
+                fails: true,
+            }),
+        ),
+        (
+            b"pick 255 4294967295",
+            Says::Event(Event::Pick {
+                cpu: LAST,
+                aseq: 4_294_967_295,
+            }),
+        ),
+        (b"steal 255", Says::Event(Event::Steal { cpu: LAST })),
+        (b"crash 0", Says::Event(Event::Crash { cpu: Cpu(0) })),
+        (
+            b"answer 0 255",
+            Says::Event(Event::Answer {
+                cpu: Cpu(0),
+                asker: LAST,
+            }),
+        ),
+    ];
+    static DELIVERED: [Delivered; 8] = [
         (
             b"deliver 255 18446744073709551615",
-            deliver(LAST, 18_446_744_073_709_551_615),
+            255,
+            18_446_744_073_709_551_615,
         ),
-        (b"answer 0 255", event(answer)),
         (
             b"deliver 0 10000000000000000000",
-            deliver(Cpu(0), 10_000_000_000_000_000_000),
+            0,
+            10_000_000_000_000_000_000,
         ),
         (
             b"deliver 0 9999999999999999999 ",
-            deliver(Cpu(0), 9_999_999_999_999_999_999),
+            0,
+            9_999_999_999_999_999_999,
         ),
-        (
-            b"deliver 0 999999999999999999",
-            deliver(Cpu(0), 999_999_999_999_999_999),
-        ),
+        (b"deliver 0 999999999999999999", 0, 999_999_999_999_999_999),
         (
             b"deliver 0 18446744073709551609  ",
-            deliver(Cpu(0), 18_446_744_073_709_551_609),
+            0,
+            18_446_744_073_709_551_609,
         ),
-        (b"deliver 1 20", deliver(Cpu(1), 20)),
-        (b" deliver  1   20 ", deliver(Cpu(1), 20)),
-        (b"deliver 1 20    ", deliver(Cpu(1), 20)),
+        (b"deliver 1 20", 1, 20),
+        (b" deliver  1   20 ", 1, 20),
+        (b"deliver 1 20    ", 1, 20),
     ];
-    each_is_read(&rt, &rows);
+    each_holds(&rt, rt.alloc(), &STEPS);
+    each_holds(&rt, rt.alloc(), &DELIVERED);
 }
 
 #[test]
 fn what_is_no_command_is_not_read(rt: HostRuntime) {
-    let rows = [
-        (b"deliver1 20".as_slice(), Wish::Stop),
+    const ROWS: [Asked; 12] = [
+        (b"deliver1 20", Wish::Stop),
         (b"deliver 1 20 x", Wish::Stop),
         (b"deliver 1 -", Wish::Stop),
         (b"deliver 1 2:", Wish::Stop),
@@ -231,5 +303,5 @@ fn what_is_no_command_is_not_read(rt: HostRuntime) {
         (b"  ", Wish::Nothing),
         (b"#deliver 1 20", Wish::Nothing),
     ];
-    each_is_read(&rt, &rows);
+    each_holds(&rt, rt.alloc(), &ROWS);
 }

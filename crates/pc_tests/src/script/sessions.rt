@@ -1,6 +1,7 @@
 //! Sessions: lines that come in pieces, faults that are passed over, and when answers are flushed.
 
 use super::Echo;
+use crate::rows::{Row as Told, Step, each_holds, first_wrong, none_is_wrong};
 use pc_script::{Conversed, Helper, MOST_LINE, ScriptFault, run_session};
 use std::alloc::{AllocError, Global};
 use std::io::{self, BufWriter, Error, ErrorKind, Read, Write};
@@ -175,29 +176,39 @@ static ROWS: [Row; 12] = [
     ),
 ];
 
-/// The first row that is answered otherwise where its text is cut there, and then comes in such pieces.
-fn first_wrong(alloc: Global, size: usize) -> Option<(usize, usize)> {
-    for (place, (text, output, had_fault)) in ROWS.iter().enumerate() {
-        for first in 0..64 {
-            let reader = Pieces {
-                text,
-                first,
-                size,
-                fails: false,
-            };
-            if !talks(alloc, reader, output, whole(*had_fault)) {
-                return Some((place, first));
-            }
+/// Whether the row is answered so where its text is cut at any place, and then comes in such pieces.
+fn is_answered(alloc: Global, row: &Row, size: usize) -> bool {
+    for first in 0..64 {
+        let reader = Pieces {
+            text: row.0,
+            first,
+            size,
+            fails: false,
+        };
+        if !talks(alloc, reader, row.1, whole(row.2)) {
+            return false;
         }
     }
-    None
+    true
+}
+
+impl Step<usize> for Row {
+    fn holds(&self, alloc: Global, size: &mut usize) -> bool {
+        is_answered(alloc, self, *size)
+    }
+}
+
+/// The place of the first row that is answered otherwise in such pieces.
+fn first_other(alloc: Global, size: usize) -> Option<usize> {
+    let mut size = size;
+    first_wrong(alloc, &mut size, &ROWS)
 }
 
 #[test]
 fn a_text_is_answered_alike_in_whatever_pieces_it_comes(rt: HostRuntime) {
-    assert_eq!(rt; first_wrong(rt.alloc(), 1), None);
-    assert_eq!(rt; first_wrong(rt.alloc(), 3), None);
-    assert_eq!(rt; first_wrong(rt.alloc(), 1_000), None);
+    none_is_wrong(&rt, first_other(rt.alloc(), 1));
+    none_is_wrong(&rt, first_other(rt.alloc(), 3));
+    none_is_wrong(&rt, first_other(rt.alloc(), 1_000));
 }
 
 /// Where a session flushes that comes in such pieces.
@@ -208,23 +219,28 @@ fn places_of_flushes(alloc: Global, text: &[u8], size: usize) -> Option<Vec<usiz
     }
 }
 
-/// Whether it flushes there.
-fn flushes_at(alloc: Global, text: &[u8], size: usize, wanted: &[usize]) -> bool {
-    match places_of_flushes(alloc, text, size) {
-        Some(at) => at.as_slice() == wanted,
-        None => false,
+/// A text, the size of its pieces, and where a session flushes.
+type Flushed = (&'static [u8], usize, &'static [usize]);
+
+impl Told for Flushed {
+    fn holds(&self, alloc: Global) -> bool {
+        match places_of_flushes(alloc, self.0, self.1) {
+            Some(at) => at.as_slice() == self.2,
+            None => false,
+        }
     }
 }
 
 // Before each read, and at the end: a line is answered as soon as its line feed was read.
 #[test]
 fn answers_are_flushed_before_each_read_and_at_no_other_time(rt: HostRuntime) {
-    let alloc = rt.alloc();
-    let text = b"wake t1\nwake t2\nwake t3\n".as_slice();
-    assert!(rt; flushes_at(alloc, text, 1_000, &[0, 48, 48]));
-    assert!(rt; flushes_at(alloc, text, 8, &[0, 16, 32, 48, 48]));
-    assert!(rt; flushes_at(alloc, text, 12, &[0, 16, 48, 48]));
-    assert!(rt; flushes_at(alloc, b"wake t1", 4, &[0, 0, 0, 16]));
+    static FLUSHES: [Flushed; 4] = [
+        (b"wake t1\nwake t2\nwake t3\n", 1_000, &[0, 48, 48]),
+        (b"wake t1\nwake t2\nwake t3\n", 8, &[0, 16, 32, 48, 48]),
+        (b"wake t1\nwake t2\nwake t3\n", 12, &[0, 16, 48, 48]),
+        (b"wake t1", 4, &[0, 0, 0, 16]),
+    ];
+    each_holds(&rt, rt.alloc(), &FLUSHES);
 }
 
 /// A read fails behind the text.
@@ -237,29 +253,34 @@ fn failing(text: &[u8]) -> Pieces<'_> {
     }
 }
 
+/// The text was not read to its end, with a fault or without one.
+const fn broken(had_fault: bool) -> Result<Conversed, ScriptFault> {
+    Ok(Conversed {
+        had_fault,
+        is_whole: false,
+    })
+}
+
+/// A text behind which a read fails, what a session writes of it, and whether it has a fault.
+impl Told for Row {
+    fn holds(&self, alloc: Global) -> bool {
+        talks(alloc, failing(self.0), self.1, broken(self.2))
+    }
+}
+
 // What is left of the text is its last line, as at its end.
 #[test]
 fn a_failed_read_ends_a_session_and_is_told(rt: HostRuntime) {
-    let alloc = rt.alloc();
-    let broken = Ok(Conversed {
-        had_fault: false,
-        is_whole: false,
-    });
-    assert!(rt; talks(alloc, failing(b""), b"", broken));
-    let output = b"refused Stale 1\nrefused Stale 2\n".as_slice();
-    assert!(rt; talks(alloc, failing(b"wake t1\nwake t2"), output, broken));
-    let faulty = Ok(Conversed {
-        had_fault: true,
-        is_whole: false,
-    });
-    assert!(rt;
-        talks(
-            alloc,
-            failing(b"walk\nwa"),
-            b"fault line 1\nfault line 2\n",
-            faulty
-        )
-    );
+    static FAILED: [Row; 3] = [
+        (b"", b"", false),
+        (
+            b"wake t1\nwake t2",
+            b"refused Stale 1\nrefused Stale 2\n",
+            false,
+        ),
+        (b"walk\nwa", b"fault line 1\nfault line 2\n", true),
+    ];
+    each_holds(&rt, rt.alloc(), &FAILED);
 }
 
 /// The line `wake t1`, with spaces up to so many bytes, and then this.
@@ -273,18 +294,25 @@ fn long_line(alloc: Global, length: usize, end: &[u8]) -> Result<Vec<u8>, AllocE
     Ok(text)
 }
 
-/// Whether such a line is answered so, at once and in pieces.
-fn long_ends(alloc: Global, length: usize, end: &[u8], output: &[u8], had_fault: bool) -> bool {
-    match long_line(alloc, length, end) {
-        Ok(text) => [1_000, 65_536, 65_537, 65_538, 200_000].iter().all(|size| {
-            talks(
-                alloc,
-                in_pieces(text.as_slice(), *size),
-                output,
-                whole(had_fault),
-            )
-        }),
-        Err(_) => false,
+/// A line's length, what follows it, what a session writes of it, and whether it has a fault.
+type Long = (usize, &'static [u8], &'static [u8], bool);
+
+/// Whether the text is answered so, at once and in pieces.
+fn is_answered_in_pieces(alloc: Global, text: &[u8], row: &Long) -> bool {
+    for size in [1_000, 65_536, 65_537, 65_538, 200_000] {
+        if !talks(alloc, in_pieces(text, size), row.2, whole(row.3)) {
+            return false;
+        }
+    }
+    true
+}
+
+impl Told for Long {
+    fn holds(&self, alloc: Global) -> bool {
+        match long_line(alloc, self.0, self.1) {
+            Ok(text) => is_answered_in_pieces(alloc, text.as_slice(), self),
+            Err(_) => false,
+        }
     }
 }
 
@@ -298,29 +326,37 @@ const FAULT_AND_ONE: &[u8] = b"fault line 1\nrefused Stale 2\n";
 
 #[test]
 fn a_line_of_more_than_65536_bytes_is_passed_over(rt: HostRuntime) {
-    let alloc = rt.alloc();
-    assert!(rt; long_ends(alloc, MOST_LINE, b"", ONE, false));
-    assert!(rt; long_ends(alloc, MOST_LINE, b"\r", ONE, false));
-    assert!(rt; long_ends(alloc, MOST_LINE, b"\r\nwake t2", TWO, false));
-    assert!(rt; long_ends(alloc, MOST_LINE + 1, b"", FAULT, true));
-    assert!(rt; long_ends(alloc, MOST_LINE + 1, b"\nwake t2\n", FAULT_AND_ONE, true));
-    assert!(rt; long_ends(alloc, MOST_LINE + 1, b"\r\nwake t2\n", FAULT_AND_ONE, true));
-    assert!(rt; long_ends(alloc, 3 * MOST_LINE, b"\nwake t2\n", FAULT_AND_ONE, true));
-    assert!(rt; long_ends(alloc, 3 * MOST_LINE, b"", FAULT, true));
+    static LONG: [Long; 8] = [
+        (MOST_LINE, b"", ONE, false),
+        (MOST_LINE, b"\r", ONE, false),
+        (MOST_LINE, b"\r\nwake t2", TWO, false),
+        (MOST_LINE + 1, b"", FAULT, true),
+        (MOST_LINE + 1, b"\nwake t2\n", FAULT_AND_ONE, true),
+        (MOST_LINE + 1, b"\r\nwake t2\n", FAULT_AND_ONE, true),
+        (3 * MOST_LINE, b"\nwake t2\n", FAULT_AND_ONE, true),
+        (3 * MOST_LINE, b"", FAULT, true),
+    ];
+    each_holds(&rt, rt.alloc(), &LONG);
 }
 
-/// How often help is asked for.
-fn helped(alloc: Global, text: &[u8]) -> Option<u32> {
-    match talked(alloc, in_pieces(text, 4)) {
-        Ok(talked) => Some(talked.helped),
-        Err(_) => None,
+/// A text, and how often help is asked for.
+type Helped = (&'static [u8], u32);
+
+impl Told for Helped {
+    fn holds(&self, alloc: Global) -> bool {
+        match talked(alloc, in_pieces(self.0, 4)) {
+            Ok(talked) => talked.helped == self.1,
+            Err(_) => false,
+        }
     }
 }
 
 #[test]
 fn a_question_mark_alone_asks_for_help(rt: HostRuntime) {
-    let alloc = rt.alloc();
-    assert_eq!(rt; helped(alloc, b"?"), Some(1));
-    assert_eq!(rt; helped(alloc, b"?\nwake t1\n?\r\n??\n? \n"), Some(2));
-    assert_eq!(rt; helped(alloc, b"wake t1\n"), Some(0));
+    static HELPED: [Helped; 3] = [
+        (b"?", 1),
+        (b"?\nwake t1\n?\r\n??\n? \n", 2),
+        (b"wake t1\n", 0),
+    ];
+    each_holds(&rt, rt.alloc(), &HELPED);
 }
