@@ -368,15 +368,12 @@ fn explain_parser<'a>(alloc: Global) -> Result<Parser<'a>, AllocError>
 fn draw_parser<'a>(alloc: Global) -> Result<Parser<'a>, AllocError>
     ensures { IfOk result (λ parser. app_of parser ≡ drawing) }
 {
-    let cpus = option_of(alloc, "cpus", "NUMBERS", CPUS);
-    let lines = option_of(alloc, "lines", "NUMBERS", LINES);
-    let time = flag_of(alloc, "time", TIME);
     parser_of_file(alloc, "draw", SCRIPT)?
         .about(ABOUT_DRAW)
         .after_help(AFTER_DRAW)
-        .arg(cpus)?
-        .arg(lines)?
-        .arg(time)
+        .arg(option_of(alloc, "cpus", "NUMBERS", CPUS))?
+        .arg(option_of(alloc, "lines", "NUMBERS", LINES))?
+        .arg(flag_of(alloc, "time", TIME))
 }
 
 /// The option `--policy NAME`.
@@ -422,19 +419,14 @@ fn session_parser<'a>(alloc: Global) -> Result<Parser<'a>, AllocError>
 fn lab_parser<'a>(alloc: Global) -> Result<Parser<'a>, AllocError>
     ensures { IfOk result (λ parser. app_of parser ≡ lab) }
 {
-    let variants = option_of(alloc, "variants", "FILE", VARIANTS);
-    let per_cpu = flag_of(alloc, "per-cpu", EACH_CPU);
-    let csv = flag_of(alloc, "csv", CSV);
-    let picture = flag_of(alloc, "picture", WAITS);
-    let script = option_of(alloc, "script", "NAME", SCRIPT_OF);
     parser_of_file(alloc, "lab", LOAD)?
         .about(ABOUT_LAB)
         .after_help(AFTER_LAB)
-        .arg(variants)?
-        .arg(per_cpu)?
-        .arg(csv)?
-        .arg(picture)?
-        .arg(script)
+        .arg(option_of(alloc, "variants", "FILE", VARIANTS))?
+        .arg(flag_of(alloc, "per-cpu", EACH_CPU))?
+        .arg(flag_of(alloc, "csv", CSV))?
+        .arg(flag_of(alloc, "picture", WAITS))?
+        .arg(option_of(alloc, "script", "NAME", SCRIPT_OF))
 }
 
 /// The program's parser.
