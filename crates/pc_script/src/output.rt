@@ -10,7 +10,7 @@ ghost use Rattle.pc_script.specs.Responses.{numbers_text, response_text, shown_t
 ghost use Rattle.pc_script.specs.declared.response.Response.{Response};
 
 use crate::lists::{ShownThread, ShownThreads};
-use crate::place::put_text;
+use crate::place::put_line;
 use crate::response::Response;
 use crate::short::{write_line, write_row};
 use crate::text::{LineEnd, ROOM};
@@ -50,7 +50,7 @@ impl Waiting {
         requires room { self.old.len + length text.now ≤ MOST_WAITING }
         ensures { waiting self.new ≡ waiting self.old ++ text.now }
     {
-        self.len = put_text(&mut self.bytes, self.len, text);
+        self.len = put_line(&mut self.bytes, self.len, text);
     }
 
     /// Puts a line's text behind what waits, and first writes what waits, where there is no room for both. Answers

@@ -1,5 +1,5 @@
-//! A text that is put at a place in a buffer. One of few bytes is moved in two pieces of a fixed size, which may
-//! overlap: that takes no call, and no loop over its bytes.
+//! A text that is put at a place in a buffer, of which all else stays. One of few bytes is moved in two pieces of a
+//! fixed size, which may overlap: that takes no call, and no loop over its bytes.
 
 ghost use Rattle.std.specs.Prelude.{◌≡◌, ◌+◌, ◌≤◌, length, take};
 ghost use Rattle.pc_script.specs.Inner.Outputs.{IsPlaced};
@@ -39,16 +39,15 @@ fn put_any(bytes: &mut [u8], at: usize, text: &[u8]) -> usize
     end
 }
 
-/// Puts a text that has fewer bytes than most lines, or more, at a place.
-#[inline(never)]
-fn put_other(bytes: &mut [u8], at: usize, text: &[u8]) -> usize
-    requires { at + length text.now ≤ length bytes.old }
+/// Puts a text of fewer than 16 bytes at a place.
+#[inline(always)]
+fn put_short(bytes: &mut [u8], at: usize, text: &[u8]) -> usize
+    requires fits { at + length text.now ≤ length bytes.old }
+    requires few { length text.now ≤ 15 }
     ensures { IsPlaced bytes.old bytes.new at text.now result }
 {
     let len = text.len();
-    if len >= 16 {
-        put_any(bytes, at, text)
-    } else if len >= 8 {
+    if len >= 8 {
         put_ends::<8>(bytes, at, text)
     } else if len >= 4 {
         put_ends::<4>(bytes, at, text)
@@ -59,9 +58,22 @@ fn put_other(bytes: &mut [u8], at: usize, text: &[u8]) -> usize
     }
 }
 
-/// Puts a text at a place, and answers where it ends. Behind its end all may have changed.
+/// Puts a text that has fewer bytes than most lines, or more, at a place.
+#[inline(never)]
+fn put_other(bytes: &mut [u8], at: usize, text: &[u8]) -> usize
+    requires { at + length text.now ≤ length bytes.old }
+    ensures { IsPlaced bytes.old bytes.new at text.now result }
+{
+    if text.len() < 16 {
+        put_short(bytes, at, text)
+    } else {
+        put_any(bytes, at, text)
+    }
+}
+
+/// Puts a line's text at a place, and answers where it ends.
 #[inline(always)]
-pub(crate) fn put_text(bytes: &mut [u8], at: usize, text: &[u8]) -> usize
+pub(crate) fn put_line(bytes: &mut [u8], at: usize, text: &[u8]) -> usize
     requires { at + length text.now ≤ length bytes.old }
     ensures { IsPlaced bytes.old bytes.new at text.now result }
 {
@@ -70,5 +82,21 @@ pub(crate) fn put_text(bytes: &mut [u8], at: usize, text: &[u8]) -> usize
         put_ends::<16>(bytes, at, text)
     } else {
         put_other(bytes, at, text)
+    }
+}
+
+/// Puts a text whose length the compiler knows, which leaves one of these ways, at a place.
+#[inline(always)]
+pub(crate) fn put_known(bytes: &mut [u8], at: usize, text: &[u8]) -> usize
+    requires { at + length text.now ≤ length bytes.old }
+    ensures { IsPlaced bytes.old bytes.new at text.now result }
+{
+    let len = text.len();
+    if len < 16 {
+        put_short(bytes, at, text)
+    } else if len <= 32 {
+        put_ends::<16>(bytes, at, text)
+    } else {
+        put_any(bytes, at, text)
     }
 }

@@ -5,6 +5,7 @@
 
 ghost use Rattle.std.specs.Prelude.{◌≡◌, [], ◌++◌, ◌+◌, ◌≤◌, decimal, drop, length};
 
+use crate::place::put_known;
 use itoa::write_digits;
 
 /// At least the bytes of a line of five numbers, of 20 digits each, and of the words between them.
@@ -47,7 +48,7 @@ impl LineEnd {
         ensures written { drop self.new.start self.new.bytes ≡ text.now ++ drop self.old.start self.old.bytes }
     {
         let start = self.start - text.len();
-        self.bytes[start..self.start].copy_from_slice(text);
+        put_known(&mut self.bytes, start, text);
         self.start = start;
     }
 

@@ -1,5 +1,5 @@
 -- What a script has written, and what waits to be written.
-use Rattle.std.specs.Prelude.{◌≡◌, ℕ, ◌+◌, ◌++◌, List, Option, codes, decimal, length, take}
+use Rattle.std.specs.Prelude.{◌≡◌, ℕ, ◌+◌, ◌++◌, List, Option, codes, decimal, drop, length, take}
 use Rattle.std.specs.Io.KnownBytes.{append_known}
 use Rattle.pc_script.specs.Grammar.{thread_name}
 use Rattle.pc_script.specs.Responses.{reported_text}
@@ -25,8 +25,9 @@ row_text shown =
     thread_name shown.thread
     ++ (codes " upto " ++ (decimal shown.upto ++ (codes " " ++ (reported_text shown.reported ++ codes " early "))))
 
--- a text stands behind the first `at` bytes of the old ones, up to `end`; behind that all may have changed
+-- a text stands behind the first `at` bytes of the old ones, up to `end`; behind that nothing has changed
 pub record IsPlaced (old new : List ℕ) (at : ℕ) (text : List ℕ) (end : ℕ) : Type 0 where
   pub bytes : take end new ≡ take at old ++ text
+  pub rest : drop end new ≡ drop end old
   pub moved : end ≡ at + length text
   pub same_length : length new ≡ length old

@@ -1,5 +1,6 @@
 use Rattle.std.proofs.Common.{◌≡◌, length, take, arith, length-take-le}
 use Rattle.std.proofs.lemmas.Simd.{take_more_put_chunk, length-put_chunk}
+use Rattle.pc_script.proofs.Placing.{rest_of}
 use Rattle.pc_script.proofs.place.put_front.Goals as goal
 
 pub returns : goal.returns
@@ -8,6 +9,7 @@ returns g c =
     let long : length front ≡ g.row.N = length-take-le g.row.N c.args.text.now c.requires.0 in
     record {
       bytes = take_more_put_chunk c.args.at c.args.bytes.now front _ (omega arith) c.requires.1;
+      rest = rest_of c.args.at c.args.bytes.now front _ (omega arith) c.requires.1;
       moved = omega arith;
       same_length = length-put_chunk c.args.at c.args.bytes.now front;
     }
