@@ -180,41 +180,41 @@ fn write_refusal(line: &mut LineEnd, refusal: &Refusal)
         ≡ (codes "refused " ++ refusal_text refusal.now) ++ drop line.old.start line.old.bytes }
 {
     match refusal {
-        Refusal::BadCpu => line.text(b"refused BadCpu"),
-        Refusal::EmptyMask => line.text(b"refused EmptyMask"),
-        Refusal::MaskTooWide => line.text(b"refused MaskTooWide"),
-        Refusal::BadLevel => line.text(b"refused BadLevel"),
-        Refusal::NamesSpent => line.text(b"refused NamesSpent"),
-        Refusal::NumbersSpent => line.text(b"refused NumbersSpent"),
-        Refusal::QueueFull => line.text(b"refused QueueFull"),
-        Refusal::PostsSpent => line.text(b"refused PostsSpent"),
-        Refusal::UnknownThread => line.text(b"refused UnknownThread"),
-        Refusal::Dead => line.text(b"refused Dead"),
-        Refusal::NotBlocked => line.text(b"refused NotBlocked"),
-        Refusal::NotReady => line.text(b"refused NotReady"),
-        Refusal::IdleCpu => line.text(b"refused IdleCpu"),
-        Refusal::OnForbiddenCpu => line.text(b"refused OnForbiddenCpu"),
-        Refusal::TooMany => line.text(b"refused TooMany"),
+        Refusal::BadCpu => line.known(b"refused BadCpu"),
+        Refusal::EmptyMask => line.known(b"refused EmptyMask"),
+        Refusal::MaskTooWide => line.known(b"refused MaskTooWide"),
+        Refusal::BadLevel => line.known(b"refused BadLevel"),
+        Refusal::NamesSpent => line.known(b"refused NamesSpent"),
+        Refusal::NumbersSpent => line.known(b"refused NumbersSpent"),
+        Refusal::QueueFull => line.known(b"refused QueueFull"),
+        Refusal::PostsSpent => line.known(b"refused PostsSpent"),
+        Refusal::UnknownThread => line.known(b"refused UnknownThread"),
+        Refusal::Dead => line.known(b"refused Dead"),
+        Refusal::NotBlocked => line.known(b"refused NotBlocked"),
+        Refusal::NotReady => line.known(b"refused NotReady"),
+        Refusal::IdleCpu => line.known(b"refused IdleCpu"),
+        Refusal::OnForbiddenCpu => line.known(b"refused OnForbiddenCpu"),
+        Refusal::TooMany => line.known(b"refused TooMany"),
         Refusal::Stale(now) => {
             line.number(u64::from(*now));
-            line.text(b"refused Stale ");
+            line.known(b"refused Stale ");
         }
-        Refusal::Pending => line.text(b"refused Pending"),
+        Refusal::Pending => line.known(b"refused Pending"),
         Refusal::Running(cpu) => {
             line.number(u64::from(cpu.index()));
-            line.text(b"refused Running ");
+            line.known(b"refused Running ");
         }
         Refusal::NotYours(queue) => {
             line.number(u64::from(queue.index()));
-            line.text(b"refused NotYours ");
+            line.known(b"refused NotYours ");
         }
-        Refusal::Forbidden => line.text(b"refused Forbidden"),
-        Refusal::Busy => line.text(b"refused Busy"),
-        Refusal::NoDelta => line.text(b"refused NoDelta"),
-        Refusal::NothingReady => line.text(b"refused NothingReady"),
-        Refusal::NothingToSteal => line.text(b"refused NothingToSteal"),
-        Refusal::WireFault => line.text(b"refused WireFault"),
-        Refusal::TooLate => line.text(b"refused TooLate"),
+        Refusal::Forbidden => line.known(b"refused Forbidden"),
+        Refusal::Busy => line.known(b"refused Busy"),
+        Refusal::NoDelta => line.known(b"refused NoDelta"),
+        Refusal::NothingReady => line.known(b"refused NothingReady"),
+        Refusal::NothingToSteal => line.known(b"refused NothingToSteal"),
+        Refusal::WireFault => line.known(b"refused WireFault"),
+        Refusal::TooLate => line.known(b"refused TooLate"),
     }
 }
 

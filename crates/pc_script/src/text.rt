@@ -48,6 +48,19 @@ impl LineEnd {
         ensures written { drop self.new.start self.new.bytes ≡ text.now ++ drop self.old.start self.old.bytes }
     {
         let start = self.start - text.len();
+        self.bytes[start..self.start].copy_from_slice(text);
+        self.start = start;
+    }
+
+    /// Writes a text whose length the compiler knows in front of what is written.
+    // Elsewhere `text` is shorter code, so that what calls it is still put in the place of its own calls.
+    #[inline(always)]
+    pub(crate) fn known(&mut self, text: &[u8])
+        requires fits { (length text.now ≤ self.old.start) × (self.old.start ≤ ROOM) }
+        ensures start { self.new.start + length text.now ≡ self.old.start }
+        ensures written { drop self.new.start self.new.bytes ≡ text.now ++ drop self.old.start self.old.bytes }
+    {
+        let start = self.start - text.len();
         put_known(&mut self.bytes, start, text);
         self.start = start;
     }

@@ -1,6 +1,6 @@
 use Rattle.std.proofs.Common.{◌≡◌, ◌++◌, ◌∙◌, ap, arith, drop}
 use Rattle.pc_script.proofs.Placing.{placed_behind}
-use Rattle.pc_script.proofs.text.LineEnd.text.Goals as goal
+use Rattle.pc_script.proofs.text.LineEnd.known.Goals as goal
 
 pub returns-clause-written : goal.returns-clause-written
 returns-clause-written c =
