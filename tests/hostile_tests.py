@@ -16,6 +16,7 @@ ROOT = pathlib.Path(__file__).resolve().parent.parent
 sys.path.insert(0, str(ROOT / "tests/hostile"))
 import fuzz  # noqa: E402
 import growths  # noqa: E402
+import loads  # noqa: E402
 import replies  # noqa: E402
 import settings  # noqa: E402
 import streams  # noqa: E402
@@ -168,6 +169,14 @@ class Hostile(unittest.TestCase):
         self.assertIn("status 4", fuzz.fault_of_script(self.machine("TAKES_MUCH"), 0))
         self.assertEqual(fuzz.drawn_script(7), fuzz.drawn_script(7))
         self.assertNotEqual(fuzz.drawn_script(7), fuzz.drawn_script(8))
+
+    def test_drawn_loads(self):
+        """A program that answers each line of a load `ok` tells no table of it, and no fault."""
+        self.assertRegex(loads.fault_of_drawn(self.machine(), 0), "status 0")
+        every = [loads.drawn_load(place) for place in range(50)]
+        self.assertEqual({is_spoilt for _, is_spoilt in every}, {False, True})
+        self.assertEqual(every[7], loads.drawn_load(7))
+        self.assertNotEqual(every[7], every[8])
 
     def test_each_malformed_text_is_a_subject_of_growths(self):
         every = {subject.name: subject for subject in subjects.replayed(self.folder)}

@@ -50,6 +50,7 @@ LOOKS = {"fill", "stroke", "stroke-width", "stroke-dasharray", "font-size", "fon
 # How many worked files end like this, and how many rows tests/lab_faults/expected has.
 FILES = {".toml": 8, ".table": 8, ".csv": 8, ".script": 20, ".replies": 20}
 FAULTS, MOST_BYTES = 59, 16_777_216
+U32 = 2**32 - 1
 
 
 def files(suffix: str) -> list[pathlib.Path]:
@@ -300,6 +301,50 @@ class Program(unittest.TestCase):
             for name, wanted in (("plain", "pc-sim: lab ScriptTooLong\n"), ("none", "pc-sim: lab NoVariant\n")):
                 ended = program(load, "--script", name)
                 self.assertEqual((ended.returncode, ended.stdout, ended.stderr), (1, "", wanted))
+
+    def test_numbers_at_their_bounds(self):
+        """The greatest number of each key is taken, and the next is the fault of the key's table."""
+        thread = "cpus = 1\n[[thread]]\nqueue = 0\nmask = 1\n"
+        ends = thread + 'steps = ["die 1"]\n'
+        sleeps = thread + 'steps = ["block 1", "die 1"]\n'
+        variant = ends + '[[variant]]\nname = "least"\n'
+        rows = [(f"{variant}{key} = {{}}\n", most, "BadVariant 0") for key, most in
+                (("group", 64), ("quantum", U32), ("delay", U32), ("cost", U32))]
+        rows += [(ends + "start = {}\n", U32, "BadLoad 0"), (ends + "level = {}\n", 7, "BadLoad 0")]
+        rows += [(sleeps + "sleeps = [{}]\n", U32, "BadLoad 0")]
+        with tempfile.TemporaryDirectory() as folder:
+            load = pathlib.Path(folder) / "load.toml"
+            for text, most, fault in rows:
+                load.write_text(text.format(most))
+                ended = program(load)
+                self.assertEqual((ended.returncode, ended.stderr), (0, ""), text)
+                self.assertIn("done", ended.stdout, text)
+                load.write_text(text.format(most + 1))
+                ended = program(load)
+                self.assertEqual((ended.returncode, ended.stdout, ended.stderr), (1, "", f"pc-sim: lab {fault}\n"), text)
+
+    def test_steps_at_their_bound(self):
+        with tempfile.TemporaryDirectory() as folder:
+            load = pathlib.Path(folder) / "load.toml"
+            for count, ended_so in ((100_000, (0, "")), (100_001, (1, "pc-sim: lab BadThread 0\n"))):
+                steps = (count - 1) * '"yield 1", ' + '"die 1"'
+                load.write_text(f"cpus = 1\n[[thread]]\nqueue = 0\nmask = 1\nsteps = [{steps}]\n")
+                ended = program(load)
+                self.assertEqual((ended.returncode, ended.stderr), ended_so)
+                self.assertEqual(f"ticks ran{count:25}\n" in ended.stdout, not ended_so[0])
+
+    def test_spent_numbers_end_a_run(self):
+        """Worked out by hand. Two threads of one CPU take turns of a tick. Each has 1,000,000 numbers: of its creation, and of
+        999,999 preempts. So at the ends of 1,999,998 ticks a preempt is told, and at that of the next there is no number."""
+        thread = '[[thread]]\nqueue = 0\nmask = 1\nsteps = ["die 100000000"]\n'
+        with tempfile.TemporaryDirectory() as folder:
+            load = pathlib.Path(folder) / "load.toml"
+            load.write_text(f'cpus = 1\n{thread}{thread}[[variant]]\nname = "spent"\norder = "least-ran"\nquantum = 1\n')
+            ended = program(load)
+        self.assertEqual((ended.returncode, ended.stderr), (0, ""))
+        rows = dict(line.rsplit(None, 1) for line in ended.stdout.splitlines())
+        wanted = {"end": "NumbersSpent", "makespan": "1999999", "messages": "2000000", "refused preempt NumbersSpent": "1"}
+        self.assertEqual({name: rows.get(name) for name in wanted}, wanted)
 
     def test_quanta_of_which_nothing_comes_cost_no_time(self):
         """Worked out by hand. Two threads run alone, for some 2^32 quanta each; and one that stands before the other that

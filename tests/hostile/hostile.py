@@ -16,6 +16,7 @@ from dataclasses import dataclass
 from calls import refuse_in_calls
 from fuzz import draw_growths, draw_scripts
 from growths import bound_stack, refuse_growths, refuse_memory
+from loads import draw_loads
 from machine import ROOT, Machine, NoCompiler, Tally
 from settings import draw_settings, use_rows
 from streams import disturb_streams
@@ -34,7 +35,7 @@ class Form:
     lines: int  # of each generated script; with 0 there is none
     of_generated: int  # growths of each of these
     step: int  # of the address space
-    settings: int  # growths of each row of settings; and a tenth of the drawn scripts are as many drawn settings
+    settings: int  # growths of each row of settings; and a tenth of the drawn scripts are as many drawn settings, and drawn loads
 
 
 SHORT = Form(growths=12, bytes_moved=12, scripts=600, lines=0, of_generated=0, step=2**19, settings=3)
@@ -60,6 +61,7 @@ def parts_of(machine, tally, options):
         "drawn growths": lambda: draw_growths(machine, tally, scripts // 2),
         "settings": lambda: use_rows(machine, tally, form.settings),
         "drawn settings": lambda: draw_settings(machine, tally, scripts // 10),
+        "drawn loads": lambda: draw_loads(machine, tally, scripts // 10),
     }
     left_out = set() if form.lines else {"growths of long scripts"}
     return {name: part for name, part in parts.items() if name in (options.part or parts) and name not in left_out}

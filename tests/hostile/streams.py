@@ -5,6 +5,7 @@ import os
 import pathlib
 import subprocess
 
+from loads import streamed
 from machine import SECONDS, Run, Subject, ended, ending_of, told
 from settings import ONE_TOTALS, ROWS, written
 from subjects import OPENING, drawn, ends_with_its_fault, examples, explained, explained_talk, talked
@@ -16,7 +17,7 @@ LONG = 3000
 
 
 def subjects(folder):
-    """Each example by its name and on the standard input, a script whose answers fill buffers, one with a fault, and an empty one; and settings."""
+    """Each example by its name and on the standard input, a script whose answers fill buffers, one with a fault, and an empty one; settings, and loads."""
     for example in examples():
         yield example
         yield explained(example)
@@ -39,6 +40,7 @@ def subjects(folder):
             yield talked(script)
             yield explained_talk(script)
     yield from settings(folder)
+    yield from streamed()
 
 
 def settings(folder):
