@@ -12,6 +12,7 @@ import filecmp
 import gzip
 import os
 import pathlib
+import re
 import shutil
 import subprocess
 import sys
@@ -28,6 +29,13 @@ EXAMPLES = [
     ("replay", "first-run.script", "first-run.output"),
     ("run", "steals-and-restarts.toml", "steals-and-restarts.output"),
 ]
+# Of both packages, below usr or the archive's folder.
+FILES = [
+    "bin/pc-sim-record-loads", "bin/pc-sim-sweep", "share/pc-sim/load_kinds.py",
+    "share/doc/pc-sim/docs/WALK_THROUGH.md", "share/doc/pc-sim/docs/pictures/crash-and-steal.png",
+]
+IMAGE_OR_PAGE = re.compile(r"\]\(([\w./-]+)\)")
+TYPED_TOOL = re.compile(r"^    (?:\$ )?tools/([\w-]+)", re.MULTILINE)
 
 
 def run(words: list[str], **more: object) -> subprocess.CompletedProcess[str]:
@@ -43,6 +51,12 @@ def can_change_the_root(root: pathlib.Path) -> bool:
     tried = subprocess.run([sys.executable, "-c", f"import os; os.chroot({str(root)!r}); os.setuid({NOBODY})"],
                            capture_output=True)
     return tried.returncode == 0
+
+
+def first_examples() -> list[str]:
+    """The first three commands of README.md, without the one that folds their lines."""
+    typed = re.findall(r"^    \./(pc-sim .*)$", (ROOT / "README.md").read_text(), re.MULTILINE)
+    return [line.partition(" |")[0] for line in typed[:3]]
 
 
 def has_pip() -> bool:
@@ -73,35 +87,86 @@ class Packages(unittest.TestCase):
         ended = run(["sha256sum", "--check", "--strict", "SHA256SUMS"], cwd=self.top / "one")
         self.assertEqual((ended.returncode, len(ended.stdout.splitlines())), (0, 2), ended.stdout)
 
-    def unpacked(self, name: str) -> pathlib.Path:
-        """The package, unpacked into a root with nothing else but the libraries of the program."""
-        root = self.top / name
-        ended = run(["dpkg-deb", "-x", str(self.package), str(root)])
+    def unpacked(self, packed: pathlib.Path) -> tuple[pathlib.Path, pathlib.Path]:
+        """A root with the package, or the archive, and the folder there that has `bin` and `share`."""
+        root = pathlib.Path(tempfile.mkdtemp(dir=self.top))
+        root.chmod(0o755)
+        if packed == self.package:
+            words, top = ["dpkg-deb", "-x", str(packed), str(root)], root / "usr"
+        else:
+            words, top = ["tar", "-xJf", str(packed), "-C", str(root)], root / packed.name.removesuffix(".tar.xz")
+        ended = run(words)
         self.assertEqual(ended.returncode, 0, ended.stderr)
-        for word in run(["ldd", str(PROGRAM)]).stdout.split():
-            if word.startswith("/"):
+        return root, top
+
+    def test_a_root_with_nothing_but_the_package_runs_the_examples(self):
+        self.run_examples(*self.unpacked(self.package))
+
+    def test_a_root_with_nothing_but_the_archive_runs_the_examples(self):
+        self.run_examples(*self.unpacked(self.archive))
+
+    def run_examples(self, root: pathlib.Path, top: pathlib.Path) -> None:
+        """Runs them as a user, where there is nothing else but bash and the libraries of both."""
+        if not can_change_the_root(root):
+            self.skipTest("the root cannot be changed here")
+        bash = shutil.which("bash")
+        for word in [bash, *run(["ldd", str(PROGRAM), bash]).stdout.split()]:
+            if word.startswith("/") and not word.endswith(":"):
                 place = root / word.lstrip("/")
                 place.parent.mkdir(parents=True, exist_ok=True)
                 shutil.copy(word, place)
-        return root
-
-    def test_a_root_with_nothing_else_runs_the_examples(self):
-        root = self.unpacked("root")
-        if not can_change_the_root(root):
-            self.skipTest("the root cannot be changed here")
+        there, here = root / "home", root / "here"
+        there.mkdir()
+        here.mkdir()
+        os.chown(there, NOBODY, NOBODY)
+        (here / "pc-sim").symlink_to(PROGRAM)
+        installed = pathlib.Path("/", top.relative_to(root))
+        (there / "examples").symlink_to(installed / "share/doc/pc-sim/examples")
+        (here / "examples").symlink_to(ROOT / "examples")
 
         def enter() -> None:
             os.chroot(root)
-            os.chdir("/")
+            os.chdir("/home")
             os.setgid(NOBODY)
             os.setuid(NOBODY)
 
-        examples = root / "usr/share/doc/pc-sim/examples"
+        def typed(line: str) -> subprocess.CompletedProcess[str]:
+            ended = run([bash, "-c", line], preexec_fn=enter, env={"PATH": str(installed / "bin")})
+            self.assertEqual((ended.returncode, ended.stderr), (0, ""), line)
+            return ended
+
         for command, given, wanted in EXAMPLES:
-            words = ["/usr/bin/pc-sim", command, f"/usr/share/doc/pc-sim/examples/{given}"]
-            ended = run(words, preexec_fn=enter, env={"PATH": "/usr/bin"})
-            self.assertEqual((ended.returncode, ended.stderr), (0, ""), given)
-            self.assertEqual(ended.stdout, (examples / wanted).read_text(), given)
+            told = typed(f"pc-sim {command} examples/{given}").stdout
+            self.assertEqual(told, (top / "share/doc/pc-sim/examples" / wanted).read_text(), given)
+        lines = first_examples()
+        self.assertEqual([line.split()[1] for line in lines], ["explain", "draw", "run"])
+        for line in lines:
+            own = run([bash, "-c", line], cwd=here, env={"PATH": str(here)})
+            self.assertEqual((typed(line).stdout, own.returncode), (own.stdout, 0), line)
+        picture = (there / "picture.svg").read_text()
+        self.assertEqual((picture[:4], picture), ("<svg", (here / "picture.svg").read_text()))
+
+    def test_what_documents_name_is_there(self):
+        for packed in (self.package, self.archive):
+            _, top = self.unpacked(packed)
+            documents = top / "share/doc/pc-sim"
+            for page in documents.rglob("*.md"):
+                text = page.read_text()
+                named = [page.parent / it for it in IMAGE_OR_PAGE.findall(text)]
+                named += [top / f"bin/pc-sim-{it}" for it in TYPED_TOOL.findall(text)]
+                self.assertEqual([it for it in named if not it.exists()], [], page)
+            self.assertEqual([it for it in FILES if not (top / it).exists()], [])
+
+    def test_the_tools_run_where_they_are_installed(self):
+        _, top = self.unpacked(self.package)
+        environment = {"PATH": str(top / "bin")}
+        for tool in sorted(top.glob("bin/pc-sim-*")):
+            ended = run([sys.executable, str(tool), "--help"], env=environment)
+            self.assertEqual(ended.returncode, 0, ended.stderr)
+        for tool, lab in (("sweep", "pc-sim lab"), ("record-loads", f"{top}/bin/pc-sim lab")):
+            script = f"import runpy; print(runpy.run_path({str(top / 'share/pc-sim' / tool)!r})['usual_lab']())"
+            told = run([sys.executable, "-c", script], env={**environment, "PYTHONPATH": str(top / "share/pc-sim")})
+            self.assertEqual(told.stdout, f"{lab}\n", told.stderr)
 
     def test_it_is_installed_and_removed_without_a_trace(self):
         if os.geteuid() != 0:
@@ -116,9 +181,19 @@ class Packages(unittest.TestCase):
         ended = run([*dpkg, "-i", str(self.package)])
         self.assertEqual(ended.returncode, 0, ended.stderr)
         self.assertTrue(os.access(root / "usr/bin/pc-sim", os.X_OK))
+        self.run_as_root(root)
         ended = run([*dpkg, "-r", "pc-sim"])
         self.assertEqual(ended.returncode, 0, ended.stderr)
         self.assertEqual(self.files_of(root), before)
+
+    def run_as_root(self, root: pathlib.Path) -> None:
+        """Runs a tool and the client, so that Python keeps what it compiled beside them."""
+        modules = root / "usr/lib/python3/dist-packages"
+        for words in ([str(root / "usr/bin/pc-sim-lab"), "--help"], ["-c", "import nimhessian"]):
+            ended = run([sys.executable, *words], env={"PATH": "", "PYTHONPATH": str(modules)})
+            self.assertEqual(ended.returncode, 0, ended.stderr)
+        for folder in (root / "usr/share/pc-sim", modules / "nimhessian"):
+            self.assertTrue((folder / "__pycache__").is_dir(), folder)
 
     def files_of(self, root: pathlib.Path) -> set[pathlib.Path]:
         return {path for path in root.rglob("*") if "dpkg" not in path.parts}
@@ -134,11 +209,7 @@ class Packages(unittest.TestCase):
         self.assertEqual(ended.returncode, 0, ended.stdout + ended.stderr)
 
     def test_the_archive_has_the_same_program_and_the_client(self):
-        place = self.top / "archive"
-        place.mkdir()
-        ended = run(["tar", "-xJf", str(self.archive), "-C", str(place)])
-        self.assertEqual(ended.returncode, 0, ended.stderr)
-        (top,) = place.iterdir()
+        _, top = self.unpacked(self.archive)
         self.assertEqual((top / "bin/pc-sim").read_bytes(), PROGRAM.read_bytes())
         told = run([str(top / "bin/pc-sim"), "--version"], env={"PATH": ""})
         self.assertEqual(told.stdout.split()[:2], ["pc-sim", top.name.split("-")[2]])
@@ -173,8 +244,10 @@ def main() -> int:
     PROGRAM = args.program.resolve()
     result = unittest.TextTestRunner(sys.stdout, verbosity=1).run(
         unittest.defaultTestLoader.loadTestsFromModule(sys.modules[__name__]))
-    failed = len(result.failures) + len(result.errors)
-    print(f"{result.testsRun - failed} passed, {failed} failed")
+    failed, skipped = len(result.failures) + len(result.errors), len(result.skipped)
+    for test, reason in result.skipped:
+        print(f"skipped: {test}: {reason}")
+    print(f"{max(result.testsRun - failed - skipped, 0)} passed, {failed} failed")
     return 1 if failed else 0
 
 
