@@ -15,6 +15,10 @@
     generate.py steals LINES        one agent steals all threads of another (half as many as lines, 4,096 at most), then finds none, again and again
     generate.py day LINES           64 agents in groups of four that exchange all they see: threads picked, blocked, woken, stolen, and now and then a crash
     generate.py restarts LINES      agents that crash, learn all of 4,096 threads from an answer, and take threads back
+    generate.py shortest LINES      the shortest command, `tick 0`, which is refused but the first time
+    generate.py shows LINES         20,000 threads that an agent knows, shown again and again (30 times with 20,034 lines)
+    generate.py levels LINES        2,000 times another level of one thread, published and consumed, in a run list of as many names as LINES
+                                    leaves (6,004 lines are for the rest: 7,004 for 1,000 names)
 """
 import random
 import sys
@@ -371,6 +375,43 @@ def day(lines):
         written += len(turn)
 
 
+def shortest(lines):
+    """A queue that is full behind the first line, so that a line costs little more than to read it and to answer."""
+    yield "enclave 1 1 1 1 1"
+    for _ in range(1, lines):
+        yield "tick 0"
+
+
+def shows(lines):
+    """A view that is answered in 20,000 lines."""
+    threads = 20_000
+    yield from ("version 2", f"enclave 1 {threads} 1000000 65536 4294967295")
+    for _ in range(threads):
+        yield "create 0 1 ready"
+    yield from look(0)
+    for _ in range(threads + 4, lines):
+        yield "show 0"
+
+
+def levels(lines):
+    """One name of a long run list comes to its front, and stays there while its thread's level changes."""
+    changes = 2_000
+    threads = max(1, lines - 4 - 3 * changes)
+    yield from ("version 2", f"enclave 1 {min(threads, 65_535)} 1000000 65536 4294967295")
+    for _ in range(threads):
+        yield "create 0 1 ready"
+    yield from look(0)
+    for change in range(changes):
+        yield f"priority t{threads // 2} {1 + change % 7}"
+        yield from look(0)
+
+
+def look(cpu):
+    """An agent sends what its queue holds, and removes it."""
+    yield f"publish {cpu}"
+    yield f"consume {cpu}"
+
+
 SCRIPTS = {
     "first-run": first_run,
     "kernel-calls": kernel_calls,
@@ -386,6 +427,9 @@ SCRIPTS = {
     "steals": steals,
     "day": day,
     "restarts": restarts,
+    "shortest": shortest,
+    "shows": shows,
+    "levels": levels,
 }
 
 
