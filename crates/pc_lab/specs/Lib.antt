@@ -6,9 +6,12 @@ pub mod Accounts
 pub mod Counting
 pub mod Creations
 pub mod Heads
+pub mod Laws
 pub mod Limits
 pub mod Moments
 pub mod Playing
 pub mod Stages
 pub mod Texts
 pub mod Times
+pub mod Waiters
+pub mod Waiting

@@ -1,5 +1,6 @@
 -- What happens in a run, and when.
 use Rattle.std.specs.Prelude.{ℕ, ◌≤◌, List, [], ◌∷◌, ◌++◌, Option, Some, None, IfSome}
+use Rattle.pc_calls.specs.declared.call.AgentCall.TheVariants.{Commit}
 use Rattle.pc_calls.specs.declared.event.Event.{Event}
 use Rattle.pc_calls.specs.declared.event.Event.TheVariants as event
 use Rattle.pc_calls.specs.declared.event.Reply.{Reply}
@@ -17,6 +18,15 @@ pub record Moment : Type 0 where
 abbrev pub IsNoAnswer : Event → Type 0
 IsNoAnswer (event.Answer cpu asker) = ⊥
 IsNoAnswer other = Unit {0}
+
+-- an event commits no thread by its name: a commit is the pick of an agent
+abbrev pub IsNoCommit : Event → Type 0
+IsNoCommit (event.Agent (Commit cpu thread aseq)) = ⊥
+IsNoCommit other = Unit {0}
+
+-- an event is one that a run may have
+abbrev pub IsPlayable : Event → Type 0
+IsPlayable event = IsNoAnswer event × IsNoCommit event
 
 -- the numbers of its event are in the ranges of a script's fields
 abbrev pub IsWritten : Moment → Type 0

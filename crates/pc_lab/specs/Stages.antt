@@ -17,7 +17,11 @@ use Rattle.pc_lab.specs.declared.counted.Counted.TheVariants.{Commit}
 use Rattle.pc_lab.specs.Counting.{count_of, counted_in}
 use Rattle.pc_lab.specs.Creations.{AreFirst, Creation, creation_at, creations, creations_of}
 use Rattle.pc_lab.specs.Limits.{limits_for}
-use Rattle.pc_lab.specs.Moments.{IsNoAnswer, IsWritten, Leads, Moment, last_tick}
+use Rattle.pc_lab.specs.Waiters.{AreBehind}
+use Rattle.pc_lab.specs.Waiting.{ended_waits}
+use Rattle.pc_lab.specs.Moments.{IsNoAnswer, IsNoCommit, IsWritten, Leads, Moment, last_tick}
+use Rattle.pc_lab.specs.declared.waits.Wait.{Wait}
+use Rattle.pc_lab.specs.declared.waits.Waiter.{Waiter}
 use Rattle.pc_lab.specs.Texts.{body_text, event_line, is_told, tick_line}
 
 -- the ranking of an order
@@ -57,7 +61,8 @@ MayCome load now event =
 -- Moments have led from the start of a world for a load, in which each agent goes by the policy, to what the world
 -- shows; threads came as the load has them, the chronicle holds the moments behind a text, and all counts are theirs
 pub record IsRun (load : Demand) (policy : PolicyName) (before : List ℕ) (world : World) (chronicle : Chronicle)
-    (told : Option ℕ) (events : ℕ) (tally : List ℕ) (waits came : ℕ) : Type 0 where
+    (told : Option ℕ) (events : ℕ) (tally : List ℕ) (waits : List Wait) (waiters : List Waiter) (came : ℕ)
+    : Type 0 where
   pub each : ℕ → Rules
   pub same : (c : ℕ) → c < (limits_for load).cpus → each c ≡ rules_named policy
   pub moments : List Moment
@@ -65,6 +70,7 @@ pub record IsRun (load : Demand) (policy : PolicyName) (before : List ℕ) (worl
   pub leads : Leads (opened_by each (limits_for load)) moments plain
   pub written : All IsWritten moments
   pub answers_none : All (λ moment. IsNoAnswer moment.event) moments
+  pub commits_none : All (λ moment. IsNoCommit moment.event) moments
   pub created : AreFirst (creations moments) (creations_of load)
   pub many : came ≡ length (creations moments)
   pub shows : ShowsWorld world plain
@@ -72,7 +78,9 @@ pub record IsRun (load : Demand) (policy : PolicyName) (before : List ℕ) (worl
   pub holds : Holds before chronicle moments
   pub number : events ≡ length moments
   pub counts : (what : Counted) → counted_in tally what ≡ count_of what moments
-  pub ended : waits ≡ count_of Commit moments
+  pub ended : length waits ≡ count_of Commit moments
+  pub are_told : waits ≡ ended_waits load moments
+  pub behind : AreBehind load moments waiters
 
 -- so many policies, each with these rules
 pub record AreAll (rules : Rules) (count : ℕ) (policies : List AgentPolicy) : Type 0 where

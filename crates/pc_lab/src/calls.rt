@@ -3,7 +3,7 @@
 use crate::fault::LabFault;
 use crate::run::Run;
 use crate::stage::Setting;
-use crate::times::{has, lowest_of, word_of};
+use crate::times::{lowest_of, word_of};
 use pc_delta::Part;
 use pc_messages::{Cpu, Phase, Tid};
 
@@ -111,13 +111,11 @@ impl<K: Setting> Run<K> {
         };
         let word = *asked;
         *asked = 0;
-        if word == 0 {
-            return;
-        }
-        for cpu in 0..64u8 {
-            if has(word & self.sleepers, Cpu(cpu)) {
-                self.begin_turn(Cpu(cpu));
-            }
+        let mut left = word & self.sleepers;
+        for _ in 0..left.count_ones() {
+            let cpu = lowest_of(left);
+            left &= left.wrapping_sub(1);
+            self.begin_turn(cpu);
         }
     }
 

@@ -35,6 +35,8 @@ pub(crate) struct Ends {
     /// Of each match the place of the CPU whose end is first. The final is match 1, and that match `n` is between
     /// matches `2 n` and `2 n + 1`, of which those from 64 on are the CPUs.
     winners: [u8; 64],
+    /// Of each match the first tick at which anything can come of what ends on its CPUs.
+    changes: [u64; 64],
 }
 
 impl Ends {
@@ -43,6 +45,7 @@ impl Ends {
         let mut ends = Ends {
             ends: [End::NEVER; 64],
             winners: [0; 64],
+            changes: [u64::MAX; 64],
         };
         // The final comes last.
         for of in 0..63usize {
@@ -88,10 +91,33 @@ impl Ends {
         }
     }
 
+    /// The first tick at which anything can come of what ends on the CPUs of a match.
+    fn change_of(&self, of: usize) -> u64 {
+        if of >= 64 {
+            self.ends[of % 64].change
+        } else {
+            self.changes[of % 64]
+        }
+    }
+
+    /// What can come of a CPU's end has changed: so it may have for its matches, up to the first where it has not.
+    fn note_change(&mut self, place: u8) {
+        let mut of = 64 | (place % 64) as usize;
+        for _ in 0..6 {
+            of /= 2;
+            let change = self.change_of(2 * of).min(self.change_of(2 * of + 1));
+            if self.changes[of % 64] == change {
+                return;
+            }
+            self.changes[of % 64] = change;
+        }
+    }
+
     /// What ends on the CPU from now on.
     fn set(&mut self, place: u8, end: End) {
         self.ends[(place % 64) as usize] = end;
         self.play_again(place);
+        self.note_change(place);
     }
 
     /// A step or a turn ends on the CPU at a tick, and what was to end there does not.
@@ -120,11 +146,7 @@ impl Ends {
 
     /// The first tick at which anything can come of what ends.
     pub(crate) fn first_change(&self) -> u64 {
-        let mut first = u64::MAX;
-        for end in self.ends.as_slice() {
-            first = first.min(end.change);
-        }
-        first
+        self.changes[1]
     }
 
     /// A turn that was to end on the CPU does not.

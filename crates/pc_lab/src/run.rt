@@ -2,7 +2,7 @@
 
 ghost use Rattle.std.specs.Prelude.{◌<◌};
 ghost use Rattle.pc_lab.specs.Creations.{CreatesNone};
-ghost use Rattle.pc_lab.specs.Moments.{IsNoAnswer};
+ghost use Rattle.pc_lab.specs.Moments.{IsPlayable};
 
 use crate::due::Agenda;
 use crate::fault::LabFault;
@@ -185,7 +185,7 @@ impl<K: Setting> Run<K> {
 
     /// Posts a message, which may wake an agent.
     pub(crate) fn post(&mut self, event: Event) -> Result<(), Stop>
-        requires { CreatesNone event × IsNoAnswer event }
+        requires { CreatesNone event × IsPlayable event }
     {
         let reply = self.stage.do_event(event)?;
         self.note_post(&reply)

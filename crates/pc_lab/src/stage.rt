@@ -2,7 +2,7 @@
 
 ghost use Rattle.std.specs.Prelude.{◌≡◌, ◌+◌, ℕ, None, [], All, IfOk, is_some, if◌then◌else◌};
 ghost use Rattle.pc_lab.specs.Creations.{CreatesNone, creation_at, creation_in};
-ghost use Rattle.pc_lab.specs.Moments.{IsNoAnswer};
+ghost use Rattle.pc_lab.specs.Moments.{IsPlayable};
 ghost use Rattle.pc_lab.specs.Playing.{IsPlayedBy};
 ghost use Rattle.pc_lab.specs.Stages.{Holds, MayCome};
 ghost use Rattle.pc_lab.specs.Times.{IsWhole};
@@ -77,6 +77,7 @@ pub(crate) struct Stage<K: Setting> {
 
 impl<K: Setting> Model for Stage<K> {
     ghost use Rattle.std.specs.Prelude.{◌≡◌, ◌≤◌, false, length, All, IfSome};
+    ghost use Rattle.pc_lab.specs.Limits.{limits_for};
     ghost use Rattle.pc_lab.specs.Stages.{IsRun, Now};
     ghost use Rattle.pc_lab.specs.Times.{IsKept};
 
@@ -85,8 +86,9 @@ impl<K: Setting> Model for Stage<K> {
     ghost view = { λ s. record { tick = s.tick; came = s.came } };
 
     ghost invariant = { λ s. (s.is_cut ≡ false → IsRun K.load K.policy K.before s.world s.chronicle s.told s.events
-        s.tally (length s.waits.ended.items) s.came) × IfSome s.told (λ tick. tick ≤ s.tick)
-        × All (IsKept s.tick) s.times.accounts.items };
+        s.tally s.waits.ended.items s.waits.waiters.items s.came) × IfSome s.told (λ tick. tick ≤ s.tick)
+        × All (IsKept s.tick) s.times.accounts.items
+        × (length s.times.accounts.items ≡ (limits_for K.load).cpus) };
 }
 
 /// Whether an event asks for a creation.
@@ -171,14 +173,22 @@ impl<K: Setting> Stage<K> {
         self.tick
     }
 
-    /// A thread more, whose waits are to be told.
-    pub(crate) fn add_waiter(&mut self, mask: u64, level: u8) -> Result<(), LabFault> {
-        self.waits.add(mask, level)
+    /// The load's next thread is one whose waits are to be told.
+    pub(crate) fn add_waiter(&mut self, load: &Load) -> Result<(), LabFault>
+        requires { load.now ≡ K.load }
+    {
+        let threads = load.threads();
+        let place = self.waits.threads();
+        if place >= threads.len() {
+            return Err(LabFault::Unaccounted);
+        }
+        let plan = &threads[place];
+        self.waits.add(plan.mask, plan.level)
     }
 
     /// Takes an event. Where it is a creation, it is that of the load's next thread.
     fn take_event(&mut self, event: Event) -> Result<Reply, LabFault>
-        requires { MayCome K.load self.old event × IsNoAnswer event }
+        requires { MayCome K.load self.old event × IsPlayable event }
     {
         // The checker finds the types that a reply nests only where the function names them.
         let _: (Option<Posted>, Option<Tid>, Option<Cpu>, Option<Refusal>) = (
@@ -208,7 +218,7 @@ impl<K: Setting> Stage<K> {
 
     /// Takes an event that is no creation.
     pub(crate) fn do_event(&mut self, event: Event) -> Result<Reply, LabFault>
-        requires { CreatesNone event × IsNoAnswer event }
+        requires { CreatesNone event × IsPlayable event }
     {
         self.take_event(event)
     }
@@ -272,7 +282,7 @@ impl<K: Setting> Stage<K> {
         if self.is_cut {
             return Err(LabFault::OutOfMemory);
         }
-        let unended = self.waits.unended(self.tick)?;
+        let unended = self.waits.unended(self.world.kernel(), self.tick)?;
         let times = self
             .times
             .up_to(self.alloc, self.world.kernel(), self.tick)?;

@@ -127,7 +127,8 @@ fn brought(account: Account, doing: Doing, now: u64) -> Account
 
 /// The accounts of so many CPUs, of which no time has gone by.
 fn new_accounts(alloc: Global, cpus: u8) -> Result<Vec<Account>, LabFault>
-    ensures { IfOk result (λ accounts. All (IsKept 0) accounts.items) }
+    ensures kept { IfOk result (λ accounts. All (IsKept 0) accounts.items) }
+    ensures many { IfOk result (λ accounts. length accounts.items ≡ cpus) }
 {
     let mut accounts = Vec::new(alloc);
     for _ in 0..cpus {
@@ -160,7 +161,8 @@ fn cpu_of(event: &Event) -> Option<Cpu> {
 impl Times {
     /// No time has gone by on so many CPUs, on which nothing is done.
     pub(crate) fn new(alloc: Global, cpus: u8) -> Result<Times, LabFault>
-        ensures { IfOk result (λ times. All (IsKept 0) times.accounts.items) }
+        ensures kept { IfOk result (λ times. All (IsKept 0) times.accounts.items) }
+        ensures many { IfOk result (λ times. length times.accounts.items ≡ cpus) }
     {
         let accounts = new_accounts(alloc, cpus)?;
         Ok(Times {
@@ -181,6 +183,7 @@ impl Times {
     fn settle(&mut self, kernel: &Kernel, cpu: Cpu, now: u64)
         requires { All (IsKept now) self.old.accounts.items }
         ensures kept { All (IsKept now) self.new.accounts.items }
+        ensures many { length self.new.accounts.items ≡ length self.old.accounts.items }
         ensures up { (d : Account) → cpu < length self.new.accounts.items
             → (slice_index_or self.new.accounts.items cpu d).upto ≡ now }
     {
@@ -195,7 +198,8 @@ impl Times {
     /// The CPU's agent is in a turn from now on.
     pub(crate) fn enter_turn(&mut self, kernel: &Kernel, cpu: Cpu, now: u64)
         requires { All (IsKept now) self.old.accounts.items }
-        ensures { All (IsKept now) self.new.accounts.items }
+        ensures kept { All (IsKept now) self.new.accounts.items }
+        ensures many { length self.new.accounts.items ≡ length self.old.accounts.items }
     {
         self.settle(kernel, cpu, now);
         self.words.in_turns |= word_of(cpu);
@@ -204,7 +208,8 @@ impl Times {
     /// The CPU's agent is in no turn from now on.
     pub(crate) fn leave_turn(&mut self, kernel: &Kernel, cpu: Cpu, now: u64)
         requires { All (IsKept now) self.old.accounts.items }
-        ensures { All (IsKept now) self.new.accounts.items }
+        ensures kept { All (IsKept now) self.new.accounts.items }
+        ensures many { length self.new.accounts.items ≡ length self.old.accounts.items }
     {
         self.settle(kernel, cpu, now);
         self.words.in_turns &= !word_of(cpu);
@@ -213,7 +218,8 @@ impl Times {
     /// Brings the account up to now of the CPU on which another thread, or none, may run behind the event.
     pub(crate) fn settle_for(&mut self, kernel: &Kernel, event: &Event, now: u64)
         requires { All (IsKept now) self.old.accounts.items }
-        ensures { All (IsKept now) self.new.accounts.items }
+        ensures kept { All (IsKept now) self.new.accounts.items }
+        ensures many { length self.new.accounts.items ≡ length self.old.accounts.items }
     {
         if let Some(cpu) = cpu_of(event) {
             self.settle(kernel, cpu, now);
@@ -223,7 +229,8 @@ impl Times {
     /// Threads wait for these CPUs from now on, and for no others. So what changes of idle CPUs is settled before.
     pub(crate) fn want(&mut self, kernel: &Kernel, wanted: u64, now: u64)
         requires { All (IsKept now) self.old.accounts.items }
-        ensures { All (IsKept now) self.new.accounts.items }
+        ensures kept { All (IsKept now) self.new.accounts.items }
+        ensures many { length self.new.accounts.items ≡ length self.old.accounts.items }
     {
         if wanted == self.words.wanted {
             return;
@@ -247,7 +254,8 @@ impl Times {
         now: u64,
     ) -> Result<Vec<CpuTime>, LabFault>
         requires { All (IsKept now) self.now.accounts.items }
-        ensures { IfOk result (λ times. All (IsWhole now) times.items) }
+        ensures whole { IfOk result (λ times. All (IsWhole now) times.items) }
+        ensures many { IfOk result (λ times. length times.items ≡ length self.now.accounts.items) }
     {
         let mut times = Vec::new(alloc);
         let mut cpu = 0;

@@ -2,7 +2,7 @@
 
 ghost use Rattle.std.specs.Prelude.{◌≡◌};
 ghost use Rattle.pc_lab.specs.Creations.{CreatesNone};
-ghost use Rattle.pc_lab.specs.Moments.{IsNoAnswer};
+ghost use Rattle.pc_lab.specs.Moments.{IsPlayable};
 
 use crate::due::first_of;
 use crate::fault::LabFault;
@@ -33,7 +33,7 @@ fn thread_at(place: usize) -> Tid {
 
 /// How a thread that has run for so many ticks leaves its CPU.
 fn leaving_by(leaving: Leaving, cpu: Cpu, ran: u32) -> EnvCall
-    ensures { CreatesNone (Event.Env result) × IsNoAnswer (Event.Env result) }
+    ensures { CreatesNone (Event.Env result) × IsPlayable (Event.Env result) }
 {
     match leaving {
         Leaving::Yield => EnvCall::YieldNow { cpu, ran },
@@ -305,7 +305,7 @@ impl<K: Setting> Run<K> {
             blocks: 0,
         })?;
         self.refused_at.push(0)?;
-        self.stage.add_waiter(plan.mask, plan.level)?;
+        self.stage.add_waiter(load)?;
         let reply = self.stage.create(load)?;
         self.note_post(&reply)?;
         if plan.level != 0 {

@@ -2,7 +2,7 @@
 
 use pc_calls::{AgentCall, EnvCall, Event};
 use pc_lab::{
-    Chronicle, Counted, Ending, LabFault, Played, Summary, check_account, head_of, limits_of, play,
+    Chronicle, Counted, Ending, LabFault, Played, Summary, Wait, check_account, head_of, limits_of, play,
 };
 use pc_load::{Leaving, Load, Step, ThreadDraft, Variant};
 use pc_messages::{Cpu, Tid};
@@ -42,16 +42,27 @@ fn draft_of(alloc: Global, mask: i64, ticks: u32) -> Result<ThreadDraft, LabFaul
     })
 }
 
-/// Threads that come at tick 0.
-fn load_of(alloc: Global, cpus: i64, mask: i64, all: &[u32]) -> Result<Load, LabFault> {
+/// Threads that come at tick 0, of a run that stops at a tick, or goes on to its end.
+fn load_until(
+    alloc: Global,
+    until: i64,
+    cpus: i64,
+    mask: i64,
+    all: &[u32],
+) -> Result<Load, LabFault> {
     let mut threads = Vec::new(alloc);
     for ticks in all {
         threads.push(draft_of(alloc, mask, *ticks)?)?;
     }
-    match Load::new(alloc, cpus, 0, threads) {
+    match Load::new(alloc, cpus, until, threads) {
         Ok(load) => Ok(load),
         Err(_) => Err(LabFault::TooLong),
     }
+}
+
+/// Threads that come at tick 0, of a run that goes on to its end.
+fn load_of(alloc: Global, cpus: i64, mask: i64, all: &[u32]) -> Result<Load, LabFault> {
+    load_until(alloc, 0, cpus, mask, all)
 }
 
 fn variant_of(
@@ -111,6 +122,29 @@ fn played_in_groups(alloc: Global, group: u8) -> Result<[u64; 8], LabFault> {
     } else {
         [0; 8]
     })
+}
+
+/// A thread that came at tick 0 was ready for so long.
+fn waited(ticks: u64) -> Wait {
+    Wait {
+        ticks,
+        level: 0,
+        is_woken: true,
+    }
+}
+
+/// Whether these are the waits of two threads of 3 and 5 ticks on one CPU, up to a tick: those that ended, and those that
+/// did not.
+fn are_waits(
+    alloc: Global,
+    until: i64,
+    ended: &[Wait],
+    unended: &[Wait],
+) -> Result<bool, LabFault> {
+    let load = load_until(alloc, until, 1, 1, &[3, 5])?;
+    let variant = variant_of(alloc, b"fifo", OrderName::Fifo, 1)?;
+    let Played { summary, .. } = play(alloc, &load, &variant, Chronicle::Untold)?;
+    Ok(summary.waits.as_slice() == ended && summary.unended.as_slice() == unended)
 }
 
 /// What is told of a run of two threads of 3 and 5 ticks on one CPU, of which each was committed once: how it ended,
@@ -224,6 +258,14 @@ fn kin_take_threads_over(rt: HostRuntime) {
     assert_eq!(rt; alone, [80, 8, 8, 0, 16, 8, 0, 50]);
     let together = played_in_groups(alloc, 64).expect(&rt, "ample memory");
     assert_eq!(rt; together, [40, 8, 8, 4, 16, 7, 4, 61]);
+}
+
+#[test]
+fn each_wait_is_told_once(rt: HostRuntime) {
+    let alloc = rt.alloc();
+    let whole = are_waits(alloc, 0, &[waited(0), waited(3)], &[]).expect(&rt, "ample memory");
+    let cut = are_waits(alloc, 2, &[waited(0)], &[waited(2)]).expect(&rt, "ample memory");
+    assert!(rt; whole && cut);
 }
 
 #[test]

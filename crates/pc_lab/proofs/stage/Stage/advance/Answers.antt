@@ -9,4 +9,5 @@ invariant_of-self g c =
       c.self.invariant.0,
       told_later old.told old.tick c.args.now later c.self.invariant.1,
       kept_later old.tick c.args.now old.times.accounts.items later c.self.invariant.2,
+      c.self.invariant.3,
     )

@@ -15,5 +15,5 @@ take_event-requires g c =
     let same = c.threads-threads.ensures ∙ ap (λ (load : Demand). load.threads) c.requires in (
       subst (λ (at : Now). MayCome g.K.Setting.load at event) c.self.view_is
           (may_come g.K.Setting.load now c.threads-threads.result.now plan event same c.if-self-threads.false c.index-threads-self.is c.if-plan-self.false refl),
-      tt,
+      (tt, tt),
     )
