@@ -1,7 +1,7 @@
 //! How long threads wait.
 
-ghost use Rattle.std.specs.Prelude.{◌≡◌, ◌+◌, ◌++◌, ◌∷◌, [], ◌<◌, ℕ, length, IfOk, OnOk, OnErr, Some, true, false, ◌==◌, if◌then◌else◌};
-ghost use Rattle.std.specs.Prelude.{unwrap_or};
+ghost use Rattle.std.specs.Prelude.{◌≡◌, ◌+◌, ◌++◌, ◌∷◌, [], ◌<◌, ◌==◌, ℕ, length, IfOk, OnOk, OnErr, Some, true};
+ghost use Rattle.std.specs.Prelude.{false, if◌then◌else◌, unwrap_or};
 ghost use Rattle.pc_kernel.specs.Reads.{seen};
 ghost use Rattle.pc_lab.specs.Counting.{counted_as, is_counted};
 ghost use Rattle.pc_lab.specs.Waiters.{AreNext, since_in, wait_in};

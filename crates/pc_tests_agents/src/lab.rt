@@ -133,8 +133,8 @@ fn waited(ticks: u64) -> Wait {
     }
 }
 
-/// Whether these are the waits of two threads of 3 and 5 ticks on one CPU, up to a tick: those that ended, and those that
-/// did not.
+/// Whether these are the waits of two threads of 3 and 5 ticks on one CPU, up to a tick: those that ended, and those
+/// that did not.
 fn are_waits(
     alloc: Global,
     until: i64,
