@@ -1,4 +1,5 @@
 pub mod Commands
+pub mod FirstWord
 pub mod NumbersWritten
 pub mod Reporting
 pub mod Running

@@ -83,7 +83,13 @@ lab =
     (flag (codes "picture")))
     (option (codes "script"))
 
--- the program, which has a version, wants a command, and has no command `help`
+-- the program without a command, which has a version, wants a command, and has no command `help`
+abbrev pub program : App
+program =
+    on_top (λ s. record s { has_version = true; subcommand_required = true; disable_help_subcommand = true })
+    (new_app (codes "pc-sim"))
+
+-- the program with all commands
 abbrev pub pc_sim : App
 pc_sim =
     with_subcommand
@@ -91,15 +97,16 @@ pc_sim =
     (with_subcommand
     (with_subcommand
     (with_subcommand
-    (with_subcommand
-    (on_top (λ s. record s { has_version = true; subcommand_required = true; disable_help_subcommand = true })
-    (new_app (codes "pc-sim")))
-    (of_file (codes "replay")).top)
+    (with_subcommand program (of_file (codes "replay")).top)
     (of_file (codes "explain")).top)
     drawing.top)
     run.top)
     session.top)
     lab.top
+
+-- the program with this command alone
+abbrev pub only : App → App
+only command = with_subcommand program command.top
 
 -- the file that the word after a command names: none where there is no word, or `-`
 abbrev pub IsInput : Option Text → Option Text → Type 0

@@ -10,3 +10,4 @@ pub mod Progress
 pub mod ReportText
 pub mod Runs
 pub mod Talks
+pub mod Inner

@@ -1,23 +1,24 @@
 //! The command line.
 
-ghost use Rattle.std.specs.Prelude.{◌≡◌, ◌≢◌, ◌↔◌, ◌⊎◌, [], Some, Err, IfOk, IfErr, IsTrue, false, map, option_map};
+ghost use Rattle.std.specs.Prelude.{◌≡◌, ◌↔◌, ◌⊎◌, [], Some, Err, IfOk, IfErr, IsTrue, map, option_map};
 ghost use Rattle.std.specs.Prelude.{string_bytes, codes};
-ghost use Rattle.clap.specs.Walk.{first_of, one_of, rows_of, rule_of};
-ghost use Rattle.clap.specs.Simple.{app_of, subcommand_of, subcommand_rows_of};
+ghost use Rattle.clap.specs.Walk.{first_of, one_of, rows_of};
+ghost use Rattle.clap.specs.Simple.{subcommand_of, subcommand_rows_of};
 ghost use Rattle.clap.specs.Faults.{fault_of};
 ghost use Rattle.clap.specs.Matches.{found_of};
 ghost use Rattle.pc_program.specs.CommandLine.{IsAsked, IsAxis, IsCommandMet, IsInput, IsLimit, IsNoPart, IsPart};
 ghost use Rattle.pc_program.specs.CommandLine.{IsFrom, IsNoPolicy, IsPolicy, IsRefusal, IsReportForm, IsSpelled};
-ghost use Rattle.pc_program.specs.CommandLine.{IsUnnamed, IsUnread};
-ghost use Rattle.pc_program.specs.CommandLine.{counted_flag, drawing, flag, limit};
-ghost use Rattle.pc_program.specs.CommandLine.{lab, of_file, option, pc_sim, run, session};
+ghost use Rattle.pc_program.specs.CommandLine.{IsUnnamed, IsUnread, pc_sim};
+ghost use Rattle.pc_program.specs.Inner.FirstWord.{first_word};
+
+mod parsers;
 
 use crate::numbers::numbers_in;
 use crate::policies::policy_named;
 use crate::report::ReportForm;
-use clap::builder::ValueParser;
 use clap::error::ErrorKind;
-use clap::{Arg, ArgAction, ArgMatches, Command as Parser, Error};
+use clap::{ArgMatches, Command as Parser, Error};
+use parsers::parser_for;
 use pc_draw::{Axis, Interval, Part};
 use pc_policy::AgentPolicy;
 use std::alloc::{AllocError, Global};
@@ -119,137 +120,6 @@ impl From<AllocError> for CommandFault {
 /// The version of the program. It cannot know which kit built it, so it does not say so.
 const VERSION: &str = "1.0.0";
 
-const ABOUT: &str =
-    "A model of per-CPU ghOSt scheduling: a kernel, agents, and what each agent knows";
-
-const AFTER: &str = "\
-Examples:
-  pc-sim replay examples/commits-and-sleepers.script
-  pc-sim explain examples/commits-and-sleepers.script
-  pc-sim draw examples/crash-and-steal.script >picture.svg
-  pc-sim run settings.toml --per-cpu
-  pc-sim run settings.toml --script run.script
-  pc-sim session
-  pc-sim lab load.toml --variants examples/lab/variants.toml
-
-FILE may be `-`, the standard input.
-Exit status: 0 finished; 1 a file or a text has a fault; 2 the command line has one; 3 a run did not
-settle; 4 memory or a thread is wanting.
-Scripts, settings and answers are described in docs/FORMATS.md.";
-
-const ABOUT_REPLAY: &str = "Answers each command of a script on standard output";
-
-const AFTER_REPLAY: &str = "\
-Example:
-  printf 'enclave 2 8 100 16 1000\\ncreate 0 3 ready\\n' | pc-sim replay
-
-Exit status: 0 finished; 1 a line is no command, or a read or a write failed; 4 memory is wanting.
-Scripts are described in docs/FORMATS.md.";
-
-const ABOUT_EXPLAIN: &str =
-    "Answers each command of a script, and says in comments what happened and why";
-
-const AFTER_EXPLAIN: &str = "\
-Example:
-  pc-sim explain examples/commits-and-sleepers.script
-
-The lines that begin with `#` are comments; without them (grep -av '^#') it is what `pc-sim replay` writes.
-Exit status: 0 finished; 1 a line is no command, or a read or a write failed; 4 memory is wanting.
-What is written is described in docs/FORMATS.md.";
-
-const ABOUT_DRAW: &str = "Draws what happens in a script, as SVG on standard output";
-
-const AFTER_DRAW: &str = "\
-Examples:
-  pc-sim draw examples/crash-and-steal.script >picture.svg
-  pc-sim draw examples/crash-and-steal.script --cpus 1 --lines 10-20 >part.svg
-  pc-sim lab load.toml --script fifo | pc-sim draw --time >times.svg
-
-NUMBERS are two with `-` between, of which the second is not below the first, or one.
-
-Time goes to the right, a step for each command, or with --time by the ticks that comments `# at TICK`
-tell; each CPU has a lane. A browser shows the picture.
-Exit status: 0 finished; 1 a line is no command, or a read or a write failed; 4 memory is wanting.
-What is drawn is described in docs/FORMATS.md.";
-
-const ABOUT_RUN: &str = "Runs agents in threads by settings, and reports what they did";
-
-const AFTER_RUN: &str = "\
-Example:
-  printf 'cpus = 2\\n[[thread]]\\nqueue = 0\\nmask = 3\\nsteps = [\"yield 2\", \"die 1\"]\\n' | pc-sim run
-
-With --draw the report is a picture, and --per-cpu changes nothing. Where --per-cpu stands twice,
-refusals are counted by name. The file of --script is made, or emptied, before the run begins; what is
-written there can be replayed, explained and drawn.
-Exit status: 0 finished; 1 the settings have a fault, or a read or a write failed; 3 the run did not
-settle, or not within its limit; 4 memory or a thread is wanting.
-Settings and the report are described in docs/FORMATS.md.";
-
-const ABOUT_SESSION: &str = "Answers commands one after another, each as soon as its line is whole";
-
-const AFTER_SESSION: &str = "\
-Example:
-  pc-sim session
-  enclave 2 8 100 16 1000
-  ok
-
-A line is answered as `pc-sim replay` answers it, and all answers are flushed before more is read. A line
-that is no command is a fault, which changes nothing, and the session goes on. `?` alone on a line lists
-the commands, on standard error.
-Exit status: 0 finished; 1 a line was no command, or a read or a write failed; 4 memory is wanting.
-Sessions are described in docs/FORMATS.md.";
-
-const ABOUT_LAB: &str =
-    "Tries a load under variants of the policy, in virtual time, and compares them in a table";
-
-const AFTER_LAB: &str = "\
-Examples:
-  pc-sim lab load.toml
-  pc-sim lab load.toml --variants variants.toml --csv
-  pc-sim lab load.toml --picture >waits.svg
-  pc-sim lab load.toml --script fifo | pc-sim explain
-
-Where --script stands, --picture, --per-cpu and --csv change nothing; where --picture stands, these two.
-Exit status: 0 finished; 1 the load or the variants have a fault, or a read or a write failed; 4 memory
-is wanting.
-Loads, variants and the table are described in docs/LAB.md.";
-
-const LOAD: &str = "the load; without it, and where it is `-`, the standard input is read";
-
-const VARIANTS: &str =
-    "tries the variants of this text in place of the load's own; `-` is the standard input";
-
-const EACH_CPU: &str = "also tells where the time of each CPU went";
-
-const CSV: &str = "writes the table on its side, with all percentiles, for other tools";
-
-const WAITS: &str = "draws how long threads waited, as SVG, in place of the table";
-
-const SCRIPT_OF: &str =
-    "writes the run of the variant of this name as a script, in place of the table";
-
-const EXPLAINS: &str = "also says in comments what happened and why";
-
-const COMMANDS: &str = "the commands; without it, and where it is `-`, the standard input is read";
-
-const SCRIPT: &str = "the script; without it, and where it is `-`, the standard input is read";
-
-const CPUS: &str = "draws the lanes of these CPUs alone, counted from 0";
-
-const LINES: &str = "draws what happens at these lines of the script alone, counted from 1";
-
-const TIME: &str = "draws by the ticks that the comments `# at TICK` tell, and not by lines";
-
-const LIMIT: &str = "gives the run up after so many seconds";
-
-const TO_SCRIPT: &str = "also writes the calls of the run as a script, into this file";
-
-const POLICY: &str =
-    "by which agents run and steal threads: levels (the default), fifo, least-ran or \
-     levels-then-least-ran, and `,exact` behind it where steals are exact";
-
-const SETTINGS: &str = "the settings; without it, and where it is `-`, the standard input is read";
-
 /// Reads the words of the command line, of which the first is the program's name.
 ///
 /// The fault is `Clap` where the words are no command, and where they ask for help or the version; `BadNumbers` where
@@ -264,7 +134,7 @@ pub fn read_command<'a, S: AsStr>(alloc: Global, words: &'a [S]) -> Result<Comma
     ensures policy { result ≡ Err CommandFault.BadPolicy
         → IsNoPolicy (subcommand_of pc_sim (map S.text words.entry.now)) }
 {
-    let parser: Parser<'a> = parser(alloc)?;
+    let parser: Parser<'a> = parser_for(alloc, first_word(words))?;
     match parser.try_get_matches_from(words) {
         Ok(matches) => command_of(alloc, &matches),
         Err(error) if error.kind() == ErrorKind::OutOfMemory => Err(CommandFault::OutOfMemory),
@@ -272,185 +142,14 @@ pub fn read_command<'a, S: AsStr>(alloc: Global, words: &'a [S]) -> Result<Comma
     }
 }
 
-/// The parser of `NAME [FILE]`; `file` tells what FILE is.
-fn parser_of_file<'a>(
-    alloc: Global,
-    name: &'static str,
-    file: &'static str,
-) -> Result<Parser<'a>, AllocError>
-    ensures { IfOk result (λ parser. app_of parser ≡ of_file name.now) }
+/// The first word after the program's name; an empty one where there is none.
+fn first_word<S: AsStr>(words: &[S]) -> &str
+    ensures { result.now ≡ first_word (map S.text words.now) }
 {
-    let file = Arg::new(alloc, "FILE").help(file);
-    Parser::new(alloc, name).arg(file)
-}
-
-/// The flag `--NAME`.
-fn flag_of<'a>(alloc: Global, name: &'static str, help: &'static str) -> Arg<'a>
-    ensures rule { rule_of result ≡ flag name.now }
-    ensures local { result.global ≡ false }
-{
-    Arg::new(alloc, name)
-        .long(name)
-        .action(ArgAction::SetTrue)
-        .help(help)
-}
-
-/// The flag `--NAME`, which counts how often it stands there.
-fn counted_flag_of<'a>(alloc: Global, name: &'static str, help: &'static str) -> Arg<'a>
-    ensures rule { rule_of result ≡ counted_flag name.now }
-    ensures local { result.global ≡ false }
-{
-    Arg::new(alloc, name)
-        .long(name)
-        .action(ArgAction::Count)
-        .help(help)
-}
-
-/// The option `--NAME VALUE`.
-fn option_of<'a>(
-    alloc: Global,
-    name: &'static str,
-    value: &'static str,
-    help: &'static str,
-) -> Arg<'a>
-    ensures rule { rule_of result ≡ option name.now }
-    ensures local { result.global ≡ false }
-{
-    Arg::new(alloc, name)
-        .long(name)
-        .value_name(value)
-        .action(ArgAction::Set)
-        .help(help)
-}
-
-/// The option `--limit SECONDS`.
-fn limit_option<'a>(alloc: Global) -> Arg<'a>
-    ensures rule { rule_of result ≡ limit }
-    ensures local { result.global ≡ false }
-{
-    option_of(alloc, "limit", "SECONDS", LIMIT).value_parser(ValueParser::Unsigned(
-        0,
-        u32::MAX as u64,
-    ))
-}
-
-/// The option `--script FILE`.
-fn script_option<'a>(alloc: Global) -> Arg<'a>
-    ensures rule { rule_of result ≡ option (codes "script") }
-    ensures local { result.global ≡ false }
-{
-    option_of(alloc, "script", "FILE", TO_SCRIPT)
-}
-
-/// `replay [FILE]`
-fn replay_parser<'a>(alloc: Global) -> Result<Parser<'a>, AllocError>
-    ensures { IfOk result (λ parser. app_of parser ≡ of_file (codes "replay")) }
-{
-    Ok(
-        parser_of_file(alloc, "replay", SCRIPT)?
-            .about(ABOUT_REPLAY)
-            .after_help(AFTER_REPLAY),
-    )
-}
-
-/// `explain [FILE]`
-fn explain_parser<'a>(alloc: Global) -> Result<Parser<'a>, AllocError>
-    ensures { IfOk result (λ parser. app_of parser ≡ of_file (codes "explain")) }
-{
-    Ok(
-        parser_of_file(alloc, "explain", SCRIPT)?
-            .about(ABOUT_EXPLAIN)
-            .after_help(AFTER_EXPLAIN),
-    )
-}
-
-/// `draw [FILE] [--cpus NUMBERS] [--lines NUMBERS] [--time]`
-fn draw_parser<'a>(alloc: Global) -> Result<Parser<'a>, AllocError>
-    ensures { IfOk result (λ parser. app_of parser ≡ drawing) }
-{
-    parser_of_file(alloc, "draw", SCRIPT)?
-        .about(ABOUT_DRAW)
-        .after_help(AFTER_DRAW)
-        .arg(option_of(alloc, "cpus", "NUMBERS", CPUS))?
-        .arg(option_of(alloc, "lines", "NUMBERS", LINES))?
-        .arg(flag_of(alloc, "time", TIME))
-}
-
-/// The option `--policy NAME`.
-fn policy_option<'a>(alloc: Global) -> Arg<'a>
-    ensures rule { rule_of result ≡ option (codes "policy") }
-    ensures local { result.global ≡ false }
-{
-    option_of(alloc, "policy", "NAME", POLICY)
-}
-
-/// `run [FILE] [--per-cpu] [--draw] [--limit SECONDS] [--script FILE] [--policy NAME]`
-fn run_parser<'a>(alloc: Global) -> Result<Parser<'a>, AllocError>
-    ensures { IfOk result (λ parser. app_of parser ≡ run) }
-{
-    let per_cpu = counted_flag_of(
-        alloc,
-        "per-cpu",
-        "also reports a line for each CPU; twice, with its refusals by name",
-    );
-    let draw = flag_of(alloc, "draw", "draws the report, as SVG");
-    parser_of_file(alloc, "run", SETTINGS)?
-        .about(ABOUT_RUN)
-        .after_help(AFTER_RUN)
-        .arg(per_cpu)?
-        .arg(draw)?
-        .arg(limit_option(alloc))?
-        .arg(script_option(alloc))?
-        .arg(policy_option(alloc))
-}
-
-/// `session [FILE] [--explain]`
-fn session_parser<'a>(alloc: Global) -> Result<Parser<'a>, AllocError>
-    ensures { IfOk result (λ parser. app_of parser ≡ session) }
-{
-    let explains = flag_of(alloc, "explain", EXPLAINS);
-    parser_of_file(alloc, "session", COMMANDS)?
-        .about(ABOUT_SESSION)
-        .after_help(AFTER_SESSION)
-        .arg(explains)
-}
-
-/// `lab [FILE] [--variants FILE] [--per-cpu] [--csv] [--picture] [--script NAME]`
-fn lab_parser<'a>(alloc: Global) -> Result<Parser<'a>, AllocError>
-    ensures { IfOk result (λ parser. app_of parser ≡ lab) }
-{
-    parser_of_file(alloc, "lab", LOAD)?
-        .about(ABOUT_LAB)
-        .after_help(AFTER_LAB)
-        .arg(option_of(alloc, "variants", "FILE", VARIANTS))?
-        .arg(flag_of(alloc, "per-cpu", EACH_CPU))?
-        .arg(flag_of(alloc, "csv", CSV))?
-        .arg(flag_of(alloc, "picture", WAITS))?
-        .arg(option_of(alloc, "script", "NAME", SCRIPT_OF))
-}
-
-/// The program's parser.
-fn parser<'a>(alloc: Global) -> Result<Parser<'a>, AllocError>
-    ensures { IfOk result (λ parser. app_of parser ≡ pc_sim) }
-{
-    let replay = replay_parser(alloc)?;
-    let explain = explain_parser(alloc)?;
-    let draw = draw_parser(alloc)?;
-    let run = run_parser(alloc)?;
-    let session = session_parser(alloc)?;
-    let lab = lab_parser(alloc)?;
-    Parser::new(alloc, "pc-sim")
-        .version(VERSION)
-        .about(ABOUT)
-        .after_help(AFTER)
-        .subcommand_required(true)
-        .disable_help_subcommand(true)
-        .subcommand(replay)?
-        .subcommand(explain)?
-        .subcommand(draw)?
-        .subcommand(run)?
-        .subcommand(session)?
-        .subcommand(lab)
+    match words.get(1) {
+        Some(word) => word.as_str(),
+        None => "",
+    }
 }
 
 /// What the matches of a command ask for.

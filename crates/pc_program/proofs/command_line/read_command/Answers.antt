@@ -1,13 +1,16 @@
-use Rattle.std.proofs.Common.{◌≡◌, ◌∙◌, ap, sym, subst, map, Result, Ok, Err, IfOk, IfErr, [], inl, inr, ◌⊎◌, rules, refl, true}
-use Rattle.clap.specs.Simple.{app_of, is_simple, subcommand_of, subcommand_rows_of}
+use Rattle.std.proofs.Common.{◌≡◌, ◌∙◌, sym, subst, map, Result, Ok, Err, IfOk, IfErr, List, [], inl, inr, ◌⊎◌, rules, refl}
+use Rattle.clap.specs.Simple.{app_of, subcommand_of, subcommand_rows_of}
 use Rattle.clap.specs.Kinds.{IsAmong}
 use Rattle.clap.specs.Values.{kind_of}
-use Rattle.clap.specs.Faults.{fault_of, is_simple_and_free}
+use Rattle.clap.specs.Walk.{Text}
+use Rattle.clap.specs.Faults.{fault_of}
 use Rattle.pc_program.specs.CommandLine.{IsAsked, IsCommandMet, IsNoPart, IsNoPolicy, IsRefusal, pc_sim}
+use Rattle.pc_program.specs.Inner.FirstWord.{first_word, program_for}
 use Rattle.pc_program.specs.declared.command_line.CommandFault.{CommandFault}
 use Rattle.pc_program.specs.declared.command_line.CommandFault.TheVariants.{BadNumbers, BadPolicy, OutOfMemory}
 use Rattle.clap.specs.declared.error.kind.ErrorKind.TheVariants as kind
-use Rattle.pc_program.proofs.Commands.{command_met, simple, simple_and_free}
+use Rattle.pc_program.proofs.Commands.{command_met}
+use Rattle.pc_program.proofs.FirstWord.{is_free, is_plain, same_command, same_faults}
 use Rattle.pc_program.proofs.command_line.read_command.Goals as goal
 
 whatever : {A E P : Type 0} (r : Result A E) → P → IfOk r (λ _. P)
@@ -23,57 +26,55 @@ taken (Err e) (inr (inr policy)) = subst (IsRefusal []) (sym policy) refl
 
 pub returns-in-Ok-clause-taken : goal.returns-in-Ok-clause-taken
 returns-in-Ok-clause-taken g c =
-    let app : app_of c.in_ok-parser.parser ≡ pc_sim = search rules in
-    let free : is_simple_and_free (app_of c.in_ok-parser.parser) ≡ true = ap is_simple_and_free app ∙ simple_and_free in
-    let told = c.in-Ok.ensures.kinds free in
-    whatever c.command_of.result (ap (λ a. fault_of a (map g.S.AsStr.text c.args.words.now)) (sym app) ∙ told)
+    let words : List Text = map g.S.AsStr.text c.args.words.now in
+    let app : app_of c.in_ok-parser.parser ≡ program_for (first_word words) = search rules in
+    let none : fault_of pc_sim words ≡ [] = sym (same_faults _ words app) ∙ c.in-Ok.ensures.kinds (is_free _ words app) in
+    whatever c.command_of.result none
 
 pub returns-in-Ok-clause-refused : goal.returns-in-Ok-clause-refused
 returns-in-Ok-clause-refused g c =
-    let app : app_of c.in_ok-parser.parser ≡ pc_sim = search rules in
-    let free : is_simple_and_free (app_of c.in_ok-parser.parser) ≡ true = ap is_simple_and_free app ∙ simple_and_free in
-    let told = c.in-Ok.ensures.kinds free in
-    subst (λ kinds. IfErr c.command_of.result (IsRefusal kinds)) (sym (ap (λ a. fault_of a (map g.S.AsStr.text c.args.words.now)) (sym app) ∙ told)) (taken c.command_of.result c.command_of.ensures.fault)
+    let words : List Text = map g.S.AsStr.text c.args.words.now in
+    let app : app_of c.in_ok-parser.parser ≡ program_for (first_word words) = search rules in
+    let none : fault_of pc_sim words ≡ [] = sym (same_faults _ words app) ∙ c.in-Ok.ensures.kinds (is_free _ words app) in
+    subst (λ kinds. IfErr c.command_of.result (IsRefusal kinds)) (sym none) (taken c.command_of.result c.command_of.ensures.fault)
 
 pub returns-in-Ok-clause-asked : goal.returns-in-Ok-clause-asked
 returns-in-Ok-clause-asked g c =
-    let app : app_of c.in_ok-parser.parser ≡ pc_sim = search rules in
-    let met : subcommand_rows_of c.in-Ok.matches ≡ subcommand_of pc_sim (map g.S.AsStr.text c.args.words.now) =
-    (c.in-Ok.ensures.matches (ap is_simple app ∙ simple)).1 ∙ ap (λ a. subcommand_of a (map g.S.AsStr.text c.args.words.now)) app in
+    let words : List Text = map g.S.AsStr.text c.args.words.now in
+    let app : app_of c.in_ok-parser.parser ≡ program_for (first_word words) = search rules in
+    let met : subcommand_rows_of c.in-Ok.matches ≡ subcommand_of pc_sim words = (c.in-Ok.ensures.matches (is_plain _ words app)).1 ∙ same_command _ words app in
     subst (λ rows. IfOk c.command_of.result (IsAsked rows)) met c.command_of.ensures.asked
 
 pub returns-in-Ok-clause-numbers : goal.returns-in-Ok-clause-numbers
 returns-in-Ok-clause-numbers g c =
-    let app : app_of c.in_ok-parser.parser ≡ pc_sim = search rules in
-    let met : subcommand_rows_of c.in-Ok.matches ≡ subcommand_of pc_sim (map g.S.AsStr.text c.args.words.now) =
-    (c.in-Ok.ensures.matches (ap is_simple app ∙ simple)).1 ∙ ap (λ a. subcommand_of a (map g.S.AsStr.text c.args.words.now)) app in
+    let words : List Text = map g.S.AsStr.text c.args.words.now in
+    let app : app_of c.in_ok-parser.parser ≡ program_for (first_word words) = search rules in
+    let met : subcommand_rows_of c.in-Ok.matches ≡ subcommand_of pc_sim words = (c.in-Ok.ensures.matches (is_plain _ words app)).1 ∙ same_command _ words app in
     λ bad. subst IsNoPart met (c.command_of.ensures.numbers bad)
 
 pub returns-in-Ok-clause-policy : goal.returns-in-Ok-clause-policy
 returns-in-Ok-clause-policy g c =
-    let app : app_of c.in_ok-parser.parser ≡ pc_sim = search rules in
-    let met : subcommand_rows_of c.in-Ok.matches ≡ subcommand_of pc_sim (map g.S.AsStr.text c.args.words.now) =
-    (c.in-Ok.ensures.matches (ap is_simple app ∙ simple)).1 ∙ ap (λ a. subcommand_of a (map g.S.AsStr.text c.args.words.now)) app in
+    let words : List Text = map g.S.AsStr.text c.args.words.now in
+    let app : app_of c.in_ok-parser.parser ≡ program_for (first_word words) = search rules in
+    let met : subcommand_rows_of c.in-Ok.matches ≡ subcommand_of pc_sim words = (c.in-Ok.ensures.matches (is_plain _ words app)).1 ∙ same_command _ words app in
     λ bad. subst IsNoPolicy met (c.command_of.ensures.policy bad)
 
 pub returns-in-Err-2-clause-refused : goal.returns-in-Err-2-clause-refused
 returns-in-Err-2-clause-refused g c =
-    let app : app_of c.in_ok-parser.parser ≡ pc_sim = search rules in
-    let told = c.in-Err.ensures.kinds (ap is_simple_and_free app ∙ simple_and_free) in
+    let words : List Text = map g.S.AsStr.text c.args.words.now in
+    let app : app_of c.in_ok-parser.parser ≡ program_for (first_word words) = search rules in
     let no_memory : kind_of c.in-Err.error ≡ kind.OutOfMemory → ⊥ = search rules in (
       no_memory,
-      elim told [
+      elim (c.in-Err.ensures.kinds (is_free _ words app)) [
         | inl memory ↦ absurd (no_memory memory)
-        | inr among ↦ subst (λ a. IsAmong (kind_of c.in-Err.error) (fault_of a (map g.S.AsStr.text c.args.words.now))) app among
+        | inr among ↦ subst (IsAmong (kind_of c.in-Err.error)) (same_faults _ words app) among
       ],
     )
 
 pub command_of-requires : goal.command_of-requires
 command_of-requires g c =
-    let app : app_of c.in_ok-parser.parser ≡ pc_sim = search rules in
-    let free : is_simple_and_free (app_of c.in_ok-parser.parser) ≡ true = ap is_simple_and_free app ∙ simple_and_free in
-    let told = c.in-Ok.ensures.kinds free in
-    let none : fault_of pc_sim (map g.S.AsStr.text c.args.words.now) ≡ [] = ap (λ a. fault_of a (map g.S.AsStr.text c.args.words.now)) (sym app) ∙ told in
-    let met : subcommand_rows_of c.in-Ok.matches ≡ subcommand_of pc_sim (map g.S.AsStr.text c.args.words.now) =
-    (c.in-Ok.ensures.matches (ap is_simple app ∙ simple)).1 ∙ ap (λ a. subcommand_of a (map g.S.AsStr.text c.args.words.now)) app in
-    subst IsCommandMet (sym met) (command_met (map g.S.AsStr.text c.args.words.now) none)
+    let words : List Text = map g.S.AsStr.text c.args.words.now in
+    let app : app_of c.in_ok-parser.parser ≡ program_for (first_word words) = search rules in
+    let none : fault_of pc_sim words ≡ [] = sym (same_faults _ words app) ∙ c.in-Ok.ensures.kinds (is_free _ words app) in
+    let met : subcommand_rows_of c.in-Ok.matches ≡ subcommand_of pc_sim words = (c.in-Ok.ensures.matches (is_plain _ words app)).1 ∙ same_command _ words app in
+    subst IsCommandMet (sym met) (command_met words none)

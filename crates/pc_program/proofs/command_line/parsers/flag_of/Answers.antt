@@ -1,7 +1,7 @@
 use Rattle.std.proofs.Common.{rules, ap, ◌≡◌, ◌∙◌}
 use Rattle.clap.specs.Walk.{rule_of}
 use Rattle.pc_program.specs.CommandLine.{flag}
-use Rattle.pc_program.proofs.command_line.flag_of.Goals as goal
+use Rattle.pc_program.proofs.command_line.parsers.flag_of.Goals as goal
 
 pub returns-clause-rule : goal.returns-clause-rule
 returns-clause-rule c =

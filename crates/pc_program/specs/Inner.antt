@@ -1,0 +1,2 @@
+-- What private functions cite: the parser that is built for a first word.
+pub mod FirstWord
