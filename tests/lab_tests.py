@@ -6,13 +6,15 @@
 examples/lab/worked has loads with their tables, CSV, scripts and replies, of which 308 numbers were worked out by hand
 before, and tests/lab_faults loads that are faulty. N loads are drawn (60) whose runs the program has to answer as `tools/lab` expects, and N
 (50) of which it has to write what `tools/lab` writes, to the byte. What a picture has to show is worked out here from
-the CSV and the waits of `tools/lab`. The last line is 'N passed, M failed'.
+the CSV and the waits of `tools/lab`. What holds of every load that was tried, and is not proved, is tested over 1,600
+drawn runs of the program alone. The last line is 'N passed, M failed'.
 """
 from __future__ import annotations
 
 import argparse
 import bisect
 import csv
+import itertools
 import math
 import pathlib
 import random
@@ -22,19 +24,21 @@ import sys
 import tempfile
 import unittest
 import xml.etree.ElementTree as ElementTree
+from collections import Counter
+from collections.abc import Callable
 from dataclasses import dataclass
 
 ROOT = pathlib.Path(__file__).resolve().parent.parent
 sys.path.insert(0, str(ROOT / "tools"))
-from lab_load import load_of, variants_of  # noqa: E402
+from lab_load import ORDERS, STEALS, Variant, load_of, variants_of  # noqa: E402
 from lab_run import Run  # noqa: E402
 
 ROWS, BAD = ROOT / "examples/lab/worked", ROOT / "tests/lab_faults"
 PROGRAM = ROOT / "crates/pc_sim/out/pc_sim"
 LOADS = 60
 DRAWN = 50
+WIDE = 100
 SECONDS = 300
-ORDERS = ("levels", "fifo", "least-ran", "levels-then-least-ran")
 SVG = "{http://www.w3.org/2000/svg}"
 PERCENTS = (50, 90, 99)
 # The frame of a picture of waits: where waits of 0 and of 1 tick stand, and the other edges.
@@ -190,12 +194,9 @@ def height_at(points: list[tuple[int, int]], x: int) -> int:
     return BOTTOM - min((y for at, y in points if at <= x), default=BOTTOM)
 
 
-def drawn_load(chance: random.Random) -> str:
-    cpus = chance.choice([1, 2, 2, 3, 5, 8])
-    text, start = f"cpus = {cpus}\n", 0
-    if chance.random() < 0.2:
-        text += f"until = {chance.randint(1, 200)}\n"
-    for _ in range(chance.randint(0, 14)):
+def drawn_threads(chance: random.Random, cpus: int, count: int) -> str:
+    text, start = "", 0
+    for _ in range(count):
         queue = chance.randrange(cpus)
         start += chance.choice([0, 0, 1, 7])
         steps = [f"{chance.choice(['block', 'block', 'yield', 'preempt'])} {chance.randint(0, 12)}"
@@ -204,12 +205,38 @@ def drawn_load(chance: random.Random) -> str:
         sleeps = [chance.randint(0, 20) for step in steps if step.startswith("block") and chance.random() < 0.9]
         text += f"[[thread]]\nqueue = {queue}\nmask = {chance.randrange(1 << cpus) | 1 << queue}\nstart = {start}\n"
         text += f"level = {chance.choice([0, 0, 3, 7])}\nsteps = {steps}\nsleeps = {sleeps}\n".replace("'", '"')
+    return text
+
+
+def drawn_load(chance: random.Random) -> str:
+    cpus = chance.choice([1, 2, 2, 3, 5, 8])
+    text = f"cpus = {cpus}\n"
+    if chance.random() < 0.2:
+        text += f"until = {chance.randint(1, 200)}\n"
+    text += drawn_threads(chance, cpus, chance.randint(0, 14))
     for place in range(chance.randint(1, 4)):
         text += f'[[variant]]\nname = "v{place}"\norder = "{chance.choice(ORDERS)}"\n'
         text += f'steals = "{chance.choice(["least", "exact"])}"\nquantum = {chance.choice([0, 0, 1, 5, 10])}\n'
         text += f"group = {chance.choice([1, 2, 3, 64, 64])}\ndelay = {chance.choice([0, 0, 1, 5, 12])}\n"
         text += f"cost = {chance.choice([0, 0, 1, 3])}\nurgent = {chance.choice(['true', 'false'])}\n"
         text += f"keep = {chance.choice(['true', 'false'])}\n"
+    return text
+
+
+def wide_load(chance: random.Random) -> str:
+    """Up to 60 threads on 1 to 8 CPUs. Each order with each steal is tried twice: where all hear of each other at once
+    and a turn takes no time, and where that is drawn."""
+    cpus = chance.randint(1, 8)
+    text = f"cpus = {cpus}\n"
+    if chance.random() < 0.2:
+        text += f"until = {chance.randint(1, 200)}\n"
+    text += drawn_threads(chance, cpus, chance.randint(0, chance.choice([8, 60])))
+    for place, (order, steals, late) in enumerate(itertools.product(ORDERS, STEALS, (False, True))):
+        text += f'[[variant]]\nname = "v{place}"\norder = "{order}"\nsteals = "{steals}"\n'
+        text += f"quantum = {chance.choice([0, 0, 1, 5, 10])}\nurgent = {chance.choice(['true', 'false'])}\n"
+        text += f"keep = {chance.choice(['true', 'false'])}\ngroup = {chance.choice([1, 2, 3, 64] if late else [cpus, 64])}\n"
+        if late:
+            text += f"delay = {chance.choice([0, 1, 5, 12])}\ncost = {chance.choice([0, 0, 1, 3])}\n"
     return text
 
 
@@ -651,6 +678,109 @@ class Drawn(unittest.TestCase):
                 demand = sum(int(word.rstrip('",]')) for line in text.splitlines() if line.startswith("steps")
                              for word in line.split() if word.rstrip('",]').isdigit())
                 self.assertEqual(int(rows["ticks ran"][place]), demand, text)
+
+
+@dataclass
+class Tried:
+    """A run of a drawn load: its variant, its line of the CSV, and, of one run of each load, each command with its reply."""
+
+    text: str
+    cpus: int
+    variant: Variant
+    row: dict[str, str]
+    answered: list[tuple[str, str]]
+
+    @property
+    def is_at_once(self) -> bool:
+        """Whether all hear of each other at once, and a turn takes no time."""
+        return self.variant.delay == self.variant.cost == 0 and self.variant.group >= self.cpus
+
+    @property
+    def knows(self) -> bool:
+        """Whether who steals has heard all of the thread that it asks for."""
+        return self.variant.delay == 0 or self.variant.steals == "exact"
+
+    def count(self, name: str) -> int:
+        """A number of the CSV. A column that no variant of the load has counts nothing."""
+        return int(self.row.get(name) or 0)
+
+    def refused(self) -> Counter[str]:
+        """How often each command was refused so, by the CSV: `steal_Stale`."""
+        return Counter({name.removeprefix("refused_"): int(cell) for name, cell in self.row.items()
+                        if name.startswith("refused_") and cell})
+
+    def answered_refused(self) -> Counter[str]:
+        """The same of the replies."""
+        return Counter(f"{command.split()[0]}_{reply.split()[1]}" for command, reply in self.answered
+                       if reply.startswith("refused "))
+
+
+class Unproved(unittest.TestCase):
+    """What holds of every load that was tried, though no clause says it: of the CSV and of the replies that the program writes."""
+
+    @classmethod
+    def setUpClass(cls):
+        chance = random.Random("unproved")
+        cls.tried = [tried for _ in range(WIDE) for tried in cls.runs(chance)]
+
+    @classmethod
+    def runs(cls, chance: random.Random) -> list[Tried]:
+        text = wide_load(chance)
+        read = load_of(text.encode())
+        with tempfile.TemporaryDirectory() as folder:
+            load, script = pathlib.Path(folder) / "load.toml", pathlib.Path(folder) / "script"
+            load.write_text(text)
+            rows = list(csv.DictReader(program(load, "--csv").stdout.splitlines()))
+            all_tried = [Tried(text, read.cpus, *it, []) for it in zip(read.variants, rows, strict=True)]
+            told = chance.choice(all_tried)
+            script.write_text(program(load, "--script", told.variant.name).stdout)
+            commands = [line for line in script.read_text().splitlines() if line and not line.startswith("#")]
+            told.answered = list(zip(commands, replay(script).splitlines(), strict=True))
+        return all_tried
+
+    def refused(self, all_tried: list[Tried]) -> Counter[str]:
+        """How often each command was refused so in these runs. The replies tell what the CSV tells, and nothing else."""
+        for tried in all_tried:
+            if tried.answered:
+                self.assertEqual(+tried.answered_refused(), +tried.refused(), f"{tried.variant}\n{tried.text}")
+        return sum((tried.refused() for tried in all_tried), Counter())
+
+    def each(self, is_meant: Callable[[Tried], bool]) -> tuple[list[Tried], list[Tried]]:
+        """The runs that are meant, and the others. Of both some were replayed."""
+        meant, others = ([tried for tried in self.tried if is_meant(tried) == wanted] for wanted in (True, False))
+        for runs in (meant, others):
+            self.assertGreater(sum(bool(tried.answered) for tried in runs), 5)
+        return meant, others
+
+    def test_where_turns_take_no_time_only_steals_are_stale(self):
+        meant, others = self.each(lambda tried: tried.variant.cost == 0)
+        for tried in meant:
+            stale = {name for name, count in tried.refused().items() if count and name.endswith("_Stale")}
+            self.assertLessEqual(stale, {"steal_Stale"}, f"{tried.variant}\n{tried.text}")
+        self.assertGreater(self.refused(meant)["steal_Stale"], 100)
+        refused = self.refused(others)
+        self.assertGreater(min(refused["pick_Stale"], refused["sleep_Stale"]), 100)
+
+    def test_where_all_is_heard_at_once_no_cpu_idles_while_one_waits_for_it(self):
+        meant, others = self.each(lambda tried: tried.is_at_once)
+        for tried in meant:
+            self.assertEqual(tried.row["ticks_idle_while_one_waits"], "0", f"{tried.variant}\n{tried.text}")
+        for name in ("ticks_idle", "wait_sum", "steals"):
+            self.assertGreater(sum(tried.count(name) for tried in meant), 1000, name)
+        self.assertGreater(sum(tried.count("ticks_idle_while_one_waits") for tried in others), 1000)
+
+    def test_where_news_is_not_late_or_steals_are_exact_a_refused_one_found_nothing(self):
+        meant, others = self.each(lambda tried: tried.knows)
+        for tried in meant:
+            steals = {name for name, count in tried.refused().items() if count and name.startswith("steal_")}
+            self.assertLessEqual(steals, {"steal_NothingToSteal"}, f"{tried.variant}\n{tried.text}")
+        for is_part in (lambda it: it.is_at_once, lambda it: it.variant.steals == "least", lambda it: it.variant.cost > 0,
+                        lambda it: it.variant.delay > 0):
+            part = [tried for tried in meant if is_part(tried)]
+            found, missed = sum(tried.count("steals") for tried in part), self.refused(part)["steal_NothingToSteal"]
+            self.assertGreater(min(found, missed), 100)
+        refused = self.refused(others)
+        self.assertGreater(min(refused["steal_Dead"], refused["steal_Stale"]), 100)
 
 
 def main() -> int:
