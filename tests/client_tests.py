@@ -4,7 +4,7 @@
     tests/client_tests.py [--program PROGRAM] [--fast N]
 
 With --fast N, N commands in a batch have to be answered within N / 200,000 seconds. The last line is
-'N passed, M failed'.
+'N passed, M failed', and where any were skipped 'N passed, M failed, K skipped'.
 """
 from __future__ import annotations
 
@@ -410,8 +410,10 @@ def main() -> int:
     os.environ["PC_SIM"] = str(PROGRAM)
     result = unittest.TextTestRunner(sys.stdout, verbosity=1).run(
         unittest.defaultTestLoader.loadTestsFromModule(sys.modules[__name__]))
-    failed = len(result.failures) + len(result.errors)
-    print(f"{result.testsRun - failed} passed, {failed} failed")
+    failed, skipped = len(result.failures) + len(result.errors), len(result.skipped)
+    for test, reason in result.skipped:
+        print(f"skipped: {test}: {reason}")
+    print(f"{result.testsRun - failed - skipped} passed, {failed} failed" + (f", {skipped} skipped" if skipped else ""))
     return 1 if failed else 0
 
 

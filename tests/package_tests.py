@@ -3,7 +3,7 @@
 
     tests/package_tests.py [--program PROGRAM]
 
-The last line is 'N passed, M failed'.
+The last line is 'N passed, M failed', and where any were skipped 'N passed, M failed, K skipped'.
 """
 from __future__ import annotations
 
@@ -247,7 +247,8 @@ def main() -> int:
     failed, skipped = len(result.failures) + len(result.errors), len(result.skipped)
     for test, reason in result.skipped:
         print(f"skipped: {test}: {reason}")
-    print(f"{max(result.testsRun - failed - skipped, 0)} passed, {failed} failed")
+    passed = max(result.testsRun - failed - skipped, 0)
+    print(f"{passed} passed, {failed} failed" + (f", {skipped} skipped" if skipped else ""))
     return 1 if failed else 0
 
 

@@ -119,9 +119,10 @@ def faults(path, program):
 
 
 def counted(line):
-    """The counts of a last line `N passed, M failed`. Any other line is one failure: what wrote it did not come to its end."""
-    counts = re.fullmatch(r"(\d+) passed, (\d+) failed", line.strip())
-    return (int(counts[1]), int(counts[2])) if counts else (0, 1)
+    """The counts of a last line `N passed, M failed`, which may go on `, K skipped`. Any other line is one failure: what wrote it
+    did not come to its end."""
+    counts = re.fullmatch(r"(\d+) passed, (\d+) failed(?:, (\d+) skipped)?", line.strip())
+    return (int(counts[1]), int(counts[2]), int(counts[3] or 0)) if counts else (0, 1, 0)
 
 
 def main():
@@ -132,12 +133,9 @@ def main():
     parser.add_argument("--program", type=pathlib.Path, help="run this program alone, as `rt run` leaves it")
     options = parser.parse_args()
     programs = [options.program.resolve()] if options.program else PROGRAMS
-    passed, failed = counted(options.gate_line)
-    if options.gate_status != 0 and failed == 0:
-        failed = 1
-    for line in options.also:
-        more_passed, more_failed = counted(line)
-        passed, failed = passed + more_passed, failed + more_failed
+    passed, failed, skipped = map(sum, zip(counted(options.gate_line), *map(counted, options.also)))
+    if options.gate_status != 0 and counted(options.gate_line)[1] == 0:
+        failed += 1
     cases = sorted(path for path in (ROOT / "tests/cases").iterdir() if path.is_dir())
     if not cases:
         print("no case in tests/cases")
@@ -153,6 +151,8 @@ def main():
             passed, failed = (passed, failed + 1) if found else (passed + 1, failed)
             for fault in found:
                 print(f"case {case.name} ({program.name}): {fault}")
+    if skipped:
+        print(f"{skipped} skipped")
     print(f"{passed} passed, {failed} failed")
     return 1 if failed else 0
 

@@ -1,7 +1,8 @@
 #!/usr/bin/env python3
 """Tests tools/sweep over the worked loads of the lab: what is gathered, and what an interrupted sweep goes on with.
 
-Without GNU parallel all but one are skipped. The last line is 'N passed, M failed'.
+Without GNU parallel all but one are skipped. The last line is 'N passed, M failed', and where any were skipped
+'N passed, M failed, K skipped'.
 """
 from __future__ import annotations
 
@@ -150,8 +151,10 @@ class Sweep(unittest.TestCase):
 
 def main() -> int:
     outcome = unittest.TextTestRunner(verbosity=1).run(unittest.defaultTestLoader.loadTestsFromModule(sys.modules[__name__]))
-    failed = len(outcome.failures) + len(outcome.errors)
-    print(f"{outcome.testsRun - failed} passed, {failed} failed")
+    failed, skipped = len(outcome.failures) + len(outcome.errors), len(outcome.skipped)
+    for test, reason in outcome.skipped:
+        print(f"skipped: {test}: {reason}")
+    print(f"{outcome.testsRun - failed - skipped} passed, {failed} failed" + (f", {skipped} skipped" if skipped else ""))
     return 1 if failed else 0
 
 

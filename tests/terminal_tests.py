@@ -3,7 +3,7 @@
 
     tests/terminal_tests.py [--program PROGRAM]
 
-The last line is 'N passed, M failed'.
+The last line is 'N passed, M failed', and where any were skipped 'N passed, M failed, K skipped'.
 """
 import argparse
 import os
@@ -234,17 +234,20 @@ def main():
     parser = argparse.ArgumentParser(description=__doc__, formatter_class=argparse.RawDescriptionHelpFormatter)
     parser.add_argument("--program", type=pathlib.Path, help="test this program alone, as `rt run` leaves it")
     options = parser.parse_args()
-    passed = failed = 0
+    passed = failed = skipped = 0
     for program in [options.program] if options.program else PROGRAMS:
         kind = type("Lines", (Lines,), {"program": program.resolve()})
         for name in unittest.defaultTestLoader.getTestCaseNames(kind):
             result = unittest.TestResult()
             kind(name).run(result)
             faults = [text for _, text in [*result.failures, *result.errors]]
-            passed, failed = (passed, failed + 1) if faults else (passed + 1, failed)
+            skipped += len(result.skipped)
+            passed, failed = (passed, failed + 1) if faults else (passed + 1 - len(result.skipped), failed)
             for fault in faults:
                 print(f"terminal, {name} ({program.name}): {fault}")
-    print(f"{passed} passed, {failed} failed")
+            for test, reason in result.skipped:
+                print(f"skipped: {test} ({program.name}): {reason}")
+    print(f"{passed} passed, {failed} failed" + (f", {skipped} skipped" if skipped else ""))
     return 1 if failed else 0
 
 
