@@ -1,11 +1,12 @@
 #!/usr/bin/env python3
 """Has a real browser show pictures that the built program draws, and keeps what it shows as PNG.
 
-    tests/draw_in_browser.py [--program PROGRAM] [--browser BROWSER] [--to FOLDER] [--variants FILE] [FILE ..]
+    tests/draw_in_browser.py [--program PROGRAM] [--browser BROWSER] [--to FOLDER] [--time] [--variants FILE] [FILE ..]
 
-FILE is a script or settings (of which the report is drawn); without one, three of examples/. With --variants it is a load of the lab, whose waits are
-drawn under these variants. It needs headless Chromium (Debian's package `chromium`). ./test does not need it: the pictures are for people, and
-docs/pictures keeps four. A picture that the browser cannot parse, or that shows no element, is a failure. The last line is 'N passed, M failed'.
+FILE is a script or settings (of which the report is drawn); without one, three of examples/. With --time scripts are drawn by their
+ticks. With --variants it is a load of the lab, whose waits are drawn under these variants. It needs headless Chromium (Debian's package
+`chromium`). ./test does not need it: the pictures are for people, and docs/pictures keeps four. A picture that the browser cannot parse,
+or that shows no element, is a failure. The last line is 'N passed, M failed'.
 """
 from __future__ import annotations
 
@@ -36,10 +37,16 @@ document.title = `faults ${{faults}} shown ${{shown}} titles ${{picture.querySel
 </script>"""
 
 
-def drawn(program: pathlib.Path, file: pathlib.Path, variants: pathlib.Path | None) -> bytes:
-    words = ["run", "--draw"] if file.suffix == ".toml" else ["draw"]
+def asked(file: pathlib.Path, variants: pathlib.Path | None, by_ticks: bool) -> tuple[list[str], str]:
+    """The words by which the program draws the file, and the name of that picture."""
     if variants:
-        words = ["lab", "--picture", "--variants", str(variants)]
+        return ["lab", "--picture", "--variants", str(variants)], f"{file.stem}-waits"
+    if file.suffix == ".toml":
+        return ["run", "--draw"], f"{file.stem}-report"
+    return (["draw", "--time"], f"{file.stem}-ticks") if by_ticks else (["draw"], file.stem)
+
+
+def drawn(program: pathlib.Path, words: list[str], file: pathlib.Path) -> bytes:
     run = subprocess.run([str(program), *words, str(file)], stdout=subprocess.PIPE, timeout=SECONDS)
     if run.returncode not in (0, 1) or not run.stdout:
         raise ValueError(f"{program.name} ended with {run.returncode}")
@@ -61,12 +68,12 @@ def browse(browser: str, folder: pathlib.Path, *words: str) -> str:
     return run.stdout
 
 
-def fault_of(browser: str, program: pathlib.Path, file: pathlib.Path, variants: pathlib.Path | None, to: pathlib.Path) -> str | None:
+def fault_of(options: argparse.Namespace, file: pathlib.Path) -> str | None:
     """What is wrong with the picture of the file, of which PNG and SVG are put into the folder."""
-    picture = drawn(program, file, variants)
+    browser, (words, name) = options.browser, asked(file, options.variants, options.time)
+    picture = drawn(options.program, words, file)
     width, height = size_of(picture)
-    name = f"{file.stem}-waits" if variants else f"{file.stem}-report" if file.suffix == ".toml" else file.stem
-    svg, png = (to / f"{name}{suffix}" for suffix in (".svg", ".png"))
+    svg, png = (options.to / f"{name}{suffix}" for suffix in (".svg", ".png"))
     svg.write_bytes(picture)
     with tempfile.TemporaryDirectory() as name:
         folder = pathlib.Path(name)
@@ -90,6 +97,7 @@ def main() -> int:
     parser.add_argument("--program", type=pathlib.Path, default=PROGRAM)
     parser.add_argument("--browser", default=shutil.which("chromium") or "chromium")
     parser.add_argument("--to", type=pathlib.Path, default=pathlib.Path(tempfile.gettempdir()))
+    parser.add_argument("--time", action="store_true", help="draws scripts by their ticks")
     parser.add_argument("--variants", type=pathlib.Path, metavar="FILE")
     parser.add_argument("file", type=pathlib.Path, nargs="*", default=EXAMPLES)
     options = parser.parse_args()
@@ -97,7 +105,7 @@ def main() -> int:
     passed = failed = 0
     for file in options.file:
         try:
-            fault = fault_of(options.browser, options.program, file, options.variants, options.to)
+            fault = fault_of(options, file)
         except (OSError, ValueError, subprocess.SubprocessError) as error:
             fault = str(error)
         passed, failed = (passed, failed + 1) if fault else (passed + 1, failed)
