@@ -177,6 +177,8 @@ class Hostile(unittest.TestCase):
         self.assertEqual({is_spoilt for _, is_spoilt in every}, {False, True})
         self.assertEqual(every[7], loads.drawn_load(7))
         self.assertNotEqual(every[7], every[8])
+        for words in loads.WORST:
+            self.assertRegex(loads.fault_of_worst(self.machine(), words), "status 0")
 
     def test_each_malformed_text_is_a_subject_of_growths(self):
         every = {subject.name: subject for subject in subjects.replayed(self.folder)}
@@ -193,9 +195,15 @@ class Hostile(unittest.TestCase):
             # Lives have at most 1,000 steps each.
             self.assertTrue(words.startswith("lives") or len(out.getvalue()) > 0.98 * worst.MOST_SETTINGS, words)
             self.assertLessEqual(len(out.getvalue()), worst.MOST_SETTINGS, words)
-        memory, _, ended = worst.taken(["bash", "-c", "echo pc-sim: run Driver >&2; exit 3"], 5, worst.bound)
+        memory, _, _, ended = worst.taken(["bash", "-c", "echo pc-sim: run Driver >&2; exit 3"], 5, worst.bound)
         self.assertEqual((memory > 0, ended), (True, "run Driver"))
-        self.assertEqual(worst.taken(["sleep", "60"], 0.1, None)[2], "not done")
+        self.assertEqual(worst.taken(["sleep", "60"], 0.1, None)[3], "not done")
+
+    def test_the_worst_loads_are_no_longer_than_they_may_be(self):
+        for words in worst.MEASURED_LOADS:
+            length, most = len(worst.load_text(words)), worst.MOST_LOAD
+            self.assertLessEqual(length, most, words)
+            self.assertTrue(words.startswith(("quanta", "late", "dotted 4194304")) or length > 0.98 * most, words)
 
     def test_what_is_not_there(self):
         with unittest.mock.patch("machine.shutil.which", return_value=None):

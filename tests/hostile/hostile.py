@@ -16,7 +16,7 @@ from dataclasses import dataclass
 from calls import refuse_in_calls
 from fuzz import draw_growths, draw_scripts
 from growths import bound_stack, refuse_growths, refuse_memory
-from loads import draw_loads
+from loads import draw_loads, use_worst
 from machine import ROOT, Machine, NoCompiler, Tally
 from settings import draw_settings, use_rows
 from streams import disturb_streams
@@ -62,6 +62,7 @@ def parts_of(machine, tally, options):
         "settings": lambda: use_rows(machine, tally, form.settings),
         "drawn settings": lambda: draw_settings(machine, tally, scripts // 10),
         "drawn loads": lambda: draw_loads(machine, tally, scripts // 10),
+        "worst loads": lambda: use_worst(machine, tally),
     }
     left_out = set() if form.lines else {"growths of long scripts"}
     return {name: part for name, part in parts.items() if name in (options.part or parts) and name not in left_out}

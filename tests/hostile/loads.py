@@ -1,15 +1,18 @@
-"""Loads of the lab: a worked one whose reads and writes are disturbed, and drawn ones, half of them spoilt."""
+"""Loads of the lab: a worked one whose reads and writes are disturbed, drawn ones, half of them spoilt, and some that take long."""
 import random
 import re
 
 from fuzz import SEED
 from machine import ROOT, Subject, told
 from settings import MEMORY, spoilt, written
+from worst import load_text
 
 WORKED = ROOT / "examples/lab/worked"
 ORDERS = ["levels", "fifo", "least-ran", "levels-then-least-ran"]
 TABLE = re.compile(rb"variant( +[a-z0-9.-]+)+\nend( +(done|until|NumbersSpent))+\n([a-zA-Z0-9 -]+\n)+")
 FAULT = re.compile(rb"pc-sim: (cannot read|lab [A-Z][A-Za-z]+( [a-z0-9.]+){0,2})\n")
+# Loads of worst.py, with which a run ends after some seconds: how it ends, and when.
+WORST = {"quanta 2 1": (b"NumbersSpent", 1_999_999), "late 1000 200": (b"until", 200)}
 # What a drawn load may take: its ticks are few, unless a number was spoilt, and so many quanta may pass then.
 SECONDS = 60
 
@@ -74,3 +77,19 @@ def fault_of_drawn(machine, place):
 def draw_loads(machine, tally, count):
     """Plays so many drawn loads."""
     tally.try_all((f"load {place}", lambda place=place: fault_of_drawn(machine, place)) for place in range(count))
+
+
+def fault_of_worst(machine, words):
+    """What is wrong with the table of a load that takes long: it is told, and tells how the run ended."""
+    file = written(machine.folder, words, load_text(words))
+    run = machine.run(Subject("", ["lab", str(file)]), seconds=SECONDS, memory=MEMORY)
+    rows = dict(line.rsplit(None, 1) for line in run.out.splitlines() if b" " in line)
+    ended, tick = WORST[words]
+    if run.status == 0 and not run.err and (rows.get(b"end"), rows.get(b"makespan")) == (ended, b"%d" % tick):
+        return None
+    return told(run)
+
+
+def use_worst(machine, tally):
+    """Plays loads that take long."""
+    tally.try_all((f"worst load {words}", lambda words=words: fault_of_worst(machine, words)) for words in WORST)

@@ -1,9 +1,11 @@
 #!/usr/bin/env python3
-"""Accepted scripts that want the most memory, of at most 16 MiB, and settings of at most 1 MiB.
+"""Accepted scripts that want the most memory, of at most 16 MiB, settings of at most 1 MiB, and loads of the lab of at most 16 MiB.
 
-    worst.py NAME NUMBER ..            writes the script, or the settings
-    worst.py measure PROGRAM           runs PROGRAM on each of MEASURED, and prints length, greatest memory, seconds, and how it ended
+    worst.py NAME NUMBER ..            writes the script, the settings, or the load
+    worst.py measure PROGRAM           runs PROGRAM on each of MEASURED, and prints length, greatest memory, seconds, those of a processor,
+                                       and how it ended
     worst.py measure-settings PROGRAM  the same of MEASURED_SETTINGS, with 6 GiB of address space and a minute for each
+    worst.py measure-loads PROGRAM     the same of MEASURED_LOADS, with five minutes for each
 
     publishes N                  a queue of 65,536 items, published N times: each delta is kept
     answers N                    65,535 threads that one agent knows and another does not, answered N times
@@ -13,19 +15,25 @@
     early-threads AGENTS EACH    65,535 threads of which so many agents know so many early messages each
     posts N                      so many messages that nobody knows
 
-Settings, each as long as it may be:
-    dotted                       keys of 80 parts: each part is a table of its own
+Settings, each as long as it may be; the first and `keys` and `tables` also of another length, as loads:
+    dotted [BYTES]               keys of 80 parts: each part is a table of its own
     nested                       keys of 80 parts in each of 80 inline tables
-    keys, headers, rows          keys and headers that differ, headers of one list of tables
+    keys [BYTES], headers, rows  keys and headers that differ, headers of one list of tables
     arrays, lone-arrays          a list of empty lists, and of lists with a number in each
-    tables                       a list of tables with a key in each
+    tables [BYTES]               a list of tables with a key in each
     numbers, texts               a list of numbers, and of empty texts
     text, key, escapes           one text, one key, one text that is all escapes
     lines, comments              lines without a key
     steps                        one thread whose list of steps is longer than it may be
     lives CPUS THREADS ANYWHERE  so many threads, which share the steps that the text has room for, may run anywhere (1) or at home alone (0), and block
     restarts CPUS THREADS TURN   as that, and 64 restarts from that turn on, in turn of all agents but the first
+
+Loads:
+    blocks VARIANTS              blocks behind no tick, as many as there is room for, of threads of one CPU
+    quanta THREADS VARIANTS      so many threads of one CPU take turns of a tick for as long as they may
+    late NAMES UNTIL             two threads take turns of a tick, and 62 agents ask for them at each, too late. So many names stand before theirs
 """
+import io
 import itertools
 import os
 import pathlib
@@ -103,11 +111,12 @@ def early_threads(agents, each):
 
 
 MOST_SETTINGS = 2**20
+MOST_LOAD = 2**24
 
 
-def filled(head, entries, tail=""):
+def filled(head, entries, tail="", most=MOST_SETTINGS):
     """As many entries as there is room for between a head and a tail."""
-    room = MOST_SETTINGS - len(head) - len(tail)
+    room = most - len(head) - len(tail)
     yield head
     for entry in entries:
         room -= len(entry)
@@ -153,21 +162,59 @@ def restarts(cpus, threads, turn):
     yield from living(cpus, threads, 0, rows)
 
 
+def thread(queue, mask, steps, more=""):
+    return f"{{queue={queue},mask={mask},steps=[{steps}]{more}}},\n"
+
+
+def load(cpus, threads, variants, until=0):
+    yield f"cpus={cpus}\nuntil={until}\nthread=[\n"
+    yield from threads
+    yield "]\n" + variants
+
+
+def variants_of(count, keys):
+    return "".join(f'[[variant]]\nname="{place}"\n{keys}\n' for place in range(count))
+
+
+def blocks(count):
+    """100,000 steps each, and what is left for the last."""
+    step, ending, variants = '"block 0",', '"die 0"', variants_of(count, "order='fifo'")
+    room = MOST_LOAD - len("".join(load(1, [], variants))) - len(thread(0, 1, ending))
+    whole = thread(0, 1, step * 99_999 + ending)
+    threads = [whole] * (room // len(whole)) + [thread(0, 1, step * (room % len(whole) // len(step)) + ending)]
+    yield from load(1, threads, variants)
+
+
+LONG = '"die 4294967295"'
+
+
+def quanta(threads, count):
+    yield from load(1, [thread(0, 1, LONG)] * threads, variants_of(count, "quantum=1"))
+
+
+def late(names, until):
+    """All agents know as many dead threads. At tick 100 each but the first wakes once, and asks for what it heard of."""
+    anywhere = 2**63 - 1
+    threads = [thread(0, anywhere, '"die 0"')] * names + [thread(0, anywhere, LONG)] * 2
+    threads += [thread(cpu, 2**cpu, '"die 0"', ",start=100") for cpu in range(1, 63)]
+    yield from load(63, threads, variants_of(1, "quantum=1\ndelay=5"), until)
+
+
 SCRIPTS = {
     "publishes": publishes, "answers": answers, "early-answers": early_answers, "threads": threads, "early": early,
     "early-threads": early_threads, "posts": posts,
 }
 SETTINGS = {
-    "dotted": lambda: filled("cpus=1\n", numbered("#" + ".a" * 79 + "=1\n")),
+    "dotted": lambda most=MOST_SETTINGS: filled("cpus=1\n", numbered("#" + ".a" * 79 + "=1\n"), most=most),
     "nested": nested,
-    "keys": lambda: filled("cpus=1\n", numbered("#=1\n")),
+    "keys": lambda most=MOST_SETTINGS: filled("cpus=1\n", numbered("#=1\n"), most=most),
     "headers": lambda: filled("cpus=1\n", numbered("[a#]\n")),
     "rows": lambda: filled("cpus=1\n", alike("[[a]]\n")),
     "lines": lambda: filled("cpus=1\n", alike("\n")),
     "comments": lambda: filled("cpus=1\n", alike("#\n")),
     "arrays": lambda: filled("cpus=1\na=[", alike("[],"), "]\n"),
     "lone-arrays": lambda: filled("cpus=1\na=[", alike("[1],"), "]\n"),
-    "tables": lambda: filled("cpus=1\na=[", alike("{a=1},"), "]\n"),
+    "tables": lambda most=MOST_SETTINGS: filled("cpus=1\na=[", alike("{a=1},"), "]\n", most),
     "numbers": lambda: filled("cpus=1\na=[", alike("1,"), "]\n"),
     "texts": lambda: filled("cpus=1\na=[", alike("'',"), "]\n"),
     "text": lambda: filled("cpus=1\na='", alike("x"), "'\n"),
@@ -177,6 +224,7 @@ SETTINGS = {
     "lives": living,
     "restarts": restarts,
 }
+LOADS = {"blocks": blocks, "quanta": quanta, "late": late}
 MEASURED = [
     "posts 1150000", "publishes 1", "publishes 100", "answers 1", "answers 100", "early-answers 1100000 1", "early-answers 1100000 5",
     "threads 1", "threads 11", "early 1 1100000", "early 6 1100000", "early-threads 1 9", "early-threads 6 9",
@@ -186,13 +234,25 @@ MEASURED_SETTINGS = [
     "lives 1 105 0", "lives 8 105 0", "lives 64 105 0", "lives 1 4096 0", "lives 64 4096 0", "lives 2 1 1", "lives 4 1 1", "lives 8 1 1",
     "lives 64 1 1", "lives 64 64 1", "restarts 2 4096 2", "restarts 64 4096 2",
 ]
-# What settings may take, since some runs end only after hours.
+MEASURED_LOADS = [
+    "dotted 4194304", "dotted 16777216", "tables 16777216", "keys 16777216", "blocks 1", "blocks 16", "quanta 2 1", "quanta 2 16", "quanta 30 1",
+    "quanta 70 1", "late 0 2000", "late 4032 2000",
+]
+# What settings and loads may take, since some runs end only after hours.
 MOST_MEMORY = 6 * 2**30
 MOST_SECONDS = 60
+MOST_SECONDS_OF_LOADS = 300
 
 
 def write(words, out):
-    out.writelines({**SCRIPTS, **SETTINGS}[words[0]](*map(int, words[1:])))
+    out.writelines({**SCRIPTS, **SETTINGS, **LOADS}[words[0]](*map(int, words[1:])))
+
+
+def load_text(words):
+    """The text of a load, by its words."""
+    out = io.StringIO()
+    write(words.split(), out)
+    return out.getvalue()
 
 
 def bound():
@@ -200,7 +260,7 @@ def bound():
 
 
 def taken(words, seconds, limit):
-    """The greatest memory of a run in KiB, how long it took, and how it ended. It is ended after so many seconds."""
+    """The greatest memory of a run in KiB, how long it took, so of a processor, and how it ended. It is ended after so many seconds."""
     began = time.perf_counter()
     with tempfile.TemporaryFile() as said:
         child = subprocess.Popen(words, stdout=subprocess.DEVNULL, stderr=said, preexec_fn=limit)
@@ -215,22 +275,22 @@ def taken(words, seconds, limit):
         _, status, used = os.wait4(child.pid, 0)
         child.returncode = os.waitstatus_to_exitcode(status)
         said.seek(0)
-        ended = said.read().decode().removeprefix("pc-sim: ").strip() or "done"
+        ended = said.read().decode().removeprefix("pc-sim: ").partition("\n")[0] or "done"
     if child.returncode < 0:
         ended = f"signal {-child.returncode}" if is_done else "not done"
-    return used.ru_maxrss, took, ended
+    return used.ru_maxrss, took, used.ru_utime + used.ru_stime, ended
 
 
 def measure(program, command, every, seconds=None, limit=None):
     """A line of the table for each script or settings."""
-    print("| text | bytes | greatest memory | seconds | ended |\n|---|---|---|---|---|")
+    print("| text | bytes | greatest memory | seconds | of a processor | ended |\n|---|---|---|---|---|---|")
     with tempfile.TemporaryDirectory() as name:
         file = pathlib.Path(name) / "text"
         for words in every:
             with open(file, "w", encoding="ascii") as out:
                 write(words.split(), out)
-            memory, took, ended = taken([program, command, str(file)], seconds, limit)
-            print(f"| `{words}` | {file.stat().st_size:,} | {memory / 1024:,.0f} MiB | {took:.2f} | {ended} |", flush=True)
+            memory, took, used, ended = taken([program, command, str(file)], seconds, limit)
+            print(f"| `{words}` | {file.stat().st_size:,} | {memory / 1024:,.0f} MiB | {took:.2f} | {used:.2f} | {ended} |", flush=True)
 
 
 def main():
@@ -239,7 +299,9 @@ def main():
         measure(words[1], "replay", MEASURED)
     elif len(words) >= 2 and words[0] == "measure-settings":
         measure(words[1], "run", words[2:] or MEASURED_SETTINGS, MOST_SECONDS, bound)
-    elif words and words[0] in {**SCRIPTS, **SETTINGS}:
+    elif len(words) >= 2 and words[0] == "measure-loads":
+        measure(words[1], "lab", words[2:] or MEASURED_LOADS, MOST_SECONDS_OF_LOADS, bound)
+    elif words and words[0] in {**SCRIPTS, **SETTINGS, **LOADS}:
         write(words, sys.stdout)
     else:
         sys.exit(__doc__)
