@@ -11,7 +11,8 @@
   advice       docs/GLOSSARY.md has the words of pc_explain on why each refusal comes
   examples     each example's script has its output beside it, and examples/README.md names all of them; the code that
                the root of a crate shows is code of a test, line for line
-  versions     the program, its case and CHANGELOG.md tell one version, and README.md the kit that is on the path
+  versions     the program, its case, CHANGELOG.md and the manual page tell one version, the last two its date, and README.md the kit
+               that is on the path
   widths       no line of a document, of .rt or of specs/ is wider than 120 columns
   files        each file of docs/, examples/, tools/, tests/ and bench/ is named by some other file
   numbers      nothing is cited by a number: no theorem, request, row or issue
@@ -522,8 +523,13 @@ class Checker:
         source = (ROOT / "crates/pc_program/src/command_line.rt").read_text()
         version = re.search(r'^const VERSION: &str = "(.*)";$', source, re.M)[1]
         self.expect((ROOT / "tests/cases/the-version/stdout").read_text() == f"pc-sim {version}\n", "tests/cases/the-version", f"not {version}")
-        told = re.search(r"\bversion ([\d.]+\d)|^## \[([\d.]+)\]", (ROOT / "CHANGELOG.md").read_text(), re.M)
+        changes = (ROOT / "CHANGELOG.md").read_text()
+        told = re.search(r"\bversion ([\d.]+\d)|^## \[([\d.]+)\]", changes, re.M)
         self.expect((told[1] or told[2]) == version, "CHANGELOG.md", f"its first version is not {version}")
+        release = re.search(r"^## \[([\d.]+)\] - ([\d-]+)$", changes, re.M)
+        page = re.search(r'^\.TH PC-SIM 1 ([\d-]+) "pc-sim ([\d.]+)" ', (ROOT / "docs/pc-sim.1").read_text(), re.M)
+        is_dated = release and page and release.groups() == (page[2], page[1])
+        self.expect(bool(is_dated), "docs/pc-sim.1", "its version and date are not those of CHANGELOG.md")
         kit = re.search(r"`(rattle-kit-[^`]*)`", (ROOT / "README.md").read_text())[1]
         if shutil.which("rt"):
             found = subprocess.run(["rt", "version"], capture_output=True, text=True, check=True).stdout.strip()
