@@ -1,8 +1,14 @@
 //! Worked loads of the lab, compared: tables and CSV to the byte, of which the numbers were found by hand, and what a
 //! picture begins with.
 
-use pc_compare::{CompareFault, Form, Layout, compare, picture_of, script_of};
-use pc_load::{Leaving, Load, Step, ThreadDraft, VariantDraft, Variants};
+use pc_compare::{
+    CompareFault, Form, Layout, SoFar, Watcher, compare, compare_watched, picture_of,
+    picture_watched, script_of,
+};
+use pc_curves::picture_of as waits_of;
+use pc_lab::{Chronicle, play};
+use pc_load::{Leaving, Load, Step, ThreadDraft, Variant, VariantDraft, Variants};
+use pc_table::{Column, Figures, figures_of, text_of};
 use std::alloc::Global;
 
 /// Eight threads of 10 ticks on two CPUs, alone and in a group, with the time of each CPU.
@@ -521,6 +527,138 @@ fn nothing_is_drawn(alloc: Global) -> Result<bool, CompareFault> {
     Ok(text.as_slice().starts_with(NONE_HEAD))
 }
 
+/// The two variants of `STEALS`.
+fn both(alloc: Global) -> Result<Variants, CompareFault> {
+    let alone = VariantDraft {
+        group: 1,
+        ..plain("alone")
+    };
+    variants_of(alloc, &[alone, plain("steals")])
+}
+
+/// The table with the time of each CPU.
+const PER_CPU: Form = Form {
+    layout: Layout::Table,
+    per_cpu: true,
+};
+
+/// A run of the load under each variant.
+fn columns_of<'a>(
+    alloc: Global,
+    load: &Load,
+    variants: &'a [Variant],
+) -> Result<Vec<Column<'a>>, CompareFault> {
+    let mut columns = Vec::new(alloc);
+    for variant in variants {
+        let Ok(played) = play(alloc, load, variant, Chronicle::Untold) else {
+            return Err(CompareFault::TooLong);
+        };
+        columns.push(Column {
+            name: variant.name.as_slice(),
+            summary: played.summary,
+        })?;
+    }
+    Ok(columns)
+}
+
+/// Whether the runs of the eight threads are told and drawn as they were worked.
+fn columns_are_told(alloc: Global) -> Result<bool, CompareFault> {
+    let (load, variants) = (eight(alloc)?, both(alloc)?);
+    let columns = columns_of(alloc, &load, variants.as_slice())?;
+    let text = text_of(alloc, &load, columns.as_slice(), PER_CPU)?;
+    let picture = waits_of(alloc, columns.as_slice())?;
+    Ok(text.as_slice() == STEALS && picture.as_slice().starts_with(STEALS_HEAD))
+}
+
+/// The numbers of the waits of each run of the load.
+fn figures(alloc: Global, load: &Load, variants: &Variants) -> Result<Vec<Figures>, CompareFault> {
+    let mut all = Vec::new(alloc);
+    for column in columns_of(alloc, load, variants.as_slice())?.iter() {
+        all.push(figures_of(alloc, &column.summary)?)?;
+    }
+    Ok(all)
+}
+
+/// Those of the eight threads, which waited for 0, 10 .. 70 ticks, or two each for 0, 10, 20 and 30; and of no threads.
+const EIGHT: &[Figures] = &[
+    Figures {
+        waits: 8,
+        p50: Some(30),
+        p90: Some(70),
+        p99: Some(70),
+    },
+    Figures {
+        waits: 8,
+        p50: Some(10),
+        p90: Some(30),
+        p99: Some(30),
+    },
+];
+
+const NO_WAITS: &[Figures] = &[Figures {
+    waits: 0,
+    p50: None,
+    p90: None,
+    p99: None,
+}];
+
+fn figures_are_worked(alloc: Global) -> Result<bool, CompareFault> {
+    let of_eight = figures(alloc, &eight(alloc)?, &both(alloc)?)?;
+    let of_none = figures(alloc, &none(alloc)?, &variants_of(alloc, &[])?)?;
+    Ok(of_eight.as_slice() == EIGHT && of_none.as_slice() == NO_WAITS)
+}
+
+/// A watcher who keeps what it was told first and last, and counts how often.
+#[derive(Clone, Copy)]
+struct Kept {
+    times: u32,
+    first: Option<SoFar>,
+    last: Option<SoFar>,
+}
+
+impl Watcher for Kept {
+    fn played(&mut self, so_far: SoFar) {
+        if self.times == 0 {
+            self.first = Some(so_far);
+        }
+        self.last = Some(so_far);
+        self.times = self.times.saturating_add(1);
+    }
+}
+
+impl Kept {
+    const NOTHING: Kept = Kept {
+        times: 0,
+        first: None,
+        last: None,
+    };
+
+    /// Whether it was told of the two runs of `STEALS`, of 50 and 61 events.
+    fn is_of_steals(&self) -> bool {
+        let first = SoFar {
+            all: 2,
+            played: 1,
+            events: 50,
+        };
+        let last = SoFar {
+            all: 2,
+            played: 2,
+            events: 111,
+        };
+        self.times == 2 && self.first == Some(first) && self.last == Some(last)
+    }
+}
+
+/// Whether watchers are told of each run, and what is made is the same.
+fn runs_are_watched(alloc: Global) -> Result<bool, CompareFault> {
+    let (load, variants) = (eight(alloc)?, both(alloc)?);
+    let (mut of_table, mut of_picture) = (Kept::NOTHING, Kept::NOTHING);
+    let text = compare_watched(alloc, &load, &variants, PER_CPU, &mut of_table)?;
+    let picture = picture_watched(alloc, &load, &variants, &mut of_picture)?;
+    let is_made = text.as_slice() == STEALS && picture.as_slice().starts_with(STEALS_HEAD);
+    Ok(is_made && of_table.is_of_steals() && of_picture.is_of_steals())
+}
+
 /// The script of the run of no threads under the variant of this name.
 fn script(alloc: Global, name: &str) -> Result<Vec<u8>, CompareFault> {
     let load = none(alloc)?;
@@ -568,6 +706,20 @@ fn pictures_tell_the_worked_percentiles(rt: HostRuntime) {
     assert!(rt; is_drawn);
     let is_empty = nothing_is_drawn(rt.alloc()).expect(&rt, "ample memory");
     assert!(rt; is_empty);
+}
+
+#[test]
+fn runs_are_told_as_they_were_played(rt: HostRuntime) {
+    let is_told = columns_are_told(rt.alloc()).expect(&rt, "ample memory");
+    assert!(rt; is_told);
+    let is_worked = figures_are_worked(rt.alloc()).expect(&rt, "ample memory");
+    assert!(rt; is_worked);
+}
+
+#[test]
+fn watchers_are_told_of_each_run(rt: HostRuntime) {
+    let is_watched = runs_are_watched(rt.alloc()).expect(&rt, "ample memory");
+    assert!(rt; is_watched);
 }
 
 #[test]
