@@ -1,8 +1,6 @@
 -- Lists that are read element by element.
-use Rattle.std.proofs.Common.{ℕ, ◌≡◌, ◌+◌, ◌<◌, ◌≤◌, Bool, true, List, [], ◌∷◌, ◌++◌, length, get_or, take, drop, map, add-one, Ok, Err, refl, sym, ap, ◌∙◌, subst, arith}
-use Rattle.std.specs.List.{list_all}
-use Rattle.std.proofs.lemmas.List.{take_more, length-take-le, take_all, length-map, map-append}
-use Rattle.std.proofs.lemmas.List.Sums.{AllPass-from_list_all}
+use Rattle.std.proofs.Common.{ℕ, ◌≡◌, ◌+◌, ◌<◌, List, [], ◌∷◌, ◌++◌, length, get_or, take, drop, map, add-one, Ok, Err, refl, sym, ap, ◌∙◌, subst, arith}
+use Rattle.std.proofs.lemmas.List.{take_more, length-take-le, length-map, map-append}
 use Rattle.std.proofs.Math.Seq.{split_at}
 use Rattle.pc_settings.specs.declared.runs.SettingsFault.{SettingsFault}
 use Rattle.pc_settings.specs.Inner.Readings.{Read, and_then, each}
@@ -65,11 +63,3 @@ stop h read items k w ys f below is done one =
     split_at items k w below ∙ ap (λ n. take k items ++ get_or items k w ∷ drop n items) (sym (add-one k)) ∙ ap (λ v. take k items ++ v ∷ drop (k + 1) items) (sym is) in
     ap (λ vs. each read 0 (map h vs)) split ∙ ap (each read 0) (map-append h (take k items) (w ∷ drop (k + 1) items))
     ∙ each_stops read 0 k (map h (take k items)) ys (h w) (map h (drop (k + 1) items)) f count done one
-
-pub end : {W X A : Type 0} (h : W → X) (read : ℕ → X → Read A) (items : List W) (k : ℕ) (ys : List A) → length items ≤ k
-    → each read 0 (map h (take k items)) ≡ Ok ys → each read 0 (map h items) ≡ Ok ys
-end h read items k ys all done = subst (λ vs. each read 0 (map h vs) ≡ Ok ys) (take_all k items all) done
-
--- what a test of all elements tells of one
-pub all_at : {W : Type 0} (p : W → Bool) (items : List W) (k : ℕ) (w : W) → list_all p items ≡ true → k < length items → w ≡ get_or items k w → p w ≡ true
-all_at p items k w all below is = subst (λ v. p v ≡ true) (sym is) (AllPass-from_list_all p items all k w below)

@@ -1,6 +1,6 @@
 -- Elements that are read one by one, each of which may have faults.
-use Rattle.std.proofs.Common.{ℕ, ◌≡◌, ◌+◌, ◌<◌, ◌≤◌, List, [], ◌∷◌, ◌++◌, length, get_or, take, drop, map, add-one, Option, Some, None, refl, sym, ap, ◌∙◌, subst, arith, append_assoc, filter_map}
-use Rattle.std.proofs.lemmas.List.{append-nil, take_more, length-take-le, take_all, length-map, map-append}
+use Rattle.std.proofs.Common.{ℕ, ◌≡◌, ◌+◌, ◌<◌, List, [], ◌∷◌, ◌++◌, length, get_or, take, drop, map, add-one, Option, Some, None, refl, sym, ap, ◌∙◌, subst, arith, append_assoc, filter_map}
+use Rattle.std.proofs.lemmas.List.{append-nil, take_more, length-take-le, length-map, map-append}
 use Rattle.std.proofs.lemmas.List.Elements.{filter_map-append}
 use Rattle.std.proofs.Math.Seq.{split_at}
 use Rattle.pc_settings.specs.Keys.{first_some, of_each}

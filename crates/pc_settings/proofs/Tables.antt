@@ -1,15 +1,15 @@
 -- Tables that are read in stages, each of which may find a fault.
-use Rattle.std.proofs.Common.{ℤ, pos, ◌≡◌, ◌⊎◌, List, [], ◌∷◌, ◌++◌, map, Option, Some, None, option_map, unwrap_or, Result, Ok, Err, codes, refl, sym, ap, ap₂, ◌∙◌, subst, inl, inr}
+use Rattle.std.proofs.Common.{ℤ, pos, ◌≡◌, List, [], ◌∷◌, ◌++◌, map, Option, Some, None, option_map, unwrap_or, Result, Ok, Err, codes, refl, sym, ap, ◌∙◌, subst, inl, inr}
 use Rattle.toml.specs.Data.{Members}
-use Rattle.pc_load.specs.Loads.{Demand, Need, demand}
+use Rattle.pc_load.specs.Loads.{Need, demand}
 use Rattle.pc_load.specs.Variants.{Choice, or_plain, variant_fault}
 use Rattle.pc_load.specs.declared.load.Load.{Load}
 use Rattle.pc_load.specs.declared.variant.Variants.{Variants}
 use Rattle.pc_settings.specs.Keys.{first_some, integer_at, integer_or, of_each, tables_at, unless}
 use Rattle.pc_settings.specs.declared.loads.LoadField.TheVariants as field
 use Rattle.pc_settings.specs.declared.loads.LoadTextFault.{LoadTextFault}
-use Rattle.pc_settings.specs.declared.loads.LoadTextFault.TheVariants.{BadField, BadVariants, OutOfMemory}
-use Rattle.pc_settings.specs.LoadTexts.{AreAsked, Finds, IsFault, IsRead, Told, asked_faults, choice_faults, choice_told, choices_faults, choices_in, demand_in, load_faults, need_told, step_faults, thread_faults, threads_faults, threads_in, told_in, variants_faults, variants_in}
+use Rattle.pc_settings.specs.declared.loads.LoadTextFault.TheVariants.{BadField, BadVariants}
+use Rattle.pc_settings.specs.LoadTexts.{AreAsked, Finds, IsFault, IsRead, Told, asked_faults, choice_faults, choice_told, choices_faults, choices_in, demand_in, load_faults, need_told, step_faults, thread_faults, threads_faults, threads_in, told_in, variants_faults}
 use Rattle.pc_settings.proofs.Stages.{through, told_first}
 
 skip : {A F : Type 0} (o : Option A) (a : A) (fault : F) (rest : List (Option F)) → o ≡ Some a → first_some (unless o fault ∷ rest) ≡ first_some rest

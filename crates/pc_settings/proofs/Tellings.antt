@@ -9,9 +9,10 @@ use Rattle.pc_threads.specs.declared.settings.plans.Step.{Step}
 use Rattle.std.specs.Option.{option_to_list}
 use Rattle.std.specs.List.{cons_option}
 use Rattle.pc_settings.specs.Steps.{read_run_step}
-use Rattle.pc_settings.specs.Keys.{integer_at, tables_at, texts_at, unless}
+use Rattle.pc_settings.specs.Keys.{integer_at, tables_at, unless}
 use Rattle.pc_settings.specs.SettingsText.{integer_in, threads_in, restarts_in, texts_in, plan_in, restart_in, settings_in, thread_faults, restart_faults, text_faults, step_faults, faults_in, Reads}
-use Rattle.pc_settings.specs.Inner.Readings.{Read, Told, and_then, each, read_draft, read_restart, read_text, read_plan, checked, checked_by, read_table, Follows}
+use Rattle.pc_settings.specs.Inner.Readings.{Read, and_then, each, read_unless, draft_in, read_draft, read_restart, read_text, read_plan, checked, checked_by, read_table, Follows}
+use Rattle.pc_settings.specs.Inner.SharedKeys.{Told}
 use Rattle.pc_settings.specs.declared.runs.Field.TheVariants as field
 use Rattle.pc_settings.specs.declared.runs.SettingsFault.{SettingsFault}
 use Rattle.pc_settings.specs.declared.runs.SettingsFault.TheVariants.{BadField, BadStep, BadConfig}
@@ -73,38 +74,15 @@ tells_each faults value read i (x ∷ xs) one =
     (more_told (flat_map faults xs) (value x) (map value xs) (each read (i + 1) xs) (tells_each faults value read (i + 1) xs one))
 
 -- the keys of a thread and of a restart
-abbrev draft_in : Members → Told
-draft_in thread = record { queue = integer_in (codes "queue") thread; mask = integer_in (codes "mask") thread; texts = texts_in thread }
-
-abbrev told_of : ℤ → ℤ → List (List ℕ) → Read Told
-told_of queue mask texts = Ok (record { queue = queue; mask = mask; texts = texts })
+tells_unless : {A : Type 0} (faults : List (Option SettingsFault)) (value : A) (first : Option SettingsFault) → first_fault faults ≡ first → Tells faults value (read_unless first value)
+tells_unless faults value None e = (e, refl)
+tells_unless faults value (Some f) e = e
 
 tells_draft : (place : ℕ) (t : Members) → Tells (thread_faults t) (draft_in t) (read_draft place t)
-tells_draft place t =
-    let no_mask = unless (integer_at (codes "mask") t) (BadField field.Mask) in
-    let no_steps = unless (texts_at (codes "steps") t) (BadField field.Steps) in
-    tells_then (unless (integer_at (codes "queue") t) (BadField field.Queue) ∷ []) (no_mask ∷ no_steps ∷ []) (integer_in (codes "queue") t) (draft_in t)
-    (ok_or (integer_at (codes "queue") t) (BadField field.Queue))
-    (λ queue. and_then (ok_or (integer_at (codes "mask") t) (BadField field.Mask)) (λ mask. and_then (ok_or (texts_at (codes "steps") t) (BadField field.Steps)) (told_of queue mask)))
-    (tells_some (integer_at (codes "queue") t) (pos 0) (BadField field.Queue))
-    (tells_then (no_mask ∷ []) (no_steps ∷ []) (integer_in (codes "mask") t) (draft_in t) (ok_or (integer_at (codes "mask") t) (BadField field.Mask))
-    (λ mask. and_then (ok_or (texts_at (codes "steps") t) (BadField field.Steps)) (told_of (integer_in (codes "queue") t) mask))
-    (tells_some (integer_at (codes "mask") t) (pos 0) (BadField field.Mask))
-    (tells_then (no_steps ∷ []) [] (texts_in t) (draft_in t) (ok_or (texts_at (codes "steps") t) (BadField field.Steps))
-    (told_of (integer_in (codes "queue") t) (integer_in (codes "mask") t)) (tells_some (texts_at (codes "steps") t) [] (BadField field.Steps)) (tells_done (draft_in t))))
-
-abbrev restart_told : ℤ → ℤ → Read Restart
-restart_told cpu turn = Ok (record { cpu = cpu; turn = turn })
+tells_draft place t = tells_unless (thread_faults t) (draft_in t) (first_fault (thread_faults t)) refl
 
 tells_restart : (place : ℕ) (t : Members) → Tells (restart_faults t) (restart_in t) (read_restart place t)
-tells_restart place t =
-    let no_turn = unless (integer_at (codes "turn") t) (BadField field.Turn) in
-    tells_then (unless (integer_at (codes "cpu") t) (BadField field.Cpu) ∷ []) (no_turn ∷ []) (integer_in (codes "cpu") t) (restart_in t)
-    (ok_or (integer_at (codes "cpu") t) (BadField field.Cpu))
-    (λ cpu. and_then (ok_or (integer_at (codes "turn") t) (BadField field.Turn)) (restart_told cpu))
-    (tells_some (integer_at (codes "cpu") t) (pos 0) (BadField field.Cpu))
-    (tells_then (no_turn ∷ []) [] (integer_in (codes "turn") t) (restart_in t) (ok_or (integer_at (codes "turn") t) (BadField field.Turn))
-    (restart_told (integer_in (codes "cpu") t)) (tells_some (integer_at (codes "turn") t) (pos 0) (BadField field.Turn)) (tells_done (restart_in t)))
+tells_restart place t = tells_unless (restart_faults t) (restart_in t) (first_fault (restart_faults t)) refl
 
 -- the steps of a thread, and of all
 text_told : (i j : ℕ) (texts : List (List ℕ)) (there : Option Step)

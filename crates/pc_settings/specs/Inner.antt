@@ -1,4 +1,4 @@
 pub mod Drafts
-pub mod PlanDrafts
 pub mod Readings
+pub mod SharedKeys
 pub mod Values

@@ -5,6 +5,7 @@ mod input;
 mod keys;
 mod loads;
 mod runs;
+mod shared_keys;
 mod steps;
 
 pub use input::{TextFault, Unread, read_utf8};

@@ -16,7 +16,8 @@ mod threads;
 mod variants;
 mod words;
 
-use crate::keys::{integer_at, integer_or, tables_at};
+use crate::keys::{integer_or, tables_at};
+use crate::shared_keys::{SharedKey, cpus_of, threads_of};
 use draft::Draft;
 use pc_load::{Load, LoadFault, ThreadDraft, VariantDraft, VariantFault, Variants};
 use std::alloc::{AllocError, AllocFailed, Global};
@@ -84,6 +85,23 @@ pub enum LoadTextFault {
     OutOfMemory,
 }
 
+impl From<SharedKey> for LoadTextFault {
+    ghost use Rattle.std.specs.Prelude.{◌≡◌};
+    ghost use Rattle.pc_settings.specs.Inner.SharedKeys.{load_fault};
+
+    ghost from_gives = { λ key fault. fault ≡ load_fault key };
+
+    fn from(key: SharedKey) -> LoadTextFault {
+        match key {
+            SharedKey::Cpus => LoadTextFault::BadField(LoadField::Cpus),
+            SharedKey::Threads => LoadTextFault::BadField(LoadField::Threads),
+            SharedKey::Queue => LoadTextFault::BadField(LoadField::Queue),
+            SharedKey::Mask => LoadTextFault::BadField(LoadField::Mask),
+            SharedKey::Steps => LoadTextFault::BadField(LoadField::Steps),
+        }
+    }
+}
+
 impl From<AllocError> for LoadTextFault {
     ghost use Rattle.std.specs.Prelude.{◌≡◌};
     ghost use Rattle.pc_settings.specs.declared.loads.LoadTextFault.TheVariants.{OutOfMemory};
@@ -111,10 +129,7 @@ fn threads_in<'a>(alloc: Global, table: &'a Table) -> Result<Vec<Draft<'a>>, Loa
     ensures { IsRead (threads_faults (table_view table.now)) (map told_in (threads_in (table_view table.now)))
         (λ drafts. map told drafts.items) result }
 {
-    match tables_at(table, "thread") {
-        Some(items) => drafts_of(alloc, items),
-        None => Err(LoadTextFault::BadField(LoadField::Threads)),
-    }
+    drafts_of(alloc, threads_of(table)?)
 }
 
 /// The variants that a table tells of.
@@ -165,9 +180,7 @@ fn load_of(alloc: Global, table: &Table) -> Result<(Load, Variants), LoadTextFau
     ensures { Finds (load_faults (table_view table.now))
         (AreAsked (demand_in (table_view table.now)) (choices_in (table_view table.now))) result }
 {
-    let Some(cpus) = integer_at(table, "cpus") else {
-        return Err(LoadTextFault::BadField(LoadField::Cpus));
-    };
+    let cpus = cpus_of(table)?;
     let Some(until) = integer_or(0, table, "until") else {
         return Err(LoadTextFault::BadField(LoadField::Until));
     };

@@ -5,18 +5,17 @@ ghost use Rattle.toml.specs.Parse.{parse_document};
 ghost use Rattle.toml.specs.View.{table_view};
 ghost use Rattle.pc_threads.specs.Settings.{plan_of};
 ghost use Rattle.pc_settings.specs.SettingsText.{Reads};
-ghost use Rattle.pc_settings.specs.Inner.PlanDrafts.{told};
 ghost use Rattle.pc_settings.specs.Inner.Readings.{Follows, each, read_draft, read_plan};
 ghost use Rattle.pc_settings.specs.Inner.Readings.{read_restart, read_table, read_text};
+ghost use Rattle.pc_settings.specs.Inner.SharedKeys.{told};
 ghost use Rattle.pc_settings.specs.Inner.Values.{are_tables, are_texts, table_in, text_in};
 
-mod draft;
 mod tables;
 mod trouble;
 
-use crate::keys::{integer_at, tables_at};
+use crate::keys::tables_at;
+use crate::shared_keys::{SharedKey, ThreadKeys, cpus_of, threads_of};
 use crate::steps::run_step_in;
-use draft::Draft;
 use pc_threads::{Config, ConfigFault, Restart, Step, ThreadPlan};
 use std::alloc::{AllocError, AllocFailed, Global};
 use std::fmt::{self, Display, Formatter, Write};
@@ -86,6 +85,23 @@ pub enum SettingsFault {
     OutOfMemory,
 }
 
+impl From<SharedKey> for SettingsFault {
+    ghost use Rattle.std.specs.Prelude.{◌≡◌};
+    ghost use Rattle.pc_settings.specs.Inner.SharedKeys.{settings_fault};
+
+    ghost from_gives = { λ key fault. fault ≡ settings_fault key };
+
+    fn from(key: SharedKey) -> SettingsFault {
+        match key {
+            SharedKey::Cpus => SettingsFault::BadField(Field::Cpus),
+            SharedKey::Threads => SettingsFault::BadField(Field::Threads),
+            SharedKey::Queue => SettingsFault::BadField(Field::Queue),
+            SharedKey::Mask => SettingsFault::BadField(Field::Mask),
+            SharedKey::Steps => SettingsFault::BadField(Field::Steps),
+        }
+    }
+}
+
 impl From<AllocError> for SettingsFault {
     ghost use Rattle.std.specs.Prelude.{◌≡◌};
     ghost use Rattle.pc_settings.specs.declared.runs.SettingsFault.TheVariants.{OutOfMemory};
@@ -126,14 +142,8 @@ pub fn read_config(alloc: Global, text: &str) -> Result<Config, SettingsFault>
 fn config_of(alloc: Global, table: &Table) -> Result<Config, SettingsFault>
     ensures { Follows (read_table (table_view table.now)) (λ config. config) result }
 {
-    let cpus = match integer_at(table, "cpus") {
-        Some(cpus) => cpus,
-        None => return Err(SettingsFault::BadField(Field::Cpus)),
-    };
-    let threads = match tables_at(table, "thread") {
-        Some(threads) => drafts_of(alloc, threads)?,
-        None => return Err(SettingsFault::BadField(Field::Threads)),
-    };
+    let cpus = cpus_of(table)?;
+    let threads = drafts_of(alloc, threads_of(table)?)?;
     let restarts = match tables_at(table, "restart") {
         Some(restarts) => restarts_of(alloc, restarts)?,
         None => return Err(SettingsFault::BadField(Field::Restarts)),
@@ -146,7 +156,7 @@ fn config_of(alloc: Global, table: &Table) -> Result<Config, SettingsFault>
 }
 
 /// The threads as their keys tell them.
-fn drafts_of<'a>(alloc: Global, items: &'a [Value]) -> Result<Vec<Draft<'a>>, SettingsFault>
+fn drafts_of<'a>(alloc: Global, items: &'a [Value]) -> Result<Vec<ThreadKeys<'a>>, SettingsFault>
     requires { are_tables items.now ≡ true }
     ensures { Follows (each read_draft 0 (map table_in items.now)) (λ drafts. map told drafts.items) result }
 {
@@ -185,7 +195,7 @@ fn steps_of(alloc: Global, thread: usize, texts: &[Value]) -> Result<Vec<Step>, 
 }
 
 /// The thread with these steps.
-fn with_steps(draft: &Draft<'_>, steps: Vec<Step>) -> ThreadPlan
+fn with_steps(draft: &ThreadKeys<'_>, steps: Vec<Step>) -> ThreadPlan
     ensures { plan_of result ≡ record { queue = draft.now.queue; mask = draft.now.mask; steps = steps.items } }
 {
     ThreadPlan {
@@ -196,7 +206,7 @@ fn with_steps(draft: &Draft<'_>, steps: Vec<Step>) -> ThreadPlan
 }
 
 /// The threads with their steps.
-fn plans_of(alloc: Global, drafts: &[Draft<'_>]) -> Result<Vec<ThreadPlan>, SettingsFault>
+fn plans_of(alloc: Global, drafts: &[ThreadKeys<'_>]) -> Result<Vec<ThreadPlan>, SettingsFault>
     ensures { Follows (each read_plan 0 (map told drafts.now)) (λ plans. map plan_of plans.items) result }
 {
     let mut plans = Vec::new(alloc);

@@ -6,9 +6,9 @@ use Rattle.pc_settings.specs.declared.loads.draft.Draft.{Draft}
 
 abbrev pub told : Draft → Told
 told draft = record {
-  queue = draft.queue;
-  mask = draft.mask;
-  texts = map text_in draft.texts.now;
+  queue = draft.keys.queue;
+  mask = draft.keys.mask;
+  texts = map text_in draft.keys.texts.now;
   start = draft.start;
   level = draft.level;
   sleeps = map integer_in draft.sleeps.now;

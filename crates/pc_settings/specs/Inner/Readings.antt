@@ -1,13 +1,15 @@
 -- Settings read step by step, each of which may find a fault.
-use Rattle.std.specs.Prelude.{ℕ, ℤ, ◌≡◌, ◌+◌, ◌⊎◌, List, [], ◌∷◌, Option, Some, None, Result, Ok, Err}
+use Rattle.std.specs.Prelude.{ℕ, ◌≡◌, ◌+◌, ◌⊎◌, List, [], ◌∷◌, Option, Some, None, Result, Ok, Err}
 use Rattle.std.specs.Prelude.{ok_or, codes}
 use Rattle.toml.specs.Data.{Members}
 use Rattle.pc_threads.specs.Settings.{Settings, Plan, faults_of, first_fault}
 use Rattle.pc_threads.specs.declared.settings.faults.ConfigFault.{ConfigFault}
 use Rattle.pc_threads.specs.declared.settings.restarts.Restart.{Restart}
 use Rattle.pc_threads.specs.declared.settings.plans.Step.{Step}
-use Rattle.pc_settings.specs.Keys.{integer_at, tables_at, texts_at}
+use Rattle.pc_settings.specs.Keys.{integer_at, tables_at}
+use Rattle.pc_settings.specs.SettingsText.{integer_in, restart_faults, restart_in, texts_in, thread_faults}
 use Rattle.pc_settings.specs.Steps.{read_run_step}
+use Rattle.pc_settings.specs.Inner.SharedKeys.{Told}
 use Rattle.pc_settings.specs.declared.runs.Field.TheVariants as field
 use Rattle.pc_settings.specs.declared.runs.SettingsFault.{SettingsFault}
 use Rattle.pc_settings.specs.declared.runs.SettingsFault.TheVariants.{BadField, BadStep, BadConfig, OutOfMemory}
@@ -25,23 +27,23 @@ each read place [] = Ok []
 each read place (x ∷ xs) =
     and_then (read place x) (λ a. and_then (each read (place + 1) xs) (λ others. Ok (a ∷ others)))
 
-pub record Told : Type 0 where
-  pub queue : ℤ
-  pub mask : ℤ
-  pub texts : List (List ℕ)
+-- this value, unless there is a fault
+abbrev pub read_unless : {A : Type 0} → Option SettingsFault → A → Read A
+read_unless None a = Ok a
+read_unless (Some fault) a = Err fault
+
+abbrev pub draft_in : Members → Told
+draft_in thread = record {
+  queue = integer_in (codes "queue") thread;
+  mask = integer_in (codes "mask") thread;
+  texts = texts_in thread;
+}
 
 abbrev pub read_draft : ℕ → Members → Read Told
-read_draft place thread =
-    and_then (ok_or (integer_at (codes "queue") thread) (BadField field.Queue)) (λ queue.
-    and_then (ok_or (integer_at (codes "mask") thread) (BadField field.Mask)) (λ mask.
-    and_then (ok_or (texts_at (codes "steps") thread) (BadField field.Steps)) (λ texts.
-    Ok (record { queue = queue; mask = mask; texts = texts }))))
+read_draft place thread = read_unless (first_fault (thread_faults thread)) (draft_in thread)
 
 abbrev pub read_restart : ℕ → Members → Read Restart
-read_restart place restart =
-    and_then (ok_or (integer_at (codes "cpu") restart) (BadField field.Cpu)) (λ cpu.
-    and_then (ok_or (integer_at (codes "turn") restart) (BadField field.Turn)) (λ turn.
-    Ok (record { cpu = cpu; turn = turn })))
+read_restart place restart = read_unless (first_fault (restart_faults restart)) (restart_in restart)
 
 abbrev pub read_text : ℕ → ℕ → List ℕ → Read Step
 read_text thread step text = ok_or (read_run_step text) (BadStep thread step)

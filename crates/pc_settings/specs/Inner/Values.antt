@@ -1,5 +1,5 @@
 -- What values are, where each is of one kind.
-use Rattle.std.specs.Prelude.{ℕ, ℤ, pos, Bool, List, [], map, unwrap_or, is_some}
+use Rattle.std.specs.Prelude.{ℕ, ℤ, pos, Bool, List, [], unwrap_or, is_some}
 use Rattle.std.specs.List.{list_all}
 use Rattle.toml.specs.Data.{Members, no_members, as_integer, as_str, as_table}
 use Rattle.toml.specs.View.{view}

@@ -1,19 +1,17 @@
 //! What a thread's keys tell.
 
 ghost use Rattle.std.specs.Prelude.{◌≡◌, true};
-ghost use Rattle.pc_settings.specs.Inner.Values.{are_integers, are_texts};
+ghost use Rattle.pc_settings.specs.Inner.Values.{are_integers};
 
+use crate::shared_keys::ThreadKeys;
 use toml::Value;
 
-/// A thread as its keys tell it; its steps are texts.
+/// A thread as its keys tell it.
 #[derive(Drop)]
 pub(crate) struct Draft<'a> {
-    pub(crate) queue: i64,
-    pub(crate) mask: i64,
-    pub(crate) texts: &'a [Value],
+    pub(crate) keys: ThreadKeys<'a>,
     pub(crate) start: i64,
     pub(crate) level: i64,
     pub(crate) sleeps: &'a [Value],
-    ghost texts_only: { are_texts texts.now ≡ true },
     ghost integers_only: { are_integers sleeps.now ≡ true },
 }

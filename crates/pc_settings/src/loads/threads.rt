@@ -10,9 +10,10 @@ ghost use Rattle.pc_settings.specs.LoadTexts.{IsRead, need_told, step_faults, te
 ghost use Rattle.pc_settings.specs.Inner.Drafts.{told};
 ghost use Rattle.pc_settings.specs.Inner.Values.{are_integers, are_tables, are_texts, integer_in, table_in, text_in};
 
-use crate::keys::{integer_at, integer_or, integers_at, texts_at};
+use crate::keys::{integer_or, integers_at};
 use crate::loads::draft::Draft;
 use crate::loads::{LoadField, LoadTextFault};
+use crate::shared_keys::ThreadKeys;
 use crate::steps::step_in;
 use pc_load::{Step, ThreadDraft};
 use std::alloc::{AllocError, Global};
@@ -26,15 +27,7 @@ fn draft_of(item: &Value) -> Result<Draft<'_>, LoadTextFault>
     let Some(table) = item.as_table() else {
         unreachable!()
     };
-    let Some(queue) = integer_at(table, "queue") else {
-        return Err(LoadTextFault::BadField(LoadField::Queue));
-    };
-    let Some(mask) = integer_at(table, "mask") else {
-        return Err(LoadTextFault::BadField(LoadField::Mask));
-    };
-    let Some(texts) = texts_at(table, "steps") else {
-        return Err(LoadTextFault::BadField(LoadField::Steps));
-    };
+    let keys = ThreadKeys::of(table)?;
     let Some(start) = integer_or(0, table, "start") else {
         return Err(LoadTextFault::BadField(LoadField::Start));
     };
@@ -45,9 +38,7 @@ fn draft_of(item: &Value) -> Result<Draft<'_>, LoadTextFault>
         return Err(LoadTextFault::BadField(LoadField::Sleeps));
     };
     Ok(Draft {
-        queue,
-        mask,
-        texts,
+        keys,
         start,
         level,
         sleeps,
@@ -113,11 +104,11 @@ fn integers_of(alloc: Global, items: &[Value]) -> Result<Vec<i64>, AllocError>
 fn plan_of(alloc: Global, thread: usize, draft: &Draft<'_>) -> Result<ThreadDraft, LoadTextFault>
     ensures { IsRead (step_faults thread (told draft.now)) (need_told (told draft.now)) drafted result }
 {
-    let steps = steps_of(alloc, thread, draft.texts)?;
+    let steps = steps_of(alloc, thread, draft.keys.texts)?;
     let sleeps = integers_of(alloc, draft.sleeps)?;
     Ok(ThreadDraft {
-        queue: draft.queue,
-        mask: draft.mask,
+        queue: draft.keys.queue,
+        mask: draft.keys.mask,
         steps,
         start: draft.start,
         level: draft.level,

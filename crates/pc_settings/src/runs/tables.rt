@@ -3,34 +3,25 @@
 ghost use Rattle.std.specs.Prelude.{IsSome};
 ghost use Rattle.toml.specs.Data.{as_table};
 ghost use Rattle.toml.specs.View.{view};
-ghost use Rattle.pc_settings.specs.Inner.PlanDrafts.{told};
 ghost use Rattle.pc_settings.specs.Inner.Readings.{Follows, read_draft, read_restart};
+ghost use Rattle.pc_settings.specs.Inner.SharedKeys.{told};
 ghost use Rattle.pc_settings.specs.Inner.Values.{table_in};
 
-use super::draft::Draft;
 use super::{Field, SettingsFault};
-use crate::keys::{integer_at, texts_at};
+use crate::keys::integer_at;
+use crate::shared_keys::ThreadKeys;
 use pc_threads::Restart;
 use toml::Value;
 
 /// The thread that a table tells of.
-pub(crate) fn draft_of(item: &Value) -> Result<Draft<'_>, SettingsFault>
+pub(crate) fn draft_of(item: &Value) -> Result<ThreadKeys<'_>, SettingsFault>
     requires { IsSome (as_table (view item.now)) }
     ensures { Follows (read_draft 0 (table_in item.now)) told result }
 {
     let Some(table) = item.as_table() else {
         unreachable!()
     };
-    let Some(queue) = integer_at(table, "queue") else {
-        return Err(SettingsFault::BadField(Field::Queue));
-    };
-    let Some(mask) = integer_at(table, "mask") else {
-        return Err(SettingsFault::BadField(Field::Mask));
-    };
-    let Some(texts) = texts_at(table, "steps") else {
-        return Err(SettingsFault::BadField(Field::Steps));
-    };
-    Ok(Draft { queue, mask, texts })
+    Ok(ThreadKeys::of(table)?)
 }
 
 /// The restart that a table tells of.

@@ -1,4 +1,4 @@
-use Rattle.std.proofs.Common.{◌≡◌, ◌⊎◌, [], ◌∷◌, Err, inl, inr, sym, ap, ◌∙◌, map, rules}
+use Rattle.std.proofs.Common.{◌≡◌, [], ◌∷◌, Err, inl, inr, ap, ◌∙◌, map, rules}
 use Rattle.std.proofs.lemmas.List.{map-append}
 use Rattle.pc_settings.specs.Keys.{of_each}
 use Rattle.pc_settings.specs.LoadTexts.{IsFault, thread_faults, told_in}
