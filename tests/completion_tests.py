@@ -3,8 +3,8 @@
 
     tests/completion_tests.py [--program PROGRAM]
 
-What there is to tell is read from the program's `--help` and from that of each of its commands. Where fish or man is not installed, its
-tests pass over. The last line is 'N passed, M failed'.
+What there is to tell is read from the program's `--help` and from that of each of its commands. Where fish is not installed, bash alone is
+asked; where man is not, its test is skipped. The last line is 'N passed, M failed', and where any was skipped 'N passed, M failed, K skipped'.
 """
 from __future__ import annotations
 
@@ -130,7 +130,7 @@ class Completions(unittest.TestCase):
 
     def test_the_man_page_is_read_without_a_warning(self) -> None:
         if not shutil.which("man"):
-            return
+            self.skipTest("man is not installed")
         words = ["man", "--warnings", "-E", "UTF-8", "-l", "-Tutf8", "-Z", str(PAGE)]
         run = subprocess.run(words, capture_output=True, text=True, timeout=SECONDS)
         self.assertEqual((run.returncode, run.stderr), (0, ""))
@@ -148,15 +148,16 @@ def main() -> int:
     parser.add_argument("--program", type=pathlib.Path, default=PROGRAM, help="ask this program, as `rt run` leaves it")
     options = parser.parse_args()
     Completions.program = options.program.resolve()
-    passed = failed = 0
+    passed = failed = skipped = 0
     for name in unittest.defaultTestLoader.getTestCaseNames(Completions):
         result = unittest.TestResult()
         Completions(name).run(result)
         faults = [text for _, text in [*result.failures, *result.errors]]
-        passed, failed = (passed, failed + 1) if faults else (passed + 1, failed)
+        failed, skipped = failed + bool(faults), skipped + len(result.skipped)
+        passed += not faults and not result.skipped
         for fault in faults:
             print(f"completion, {name}: {fault}")
-    print(f"{passed} passed, {failed} failed")
+    print(f"{passed} passed, {failed} failed" + (f", {skipped} skipped" if skipped else ""))
     return 1 if failed else 0
 
 
