@@ -2,7 +2,8 @@
 
 use pc_calls::{AgentCall, EnvCall, Event};
 use pc_lab::{
-    Chronicle, Counted, Ending, LabFault, Played, Summary, Wait, check_account, head_of, limits_of, play,
+    Chronicle, Counted, Ending, LabFault, Played, Summary, Wait, check_account, head_of, limits_of,
+    play,
 };
 use pc_load::{Leaving, Load, Step, ThreadDraft, Variant};
 use pc_messages::{Cpu, Tid};
