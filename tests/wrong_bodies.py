@@ -234,6 +234,16 @@ def together(bodies: list[WrongBody]) -> list[list[WrongBody]]:
     return bundles
 
 
+def ends_its_head(head: list[str]) -> bool:
+    """Whether these lines are all of a function that stands before its body: the last opens it, or says that there is none. What a clause opens
+    it closes again, on the same line or on a later one."""
+    before = "".join(head[:-1])
+    if before.count("{") != before.count("}"):
+        return False
+    last, is_closed = head[-1], head[-1].count("{") == head[-1].count("}")
+    return last.strip() == "{" or last.endswith((" {", "{}")) and (len(head) == 1 or last.lstrip().startswith(")")) or last.endswith(";") and is_closed
+
+
 def body_at(lines: list[str], place: int) -> tuple[int, int] | None:
     """The lines on which the body of the function that begins there is opened and closed; of one that has to keep its body, none: what is
     computed at compile time, and what answers a type that only its body tells."""
@@ -241,7 +251,7 @@ def body_at(lines: list[str], place: int) -> tuple[int, int] | None:
     if not begin or "const fn" in lines[place]:
         return None
     closes = next((it for it in range(place, len(lines)) if lines[it] == f"{begin[1]}}}"), len(lines))
-    opens = next((it for it in range(place, closes) if lines[it] == f"{begin[1]}{{" or lines[it].endswith((" {", "{}", ";"))), closes)
+    opens = next((it for it in range(place, closes) if ends_its_head(lines[place:it + 1])), closes)
     if opens == closes or lines[opens].endswith(("{}", ";")) or "-> impl " in " ".join(lines[place:opens + 1]):
         return None
     return opens, closes
