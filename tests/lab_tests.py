@@ -26,7 +26,7 @@ import unittest
 import xml.etree.ElementTree as ElementTree
 from collections import Counter
 from collections.abc import Callable
-from dataclasses import dataclass
+from dataclasses import dataclass, field
 
 ROOT = pathlib.Path(__file__).resolve().parent.parent
 sys.path.insert(0, str(ROOT / "tools"))
@@ -682,13 +682,14 @@ class Drawn(unittest.TestCase):
 
 @dataclass
 class Tried:
-    """A run of a drawn load: its variant, its line of the CSV, and, of one run of each load, each command with its reply."""
+    """A run of a drawn load: its variant, its line of the CSV, and, of one run of each load, each command with its reply, and its tick."""
 
     text: str
     cpus: int
     variant: Variant
     row: dict[str, str]
     answered: list[tuple[str, str]]
+    ticks: list[int] = field(default_factory=list)
 
     @property
     def is_at_once(self) -> bool:
@@ -715,6 +716,48 @@ class Tried:
                        if reply.startswith("refused "))
 
 
+@dataclass
+class Life:
+    """What became of a thread by the commands of a run and their replies."""
+
+    came: int
+    since: int
+    death: int | None = None
+    waits: list[int] = field(default_factory=list)
+    sleeps: list[int] = field(default_factory=list)
+    # of each time on a CPU how long it was, and the ticks that the thread had run when it left
+    stays: list[tuple[int, int]] = field(default_factory=list)
+
+
+def ticks_of(script: str) -> list[int]:
+    """The tick of each command of a script."""
+    tick, ticks = 0, []
+    for line in filter(None, script.splitlines()):
+        if line.startswith("# at "):
+            tick = int(line.removeprefix("# at "))
+        elif not line.startswith("#"):
+            ticks.append(tick)
+    return ticks
+
+
+def lives_of(tried: Tried) -> dict[str, Life]:
+    """The life of each thread that came."""
+    lives: dict[str, Life] = {}
+    for tick, (command, reply) in zip(tried.ticks, tried.answered, strict=True):
+        (verb, *words), (ok, *told) = command.split(), reply.split()
+        if ok != "ok" or verb not in ("create", "wake", "pick", "yield", "preempt", "block", "die"):
+            continue
+        life = lives.setdefault(told[0], Life(tick, tick))
+        if verb == "pick":
+            life.waits.append(tick - life.since)
+        elif verb == "wake":
+            life.sleeps.append(tick - life.since)
+        elif verb != "create":
+            life.stays.append((tick - life.since, int(words[1])))
+        life.since, life.death = tick, tick if verb == "die" else None
+    return lives
+
+
 class Unproved(unittest.TestCase):
     """What holds of every load that was tried, though no clause says it: of the CSV and of the replies that the program writes."""
 
@@ -736,6 +779,7 @@ class Unproved(unittest.TestCase):
             script.write_text(program(load, "--script", told.variant.name).stdout)
             commands = [line for line in script.read_text().splitlines() if line and not line.startswith("#")]
             told.answered = list(zip(commands, replay(script).splitlines(), strict=True))
+            told.ticks = ticks_of(script.read_text())
         return all_tried
 
     def refused(self, all_tried: list[Tried]) -> Counter[str]:
@@ -751,6 +795,30 @@ class Unproved(unittest.TestCase):
         for runs in (meant, others):
             self.assertGreater(sum(bool(tried.answered) for tried in runs), 5)
         return meant, others
+
+    def test_a_thread_runs_waits_and_sleeps_from_its_start_to_its_death(self):
+        counted = Counter()
+        for tried in self.tried:
+            plans, waits = load_of(tried.text.encode()).plans if tried.answered else [], 0
+            for name, life in lives_of(tried).items():
+                plan, text = plans[int(name[1:])], f"{name}, {tried.variant}\n{tried.text}"
+                self.assertEqual(life.came, plan.start, text)
+                for stay, ran in life.stays:
+                    self.assertGreaterEqual(stay, ran, text)
+                    counted["in turns"] += stay - ran
+                    self.assertTrue(stay == ran or tried.variant.cost, text)
+                blocks = sum(leaving == "block" for leaving, _ in plan.steps)
+                self.assertEqual(life.sleeps, (plan.sleeps + [0] * blocks)[:len(life.sleeps)], text)
+                spent = sum(life.waits) + sum(life.sleeps) + sum(stay for stay, _ in life.stays)
+                self.assertEqual(spent, life.since - life.came, text)
+                if life.death is not None:
+                    self.assertEqual(sum(ran for _, ran in life.stays), sum(ticks for _, ticks in plan.steps), text)
+                    self.assertEqual(len(life.sleeps), blocks, text)
+                waits += sum(life.waits)
+                counted.update(lives=1, deaths=life.death is not None, slept=sum(life.sleeps), waited=sum(life.waits))
+            if tried.answered and tried.row["end"] == "done":
+                self.assertEqual(waits, tried.count("wait_sum"), f"{tried.variant}\n{tried.text}")
+        self.assertGreater(min(counted[it] for it in ("lives", "deaths", "slept", "waited", "in turns")), 100)
 
     def test_where_turns_take_no_time_only_steals_are_stale(self):
         meant, others = self.each(lambda tried: tried.variant.cost == 0)
