@@ -6,6 +6,7 @@ pub mod Sorting
 pub mod Passes
 pub mod Sorts
 pub mod Settled
+pub mod Pushing
 pub mod Inserting
 pub mod Levels
 pub mod Moving

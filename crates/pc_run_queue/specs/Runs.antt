@@ -1,5 +1,5 @@
 -- Which threads may run and how they are ranked, as a view tells, and the run list after a refresh.
-use Rattle.std.specs.Prelude.{ℕ, ◌≡◌, ◌==◌, ◌&&◌, Bool, true, false, List, [], ◌∷◌, filter, Option, Some, None}
+use Rattle.std.specs.Prelude.{ℕ, ◌≤◌, ◌≡◌, ◌==◌, ◌&&◌, Bool, true, false, List, [], ◌∷◌, filter, Option, Some, None}
 use Rattle.std.specs.Prelude.{is_some}
 use Rattle.std.specs.Prelude.{if◌then◌else◌, unwrap_or}
 use Rattle.pc_messages.specs.Mask.{allows}
@@ -79,6 +79,11 @@ IsSettled ranks view cpu list = StandsBy (rank_in ranks view cpu) list
 abbrev pub rank_noted : List (ℕ × ℕ) → (ℕ → Option ℕ) → ℕ → Option ℕ
 rank_noted [] rank t = rank t
 rank_noted (row ∷ rows) rank t = if row.0 == t then Some row.1 else rank_noted rows rank t
+
+-- no row has a rank above this one
+abbrev pub AreUpTo : ℕ → List (ℕ × ℕ) → Type 0
+AreUpTo most [] = Unit {0}
+AreUpTo most (row ∷ rows) = (row.1 ≤ most) × AreUpTo most rows
 
 -- the list stands by the noted ranks, and by those that the view gives where none is noted
 abbrev pub StandsAsNoted : Ranking → View → ℕ → List (ℕ × ℕ) → List ℕ → Type 0

@@ -22,4 +22,4 @@ mod ranks;
 mod run_queue;
 
 pub use ranks::{rank_on, runs_on};
-pub use run_queue::RunQueue;
+pub use run_queue::{GREATEST_RANK, RunQueue};
