@@ -4,19 +4,21 @@ ghost use Rattle.std.specs.Prelude.{ℕ, ◌≡◌, ◌+◌, ◌&&◌, ◌∷◌
 ghost use Rattle.pc_delta.specs.Exchange.{KeepsOthers};
 ghost use Rattle.pc_join.specs.NameSets.{FindsFrom};
 ghost use Rattle.pc_policy.specs.Rankings.{Ranking, ranks_of};
-ghost use Rattle.pc_run_queue.specs.Runs.{IsSettled, StandsAsNoted, refreshed, runs_in};
+ghost use Rattle.pc_run_queue.specs.declared.run_queue.TheConstants.{GREATEST_RANK};
+ghost use Rattle.pc_run_queue.specs.Runs.{AreUpTo, IsSettled, StandsAsNoted, refreshed, runs_in};
 ghost use Rattle.pc_agent.specs.PlainAgent.{is_wanted, threads_in};
 ghost use Rattle.pc_agent.specs.Running.{Finds};
-ghost use Rattle.pc_agent.specs.Inner.Shortcuts.{AreNoted, AreTrue, AreTrueOfAll, AreTrueOfNothing, StayTrue};
+ghost use Rattle.pc_agent.specs.Inner.Shortcuts.{AreNoted, AreTrue, AreTrueOfAll, AreTrueOfNothing, IsPutLast};
+ghost use Rattle.pc_agent.specs.Inner.Shortcuts.{StayTrue};
 ghost use Rattle.pc_agent.specs.Inner.Wanted.{AreShort, HoldsAll, IsNoneWantedBelow};
 
 use crate::runnable::{keep_runnable, next_wanted};
-use crate::watch::{drop_as_noted, note_told};
+use crate::watch::{drop_as_noted, is_worth_noting, note_told};
 use pc_delta::Part;
 use pc_join::{NameSet, OutOfMemory};
 use pc_messages::{Cpu, Item, Tid};
 use pc_policy::Order;
-use pc_run_queue::RunQueue;
+use pc_run_queue::{GREATEST_RANK, RunQueue};
 use pc_view::View;
 use std::alloc::Global;
 
@@ -56,6 +58,30 @@ fn list_threads(threads: &mut Vec<Tid>, items: &[Item]) -> Result<(), OutOfMemor
         }
     }
     Ok(())
+}
+
+/// Whether no note has a rank above the greatest. None has, by its type: nothing is done to tell it.
+fn are_up_to_greatest(noted: &[(Tid, u64)]) -> bool
+    ensures { IsTrue result → AreUpTo GREATEST_RANK noted.now }
+{
+    for row in noted {
+        if row.1 > GREATEST_RANK {
+            return false;
+        }
+    }
+    true
+}
+
+/// Notes a thread that was put at the end of the run list, with the greatest rank, before all other notes: of more than
+/// one of a thread the first counts. Answers false where memory runs out, or where so many are noted that a sort of the
+/// list takes no more than they do.
+fn note_last(noted: &mut Vec<(Tid, u64)>, list: &RunQueue, thread: Tid) -> bool
+    ensures noted { IsTrue result → noted.new.items ≡ (thread, GREATEST_RANK) ∷ noted.old.items }
+    ensures up_to { IsTrue result → AreUpTo GREATEST_RANK noted.old.items }
+{
+    is_worth_noting(noted.as_slice(), list)
+        && are_up_to_greatest(noted.as_slice())
+        && noted.insert(0, (thread, GREATEST_RANK)).is_ok()
 }
 
 /// Refreshes a run list, of which it may be known that only the noted and the touched threads can change it.
@@ -187,15 +213,17 @@ impl Shortcuts {
         }
     }
 
-    /// Counts the run list as settled only where the thread that was put at its end belongs there by the view, and the
-    /// others stand by it.
-    pub(crate) fn keep_settled_if(&mut self, in_order: bool)
-        ensures same { self.new ≡ record self.old { settled = self.new.settled } }
-        ensures settled { IsTrue self.new.settled → IsTrue self.old.settled }
-        ensures in_order { IsTrue self.new.settled → IsTrue in_order }
-        ensures none_noted { IsTrue self.new.settled → self.old.noted.items ≡ [] }
+    /// Goes on where a thread was put at the end of the run list. If it belongs there by the view, and the others stand
+    /// by it, the list stays settled; else the thread is noted with the greatest rank, by which it stands there, and
+    /// the next refresh puts it in its place.
+    pub(crate) fn put_last(&mut self, list: &RunQueue, in_order: bool, thread: Tid)
+        ensures { (ranks : Ranking) (view : View) (cpu : ℕ) (before : List ℕ)
+            → IsPutLast ranks view cpu in_order thread before list.now → AreTrue ranks self.old view cpu before
+            → AreTrue ranks self.new view cpu list.now }
     {
-        self.settled = self.settled && in_order && self.noted.is_empty();
+        if self.settled && !(in_order && self.noted.is_empty()) {
+            self.settled = note_last(&mut self.noted, list, thread);
+        }
     }
 
     /// The least thread that is wanted, to which all before are passed.

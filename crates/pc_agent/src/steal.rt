@@ -168,7 +168,7 @@ fn first_candidate(
     }
 }
 
-/// A steal for a CPU, by what a view tells, into a run list, which stays settled where the thread belongs at its end.
+/// A steal for a CPU, by what a view tells, into a run list, at whose end the thread then stands.
 fn take_first(
     policy: &AgentPolicy,
     view: &View,
@@ -196,7 +196,7 @@ fn take_first(
     };
     match kernel.associate(thread, cpu, view.upto(thread)) {
         Ok(()) => {
-            shortcuts.keep_settled_if(in_order);
+            shortcuts.put_last(list, in_order, thread);
             Ok(thread)
         }
         Err(refusal) => {

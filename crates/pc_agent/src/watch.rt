@@ -12,9 +12,18 @@ use pc_policy::Order;
 use pc_run_queue::{RunQueue, rank_on};
 use pc_view::View;
 
+/// So many threads are noted, however short the list is.
+const FEW: usize = 8;
+
+/// Whether one more note is worth its memory: behind more than so many a refresh would sort the list sooner than put
+/// each of the noted threads in its place.
+pub(crate) fn is_worth_noting(noted: &[(Tid, u64)], list: &RunQueue) -> bool {
+    noted.len() <= FEW + list.names().len() / 16
+}
+
 /// Notes a thread of the list, with its rank; others need no note. A thread that is noted already may be so again: its
-/// first note counts. False, where it has no rank, or where there are more notes than names, so that a sort of all
-/// takes less than they do.
+/// first note counts. False, where it has no rank, or where so many are noted that a sort of all takes no more than
+/// they do.
 fn note(
     noted: &mut Vec<(Tid, u64)>,
     list: &RunQueue,
@@ -30,7 +39,7 @@ fn note(
     if !list.has(thread) {
         return true;
     }
-    if noted.len() > list.names().len() {
+    if !is_worth_noting(noted.as_slice(), list) {
         return false;
     }
     match rank_on(policy, view, cpu, thread) {

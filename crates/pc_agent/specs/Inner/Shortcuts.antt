@@ -1,9 +1,10 @@
 -- What is true of an agent's shortcuts, by its ranking, its view, its CPU and its run list.
-use Rattle.std.specs.Prelude.{ℕ, ◌≡◌, false, List, [], IsTrue}
+use Rattle.std.specs.Prelude.{ℕ, ◌≡◌, Bool, false, List, [], ◌∷◌, ◌++◌, IsTrue}
 use Rattle.pc_view.specs.declared.view.View.{View}
 use Rattle.pc_delta.specs.declared.part.Part.{Part}
 use Rattle.pc_policy.specs.Rankings.{Ranking}
-use Rattle.pc_run_queue.specs.Runs.{StandsAsNoted, runs_in}
+use Rattle.pc_run_queue.specs.Runs.{AreUpTo, IsSettled, StandsAsNoted, runs_in}
+use Rattle.pc_run_queue.specs.declared.run_queue.TheConstants.{GREATEST_RANK}
 use Rattle.pc_agent.specs.declared.shortcuts.Shortcuts.{Shortcuts}
 use Rattle.pc_agent.specs.Inner.Settled.{TellsOfNoOther}
 use Rattle.pc_agent.specs.Inner.Wanted.{HoldsAll, IsNoneWantedBelow}
@@ -39,3 +40,12 @@ pub record AreNoted (ranks : Ranking) (parts : List Part) (shortcuts : Shortcuts
   pub runnable : HoldsAll (runs_in view cpu) shortcuts.runnable
   pub settled : IsTrue shortcuts.settled → StandsAsNoted ranks view cpu shortcuts.noted.items list
   pub others : IsTrue shortcuts.settled → TellsOfNoOther parts list shortcuts.noted.items
+
+-- the thread is put at the end of the run list: where it is in order there the list stays settled, and where it is
+-- noted with the greatest rank the list stands by the notes as it did
+pub record IsPutLast (ranks : Ranking) (view : View) (cpu : ℕ) (in_order : Bool) (thread : ℕ) (list longer : List ℕ)
+    : Type 0 where
+  pub last : longer ≡ list ++ thread ∷ []
+  pub settled : IsTrue in_order → IsSettled ranks view cpu list → IsSettled ranks view cpu longer
+  pub noted : (rows : List (ℕ × ℕ)) → AreUpTo GREATEST_RANK rows → StandsAsNoted ranks view cpu rows list
+      → StandsAsNoted ranks view cpu ((thread, GREATEST_RANK) ∷ rows) longer

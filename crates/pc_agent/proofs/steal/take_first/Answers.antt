@@ -4,7 +4,6 @@ use Rattle.pc_calls.specs.declared.refusal.CallFault.TheVariants.{Refused}
 use Rattle.pc_policy.specs.Rankings.{ranks_of}
 use Rattle.pc_policy.specs.Rules.{rules_of}
 use Rattle.pc_agent.specs.Inner.Shortcuts.{AreTrue}
-use Rattle.pc_agent.proofs.Pushed.{pushed}
 use Rattle.pc_agent.proofs.Stolen.{for_busy, none_found, put_back, was_not_taken, was_taken}
 use Rattle.pc_agent.proofs.steal.take_first.Goals as goal
 
@@ -28,10 +27,12 @@ returns-in-Err-clause-takes c =
 
 pub returns-in-Ok-associate-clause-kept : goal.returns-in-Ok-associate-clause-kept
 returns-in-Ok-associate-clause-kept c =
-    let thread = c.in-Some.thread in
     let ranks = ranks_of c.args.policy.now.order in
-    pushed ranks c.pass_over-least.new.self c.args.view.now c.args.cpu c.args.list.now thread (c.pass_over-least.ensures.kept ranks c.requires) c.keep_settled_if.new.self c.in-Ok.in_order c.push_in_order.new.self
-    c.keep_settled_if.ensures.same c.keep_settled_if.ensures.settled c.keep_settled_if.ensures.in_order c.keep_settled_if.ensures.none_noted c.in-Ok.ensures.ok (λ o settled. c.in-Ok.ensures.settled o settled)
+    c.put_last.ensures ranks c.args.view.now c.args.cpu c.args.list.now (record {
+      last = c.in-Ok.ensures.ok;
+      settled = c.in-Ok.ensures.settled;
+      noted = c.in-Ok.ensures.noted;
+    }) (c.pass_over-least.ensures.kept ranks c.requires)
 
 pub returns-in-Err-clause-kept : goal.returns-in-Err-clause-kept
 returns-in-Err-clause-kept c = subst (AreTrue (ranks_of c.args.policy.now.order) c.pass_over-least.new.self c.args.view.now c.args.cpu) (sym left) (c.pass_over-least.ensures.kept (ranks_of c.args.policy.now.order) c.requires)

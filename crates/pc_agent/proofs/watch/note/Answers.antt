@@ -1,4 +1,4 @@
-use Rattle.std.proofs.Common.{◌≡◌, ◌∙◌, sym, ap}
+use Rattle.std.proofs.Common.{◌∙◌, sym, ap}
 use Rattle.pc_policy.specs.Rankings.{ranks_of}
 use Rattle.pc_run_queue.specs.Runs.{rank_in, rank_noted}
 use Rattle.pc_agent.proofs.Settles.{noted_more}
