@@ -1,5 +1,5 @@
 -- A row of a view, and behind it the numbers of early messages.
-use Rattle.std.proofs.Common.{◌≡◌, ℕ, List, [], ◌∷◌, ◌++◌, codes, decimal, refl, sym, ap, ◌∙◌, append_assoc}
+use Rattle.std.proofs.Common.{◌≡◌, ℕ, List, [], ◌∷◌, ◌++◌, codes, decimal, sym, ap, ◌∙◌, append_assoc}
 use Rattle.pc_script.specs.Grammar.{thread_name}
 use Rattle.pc_script.specs.Inner.Outputs.{row_text}
 use Rattle.pc_script.specs.Responses.{numbers_text, reported_text, shown_text, text_line}

@@ -17,7 +17,7 @@ use crate::text::{LineEnd, ROOM};
 use std::io::Write;
 
 /// At most so many bytes wait.
-const MOST_WAITING: usize = 1 << 13;
+const MOST_WAITING: usize = 1 << 14;
 
 /// Replies that wait to be written.
 #[derive(Drop)]

@@ -1,9 +1,18 @@
-use Rattle.std.proofs.Common.{◌++◌, length-append, arith}
+use Rattle.std.proofs.Common.{◌++◌, take, drop, sym, ap, subst, ◌∙◌}
+use Rattle.std.proofs.Math.Seq.{take-add}
+use Rattle.std.specs.Io.KnownBytes.{Consumes}
 use Rattle.std.proofs.KnownBytes.{Consumes-trans}
 use Rattle.pc_script.proofs.input.read_bytes.Goals as goal
 
-pub returns-in_err-read_more-clause-reads : goal.returns-in_err-read_more-clause-reads
-returns-in_err-read_more-clause-reads g c =
-    let text = c.loop-buffer.text.items in
-    let read = c.in_err-read_more.ensures.reads in
-    (text ++ read.0, omega (arith, length-append text read.0, read.1), Consumes-trans _ _ _ text read.0 c.loop-buffer.invariant.1 read.2)
+pub loop-filled-preserved : goal.loop-filled-preserved
+loop-filled-preserved g c =
+    let filled = c.loop-filled.filled in
+    let count = c.in_ok-count.count in
+    let text = c.loop-filled.text.items in
+    let more = c.read_more.new.text.items in
+    let read = c.in_ok-count.ensures in
+    let joined = ap (λ front. front ++ take count (drop filled more)) (sym read.kept) ∙ sym (take-add filled count more) in (
+      read.within,
+      read.short,
+      subst (Consumes _ _) joined (Consumes-trans _ _ _ (take filled text) _ c.loop-filled.invariant.2 read.reads),
+    )

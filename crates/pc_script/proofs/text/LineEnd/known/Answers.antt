@@ -1,4 +1,4 @@
-use Rattle.std.proofs.Common.{◌≡◌, ◌++◌, ◌∙◌, ap, arith, drop}
+use Rattle.std.proofs.Common.{◌++◌, ◌∙◌, ap, arith, drop}
 use Rattle.pc_script.proofs.Placing.{placed_behind}
 use Rattle.pc_script.proofs.text.LineEnd.known.Goals as goal
 
