@@ -98,9 +98,11 @@ pub fn make<R: Read, W: Write>(alloc: Global, form: Form, reader: &mut R, writer
         (λ text. IsMade form text (W.contents writer.old) (W.contents writer.new) result) }
 {
     match form {
+        // The code of each stands in the program in this order. A replay and a picture drop their sessions by the same
+        // code, which stands with the picture's, and so near the replay's: less of the program is read in.
         Form::Replies => replies(alloc, reader, writer),
-        Form::Explained => explained(alloc, reader, writer),
         Form::Picture(part, axis) => picture(alloc, part, axis, reader, writer),
+        Form::Explained => explained(alloc, reader, writer),
     }
 }
 

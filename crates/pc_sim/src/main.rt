@@ -43,9 +43,12 @@ fn make_buffered<R: Read + Drop, W: Write + Drop>(
     Met::of(ending, said)
 }
 
+/// Few command lines have more words.
+const USUAL_WORDS: usize = 16;
+
 /// The words of the command line.
 fn given_words<R: env::Env + Alloc>(rt: &R) -> io::Result<Vec<String<R::A>, R::A>> {
-    let mut words = Vec::new(rt.alloc());
+    let mut words = Vec::with_capacity(rt.alloc(), USUAL_WORDS)?;
     for word in env::args(rt)? {
         words.push(word)?;
     }
@@ -140,8 +143,10 @@ fn talk(rt: &HostRuntime, explains: bool, file: Option<String>) -> ExitCode {
     end(rt, &met, &source, MOST_BYTES)
 }
 
-/// Says on standard error how the program ends, and answers its exit status.
-pub(crate) fn end(rt: &HostRuntime, met: &Met, source: &Source, most: usize) -> ExitCode {
+/// Says on standard error how the program ends. It stands apart, so that of a script that ends well none of it is read
+/// in.
+#[inline(never)]
+fn say_end(rt: &HostRuntime, met: &Met, source: &Source, most: usize) {
     if let Some(message) = met.ending.message() {
         // Nothing can be said of an error on standard error itself.
         let _ = eprintln!(rt; "{message}");
@@ -152,6 +157,14 @@ pub(crate) fn end(rt: &HostRuntime, met: &Met, source: &Source, most: usize) -> 
             let _ = eprintln!(rt; "pc-sim: a word of it is no UTF-8");
         }
         _ => {}
+    }
+}
+
+/// Says on standard error how the program ends, where its output does not, and answers its exit status.
+pub(crate) fn end(rt: &HostRuntime, met: &Met, source: &Source, most: usize) -> ExitCode {
+    match met.ending {
+        Ending::Finished | Ending::FaultLine => {}
+        _ => say_end(rt, met, source, most),
     }
     ExitCode::from(met.ending.status())
 }
