@@ -7,7 +7,7 @@ use crate::run_queue::are_names;
 use pc_join::OutOfMemory;
 use pc_messages::{Cpu, Kind, Level, Tid};
 use pc_policy::Order;
-use pc_run_queue::{RunQueue, rank_on, runs_on};
+use pc_run_queue::{GREATEST_RANK, RunQueue, rank_on, runs_on};
 use pc_view::View;
 use std::alloc::{AllocError, Global};
 
@@ -247,6 +247,58 @@ fn by_each_policy_the_moved_are_put_where_they_belong(rt: HostRuntime) {
             &[7],
             &[5, 7, 2, 0, 4],
         ),
+    ];
+    each_holds(&rt, rt.alloc(), ROWS);
+}
+
+/// The names that are touched first, the one that is put at the end then, whether it is in order there, and the names
+/// that are listed after the next refresh.
+type Pushed = (&'static [u32], u32, bool, &'static [u32]);
+
+/// The list is put in order, the name is put at its end, and the list is put in order by a note of that name.
+fn refresh_pushed(
+    list: &mut RunQueue,
+    view: &View,
+    touched: &[Tid],
+    name: Tid,
+) -> Result<Option<bool>, OutOfMemory> {
+    list.refresh(&Order::Levels, view, touched, Cpu(0))?;
+    if list.has(name) {
+        return Ok(None);
+    }
+    let in_order = list.push_in_order(&Order::Levels, view, Cpu(0), name)?;
+    list.refresh_noted(&Order::Levels, view, &[(name, GREATEST_RANK)], &[], Cpu(0))?;
+    Ok(Some(in_order))
+}
+
+fn lists_pushed(alloc: Global, row: &Pushed) -> Result<bool, OutOfMemory> {
+    let mut view = View::new(alloc);
+    let mut list = RunQueue::new(alloc);
+    let touched = names(alloc, row.0)?;
+    Ok(
+        make_all(&mut view)
+            && refresh_pushed(&mut list, &view, touched.as_slice(), Tid(row.1))? == Some(row.2)
+            && are_names(list.names(), row.3),
+    )
+}
+
+impl Told for Pushed {
+    fn holds(&self, alloc: Global) -> bool {
+        lists_pushed(alloc, self) == Ok(true)
+    }
+}
+
+#[test]
+fn a_name_at_the_end_is_put_where_it_belongs_by_its_note(rt: HostRuntime) {
+    const ROWS: &[Pushed] = &[
+        (&[], 2, true, &[2]),
+        (&[0, 5], 3, true, &[5, 0, 3]),
+        (&[0, 2], 1, false, &[1, 0, 2]),
+        (&[2, 5], 3, false, &[5, 3, 2]),
+        (&[6, 2, 1], 0, false, &[1, 0, 6, 2]),
+        (&[0, 4], 1, false, &[4, 1, 0]),
+        // This one is blocked.
+        (&[0], 7, false, &[0]),
     ];
     each_holds(&rt, rt.alloc(), ROWS);
 }

@@ -8,11 +8,11 @@ use std::io::{self, BufWriter, Error, ErrorKind, Read, Write};
 
 /// Gives a text in pieces: up to a place, and then as many bytes at a time; at the end it fails, if it is to.
 #[derive(Drop)]
-struct Pieces<'t> {
-    text: &'t [u8],
-    first: usize,
-    size: usize,
-    fails: bool,
+pub(super) struct Pieces<'t> {
+    pub(super) text: &'t [u8],
+    pub(super) first: usize,
+    pub(super) size: usize,
+    pub(super) fails: bool,
 }
 
 impl Read for Pieces<'_> {

@@ -1,9 +1,10 @@
 //! The reading of texts up to a greatest length, and their lines, words and numbers.
 
 use super::ends::Repeated;
+use super::sessions::Pieces;
 use crate::rows::{Row as Told, each_holds, none_is_wrong};
 use pc_script::{ScriptFault, count, first_word, lines_of, number, read_bytes, read_text};
-use std::alloc::Global;
+use std::alloc::{AllocError, Global};
 
 /// How many bytes a reader gives before it ends, or fails; the greatest length; how many of them were read as a text,
 /// or why none was; and how many the reader would give still.
@@ -96,6 +97,59 @@ fn first_other(alloc: Global, rows: &[&'static [u8]]) -> Option<usize> {
 fn a_text_is_read_as_it_stands(rt: HostRuntime) {
     static ROWS: [&[u8]; 4] = [b"", b"\n", b"wake t1\r\n\n# \xff\x00", b"version 2\nshow 0"];
     none_is_wrong(&rt, first_other(rt.alloc(), &ROWS));
+}
+
+/// How long a text is, and the pieces in which it is given: the first one, and the others.
+type Given = (usize, usize, usize);
+
+/// So many bytes, of which none stands near its like.
+fn numbered(alloc: Global, length: usize) -> Result<Vec<u8>, AllocError> {
+    let mut text = Vec::new(alloc);
+    for place in 0..length {
+        text.push((place % 251) as u8)?;
+    }
+    Ok(text)
+}
+
+fn pieces_up_to(
+    alloc: Global,
+    reader: &mut Pieces<'_>,
+    most: usize,
+) -> Result<Vec<u8>, ScriptFault> {
+    read_bytes(alloc, reader, most)
+}
+
+fn is_read_whole(alloc: Global, given: &Given) -> Result<bool, AllocError> {
+    let (length, first, size) = *given;
+    let text = numbered(alloc, length)?;
+    let mut reader = Pieces {
+        text: text.as_slice(),
+        first,
+        size,
+        fails: false,
+    };
+    Ok(is_text(pieces_up_to(alloc, &mut reader, length), text.as_slice()))
+}
+
+impl Told for Given {
+    fn holds(&self, alloc: Global) -> bool {
+        is_read_whole(alloc, self) == Ok(true)
+    }
+}
+
+#[test]
+fn what_comes_in_pieces_is_read_in_their_order(rt: HostRuntime) {
+    static ROWS: [Given; 8] = [
+        (1, 0, 1),
+        (8_191, 0, 8_191),
+        (8_193, 8_192, 1),
+        (20_000, 0, 7),
+        (40_000, 8_192, 8_192),
+        (70_001, 65_536, 3),
+        (100_000, 1, 40_000),
+        (100_000, 0, 4_096),
+    ];
+    each_holds(&rt, rt.alloc(), &ROWS);
 }
 
 /// A text, its first line, the first two words of that, and the numbers that the second is: one of 64 bits, and one of

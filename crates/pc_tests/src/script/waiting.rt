@@ -1,5 +1,5 @@
-//! Replies that wait until there are enough of them for a write: 8,192 bytes, which are 512 times `refused Stale 1` and
-//! its line feed.
+//! Replies that wait until there are enough of them for a write: 16,384 bytes, which are 1,024 times `refused Stale 1`
+//! and its line feed.
 
 use super::ends::{UNWRITTEN, is_front};
 use super::{FINISHED, ends_so, runs};
@@ -48,7 +48,7 @@ struct Spent {
 }
 
 /// So many commands are answered before memory runs out.
-const ANSWERED: u32 = 513;
+const ANSWERED: u32 = 1025;
 
 impl Machine for Spent {
     ghost use Rattle.std.specs.Prelude.{◌≡◌, length};
@@ -133,7 +133,7 @@ fn counted(
 enum Row {
     /// So many wakes, lines behind them, what is answered to these, and how the script ends.
     Answers(u32, &'static [u8], &'static [u8], Result<Outcome, ScriptFault>),
-    /// Of 520 wakes a writer takes so many bytes and then fails, and how the script ends.
+    /// Of 1040 wakes a writer takes so many bytes and then fails, and how the script ends.
     Fills(usize, Result<Outcome, ScriptFault>),
     /// So many wakes of a machine whose memory runs out, how the script ends, and how many are answered.
     RunsOut(u32, Result<Outcome, ScriptFault>, u32),
@@ -159,8 +159,8 @@ fn fills(
     room: usize,
     wanted: Result<Outcome, ScriptFault>,
 ) -> Result<bool, AllocError> {
-    let script = wakes(alloc, 520, b"")?;
-    let output = refusals(alloc, 520, b"")?;
+    let script = wakes(alloc, 1040, b"")?;
+    let output = refusals(alloc, 1040, b"")?;
     Ok(is_front(alloc, script.as_slice(), output.as_slice(), room, wanted))
 }
 
@@ -205,27 +205,37 @@ impl Told for Row {
 #[test]
 fn replies_of_more_than_one_write_are_all_written(rt: HostRuntime) {
     static ROWS: [Row; 15] = [
-        Row::Answers(511, b"", b"", FINISHED),
-        Row::Answers(512, b"", b"", FINISHED),
-        Row::Answers(513, b"", b"", FINISHED),
-        Row::Answers(511, b"x", b"fault line 512\n", Ok(Outcome::FaultLine(512))),
-        Row::Answers(512, b"x", b"fault line 513\n", Ok(Outcome::FaultLine(513))),
+        Row::Answers(1023, b"", b"", FINISHED),
+        Row::Answers(1024, b"", b"", FINISHED),
+        Row::Answers(1025, b"", b"", FINISHED),
         Row::Answers(
-            511,
+            1023,
+            b"x",
+            b"fault line 1024\n",
+            Ok(Outcome::FaultLine(1024)),
+        ),
+        Row::Answers(
+            1024,
+            b"x",
+            b"fault line 1025\n",
+            Ok(Outcome::FaultLine(1025)),
+        ),
+        Row::Answers(
+            1023,
             b"same 0 0\nsame 0 0\nsame 0 0\n",
             b"equal\nequal\nequal\n",
             FINISHED,
         ),
-        Row::Answers(511, b"show 0\n", VIEW, FINISHED),
-        Row::Answers(512, b"show 0\nwake t1\n", VIEW_AND_WAKE, FINISHED),
-        Row::Answers(1600, b"show 0\nwake t1\n", VIEW_AND_WAKE, FINISHED),
+        Row::Answers(1023, b"show 0\n", VIEW, FINISHED),
+        Row::Answers(1024, b"show 0\nwake t1\n", VIEW_AND_WAKE, FINISHED),
+        Row::Answers(3200, b"show 0\nwake t1\n", VIEW_AND_WAKE, FINISHED),
         Row::Answers(0, b"asleep 63\n", b"", NO_MEMORY),
         Row::Answers(1, b"asleep 63\nwake t1\n", b"", NO_MEMORY),
-        Row::Answers(512, b"asleep 63\n", b"", NO_MEMORY),
-        Row::Answers(513, b"asleep 63\n", b"", NO_MEMORY),
-        Row::Answers(600, b"show 0\nasleep 63\nx\n", VIEW, NO_MEMORY),
+        Row::Answers(1024, b"asleep 63\n", b"", NO_MEMORY),
+        Row::Answers(1025, b"asleep 63\n", b"", NO_MEMORY),
+        Row::Answers(1200, b"show 0\nasleep 63\nx\n", VIEW, NO_MEMORY),
         Row::Answers(
-            600,
+            1200,
             b"show 0\nshow 0\nwake t1\nasleep 63\nwake t1\n",
             TWO_VIEWS_AND_WAKE,
             NO_MEMORY,
@@ -238,11 +248,11 @@ fn replies_of_more_than_one_write_are_all_written(rt: HostRuntime) {
 fn a_write_that_fails_among_several_leaves_a_front_of_the_output(rt: HostRuntime) {
     static ROWS: [Row; 6] = [
         Row::Fills(0, UNWRITTEN),
-        Row::Fills(8191, UNWRITTEN),
-        Row::Fills(8192, UNWRITTEN),
-        Row::Fills(8193, UNWRITTEN),
-        Row::Fills(8319, UNWRITTEN),
-        Row::Fills(8320, FINISHED),
+        Row::Fills(16383, UNWRITTEN),
+        Row::Fills(16384, UNWRITTEN),
+        Row::Fills(16385, UNWRITTEN),
+        Row::Fills(16639, UNWRITTEN),
+        Row::Fills(16640, FINISHED),
     ];
     each_holds(&rt, rt.alloc(), &ROWS);
 }
@@ -250,9 +260,9 @@ fn a_write_that_fails_among_several_leaves_a_front_of_the_output(rt: HostRuntime
 #[test]
 fn replies_that_wait_are_written_where_memory_runs_out(rt: HostRuntime) {
     static ROWS: [Row; 3] = [
-        Row::RunsOut(513, FINISHED, 513),
-        Row::RunsOut(514, NO_MEMORY, 513),
-        Row::RunsOut(600, NO_MEMORY, 513),
+        Row::RunsOut(1025, FINISHED, 1025),
+        Row::RunsOut(1026, NO_MEMORY, 1025),
+        Row::RunsOut(1200, NO_MEMORY, 1025),
     ];
     each_holds(&rt, rt.alloc(), &ROWS);
 }
@@ -262,12 +272,12 @@ fn many_replies_are_one_write_and_none_follows_one_that_failed(rt: HostRuntime) 
     static ROWS: [Row; 8] = [
         Row::Writes(0, 0, FINISHED, 0, 0),
         Row::Writes(1, 0, FINISHED, 1, 16),
-        Row::Writes(512, 0, FINISHED, 1, 8192),
-        Row::Writes(513, 0, FINISHED, 2, 8208),
-        Row::Writes(1536, 0, FINISHED, 3, 24576),
-        Row::Writes(1536, 1, UNWRITTEN, 1, 0),
-        Row::Writes(1536, 2, UNWRITTEN, 2, 8192),
-        Row::Writes(1536, 3, UNWRITTEN, 3, 16384),
+        Row::Writes(1024, 0, FINISHED, 1, 16384),
+        Row::Writes(1025, 0, FINISHED, 2, 16400),
+        Row::Writes(3072, 0, FINISHED, 3, 49152),
+        Row::Writes(3072, 1, UNWRITTEN, 1, 0),
+        Row::Writes(3072, 2, UNWRITTEN, 2, 16384),
+        Row::Writes(3072, 3, UNWRITTEN, 3, 32768),
     ];
     each_holds(&rt, rt.alloc(), &ROWS);
 }
