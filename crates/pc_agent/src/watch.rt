@@ -12,13 +12,14 @@ use pc_policy::Order;
 use pc_run_queue::{RunQueue, rank_on};
 use pc_view::View;
 
-/// So many threads are noted, however short the list is.
+/// So many threads of a list are noted, if it has so many.
 const FEW: usize = 8;
 
-/// Whether one more note is worth its memory: behind more than so many a refresh would sort the list sooner than put
-/// each of the noted threads in its place.
+/// Whether one more note is worth its memory: behind more than so many a refresh would sort the list about as soon as
+/// put each of the noted threads in its place.
 pub(crate) fn is_worth_noting(noted: &[(Tid, u64)], list: &RunQueue) -> bool {
-    noted.len() <= FEW + list.names().len() / 16
+    let names = list.names().len();
+    noted.len() <= names.min(FEW + names / 16)
 }
 
 /// Notes a thread of the list, with its rank; others need no note. A thread that is noted already may be so again: its

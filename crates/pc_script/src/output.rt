@@ -68,17 +68,21 @@ impl Waiting {
         self.put_after_a_write(text, writer)
     }
 
-    /// Writes what waits, and puts the text into the room that this leaves. Answers false where the write fails.
+    /// Fills the room up with the text's front, writes it, and puts the rest behind. Answers false where the write
+    /// fails. Each write but the last is of whole pages: a file system has to look twice at one that two writes share.
     #[inline(never)]
     fn put_after_a_write<W: Write>(&mut self, text: &[u8], writer: &mut W) -> bool
         requires short { length text.now ≤ ROOM }
+        requires full { MOST_WAITING ≤ self.old.len + length text.now }
         ensures { IsTrue result
             → Appends (held (W.contents writer.old) self.old) (held (W.contents writer.new) self.new) text.now }
     {
+        let (front, rest) = text.split_at(MOST_WAITING - self.len);
+        self.append(front);
         if !self.write_out(writer) {
             return false;
         }
-        self.append(text);
+        self.append(rest);
         true
     }
 }
