@@ -39,7 +39,8 @@ pub(crate) struct Shortcuts {
     /// Whether it is known that the run list stands by the noted ranks, and where none is noted by those of the view:
     /// then a refresh looks at the noted and the touched threads alone.
     settled: bool,
-    /// Threads of the run list of which parts have told since the last refresh, each with the rank that it had before.
+    /// Threads of the run list, each with the rank by which it stands there: of which parts have told since the last
+    /// refresh, with the rank from before; or put at the end since, with the greatest.
     noted: Vec<(Tid, u64)>,
     /// The threads that the refresh under way touches. Like those that are noted, they stand here so that no call
     /// takes memory for them anew.
@@ -60,7 +61,7 @@ fn list_threads(threads: &mut Vec<Tid>, items: &[Item]) -> Result<(), OutOfMemor
     Ok(())
 }
 
-/// Whether no note has a rank above the greatest. None has, by its type: nothing is done to tell it.
+/// Whether no note has a rank above the greatest. By its type none has, so an optimizing compiler drops the loop.
 fn are_up_to_greatest(noted: &[(Tid, u64)]) -> bool
     ensures { IsTrue result → AreUpTo GREATEST_RANK noted.now }
 {

@@ -12,14 +12,17 @@ use pc_policy::Order;
 use pc_run_queue::{RunQueue, rank_on};
 use pc_view::View;
 
-/// So many threads of a list are noted, if it has so many.
+/// So many threads of a list are noted, and one for each sixteen of its names.
 const FEW: usize = 8;
 
-/// Whether one more note is worth its memory: behind more than so many a refresh would sort the list about as soon as
-/// put each of the noted threads in its place.
+/// No list is worth more notes: to move so many names takes longer than a sort, however long it is.
+const MOST: usize = 256;
+
+/// Whether one more note is worth its memory: of much more, a refresh would sort the list rather than put each of the
+/// noted threads in its place.
 pub(crate) fn is_worth_noting(noted: &[(Tid, u64)], list: &RunQueue) -> bool {
     let names = list.names().len();
-    noted.len() <= names.min(FEW + names / 16)
+    noted.len() <= names.min(FEW + names / 16).min(MOST)
 }
 
 /// Notes a thread of the list, with its rank; others need no note. A thread that is noted already may be so again: its

@@ -17,7 +17,8 @@ const FIRST_ROOM: usize = 8_192;
 const MOST_ROOM: usize = 32_768;
 
 /// Makes room for a read behind the first so many bytes of the text, where no read has left any: as much again as was
-/// read, within the bounds above, and no more than a byte past the greatest length. What is behind is read over.
+/// read, within the bounds above, and no more than a byte past the greatest length. What stands behind
+/// them is overwritten.
 fn make_room(text: &mut Vec<u8>, filled: usize, most: usize) -> Result<(), ScriptFault>
     requires filled { filled ≤ length text.old.items }
     requires short { length text.old.items ≤ most + 1 }

@@ -69,7 +69,7 @@ impl Waiting {
     }
 
     /// Fills the room up with the text's front, writes it, and puts the rest behind. Answers false where the write
-    /// fails. Each write but the last is of whole pages: a file system has to look twice at one that two writes share.
+    /// fails. A write for want of room so is of whole pages: a file system looks twice at one that two writes share.
     #[inline(never)]
     fn put_after_a_write<W: Write>(&mut self, text: &[u8], writer: &mut W) -> bool
         requires short { length text.now ≤ ROOM }

@@ -127,9 +127,9 @@ impl<M: Machine, W: Write> Observer<M, W> for Replies {
 ///
 /// The whole text is read first, and the machine is started in the profile that it names. Reading ends at the first
 /// read that fails (`Read`) or gives nothing, and no more than [`MOST_BYTES`] and one more are read (`TooLong`); after
-/// either fault nothing was written. Responses of one line are gathered and written many at a time, so a writer needs
-/// no buffer for them; a view is written piece by piece, so a writer without a buffer is slow there. Nothing is
-/// flushed. `Write` comes from the first write that fails, also where memory had run out before it.
+/// either fault nothing was written. Responses, and the rows of a view, are gathered and written many at a time, so a
+/// writer needs no buffer. Nothing is flushed. `Write` comes from the first write that fails, also where memory had run
+/// out before it.
 pub fn run_script<M: Machine, R: Read, W: Write>(
     alloc: Global,
     reader: &mut R,

@@ -89,11 +89,11 @@ fn command_of(rt: &HostRuntime) -> Result<Command, Met> {
 /// Makes what is asked for of the text of the file, or else of the standard input, and says how that ended.
 fn make_of_file(rt: &HostRuntime, form: Form, source: &Source) -> Met {
     match &source.0 {
-        None => make_buffered(rt.alloc(), form, rt.stdin(), rt.stdout()),
         Some(name) => match File::open(rt, name.as_str()) {
             Ok(file) => make_buffered(rt.alloc(), form, file, rt.stdout()),
             Err(error) => Met::unopened(error),
         },
+        None => make_buffered(rt.alloc(), form, rt.stdin(), rt.stdout()),
     }
 }
 
@@ -131,14 +131,14 @@ fn greet(rt: &HostRuntime) {
 fn talk(rt: &HostRuntime, explains: bool, file: Option<String>) -> ExitCode {
     let source = Source(file);
     let met = match &source.0 {
-        None => {
-            greet(rt);
-            talk_buffered(rt, explains, rt.stdin(), rt.stdout())
-        }
         Some(name) => match File::open(rt, name.as_str()) {
             Ok(file) => talk_buffered(rt, explains, file, rt.stdout()),
             Err(error) => Met::unopened(error),
         },
+        None => {
+            greet(rt);
+            talk_buffered(rt, explains, rt.stdin(), rt.stdout())
+        }
     };
     end(rt, &met, &source, MOST_BYTES)
 }
