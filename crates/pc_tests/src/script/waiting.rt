@@ -137,9 +137,9 @@ enum Row {
     Fills(usize, Result<Outcome, ScriptFault>),
     /// So many wakes of a machine whose memory runs out, how the script ends, and how many are answered.
     RunsOut(u32, Result<Outcome, ScriptFault>, u32),
-    /// So many wakes, the write that fails, how the script ends, how many writes there are, and the bytes that
-    /// are taken.
-    Writes(u32, u32, Result<Outcome, ScriptFault>, u32, usize),
+    /// So many wakes, lines behind them, the write that fails, how the script ends, how many writes there are, and the
+    /// bytes that are taken.
+    Writes(u32, &'static [u8], u32, Result<Outcome, ScriptFault>, u32, usize),
 }
 
 fn answers(
@@ -178,10 +178,11 @@ fn is_spent(
 fn makes_writes(
     alloc: Global,
     times: u32,
+    end: &[u8],
     fails_at: u32,
     wanted: (Result<Outcome, ScriptFault>, u32, usize),
 ) -> Result<bool, AllocError> {
-    let script = wakes(alloc, times, b"")?;
+    let script = wakes(alloc, times, end)?;
     Ok(counted(alloc, script.as_slice(), fails_at) == wanted)
 }
 
@@ -190,8 +191,8 @@ fn comes_of(alloc: Global, row: &Row) -> Result<bool, AllocError> {
         Row::Answers(times, end, answered, wanted) => answers(alloc, times, end, answered, wanted),
         Row::Fills(room, wanted) => fills(alloc, room, wanted),
         Row::RunsOut(times, wanted, answered) => is_spent(alloc, times, wanted, answered),
-        Row::Writes(times, fails_at, ended, count, taken) => {
-            makes_writes(alloc, times, fails_at, (ended, count, taken))
+        Row::Writes(times, end, fails_at, ended, count, taken) => {
+            makes_writes(alloc, times, end, fails_at, (ended, count, taken))
         }
     }
 }
@@ -269,15 +270,33 @@ fn replies_that_wait_are_written_where_memory_runs_out(rt: HostRuntime) {
 
 #[test]
 fn many_replies_are_one_write_and_none_follows_one_that_failed(rt: HostRuntime) {
-    static ROWS: [Row; 8] = [
-        Row::Writes(0, 0, FINISHED, 0, 0),
-        Row::Writes(1, 0, FINISHED, 1, 16),
-        Row::Writes(1024, 0, FINISHED, 1, 16384),
-        Row::Writes(1025, 0, FINISHED, 2, 16400),
-        Row::Writes(3072, 0, FINISHED, 3, 49152),
-        Row::Writes(3072, 1, UNWRITTEN, 1, 0),
-        Row::Writes(3072, 2, UNWRITTEN, 2, 16384),
-        Row::Writes(3072, 3, UNWRITTEN, 3, 32768),
+    static ROWS: [Row; 11] = [
+        Row::Writes(0, b"", 0, FINISHED, 0, 0),
+        Row::Writes(1, b"", 0, FINISHED, 1, 16),
+        Row::Writes(1024, b"", 0, FINISHED, 1, 16384),
+        Row::Writes(1025, b"", 0, FINISHED, 2, 16400),
+        Row::Writes(3072, b"", 0, FINISHED, 3, 49152),
+        Row::Writes(3072, b"", 1, UNWRITTEN, 1, 0),
+        Row::Writes(3072, b"", 2, UNWRITTEN, 2, 16384),
+        Row::Writes(3072, b"", 3, UNWRITTEN, 3, 32768),
+        // 16 bytes are left, for `equal` and its line feed twice, and four bytes of the third.
+        Row::Writes(
+            1023,
+            b"same 0 0\nsame 0 0\nsame 0 0\n",
+            0,
+            FINISHED,
+            2,
+            16386,
+        ),
+        Row::Writes(1023, b"same 0 0\nsame 0 0\nsame 0 0\n", 1, UNWRITTEN, 1, 0),
+        Row::Writes(
+            1023,
+            b"same 0 0\nsame 0 0\nsame 0 0\n",
+            2,
+            UNWRITTEN,
+            2,
+            16384,
+        ),
     ];
     each_holds(&rt, rt.alloc(), &ROWS);
 }
