@@ -14,12 +14,13 @@
   versions     the program, its case, CHANGELOG.md and the manual page tell one version, the last two its date, and README.md the kit
                that is on the path
   widths       no line of a document, of .rt or of specs/ is wider than 120 columns
+  sentences    no sentence of a document has more than 40 words, but in docs/DEFINITIONS.md
   files        each file of docs/, examples/, tools/, tests/ and bench/ is named by some other file
   numbers      nothing is cited by a number: no theorem, request, row or issue
   titles       each commit's title has at most 72 columns, and none of the words that tell of work under way
 
 A line for each finding, how much was looked at, and then `N passed, M failed`, of these checks. The exit status is 0 only where
-none failed. The last four are those of tests/tidy.py.
+none failed. The last five are those of tests/tidy.py.
 """
 import fnmatch
 import pathlib
@@ -544,6 +545,9 @@ class Checker:
     def check_widths(self):
         self.add(*tidy.widths(ROOT))
 
+    def check_sentences(self):
+        self.add(*tidy.sentences(ROOT))
+
     def check_files(self):
         self.add(*tidy.files(ROOT))
 
@@ -570,6 +574,7 @@ def main():
         checker.check_shown_code,
         checker.check_versions,
         checker.check_widths,
+        checker.check_sentences,
         checker.check_files,
         checker.check_numbers,
         checker.check_titles,

@@ -7,6 +7,13 @@ import subprocess
 
 WIDTH = 120
 TITLE_WIDTH = 72
+MOST_WORDS = 40
+# A document's block of code, a table's line, a heading, or what begins an item.
+CODE, ITEM = re.compile(r"^(?:    |\t)"), re.compile(r"^ *(?:[-*]|\d+\.) +")
+NO_PROSE = re.compile(r"^(?:\||#|<!--)")
+# What an item of docs/PROMISES.md is carried by, or met by, is a list of names.
+NAMES_ALONE = re.compile(r"^(?:carried|met) by\b")
+SENTENCE_END = re.compile(r"(?<=[.!?])[)\"*_]*\s+(?=[A-Z`*(\"0-9]|ghOSt\b)")
 # The titles of commits since this moment are looked at.
 TITLES_SINCE = "2026-11-27T00:00:00+00:00"
 UNDER_WAY = re.compile(r"\b(?:wip|merge[sd]?)\b", re.I)
@@ -56,6 +63,41 @@ def widths(root):
             checked += 1
             if len(line) > WIDTH and number not in literal:
                 findings.append(f"{path.relative_to(root)}:{number}: {len(line)} columns")
+    return checked, findings
+
+
+def paragraphs(text):
+    """The paragraphs and items of a document, each with the number of its first line."""
+    number, lines, fenced = 0, [], False
+    for place, line in enumerate([*text.splitlines(), ""], 1):
+        fenced ^= line.startswith("```")
+        begins = ITEM.match(line)
+        ends = fenced or not line.strip() or NO_PROSE.match(line) or CODE.match(line) and not lines and not begins
+        if lines and (ends or begins):
+            yield number, " ".join(lines)
+            lines = []
+        if not ends:
+            number = number if lines else place
+            lines.append(ITEM.sub("", line).strip())
+
+
+def sentences(root):
+    """Sentences of documents that have too many words; docs/DEFINITIONS.md aside, which is made of comments.
+
+    What stands in backquotes is one word.
+    """
+    checked, findings = 0, []
+    for path in sorted({*root.glob("*.md"), *root.glob("docs/*.md"), *root.glob("examples/*.md")}):
+        if path.name == "DEFINITIONS.md":
+            continue
+        for number, paragraph in paragraphs(path.read_text()):
+            if NAMES_ALONE.match(paragraph):
+                continue
+            for sentence in SENTENCE_END.split(paragraph):
+                checked += 1
+                words = len(re.sub(r"`[^`]*`", "x", sentence).split())
+                if words > MOST_WORDS:
+                    findings.append(f"{path.relative_to(root)}:{number}: {words} words: {sentence[:60]}")
     return checked, findings
 
 
