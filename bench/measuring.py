@@ -59,6 +59,17 @@ def measured(words, output, seconds=None, address_space=None):
     return Run(wall, usage.ru_utime + usage.ru_stime, int(memory.read_text()))
 
 
+def usual(runs):
+    """The first quartile of seconds, and the median of memory, of runs that all ended well.
+
+    Of scripts that take some milliseconds the least run is luck, and the system counts memory in batches of pages."""
+    def at(share, figures):
+        return sorted(figures)[int(share * (len(runs) - 1))]
+
+    return Run(
+        at(0.25, [run.wall for run in runs]), at(0.25, [run.processor for run in runs]), at(0.5, [run.memory for run in runs]))
+
+
 def best(runs):
     """The least seconds and the most memory of runs, or the first that did not end well."""
     bad = next((run for run in runs if run.fault), None)
