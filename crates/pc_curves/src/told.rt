@@ -58,6 +58,9 @@ fn push_titled(text: &mut Vec<u8>, name: &[u8], figures: &Figures) -> Result<(),
     push_spelled(text, &Told(figures))
 }
 
+/// A full list gets room for the figures of so many runs more at least: most pictures are of few.
+const FEW: usize = 8;
+
 /// Adds what is told of a run, and keeps its figures.
 fn push_column(
     text: &mut Vec<u8>,
@@ -69,7 +72,10 @@ fn push_column(
 {
     let figures = figures_of(alloc, &column.summary)?;
     push_titled(text, column.name, &figures)?;
-    all.push(figures)?;
+    if all.len() == all.capacity() {
+        all.reserve(FEW)?;
+    }
+    all.push_reserved(figures);
     Ok(())
 }
 

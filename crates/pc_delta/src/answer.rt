@@ -106,14 +106,12 @@ fn add_early<K: Known>(
     Ok(next)
 }
 
-/// A full list of fewer items than these gets room for four times as many, an empty one for one.
-const FEW: usize = 16;
+/// A full list of fewer items than these gets room for four times as many, an empty one for a few; a longer list for
+/// twice as many.
+const FEW: usize = 256;
 
-/// A full list of more items, but of fewer than these, gets room for so many; a longer one grows as `Vec` has it.
-const MANY: usize = 4_096;
-
-/// Makes room for at least one more item. An agent that has started again is told of all threads, and to grow a list
-/// step by step is mostly to copy it. What is not wanted of the room is given back with the delta
+/// Makes room for at least one more item. An agent that has started again is told of all threads, and to grow a short
+/// list step by step is mostly to copy it. What is not wanted of the room is given back with the delta
 /// (`Delta::of_faultless`), where nothing was written to it.
 #[inline(never)]
 fn make_room<T>(items: &mut Vec<T>) -> Result<(), OutOfMemory>
@@ -121,11 +119,11 @@ fn make_room<T>(items: &mut Vec<T>) -> Result<(), OutOfMemory>
     ensures room { OnOk result (vec_len items.new < vec_capacity items.new) }
 {
     let more = if items.len() < FEW {
-        (items.len() * 3).max(1)
+        items.len() * 3
     } else {
-        MANY.saturating_sub(items.len()).max(1)
+        items.len()
     };
-    items.reserve(more)?;
+    items.reserve(more.max(1))?;
     Ok(())
 }
 

@@ -18,8 +18,11 @@ use pc_kernel::Kernel;
 use pc_kernel::laws::{messages_stay_home, sleepers_had_no_post, threads_are_placed};
 use pc_messages::{Cpu, Item};
 pub use settling::{RunFault, settle};
-use std::alloc::Global;
+use std::alloc::{AllocError, Global};
 use std::marker::Model;
+
+/// A full list gets room for so many calls more at least.
+const ROOM: usize = 64;
 
 /// A kernel, with every call that it accepted and what it answered, in their order (own). So whoever holds a book knows
 /// how its kernel came about.
@@ -182,7 +185,7 @@ impl Book {
         ensures limits { self.new.kernel.limits ≡ self.old.kernel.limits }
         ensures err { OnErr result (self.new ≡ self.old) }
     {
-        if self.calls.reserve(1).is_err() {
+        if make_room(&mut self.calls).is_err() {
             return Err(CallFault::OutOfMemory);
         }
         match self.kernel.apply(*call) {
@@ -193,6 +196,17 @@ impl Book {
             Err(fault) => Err(fault),
         }
     }
+}
+
+/// Makes room for at least one more call.
+fn make_room(calls: &mut Vec<(Call, Answer)>) -> Result<(), AllocError>
+    ensures items { calls.new.items ≡ calls.old.items }
+    ensures room { OnOk result (vec_len calls.new < vec_capacity calls.new) }
+{
+    if calls.len() == calls.capacity() {
+        calls.reserve(ROOM)?;
+    }
+    Ok(())
 }
 
 /// Puts an accepted call with its answer at the end of the list, which has room for it.

@@ -12,7 +12,7 @@ ghost use Rattle.pc_agent.specs.Publishing.{IsConsumed, WhateverShown};
 ghost use Rattle.pc_agent.specs.Running.{IsPicked, Steals, takes_up_to};
 ghost use Rattle.pc_agent.specs.Shows.{counts_of, cpu_of, list_of, rules_in, sent_of, view_of};
 
-use crate::book::{Book, list};
+use crate::book::{Book, list, make_room};
 use pc_agent::Agent;
 use pc_calls::{AgentCall, Answer, Call, CallFault, Refusal};
 use pc_messages::Tid;
@@ -35,7 +35,7 @@ impl Book {
         ensures err { OnErr result (self.new ≡ self.old) }
         ensures agent_err { OnErr result (agent.new ≡ agent.old) }
     {
-        if self.calls.reserve(1).is_err() {
+        if make_room(&mut self.calls).is_err() {
             return Err(CallFault::OutOfMemory);
         }
         let cpu = agent.cpu();
@@ -69,7 +69,7 @@ impl Book {
         ensures limits { self.new.kernel.limits ≡ self.old.kernel.limits }
         ensures err { OnErr result (self.new ≡ self.old) }
     {
-        if self.calls.reserve(1).is_err() {
+        if make_room(&mut self.calls).is_err() {
             return Err(CallFault::OutOfMemory);
         }
         let cpu = agent.cpu();
@@ -104,7 +104,7 @@ impl Book {
         ensures limits { self.new.kernel.limits ≡ self.old.kernel.limits }
         ensures err { OnErr result (self.new ≡ self.old) }
     {
-        if self.calls.reserve(1).is_err() {
+        if make_room(&mut self.calls).is_err() {
             return Err(CallFault::OutOfMemory);
         }
         let queue = agent.cpu();

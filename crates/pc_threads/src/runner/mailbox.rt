@@ -1,11 +1,14 @@
 //! Where what several leave for one waits.
 
-use std::alloc::{AllocFailed, Global};
+use std::alloc::{AllocError, Global};
 use std::mem;
 use std::sync::{Mutex, Wait};
 
 /// So many things wait in a mailbox at most before its owner is told.
 const MOST_UNTOLD: usize = 256;
+
+/// A full list gets room for so many things more at least: where one is left, others follow.
+const ROOM: usize = 16;
 
 /// Where several leave things for one, who takes all of them at once.
 #[derive(Drop)]
@@ -19,6 +22,15 @@ pub(crate) struct Mailbox<T: Drop> {
 struct Mail<T: Drop> {
     things: Vec<T>,
     is_told: bool,
+}
+
+/// Puts a thing behind the others.
+fn add<T: Drop>(things: &mut Vec<T>, thing: T) -> Result<(), AllocError> {
+    if things.len() == things.capacity() {
+        things.reserve(ROOM)?;
+    }
+    things.push_reserved(thing);
+    Ok(())
 }
 
 impl<T: Drop> Mailbox<T> {
@@ -35,14 +47,9 @@ impl<T: Drop> Mailbox<T> {
 
     /// Puts this behind what waits, and answers whether the owner is to be told: where this is `urgent` or much waits,
     /// and it was not told yet.
-    pub(crate) fn put<R: Wait>(
-        &self,
-        rt: &R,
-        thing: T,
-        urgent: bool,
-    ) -> Result<bool, AllocFailed<T>> {
+    pub(crate) fn put<R: Wait>(&self, rt: &R, thing: T, urgent: bool) -> Result<bool, AllocError> {
         let mut mail = self.waiting.lock(rt);
-        mail.things.push(thing)?;
+        add(&mut mail.things, thing)?;
         let tells = !mail.is_told && (urgent || mail.things.len() >= MOST_UNTOLD);
         mail.is_told = mail.is_told || tells;
         Ok(tells)

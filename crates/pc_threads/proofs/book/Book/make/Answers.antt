@@ -7,7 +7,7 @@ did : (c : goal.After-list) → Lists c.args.call.now c.in-Ok.answer (record { k
 did c =
     record {
       accepted = accepts c.args.call.now c.in-Ok.answer c.self.inside.kernel c.apply.new.self c.in-Ok.ensures.answered.step;
-      listed = entry_listed c.self.inside.calls.items c.reserve.new.self.items c.list.new.calls.items (c.args.call.now, c.in-Ok.answer) c.reserve.ensures.items c.list.ensures;
+      listed = entry_listed c.self.inside.calls.items c.make_room.new.calls.items c.list.new.calls.items (c.args.call.now, c.in-Ok.answer) c.make_room.ensures.items c.list.ensures;
     }
 
 pub invariant_of-self-in-Ok : goal.invariant_of-self-in-Ok

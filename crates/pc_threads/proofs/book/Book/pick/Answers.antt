@@ -8,7 +8,7 @@ use Rattle.pc_threads.proofs.book.Book.pick.Goals as goal
 pub invariant_of-self-in-Ok : goal.invariant_of-self-in-Ok
 invariant_of-self-in-Ok c =
     let made : commits (cpu_of c.args.agent.now) c.in-Ok.thread c.args.aseq ≡ commits c.cpu-cpu.result c.in-Ok.thread c.args.aseq = cc c.cpu-cpu.ensures in
-    put c.self.inside.kernel c.pick.new.kernel c.self.inside.calls.items c.reserve.new.self.items c.list.new.calls.items _ _ Done made c.reserve.ensures.items
+    put c.self.inside.kernel c.pick.new.kernel c.self.inside.calls.items c.make_room.new.calls.items c.list.new.calls.items _ _ Done made c.make_room.ensures.items
     c.list.ensures c.in-Ok.ensures.goes_on.limits c.in-Ok.ensures.kernel c.self.invariant
 
 pub returns-in-Err-clause-picks : goal.returns-in-Err-clause-picks

@@ -13,7 +13,7 @@ invariant_of-self-in-Ok c =
     let number : upto_of (view_of c.args.agent.now) c.in-Ok.thread ≡ c.upto-number.result =
     ap (λ view. upto_of view c.in-Ok.thread) (sym (c.view.ensures.same ∙ c.in-Ok.ensures.same.view)) ∙ sym c.upto-number.ensures in
     let made : associates c.in-Ok.thread (cpu_of c.args.agent.now) (upto_of (view_of c.args.agent.now) c.in-Ok.thread) ≡ associates c.in-Ok.thread c.cpu-queue.result c.upto-number.result = cc (number, c.cpu-queue.ensures) in
-    put c.self.inside.kernel c.steal.new.kernel c.self.inside.calls.items c.reserve.new.self.items c.list.new.calls.items _ _ Done made c.reserve.ensures.items
+    put c.self.inside.kernel c.steal.new.kernel c.self.inside.calls.items c.make_room.new.calls.items c.list.new.calls.items _ _ Done made c.make_room.ensures.items
     c.list.ensures c.in-Ok.ensures.goes_on.limits c.in-Ok.ensures.kernel c.self.invariant
 
 pub returns-in-Err-clause-own : goal.returns-in-Err-clause-own
