@@ -7,6 +7,8 @@ ghost use Rattle.std.specs.Prelude.{◌≡◌, ◌≤◌, ◌+◌, ◌++◌, [],
 ghost use Rattle.pc_script.specs.declared.output.TheConstants.{MOST_WAITING};
 ghost use Rattle.std.specs.Io.KnownBytes.{Appends};
 ghost use Rattle.pc_script.specs.Responses.{numbers_text, response_text, shown_text, text_line};
+ghost use Rattle.pc_script.specs.Scripts.{outcome_text};
+ghost use Rattle.pc_script.specs.declared.outcome.Outcome.{Outcome};
 ghost use Rattle.pc_script.specs.declared.response.Response.{Response};
 
 use crate::lists::{ShownThread, ShownThreads};
@@ -138,6 +140,21 @@ impl Output {
                 is_put
             }
         }
+    }
+
+    /// Puts behind what waits that the line with this number is a fault. Answers false where a write was needed, and
+    /// failed.
+    #[inline(never)]
+    pub(crate) fn put_fault<W: Write>(&mut self, number: u64, writer: &mut W) -> bool
+        ensures { IsTrue result
+            → Appends (output_held (W.contents writer.old) self.old) (output_held (W.contents writer.new) self.new)
+            (outcome_text (Outcome.FaultLine number)) }
+    {
+        self.line.clear();
+        self.line.text(b"\n");
+        self.line.number(number);
+        self.line.text(b"fault line ");
+        self.waiting.put(self.line.as_slice(), writer)
     }
 
     /// Puts a view's text, which may have any length, and a line feed behind what waits, row by row. Answers false

@@ -61,15 +61,6 @@ fn unless_failed(is_written: bool) -> Result<(), ScriptFault>
     }
 }
 
-/// Writes what waits, and that the line with this number is a fault.
-fn write_fault<W: Write>(number: u64, output: &mut Output, writer: &mut W) -> bool
-    ensures { IsTrue result
-        → Appends (output_held (W.contents writer.old) output.old) (output_held (W.contents writer.new) output.new)
-        (outcome_text (Outcome.FaultLine number)) }
-{
-    output.write_out(writer) && writeln!(writer, "fault line {number}").is_ok()
-}
-
 impl<M: Machine, W: Write> Observer<M, W> for Replies {
     ghost Tells = { λ old before notices new after. Appends (output_held before old.output)
         (output_held after new.output) (notices_text notices) };
@@ -102,11 +93,11 @@ impl<M: Machine, W: Write> Observer<M, W> for Replies {
     }
 
     fn faulted(&mut self, line: Line<'_>, writer: &mut W) -> Result<(), ScriptFault> {
-        unless_failed(write_fault(line.number, &mut self.output, writer))
+        unless_failed(self.output.put_fault(line.number, writer))
     }
 
     fn passed_over(&mut self, number: u64, writer: &mut W) -> Result<(), ScriptFault> {
-        unless_failed(write_fault(number, &mut self.output, writer))
+        unless_failed(self.output.put_fault(number, writer))
     }
 
     fn settle(&mut self, writer: &mut W) -> Result<(), ScriptFault> {
