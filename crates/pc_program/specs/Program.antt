@@ -185,10 +185,10 @@ MessageOf end' = ending.message_of end'
 
 -- ---- The theorem
 
--- `pc-sim replay`, `explain` and `draw`, by how they ended: what the writer behind the program's buffer has now is what
--- it had, and behind that the output of the script by a session; or that with comments between; or the script's
--- picture; or, where memory ran out, nothing, or the replies to the lines before one, whole, and of a picture nothing.
--- After a read or a write that failed nothing is said
+-- `pc-sim replay`, `explain` and `draw`, by how they ended: what the writer has now, behind the program's buffer where
+-- there is one, is what it had, and behind that the output of the script by a session; or that with comments between;
+-- or the script's picture; or, where memory ran out, nothing, or the replies to the lines before one, whole, and of a
+-- picture nothing. After a read or a write that failed nothing is said
 abbrev pub AfterScript : Form → List ℕ → Option (List ℕ) → Option (List ℕ) → Ending → Type 0
 AfterScript form bytes old new end' = program.IsMade form bytes old new end'
 

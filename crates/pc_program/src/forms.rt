@@ -118,6 +118,22 @@ pub(crate) fn flushed<W: Write + Drop>(writer: &mut BufWriter<W>, ending: Ending
     }
 }
 
+/// Reads a script, writes its replies, and flushes them, whatever the ending. Replies are gathered and written many at
+/// a time, so the writer needs no buffer.
+///
+/// Endings are those of [`make`]; where the flush fails it is `CannotRead`, by a write, whatever else there was.
+pub fn replay_flushed<R: Read, W: Write>(alloc: Global, reader: &mut R, writer: &mut W) -> Ending
+    ensures told { IfSome (R.remaining reader.old)
+        (λ text. IsMade Form.Replies text (W.contents writer.old) (W.contents writer.new) result) }
+{
+    let ending = replies(alloc, reader, writer);
+    if writer.flush().is_ok() {
+        ending
+    } else {
+        Ending::CannotRead(Failure::Write)
+    }
+}
+
 /// Makes what is asked for of the text that a reader gives, writes it, and flushes it, whatever the ending.
 ///
 /// Endings are those of [`make`]; where the flush fails it is `CannotRead`, by a write, whatever else there was.

@@ -27,7 +27,7 @@ mod talk;
 
 pub use command_line::{Command, CommandFault, VariantsFrom, read_command};
 pub use ending::{BadSettings, Ending, Failure, Unsettled};
-pub use forms::{Form, make, make_flushed, run_flushed, run_script};
+pub use forms::{Form, make, make_flushed, replay_flushed, run_flushed, run_script};
 pub use input::{MOST_SETTINGS, read_settings};
 pub use pc_draw::{Axis, Interval, Part};
 pub use pc_policy::{AgentPolicy, Order, Stealing};

@@ -7,22 +7,41 @@ mod lab;
 mod met;
 mod run;
 mod streams;
+mod words;
 
 use lab::try_on_machine;
 use met::{Met, Source, say_failure};
 use pc_program::{
     Command, CommandFault, Ending, Failure, Form, Manual, converse_flushed, make_flushed,
-    read_command,
+    read_command, replay_flushed,
 };
 use pc_script::MOST_BYTES;
 use pc_trial::Wanted;
 use run::run_on_machine;
 use std::alloc::Global;
-use std::env;
 use std::fs::File;
-use std::io::{self, BufWriter, IsTerminal, Read, Write};
+use std::io::{BufWriter, IsTerminal, Read, Write};
 use std::process::ExitCode;
 use streams::Noted;
+use words::words_of;
+
+/// How it ended, and what the system said of the stream that failed, where one did.
+fn met_of<R: Drop, W: Drop>(ending: Ending, reader: &Noted<R>, writer: &Noted<W>) -> Met {
+    let said = match ending {
+        Ending::CannotRead(Failure::Write) => writer.fault(),
+        _ => reader.fault(),
+    };
+    Met::of(ending, said)
+}
+
+/// Answers the script that a stream gives. Replies are gathered until there are enough of them for a write, and pass no
+/// other buffer.
+fn replay<R: Read + Drop, W: Write + Drop>(alloc: Global, reader: R, writer: W) -> Met {
+    let mut reader = Noted::new(reader);
+    let mut writer = Noted::new(writer);
+    let ending = replay_flushed(alloc, &mut reader, &mut writer);
+    met_of(ending, &reader, &writer)
+}
 
 /// Makes what is asked for of the text that a stream gives, through a buffer of its own.
 fn make_buffered<R: Read + Drop, W: Write + Drop>(
@@ -36,32 +55,15 @@ fn make_buffered<R: Read + Drop, W: Write + Drop>(
         return Met::ended(Ending::OutOfMemory);
     };
     let ending = make_flushed(alloc, form, &mut reader, &mut writer);
-    let said = match ending {
-        Ending::CannotRead(Failure::Write) => writer.get_ref().fault(),
-        _ => reader.fault(),
-    };
-    Met::of(ending, said)
+    met_of(ending, &reader, writer.get_ref())
 }
 
-/// Few command lines have more words.
-const USUAL_WORDS: usize = 16;
-
-/// The words of the command line.
-fn given_words<R: env::Env + Alloc>(rt: &R) -> io::Result<Vec<String<R::A>, R::A>> {
-    let mut words = Vec::with_capacity(rt.alloc(), USUAL_WORDS)?;
-    for word in env::args(rt)? {
-        words.push(word)?;
+/// Makes what is asked for of the text that a stream gives.
+fn make_of<R: Read + Drop>(rt: &HostRuntime, form: Form, reader: R) -> Met {
+    match form {
+        Form::Replies => replay(rt.alloc(), reader, rt.stdout()),
+        _ => make_buffered(rt.alloc(), form, reader, rt.stdout()),
     }
-    Ok(words)
-}
-
-/// The same, with the program's own name in front in place of its file's.
-fn words_of<R: env::Env + Alloc>(rt: &R) -> io::Result<Vec<String<R::A>, R::A>> {
-    let mut words = given_words(rt)?;
-    if let Some(name) = words.first_mut() {
-        *name = String::from_str(rt.alloc(), "pc-sim")?;
-    }
-    Ok(words)
 }
 
 /// What the command line asks for.
@@ -90,10 +92,10 @@ fn command_of(rt: &HostRuntime) -> Result<Command, Met> {
 fn make_of_file(rt: &HostRuntime, form: Form, source: &Source) -> Met {
     match &source.0 {
         Some(name) => match File::open(rt, name.as_str()) {
-            Ok(file) => make_buffered(rt.alloc(), form, file, rt.stdout()),
+            Ok(file) => make_of(rt, form, file),
             Err(error) => Met::unopened(error),
         },
-        None => make_buffered(rt.alloc(), form, rt.stdin(), rt.stdout()),
+        None => make_of(rt, form, rt.stdin()),
     }
 }
 
@@ -110,11 +112,7 @@ fn talk_buffered<R: Read + Drop, W: Write + Drop>(
     };
     let mut manual = Manual::new(rt.stderr());
     let ending = converse_flushed(rt.alloc(), explains, &mut reader, &mut manual, &mut writer);
-    let said = match ending {
-        Ending::CannotRead(Failure::Write) => writer.get_ref().fault(),
-        _ => reader.fault(),
-    };
-    Met::of(ending, said)
+    met_of(ending, &reader, writer.get_ref())
 }
 
 /// Says what a session is, where a person writes it at a terminal.

@@ -1,12 +1,12 @@
 //! What no script of tests/cases can say: a script over memory, the words of a command line, and how the program ends.
 
 use pc_program::{
-    Axis, Command, CommandFault, Ending, Form, Helper, Interval, Order, Part, ReportForm, Stealing,
-    VariantsFrom, converse_flushed, make, read_command, run_script,
+    Axis, Command, CommandFault, Ending, Failure, Form, Helper, Interval, Order, Part, ReportForm,
+    Stealing, VariantsFrom, converse_flushed, make, read_command, replay_flushed, run_script,
 };
 use pc_script::{Outcome, ScriptFault, lines_of};
 use std::alloc::Global;
-use std::io::BufWriter;
+use std::io::{self, BufWriter, Error, ErrorKind, Write};
 use std::test::Fail;
 
 #[test]
@@ -17,6 +17,50 @@ fn a_fault_ends_a_script_over_memory(rt: HostRuntime) {
     let ended = run_script(alloc, &mut reader, &mut writer);
     assert_eq!(rt; ended, Ok(Outcome::FaultLine(2)));
     assert_eq!(rt; writer.as_slice(), b"ok\nfault line 2\n".as_slice());
+}
+
+/// Keeps what is written, and how much of it there was at the last flush. Its flushes may fail.
+#[derive(Drop)]
+struct Kept {
+    text: Vec<u8>,
+    flushed: usize,
+    is_shut: bool,
+}
+
+impl Write for Kept {
+    fn write(&mut self, buf: &[u8]) -> io::Result<usize> {
+        self.text.extend_from_slice(buf)?;
+        Ok(buf.len())
+    }
+
+    fn flush(&mut self) -> io::Result<()> {
+        if self.is_shut {
+            return Err(Error::from(ErrorKind::BrokenPipe));
+        }
+        self.flushed = self.text.len();
+        Ok(())
+    }
+}
+
+/// How the replay of a script with a fault ended, whether the replies up to there were written, and how many bytes were
+/// flushed.
+fn replayed(alloc: Global, is_shut: bool) -> (Ending, bool, usize) {
+    let mut reader = b"enclave 2 8 100 16 1000\nstatus t0\nwalk\n".as_slice();
+    let mut writer = Kept {
+        text: Vec::new(alloc),
+        flushed: 0,
+        is_shut,
+    };
+    let ending = replay_flushed(alloc, &mut reader, &mut writer);
+    let replies = b"ok\nrefused UnknownThread\nfault line 3\n".as_slice();
+    (ending, writer.text.as_slice() == replies, writer.flushed)
+}
+
+#[test]
+fn a_replay_is_flushed(rt: HostRuntime) {
+    assert_eq!(rt; replayed(rt.alloc(), false), (Ending::FaultLine, true, 38));
+    let unwritten = Ending::CannotRead(Failure::Write);
+    assert_eq!(rt; replayed(rt.alloc(), true), (unwritten, true, 0));
 }
 
 /// Whether the text has this line.

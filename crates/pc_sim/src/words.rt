@@ -1,0 +1,65 @@
+//! The words of the command line.
+//!
+//! They are read one by one, and not by `env::args`: what that calls stands in the program among the code that reads
+//! settings, which no other command would have read in.
+
+use std::alloc::Global;
+use std::env::{Env, FillError};
+use std::io::{self, ErrorKind};
+use std::str;
+
+/// Few command lines have more words.
+const USUAL_WORDS: usize = 16;
+
+/// Few words have more bytes.
+const USUAL_BYTES: usize = 256;
+
+/// The word of these bytes.
+fn word_of(alloc: Global, bytes: &[u8]) -> io::Result<Option<String>> {
+    match str::from_utf8(bytes) {
+        Ok(word) => Ok(Some(String::from_str(alloc, word)?)),
+        Err(_) => Err(io::Error::from(ErrorKind::InvalidData)),
+    }
+}
+
+/// The word at this place, which is longer than most; none behind the last one.
+fn long_word_at(rt: &HostRuntime, place: usize) -> io::Result<Option<String>> {
+    let mut bytes = Vec::new(rt.alloc());
+    let mut room = USUAL_BYTES;
+    for _ in 0..usize::BITS {
+        room = room.saturating_mul(2);
+        bytes.resize(room, 0)?;
+        match rt.arg(place, bytes.as_mut_slice()) {
+            Ok(length) => {
+                bytes.truncate(length);
+                return word_of(rt.alloc(), bytes.as_slice());
+            }
+            Err(FillError::NotPresent) => return Ok(None),
+            Err(FillError::TooLong) => {}
+        }
+    }
+    Err(io::Error::from(ErrorKind::OutOfMemory))
+}
+
+/// The word at this place; none behind the last one.
+fn word_at(rt: &HostRuntime, place: usize) -> io::Result<Option<String>> {
+    let mut bytes = [0; USUAL_BYTES];
+    match rt.arg(place, &mut bytes) {
+        Ok(length) => word_of(rt.alloc(), &bytes[..length]),
+        Err(FillError::NotPresent) => Ok(None),
+        Err(FillError::TooLong) => long_word_at(rt, place),
+    }
+}
+
+/// The words of the command line, with the program's own name in front in place of its file's.
+pub(crate) fn words_of(rt: &HostRuntime) -> io::Result<Vec<String>> {
+    let mut words = Vec::with_capacity(rt.alloc(), USUAL_WORDS)?;
+    words.push(String::from_str(rt.alloc(), "pc-sim")?)?;
+    for place in 1..usize::MAX {
+        match word_at(rt, place)? {
+            Some(word) => words.push(word)?,
+            None => break,
+        }
+    }
+    Ok(words)
+}
