@@ -11,7 +11,7 @@ use crate::deed::Deed;
 use crate::lacks::{Goal, Lack};
 use crate::plan::Plan;
 use pc_messages::{Cpu, Tid};
-use pc_script::PolicyName;
+use pc_policy::PolicyName;
 use pc_world::World;
 
 /// The most deeds that lead to each other before one of them can be done.

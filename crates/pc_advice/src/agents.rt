@@ -6,7 +6,7 @@ use crate::lacks::{Goal, Lack, preempt, publish};
 use crate::plan::Plan;
 use pc_calls::EnvCall;
 use pc_messages::{Cpu, Phase, Tid};
-use pc_script::PolicyName;
+use pc_policy::PolicyName;
 use pc_world::World;
 
 /// The most threads, and the most deltas, among which all deeds are tried for a steal.

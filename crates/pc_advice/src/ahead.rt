@@ -6,9 +6,9 @@ use crate::deed::Deed;
 use crate::lacks::Goal;
 use crate::plan::{Plan, Step};
 use pc_agent::Agent;
-use pc_calls::EnvCall;
+use pc_calls::{EnvCall, Leaving};
 use pc_messages::{Cpu, Item, Phase, Tid};
-use pc_script::PolicyName;
+use pc_policy::PolicyName;
 use pc_world::World;
 
 /// The most items of a queue that are looked at. A message of a thread may stand in a longer one.
@@ -67,20 +67,24 @@ impl Standing {
     fn take_call(&mut self, call: &EnvCall) {
         match *call {
             EnvCall::Create { .. } | EnvCall::Tick { .. } => return,
-            EnvCall::SetPriority { .. } => {}
             EnvCall::SetAffinity { mask, .. } => self.mask = mask,
             EnvCall::Wake { .. } => self.phase = Phase::Ready,
-            EnvCall::YieldNow { .. } | EnvCall::Preempt { .. } => self.on = None,
-            EnvCall::Block { .. } => {
-                self.on = None;
-                self.phase = Phase::Blocked;
-            }
-            EnvCall::Die { .. } => {
-                self.on = None;
-                self.phase = Phase::Dead;
-            }
+            _ => {}
+        }
+        if let Some(left) = call.left() {
+            self.leave(left.leaving);
         }
         self.number = self.number.saturating_add(1);
+    }
+
+    /// It leaves its CPU so.
+    fn leave(&mut self, leaving: Leaving) {
+        self.on = None;
+        match leaving {
+            Leaving::Yield | Leaving::Preempt => {}
+            Leaving::Block => self.phase = Phase::Blocked,
+            Leaving::Die => self.phase = Phase::Dead,
+        }
     }
 }
 
@@ -131,6 +135,14 @@ impl Queued {
             Queued::Sent if step.is_consume(queue) => *self = Queued::Gone,
             Queued::Unsent | Queued::Sent | Queued::Gone => {}
         }
+    }
+}
+
+/// Whether a thread leaves the CPU by the call.
+fn is_left_by(call: &EnvCall, cpu: Cpu) -> bool {
+    match call.left() {
+        Some(left) => left.cpu.index() == cpu.index(),
+        None => false,
     }
 }
 
@@ -219,11 +231,7 @@ impl<'a> Ahead<'a> {
             EnvCall::Wake { thread }
             | EnvCall::SetAffinity { thread, .. }
             | EnvCall::SetPriority { thread, .. } => Some(thread),
-            EnvCall::Block { cpu, .. }
-            | EnvCall::YieldNow { cpu, .. }
-            | EnvCall::Preempt { cpu, .. }
-            | EnvCall::Die { cpu, .. } => self.running(cpu),
-            EnvCall::Tick { .. } => None,
+            _ => self.running(call.left()?.cpu),
         }
     }
 
@@ -322,12 +330,7 @@ impl<'a> Ahead<'a> {
                 Deed::Commit { cpu: own, thread } if own.index() == cpu.index() => {
                     running = Some(thread);
                 }
-                Deed::Env(
-                    EnvCall::Block { cpu: own, .. }
-                    | EnvCall::YieldNow { cpu: own, .. }
-                    | EnvCall::Preempt { cpu: own, .. }
-                    | EnvCall::Die { cpu: own, .. },
-                ) if own.index() == cpu.index() => running = None,
+                Deed::Env(call) if is_left_by(&call, cpu) => running = None,
                 _ => {}
             }
         }

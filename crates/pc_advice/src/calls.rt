@@ -12,14 +12,13 @@ impl Ahead<'_> {
         match *call {
             EnvCall::Create { queue, mask, .. } => self.lack_of_create(queue, mask, times),
             EnvCall::Wake { thread } => self.lack_of_wake(thread),
-            EnvCall::Block { cpu, .. }
-            | EnvCall::YieldNow { cpu, .. }
-            | EnvCall::Preempt { cpu, .. }
-            | EnvCall::Die { cpu, .. } => self.lack_of_leaving(cpu),
             EnvCall::SetAffinity { thread, mask } => self.lack_of_affinity(thread, mask),
             EnvCall::SetPriority { thread, level } => self.lack_of_priority(thread, level),
             EnvCall::Tick { cpu } if self.is_cpu(cpu) => self.lack_of_posts(cpu, 1),
-            EnvCall::Tick { .. } => Lack::Never,
+            _ => match call.left() {
+                Some(left) => self.lack_of_leaving(left.cpu),
+                None => Lack::Never,
+            },
         }
     }
 

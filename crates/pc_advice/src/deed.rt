@@ -1,11 +1,13 @@
 //! What a line of a script asks for.
 
-ghost use Rattle.std.specs.Prelude.{◌≡◌};
-ghost use Rattle.pc_advice.specs.Advices.{IsAskedBy, is_environments};
+ghost use Rattle.std.specs.Prelude.{◌≡◌, Some};
+ghost use Rattle.pc_calls.specs.declared.event.Event.{Event};
+ghost use Rattle.pc_script.specs.declared.command.Read.{Read};
+ghost use Rattle.pc_advice.specs.Advices.{IsAskedBy, event_of, is_environments};
 
 use pc_calls::{AgentCall, EnvCall, Event};
 use pc_messages::{Cpu, Tid};
-use pc_script::Read;
+use pc_script::{Command, Read};
 
 /// What a line asks for, but for the number by which an agent shows what it knows: it is always the one of now.
 #[derive(Clone, Copy)]
@@ -69,6 +71,38 @@ impl Deed {
             AgentCall::Rouse { cpu } => Deed::Rouse { cpu },
             AgentCall::Config { queue, target } => Deed::Config { queue, target },
         }
+    }
+
+    /// The command of a script that asks for it, with this number where it needs one. It takes no memory.
+    pub fn command(&self, number: u32) -> Command
+        ensures event { (event : Event) → event_of self.now number ≡ Some event → result ≡ Command.Event event }
+        ensures question { (question : Read) → self.now ≡ Deed.Ask question → result ≡ Command.Read question }
+    {
+        let event = match *self {
+            Deed::Env(call) => Event::Env(call),
+            Deed::Associate { thread, queue } => Event::Agent(AgentCall::Associate {
+                thread,
+                queue,
+                number,
+            }),
+            Deed::Commit { cpu, thread } => Event::Agent(AgentCall::Commit {
+                cpu,
+                thread,
+                aseq: number,
+            }),
+            Deed::Sleep { cpu } => Event::Agent(AgentCall::Sleep { cpu, aseq: number }),
+            Deed::Rouse { cpu } => Event::Agent(AgentCall::Rouse { cpu }),
+            Deed::Config { queue, target } => Event::Agent(AgentCall::Config { queue, target }),
+            Deed::Publish { cpu, fails } => Event::Publish { cpu, fails },
+            Deed::Consume { cpu } => Event::Consume { cpu },
+            Deed::Deliver { cpu, delta } => Event::Deliver { cpu, delta },
+            Deed::Answer { cpu, asker } => Event::Answer { cpu, asker },
+            Deed::Pick { cpu } => Event::Pick { cpu, aseq: number },
+            Deed::Steal { cpu } => Event::Steal { cpu },
+            Deed::Crash { cpu } => Event::Crash { cpu },
+            Deed::Ask(question) => return Command::Read(question),
+        };
+        Command::Event(event)
     }
 
     /// Whether it is the environment's.

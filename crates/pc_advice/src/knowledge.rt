@@ -1,152 +1,83 @@
 //! What agents will know once some steps are done, and which threads their run lists will have.
 
-use crate::ahead::{Ahead, Queued, bit_of};
+ghost use Rattle.std.specs.Prelude.{◌≤◌};
+
+use crate::ahead::{Ahead, Queued};
 use crate::choices::MOST_THREADS;
 use crate::deed::Deed;
 use crate::lacks::{Lack, publish};
 use crate::plan::Plan;
 use pc_calls::EnvCall;
 use pc_delta::{Delta, Part};
-use pc_messages::{Cpu, Item, Kind, Phase, Tid};
-use pc_script::OrderName;
+use pc_messages::{Cpu, Item, Kind, Level, Mask, Phase, Reported, Tid};
+use pc_policy::{OrderName, Policy};
 
 /// The most items of a queue, deltas, parts of one, and messages of a thread that are looked through.
 const MOST_LOOKED: usize = 256;
-
-/// The highest level.
-const HIGHEST: u8 = 7;
-
-/// So many ranks stand between two levels, where ticks count within a level.
-const RANKS_A_LEVEL: u64 = 1 << 60;
 
 /// What the first messages of a thread report, up to which an agent knows all.
 #[derive(Clone, Copy)]
 pub(crate) struct Known {
     pub(crate) upto: u32,
-    phase: Option<Phase>,
-    /// The bits of the mask.
-    mask: u64,
-    ran: u64,
-    level: u8,
-}
-
-/// What a message changes.
-#[derive(Clone, Copy)]
-struct Change {
-    phase: Option<Phase>,
-    mask: Option<u64>,
-    /// For how many ticks more the thread ran.
-    ran: u32,
-    level: Option<u8>,
-}
-
-/// A message that changes nothing.
-const NO_CHANGE: Change = Change {
-    phase: None,
-    mask: None,
-    ran: 0,
-    level: None,
-};
-
-/// A new thread.
-fn created(ready: bool, mask: u64) -> Change {
-    Change {
-        phase: Some(if ready { Phase::Ready } else { Phase::Blocked }),
-        mask: Some(mask),
-        ran: 0,
-        level: None,
-    }
-}
-
-/// The thread has this phase, and ran for so many ticks.
-fn phase(phase: Phase, ran: u32) -> Change {
-    Change {
-        phase: Some(phase),
-        mask: None,
-        ran,
-        level: None,
-    }
-}
-
-/// The thread has this mask.
-fn mask(mask: u64) -> Change {
-    Change {
-        phase: None,
-        mask: Some(mask),
-        ran: 0,
-        level: None,
-    }
-}
-
-/// The thread has this level.
-fn level(level: u8) -> Change {
-    Change {
-        phase: None,
-        mask: None,
-        ran: 0,
-        level: Some(level),
-    }
+    reported: Option<Reported>,
 }
 
 impl Known {
-    /// Takes the next message.
-    fn take(&mut self, change: Change) {
+    /// Takes the next message, of this kind.
+    fn take(&mut self, kind: Option<Kind>) {
         self.upto = self.upto.saturating_add(1);
-        if change.phase.is_some() {
-            self.phase = change.phase;
+        if let Some(kind) = kind {
+            self.reported = reported_after(self.reported, kind);
         }
-        if let Some(mask) = change.mask {
-            self.mask = mask;
-        }
-        if let Some(level) = change.level {
-            self.level = level;
-        }
-        self.ran = self.ran.saturating_add(u64::from(change.ran));
     }
 
-    /// The rank of the thread: the least comes first.
-    fn rank(&self, order: OrderName) -> u64 {
-        let below = u64::from(HIGHEST.saturating_sub(self.level));
-        match order {
-            OrderName::Levels => below,
-            OrderName::Fifo => 0,
-            OrderName::LeastRan => self.ran,
-            OrderName::LevelsThenLeastRan => below
-                .saturating_mul(RANKS_A_LEVEL)
-                .saturating_add(self.ran.min(RANKS_A_LEVEL - 1)),
-        }
+    /// The rank of the thread on the CPU: the least comes first.
+    fn rank(&self, order: OrderName, cpu: Cpu, thread: Tid) -> Option<u64> {
+        order.rank(cpu, thread, &self.reported?)
     }
 
     /// Whether the thread waits or runs, and may run on the CPU.
     fn runs_on(&self, cpu: Cpu) -> bool {
-        self.phase == Some(Phase::Ready) && self.mask & bit_of(cpu) != 0
+        match self.reported {
+            Some(reported) => reported.phase == Phase::Ready && reported.mask.allows(cpu),
+            None => false,
+        }
     }
 }
 
-/// What a message of this kind changes.
-fn change_of_kind(kind: &Kind) -> Change {
-    match kind {
-        Kind::Created { ready, mask } => created(*ready, mask.bits()),
-        Kind::Wakeup => phase(Phase::Ready, 0),
-        Kind::Yield { ran } | Kind::Preempted { ran } => phase(Phase::Ready, *ran),
-        Kind::Blocked { ran } => phase(Phase::Blocked, *ran),
-        Kind::Dead { ran } => phase(Phase::Dead, *ran),
-        Kind::Affinity { mask: given } => mask(given.bits()),
-        Kind::Priority { level: given } => level(given.get()),
+/// What a thread's messages report after one more.
+fn reported_after(reported: Option<Reported>, kind: Kind) -> Option<Reported> {
+    match reported {
+        None => Reported::first(kind),
+        Some(before) => match before.ran.checked_add(kind.ran() as u64) {
+            Some(_) => Some(before.apply(kind)),
+            None => Some(before),
+        },
     }
 }
 
-/// What the message changes that a call posts.
-fn change_of_call(call: &EnvCall) -> Change {
+/// The kind of message that a call posts on so many CPUs; none of a tick, and where its mask or level is none.
+fn kind_of(call: &EnvCall, cpus: u8) -> Option<Kind>
+    requires some { 1 ≤ cpus }
+    requires few { cpus ≤ 64 }
+{
     match *call {
-        EnvCall::Create { ready, mask, .. } => created(ready, mask),
-        EnvCall::Wake { .. } => phase(Phase::Ready, 0),
-        EnvCall::YieldNow { ran, .. } | EnvCall::Preempt { ran, .. } => phase(Phase::Ready, ran),
-        EnvCall::Block { ran, .. } => phase(Phase::Blocked, ran),
-        EnvCall::Die { ran, .. } => phase(Phase::Dead, ran),
-        EnvCall::SetAffinity { mask: given, .. } => mask(given),
-        EnvCall::SetPriority { level: given, .. } => level(given),
-        EnvCall::Tick { .. } => NO_CHANGE,
+        EnvCall::Create { ready, mask, .. } => Some(Kind::Created {
+            mask: Mask::new(mask, cpus).ok()?,
+            ready,
+        }),
+        EnvCall::Wake { .. } => Some(Kind::Wakeup),
+        EnvCall::Block { ran, .. } => Some(Kind::Blocked { ran }),
+        EnvCall::YieldNow { ran, .. } => Some(Kind::Yield { ran }),
+        EnvCall::Preempt { ran, .. } => Some(Kind::Preempted { ran }),
+        EnvCall::Die { ran, .. } => Some(Kind::Dead { ran }),
+        EnvCall::SetAffinity { mask, .. } => Some(Kind::Affinity {
+            mask: Mask::new(mask, cpus).ok()?,
+        }),
+        EnvCall::SetPriority { level, .. } => Some(Kind::Priority {
+            level: Level::new(level).ok()?,
+        }),
+        EnvCall::Tick { .. } => None,
     }
 }
 
@@ -290,23 +221,24 @@ impl Ahead<'_> {
         false
     }
 
-    /// What the message changes.
-    fn change_at(&self, thread: Tid, number: u32) -> Change {
+    /// The kind of the message.
+    fn kind_at(&self, thread: Tid, number: u32) -> Option<Kind> {
+        let kernel = self.world.kernel();
         let place = number.saturating_sub(1) as usize;
-        if let Some(kinds) = self.world.kernel().history(thread)
+        if let Some(kinds) = kernel.history(thread)
             && let Some(kind) = kinds.get(place)
         {
-            return change_of_kind(kind);
+            return Some(*kind);
         }
         for step in self.plan.steps() {
             if let Deed::Env(call) = step.deed
                 && step.is_of(thread)
                 && step.number == number
             {
-                return change_of_call(&call);
+                return kind_of(&call, kernel.cpus());
             }
         }
-        NO_CHANGE
+        None
     }
 
     /// What the agent knows of the thread before some step.
@@ -317,32 +249,22 @@ impl Ahead<'_> {
             if !self.knows(cpu, thread, number, before) {
                 break;
             }
-            known.take(self.change_at(thread, number));
+            known.take(self.kind_at(thread, number));
         }
         known
     }
 
     /// What the agent knows of the thread before all steps.
     fn known_at_first(&self, cpu: Cpu, thread: Tid) -> Known {
-        let nothing = Known {
-            upto: 0,
-            phase: None,
-            mask: 0,
-            ran: 0,
-            level: 0,
-        };
-        let Some(view) = self.world.view(cpu) else {
-            return nothing;
-        };
-        match view.reported(thread) {
-            Some(reported) => Known {
+        match self.world.view(cpu) {
+            Some(view) => Known {
                 upto: view.upto(thread),
-                phase: Some(reported.phase),
-                mask: reported.mask.bits(),
-                ran: reported.ran,
-                level: reported.level.get(),
+                reported: view.reported(thread),
             },
-            None => nothing,
+            None => Known {
+                upto: 0,
+                reported: None,
+            },
         }
     }
 
@@ -407,7 +329,7 @@ impl Ahead<'_> {
         if self.policy.exact && known.upto < standing.number {
             return None;
         }
-        Some(known.rank(self.policy.order))
+        known.rank(self.policy.order, cpu, thread)
     }
 
     /// The thread that a refused steal of the CPU's agent tried; none where it is not among the first, or the run list

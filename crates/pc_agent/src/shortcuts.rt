@@ -227,6 +227,16 @@ impl Shortcuts {
         }
     }
 
+    /// The least thread that is wanted.
+    pub(crate) fn first_wanted(&self, view: &View, list: &RunQueue, cpu: Cpu) -> Option<Tid>
+        requires runnable { HoldsAll (runs_in view.now cpu) self.now.runnable }
+        requires passed { IsNoneWantedBelow self.now.passed (runs_in view.now cpu) list.now }
+        ensures finds { Finds (is_wanted (runs_in view.now cpu) list.now) result }
+        ensures short { AreShort (is_wanted (runs_in view.now cpu) list.now) }
+    {
+        next_wanted(view, &self.runnable, list, cpu, self.passed)
+    }
+
     /// The least thread that is wanted, to which all before are passed.
     pub(crate) fn pass_over(&mut self, view: &View, list: &RunQueue, cpu: Cpu) -> Option<Tid>
         requires runnable { HoldsAll (runs_in view.now cpu) self.old.runnable }
@@ -236,7 +246,7 @@ impl Shortcuts {
         ensures kept { (ranks : Ranking) → AreTrue ranks self.old view.now cpu list.now
             → AreTrue ranks self.new view.now cpu list.now }
     {
-        let found = next_wanted(view, &self.runnable, list, cpu, self.passed);
+        let found = self.first_wanted(view, list, cpu);
         self.passed = match found {
             Some(name) => name.index(),
             None => u32::MAX,

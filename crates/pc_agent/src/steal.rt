@@ -10,6 +10,7 @@ ghost use Rattle.pc_agent.specs.Calls.{DoesSteal, GoesOn};
 ghost use Rattle.pc_agent.specs.Own.{StealsAsSeen};
 ghost use Rattle.pc_agent.specs.PlainAgent.{candidates, is_idle, is_wanted, known_in, may_take};
 ghost use Rattle.pc_agent.specs.Running.{Finds, FindsFirst};
+ghost use Rattle.pc_agent.specs.Shows.{cpu_of, rules_in};
 ghost use Rattle.pc_agent.specs.Inner.Exactly.{earlier, exact_by, place_if_idle};
 ghost use Rattle.pc_agent.specs.Inner.Shortcuts.{AreTrue};
 ghost use Rattle.pc_agent.specs.Inner.Wanted.{AreShort, HoldsAll};
@@ -207,6 +208,27 @@ fn take_first(
 }
 
 impl Agent {
+    /// The thread that a steal takes over, and that it has tried where the kernel refuses it; none where there is no
+    /// such thread. It does not look whether a thread runs on its CPU. It takes no memory.
+    pub fn candidate(&self, kernel: &Kernel) -> Option<Tid>
+        ensures { FindsFirst
+            (candidates (rules_in self.now) (seen kernel.now) (known_in self.now.view) (cpu_of self.now) self.now.list)
+            result }
+    {
+        let least = self
+            .shortcuts
+            .first_wanted(&self.view, &self.list, self.cpu);
+        first_candidate(
+            &self.policy,
+            &self.view,
+            &self.shortcuts,
+            &self.list,
+            self.cpu,
+            kernel,
+            least,
+        )
+    }
+
     /// Takes a thread over: one that its view reports ready and allowed on its CPU, that is not in its run list, and
     /// that the kernel knows and has on no CPU; a thread of its own queue too, which is how a restarted agent takes its
     /// threads back. Of these, the one with the least name; where steals are exact, of those of which it knows every

@@ -5,3 +5,4 @@ pub mod AgentCalls
 pub mod Conditions
 pub mod Events
 pub mod Limits
+pub mod Leavings

@@ -8,11 +8,13 @@
 
 mod call;
 mod event;
+mod leaving;
 mod limits;
 mod refusal;
 
 pub use call::{AgentCall, Answer, Call, EnvCall, Posted, Status};
 pub use event::{Event, Reply};
+pub use leaving::{Leaving, Left};
 pub use limits::{
     LimitField, Limits, LimitsFault, MOST_CPUS, MOST_NUMBERS, MOST_POSTS, MOST_ROOM, MOST_THREADS,
     MOST_THREADS_TWO, Profile,

@@ -12,7 +12,7 @@ use Rattle.pc_script.specs.declared.command.Command.{Command}
 use Rattle.pc_script.specs.declared.outcome.Outcome.{Outcome}
 use Rattle.pc_script.specs.declared.outcome.Outcome.TheVariants.{Finished, FaultLine}
 use Rattle.pc_script.specs.declared.response.Response.{Response}
-use Rattle.pc_script.specs.declared.command.PolicyName.{PolicyName}
+use Rattle.pc_policy.specs.declared.named.PolicyName.{PolicyName}
 use Rattle.pc_script.specs.declared.version.Version.{Version}
 use Rattle.pc_script.specs.declared.version.Version.TheVariants.{One, Two, Three}
 use Rattle.pc_session.specs.Session.{Session, IsRun, IsSession, none, one_more}

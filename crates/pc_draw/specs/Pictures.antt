@@ -4,11 +4,11 @@ use Rattle.std.specs.Prelude.{codes, decimal}
 use Rattle.pc_calls.specs.declared.event.Reply.TheVariants as reply
 use Rattle.pc_calls.specs.declared.limits.Profile.{Profile}
 use Rattle.pc_pen.specs.Pictures.{AreMarks, picture_text}
-use Rattle.pc_script.specs.Grammar.{policy_text}
+use Rattle.pc_policy.specs.Names.{policy_text}
 use Rattle.pc_script.specs.Scripts.{IsRunOf}
 use Rattle.pc_script.specs.Text.{lines}
 use Rattle.pc_script.specs.declared.command.Command.{Command}
-use Rattle.pc_script.specs.declared.command.PolicyName.{PolicyName}
+use Rattle.pc_policy.specs.declared.named.PolicyName.{PolicyName}
 use Rattle.pc_script.specs.declared.outcome.Outcome.{Outcome}
 use Rattle.pc_script.specs.declared.outcome.Outcome.TheVariants.{Finished, FaultLine}
 use Rattle.pc_script.specs.declared.response.Response.{Response}

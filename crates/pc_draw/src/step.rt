@@ -8,7 +8,8 @@ use crate::lanes::{Change, MOST_LANES};
 use crate::words::Summary;
 use pc_calls::{AgentCall, EnvCall, Event, Refusal, Reply};
 use pc_messages::{Cpu, Tid};
-use pc_script::{Command, Outcome, PolicyName, Response};
+use pc_policy::PolicyName;
+use pc_script::{Command, Outcome, Response};
 use std::alloc::{AllocError, Global};
 
 /// Why a command was refused.
@@ -180,12 +181,8 @@ pub(crate) fn cpu_of(event: &Event) -> Option<Cpu> {
 fn cpu_of_call(call: &EnvCall) -> Option<Cpu> {
     match call {
         EnvCall::Create { queue, .. } => Some(*queue),
-        EnvCall::Block { cpu, .. }
-        | EnvCall::YieldNow { cpu, .. }
-        | EnvCall::Preempt { cpu, .. }
-        | EnvCall::Die { cpu, .. }
-        | EnvCall::Tick { cpu } => Some(*cpu),
-        EnvCall::Wake { .. } | EnvCall::SetAffinity { .. } | EnvCall::SetPriority { .. } => None,
+        EnvCall::Tick { cpu } => Some(*cpu),
+        _ => Some(call.left()?.cpu),
     }
 }
 

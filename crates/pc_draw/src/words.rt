@@ -5,7 +5,8 @@ ghost use Rattle.pc_draw.specs.Pictures.{fault_text, given_text, script_title};
 
 use crate::part::{Interval, Part};
 use pc_pen::Count;
-use pc_script::{Outcome, PolicyName};
+use pc_policy::PolicyName;
+use pc_script::Outcome;
 use std::fmt;
 
 /// The line that is a fault: `fault line 12`.

@@ -13,7 +13,8 @@ use crate::sentences::Sentences;
 use crate::words::Count;
 use pc_advice::Deed;
 use pc_calls::{Event, Limits, Reply};
-use pc_script::{Command, PolicyName, Response};
+use pc_policy::PolicyName;
+use pc_script::{Command, Response};
 use pc_world::World;
 use std::fmt::{self, Write};
 

@@ -42,6 +42,8 @@ impl Kernel {
     ghost use Rattle.pc_kernel.specs.Queued.{AreQueued};
     ghost use Rattle.pc_kernel.specs.Reads.{seen, status_of, reported_of, history_of, queue_of, aseq_of, aseq_read};
     ghost use Rattle.pc_kernel.specs.Reads.{content_read, is_known, is_cpu, on, is_asleep};
+    ghost use Rattle.pc_kernel.specs.Steps.{refused};
+    ghost use Rattle.pc_calls.specs.AgentCalls.{commits};
 
     /// The kernel at the start, with limits of profile One.
     pub fn new(alloc: Global, limits: Limits) -> Result<Self, LimitsFault>
@@ -197,6 +199,13 @@ impl Kernel {
         self.tables.is_sound();
         let entry = self.tables.cpu(cpu)?;
         Some(entry.queue.as_slices())
+    }
+
+    /// Why a commit of the thread on the CPU would be refused now; none where it would be accepted. It takes no memory.
+    pub fn commit_refusal(&self, cpu: Cpu, thread: Tid, aseq: u32) -> Option<Refusal>
+        ensures { result ≡ refused (seen self.now) (commits cpu thread aseq) }
+    {
+        self.tables.commit_fault(cpu, thread, aseq)
     }
 
     /// The thread that runs on the CPU.

@@ -8,7 +8,7 @@ use Rattle.pc_policy.specs.Rules.{Rules, rules_of}
 use Rattle.pc_policy.specs.declared.agent_policy.AgentPolicy.{AgentPolicy}
 use Rattle.pc_load.specs.Loads.{Demand}
 use Rattle.pc_script.specs.Grammar.{AreInRange, event_row}
-use Rattle.pc_script.specs.declared.command.PolicyName.{PolicyName}
+use Rattle.pc_policy.specs.declared.named.PolicyName.{PolicyName}
 use Rattle.pc_world.specs.PlainWorld.{opened_by, rules_at}
 use Rattle.pc_world.specs.Shows.{Does, ShowsWorld, World}
 use Rattle.pc_world.specs.Steps.{Step}
@@ -21,7 +21,8 @@ use Rattle.pc_lab.specs.Creations.{Creation, creation_at, creation_in, creations
 use Rattle.pc_lab.specs.Limits.{limits_for}
 use Rattle.pc_lab.specs.Moments.{IsNoAnswer, IsNoCommit, IsPlayable, IsWritten, Leads, Moment, last_tick}
 use Rattle.pc_lab.specs.Moments as moments
-use Rattle.pc_lab.specs.Stages.{AreAll, Holds, IsRun, MayCome, Tells, rules_named, text_in}
+use Rattle.pc_lab.specs.Stages.{Holds, IsRun, MayCome, Tells, text_in}
+use Rattle.pc_policy.specs.Names.{AreAll, rules_named}
 use Rattle.pc_lab.specs.Texts.{body_text, moment_text}
 use Rattle.pc_lab.proofs.Comings.{first_on, many_on}
 use Rattle.pc_lab.proofs.Counting as counting

@@ -1,23 +1,13 @@
 -- What stands before the events of a script.
-use Rattle.std.specs.Prelude.{ℕ, Bool, true, false, not, ◌&&◌, if◌then◌else◌, List, ◌++◌, codes}
+use Rattle.std.specs.Prelude.{ℕ, if◌then◌else◌, List, ◌++◌, codes}
 use Rattle.pc_calls.specs.declared.limits.Limits.{Limits}
 use Rattle.pc_load.specs.Variants.{variant_text}
 use Rattle.pc_load.specs.declared.variant.Variant.{Variant}
 use Rattle.pc_script.specs.Grammar.{command_text}
 use Rattle.pc_script.specs.declared.command.Command.{Command}
 use Rattle.pc_script.specs.declared.command.Command.TheVariants.{Enclave, Policy}
-use Rattle.pc_script.specs.declared.command.OrderName.{OrderName}
-use Rattle.pc_script.specs.declared.command.OrderName.TheVariants.{Levels}
-use Rattle.pc_script.specs.declared.command.PolicyName.{PolicyName}
-
--- it is the order of levels
-abbrev pub is_levels : OrderName → Bool
-is_levels Levels = true
-is_levels other = false
-
--- agents go by it where no policy is given
-abbrev pub is_usual : PolicyName → Bool
-is_usual policy = is_levels policy.order && not policy.exact
+use Rattle.pc_policy.specs.Names.{is_usual}
+use Rattle.pc_policy.specs.declared.named.PolicyName.{PolicyName}
 
 -- a command, on a line
 abbrev pub command_line : Command → List ℕ

@@ -3,7 +3,7 @@ use Rattle.std.specs.Prelude.{◌≡◌, ℕ, ◌<◌, ◌≤◌, Bool, List, No
 use Rattle.pc_kernel.specs.Reads.{shown}
 use Rattle.pc_load.specs.Loads.{Demand}
 use Rattle.pc_policy.specs.Rules.{Rules}
-use Rattle.pc_script.specs.declared.command.PolicyName.{PolicyName}
+use Rattle.pc_policy.specs.declared.named.PolicyName.{PolicyName}
 use Rattle.pc_world.specs.PlainWorld.{PlainWorld, opened_by}
 use Rattle.pc_lab.specs.declared.counted.Counted.{Counted}
 use Rattle.pc_lab.specs.declared.counted.Counted.TheVariants.{Commit}
@@ -14,7 +14,8 @@ use Rattle.pc_lab.specs.Counting.{count_of, counted_in}
 use Rattle.pc_lab.specs.Creations.{AreFirst, creations, creations_of}
 use Rattle.pc_lab.specs.Limits.{limits_for}
 use Rattle.pc_lab.specs.Moments.{IsNoAnswer, IsNoCommit, IsWritten, Leads, Moment, last_tick}
-use Rattle.pc_lab.specs.Stages.{Holds, rules_named}
+use Rattle.pc_lab.specs.Stages.{Holds}
+use Rattle.pc_policy.specs.Names.{rules_named}
 use Rattle.pc_lab.specs.Times.{IsWhole}
 use Rattle.pc_lab.specs.Waiting.{ended_waits, unended_waits}
 

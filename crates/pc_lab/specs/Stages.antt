@@ -2,12 +2,9 @@
 use Rattle.std.specs.Prelude.{◌≡◌, ℕ, ◌<◌, List, [], ◌++◌, Option, Some, None, All, if◌then◌else◌, length, slice_get}
 use Rattle.pc_calls.specs.declared.event.Event.{Event}
 use Rattle.pc_load.specs.Loads.{Demand}
-use Rattle.pc_policy.specs.Rankings.{Ranking, all_alike, by_levels, least_ran, levels_then_least_ran}
-use Rattle.pc_policy.specs.Rules.{Rules, rules_of}
-use Rattle.pc_policy.specs.declared.agent_policy.AgentPolicy.{AgentPolicy}
-use Rattle.pc_script.specs.declared.command.OrderName.{OrderName}
-use Rattle.pc_script.specs.declared.command.OrderName.TheVariants.{Levels, Fifo, LeastRan, LevelsThenLeastRan}
-use Rattle.pc_script.specs.declared.command.PolicyName.{PolicyName}
+use Rattle.pc_policy.specs.Names.{rules_named}
+use Rattle.pc_policy.specs.Rules.{Rules}
+use Rattle.pc_policy.specs.declared.named.PolicyName.{PolicyName}
 use Rattle.pc_world.specs.PlainWorld.{PlainWorld, opened_by}
 use Rattle.pc_world.specs.Shows.{ShowsWorld, World}
 use Rattle.pc_lab.specs.declared.chronicle.Chronicle.{Chronicle}
@@ -23,17 +20,6 @@ use Rattle.pc_lab.specs.Moments.{IsNoAnswer, IsNoCommit, IsWritten, Leads, Momen
 use Rattle.pc_lab.specs.declared.waits.Wait.{Wait}
 use Rattle.pc_lab.specs.declared.waits.Waiter.{Waiter}
 use Rattle.pc_lab.specs.Texts.{body_text, event_line, is_told, tick_line}
-
--- the ranking of an order
-abbrev pub ranks_named : OrderName → Ranking
-ranks_named Levels = by_levels
-ranks_named Fifo = all_alike
-ranks_named LeastRan = least_ran
-ranks_named LevelsThenLeastRan = levels_then_least_ran
-
--- the rules of a policy
-abbrev pub rules_named : PolicyName → Rules
-rules_named policy = record { ranks = ranks_named policy.order; exact = policy.exact }
 
 -- a chronicle gains the lines of an event at a tick, behind a tick that was told last
 abbrev pub Tells : Option ℕ → ℕ → Event → Chronicle → Chronicle → Type 0
@@ -81,11 +67,6 @@ pub record IsRun (load : Demand) (policy : PolicyName) (before : List ℕ) (worl
   pub ended : length waits ≡ count_of Commit moments
   pub are_told : waits ≡ ended_waits load moments
   pub behind : AreBehind load moments waiters
-
--- so many policies, each with these rules
-pub record AreAll (rules : Rules) (count : ℕ) (policies : List AgentPolicy) : Type 0 where
-  pub many : length policies ≡ count
-  pub each : All (λ policy. rules_of policy ≡ rules) policies
 
 -- the text of a chronicle
 abbrev pub text_in : Chronicle → List ℕ

@@ -3,7 +3,7 @@
 use crate::ends::Ends;
 use crate::fault::LabFault;
 use crate::times::{lowest_of, word_of};
-use pc_messages::Cpu;
+use pc_messages::{Cpu, Tid};
 use std::alloc::Global;
 use std::cmp::Reverse;
 use std::collections::BinaryHeap;
@@ -11,13 +11,16 @@ use std::collections::BinaryHeap;
 /// What is due, in the order in which the things of a tick are done.
 #[derive(Clone, Copy, Debug, PartialEq, Eq, PartialOrd, Ord)]
 pub(crate) enum What {
-    StepEnds,
-    Waking,
-    Creation,
-    TurnBegins,
-    TurnEnds,
-    Steal,
-    Delta,
+    /// A step, or a quantum.
+    StepEnds(Cpu),
+    Waking(Tid),
+    /// The thread with this place of the load.
+    Creation(usize),
+    TurnBegins(Cpu),
+    TurnEnds(Cpu),
+    Steal(Cpu),
+    /// The delta with this place can be taken in.
+    Delta(usize),
 }
 
 /// A due thing: the least is done first.
@@ -25,15 +28,13 @@ pub(crate) enum What {
 pub(crate) struct Due {
     pub tick: u64,
     pub what: What,
-    /// The CPU, the thread, or the index of the delta.
-    pub number: u64,
 }
 
 /// A thread wakes: who wakes first is the least.
 #[derive(Clone, Copy, Debug, PartialEq, Eq, PartialOrd, Ord)]
 struct Waking {
     tick: u64,
-    thread: u64,
+    thread: Tid,
 }
 
 /// The due things but creations and deltas, which are due in the order in which they come up.
@@ -93,7 +94,7 @@ impl Agenda {
     }
 
     /// A thread wakes at a tick.
-    pub(crate) fn put_waking(&mut self, thread: u64, tick: u64) -> Result<(), LabFault> {
+    pub(crate) fn put_waking(&mut self, thread: Tid, tick: u64) -> Result<(), LabFault> {
         self.wakings.push(Reverse(Waking { tick, thread }))?;
         Ok(())
     }
@@ -115,8 +116,7 @@ impl Agenda {
         match self.wakings.peek() {
             Some(waking) => Some(Due {
                 tick: waking.0.tick,
-                what: What::Waking,
-                number: waking.0.thread,
+                what: What::Waking(waking.0.thread),
             }),
             None => None,
         }
@@ -124,19 +124,14 @@ impl Agenda {
 
     /// The first of the things of now, which is this tick.
     fn first_now(&self, tick: u64) -> Option<Due> {
-        let (what, cpus) = if self.begins != 0 {
-            (What::TurnBegins, self.begins)
+        let what = if self.begins != 0 {
+            What::TurnBegins(lowest_of(self.begins))
+        } else if self.steals != 0 {
+            What::Steal(lowest_of(self.steals))
         } else {
-            (What::Steal, self.steals)
-        };
-        if cpus == 0 {
             return None;
-        }
-        Some(Due {
-            tick,
-            what,
-            number: lowest_of(cpus).index() as u64,
-        })
+        };
+        Some(Due { tick, what })
     }
 
     /// The first thing, where it is this tick.
@@ -147,16 +142,16 @@ impl Agenda {
         )
     }
 
-    /// Takes the first thing out, which is of this kind.
+    /// Takes the first thing out, which is this.
     pub(crate) fn take_first(&mut self, what: What) {
         match what {
-            What::StepEnds | What::TurnEnds => self.ends.take_first(),
-            What::Waking => {
+            What::StepEnds(_) | What::TurnEnds(_) => self.ends.take_first(),
+            What::Waking(_) => {
                 let _ = self.wakings.pop();
             }
-            What::TurnBegins => self.begins &= self.begins.wrapping_sub(1),
-            What::Steal => self.steals &= self.steals.wrapping_sub(1),
-            What::Creation | What::Delta => {}
+            What::TurnBegins(_) => self.begins &= self.begins.wrapping_sub(1),
+            What::Steal(_) => self.steals &= self.steals.wrapping_sub(1),
+            What::Creation(_) | What::Delta(_) => {}
         }
     }
 }

@@ -163,14 +163,14 @@ impl Ends {
         if end.tick == u64::MAX {
             return None;
         }
+        let cpu = Cpu(place);
         Some(Due {
             tick: end.tick,
             what: if end.is_turn {
-                What::TurnEnds
+                What::TurnEnds(cpu)
             } else {
-                What::StepEnds
+                What::StepEnds(cpu)
             },
-            number: place as u64,
         })
     }
 

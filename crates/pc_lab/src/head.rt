@@ -2,33 +2,17 @@
 
 ghost use Rattle.std.specs.Prelude.{◌≡◌, ◌++◌, codes, IfOk, OnOk};
 ghost use Rattle.pc_load.specs.Variants.{variant_text};
-ghost use Rattle.pc_lab.specs.Heads.{command_line, head_text, is_levels, is_usual, opening_text};
+ghost use Rattle.pc_lab.specs.Heads.{command_line, head_text, opening_text};
 ghost use Rattle.pc_lab.specs.Limits.{limits_for};
 
 use crate::fault::LabFault;
 use crate::player::limits_of;
 use pc_calls::Limits;
 use pc_load::{Load, Variant};
-use pc_script::{Command, OrderName, PolicyName};
+use pc_policy::PolicyName;
+use pc_script::Command;
 use std::alloc::Global;
 use std::io::Write;
-
-/// Whether it is the order of levels.
-fn is_levels(order: OrderName) -> bool
-    ensures { result ≡ is_levels order }
-{
-    match order {
-        OrderName::Levels => true,
-        OrderName::Fifo | OrderName::LeastRan | OrderName::LevelsThenLeastRan => false,
-    }
-}
-
-/// Whether agents go by it where no policy is given.
-fn is_usual(policy: PolicyName) -> bool
-    ensures { result ≡ is_usual policy }
-{
-    is_levels(policy.order) && !policy.exact
-}
 
 /// Adds the comment that tells a variant.
 fn write_comment(text: &mut Vec<u8>, variant: &Variant) -> Result<(), LabFault>
@@ -65,7 +49,7 @@ fn write_opening(text: &mut Vec<u8>, limits: Limits, policy: PolicyName) -> Resu
     ensures { OnOk result (text.new.items ≡ text.old.items ++ opening_text limits policy) }
 {
     let enclave = Command::Enclave(limits);
-    if is_usual(policy) {
+    if policy.is_usual() {
         return write_command(text, &enclave);
     }
     let policy = Command::Policy(policy);

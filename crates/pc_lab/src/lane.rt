@@ -1,6 +1,6 @@
 //! How far CPUs and threads are.
 
-use pc_load::{Leaving, Step};
+use pc_calls::Leaving;
 use pc_messages::{Cpu, Tid};
 
 /// How far a CPU's run and its agent's turn are.
@@ -68,39 +68,4 @@ pub(crate) struct News {
     /// Its index.
     pub delta: u32,
     pub sender: Cpu,
-}
-
-/// Whether two steps can be joined.
-fn fit(ticks: u32, more: u32) -> bool {
-    match ticks.checked_add(more) {
-        Some(_) => true,
-        None => false,
-    }
-}
-
-/// Whether the step with this place, at which a thread has run for so many ticks, goes over into the one behind it: it
-/// is a recorded preempt, and the sum is a u32.
-fn goes_over(steps: &[Step], place: usize, ticks: u32) -> bool {
-    match (steps.get(place), steps.get(place.saturating_add(1))) {
-        (Some(step), Some(next)) => step.leaving == Leaving::Preempt && fit(ticks, next.ticks),
-        _ => false,
-    }
-}
-
-/// The step that begins at this place, and the place behind it. Recorded preempts are joined with what follows, unless
-/// they are kept.
-pub(crate) fn joined(steps: &[Step], place: usize, keep: bool) -> Option<(Step, usize)> {
-    let mut ticks: u32 = 0;
-    for place in place..steps.len() {
-        let step = steps[place];
-        ticks = ticks.saturating_add(step.ticks);
-        if keep || !goes_over(steps, place, ticks) {
-            let whole = Step {
-                leaving: step.leaving,
-                ticks,
-            };
-            return Some((whole, place.saturating_add(1)));
-        }
-    }
-    None
 }

@@ -16,7 +16,6 @@ mod head;
 mod lane;
 mod laws;
 mod player;
-mod policies;
 mod ranges;
 mod run;
 mod stage;

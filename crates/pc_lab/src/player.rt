@@ -13,7 +13,7 @@ use crate::stage::{Setting, Stage};
 use crate::summary::{Ending, Played};
 use pc_calls::{Limits, MOST_NUMBERS, MOST_POSTS, MOST_ROOM};
 use pc_load::{Load, Variant};
-use pc_messages::{Cpu, Tid};
+use pc_messages::Cpu;
 use std::alloc::Global;
 use std::marker::Brand;
 
@@ -31,30 +31,6 @@ pub fn limits_of(load: &Load) -> Limits
     }
 }
 
-/// The CPU with a number.
-fn cpu_of(number: u64) -> Cpu {
-    match u8::try_from(number) {
-        Ok(number) => Cpu(number),
-        Err(_) => Cpu(u8::MAX),
-    }
-}
-
-/// The thread with a number.
-fn thread_of(number: u64) -> Tid {
-    match u32::try_from(number) {
-        Ok(number) => Tid(number),
-        Err(_) => Tid(u32::MAX),
-    }
-}
-
-/// The place with a number.
-fn place_of(number: u64) -> usize {
-    match usize::try_from(number) {
-        Ok(number) => number,
-        Err(_) => usize::MAX,
-    }
-}
-
 impl<K: Setting> Run<K> {
     /// The next creation.
     pub(crate) fn next_creation(&self, load: &Load) -> Option<Due> {
@@ -62,8 +38,7 @@ impl<K: Setting> Run<K> {
         let plan = load.threads().get(place)?;
         Some(Due {
             tick: plan.start as u64,
-            what: What::Creation,
-            number: place as u64,
+            what: What::Creation(place),
         })
     }
 
@@ -72,8 +47,7 @@ impl<K: Setting> Run<K> {
         let delta = self.deltas.get(self.told)?;
         Some(Due {
             tick: delta.due,
-            what: What::Delta,
-            number: self.told as u64,
+            what: What::Delta(self.told),
         })
     }
 
@@ -82,7 +56,7 @@ impl<K: Setting> Run<K> {
         let others = first_of(self.next_creation(load), self.next_delta());
         let due = first_of(self.agenda.first(self.stage.tick()), others)?;
         match due.what {
-            What::Delta => self.told = self.told.saturating_add(1),
+            What::Delta(_) => self.told = self.told.saturating_add(1),
             what => self.agenda.take_first(what),
         }
         Some(due)
@@ -92,15 +66,14 @@ impl<K: Setting> Run<K> {
     fn do_due(&mut self, load: &Load, due: &Due) -> Result<(), Stop>
         requires { load.now ≡ K.load }
     {
-        let number = due.number;
         match due.what {
-            What::StepEnds => self.end_step(load, cpu_of(number))?,
-            What::Waking => self.wake(thread_of(number))?,
-            What::Creation => self.create(load, place_of(number))?,
-            What::TurnBegins => self.turn_begins(cpu_of(number))?,
-            What::TurnEnds => self.turn_ends(cpu_of(number))?,
-            What::Steal => self.steal(cpu_of(number))?,
-            What::Delta => self.report(place_of(number))?,
+            What::StepEnds(cpu) => self.end_step(load, cpu)?,
+            What::Waking(thread) => self.wake(thread)?,
+            What::Creation(place) => self.create(load, place)?,
+            What::TurnBegins(cpu) => self.turn_begins(cpu)?,
+            What::TurnEnds(cpu) => self.turn_ends(cpu)?,
+            What::Steal(cpu) => self.steal(cpu)?,
+            What::Delta(place) => self.report(place)?,
         }
         Ok(())
     }

@@ -13,7 +13,7 @@ use pc_calls::{Event, Posted, Refusal, Reply};
 use pc_kernel::Kernel;
 use pc_load::Variant;
 use pc_messages::{Cpu, Tid};
-use pc_script::OrderName;
+use pc_policy::OrderName;
 use std::alloc::{AllocError, AllocFailed, Global};
 
 /// Why a run goes no further.

@@ -12,7 +12,6 @@ use crate::chronicle::Chronicle;
 use crate::counted::{Tally, one_more};
 use crate::fault::LabFault;
 use crate::player::limits_of;
-use crate::policies::policies_of;
 use crate::ranges::is_in_range;
 use crate::summary::{Ending, Played, Summary};
 use crate::times::Times;
@@ -20,7 +19,7 @@ use crate::waits::Waits;
 use pc_calls::{EnvCall, Event, Posted, Profile, Refusal, Reply};
 use pc_load::Load;
 use pc_messages::{Cpu, Tid};
-use pc_script::PolicyName;
+use pc_policy::{AgentPolicy, PolicyName};
 use pc_world::World;
 use std::alloc::Global;
 use std::marker::{Brand, Model, PhantomData};
@@ -30,7 +29,7 @@ use std::marker::{Brand, Model, PhantomData};
 pub(crate) trait Setting {
     ghost use Rattle.std.specs.Prelude.{ℕ, Bool, List};
     ghost use Rattle.pc_load.specs.Loads.{Demand};
-    ghost use Rattle.pc_script.specs.declared.command.PolicyName.{PolicyName};
+    ghost use Rattle.pc_policy.specs.declared.named.PolicyName.{PolicyName};
 
     ghost load: { Demand };
 
@@ -44,7 +43,7 @@ pub(crate) trait Setting {
 impl Setting for Brand {
     ghost use Rattle.std.specs.Prelude.{pos, false, []};
     ghost use Rattle.pc_load.specs.Loads.{demand};
-    ghost use Rattle.pc_script.specs.declared.command.OrderName.TheVariants.{Levels};
+    ghost use Rattle.pc_policy.specs.declared.named.OrderName.TheVariants.{Levels};
 
     ghost load = { demand (pos 1) (pos 0) [] };
 
@@ -138,7 +137,7 @@ impl<K: Setting> Stage<K> {
         requires before { Holds K.before chronicle [] }
     {
         let limits = limits_of(load);
-        let policies = policies_of(alloc, policy, limits.cpus)?;
+        let policies = AgentPolicy::for_each(alloc, policy, limits.cpus)?;
         let times = Times::new(alloc, limits.cpus)?;
         let world = match World::new_by(alloc, Profile::One, limits, policies.as_slice()) {
             Ok(world) => world,

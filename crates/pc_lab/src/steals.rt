@@ -7,7 +7,6 @@ use crate::stage::Setting;
 use crate::times::{has, word_of};
 use pc_calls::{Event, Posted, Refusal, Reply};
 use pc_messages::{Cpu, Tid};
-use pc_run_queue::runs_on;
 
 impl<K: Setting> Run<K> {
     /// The delta at this place of the list of a group.
@@ -59,27 +58,12 @@ impl<K: Setting> Run<K> {
         Ok(())
     }
 
-    /// The thread that a steal tried by the least name.
-    fn tried(&self, cpu: Cpu) -> Option<Tid> {
-        let agent = self.stage.world().agent(cpu)?;
-        for (thread, _) in agent.view().iter() {
-            let is_free = match self.kernel().status(thread) {
-                Some(status) => status.running_on.is_none(),
-                None => false,
-            };
-            if is_free
-                && runs_on(agent.view(), cpu, thread)
-                && !agent.run_list().contains(&thread)
-            {
-                return Some(thread);
-            }
-        }
-        None
-    }
-
     /// A steal was refused as late.
     fn note_late(&mut self, cpu: Cpu) {
-        let Some(thread) = self.tried(cpu) else {
+        let Some(agent) = self.stage.world().agent(cpu) else {
+            return;
+        };
+        let Some(thread) = agent.candidate(self.kernel()) else {
             return;
         };
         if let Some(asked) = self.refused_at.get_mut(thread.index() as usize) {

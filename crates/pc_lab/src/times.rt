@@ -8,7 +8,7 @@ ghost use Rattle.pc_lab.specs.Times.{IsKept, IsWhole};
 ghost use Rattle.pc_lab.specs.declared.times.Account.{Account};
 
 use crate::fault::LabFault;
-use pc_calls::{AgentCall, EnvCall, Event};
+use pc_calls::Event;
 use pc_kernel::Kernel;
 use pc_messages::Cpu;
 use std::alloc::Global;
@@ -145,19 +145,6 @@ fn new_accounts(alloc: Global, cpus: u8) -> Result<Vec<Account>, LabFault>
     Ok(accounts)
 }
 
-/// The CPU on which another thread, or none, may run behind the event.
-fn cpu_of(event: &Event) -> Option<Cpu> {
-    match *event {
-        Event::Pick { cpu, .. } => Some(cpu),
-        Event::Agent(AgentCall::Commit { cpu, .. }) => Some(cpu),
-        Event::Env(EnvCall::Block { cpu, .. }) => Some(cpu),
-        Event::Env(EnvCall::YieldNow { cpu, .. }) => Some(cpu),
-        Event::Env(EnvCall::Preempt { cpu, .. }) => Some(cpu),
-        Event::Env(EnvCall::Die { cpu, .. }) => Some(cpu),
-        _ => None,
-    }
-}
-
 impl Times {
     /// No time has gone by on so many CPUs, on which nothing is done.
     pub(crate) fn new(alloc: Global, cpus: u8) -> Result<Times, LabFault>
@@ -221,7 +208,7 @@ impl Times {
         ensures kept { All (IsKept now) self.new.accounts.items }
         ensures many { length self.new.accounts.items ≡ length self.old.accounts.items }
     {
-        if let Some(cpu) = cpu_of(event) {
+        if let Some(cpu) = event.changed_cpu() {
             self.settle(kernel, cpu, now);
         }
     }

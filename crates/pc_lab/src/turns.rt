@@ -6,14 +6,14 @@ ghost use Rattle.pc_lab.specs.Moments.{IsPlayable};
 
 use crate::due::first_of;
 use crate::fault::LabFault;
-use crate::lane::{Life, News, SentDelta, joined};
+use crate::lane::{Life, News, SentDelta};
 use crate::run::{Run, Stop};
 use crate::stage::Setting;
 use crate::times::word_of;
-use pc_calls::{AgentCall, EnvCall, Event, Posted, Refusal, Reply};
-use pc_load::{Leaving, Load};
-use pc_messages::{Cpu, Phase, Tid};
-use pc_script::OrderName;
+use pc_calls::{AgentCall, EnvCall, Event, Leaving, Left, Posted, Refusal, Reply};
+use pc_load::Load;
+use pc_messages::{Cpu, Tid};
+use pc_policy::Policy;
 
 /// The ticks of a run, as a call of the environment takes them: no step has more.
 fn ticks_of(ran: u64) -> u32 {
@@ -35,12 +35,7 @@ fn thread_at(place: usize) -> Tid {
 fn leaving_by(leaving: Leaving, cpu: Cpu, ran: u32) -> EnvCall
     ensures { CreatesNone (Event.Env result) × IsPlayable (Event.Env result) }
 {
-    match leaving {
-        Leaving::Yield => EnvCall::YieldNow { cpu, ran },
-        Leaving::Block => EnvCall::Block { cpu, ran },
-        Leaving::Preempt => EnvCall::Preempt { cpu, ran },
-        Leaving::Die => EnvCall::Die { cpu, ran },
-    }
+    Left { cpu, leaving, ran }.call()
 }
 
 impl<K: Setting> Run<K> {
@@ -120,17 +115,11 @@ impl<K: Setting> Run<K> {
     /// Whether the kernel would accept a commit of the thread on the CPU, were it idle.
     fn can_be_committed(&self, cpu: Cpu, thread: Tid) -> bool {
         let kernel = self.kernel();
-        let Some(state) = kernel.reported(thread) else {
-            return false;
-        };
-        let is_free = match kernel.status(thread) {
-            Some(status) => status.running_on.is_none(),
-            None => false,
-        };
-        is_free
-            && state.phase == Phase::Ready
-            && state.mask.allows(cpu)
-            && kernel.queue_of(thread) == Some(cpu)
+        let aseq = kernel.aseq(cpu).unwrap_or(0);
+        matches!(
+            kernel.commit_refusal(cpu, thread, aseq),
+            None | Some(Refusal::Busy)
+        )
     }
 
     /// The first of the CPU's run list that can be committed.
@@ -144,19 +133,11 @@ impl<K: Setting> Run<K> {
         None
     }
 
-    /// The rank of a thread that ran for so many ticks more than the kernel knows: the least stands first.
-    fn rank(&self, thread: Tid, more: u64) -> (u8, u64) {
-        let Some(state) = self.kernel().reported(thread) else {
-            return (0, 0);
-        };
-        let below = 7u8.saturating_sub(state.level.get());
-        let ran = state.ran.saturating_add(more);
-        match self.numbers.order {
-            OrderName::Levels => (below, 0),
-            OrderName::Fifo => (0, 0),
-            OrderName::LeastRan => (0, ran),
-            OrderName::LevelsThenLeastRan => (below, ran),
-        }
+    /// The rank on a CPU of a thread that ran for so many ticks more than the kernel knows.
+    fn rank(&self, cpu: Cpu, thread: Tid, more: u64) -> Option<u64> {
+        let mut reported = self.kernel().reported(thread)?;
+        reported.ran = reported.ran.saturating_add(more);
+        self.numbers.order.rank(cpu, thread, &reported)
     }
 
     /// Preempts the thread that runs on the CPU, unless it stands before the first that could run; or only where that
@@ -169,8 +150,8 @@ impl<K: Setting> Run<K> {
             return Ok(false);
         };
         let ran = self.lane(cpu).ran;
-        let its = self.rank(thread, ran);
-        let other = self.rank(first, 0);
+        let its = self.rank(cpu, thread, ran);
+        let other = self.rank(cpu, first, 0);
         if !(other < its) && (only_before || its < other) {
             return Ok(false);
         }
@@ -189,7 +170,7 @@ impl<K: Setting> Run<K> {
         let (Some(plan), Some(life)) = (load.threads().get(place), self.lives.get_mut(place)) else {
             return;
         };
-        if let Some((step, next)) = joined(plan.steps.as_slice(), life.next, keep) {
+        if let Some((step, next)) = plan.step_at(life.next, keep) {
             life.next = next;
             life.leaving = step.leaving;
             life.left = step.ticks as u64;
@@ -208,7 +189,7 @@ impl<K: Setting> Run<K> {
         };
         life.blocks = life.blocks.saturating_add(1);
         let tick = self.tick_in(ticks);
-        self.agenda.put_waking(thread.index() as u64, tick)
+        self.agenda.put_waking(thread, tick)
     }
 
     /// The thread that runs on the CPU leaves it, as its step says.
@@ -238,12 +219,16 @@ impl<K: Setting> Run<K> {
         let Some(first) = self.first(cpu) else {
             return u64::MAX;
         };
-        let (level, ran) = self.rank(thread, self.lane(cpu).ran);
-        let (other_level, other_ran) = self.rank(first, 0);
-        if level < other_level {
-            u64::MAX
-        } else {
-            other_ran.saturating_sub(ran)
+        let ran = self.lane(cpu).ran;
+        let (own, later) = (
+            self.rank(cpu, thread, ran),
+            self.rank(cpu, thread, ran.saturating_add(1)),
+        );
+        match (own, later, self.rank(cpu, first, 0)) {
+            // What it runs does not bring it nearer.
+            (Some(own), Some(later), Some(other)) if own < other && later == own => u64::MAX,
+            (Some(own), _, Some(other)) => other.saturating_sub(own),
+            _ => 0,
         }
     }
 
@@ -295,7 +280,7 @@ impl<K: Setting> Run<K> {
         let Some(plan) = load.threads().get(place) else {
             return Ok(());
         };
-        let Some((step, next)) = joined(plan.steps.as_slice(), 0, self.numbers.keep) else {
+        let Some((step, next)) = plan.step_at(0, self.numbers.keep) else {
             return Ok(());
         };
         self.lives.push(Life {

@@ -11,9 +11,9 @@ abbrev pub HasRoom : ℕ → List Step → Type 0
 HasRoom more [] = Unit {0}
 HasRoom more (step ∷ steps) = more + step.ticks < 2 ^ 32
 
--- these are done, and the steps from a place on are left, of which the first gets more ticks
-pub record Joined (steps : List Step) (place : ℕ) (done : List Step) (more : ℕ) : Type 0 where
-  pub whole : joined_with 0 steps ≡ done ++ joined_with more (drop place steps)
+-- of the steps from a place on, those from a further place on are left, of which the first gets more ticks
+pub record Joined (steps : List Step) (from place more : ℕ) : Type 0 where
+  pub whole : joined_with 0 (drop from steps) ≡ joined_with more (drop place steps)
   pub room : (more ≡ 0) ⊎ HasRoom more (drop place steps)
 
 -- the step at a place, and those behind it
@@ -35,29 +35,25 @@ joined_on more step rest h = rw h refl
 kept_on : (more : ℕ) (step : Step) (rest : List Step) → is_joined more step rest ≡ false → joined_with more (step ∷ rest) ≡ with_more more step ∷ joined_with 0 rest
 kept_on more step rest h = rw h refl
 
-pub joins : (steps : List Step) (place : ℕ) (done : List Step) (more : ℕ) (step : Step) → Joined steps place done more
+pub joins : (steps : List Step) (from place more : ℕ) (step : Step) → Joined steps from place more
     → drop place steps ≡ step ∷ drop (place + 1) steps → is_joined more step (drop (place + 1) steps) ≡ true
-    → Joined steps (place + 1) done (more + step.ticks)
-joins steps place done more step h split joined =
+    → Joined steps from (place + 1) (more + step.ticks)
+joins steps from place more step h split joined =
     record {
-      whole = h.whole ∙ ap (λ xs. done ++ joined_with more xs) split ∙ ap (λ xs. done ++ xs) (joined_on more step (drop (place + 1) steps) joined);
+      whole = h.whole ∙ ap (joined_with more) split ∙ joined_on more step (drop (place + 1) steps) joined;
       room = inr (joined_room more step (drop (place + 1) steps) joined);
     }
 
-pub keeps : (steps : List Step) (place : ℕ) (done : List Step) (more : ℕ) (step : Step) → Joined steps place done more
+pub keeps : (steps : List Step) (from place more : ℕ) (step : Step) → Joined steps from place more
     → drop place steps ≡ step ∷ drop (place + 1) steps → is_joined more step (drop (place + 1) steps) ≡ false
-    → Joined steps (place + 1) (done ++ with_more more step ∷ []) 0
-keeps steps place done more step h split kept =
-    record {
-      whole = h.whole ∙ ap (λ xs. done ++ joined_with more xs) split ∙ ap (λ xs. done ++ xs) (kept_on more step (drop (place + 1) steps) kept)
-          ∙ sym (append_assoc done (with_more more step ∷ []) (joined_with 0 (drop (place + 1) steps)));
-      room = inl refl;
-    }
+    → joined_with 0 (drop from steps) ≡ with_more more step ∷ joined_with 0 (drop (place + 1) steps)
+keeps steps from place more step h split kept =
+    h.whole ∙ ap (joined_with more) split ∙ kept_on more step (drop (place + 1) steps) kept
 
 room_at : (more : ℕ) (step : Step) (rest those : List Step) → those ≡ step ∷ rest → (more ≡ 0) ⊎ HasRoom more those → (more ≡ 0) ⊎ (more + step.ticks < 2 ^ 32)
 room_at more step rest those split (inl none) = inl none
 room_at more step rest those split (inr room) = inr (subst (HasRoom more) split room)
 
-pub room_for : (steps : List Step) (place : ℕ) (done : List Step) (more : ℕ) (step : Step) → Joined steps place done more
+pub room_for : (steps : List Step) (from place more : ℕ) (step : Step) → Joined steps from place more
     → drop place steps ≡ step ∷ drop (place + 1) steps → (more ≡ 0) ⊎ (more + step.ticks < 2 ^ 32)
-room_for steps place done more step h split = room_at more step (drop (place + 1) steps) (drop place steps) split h.room
+room_for steps from place more step h split = room_at more step (drop (place + 1) steps) (drop place steps) split h.room

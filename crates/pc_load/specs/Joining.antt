@@ -1,7 +1,7 @@
 -- The steps of a thread's own doing: a recorded preempt was its scheduler's, and goes with the step behind it.
 use Rattle.std.specs.Prelude.{ℕ, ◌+◌, ◌^◌, Bool, true, false, ◌&&◌, nat_lt, if◌then◌else◌, List, [], ◌∷◌}
-use Rattle.pc_load.specs.declared.load.Leaving.{Leaving}
-use Rattle.pc_load.specs.declared.load.Leaving.TheVariants.{Preempt}
+use Rattle.pc_calls.specs.declared.leaving.Leaving.{Leaving}
+use Rattle.pc_calls.specs.declared.leaving.Leaving.TheVariants.{Preempt}
 use Rattle.pc_load.specs.declared.load.Step.{Step}
 
 -- the thread is preempted as it leaves

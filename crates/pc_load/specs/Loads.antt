@@ -9,8 +9,8 @@ use Rattle.pc_messages.specs.Mask.{allows}
 use Rattle.pc_calls.specs.Conditions.{first_of}
 use Rattle.pc_calls.specs.declared.limits.TheConstants.{MOST_CPUS, MOST_THREADS}
 use Rattle.pc_load.specs.declared.load.TheConstants.{MOST_STEPS, MOST_LEVEL, LAST_TICK}
-use Rattle.pc_load.specs.declared.load.Leaving.{Leaving}
-use Rattle.pc_load.specs.declared.load.Leaving.TheVariants.{Yield, Block, Preempt, Die}
+use Rattle.pc_calls.specs.declared.leaving.Leaving.{Leaving}
+use Rattle.pc_calls.specs.declared.leaving.Leaving.TheVariants.{Yield, Block, Preempt, Die}
 use Rattle.pc_load.specs.declared.load.Step.{Step}
 use Rattle.pc_load.specs.declared.load.ThreadDraft.{ThreadDraft}
 use Rattle.pc_load.specs.declared.load.ThreadLoad.{ThreadLoad}

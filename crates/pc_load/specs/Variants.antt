@@ -4,8 +4,9 @@ use Rattle.std.specs.Prelude.{if◌then◌else◌, [], ◌∷◌, ◌++◌, leng
 use Rattle.std.specs.Prelude.{encode_utf8}
 use Rattle.std.specs.List.{list_all}
 use Rattle.pc_calls.specs.Conditions.{first_of}
-use Rattle.pc_script.specs.Grammar.{order_word}
-use Rattle.pc_script.specs.declared.command.OrderName.TheVariants.{Levels, Fifo, LeastRan, LevelsThenLeastRan}
+use Rattle.pc_policy.specs.Names.{is_order, is_stealing, order_word, stealing_of, stealing_word}
+use Rattle.pc_policy.specs.declared.agent_policy.Stealing.TheVariants.{Least}
+use Rattle.pc_policy.specs.declared.named.OrderName.TheVariants.{Levels}
 use Rattle.pc_load.specs.Loads.{is_between, is_u32}
 use Rattle.pc_load.specs.declared.variant.TheConstants.{MOST_VARIANTS, MOST_NAME, MOST_GROUP}
 use Rattle.pc_load.specs.declared.variant.Variant.{Variant}
@@ -24,11 +25,6 @@ pub record Choice : Type 0 where
   pub cost : ℤ
   pub urgent : Bool
   pub keep : Bool
-
--- the word for what a steal takes: of the threads that are known entirely the best, or the least name
-abbrev pub steals_word : Bool → List ℕ
-steals_word true = codes "exact"
-steals_word false = codes "least"
 
 -- what a draft tells
 abbrev pub choice_in : VariantDraft → Choice
@@ -49,7 +45,7 @@ abbrev pub choice_of : Variant → Choice
 choice_of variant = record {
   name = variant.name.items;
   order = order_word variant.policy.order;
-  steals = steals_word variant.policy.exact;
+  steals = stealing_word (stealing_of variant.policy.exact);
   quantum = pos variant.quantum;
   group = pos variant.group;
   delay = pos variant.delay;
@@ -63,7 +59,7 @@ abbrev pub plain : Choice
 plain = record {
   name = codes "plain";
   order = order_word Levels;
-  steals = steals_word false;
+  steals = stealing_word Least;
   quantum = pos 0;
   group = pos MOST_GROUP;
   delay = pos 0;
@@ -87,16 +83,6 @@ is_letter b = (nat_le 97 b && nat_le b 122) || (nat_le 48 b && nat_le b 57) || b
 abbrev pub is_name : List ℕ → Bool
 is_name name = nat_le 1 (length name) && nat_le (length name) MOST_NAME && list_all is_letter name
 
--- the word is that of an order
-abbrev pub is_order : List ℕ → Bool
-is_order word =
-    bytes_eq word (order_word Levels) || bytes_eq word (order_word Fifo) || bytes_eq word (order_word LeastRan)
-    || bytes_eq word (order_word LevelsThenLeastRan)
-
--- the word is that of what a steal takes
-abbrev pub is_steals : List ℕ → Bool
-is_steals word = bytes_eq word (steals_word false) || bytes_eq word (steals_word true)
-
 -- the numbers are in their ranges
 abbrev pub are_numbers : Choice → Bool
 are_numbers choice =
@@ -104,7 +90,7 @@ are_numbers choice =
 
 -- each value is in its range
 abbrev pub is_variant : Choice → Bool
-is_variant choice = is_name choice.name && is_order choice.order && is_steals choice.steals && are_numbers choice
+is_variant choice = is_name choice.name && is_order choice.order && is_stealing choice.steals && are_numbers choice
 
 -- no variant before has the name
 abbrev pub is_new : List ℕ → List Choice → Bool
@@ -136,7 +122,7 @@ abbrev pub variant_text : Variant → List ℕ
 variant_text variant =
     codes "# lab, variant " ++ (name_text variant.name.items
     ++ (codes ": order " ++ (order_word variant.policy.order
-    ++ (codes ", steals " ++ (steals_word variant.policy.exact
+    ++ (codes ", steals " ++ (stealing_word (stealing_of variant.policy.exact)
     ++ (codes ", quantum " ++ (decimal variant.quantum
     ++ (codes ", group " ++ (decimal variant.group
     ++ (codes ", delay " ++ (decimal variant.delay

@@ -1,9 +1,10 @@
 //! The steps of a thread's own doing.
 
-ghost use Rattle.std.specs.Prelude.{◌≡◌, ◌⊎◌, ◌+◌, ◌<◌, ◌^◌, IfOk};
+ghost use Rattle.std.specs.Prelude.{◌≡◌, ◌⊎◌, ◌+◌, ◌<◌, ◌≤◌, ◌^◌, [], ◌∷◌, drop, length, IfOk, IfSome, MatchOption};
 ghost use Rattle.pc_load.specs.Joining.{is_joined, joined_with, preempts, steps_under, with_more};
 
-use crate::load::{Leaving, Step, ThreadLoad};
+use crate::load::{Step, ThreadLoad};
+use pc_calls::Leaving;
 use std::alloc::{AllocError, Global};
 
 impl Step {
@@ -38,33 +39,54 @@ fn with_more(more: u32, step: &Step) -> Step
     }
 }
 
-/// The steps joined, from the front.
-fn joined(alloc: Global, steps: &[Step]) -> Result<Vec<Step>, AllocError>
-    ensures { IfOk result (λ all. all.items ≡ joined_with 0 steps.now) }
+/// The step that the steps from a place on begin with, joined, and the place behind it; none where no step is left.
+fn joined_at(steps: &[Step], from: usize) -> Option<(Step, usize)>
+    ensures steps { MatchOption result (joined_with 0 (drop from steps.now) ≡ [])
+        (λ met. joined_with 0 (drop from steps.now) ≡ met.0 ∷ joined_with 0 (drop met.1 steps.now)) }
+    ensures further { IfSome result (λ met. (from < met.1) × (met.1 ≤ length steps.now)) }
 {
-    let mut all = Vec::new(alloc);
     let mut more = 0;
-    for place in 0..steps.len() {
+    for place in from..steps.len() {
         let step = steps[place];
         if is_joined(more, &step, &steps[place + 1..]) {
             more += step.ticks;
             continue;
         }
-        all.push(with_more(more, &step))?;
-        more = 0;
+        return Some((with_more(more, &step), place + 1));
     }
-    Ok(all)
+    None
 }
 
 impl ThreadLoad {
+    /// The step that the lab runs from a place of the steps on, and the place behind it: as it is where recorded
+    /// preempts are kept, else joined; none where no step is left. It takes no memory.
+    pub fn step_at(&self, from: usize, keep: bool) -> Option<(Step, usize)>
+        ensures steps { MatchOption result (steps_under keep (drop from self.now.steps.items) ≡ [])
+            (λ met. steps_under keep (drop from self.now.steps.items)
+            ≡ met.0 ∷ steps_under keep (drop met.1 self.now.steps.items)) }
+        ensures further { IfSome result (λ met. (from < met.1) × (met.1 ≤ length self.now.steps.items)) }
+    {
+        let steps = self.steps.as_slice();
+        if !keep {
+            return joined_at(steps, from);
+        }
+        if from < steps.len() {
+            Some((steps[from], from + 1))
+        } else {
+            None
+        }
+    }
+
     /// The steps that the lab runs: all as they are where recorded preempts are kept, else joined.
     pub fn joined_steps(&self, alloc: Global, keep: bool) -> Result<Vec<Step>, AllocError>
         ensures { IfOk result (λ steps. steps.items ≡ steps_under keep self.now.steps.items) }
     {
-        if keep {
-            Vec::from_slice(alloc, self.steps.as_slice())
-        } else {
-            joined(alloc, self.steps.as_slice())
+        let mut all = Vec::new(alloc);
+        let mut from = 0;
+        while let Some((step, next)) = self.step_at(from, keep) {
+            all.push(step)?;
+            from = next;
         }
+        Ok(all)
     }
 }

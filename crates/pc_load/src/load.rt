@@ -9,7 +9,7 @@ pub(crate) mod numbers;
 mod threads;
 
 use numbers::{count_of_cpus, tick_of};
-use pc_calls::MOST_THREADS;
+use pc_calls::{Leaving, MOST_THREADS};
 use pc_messages::Cpu;
 use std::alloc::{AllocError, AllocFailed, Global};
 use std::marker::Model;
@@ -24,15 +24,6 @@ pub const MOST_LEVEL: u8 = 7;
 
 /// The last tick in front of whose things a run can stop.
 pub const LAST_TICK: u64 = 9_223_372_036_854_775_807;
-
-/// How a thread leaves its CPU (the ghOSt paper's THREAD_YIELD, THREAD_BLOCKED, THREAD_PREEMPTED and THREAD_DEAD).
-#[derive(Clone, Copy, Debug, PartialEq, Eq)]
-pub enum Leaving {
-    Yield,
-    Block,
-    Preempt,
-    Die,
-}
 
 /// A step of a thread: it runs for so many ticks, and leaves its CPU so.
 #[derive(Clone, Copy, Debug, PartialEq, Eq)]

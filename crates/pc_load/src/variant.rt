@@ -8,7 +8,7 @@ mod drafts;
 mod words;
 
 use drafts::{plain, variants_of};
-use pc_script::PolicyName;
+use pc_policy::PolicyName;
 use std::alloc::{AllocError, AllocFailed, Global};
 use std::marker::Model;
 use thiserror::Error;

@@ -1,2 +1,4 @@
 pub mod Rising
 pub mod Passes
+pub mod Suffixes
+pub mod Orders

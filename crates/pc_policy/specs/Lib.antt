@@ -3,3 +3,4 @@
 pub mod Rankings
 pub mod Ranks
 pub mod Rules
+pub mod Names

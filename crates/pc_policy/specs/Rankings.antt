@@ -2,6 +2,8 @@
 use Rattle.std.specs.Prelude.{ℕ, ◌+◌, ◌-◌, ◌*◌, ◌^◌, ◌==◌, leb, min, List, [], ◌∷◌, Option, Some, None}
 use Rattle.std.specs.Prelude.{if◌then◌else◌}
 use Rattle.pc_messages.specs.declared.reported.Reported.{Reported}
+use Rattle.pc_policy.specs.declared.named.OrderName.{OrderName}
+use Rattle.pc_policy.specs.declared.named.OrderName.TheVariants.{Levels, Fifo, LeastRan, LevelsThenLeastRan}
 use Rattle.pc_policy.specs.declared.order.Order.{Order}
 use Rattle.pc_policy.specs.declared.order.Order.TheVariants as order
 
@@ -31,10 +33,14 @@ abbrev pub rank_named : List (ℕ × ℕ) → ℕ → Option ℕ
 rank_named [] t = None
 rank_named (row ∷ rows) t = if row.0 == t then Some row.1 else rank_named rows t
 
+-- the ranking of an order that has a name
+abbrev pub ranks_named : OrderName → Ranking
+ranks_named Levels = by_levels
+ranks_named Fifo = all_alike
+ranks_named LeastRan = least_ran
+ranks_named LevelsThenLeastRan = levels_then_least_ran
+
 -- the ranks that a policy gives that is built in
 abbrev pub ranks_of : Order → Ranking
-ranks_of order.Levels = by_levels
-ranks_of order.Fifo = all_alike
-ranks_of order.LeastRan = least_ran
-ranks_of order.LevelsThenLeastRan = levels_then_least_ran
+ranks_of (order.Named name) = ranks_named name
 ranks_of (order.Table rows) = λ cpu t r. rank_named rows.items t

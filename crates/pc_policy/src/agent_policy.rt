@@ -1,10 +1,12 @@
 //! What an agent goes by.
 
 ghost use Rattle.std.specs.Prelude.{◌≡◌, IfOk};
+ghost use Rattle.pc_policy.specs.Names.{AreAll, rules_named};
 ghost use Rattle.pc_policy.specs.Rules.{rules_of, usual};
 
+use crate::named::PolicyName;
 use crate::order::Order;
-use std::alloc::AllocError;
+use std::alloc::{AllocError, Global};
 
 /// Which thread a steal takes (own).
 #[derive(Clone, Copy, Debug, PartialEq, Eq)]
@@ -31,10 +33,32 @@ impl AgentPolicy {
     pub const fn usual() -> AgentPolicy
         ensures { rules_of result ≡ usual }
     {
+        AgentPolicy::named(PolicyName::USUAL)
+    }
+
+    /// The policy of this name. It takes no memory.
+    pub const fn named(name: PolicyName) -> AgentPolicy
+        ensures { rules_of result ≡ rules_named name }
+    {
         AgentPolicy {
-            order: Order::Levels,
-            stealing: Stealing::Least,
+            order: Order::Named(name.order),
+            stealing: name.stealing(),
         }
+    }
+
+    /// The policy of this name for each of so many agents.
+    pub fn for_each(
+        alloc: Global,
+        name: PolicyName,
+        agents: u8,
+    ) -> Result<Vec<AgentPolicy>, AllocError>
+        ensures { IfOk result (λ policies. AreAll (rules_named name) agents policies.items) }
+    {
+        let mut policies = Vec::new(alloc);
+        for _ in 0..agents {
+            policies.push(AgentPolicy::named(name))?;
+        }
+        Ok(policies)
     }
 
     /// The same policy.

@@ -22,9 +22,11 @@
 #![tactic(auto)]
 
 mod agent_policy;
+mod named;
 mod order;
 mod policy;
 
 pub use agent_policy::{AgentPolicy, Stealing};
+pub use named::{OrderName, PolicyName};
 pub use order::Order;
 pub use policy::Policy;

@@ -1,8 +1,9 @@
 //! The policies that are built in.
 
 ghost use Rattle.std.specs.Prelude.{◌≡◌, ◌+◌, ◌-◌, ◌*◌, ◌^◌, ◌≤◌, min, IfOk};
-ghost use Rattle.pc_policy.specs.Rankings.{ranks_of, rank_named};
+ghost use Rattle.pc_policy.specs.Rankings.{rank_named, ranks_named, ranks_of};
 
+use crate::named::OrderName;
 use crate::policy::Policy;
 use pc_messages::{Cpu, Level, Reported, Tid};
 use std::alloc::AllocError;
@@ -13,18 +14,11 @@ const HIGHEST: u8 = 7;
 /// So many ranks stand between two levels, where ticks count within a level.
 const RANKS_A_LEVEL: u64 = 1 << 60;
 
-/// A policy that is built in.
+/// An order that is built in: by a name, or by ranks that are given.
 #[derive(Debug, Drop)]
 pub enum Order {
-    /// The highest level first (own): the rank is as far below 7 as the level is.
-    Levels,
-    /// First come first served: all threads are alike.
-    Fifo,
-    /// The thread first that ran for the fewest ticks (the ghOSt paper's policy for search orders by run time, too).
-    LeastRan,
-    /// The highest level first, and within a level the thread that ran for the fewest ticks. From 2^60 - 1 ticks on all
-    /// are alike.
-    LevelsThenLeastRan,
+    /// The order of this name.
+    Named(OrderName),
     /// The ranks that these rows give to names; the first row of a name counts. A thread that is not named has no rank,
     /// so it is left out: who wants it last names it, with a rank above all others. The rows are passed for each look.
     Table(Vec<(Tid, u64)>),
@@ -65,24 +59,31 @@ impl Order {
         ensures { IfOk result (λ copy. ranks_of copy ≡ ranks_of self.now) }
     {
         Ok(match self {
-            Order::Levels => Order::Levels,
-            Order::Fifo => Order::Fifo,
-            Order::LeastRan => Order::LeastRan,
-            Order::LevelsThenLeastRan => Order::LevelsThenLeastRan,
+            Order::Named(name) => Order::Named(*name),
             Order::Table(rows) => Order::Table(rows.as_slice().to_vec(*rows.allocator())?),
         })
+    }
+}
+
+impl Policy for OrderName {
+    ghost ranking = { ranks_named };
+
+    fn rank(&self, _cpu: Cpu, _thread: Tid, reported: &Reported) -> Option<u64> {
+        match self {
+            OrderName::Levels => Some(below_highest(reported.level)),
+            OrderName::Fifo => Some(0),
+            OrderName::LeastRan => Some(reported.ran),
+            OrderName::LevelsThenLeastRan => Some(level_then_ran(reported.level, reported.ran)),
+        }
     }
 }
 
 impl Policy for Order {
     ghost ranking = { ranks_of };
 
-    fn rank(&self, _cpu: Cpu, thread: Tid, reported: &Reported) -> Option<u64> {
+    fn rank(&self, cpu: Cpu, thread: Tid, reported: &Reported) -> Option<u64> {
         match self {
-            Order::Levels => Some(below_highest(reported.level)),
-            Order::Fifo => Some(0),
-            Order::LeastRan => Some(reported.ran),
-            Order::LevelsThenLeastRan => Some(level_then_ran(reported.level, reported.ran)),
+            Order::Named(name) => name.rank(cpu, thread, reported),
             Order::Table(rows) => named_rank(rows.as_slice(), thread),
         }
     }

@@ -14,10 +14,9 @@ use Rattle.pc_draw.specs.declared.ticks.Axis.{Axis}
 use Rattle.pc_draw.specs.declared.ticks.Axis.TheVariants.{Lines, Ticks}
 use Rattle.pc_draw.specs.declared.part.Interval.{Interval}
 use Rattle.pc_draw.specs.declared.part.Part.{Part}
-use Rattle.pc_policy.specs.Rules.{rules_of, usual}
-use Rattle.pc_policy.specs.declared.agent_policy.AgentPolicy.{AgentPolicy}
+use Rattle.pc_policy.specs.Names.{is_usual, policy_text}
+use Rattle.pc_policy.specs.declared.named.PolicyName.{PolicyName}
 use Rattle.pc_program.specs.Numbers.{IsWritten, SpellsNone}
-use Rattle.pc_program.specs.Policies.{Names, NamesNone}
 use Rattle.pc_program.specs.declared.command_line.Command.{Command}
 use Rattle.pc_program.specs.declared.command_line.Command.TheVariants.{Replay, Explain, Draw, Run, Session, Lab}
 use Rattle.pc_program.specs.declared.command_line.VariantsFrom.{VariantsFrom}
@@ -164,12 +163,16 @@ abbrev pub IsNoPart : Option (Text × List Row) → Type 0
 IsNoPart None = ⊥
 IsNoPart (Some met) = (met.0 ≡ codes "draw") × (IsUnread (codes "cpus") met.1 ⊎ IsUnread (codes "lines") met.1)
 
--- the policy that the word behind an option names: the usual one where there is no word
-abbrev pub IsPolicy : Option Text → AgentPolicy → Type 0
-IsPolicy None policy = rules_of policy ≡ usual
-IsPolicy (Some word) policy = Names word policy
+-- the policy that the text behind an option names: the usual one where there is no text
+abbrev pub IsPolicy : Option Text → PolicyName → Type 0
+IsPolicy None policy = is_usual policy ≡ true
+IsPolicy (Some text) policy = text ≡ policy_text policy
 
--- the word behind the option names no policy
+-- the text behind an option names no policy
+abbrev pub NamesNone : Text → Type 0
+NamesNone text = (policy : PolicyName) → text ≡ policy_text policy → ⊥
+
+-- the text behind the option names no policy
 abbrev pub IsUnnamed : List Row → Type 0
 IsUnnamed rows = IsSomeAnd (first_of (codes "policy") rows) NamesNone
 

@@ -3,7 +3,6 @@
 pub mod CommandLine
 pub mod Endings
 pub mod Numbers
-pub mod Policies
 pub mod Program
 pub mod Programs
 pub mod Progress

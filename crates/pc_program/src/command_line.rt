@@ -14,13 +14,12 @@ ghost use Rattle.pc_program.specs.Inner.FirstWord.{first_word};
 mod parsers;
 
 use crate::numbers::numbers_in;
-use crate::policies::policy_named;
 use crate::report::ReportForm;
 use clap::error::ErrorKind;
 use clap::{ArgMatches, Command as Parser, Error};
 use parsers::parser_for;
 use pc_draw::{Axis, Interval, Part};
-use pc_policy::AgentPolicy;
+use pc_policy::PolicyName;
 use std::alloc::{AllocError, Global};
 use std::convert::AsStr;
 use thiserror::Error as Fault;
@@ -52,7 +51,7 @@ pub enum Command {
         /// After how many seconds the run is given up.
         limit: Option<u32>,
         /// What every agent goes by.
-        policy: AgentPolicy,
+        policy: PolicyName,
         /// The file into which the run's calls are written as a script.
         script: Option<String>,
     },
@@ -322,14 +321,14 @@ fn limit_of(matches: &ArgMatches<'_>) -> Option<u32>
 }
 
 /// What every agent goes by: the usual policy where none is named.
-fn policy_of(matches: &ArgMatches<'_>) -> Result<AgentPolicy, CommandFault>
+fn policy_of(matches: &ArgMatches<'_>) -> Result<PolicyName, CommandFault>
     ensures named { IfOk result (IsPolicy (first_of (codes "policy") (rows_of (found_of matches.now)))) }
     ensures refused { IfErr result (λ fault. (fault ≡ CommandFault.BadPolicy)
         × IsUnnamed (rows_of (found_of matches.now))) }
 {
     match matches.get_str("policy") {
-        None => Ok(AgentPolicy::usual()),
-        Some(word) => match policy_named(word) {
+        None => Ok(PolicyName::USUAL),
+        Some(text) => match PolicyName::named(text.as_bytes()) {
             Some(policy) => Ok(policy),
             None => Err(CommandFault::BadPolicy),
         },

@@ -18,7 +18,6 @@ mod ending;
 mod forms;
 mod input;
 mod numbers;
-mod policies;
 mod progress;
 mod report;
 mod run_text;
@@ -30,7 +29,7 @@ pub use ending::{BadSettings, Ending, Failure, Unsettled};
 pub use forms::{Form, make, make_flushed, replay_flushed, run_flushed, run_script};
 pub use input::{MOST_SETTINGS, read_settings};
 pub use pc_draw::{Axis, Interval, Part};
-pub use pc_policy::{AgentPolicy, Order, Stealing};
+pub use pc_policy::{AgentPolicy, Order, OrderName, PolicyName, Stealing};
 pub use pc_script::Helper;
 pub use pc_settings::{
     Field, SettingsFault, read_config, steps_are_read_as_written, write_trouble,

@@ -1,5 +1,5 @@
 -- A session goes through a run's moments, from the world that its opening opens.
-use Rattle.std.proofs.Common.{◌≡◌, ◌∙◌, ◌<◌, ◌&&◌, not, ℕ, Bool, true, false, true≢false, List, [], ◌∷◌, ◌++◌, append_assoc, append-nil, map, Some, None, refl, sym, ap, subst}
+use Rattle.std.proofs.Common.{◌≡◌, ◌∙◌, ◌<◌, ℕ, true, false, List, [], ◌∷◌, ◌++◌, append_assoc, append-nil, map, Some, None, refl, sym, ap, subst}
 use Rattle.std.proofs.lemmas.Bool.{lt-ltb, ltb-true}
 use Rattle.std.proofs.lemmas.List.{map-append}
 use Rattle.pc_calls.specs.Limits.{bad_field}
@@ -7,20 +7,16 @@ use Rattle.pc_calls.specs.declared.limits.Limits.{Limits}
 use Rattle.pc_calls.specs.declared.limits.Profile.{Profile}
 use Rattle.pc_calls.specs.declared.limits.Profile.TheVariants.{One, Two}
 use Rattle.pc_agent.specs.PlainAgent.{PlainAgent, fresh}
-use Rattle.pc_lab.specs.Heads.{is_levels, is_usual}
 use Rattle.pc_lab.specs.Moments as lab
 use Rattle.pc_lab.specs.Moments.{Leads, Moment}
-use Rattle.pc_lab.specs.Stages as stages
-use Rattle.pc_policy.specs.Rankings.{Ranking}
+use Rattle.pc_policy.proofs.Orders.{usual_rules}
+use Rattle.pc_policy.specs.Names.{is_usual, rules_named}
 use Rattle.pc_policy.specs.Rules.{Rules, usual}
 use Rattle.pc_script.specs.declared.command.Command.{Command}
 use Rattle.pc_script.specs.declared.command.Command.TheVariants.{Enclave, Policy}
-use Rattle.pc_script.specs.declared.command.OrderName.{OrderName}
-use Rattle.pc_script.specs.declared.command.OrderName.TheVariants.{Levels, Fifo, LeastRan, LevelsThenLeastRan}
-use Rattle.pc_script.specs.declared.command.PolicyName.{PolicyName}
+use Rattle.pc_policy.specs.declared.named.PolicyName.{PolicyName}
 use Rattle.pc_script.specs.declared.response.Response.{Response}
 use Rattle.pc_script.specs.declared.response.Response.TheVariants as response
-use Rattle.pc_session.specs.Policies as policies
 use Rattle.pc_session.specs.Session as session
 use Rattle.pc_session.specs.Session.{IsLimited, IsRun, IsSession, IsStep, PlainEnclave, touched, untouched}
 use Rattle.pc_world.specs.PlainWorld.{PlainWorld, opened, opened_by}
@@ -87,32 +83,11 @@ opens profile limits within =
     session.one_more [] [] (Enclave limits) response.Opened session.none
     (subst (λ field. IsLimited field limits response.Opened (Some (untouched (opened limits)))) (sym within) (refl, refl))
 
--- the lab and a session call the same rules by the same name
-same_ranks : (order : OrderName) → stages.ranks_named order ≡ policies.ranks_named order
-same_ranks Levels = refl
-same_ranks Fifo = refl
-same_ranks LeastRan = refl
-same_ranks LevelsThenLeastRan = refl
-
-abbrev rules_with : Bool → Ranking → Rules
-rules_with exact ranks = record { ranks = ranks; exact = exact }
-
-same_rules : (policy : PolicyName) → stages.rules_named policy ≡ policies.rules_named policy
-same_rules policy = ap (rules_with policy.exact) (same_ranks policy.order)
-
--- the usual policy has the usual rules
-usual_rules : (order : OrderName) (exact : Bool) → (is_levels order && not exact) ≡ true → rules_with exact (stages.ranks_named order) ≡ usual
-usual_rules Levels false is = refl
-usual_rules Levels true is = absurd (true≢false (sym is))
-usual_rules Fifo exact is = absurd (true≢false (sym is))
-usual_rules LeastRan exact is = absurd (true≢false (sym is))
-usual_rules LevelsThenLeastRan exact is = absurd (true≢false (sym is))
-
 -- a session of these commands and responses that ends with this world
 abbrev pub SessionTo : Profile → List Command → List Response → PlainWorld → Type 0
 SessionTo profile commands told last = (run : IsSession profile commands told) × EndsWith last run.0
 
-module _ (limits : Limits) (policy : PolicyName) (each : ℕ → Rules) (same : (c : ℕ) → c < limits.cpus → each c ≡ stages.rules_named policy)
+module _ (limits : Limits) (policy : PolicyName) (each : ℕ → Rules) (same : (c : ℕ) → c < limits.cpus → each c ≡ rules_named policy)
     (moments : List Moment) (plain : PlainWorld) (leads : Leads (opened_by each limits) moments plain) where
   -- by the usual policy, an enclave is all that opens the run's world
   pub usual_run : is_usual policy ≡ true → bad_field One limits ≡ None
@@ -120,7 +95,7 @@ module _ (limits : Limits) (policy : PolicyName) (each : ℕ → Rules) (same : 
   usual_run is within =
       let agents : ℕ → PlainAgent = λ c. fresh usual in
       let alike : Alike (opened_by each limits) agents = λ c there.
-      ap fresh (sym (same c (ltb-true c limits.cpus there) ∙ usual_rules policy.order policy.exact is)) in
+      ap fresh (sym (same c (ltb-true c limits.cpus there) ∙ usual_rules policy is)) in
       let follows = leads_follow leads agents alike in
       let far = goes_on follows.holds (Enclave limits ∷ []) (response.Opened ∷ []) (untouched (opened limits)) refl (opens One limits within) in
       let ends : AreSame far.last.world plain = record {
@@ -137,7 +112,7 @@ module _ (limits : Limits) (policy : PolicyName) (each : ℕ → Rules) (same : 
       let begin : PlainEnclave = untouched (opened_by each limits) in
       let ruled : IsStep Two (Some (untouched (opened limits))) (Policy policy) (response.Ruled policy) (Some begin) = (
         begin,
-        (refl, record { each = each; same = λ c low. same c low ∙ same_rules policy; opens = refl }),
+        (refl, record { each = each; same = λ c low. same c low; opens = refl }),
         refl,
       ) in
       let two = session.one_more (Enclave limits ∷ []) (response.Opened ∷ []) (Policy policy) (response.Ruled policy) (opens Two limits within) ruled in

@@ -4,11 +4,13 @@ use Rattle.std.specs.List.{list_all}
 use Rattle.std.specs.Prelude.{codes, decimal, nat_le}
 use Rattle.pc_calls.specs.declared.limits.Limits.{Limits}
 use Rattle.pc_lab.specs.Heads.{command_line}
-use Rattle.pc_load.specs.Variants.{are_numbers, choice_of, is_letter, is_name, is_order, is_steals, is_variant, name_text, steals_word, switch_word, variant_text}
+use Rattle.pc_load.specs.Variants.{are_numbers, choice_of, is_letter, is_name, is_variant, name_text, switch_word, variant_text}
 use Rattle.pc_load.specs.declared.variant.TheConstants.{MOST_NAME}
 use Rattle.pc_load.specs.declared.variant.Variant.{Variant}
 use Rattle.pc_messages.proofs.Bools.{first_true, second_true}
-use Rattle.pc_script.specs.Grammar.{AreInRange, HasNoReply, command_text, order_word, row_of, words_of}
+use Rattle.pc_script.specs.Grammar.{AreInRange, HasNoReply, command_text, row_of, words_of}
+use Rattle.pc_policy.proofs.Orders.{of_each}
+use Rattle.pc_policy.specs.Names.{is_order, is_stealing, order_word, stealing_of, stealing_word}
 use Rattle.pc_script.specs.Scripts as script
 use Rattle.pc_script.specs.Scripts.{Script}
 use Rattle.pc_script.specs.Text.{lines, words}
@@ -16,9 +18,7 @@ use Rattle.pc_script.specs.Versions as versions
 use Rattle.pc_script.specs.Versions.{Names, Opens}
 use Rattle.pc_script.specs.declared.command.Command.{Command}
 use Rattle.pc_script.specs.declared.command.Command.TheVariants.{Enclave, Policy}
-use Rattle.pc_script.specs.declared.command.OrderName.{OrderName}
-use Rattle.pc_script.specs.declared.command.OrderName.TheVariants.{Levels, Fifo, LeastRan, LevelsThenLeastRan}
-use Rattle.pc_script.specs.declared.command.PolicyName.{PolicyName}
+use Rattle.pc_policy.specs.declared.named.PolicyName.{PolicyName}
 use Rattle.pc_script.specs.declared.outcome.Outcome.TheVariants.{Finished}
 use Rattle.pc_script.specs.declared.version.Version.{Version}
 use Rattle.pc_script.specs.declared.version.Version.TheVariants.{One, Two, Three}
@@ -33,17 +33,11 @@ letters_of variant good =
     let choice = choice_of variant in
     let name = is_name choice.name in
     let order = is_order choice.order in
-    let steals = is_steals choice.steals in
+    let steals = is_stealing choice.steals in
     let named = first_true name order (first_true (name && order) steals (first_true (name && order && steals) (are_numbers choice) good)) in
     second_true (nat_le 1 (length choice.name) && nat_le (length choice.name) MOST_NAME) (list_all is_letter choice.name) named
 
-order_printed : (order : OrderName) → is_printed (order_word order) ≡ true
-order_printed Levels = refl
-order_printed Fifo = refl
-order_printed LeastRan = refl
-order_printed LevelsThenLeastRan = refl
-
-steals_printed : (exact : Bool) → is_printed (steals_word exact) ≡ true
+steals_printed : (exact : Bool) → is_printed (stealing_word (stealing_of exact)) ≡ true
 steals_printed true = refl
 steals_printed false = refl
 
@@ -59,7 +53,7 @@ variant_printed : (variant : Variant) → is_variant (choice_of variant) ≡ tru
 variant_printed variant good =
     let name = name_text variant.name.items in
     let order = order_word variant.policy.order in
-    let steals = steals_word variant.policy.exact in
+    let steals = stealing_word (stealing_of variant.policy.exact) in
     let keep = codes ", keep " ++ switch_word variant.keep in
     let urgent = codes ", urgent " ++ (switch_word variant.urgent ++ keep) in
     let cost = codes ", cost " ++ (decimal variant.cost ++ urgent) in
@@ -73,7 +67,7 @@ variant_printed variant good =
     let of_group : is_printed group ≡ true = behind (codes ", group ") (decimal variant.group) delay refl (printed_decimal variant.group) of_delay in
     let of_quantum : is_printed quantum ≡ true = behind (codes ", quantum ") (decimal variant.quantum) group refl (printed_decimal variant.quantum) of_group in
     let of_steals = behind (codes ", steals ") steals quantum refl (steals_printed variant.policy.exact) of_quantum in
-    let of_order = behind (codes ": order ") order (codes ", steals " ++ (steals ++ quantum)) refl (order_printed variant.policy.order) of_steals in
+    let of_order = behind (codes ": order ") order (codes ", steals " ++ (steals ++ quantum)) refl (of_each is_printed refl variant.policy.order) of_steals in
     behind (codes "# lab, variant ") name (codes ": order " ++ (order ++ (codes ", steals " ++ (steals ++ quantum)))) refl (printed_name variant.name.items (letters_of variant good)) of_order
 
 -- ---- the lines

@@ -13,7 +13,7 @@ use Rattle.pc_script.specs.Scripts.{Script}
 use Rattle.pc_script.specs.Text.{lines, words}
 use Rattle.pc_script.specs.declared.command.Command.{Command}
 use Rattle.pc_script.specs.declared.command.Command.TheVariants as command
-use Rattle.pc_script.specs.declared.command.OrderName.TheVariants.{Levels, Fifo, LeastRan, LevelsThenLeastRan}
+use Rattle.pc_policy.proofs.Orders.{of_each}
 use Rattle.pc_script.specs.declared.command.Read.TheVariants as read
 use Rattle.pc_script.specs.declared.outcome.Outcome.TheVariants.{Finished}
 use Rattle.pc_script.specs.declared.version.Version.{Version}
@@ -52,10 +52,7 @@ field_printed (Target None) = (refl, tt)
 field_printed (Target (Some cpu)) = (printed_decimal cpu, tt)
 field_printed (Failure true) = (refl, tt)
 field_printed (Failure false) = tt
-field_printed (Order Levels) = (refl, tt)
-field_printed (Order Fifo) = (refl, tt)
-field_printed (Order LeastRan) = (refl, tt)
-field_printed (Order LevelsThenLeastRan) = (refl, tt)
+field_printed (Order named) = (of_each is_printed refl named, tt)
 field_printed (Exactness true) = (refl, tt)
 field_printed (Exactness false) = tt
 

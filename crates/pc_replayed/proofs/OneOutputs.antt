@@ -3,14 +3,14 @@ use Rattle.std.proofs.Common.{◌≡◌, ◌∙◌, ℕ, suc, Bool, true, false,
 use Rattle.std.specs.Prelude.{flat_map}
 use Rattle.std.proofs.lemmas.List.Elements.{All-append, All-cons, All-head, All-nil, All-tail}
 use Rattle.pc_calls.specs.declared.limits.Limits.{Limits}
-use Rattle.pc_lab.specs.Heads.{is_usual}
+use Rattle.pc_policy.specs.Names.{is_usual}
 use Rattle.pc_lab.specs.Limits.{limits_for}
 use Rattle.pc_lab.specs.Moments.{Moment}
 use Rattle.pc_script.specs.Scripts.{IsRunOf, Script, answers_text, outcome_text}
 use Rattle.pc_script.specs.Text.{lines}
 use Rattle.pc_script.specs.Versions.{profile_of}
 use Rattle.pc_script.specs.declared.command.Command.TheVariants.{Enclave, Policy}
-use Rattle.pc_script.specs.declared.command.PolicyName.{PolicyName}
+use Rattle.pc_policy.specs.declared.named.PolicyName.{PolicyName}
 use Rattle.pc_script.specs.declared.outcome.Outcome.{Outcome}
 use Rattle.pc_script.specs.declared.outcome.Outcome.TheVariants.{Finished}
 use Rattle.pc_script.specs.declared.response.Response.{Response}

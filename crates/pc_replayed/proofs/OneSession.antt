@@ -20,7 +20,7 @@ use Rattle.pc_kernel.specs.Steps.{after}
 use Rattle.pc_policy.specs.Rules.{Rules}
 use Rattle.pc_script.specs.declared.command.Command.{Command}
 use Rattle.pc_script.specs.declared.command.Command.TheVariants as command
-use Rattle.pc_script.specs.declared.command.PolicyName.{PolicyName}
+use Rattle.pc_policy.specs.declared.named.PolicyName.{PolicyName}
 use Rattle.pc_script.specs.declared.response.Response.{Response}
 use Rattle.pc_script.specs.declared.response.Response.TheVariants as response
 use Rattle.pc_session.specs.Session as session

@@ -4,7 +4,8 @@ use Rattle.std.specs.Prelude.{codes, flat_map}
 use Rattle.pc_calls.specs.declared.limits.Limits.{Limits}
 use Rattle.pc_calls.specs.declared.limits.Profile.TheVariants as profile
 use Rattle.pc_compare.specs.Comparing.{IsScript}
-use Rattle.pc_lab.specs.Heads.{command_line, is_usual}
+use Rattle.pc_lab.specs.Heads.{command_line}
+use Rattle.pc_policy.specs.Names.{is_usual}
 use Rattle.pc_lab.specs.Limits.{limits_for}
 use Rattle.pc_lab.specs.Moments.{IsWritten, Moment}
 use Rattle.pc_lab.specs.Texts.{body_text}

@@ -3,7 +3,7 @@ use Rattle.std.specs.Prelude.{◌≡◌, Bool, true, false, List, [], ◌∷◌,
 use Rattle.std.specs.Prelude.{None, Some, codes}
 use Rattle.pc_calls.specs.declared.limits.Limits.{Limits}
 use Rattle.pc_compare.specs.Comparing.{IsScript, IsScriptOf}
-use Rattle.pc_lab.specs.Heads.{is_usual}
+use Rattle.pc_policy.specs.Names.{is_usual}
 use Rattle.pc_lab.specs.Limits.{limits_for}
 use Rattle.pc_lab.specs.Moments.{IsNoAnswer, Moment}
 use Rattle.pc_load.specs.Loads.{Demand, Need, demand, end_of, fault_of}
@@ -13,7 +13,7 @@ use Rattle.pc_script.specs.Responses.{response_text, text_line}
 use Rattle.pc_script.specs.Scripts.{IsOutput}
 use Rattle.pc_script.specs.declared.command.Command.{Command}
 use Rattle.pc_script.specs.declared.command.Command.TheVariants.{Enclave, Event, Mend, Policy, Read}
-use Rattle.pc_script.specs.declared.command.PolicyName.{PolicyName}
+use Rattle.pc_policy.specs.declared.named.PolicyName.{PolicyName}
 use Rattle.pc_script.specs.declared.outcome.Outcome.{Outcome}
 use Rattle.pc_script.specs.declared.outcome.Outcome.TheVariants.{Finished}
 use Rattle.pc_script.specs.declared.response.Response.{Response}

@@ -10,7 +10,7 @@
 //! fn listed(alloc: Global, view: &View) -> Result<Option<Tid>, Fail> {
 //!     let mut list = RunQueue::new(alloc);
 //!     // Of the touched threads those that are ready and allowed on CPU 1 enter, the highest level first.
-//!     list.refresh(&Order::Levels, view, &[Tid(0)], Cpu(1))?;
+//!     list.refresh(&OrderName::Levels, view, &[Tid(0)], Cpu(1))?;
 //!     Ok(list.first())
 //! }
 //! ```

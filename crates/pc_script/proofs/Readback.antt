@@ -13,7 +13,8 @@ use Rattle.pc_script.specs.Grammar.{Field, Processors, Processor, Queue, Level, 
 use Rattle.pc_script.specs.Text.{words}
 use Rattle.pc_script.specs.declared.command.Command.{Command}
 use Rattle.pc_script.specs.declared.command.Command.TheVariants as command
-use Rattle.pc_script.specs.declared.command.OrderName.TheVariants.{Levels, Fifo, LeastRan, LevelsThenLeastRan}
+use Rattle.pc_policy.proofs.Orders.{of_each}
+use Rattle.pc_policy.specs.Names.{order_word}
 use Rattle.pc_script.specs.declared.command.Read.TheVariants as read
 use Rattle.pc_script.proofs.Numerals.{own}
 
@@ -107,10 +108,7 @@ fields_are (Target None) h = (word_is (codes "-") refl, tt)
 fields_are (Target (Some cpu)) h = (wide (2 ^ 8) cpu (omega arith) h, tt)
 fields_are (Failure true) h = (word_is (codes "fail") refl, tt)
 fields_are (Failure false) h = tt
-fields_are (Order Levels) h = (word_is (codes "levels") refl, tt)
-fields_are (Order Fifo) h = (word_is (codes "fifo") refl, tt)
-fields_are (Order LeastRan) h = (word_is (codes "least-ran") refl, tt)
-fields_are (Order LevelsThenLeastRan) h = (word_is (codes "levels-then-least-ran") refl, tt)
+fields_are (Order named) h = (word_is (order_word named) (of_each is_word refl named), tt)
 fields_are (Exactness true) h = (word_is (codes "exact") refl, tt)
 fields_are (Exactness false) h = tt
 

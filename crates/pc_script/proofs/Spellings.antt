@@ -7,13 +7,13 @@ use Rattle.std.proofs.lemmas.Fmt.{decimal_injective, decimal_digit, first_decima
 use Rattle.pc_calls.specs.declared.call.AgentCall.TheVariants as agent_call
 use Rattle.pc_calls.specs.declared.call.EnvCall.TheVariants as env
 use Rattle.pc_calls.specs.declared.event.Event.TheVariants as event
-use Rattle.pc_script.specs.Grammar.{Field, Processors, Processor, Queue, Level, Count, Mask, Index, Thread, State, Target, Failure, Order, Exactness, field_words, order_word, state_word, target_word, thread_name, IsInRange, words_of, AreInRange, row_of, Spells, IsOf, AsksFor}
+use Rattle.pc_script.specs.Grammar.{Field, Processors, Processor, Queue, Level, Count, Mask, Index, Thread, State, Target, Failure, Order, Exactness, field_words, state_word, target_word, thread_name, IsInRange, words_of, AreInRange, row_of, Spells, IsOf, AsksFor}
+use Rattle.pc_policy.proofs.Orders.{same_order}
+use Rattle.pc_policy.specs.Names.{order_word}
 use Rattle.pc_script.specs.Inner.Readings.{Kind, failure, exactness, kind_of, kinds_of, is_word}
 use Rattle.pc_script.specs.Inner.Verbs.{back, name_of, kinds}
 use Rattle.pc_script.specs.declared.command.Command.{Command}
 use Rattle.pc_script.specs.declared.command.Command.TheVariants as command
-use Rattle.pc_script.specs.declared.command.OrderName.{OrderName}
-use Rattle.pc_script.specs.declared.command.OrderName.TheVariants.{Levels, Fifo, LeastRan, LevelsThenLeastRan}
 use Rattle.pc_script.specs.declared.command.Read.TheVariants as read
 use Rattle.pc_script.specs.declared.grammar.Verb.{Verb}
 use Rattle.pc_script.specs.declared.grammar.Verb.TheVariants as verb
@@ -67,13 +67,6 @@ same_target None None h k is = refl
 same_target None (Some cpu) h k is = absurd (no_dash cpu k (sym is))
 same_target (Some cpu) None h k is = absurd (no_dash cpu h is)
 same_target (Some cpu) (Some other) h k is = ap Some (decimal_injective cpu other (omega (arith, h)) (omega (arith, k)) is)
-
-same_order : (one other : OrderName) → order_word one ≡ order_word other → one ≡ other
-same_order Levels Levels is = refl
-same_order Fifo Fifo is = refl
-same_order LeastRan LeastRan is = refl
-same_order LevelsThenLeastRan LevelsThenLeastRan is = refl
-same_order one other is = absurd (true≢false (ap (λ word. bytes_eq (order_word one) word) is))
 
 -- fields of one kind that have the same words are equal
 same_field : (one other : Field) → kind_of one ≡ kind_of other → IsInRange one → IsInRange other → field_words one ≡ field_words other → one ≡ other

@@ -10,9 +10,9 @@ use Rattle.pc_calls.specs.declared.event.Event.TheVariants as event
 use Rattle.pc_script.specs.Text.{words}
 use Rattle.pc_script.specs.declared.command.Command.{Command}
 use Rattle.pc_script.specs.declared.command.Command.TheVariants as command
-use Rattle.pc_script.specs.declared.command.OrderName.{OrderName}
-use Rattle.pc_script.specs.declared.command.OrderName.TheVariants as order
-use Rattle.pc_script.specs.declared.command.PolicyName.{PolicyName}
+use Rattle.pc_policy.specs.declared.named.OrderName.{OrderName}
+use Rattle.pc_policy.specs.Names.{order_word}
+use Rattle.pc_policy.specs.declared.named.PolicyName.{PolicyName}
 use Rattle.pc_script.specs.declared.command.Read.{Read}
 use Rattle.pc_script.specs.declared.command.Read.TheVariants as read
 use Rattle.pc_script.specs.declared.line.Wish.{Wish}
@@ -58,13 +58,6 @@ target_word (Some cpu) = decimal cpu
 abbrev pub failure_words : Bool → List (List ℕ)
 failure_words true = codes "fail" ∷ []
 failure_words false = []
-
--- the names of orders
-abbrev pub order_word : OrderName → List ℕ
-order_word order.Levels = codes "levels"
-order_word order.Fifo = codes "fifo"
-order_word order.LeastRan = codes "least-ran"
-order_word order.LevelsThenLeastRan = codes "levels-then-least-ran"
 
 -- exact steals are asked for by a further word
 abbrev pub exactness_words : Bool → List (List ℕ)
@@ -188,10 +181,6 @@ spaced (word ∷ next ∷ more) = word ++ 32 ∷ spaced (next ∷ more)
 -- a row's name and its fields' words, with a space between each two
 abbrev pub row_text : Row → List ℕ
 row_text given = spaced (given.name ∷ words_of given.fields)
-
--- the words of a policy, with a space between
-abbrev pub policy_text : PolicyName → List ℕ
-policy_text named = spaced (words_of (policy_fields named))
 
 -- the line of a script that asks for a command
 abbrev pub command_text : Command → List ℕ

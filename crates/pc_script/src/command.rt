@@ -2,6 +2,7 @@
 
 use pc_calls::{Event, Limits};
 use pc_messages::{Cpu, Tid};
+use pc_policy::PolicyName;
 
 /// A command of a script. Its words are in `specs/Grammar.antt`, a line for each command.
 #[derive(Clone, Copy, Debug, PartialEq, Eq)]
@@ -16,36 +17,6 @@ pub enum Command {
     Policy(PolicyName),
     /// The CPU is mended: it comes to run a thread that waits for it. It is of version 3.
     Mend { cpu: Cpu },
-}
-
-/// A policy of agents, by the words that a script has for it.
-#[derive(Clone, Copy, Debug, PartialEq, Eq)]
-pub struct PolicyName {
-    /// In which order they would run their threads.
-    pub order: OrderName,
-    /// Whether they steal only a thread of which they know every message, and of these one of the least rank.
-    pub exact: bool,
-}
-
-impl PolicyName {
-    /// What agents go by where no policy is given.
-    pub const USUAL: PolicyName = PolicyName {
-        order: OrderName::Levels,
-        exact: false,
-    };
-}
-
-/// An order in which agents would run their threads, by the name that a script has for it.
-#[derive(Clone, Copy, Debug, PartialEq, Eq)]
-pub enum OrderName {
-    /// The highest level first.
-    Levels,
-    /// First come first served.
-    Fifo,
-    /// The thread first that ran for the fewest ticks.
-    LeastRan,
-    /// The highest level first, and within a level the thread that ran for the fewest ticks.
-    LevelsThenLeastRan,
 }
 
 /// A question about the kernel, or about the views of the agents.

@@ -1,18 +1,17 @@
 //! The fields of commands: a type for each, whose values are taken from the words of a line.
 
-ghost use Rattle.std.specs.Prelude.{◌≡◌, ◌∷◌, [], ℕ, List, Bool, true, refl, MatchOption};
+ghost use Rattle.std.specs.Prelude.{◌≡◌, ◌∷◌, [], ℕ, List, Bool, true, refl};
 ghost use Rattle.pc_script.specs.Grammar.{Field};
 ghost use Rattle.pc_script.specs.Grammar as grammar;
 ghost use Rattle.pc_script.specs.Inner.Readings.{Kind, IsFieldReading, IsFieldsReading, is_word};
 ghost use Rattle.pc_script.specs.Inner.Readings as reading;
 ghost use Rattle.pc_script.specs.Inner.Taking.{words_left};
-ghost use Rattle.pc_script.specs.declared.command.OrderName.{OrderName};
 
-use crate::command::OrderName;
 use crate::digits::byte;
 use crate::trouble::Wanted;
 use crate::words::Words;
 use pc_messages::{Cpu, Tid};
+use pc_policy::OrderName;
 
 /// A field that is one word.
 pub(crate) trait Argument: Copy {
@@ -98,26 +97,6 @@ pub(crate) struct Order(pub(crate) OrderName);
 /// Whether steals are exact: the word `exact`, or none.
 #[derive(Clone, Copy)]
 pub(crate) struct Exactness(pub(crate) bool);
-
-/// The order that this word names.
-fn order_named(word: &[u8]) -> Option<OrderName>
-    ensures { MatchOption result ((any : OrderName) → word.now ≡ grammar.order_word any → ⊥)
-        (λ order. word.now ≡ grammar.order_word order) }
-{
-    if word == b"levels".as_slice() {
-        return Some(OrderName::Levels);
-    }
-    if word == b"fifo".as_slice() {
-        return Some(OrderName::Fifo);
-    }
-    if word == b"least-ran".as_slice() {
-        return Some(OrderName::LeastRan);
-    }
-    if word == b"levels-then-least-ran".as_slice() {
-        return Some(OrderName::LevelsThenLeastRan);
-    }
-    None
-}
 
 impl Argument for Processors {
     ghost kind = { reading.processors };
@@ -303,7 +282,7 @@ impl Argument for Order {
 
     fn read(words: &mut Words<'_>) -> Option<Self> {
         let word = words.next()?;
-        Some(Order(order_named(word)?))
+        Some(Order(OrderName::named(word)?))
     }
 }
 

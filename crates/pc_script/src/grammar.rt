@@ -8,7 +8,7 @@ ghost use Rattle.pc_script.specs.Inner.Verbs.{kinds, name_of};
 ghost use Rattle.pc_script.specs.Inner.Taking.{words_left};
 ghost use Rattle.pc_script.specs.declared.grammar.Verb.{Verb};
 
-use crate::command::{Command, PolicyName, Read};
+use crate::command::{Command, Read};
 use crate::fields::{
     Arguments, Count, Exactness, Failure, Index, Level, Mask, Order, Processor, Processors, Queue,
     State, Target, Thread,
@@ -19,6 +19,7 @@ use crate::trouble::{
 use crate::version::Version;
 use crate::words::Words;
 use pc_calls::{AgentCall, EnvCall, Event, Limits};
+use pc_policy::PolicyName;
 
 /// The first word of a command.
 #[derive(Clone, Copy, Debug, PartialEq, Eq)]

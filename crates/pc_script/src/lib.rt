@@ -38,7 +38,7 @@ mod version;
 mod walker;
 mod words;
 
-pub use command::{Command, OrderName, PolicyName, Read};
+pub use command::{Command, Read};
 pub use digits::{count, number};
 pub use grammar::Verb;
 pub use input::{MOST_BYTES, read_bytes, read_text};

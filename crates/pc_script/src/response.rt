@@ -5,12 +5,12 @@ ghost use Rattle.std.specs.Io.KnownBytes.{Appends};
 ghost use Rattle.pc_script.specs.Responses.{response_text, text_line};
 ghost use Rattle.pc_script.specs.declared.response.Response.{Response};
 
-use crate::command::PolicyName;
 use crate::lists::ShownThreads;
 use crate::short::write_line;
 use crate::text::LineEnd;
 use pc_calls::{LimitField, Refusal, Reply, Status};
 use pc_messages::{Phase, Tid};
+use pc_policy::PolicyName;
 use std::io::{self, Write};
 
 /// What a command is answered. Its text is one line, but for [`Response::View`].

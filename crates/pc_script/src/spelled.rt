@@ -2,9 +2,9 @@
 
 ghost use Rattle.std.specs.Prelude.{Some};
 ghost use Rattle.pc_script.specs.Grammar.{agent_row, call_row, command_text, event_row, read_row, row_text};
-ghost use Rattle.pc_script.specs.Grammar.{order_word, policy_text, state_word, target_word};
+ghost use Rattle.pc_script.specs.Grammar.{state_word, target_word};
 
-use crate::command::{Command, OrderName, PolicyName, Read};
+use crate::command::{Command, Read};
 use pc_calls::{AgentCall, EnvCall, Event, Limits};
 use pc_messages::Cpu;
 use std::fmt;
@@ -163,32 +163,6 @@ impl fmt::Display for SpelledLimits {
             posts,
         } = self.0;
         write!(f, "enclave {cpus} {threads} {numbers} {room} {posts}")
-    }
-}
-
-impl fmt::Display for OrderName {
-    ghost output = { λ order. Some (order_word order) };
-
-    fn fmt<W: fmt::Write>(&self, f: &mut fmt::Formatter<W>) -> fmt::Result {
-        f.write_str(match self {
-            OrderName::Levels => "levels",
-            OrderName::Fifo => "fifo",
-            OrderName::LeastRan => "least-ran",
-            OrderName::LevelsThenLeastRan => "levels-then-least-ran",
-        })
-    }
-}
-
-impl fmt::Display for PolicyName {
-    ghost output = { λ policy. Some (policy_text policy) };
-
-    fn fmt<W: fmt::Write>(&self, f: &mut fmt::Formatter<W>) -> fmt::Result {
-        let order = self.order;
-        if self.exact {
-            write!(f, "{order} exact")
-        } else {
-            write!(f, "{order}")
-        }
     }
 }
 

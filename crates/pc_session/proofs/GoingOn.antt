@@ -10,7 +10,7 @@ use Rattle.pc_join.specs.Sets.{has}
 use Rattle.pc_view.specs.Prefixes.{upto}
 use Rattle.pc_script.specs.declared.command.Command.{Command}
 use Rattle.pc_script.specs.declared.command.Command.TheVariants.{Enclave, Event as OneEvent, Read, Policy, Mend}
-use Rattle.pc_script.specs.declared.command.PolicyName.{PolicyName}
+use Rattle.pc_policy.specs.declared.named.PolicyName.{PolicyName}
 use Rattle.pc_script.specs.declared.response.Response.{Response}
 use Rattle.pc_script.specs.declared.response.Response.TheVariants as response
 use Rattle.pc_agent.specs.PlainAgent.{Set}
@@ -22,7 +22,7 @@ use Rattle.pc_world.specs.PlainWorld.{PlainWorld, opened, opened_by}
 use Rattle.pc_world.specs.Reached.{Leads, LeadsTo, Reached}
 use Rattle.pc_world.specs.Steps.{Step}
 use Rattle.pc_session.specs.GoingOn.{SessionsGoOn}
-use Rattle.pc_session.specs.Policies.{rules_named}
+use Rattle.pc_policy.specs.Names.{rules_named}
 use Rattle.pc_session.specs.Session.{PlainEnclave, Session, IsLimited, IsOpening, IsPolicy, IsRun, IsSession, IsStep, IsWorldStep, none, one_more, touched, untouched}
 use Rattle.pc_session.proofs.Answerable.{read_has}
 

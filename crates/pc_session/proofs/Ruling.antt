@@ -8,7 +8,7 @@ use Rattle.pc_kernel.specs.Rows.{KernelRows}
 use Rattle.pc_policy.specs.Rules.{Rules, rules_of}
 use Rattle.pc_policy.specs.declared.agent_policy.AgentPolicy.{AgentPolicy}
 use Rattle.pc_script.specs.declared.command.Command.TheVariants as command
-use Rattle.pc_script.specs.declared.command.PolicyName.{PolicyName}
+use Rattle.pc_policy.specs.declared.named.PolicyName.{PolicyName}
 use Rattle.pc_script.specs.declared.response.Response.{Response}
 use Rattle.pc_script.specs.declared.response.Response.TheVariants as response
 use Rattle.pc_world.specs.Mends.{IsMended}
@@ -16,7 +16,7 @@ use Rattle.pc_world.specs.PlainWorld.{PlainWorld, opened_by, rules_at}
 use Rattle.pc_world.specs.Shows.{Does, ShowsWorld, World}
 use Rattle.pc_world.specs.Steps.{Step}
 use Rattle.pc_session.specs.declared.session.Enclave.{Enclave}
-use Rattle.pc_session.specs.Policies.{AreAll, rules_named}
+use Rattle.pc_policy.specs.Names.{AreAll, rules_named}
 use Rattle.pc_session.specs.Session.{IsPolicy, touched, untouched}
 use Rattle.pc_session.specs.Inner.Sessions.{Answers, IsReplied}
 

@@ -3,7 +3,6 @@
 -- opens the world anew, where no event was taken.
 pub mod GoingOn
 pub mod Inner
-pub mod Policies
 pub mod Reads
 pub mod Session
 pub mod ShownViews

@@ -11,7 +11,7 @@ use Rattle.pc_kernel.specs.Reads.{shown, is_cpu}
 use Rattle.pc_script.specs.declared.command.Command.{Command}
 use Rattle.pc_policy.specs.Rules.{Rules}
 use Rattle.pc_script.specs.declared.command.Command.TheVariants.{Enclave, Event, Read, Policy, Mend}
-use Rattle.pc_script.specs.declared.command.PolicyName.{PolicyName}
+use Rattle.pc_policy.specs.declared.named.PolicyName.{PolicyName}
 use Rattle.pc_script.specs.declared.command.Read as reading
 use Rattle.pc_script.specs.declared.command.Read.TheVariants.{Show}
 use Rattle.pc_script.specs.declared.response.Response.{Response}
@@ -20,7 +20,7 @@ use Rattle.pc_world.specs.Mends.{IsMended, RanOutInMending}
 use Rattle.pc_world.specs.PlainWorld.{PlainWorld, opened, opened_by}
 use Rattle.pc_world.specs.RanOut as world
 use Rattle.pc_world.specs.Steps.{Step}
-use Rattle.pc_session.specs.Policies.{rules_named}
+use Rattle.pc_policy.specs.Names.{rules_named}
 use Rattle.pc_session.specs.Reads.{IsRead}
 
 -- A world, and whether no event was taken in it yet: neither one that was accepted nor one that was refused

@@ -15,7 +15,6 @@
 #![tactic(auto)]
 
 pub mod laws;
-mod policies;
 mod reads;
 mod session;
 mod show;

@@ -13,11 +13,11 @@ ghost use Rattle.pc_world.specs.Steps.{Step};
 ghost use Rattle.pc_session.specs.Inner.Sessions.{Answers, IsReplied, Steps, is_session};
 ghost use Rattle.pc_session.specs.Standing.{LeadsToWorld, ShowsEnclave, StandsAfter, lent};
 
-use crate::policies::policies_of;
 use crate::reads::answer_of;
 use pc_calls::{Event, LimitsFault, Profile, Refusal, Reply};
 use pc_messages::Cpu;
-use pc_script::{Command, Machine, PolicyName, Read, Response};
+use pc_policy::{AgentPolicy, PolicyName};
+use pc_script::{Command, Machine, Read, Response};
 use pc_world::World;
 use std::alloc::{AllocError, Global};
 
@@ -91,7 +91,7 @@ fn rule(
         return Ok(());
     }
     let limits = enclave.world.kernel().limits();
-    let policies = policies_of(alloc, policy, limits.cpus)?;
+    let policies = AgentPolicy::for_each(alloc, policy, limits.cpus)?;
     match World::new_by(alloc, profile, limits, policies.as_slice()) {
         Ok(world) => {
             enclave.world = world;

@@ -4,8 +4,8 @@ use Rattle.std.specs.Prelude.{bytes_eq}
 use Rattle.std.proofs.lemmas.List.{take-append-drop}
 use Rattle.std.proofs.Math.Seq.{take-append_seam, drop-append_seam}
 use Rattle.std.proofs.lemmas.Slice.Eq.{bytes_eq-Decides}
-use Rattle.pc_load.specs.declared.load.Leaving.{Leaving}
-use Rattle.pc_load.specs.declared.load.Leaving.TheVariants.{Yield, Block, Preempt, Die}
+use Rattle.pc_calls.specs.declared.leaving.Leaving.{Leaving}
+use Rattle.pc_calls.specs.declared.leaving.Leaving.TheVariants.{Yield, Block, Preempt, Die}
 use Rattle.pc_load.specs.declared.load.Step.{Step}
 use Rattle.pc_threads.specs.Settings.{ticks}
 use Rattle.pc_threads.specs.declared.settings.plans.Step as run

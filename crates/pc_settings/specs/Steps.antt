@@ -2,8 +2,8 @@
 use Rattle.std.specs.Prelude.{ℕ, ◌≡◌, ◌^◌, ◌<◌, ◌↔◌, ◌&&◌, List, [], ◌∷◌, ◌++◌, length, take, drop, nat_lt, Option}
 use Rattle.std.specs.Prelude.{Some, None, option_map, if◌then◌else◌, bytes_eq, codes, decimal}
 use Rattle.std.specs.Str.Parse.{digits_value}
-use Rattle.pc_load.specs.declared.load.Leaving.{Leaving}
-use Rattle.pc_load.specs.declared.load.Leaving.TheVariants.{Yield, Block, Preempt, Die}
+use Rattle.pc_calls.specs.declared.leaving.Leaving.{Leaving}
+use Rattle.pc_calls.specs.declared.leaving.Leaving.TheVariants.{Yield, Block, Preempt, Die}
 use Rattle.pc_load.specs.declared.load.Step.{Step}
 use Rattle.pc_settings.specs.Keys.{first_some}
 use Rattle.pc_threads.specs.Settings.{ticks}

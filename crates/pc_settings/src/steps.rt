@@ -7,7 +7,8 @@ ghost use Rattle.pc_settings.specs.Inner.Values.{text_in};
 ghost use Rattle.pc_settings.specs.Steps.{RunStepsAreReadAsWritten, StepsAreReadAsWritten};
 ghost use Rattle.pc_settings.specs.Steps.{read_after, read_leaving, read_run_step, read_step, run_leaving};
 
-use pc_load::{Leaving, Step};
+use pc_calls::Leaving;
+use pc_load::Step;
 use pc_script::count;
 use pc_threads::Step as RunStep;
 use toml::Value;

@@ -11,6 +11,7 @@ mod words;
 
 use lab::try_on_machine;
 use met::{Met, Source, say_failure};
+use pc_policy::AgentPolicy;
 use pc_program::{
     Command, CommandFault, Ending, Failure, Form, Manual, converse_flushed, make_flushed,
     read_command, replay_flushed,
@@ -218,7 +219,10 @@ fn main(rt: HostRuntime) -> ExitCode {
                 policy,
                 script,
             },
-        ) => run_on_machine(&rt, &rt, file, form, limit, policy, script),
+        ) => {
+            let policy = AgentPolicy::named(policy);
+            run_on_machine(&rt, &rt, file, form, limit, policy, script)
+        }
         Err(met) => end(&rt, &met, &Source(None), MOST_BYTES),
     }
 }

@@ -3,7 +3,7 @@ use Rattle.std.specs.Prelude.{◌≡◌, ℕ, ◌+◌, Bool, true, false, List, 
 use Rattle.pc_script.specs.Scripts.{Notice, answered, faulted, version_named}
 use Rattle.pc_script.specs.declared.outcome.Outcome.{Outcome}
 use Rattle.pc_script.specs.declared.outcome.Outcome.TheVariants.{FaultLine}
-use Rattle.pc_script.specs.declared.command.PolicyName.{PolicyName}
+use Rattle.pc_policy.specs.declared.named.PolicyName.{PolicyName}
 use Rattle.pc_draw.specs.Pictures.{policy_by, refuses}
 
 -- whether a notice tells of a command, and of one that was refused

@@ -8,7 +8,7 @@ use Rattle.std.proofs.KnownBytes.{Keeps-refl, Keeps-trans}
 use Rattle.pc_script.specs.Scripts.{Notice, answered, faulted, version_named}
 use Rattle.pc_script.specs.declared.outcome.Outcome.{Outcome}
 use Rattle.pc_script.specs.declared.outcome.Outcome.TheVariants.{FaultLine}
-use Rattle.pc_script.specs.declared.command.PolicyName.{PolicyName}
+use Rattle.pc_policy.specs.declared.named.PolicyName.{PolicyName}
 use Rattle.pc_draw.specs.Pictures.{policy_by}
 use Rattle.pc_draw.specs.Inner.Recorded.{Kept, Records, is_answer, is_refusal, end_by, policy_told}
 

@@ -2,7 +2,7 @@
 
 use crate::sentences::Sentences;
 use crate::words::{Count, Cpus};
-use pc_calls::{EnvCall, Posted};
+use pc_calls::{EnvCall, Leaving, Left, Posted};
 use std::fmt::{self, Write};
 
 /// A call that posted an item.
@@ -56,26 +56,23 @@ fn changed(text: &mut Sentences, call: &EnvCall, posted: &Posted) -> fmt::Result
             let cpu = cpu.index();
             writeln!(text, "The timer of CPU {cpu} went off.")
         }
-        EnvCall::Block { cpu, ran } => left(text, thread, cpu.index(), *ran, "is blocked"),
-        EnvCall::YieldNow { cpu, ran } => {
-            left(text, thread, cpu.index(), *ran, "stays ready: it yielded")
-        }
-        EnvCall::Preempt { cpu, ran } => {
-            left(
-                text,
-                thread,
-                cpu.index(),
-                *ran,
-                "stays ready: it was preempted",
-            )
-        }
-        EnvCall::Die { cpu, ran } => left(text, thread, cpu.index(), *ran, "is dead"),
+        _ => match call.left() {
+            Some(how) => left(text, thread, &how),
+            None => Ok(()),
+        },
     }
 }
 
 /// A thread that left its CPU.
-fn left(text: &mut Sentences, thread: u32, cpu: u8, ran: u32, state: &str) -> fmt::Result {
-    let ticks = Count(u64::from(ran), "tick");
+fn left(text: &mut Sentences, thread: u32, how: &Left) -> fmt::Result {
+    let cpu = how.cpu.index();
+    let ticks = Count(u64::from(how.ran), "tick");
+    let state = match how.leaving {
+        Leaving::Yield => "stays ready: it yielded",
+        Leaving::Block => "is blocked",
+        Leaving::Preempt => "stays ready: it was preempted",
+        Leaving::Die => "is dead",
+    };
     writeln!(
         text,
         "Thread t{thread} leaves CPU {cpu}, which is idle now, after {ticks}, and {state}."

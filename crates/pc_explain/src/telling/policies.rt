@@ -6,7 +6,7 @@ use crate::telling::Scene;
 use crate::words::Count;
 use pc_calls::{Event, Refusal, Reply};
 use pc_messages::{Cpu, Reported, Tid};
-use pc_script::{OrderName, PolicyName};
+use pc_policy::{OrderName, PolicyName};
 use std::fmt::{self, Write};
 
 /// All agents go by a policy.

@@ -8,7 +8,7 @@ use crate::words::Count;
 use pc_advice::{Deed, tried_by_steal};
 use pc_calls::{LimitField, Refusal};
 use pc_messages::{Cpu, Tid};
-use pc_script::PolicyName;
+use pc_policy::PolicyName;
 use pc_world::World;
 use std::fmt::{self, Write};
 

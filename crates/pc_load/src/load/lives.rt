@@ -5,7 +5,8 @@ ghost use Rattle.std.specs.List.{list_all};
 ghost use Rattle.pc_load.specs.Loads.{are_sleeps, blocks, dies, is_life, is_u32};
 
 use crate::load::numbers::is_u32;
-use crate::load::{Leaving, MOST_STEPS, Step};
+use crate::load::{MOST_STEPS, Step};
+use pc_calls::Leaving;
 
 impl Step {
     const fn dies(&self) -> bool

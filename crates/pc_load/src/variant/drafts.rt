@@ -11,9 +11,9 @@ ghost use Rattle.pc_load.specs.declared.variant.TheConstants.{MOST_GROUP};
 ghost use Rattle.pc_load.specs.declared.variant.VariantFault.TheVariants.{Bad, OutOfMemory};
 
 use crate::load::numbers::{is_between, is_u32, u32_of};
-use crate::variant::words::{exact_of, is_name, order_of};
+use crate::variant::words::is_name;
 use crate::variant::{MOST_GROUP, Variant, VariantDraft, VariantFault};
-use pc_script::{OrderName, PolicyName};
+use pc_policy::{OrderName, PolicyName, Stealing};
 use std::alloc::{AllocError, Global};
 
 /// The variant of all defaults.
@@ -83,16 +83,17 @@ fn variant_of(alloc: Global, draft: &VariantDraft<'_>) -> Result<Option<Variant>
     if !is_name(name) {
         return Ok(None);
     }
-    let Some(order) = order_of(draft.order) else {
+    let Some(order) = OrderName::named(draft.order.as_bytes()) else {
         return Ok(None);
     };
-    let Some(exact) = exact_of(draft.steals) else {
+    let Some(stealing) = Stealing::named(draft.steals.as_bytes()) else {
         return Ok(None);
     };
     if !are_numbers(draft) {
         return Ok(None);
     }
     let name = Vec::from_slice(alloc, name)?;
+    let exact = stealing.is_exact();
     Ok(Some(with_policy(draft, name, PolicyName { order, exact })))
 }
 

@@ -1,12 +1,10 @@
 //! Words of variants.
 
-ghost use Rattle.std.specs.Prelude.{◌≡◌, MatchOption, true, false, not, bytes_eq};
+ghost use Rattle.std.specs.Prelude.{◌≡◌};
 ghost use Rattle.std.specs.List.{list_all};
-ghost use Rattle.pc_script.specs.Grammar.{order_word};
-ghost use Rattle.pc_load.specs.Variants.{is_letter, is_name, is_order, is_steals, steals_word};
+ghost use Rattle.pc_load.specs.Variants.{is_letter, is_name};
 
 use crate::variant::{MOST_NAME, Variant};
-use pc_script::OrderName;
 use std::fmt::{self, Display, Formatter, Write};
 
 /// Whether the byte may stand in a name.
@@ -27,45 +25,6 @@ pub(crate) fn is_name(name: &[u8]) -> bool
     ensures { result ≡ is_name name.now }
 {
     1 <= name.len() && name.len() <= MOST_NAME && are_letters(name)
-}
-
-/// The order that the word names.
-pub(crate) fn order_of(word: &str) -> Option<OrderName>
-    ensures { MatchOption result (is_order word.now ≡ false)
-        (λ order. (is_order word.now ≡ true) × (order_word order ≡ word.now)) }
-{
-    if word == "levels" {
-        Some(OrderName::Levels)
-    } else if word == "fifo" {
-        Some(OrderName::Fifo)
-    } else if word == "least-ran" {
-        Some(OrderName::LeastRan)
-    } else if word == "levels-then-least-ran" {
-        Some(OrderName::LevelsThenLeastRan)
-    } else {
-        None
-    }
-}
-
-/// Whether steals are exact, by the word for what a steal takes.
-pub(crate) fn exact_of(word: &str) -> Option<bool>
-    ensures { MatchOption result (is_steals word.now ≡ false)
-        (λ exact. (is_steals word.now ≡ true) × (steals_word exact ≡ word.now)) }
-{
-    if word == "least" {
-        Some(false)
-    } else if word == "exact" {
-        Some(true)
-    } else {
-        None
-    }
-}
-
-/// The word for what a steal takes.
-const fn steals_word(exact: bool) -> &'static str
-    ensures { result.now ≡ steals_word exact }
-{
-    if exact { "exact" } else { "least" }
 }
 
 /// A name as it is written.
@@ -97,7 +56,7 @@ impl Display for Variant {
     fn fmt<W: Write>(&self, f: &mut Formatter<W>) -> fmt::Result {
         let title = Title(self.name.as_slice());
         let order = self.policy.order;
-        let steals = steals_word(self.policy.exact);
+        let steals = self.policy.stealing();
         let (quantum, group, delay, cost) = (self.quantum, self.group, self.delay, self.cost);
         let (urgent, keep) = (self.urgent, self.keep);
         write!(

@@ -8,8 +8,8 @@ use Rattle.pc_script.specs.Grammar.{Target, Failure, Order, Exactness, row_of}
 use Rattle.pc_script.specs.Inner.Readings.{Kind, kinds_of}
 use Rattle.pc_script.specs.declared.command.Command.{Command}
 use Rattle.pc_script.specs.declared.command.Command.TheVariants as command
-use Rattle.pc_script.specs.declared.command.OrderName.{OrderName}
-use Rattle.pc_script.specs.declared.command.OrderName.TheVariants.{Levels}
+use Rattle.pc_policy.specs.declared.named.OrderName.{OrderName}
+use Rattle.pc_policy.specs.declared.named.OrderName.TheVariants.{Levels}
 use Rattle.pc_script.specs.declared.command.Read.TheVariants as read
 use Rattle.pc_script.specs.declared.grammar.Verb.{Verb}
 use Rattle.pc_script.specs.declared.grammar.Verb.TheVariants as verb

@@ -3,7 +3,7 @@ use Rattle.pc_calls.specs.declared.limits.Limits.{Limits}
 use Rattle.pc_world.specs.PlainWorld.{opened_by, rules_at}
 use Rattle.pc_world.specs.Shows.{ShowsWorld}
 use Rattle.pc_session.specs.declared.session.Enclave.{Enclave}
-use Rattle.pc_session.specs.Policies.{AreAll, rules_named}
+use Rattle.pc_policy.specs.Names.{AreAll, rules_named}
 use Rattle.pc_session.proofs.Ruling.{ruled}
 use Rattle.pc_session.proofs.session.rule.Goals as goal
 

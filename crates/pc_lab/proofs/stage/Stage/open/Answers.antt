@@ -2,13 +2,14 @@ use Rattle.std.proofs.Common.{rules, ◌∙◌, ℕ, List, [], None, sym, ap, su
 use Rattle.pc_calls.specs.declared.limits.Limits.{Limits}
 use Rattle.pc_load.specs.Loads.{Demand}
 use Rattle.pc_policy.specs.declared.agent_policy.AgentPolicy.{AgentPolicy}
-use Rattle.pc_script.specs.declared.command.PolicyName.{PolicyName}
+use Rattle.pc_policy.specs.declared.named.PolicyName.{PolicyName}
 use Rattle.pc_world.specs.PlainWorld.{opened_by, rules_at}
 use Rattle.pc_world.specs.Shows.{ShowsWorld}
 use Rattle.pc_lab.specs.Limits.{limits_for}
 use Rattle.pc_lab.specs.declared.waits.Wait.{Wait}
 use Rattle.pc_lab.specs.declared.waits.Waiter.{Waiter}
-use Rattle.pc_lab.specs.Stages.{AreAll, IsRun, rules_named}
+use Rattle.pc_lab.specs.Stages.{IsRun}
+use Rattle.pc_policy.specs.Names.{AreAll, rules_named}
 use Rattle.pc_lab.proofs.Staging.{opened}
 use Rattle.pc_lab.proofs.stage.Stage.open.Goals as goal
 

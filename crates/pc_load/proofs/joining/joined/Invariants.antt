@@ -1,5 +1,0 @@
-use Rattle.pc_load.proofs.Joined.{Joined}
-use Rattle.pc_load.proofs.joining.joined.Given as goal
-
-abbrev pub invariant-loop-place : goal.invariant-loop-place
-invariant-loop-place l = Joined l.steps l.place l.all.items l.more
