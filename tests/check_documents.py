@@ -2,9 +2,10 @@
 """Checks that the documents speak of what is there, and that the repository is tidy. It reads the sources and proves nothing.
 
   promises     each function, clause, type, definition and file that the lists of docs/PROMISES.md name is there
-  memory       its list on want of memory has an item for each public call that may want memory, with clauses and tests that are there
-  public       each function with a contract that a crate exports is named by docs/PROMISES.md
-  definitions  docs/DEFINITIONS.md is what tools/definitions.py makes, and each definition has a comment
+  memory       each public call that may want memory has a clause that tells what that leaves, where it is lent what it may change; and
+               a single call of tests/hostile/calls that it names, or a row of tests/hostile/calls.txt; and none of these names another
+  public       each function with a contract that a crate exports has a comment, by which tools/definitions.py --clauses tells it
+  definitions  each definition has a comment, by which tools/definitions.py tells it
   names        each `Type::name`, `Module.word` and path of a file in any other document is there
   crates       docs/ARCHITECTURE.md has each crate, and what it stands on, as crates.txt has it
   refusals     docs/FORMATS.md and docs/GLOSSARY.md have an item for each refusal
@@ -14,13 +15,14 @@
   versions     the program, its case, CHANGELOG.md and the manual page tell one version, the last two its date, and README.md the kit
                that is on the path
   widths       no line of a document, of .rt or of specs/ is wider than 120 columns
-  sentences    no sentence of a document has more than 40 words, but in docs/DEFINITIONS.md
+  words        no page has more words than tests/tidy.py allows it, nor have all together
+  sentences    no sentence of a document has more than 40 words
   files        each file of docs/, examples/, tools/, tests/ and bench/ is named by some other file
   numbers      nothing is cited by a number: no theorem, request, row or issue
   titles       each commit's title has at most 72 columns, and none of the words that tell of work under way
 
 A line for each finding, how much was looked at, and then `N passed, M failed`, of these checks. The exit status is 0 only where
-none failed. The last five are those of tests/tidy.py.
+none failed. The last six are those of tests/tidy.py.
 """
 import fnmatch
 import pathlib
@@ -32,142 +34,18 @@ from dataclasses import dataclass, field
 
 import tidy
 
-ROOT = pathlib.Path(__file__).resolve().parent.parent
-IDENTIFIER = re.compile(r"[A-Za-z_]\w*")
+sys.path.insert(0, str(pathlib.Path(__file__).resolve().parent.parent / "tools"))
+from sources import IDENTIFIER, LEFT_BY, ROOT, Sources  # noqa: E402  # it stands beside the tools that share it
+
 SPAN = re.compile(r"`([^`]+)`")
 FILE_NAME = re.compile(r"[\w./*-]+\.(?:rt|antt|edit|md|py|txt|script|output)|[\w.*-]+/[\w./*-]*")
 
-# A name inside a type or a trait: a ghost, a constant, or a field.
-INNER_NAME = re.compile(r"\bghost (\w+)[ :=]|\bconst ([A-Z_]+):|^    (?:pub )?(\w+): ")
-# A record of specs/, whose head may take several lines, and its fields.
-RECORD = re.compile(r"^pub record (\w+)(?:.*\n)*?.*\bwhere\n((?: +.*\n)*)", re.M)
+# The calls that may want memory which no single call of tests/hostile/calls makes, each with what meets it.
+CALLS = "tests/hostile/calls.txt"
+# The name of a single call, in the files that have some: the public call, and which one of several behind it.
+SINGLE_CALL, NO_CALLS = re.compile(r'(?<!b)"(\w+(?:::\w+)?(?: [^"]*)?)"'), {"main.rt.in", "scene.rt.in"}
 # Names that are std's, and words of the language.
 FOREIGN = {"Err", "Ok", "IsStrictlyIncreasing"}
-# A caller's crate, to copy: it promises nothing of the program.
-EXAMPLE = "pc_example"
-
-# Errors that may be want of memory.
-WANTING = re.compile(
-    r"->.*Result<.*\b(?:OutOfMemory|AllocError|(?!(?:Mask|Level|Config)Fault)\w+Fault)\b", re.S)
-# An ending of the program may be one too, where the call may allocate.
-ENDING = re.compile(r"\balloc: Global\b.*->.*\b(?:Lab)?Ending\b", re.S)
-
-
-@dataclass
-class Function:
-    crate: str
-    owner: str  # the type or trait, or "" of a free function
-    module: str  # the file's path under src, without its suffix
-    name: str
-    is_pub: bool
-    of_trait: str = ""  # the trait that an impl meets, or that declares it
-    clauses: set = field(default_factory=set)
-    records: set = field(default_factory=set)  # what its clauses begin with: where that is a record, its fields are clauses too
-    has_contract: bool = False
-    head: str = ""  # its parameters and what it answers
-
-    def may_want_memory(self):
-        return bool(WANTING.search(self.head) or ENDING.search(self.head)) and "succeeds" not in self.clauses
-
-    def __str__(self):
-        return f"{self.crate} {self.owner + '::' if self.owner else ''}{self.name}"
-
-
-class Crate:
-    """The names of one crate's sources and definitions."""
-
-    def __init__(self, folder):
-        self.name = folder.name
-        self.folder = folder
-        self.functions, self.tests, self.types, self.words = [], [], set(), set()
-        self.traits, self.met = set(), set()
-        for path in sorted(folder.glob("src/**/*.rt")):
-            module = str(path.relative_to(folder / "src").with_suffix(""))
-            is_test = module == "tests" or module.startswith("tests/")
-            self.read_source(path.read_text(), module, self.tests if is_test else self.functions)
-        root = folder / "src/lib.rt"
-        text = (root if root.is_file() else folder / "src/main.rt").read_text()
-        self.is_program = not root.is_file()
-        self.open_modules = set(re.findall(r"^pub mod (\w+);", text, re.M))
-        self.exports = set()
-        for many, one in re.findall(r"^pub use [\w:]*::(?:\{([^}]*)\}|(\w+));", text, re.M):
-            self.exports |= set(IDENTIFIER.findall(many or one))
-        self.definitions, self.fields = {}, {}
-        for path in folder.glob("specs/**/*.antt"):
-            module = ".".join(path.relative_to(folder / "specs").with_suffix("").parts)
-            found = re.findall(r"^\s*(?:[a-z]+ )*?pub (?:record |data |mod )?([^\s:(){}]+)", path.read_text(), re.M)
-            constructors = re.findall(r"^  (\w+) :", path.read_text(), re.M)
-            self.definitions[module] = set(found) | set(constructors)
-            for name, fields in RECORD.findall(path.read_text()):
-                self.fields[name] = set(re.findall(r"^  pub (\w+) :", fields, re.M))
-
-    def read_source(self, text, module, into):
-        owner, of_trait, last, in_enum, in_head = "", "", None, False, False
-        for line in text.splitlines():
-            if line.startswith("}"):
-                owner, of_trait, last, in_enum = "", "", None, False
-            header = re.match(r"impl(.*)\{$|impl(.*)$", line)
-            if header:
-                of_trait, owner = impl_names(header[1] or header[2] or "")
-                self.met.add((owner, of_trait))
-            declared = re.match(r"(?:pub(?:\(crate\))? )?(struct|enum|trait) (\w+)", line)
-            if declared:
-                self.types.add(declared[2])
-                in_enum = declared[1] == "enum"
-                if declared[1] == "trait":
-                    self.traits.add(declared[2])
-                    owner = of_trait = declared[2]
-            variant = re.match(r"    (\w+)(?:[,({ ]|$)", line)
-            if in_enum and variant:
-                self.words.add(variant[1])
-            inner = INNER_NAME.search(line)
-            if inner:
-                self.words |= set(filter(None, inner.groups()))
-            self.words |= set(re.findall(r'b"(\w+)"', line))  # words of a script
-            function = re.match(r"\s*(pub(?:\(crate\))? )?(?:const )?fn (\w+)", line)
-            if function:
-                is_pub = function[1] == "pub " or owner in self.traits or bool(of_trait)
-                last = Function(self.name, owner, module, function[2], is_pub, of_trait)
-                into.append(last)
-            in_head = bool(function) or in_head and not re.match(r"\s*(?:ensures|requires|where|\{)", line)
-            if in_head:
-                last.head += line
-                in_head = "{" not in line and not line.endswith(";")
-            clause = re.match(r"\s*ensures (?:(\w+) )?\{(?: (\w+))?", line)
-            if clause and last:
-                last.has_contract = True
-                last.clauses |= {clause[1]} if clause[1] else set()
-                last.records |= {clause[2]} if clause[2] else set()
-
-    def exported(self, function):
-        if not function.is_pub or (function.of_trait and function.owner != function.of_trait):
-            return False
-        if self.is_program:
-            return function.module == "main" and not function.owner
-        if function.owner:
-            return function.owner in self.exports
-        return function.name in self.exports or function.module.split("/")[0] in self.open_modules
-
-    def knows(self, word):
-        return (word in self.types or word in self.words or any(f.name == word or word in f.clauses for f in self.functions)
-                or any(word in words for words in self.definitions.values()) or word in self.definitions
-                or any(word == trait for _, trait in self.met))
-
-
-def impl_names(header):
-    """The trait (or none) and the type of an impl's header."""
-    text = header.strip()
-    if text.startswith("<"):
-        depth = 0
-        for place, letter in enumerate(text):
-            depth += (letter == "<") - (letter == ">" and text[place - 1] != "-")
-            if depth == 0:
-                text = text[place + 1:]
-                break
-    parts = text.split(" for ")
-    names = [(re.match(r"(?:\w+::)*(\w+)", part.strip()) or ["", ""])[1] for part in parts]
-    return (names[0], names[-1]) if len(parts) > 1 else ("", names[0])
-
 
 @dataclass
 class Item:
@@ -222,9 +100,8 @@ def all_below(below, name):
 class Checker:
     def __init__(self):
         self.checked, self.findings = 0, []
-        folders = [path for path in sorted((ROOT / "crates").iterdir()) if (path / "src").is_dir()]
-        self.crates = {folder.name: Crate(folder) for folder in folders}
-        self.named = set()
+        self.sources = Sources()
+        self.crates = self.sources.crates
 
     def expect(self, holds, where, finding):
         self.checked += 1
@@ -232,21 +109,6 @@ class Checker:
             self.findings.append(f"{where}: {finding}")
 
     # Names
-
-    def clauses_of(self, function):
-        """Its own clauses, those of the trait's method that it meets, and the fields of the records that they are."""
-        clauses = set(function.clauses).union(*(self.fields_of(function.crate, name) for name in function.records))
-        if function.of_trait and function.of_trait != function.owner:
-            for crate in self.crates.values():
-                for other in crate.functions:
-                    if other.owner == other.of_trait == function.of_trait and other.name == function.name:
-                        clauses |= other.clauses
-        return clauses
-
-    def fields_of(self, crate, name):
-        """The fields of a record of the crate, or else of another one; none where nothing else is a record of this name."""
-        own = self.crates[crate].fields.get(name)
-        return own if own is not None else set().union(*(other.fields.get(name, set()) for other in self.crates.values()))
 
     def functions_at(self, crates, path):
         """The functions that a path of names stands for: `name`, `Type::name`, `module::name`, `tests::module::name`."""
@@ -316,11 +178,10 @@ class Checker:
                     continue
                 self.expect(found, where, f"there is no public function `{head}`")
             group = group + found if not clauses else group
-            self.named |= {(f.crate, f.owner, f.name) for f in found}
             for function in found if len(found) == 1 or not clauses or types else []:
                 self.expect_clauses(where, function, clauses)
             if len(found) > 1 and clauses and not types:
-                carried = any(set(clauses) <= self.clauses_of(f) for f in found)
+                carried = any(set(clauses) <= self.sources.clauses_of(f) for f in found)
                 self.expect(carried, where, f"no `{head}` has the clauses {', '.join(clauses)}")
 
     def methods(self, crate, types, name):
@@ -330,27 +191,24 @@ class Checker:
 
     def expect_clauses(self, where, function, clauses):
         for clause in clauses:
-            self.expect(clause in self.clauses_of(function), where, f"`{function}` has no clause `{clause}`")
+            self.expect(clause in self.sources.clauses_of(function), where, f"`{function}` has no clause `{clause}`")
 
     def expect_of_type(self, where, crate, name, words):
         """What stands behind a type's name: traits that it meets, or clauses of its functions."""
         for word in words:
-            has = (name, word) in crate.met or any(word in self.clauses_of(f) for f in crate.functions if f.owner == name)
+            has = (name, word) in crate.met or any(word in self.sources.clauses_of(f) for f in crate.functions if f.owner == name)
             self.expect(has, where, f"`{name}` has no clause `{word}` and meets no such trait")
 
-    def check_promised(self, where, crate, cell, carries):
-        """What says a promise: whatever it names is there. It may name what carries it, too."""
+    def check_promised(self, where, crate, cell):
+        """What says a promise: whatever it names is there."""
         for text in SPAN.findall(cell):
             path = text.split("::")
-            if not all(IDENTIFIER.fullmatch(part) for part in path):
-                continue
-            found = [f for f in self.functions_at([crate], path) if f.is_pub]
-            if carries:
-                self.named |= {(f.crate, f.owner, f.name) for f in found}
-            self.expect(found or self.is_known(path[-1]), where, f"nothing is named `{text}`")
+            if all(IDENTIFIER.fullmatch(part) for part in path):
+                found = [f for f in self.functions_at([crate], path) if f.is_pub]
+                self.expect(found or self.is_known(path[-1]), where, f"nothing is named `{text}`")
 
     def check_promises(self):
-        for item in items_of("docs/PROMISES.md", ["carried by", "met by"]):
+        for item in items_of("docs/PROMISES.md", ["carried by"]):
             heading = re.match(r"## `(\w+)`", item.heading)
             if not heading:
                 continue
@@ -359,64 +217,71 @@ class Checker:
             carriers = item.below.get("carried by", "")
             self.expect(carriers, item.where, "no line `carried by` stands below it")
             if crate:
-                self.check_promised(item.where, crate, item.text, carriers.startswith("the clause of each"))
+                self.check_promised(item.where, crate, item.text)
                 self.check_carriers(item.where, crate, carriers)
 
     def check_public(self):
-        for crate in self.crates.values():
-            for function in crate.functions:
-                key = (function.crate, function.owner, function.name)
-                if function.has_contract and crate.exported(function) and function.crate != EXAMPLE:
-                    self.expect(key in self.named, "docs/PROMISES.md", f"it does not name `{function}`, which has a public contract")
+        """The page of clauses tells each public function by its comment."""
+        for function in self.sources.public():
+            self.expect(function.first_sentence(), function.where(), f"`{function}` has a public contract, and no comment")
 
     # What want of memory leaves
 
     def check_memory(self):
-        """The list of docs/PROMISES.md: under a crate's name an item for each call, with what is left, clauses and tests."""
-        told = set()
-        for item in items_of("docs/PROMISES.md", ["carried by", "met by"]):
-            heading = re.match(r"### `(\w+)`", item.heading)
-            if not heading:
-                continue
-            crate = self.crates.get(heading[1])
-            self.expect(crate, item.where, f"there is no crate `{heading[1]}`")
-            called = re.match(r"`([\w:]+)`: ", item.text)
-            self.expect(called and {"carried by", "met by"} <= set(item.below), item.where, "no call, or no `carried by` and `met by` below it")
-            if not crate or not called:
-                continue
-            found = [f for f in self.functions_at([crate], called[1].split("::")) if f.is_pub]
-            holds = found and all(f.may_want_memory() for f in found)
-            self.expect(holds, item.where, f"`{called[1]}` is no public call that may want memory")
-            told |= {(f.crate, f.owner, f.name) for f in found}
-            self.check_carriers(item.where, crate, item.below.get("carried by", ""))
-            self.check_tests_of(item.where, item.below.get("met by", ""))
-        for function in (f for it in self.crates.values() for f in it.functions if self.wants_row(it, f)):
-            key = (function.crate, function.owner, function.name)
-            self.expect(key in told, "docs/PROMISES.md", f"`{function}` may want memory, and its list does not tell what that leaves")
+        """Each public call that may want memory has clauses that tell what that leaves, and what meets it."""
+        wanting = self.sources.wanting()
+        for function in wanting:
+            if function.is_lent_to_change():
+                self.expect(self.sources.left_by(function), function.where(), f"no clause tells what `{function}` leaves where it finds no memory")
+        for name, left in LEFT_BY.items():
+            found = [function for function in wanting if str(function) == name]
+            where = "tools/sources.py"
+            self.expect(found, where, f"LEFT_BY has `{name}`, which is no public call that may want memory")
+            for function in found:
+                needs = function.is_lent_to_change() and self.sources.left_by(function) == left
+                self.expect(needs, where, f"LEFT_BY has `{name}`, of which clauses tell it by their names")
+                self.expect_clauses(where, function, left if isinstance(left, list) else [])
+        self.check_met(wanting)
 
-    def wants_row(self, crate, function):
-        """Whether a call is public and may want memory. The methods of `Join` are told of each type that has them."""
-        if function.of_trait == "Join":
-            return function.owner != "Join" and function.owner in crate.exports and function.may_want_memory()
-        return crate.exported(function) and function.may_want_memory() and function.crate != EXAMPLE
+    def check_met(self, wanting):
+        """Single calls name the public calls that they make; tests/hostile/calls.txt has a row for each other call, and no further ones."""
+        single, called = set(), set()
+        for path in sorted((ROOT / "tests/hostile/calls").glob("*.rt.in")):
+            for name in SINGLE_CALL.findall(path.read_text()) if path.name not in NO_CALLS else []:
+                found = [f for it in self.crates.values() for f in it.functions if f.is_pub and f.may_want_memory() and f.path() == name.split(" ")[0]]
+                told = f"the single call `{name}` names no public call that may want memory, or several"
+                self.expect(len(found) == 1, str(path.relative_to(ROOT)), told)
+                single.add(name)
+                called |= {str(function) for function in found}
+        rows = self.rows_of_calls(single)
+        names = {str(function) for function in wanting}
+        for name in sorted(names - called):
+            self.expect(name in rows, CALLS, f"no single call is named `{name.split(' ')[1]}`, and there is no row for `{name}`")
+        for name in rows:
+            self.expect(name in names, CALLS, f"`{name}` is no public call that may want memory")
+            self.expect(name not in called, CALLS, f"`{name}` has a single call of its own, and needs no row")
 
-    def check_tests_of(self, where, cell):
-        """What names the tests: single calls and cases in backquotes, parts of the harness in italics."""
-        calls = "".join(path.read_text() for path in (ROOT / "tests/hostile/calls").glob("*.rt.in"))
-        parts = (ROOT / "tests/hostile/hostile.py").read_text()
-        self.expect(cell, where, "no test is named")
-        for name in SPAN.findall(cell):
-            self.expect(f'"{name}"' in calls or (ROOT / "tests/cases" / name).is_dir(), where, f"there is no single call and no case `{name}`")
-        for name in re.findall(r"\*([^*]+)\*", cell):
-            self.expect(f'"{name}": lambda' in parts, where, f"the harness has no part {name}")
+    def rows_of_calls(self, single):
+        """The calls of tests/hostile/calls.txt, whose rows name single calls of others, parts of the harness in italics, and cases."""
+        parts, rows = (ROOT / "tests/hostile/hostile.py").read_text(), set()
+        for number, line in enumerate((ROOT / CALLS).read_text().splitlines(), 1):
+            if not line or line.startswith("#"):
+                continue
+            name, _, told = line.partition(": ")
+            where = f"{CALLS}:{number}"
+            rows.add(name)
+            self.expect(told, where, "nothing is named that meets it")
+            for what in filter(None, told.split(", ")):
+                kind, _, text = what.partition(" ")
+                is_there = {"call": text in single, "part": f'"{text}": lambda' in parts, "case": (ROOT / "tests/cases" / text).is_dir()}
+                self.expect(text and is_there.get(kind), where, f"there is no `{what}`")
+        return rows
 
     # DEFINITIONS, and the other documents
 
     def check_definitions(self):
+        """Each definition has a comment, and the page of definitions has all of them."""
         made = subprocess.run([sys.executable, ROOT / "tools/definitions.py"], capture_output=True, text=True, check=True).stdout
-        path, where = ROOT / "docs/DEFINITIONS.md", "docs/DEFINITIONS.md"
-        told = path.read_text() if path.is_file() else ""
-        self.expect(made == told, where, "it is not what tools/definitions.py makes of specs/: tools/definitions.py >docs/DEFINITIONS.md")
         bare = subprocess.run([sys.executable, ROOT / "tools/definitions.py", "--bare"], capture_output=True, text=True)
         self.checked += made.count("\n- `")
         for line in bare.stdout.splitlines() if bare.returncode else []:
@@ -425,7 +290,7 @@ class Checker:
     def check_names(self):
         documents = [ROOT / name for name in ("README.md", "CHANGELOG.md", "CONTRIBUTING.md", "examples/README.md")]
         for path in [*documents, *sorted((ROOT / "docs").glob("*.md"))]:
-            if not path.is_file() or path.name == "DEFINITIONS.md":
+            if not path.is_file():
                 continue
             for number, paragraph in paragraphs_of(path):
                 where = f"{path.relative_to(ROOT)}:{number}"
@@ -545,6 +410,9 @@ class Checker:
     def check_widths(self):
         self.add(*tidy.widths(ROOT))
 
+    def check_words(self):
+        self.add(*tidy.words(ROOT))
+
     def check_sentences(self):
         self.add(*tidy.sentences(ROOT))
 
@@ -560,7 +428,6 @@ class Checker:
 
 def main():
     checker = Checker()
-    # `public` looks at what `promises` and `memory` found named, so it comes after them
     checks = [
         checker.check_promises,
         checker.check_memory,
@@ -574,6 +441,7 @@ def main():
         checker.check_shown_code,
         checker.check_versions,
         checker.check_widths,
+        checker.check_words,
         checker.check_sentences,
         checker.check_files,
         checker.check_numbers,

@@ -32,8 +32,36 @@ EXAMPLES = [
 # Of both packages, below usr or the archive's folder.
 FILES = [
     "bin/pc-sim-record-loads", "bin/pc-sim-sweep", "share/pc-sim/load_kinds.py",
-    "share/doc/pc-sim/docs/WALK_THROUGH.md", "share/doc/pc-sim/docs/pictures/crash-and-steal.png",
+    "share/doc/pc-sim/docs/pictures/crash-and-steal.png",
 ]
+# Pages that are made, and a line of each.
+MADE = {
+    "DEFINITIONS.md": "## `pc_kernel`",
+    "CLAUSES.md": "- `World::mend`:",
+    "WALK_THROUGH.md": "| `steal 1` | `ok t0 q1` |  |  |",
+}
+# A script, and the rows of its walk, by hand.
+WALKED = """\
+# Agent 1 is told late.
+enclave 2 8 100 16 1000
+create 0 3 blocked
+wake t0
+publish 0
+deliver 1 0
+crash 0
+"""
+ROWS = """\
+Agent 1 is told late.
+
+| line | reply | agent 0 knows | agent 1 knows |
+|---|---|---|---|
+| `enclave 2 8 100 16 1000` | `ok` |  |  |
+| `create 0 3 blocked` | `ok t0 n1 q0 a1 wake -` |  |  |
+| `wake t0` | `ok t0 n2 q0 a2 wake -` |  |  |
+| `publish 0` | `ok d0 items 2` | t0 up to 2 ready |  |
+| `deliver 1 0` | `ok` |  | t0 up to 2 ready |
+| `crash 0` | `ok` | nothing |  |
+"""
 IMAGE_OR_PAGE = re.compile(r"\]\(([\w./-]+)\)")
 TYPED_TOOL = re.compile(r"^    (?:\$ )?tools/([\w-]+)", re.MULTILINE)
 
@@ -156,6 +184,29 @@ class Packages(unittest.TestCase):
                 named += [top / f"bin/pc-sim-{it}" for it in TYPED_TOOL.findall(text)]
                 self.assertEqual([it for it in named if not it.exists()], [], page)
             self.assertEqual([it for it in FILES if not (top / it).exists()], [])
+
+    def test_pages_that_no_clone_keeps_are_made(self):
+        for packed in (self.package, self.archive):
+            _, top = self.unpacked(packed)
+            for page, line in MADE.items():
+                lines = (top / "share/doc/pc-sim/docs" / page).read_text().splitlines()
+                self.assertTrue(any(it.startswith(line) for it in lines), page)
+
+    def test_a_walk_tells_what_each_agent_knows(self):
+        script = self.top / "walked.script"
+        script.write_text(WALKED)
+        ended = run([sys.executable, str(ROOT / "tools/walk_through.py"), str(PROGRAM), str(script)])
+        self.assertEqual((ended.returncode, ended.stderr), (0, ""))
+        self.assertTrue(ended.stdout.endswith(ROWS), ended.stdout)
+
+    def test_the_licences_are_there(self):
+        _, top = self.unpacked(self.package)
+        told = (top / "share/doc/pc-sim/copyright").read_text()
+        self.assertIn("License: Expat or Apache-2.0\n", told)
+        self.assertIn(" Permission is hereby granted, free of charge, ", told)
+        _, top = self.unpacked(self.archive)
+        for name in ("LICENSE-APACHE", "LICENSE-MIT"):
+            self.assertEqual((top / "share/doc/pc-sim" / name).read_bytes(), (ROOT / name).read_bytes())
 
     def test_the_tools_run_where_they_are_installed(self):
         _, top = self.unpacked(self.package)

@@ -1,8 +1,7 @@
 #!/usr/bin/env python3
 """Runs the built program on every case and on every example, as both compilers built it, and compares bytes.
 
-An example is a script or settings of examples/ beside what it prints, or a load of examples/lab beside the table that the lab makes of it;
-docs/WALK_THROUGH.md is what tools/walk_through.py makes of one of them.
+An example is a script or settings of examples/ beside what it prints, or a load of examples/lab beside the table that the lab makes of it.
 A case is a folder of tests/cases:
   args      the arguments, one a line (none: `replay`)
   stdin     the standard input, or make-stdin, a shell script that writes it (none: empty)
@@ -23,7 +22,6 @@ import tempfile
 
 ROOT = pathlib.Path(__file__).resolve().parent.parent
 PROGRAMS = [ROOT / "crates/pc_sim/out/pc_sim", ROOT / "crates/pc_sim/out/pc_sim.by-rattle"]
-PAGE = ROOT / "docs/WALK_THROUGH.md"
 SECONDS = 120
 
 
@@ -98,19 +96,8 @@ def faults_of_example(example, program, explained=False):
     return [f"status {run.returncode}, standard error {run.stderr[:400]!r}, " + difference("standard output", run.stdout, wanted)]
 
 
-def faults_of_page(page, program):
-    """What differs from the page that walks through an example, as a list of texts."""
-    words = [sys.executable, str(ROOT / "tools/walk_through.py"), str(program), str(ROOT / "examples/crash-and-steal.script")]
-    run = subprocess.run(words, capture_output=True, timeout=SECONDS)
-    if (run.returncode, run.stdout) == (0, page.read_bytes()):
-        return []
-    return [f"status {run.returncode}, {run.stderr[:400]!r}: make the page again by {' '.join(words[1:])}"]
-
-
 def faults(path, program):
-    """What differs from the wanted of a case, of an example or of the page."""
-    if path == PAGE:
-        return faults_of_page(path, program)
+    """What differs from the wanted of a case or of an example."""
     found = faults_of(path, program) if path.is_dir() else faults_of_example(path, program)
     if is_replay(path) if path.is_dir() else path.suffix == ".script":
         explained = faults_of(path, program, True) if path.is_dir() else faults_of_example(path, program, True)
@@ -142,7 +129,7 @@ def main():
         failed += 1
     examples = sorted(path for path in (ROOT / "examples").iterdir() if path.suffix in (".script", ".toml"))
     loads = sorted(path.with_suffix(".toml") for path in (ROOT / "examples/lab").glob("*.output"))
-    for case in [*cases, *examples, *loads, PAGE]:
+    for case in [*cases, *examples, *loads]:
         for program in programs:
             try:
                 found = faults(case, program)

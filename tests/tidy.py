@@ -8,11 +8,32 @@ import subprocess
 WIDTH = 120
 TITLE_WIDTH = 72
 MOST_WORDS = 40
+# So many words a page has at most, as `wc -w` counts them; and all pages together.
+MOST_OF_PAGE = {
+    "README.md": 1_200,
+    "CHANGELOG.md": 1_000,
+    "CONTRIBUTING.md": 2_500,
+    "clients/python/README.md": 500,
+    "docs/ARCHITECTURE.md": 1_500,
+    "docs/DECISIONS.md": 3_000,
+    "docs/FORMATS.md": 5_000,
+    "docs/GLOSSARY.md": 1_500,
+    "docs/HOSTILE.md": 900,
+    "docs/LAB.md": 2_500,
+    "docs/PERFORMANCE.md": 1_200,
+    "docs/PROMISES.md": 1_500,
+    "docs/RECIPES.md": 750,
+    "docs/RECORDINGS.md": 2_000,
+    "docs/SESSIONS.md": 700,
+    "docs/TUTORIAL.md": 2_000,
+    "examples/README.md": 650,
+}
+MOST_OF_ALL = 36_000
 # A document's block of code, a table's line, a heading, or what begins an item.
 CODE, ITEM = re.compile(r"^(?:    |\t)"), re.compile(r"^ *(?:[-*]|\d+\.) +")
 NO_PROSE = re.compile(r"^(?:\||#|<!--)")
-# What an item of docs/PROMISES.md is carried by, or met by, is a list of names.
-NAMES_ALONE = re.compile(r"^(?:carried|met) by\b")
+# What an item of docs/PROMISES.md is carried by is a list of names.
+NAMES_ALONE = re.compile(r"^carried by\b")
 SENTENCE_END = re.compile(r"(?<=[.!?])[)\"*_]*\s+(?=[A-Z`*(\"0-9]|ghOSt\b)")
 # The titles of commits since this moment are looked at.
 TITLES_SINCE = "2026-11-27T00:00:00+00:00"
@@ -81,15 +102,23 @@ def paragraphs(text):
             lines.append(ITEM.sub("", line).strip())
 
 
+def words(root):
+    """Pages that have too many words, or that all together have."""
+    counts = {str(path.relative_to(root)): len(path.read_text().split()) for path in all_files(root) if path.suffix == ".md"}
+    findings = [f"{name}: {count} words, and {MOST_OF_PAGE[name]} at most" for name, count in counts.items() if count > MOST_OF_PAGE.get(name, count)]
+    findings += [f"{name}: there is no such page, and it has a bound" for name in MOST_OF_PAGE if name not in counts]
+    if sum(counts.values()) > MOST_OF_ALL:
+        findings.append(f"all pages: {sum(counts.values())} words, and {MOST_OF_ALL} at most")
+    return len(counts), findings
+
+
 def sentences(root):
-    """Sentences of documents that have too many words; docs/DEFINITIONS.md aside, which is made of comments.
+    """Sentences of documents that have too many words.
 
     What stands in backquotes is one word.
     """
     checked, findings = 0, []
     for path in sorted({*root.glob("*.md"), *root.glob("docs/*.md"), *root.glob("examples/*.md")}):
-        if path.name == "DEFINITIONS.md":
-            continue
         for number, paragraph in paragraphs(path.read_text()):
             if NAMES_ALONE.match(paragraph):
                 continue
@@ -114,10 +143,11 @@ def files(root):
         if name.split("/")[0] not in ("docs", "examples", "tools", "tests", "bench") or FOUND_BY_NAME.match(name):
             continue
         checked += 1
-        module = re.escape(path.name.split(".")[0])
+        stem = path.name.split(".")[0]
+        module = re.escape(stem)
         imported = {".py": rf"|\bimport [\w, ]*\b{module}\b|\bfrom {module} import\b", ".in": rf"|\bmod {module};"}
         wanted = re.compile(rf"(?<![\w-]){re.escape(path.name)}(?![\w-])" + imported.get(path.suffix, ""))
-        if not any(wanted.search(text) for other, text in texts.items() if other != path):
+        if not any(stem in text and wanted.search(text) for other, text in texts.items() if other != path):
             findings.append(f"{name}: no other file names it")
     return checked, findings
 

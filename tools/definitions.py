@@ -1,20 +1,22 @@
 #!/usr/bin/env python3
-"""Makes docs/DEFINITIONS.md from the comments of crates/*/specs/*.antt: `tools/definitions.py >docs/DEFINITIONS.md`.
+"""Prints what the contracts say, made from the sources. Nothing of it is kept: it is made for who asks, and by tools/package.
+
+    tools/definitions.py            the definitions of crates/*/specs/*.antt, by their comments: what is proved against
+    tools/definitions.py --clauses  each public function, what it does, its clauses, and what tells what want of memory leaves
+    tools/definitions.py --bare     each definition that has no comment, a line each, with exit status 1 where there is one
 
 Crates stand in the order of crates.txt, and the files of a crate each behind those of the crate that it uses, else in
 the order of specs/Lib.antt. The comment at the head of specs/Lib.antt introduces the crate, that at the head of a file
 the file. A comment directly above a public definition is that definition's; one with an empty line behind it stands
 where it is, as prose, and one that begins with `----` as a heading. A comment above or behind a field or a constructor
 is told below its record or type. specs/Inner is left out.
-
-`--bare` tells each definition that has no comment instead, a line each, with exit status 1 where there is one.
 """
-import pathlib
 import re
 import sys
 import textwrap
 
-ROOT = pathlib.Path(__file__).resolve().parent.parent
+from sources import ROOT, Sources
+
 WIDTH = 120
 COMMENT = re.compile(r"( *)-- ?(.*)")
 DEFINITION = re.compile(r"( *)(?:[a-z]+ )*?pub (?:(record|data|mod) )?([^\s:(){}]+)")
@@ -22,13 +24,22 @@ CONSTRUCTOR = re.compile(r" +([^\s:(){}]+) :")
 HEAD = """\
 # Definitions
 
-This page is made by `tools/definitions.py` from the comments of the sources. The check of the documents compares them.
+This page is made by `tools/definitions.py` from the comments of the sources.
 
 Everything that is proved is proved against these definitions. They speak of lists, sets and "the last kind that gives
 a phase", and never of the rings, caches, folded prefixes and ranges that the code keeps. Each has its name in a file at
 the top of the `specs/` folder of the crate that owns it, and what stands there is what a reader has to trust. What
 stands below that, in `specs/Inner`, is bookkeeping of private functions: nobody has to read it to know what is
 promised. `docs/PROMISES.md` has the promises that cite these names, `docs/GLOSSARY.md` the words.
+"""
+
+CLAUSES_HEAD = """\
+# Clauses
+
+This page is made by `tools/definitions.py --clauses` from the sources: each public function that has a contract, the
+first sentence of its comment, and the names of its clauses, with the fields of those that are records. Of a call that
+may want memory it names the clauses that tell what is left then. What is given to a call is gone, and what it is only
+lent (`&`) stays as it was. `docs/PROMISES.md` tells which clauses carry which promise.
 """
 
 
@@ -160,12 +171,40 @@ def bare():
     return found
 
 
+def clauses():
+    """The page of all public functions."""
+    sources, parts = Sources(), [CLAUSES_HEAD]
+    public, wanting = sources.public(), sources.wanting()
+    told = public + [function for function in wanting if function not in public]
+    for crate in crates():
+        items = [item_of(sources, function, function in wanting) for function in told if function.crate == crate]
+        parts += [f"## `{crate}`\n", "\n".join(items) + "\n"] if items else []
+    return "\n".join(parts)
+
+
+def item_of(sources, function, is_wanting):
+    """A function with the first sentence of its comment, and its clauses."""
+    names = [f"`{name}`" for name in sources.clauses_of(function)]
+    module = function.module.split("/")[0]
+    path = f"{module}::{function.path()}" if module in sources.crates[function.crate].open_modules else function.path()
+    told = [wrapped(f"`{path}`: {function.first_sentence() or 'as its trait has it.'}", "- ", "  ")]
+    told.append(wrapped("clauses: " + (", ".join(names) or "one without a name"), "  - ", "    "))
+    if is_wanting:
+        left = sources.left_by(function)
+        by = left if isinstance(left, str) else ", ".join(f"`{name}`" for name in left)
+        told.append(wrapped("want of memory leaves: " + (by or "nothing, since nothing is lent to be changed"), "  - ", "    "))
+    return "\n".join(told)
+
+
 def main(words):
     if words == ["--bare"]:
         found = bare()
         print("\n".join(found) or "each definition has a comment")
         return 1 if found else 0
-    print(document(), end="")
+    if words not in ([], ["--clauses"]):
+        print(__doc__, file=sys.stderr)
+        return 2
+    print(clauses() if words else document(), end="")
     return 0
 
 

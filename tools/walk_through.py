@@ -1,11 +1,10 @@
 #!/usr/bin/env python3
 """Writes a page that walks one script through the layers: each line, its reply, and what each agent knows after it.
 
-    tools/walk_through.py PROGRAM SCRIPT >docs/WALK_THROUGH.md
+    tools/walk_through.py PROGRAM SCRIPT
 
 All replies and all that agents know are what PROGRAM prints: after each command it is asked to show the view of each agent, which
-changes nothing. The script's comments are the page's text. docs/WALK_THROUGH.md is that of examples/crash-and-steal.script,
-and ./test holds it against the program.
+changes nothing. The script's comments are the page's text. tools/package makes that of examples/crash-and-steal.script.
 """
 import pathlib
 import re
@@ -15,9 +14,8 @@ import textwrap
 
 HEAD = """# A walk through one script
 
-`examples/{name}`, line by line: what is answered, and what each agent knows then.
-`tools/walk_through.py` made this page from the program's own output; `./test` compares them. How the layers stand on
-each other is drawn in `ARCHITECTURE.md`, what each line may say is in `FORMATS.md`.
+`{name}`, line by line: what is answered, and what each agent knows then.
+`tools/walk_through.py` made this page from the program's own output. What each line may say is in `docs/FORMATS.md`.
 
 Of a thread an agent knows the messages *up to* a number, by which the thread is ready, blocked or dead, and may know
 later ones *past a gap*. A cell is empty where the line changed nothing that the agent knows; `nothing` where it knows
