@@ -320,15 +320,8 @@ class Checker:
             name = head.split(" ")[0]  # counts of what may wait may stand behind it
             if name in self.crates:
                 below[name] = set(libraries.split())
-        rows = {}
-        for item in items_of("docs/ARCHITECTURE.md", ["stands on", "seen as"]):
-            named = re.match(r"`(pc_\w+)`: ", item.text)
-            if named:
-                rows[named[1]] = SPAN.findall(item.below.get("stands on", ""))
-        self.expect(set(rows) == set(self.crates) == set(below), "docs/ARCHITECTURE.md", "its crates are not those of crates.txt")
-        for name, told in rows.items():
-            for lower in told:
-                self.expect(lower in below.get(name, ()), "docs/ARCHITECTURE.md", f"`{name}` does not stand on `{lower}`")
+        told = {named[1] for item in items_of("docs/ARCHITECTURE.md", []) if (named := re.match(r"`(pc_\w+)`: ", item.text))}
+        self.expect(told == set(self.crates) == set(below), "docs/ARCHITECTURE.md", "its crates are not those of crates.txt")
         arrows = re.findall(r"^    (\w+) --> (\w+)$", (ROOT / "docs/ARCHITECTURE.md").read_text(), re.M)
         drawn = {name: {lower for upper, lower in arrows if upper == name} for name in below}
         for upper, lower in arrows:
