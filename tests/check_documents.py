@@ -8,8 +8,8 @@
   definitions  each definition has a comment, by which tools/definitions.py tells it
   names        each `Type::name`, `Module.word` and path of a file in any other document is there
   crates       docs/ARCHITECTURE.md has each crate, and what it stands on, as crates.txt has it
-  refusals     docs/FORMATS.md and docs/GLOSSARY.md have an item for each refusal
-  advice       docs/GLOSSARY.md has the words of pc_explain on why each refusal comes
+  refusals     docs/FORMATS.md has an item for each refusal
+  advice       its items have the words of pc_explain on why each refusal comes, and what would be accepted
   examples     each example's script has its output beside it, and examples/README.md names all of them; the code that
                the root of a crate shows is code of a test, line for line
   versions     the program, its case, CHANGELOG.md and the manual page tell one version, the last two its date, and README.md the kit
@@ -333,24 +333,21 @@ class Checker:
     def check_refusals(self):
         text = (ROOT / "crates/pc_calls/src/refusal.rt").read_text()
         refusals = set(re.findall(r"^    (\w+)(?:\(\w+\))?,$", re.search(r"enum Refusal \{(.*?)^\}", text, re.M | re.S)[1], re.M))
-        for name in ("FORMATS", "GLOSSARY"):
-            told = set(re.findall(r"^- `(\w+)[^`]*`", (ROOT / f"docs/{name}.md").read_text(), re.M))
-            for refusal in sorted(refusals):
-                self.expect(refusal in told, f"docs/{name}.md", f"it has no item for `{refusal}`")
+        told = set(re.findall(r"^- `(\w+)[^`]*`", (ROOT / "docs/FORMATS.md").read_text(), re.M))
+        for refusal in sorted(refusals):
+            self.expect(refusal in told, "docs/FORMATS.md", f"it has no item for `{refusal}`")
 
     def check_advice(self):
-        """The refusals that an explained script tells of, and those of docs/GLOSSARY.md: the same names and reasons."""
+        """The refusals that an explained script tells of, and those of docs/FORMATS.md: the same names and reasons."""
         text = (ROOT / "crates/pc_explain/src/reasons.rt").read_text()
         bodies = re.findall(r"fn reason\(.*?\n(?:    )?\}", text, re.S)
         reasons = dict(re.findall(r"::(\w+)(?:\(_\))? =>\s*(?:\{\s*)?\"([^\"]*)\"", "".join(bodies)))
-        glossary = {}
-        for item in items_of("docs/GLOSSARY.md", ["why", "accepted"]):
-            if item.heading == "## Refusals" and {"why", "accepted"} <= set(item.below):
-                glossary[SPAN.match(item.text)[1]] = item.below["why"]
-        where = "docs/GLOSSARY.md"
-        self.expect(set(glossary) == set(reasons), where, "its refusals are not those of crates/pc_explain/src/reasons.rt")
-        for name, told in glossary.items():
-            self.expect(reasons.get(name) == told, where, f"`{name}` has not the words `{reasons.get(name)}` of crates/pc_explain/src/reasons.rt")
+        items = [item for item in items_of("docs/FORMATS.md", ["accepted"]) if item.heading == "## Refusals" and "accepted" in item.below]
+        told = dict(re.match(r"`(\w+)[^`]*`: (.*)", item.text).groups() for item in items)
+        where = "docs/FORMATS.md"
+        self.expect(set(told) == set(reasons), where, "its refusals are not those of crates/pc_explain/src/reasons.rt")
+        for name, reason in told.items():
+            self.expect(reasons.get(name) == reason, where, f"`{name}` has not the words `{reasons.get(name)}` of crates/pc_explain/src/reasons.rt")
 
     def check_examples(self):
         inputs = {".script", ".toml"}
