@@ -24,7 +24,7 @@ MOST_OF_PAGE = {
     "docs/PROMISES.md": 1_500,
     "docs/RECIPES.md": 750,
     "docs/RECORDINGS.md": 2_000,
-    "docs/SESSIONS.md": 700,
+    "docs/SESSIONS.md": 750,
     "docs/TUTORIAL.md": 2_000,
     "examples/README.md": 650,
 }
