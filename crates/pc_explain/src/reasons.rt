@@ -1,4 +1,4 @@
-//! Why a refusal is answered: the words of docs/GLOSSARY.md.
+//! Why a refusal is answered: the words of docs/FORMATS.md.
 
 use pc_calls::Refusal;
 
