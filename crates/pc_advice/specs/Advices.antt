@@ -9,7 +9,7 @@ use Rattle.pc_advice.specs.declared.advice.Advice.TheVariants as advice
 use Rattle.pc_advice.specs.declared.deed.Deed.{Deed}
 use Rattle.pc_advice.specs.declared.deed.Deed.TheVariants as deed
 use Rattle.pc_advice.specs.declared.plan.Plan.{Plan}
-use Rattle.pc_advice.specs.declared.plan.Step.{Step}
+use Rattle.pc_advice.specs.declared.plan.PlannedStep.{PlannedStep}
 
 -- the event that a deed is, where its agent shows by this number what it knows; none of a question
 abbrev pub event_of : Deed → ℕ → Option Event
@@ -38,17 +38,17 @@ is_environments (deed.Env call) = true
 is_environments _ = false
 
 -- the steps of a plan, in their order
-abbrev pub steps_of : Plan → List Step
+abbrev pub steps_of : Plan → List PlannedStep
 steps_of plan = take plan.count plan.steps
 
 -- the environment has to do one of the steps before the last
-abbrev pub NeedsEnvironment : List Step → Type 0
+abbrev pub NeedsEnvironment : List PlannedStep → Type 0
 NeedsEnvironment steps = Any (λ step. IsTrue (is_environments step.deed)) (take (length steps - 1) steps)
 
 -- Steps of which the last is a deed, which is done once
-pub record EndsBy (line : Deed) (steps : List Step) : Type 0 where
-  pub before : List Step
-  pub last : Step
+pub record EndsBy (line : Deed) (steps : List PlannedStep) : Type 0 where
+  pub before : List PlannedStep
+  pub last : PlannedStep
   pub steps_are : steps ≡ before ++ last ∷ []
   pub is_line : last.deed ≡ line
   pub once : last.times ≡ 1

@@ -4,7 +4,7 @@ ghost use Rattle.std.specs.Prelude.{◌≡◌};
 
 use crate::deed::Deed;
 use crate::lacks::Goal;
-use crate::plan::{Plan, Step};
+use crate::plan::{Plan, PlannedStep};
 use pc_agent::Agent;
 use pc_calls::{EnvCall, Leaving};
 use pc_messages::{Cpu, Item, Phase, Tid};
@@ -53,7 +53,7 @@ impl Standing {
     }
 
     /// Does a step that is about the thread.
-    fn take(&mut self, step: &Step) {
+    fn take(&mut self, step: &PlannedStep) {
         match step.deed {
             Deed::Env(call) => self.take_call(&call),
             Deed::Associate { queue, .. } => self.home = queue,
@@ -101,7 +101,7 @@ pub(crate) struct Held {
 
 impl Held {
     /// Does a step.
-    fn take(&mut self, step: &Step, queue: Cpu) {
+    fn take(&mut self, step: &PlannedStep, queue: Cpu) {
         if step.posts_to(queue) {
             let posts = u32::try_from(step.times).unwrap_or(u32::MAX);
             self.posts = self.posts.saturating_add(posts);
@@ -129,7 +129,7 @@ pub(crate) enum Queued {
 
 impl Queued {
     /// Does a step with the queue in which it may stand.
-    pub(crate) fn take(&mut self, step: &Step, queue: Cpu) {
+    pub(crate) fn take(&mut self, step: &PlannedStep, queue: Cpu) {
         match self {
             Queued::Unsent if step.is_publish(queue) => *self = Queued::Sent,
             Queued::Sent if step.is_consume(queue) => *self = Queued::Gone,
@@ -176,13 +176,13 @@ impl<'a> Ahead<'a> {
     }
 
     /// The step that a deed is now.
-    pub(crate) fn step_of(&self, goal: &Goal) -> Step
+    pub(crate) fn step_of(&self, goal: &Goal) -> PlannedStep
         ensures { (result.deed ≡ goal.now.deed) × (result.times ≡ goal.now.times) }
     {
         let thread = self.thread_of(&goal.deed);
         let queue = self.queue_of(&goal.deed, &thread);
         let number = self.number_in(&goal.deed, &thread);
-        Step {
+        PlannedStep {
             deed: goal.deed,
             times: goal.times,
             thread,

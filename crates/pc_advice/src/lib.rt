@@ -29,4 +29,4 @@ mod plan;
 
 pub use advice::{Advice, advise, tried_by_steal};
 pub use deed::Deed;
-pub use plan::{Plan, Step};
+pub use plan::{Plan, PlannedStep};

@@ -7,7 +7,7 @@ use pc_messages::{Cpu, Tid};
 
 /// One step.
 #[derive(Clone, Copy)]
-pub struct Step {
+pub struct PlannedStep {
     /// What is done.
     pub deed: Deed,
     /// How often it is done, one after another.
@@ -22,7 +22,7 @@ pub struct Step {
     pub number: u32,
 }
 
-impl Step {
+impl PlannedStep {
     /// Whether it is about the thread.
     pub(crate) fn is_of(&self, thread: Tid) -> bool {
         match self.thread {
@@ -70,7 +70,7 @@ impl Step {
 /// Steps, in their order.
 #[derive(Clone, Copy)]
 pub struct Plan {
-    steps: [Step; Plan::MOST],
+    steps: [PlannedStep; Plan::MOST],
     count: usize,
     ghost within: { count ≤ 24 },
 }
@@ -86,7 +86,7 @@ impl Plan {
     pub(crate) fn new() -> Plan
         ensures { result.count ≡ 0 }
     {
-        let none = Step {
+        let none = PlannedStep {
             deed: Deed::Rouse { cpu: Cpu(0) },
             times: 0,
             thread: None,
@@ -107,7 +107,7 @@ impl Plan {
     }
 
     /// Adds a step at the end, where there is room.
-    pub(crate) fn push(&mut self, step: Step)
+    pub(crate) fn push(&mut self, step: PlannedStep)
         ensures count { self.old.count < 24 → self.new.count ≡ self.old.count + 1 }
         ensures steps { self.old.count < 24 → steps_of self.new ≡ steps_of self.old ++ step ∷ [] }
     {
@@ -118,7 +118,7 @@ impl Plan {
     }
 
     /// The same with a further step, where there is room.
-    pub(crate) fn with(&self, step: Step) -> Plan
+    pub(crate) fn with(&self, step: PlannedStep) -> Plan
         ensures count { self.now.count < 24 → result.count ≡ self.now.count + 1 }
         ensures steps { self.now.count < 24 → steps_of result ≡ steps_of self.now ++ step ∷ [] }
     {
@@ -128,7 +128,7 @@ impl Plan {
     }
 
     /// All steps, in their order, of which there are at most [`Plan::MOST`]. It takes no memory.
-    pub fn steps(&self) -> &[Step]
+    pub fn steps(&self) -> &[PlannedStep]
         ensures steps { result.now ≡ steps_of self.now }
         ensures few { length result.now ≤ 24 }
     {
@@ -136,7 +136,7 @@ impl Plan {
     }
 
     /// The steps before a place.
-    pub(crate) fn before(&self, place: usize) -> &[Step]
+    pub(crate) fn before(&self, place: usize) -> &[PlannedStep]
         ensures { result.now ≡ take place (steps_of self.now) }
     {
         &self.steps[..place.min(self.count)]

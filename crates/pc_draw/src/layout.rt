@@ -5,7 +5,7 @@
 //! there are more ticks than columns. CPUs have lanes, one under another.
 
 use crate::legend::legend_height;
-use crate::part::{Interval, Part};
+use crate::part::{Interval, DrawnPart};
 use crate::ticks::Scale;
 
 /// The most steps, or ticks, that have a column each.
@@ -41,7 +41,7 @@ const LEAST_WIDTH: u32 = 720;
 /// The sizes of a script's picture.
 #[derive(Clone, Copy)]
 pub(crate) struct Layout<'t> {
-    pub(crate) part: Part,
+    pub(crate) part: DrawnPart,
     pub(crate) scale: Scale<'t>,
     /// On an axis of ticks the first tick that is drawn, and how many ticks the last is behind it.
     pub(crate) first_tick: u64,
@@ -67,7 +67,7 @@ impl<'t> Layout<'t> {
     /// The sizes for a part that has so many steps, behind so many others, where there are so many CPUs. They stand by
     /// this.
     pub(crate) fn of(
-        part: Part,
+        part: DrawnPart,
         scale: Scale<'t>,
         first_step: u32,
         steps: u32,

@@ -22,7 +22,7 @@ impl Interval {
 
 /// What part of a script's picture is drawn.
 #[derive(Clone, Copy, Debug, PartialEq, Eq)]
-pub struct Part {
+pub struct DrawnPart {
     /// The CPUs whose lanes are drawn, counted from 0; all where it is `None`. Those that there are not are left out.
     pub cpus: Option<Interval>,
     /// The lines whose commands are drawn, counted from 1; all where it is `None`. What comes before them was done
@@ -30,9 +30,9 @@ pub struct Part {
     pub lines: Option<Interval>,
 }
 
-impl Part {
+impl DrawnPart {
     /// The whole picture.
-    pub const ALL: Part = Part {
+    pub const ALL: DrawnPart = DrawnPart {
         cpus: None,
         lines: None,
     };

@@ -10,7 +10,7 @@ use crate::lanes::Scene;
 use crate::layout::Layout;
 use crate::legend::draw_legend;
 use crate::moments::Moments;
-use crate::part::{Interval, Part};
+use crate::part::{Interval, DrawnPart};
 use crate::step::{Answer, Step, Story, Traces};
 use crate::ticks::Scale;
 use pc_pen::{Canvas, write_end, write_opening};
@@ -171,7 +171,7 @@ pub(crate) fn write_picture<W: Write>(
     text: &[u8],
     story: &Story,
     traces: &Traces,
-    part: Part,
+    part: DrawnPart,
     scale: Scale<'_>,
     writer: &mut W,
 ) -> io::Result<()>

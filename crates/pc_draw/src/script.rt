@@ -6,7 +6,7 @@ ghost use Rattle.pc_draw.specs.Pictures.{IsPictureOf};
 ghost use Rattle.pc_script.specs.declared.input.TheConstants.{MOST_BYTES};
 ghost use Rattle.pc_session.specs.Session.{IsSession};
 
-use crate::part::Part;
+use crate::part::DrawnPart;
 use crate::picture::write_picture;
 use crate::record::Recorder;
 use crate::ticks::{Axis, Scale, ticks_along};
@@ -27,7 +27,7 @@ use std::io::{Read, Sink, Write, sink};
 /// piece, so a writer without a buffer is slow; nothing is flushed.
 pub fn draw_script<R: Read, W: Write>(
     alloc: Global,
-    part: Part,
+    part: DrawnPart,
     axis: Axis,
     reader: &mut R,
     writer: &mut W,

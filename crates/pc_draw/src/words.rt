@@ -3,7 +3,7 @@
 ghost use Rattle.std.specs.Prelude.{◌++◌, Some, codes, decimal};
 ghost use Rattle.pc_draw.specs.Pictures.{fault_text, given_text, script_title};
 
-use crate::part::{Interval, Part};
+use crate::part::{Interval, DrawnPart};
 use pc_pen::Count;
 use pc_policy::PolicyName;
 use pc_script::Outcome;
@@ -143,7 +143,7 @@ impl fmt::Display for Cpus {
 
 /// Which part is drawn, where it is not all: `CPUs 3 to 7, lines 12 to 20`.
 #[derive(Clone, Copy)]
-pub(crate) struct Of(pub(crate) Part);
+pub(crate) struct Of(pub(crate) DrawnPart);
 
 impl fmt::Display for Of {
     fn fmt<W: fmt::Write>(&self, f: &mut fmt::Formatter<W>) -> fmt::Result {

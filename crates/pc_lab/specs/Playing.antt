@@ -7,7 +7,7 @@ use Rattle.pc_policy.specs.declared.named.PolicyName.{PolicyName}
 use Rattle.pc_world.specs.PlainWorld.{PlainWorld, opened_by}
 use Rattle.pc_lab.specs.declared.counted.Counted.{Counted}
 use Rattle.pc_lab.specs.declared.counted.Counted.TheVariants.{Commit}
-use Rattle.pc_lab.specs.declared.summary.Ending.TheVariants.{Done}
+use Rattle.pc_lab.specs.declared.summary.RunEnding.TheVariants.{Done}
 use Rattle.pc_lab.specs.declared.summary.Played.{Played}
 use Rattle.pc_lab.specs.Accounts.{AddsUp}
 use Rattle.pc_lab.specs.Counting.{count_of, counted_in}

@@ -7,15 +7,15 @@ ghost use Rattle.pc_lab.specs.Accounts.{AddsUp, AreEnded, demand_of, ended, step
 
 use crate::counted::Counted;
 use crate::fault::LabFault;
-use crate::summary::{Ending, Summary};
+use crate::summary::{RunEnding, Summary};
 use crate::times::CpuTime;
 use pc_kernel::Kernel;
-use pc_load::{Load, Step, ThreadLoad};
+use pc_load::{Load, LoadStep, ThreadLoad};
 use pc_messages::{Phase, Reported, Tid};
 use std::alloc::{AllocError, Global};
 
 /// The ticks of all these steps.
-fn ticks_of(steps: &[Step]) -> u128
+fn ticks_of(steps: &[LoadStep]) -> u128
     ensures { result ≡ sum_by (λ step. step.ticks) steps.now }
 {
     let mut sum = 0;
@@ -155,16 +155,16 @@ pub fn check_account(
     kernel: &Kernel,
     summary: &Summary,
 ) -> Result<(), LabFault>
-    ensures { OnOk result (summary.now.ending ≡ Ending.Done
+    ensures { OnOk result (summary.now.ending ≡ RunEnding.Done
         → AddsUp load.now keep (seen kernel.now) summary.now) }
 {
     match summary.ending {
-        Ending::Done => {
+        RunEnding::Done => {
             if !adds_up(alloc, load, keep, kernel, summary)? {
                 return Err(LabFault::Unaccounted);
             }
             Ok(())
         }
-        Ending::Until | Ending::NumbersSpent => Ok(()),
+        RunEnding::Until | RunEnding::NumbersSpent => Ok(()),
     }
 }

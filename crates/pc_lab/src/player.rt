@@ -10,7 +10,7 @@ use crate::due::{Due, What, first_of};
 use crate::fault::LabFault;
 use crate::run::{Numbers, Run, Stop};
 use crate::stage::{Setting, Stage};
-use crate::summary::{Ending, Played};
+use crate::summary::{RunEnding, Played};
 use pc_calls::{Limits, MOST_NUMBERS, MOST_POSTS, MOST_ROOM};
 use pc_load::{Load, Variant};
 use pc_messages::Cpu;
@@ -87,13 +87,13 @@ impl<K: Setting> Run<K> {
     }
 
     /// The run stops at the tick at which it is to stop.
-    fn stop(&mut self, load: &Load) -> Ending {
+    fn stop(&mut self, load: &Load) -> RunEnding {
         self.stage.advance(load.until());
-        Ending::Until
+        RunEnding::Until
     }
 
     /// Does the next thing, unless the run ends in front of it.
-    fn do_next(&mut self, load: &Load) -> Result<Option<Ending>, Stop>
+    fn do_next(&mut self, load: &Load) -> Result<Option<RunEnding>, Stop>
         requires { load.now ≡ K.load }
     {
         let Some(due) = self.take_next(load) else {
@@ -108,13 +108,13 @@ impl<K: Setting> Run<K> {
     }
 
     /// Does all that is due.
-    fn do_all(&mut self, load: &Load) -> Result<Ending, Stop>
+    fn do_all(&mut self, load: &Load) -> Result<RunEnding, Stop>
         requires { load.now ≡ K.load }
     {
         self.begin(load.cpus())?;
         for _ in 0..u64::MAX {
             if self.dead >= load.threads().len() {
-                return Ok(Ending::Done);
+                return Ok(RunEnding::Done);
             }
             if let Some(ending) = self.do_next(load)? {
                 return Ok(ending);
@@ -141,7 +141,7 @@ fn play_as<K: Setting>(
     let mut run = Run::new(alloc, stage, Numbers::of(variant, load.cpus()))?;
     let ending = match run.do_all(load) {
         Ok(ending) => ending,
-        Err(Stop::NumbersSpent) => Ending::NumbersSpent,
+        Err(Stop::NumbersSpent) => RunEnding::NumbersSpent,
         Err(Stop::Fault(fault)) => return Err(fault),
     };
     let Run {

@@ -7,7 +7,7 @@ use crate::waits::Wait;
 
 /// How a run ended (own).
 #[derive(Clone, Copy, Debug, PartialEq, Eq)]
-pub enum Ending {
+pub enum RunEnding {
     /// All threads are dead.
     Done,
     /// The next thing is due at the tick at which it stops, or later.
@@ -19,7 +19,7 @@ pub enum Ending {
 /// What is told of a run (own). Ticks are those of the load.
 #[derive(Debug, Drop)]
 pub struct Summary {
-    pub ending: Ending,
+    pub ending: RunEnding,
     /// The tick at which it ended.
     pub makespan: u64,
     /// How many events there were, refused ones too.

@@ -23,14 +23,6 @@ fn ticks_of(ran: u64) -> u32 {
     }
 }
 
-/// The thread with a place.
-fn thread_at(place: usize) -> Tid {
-    match u32::try_from(place) {
-        Ok(place) => Tid(place),
-        Err(_) => Tid(u32::MAX),
-    }
-}
-
 /// How a thread that has run for so many ticks leaves its CPU.
 fn leaving_by(leaving: Leaving, cpu: Cpu, ran: u32) -> EnvCall
     ensures { CreatesNone (Event.Env result) × IsPlayable (Event.Env result) }
@@ -293,13 +285,16 @@ impl<K: Setting> Run<K> {
         self.stage.add_waiter(load)?;
         let reply = self.stage.create(load)?;
         self.note_post(&reply)?;
-        if plan.level != 0 {
-            self.post(Event::Env(EnvCall::SetPriority {
-                thread: thread_at(place),
-                level: plan.level,
-            }))?;
+        match reply {
+            Reply::Posted(Posted {
+                thread: Some(thread),
+                ..
+            }) if plan.level != 0 => {
+                let level = plan.level;
+                self.post(Event::Env(EnvCall::SetPriority { thread, level }))
+            }
+            _ => Ok(()),
         }
-        Ok(())
     }
 
     /// A thread wakes.

@@ -9,7 +9,7 @@ ghost use Rattle.pc_lab.specs.Waiting.{ended_by, is_ready_phase, is_waiting, mad
 ghost use Rattle.pc_lab.specs.declared.counted.Counted.TheVariants.{Commit};
 
 use crate::fault::LabFault;
-use crate::wanted::Wanted;
+use crate::awaited::AwaitedCpus;
 use pc_calls::{EnvCall, Event, Posted, Reply};
 use pc_kernel::Kernel;
 use pc_messages::{Phase, Tid};
@@ -46,7 +46,7 @@ pub(crate) struct Waits {
     /// The waits that ended by a commit, in that order.
     pub ended: Vec<Wait>,
     /// For which CPUs threads wait.
-    pub wanted: Wanted,
+    pub wanted: AwaitedCpus,
 }
 
 /// Whether an accepted call makes its thread ready, and then whether by a creation or a waking.
@@ -91,7 +91,7 @@ impl Waits {
             alloc,
             waiters: Vec::new(alloc),
             ended: Vec::new(alloc),
-            wanted: Wanted::NONE,
+            wanted: AwaitedCpus::NONE,
         }
     }
 

@@ -11,7 +11,7 @@ use Rattle.pc_calls.specs.declared.limits.TheConstants.{MOST_CPUS, MOST_THREADS}
 use Rattle.pc_load.specs.declared.load.TheConstants.{MOST_STEPS, MOST_LEVEL, LAST_TICK}
 use Rattle.pc_calls.specs.declared.leaving.Leaving.{Leaving}
 use Rattle.pc_calls.specs.declared.leaving.Leaving.TheVariants.{Yield, Block, Preempt, Die}
-use Rattle.pc_load.specs.declared.load.Step.{Step}
+use Rattle.pc_load.specs.declared.load.LoadStep.{LoadStep}
 use Rattle.pc_load.specs.declared.load.ThreadDraft.{ThreadDraft}
 use Rattle.pc_load.specs.declared.load.ThreadLoad.{ThreadLoad}
 use Rattle.pc_load.specs.declared.load.LoadFault.{LoadFault}
@@ -22,7 +22,7 @@ use Rattle.pc_load.specs.declared.load.LoadFault.TheVariants.{BadCpus, BadUntil,
 pub record Need : Type 0 where
   pub queue : ℤ
   pub mask : ℤ
-  pub steps : List Step
+  pub steps : List LoadStep
   pub start : ℤ
   pub level : ℤ
   pub sleeps : List ℤ
@@ -92,7 +92,7 @@ blocks Block = true
 blocks _ = false
 
 -- there are 1 to MOST_STEPS steps, the last is a die, and no other is: the first die is the last step
-abbrev pub is_life : List Step → Bool
+abbrev pub is_life : List LoadStep → Bool
 is_life steps =
     nat_le (length steps) MOST_STEPS
     && option_map_or (λ first. first + 1 == length steps) (position (λ step. dies step.leaving) steps) false
@@ -102,7 +102,7 @@ abbrev pub is_thread : ℕ → Need → Bool
 is_thread cpus need = is_cpu cpus need.queue && is_mask cpus need.mask && is_life need.steps
 
 -- for no more than its blocks is told how long it sleeps, a u32 for each
-abbrev pub are_sleeps : List Step → List ℤ → Bool
+abbrev pub are_sleeps : List LoadStep → List ℤ → Bool
 are_sleeps steps sleeps =
     nat_le (length sleeps) (count_by (λ step. blocks step.leaving) steps) && list_all is_u32 sleeps
 

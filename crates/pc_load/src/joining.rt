@@ -3,11 +3,11 @@
 ghost use Rattle.std.specs.Prelude.{◌≡◌, ◌⊎◌, ◌+◌, ◌<◌, ◌≤◌, ◌^◌, [], ◌∷◌, drop, length, IfOk, IfSome, MatchOption};
 ghost use Rattle.pc_load.specs.Joining.{is_joined, joined_with, preempts, steps_under, with_more};
 
-use crate::load::{Step, ThreadLoad};
+use crate::load::{LoadStep, ThreadLoad};
 use pc_calls::Leaving;
 use std::alloc::{AllocError, Global};
 
-impl Step {
+impl LoadStep {
     const fn preempts(&self) -> bool
         ensures { result ≡ preempts self.now.leaving }
     {
@@ -16,7 +16,7 @@ impl Step {
 }
 
 /// Whether a step that got more ticks goes with the first of those behind it.
-fn is_joined(more: u32, step: &Step, behind: &[Step]) -> bool
+fn is_joined(more: u32, step: &LoadStep, behind: &[LoadStep]) -> bool
     ensures { result ≡ is_joined more step.now behind.now }
 {
     match behind.first() {
@@ -29,18 +29,18 @@ fn is_joined(more: u32, step: &Step, behind: &[Step]) -> bool
 }
 
 /// The step with more ticks in front.
-fn with_more(more: u32, step: &Step) -> Step
+fn with_more(more: u32, step: &LoadStep) -> LoadStep
     requires { (more ≡ 0) ⊎ (more + step.now.ticks < 2 ^ 32) }
     ensures { result ≡ with_more more step.now }
 {
-    Step {
+    LoadStep {
         leaving: step.leaving,
         ticks: more + step.ticks,
     }
 }
 
 /// The step that the steps from a place on begin with, joined, and the place behind it; none where no step is left.
-fn joined_at(steps: &[Step], from: usize) -> Option<(Step, usize)>
+fn joined_at(steps: &[LoadStep], from: usize) -> Option<(LoadStep, usize)>
     ensures steps { MatchOption result (joined_with 0 (drop from steps.now) ≡ [])
         (λ met. joined_with 0 (drop from steps.now) ≡ met.0 ∷ joined_with 0 (drop met.1 steps.now)) }
     ensures further { IfSome result (λ met. (from < met.1) × (met.1 ≤ length steps.now)) }
@@ -60,7 +60,7 @@ fn joined_at(steps: &[Step], from: usize) -> Option<(Step, usize)>
 impl ThreadLoad {
     /// The step that the lab runs from a place of the steps on, and the place behind it: as it is where recorded
     /// preempts are kept, else joined; none where no step is left. It takes no memory.
-    pub fn step_at(&self, from: usize, keep: bool) -> Option<(Step, usize)>
+    pub fn step_at(&self, from: usize, keep: bool) -> Option<(LoadStep, usize)>
         ensures steps { MatchOption result (steps_under keep (drop from self.now.steps.items) ≡ [])
             (λ met. steps_under keep (drop from self.now.steps.items)
             ≡ met.0 ∷ steps_under keep (drop met.1 self.now.steps.items)) }
@@ -78,7 +78,7 @@ impl ThreadLoad {
     }
 
     /// The steps that the lab runs: all as they are where recorded preempts are kept, else joined.
-    pub fn joined_steps(&self, alloc: Global, keep: bool) -> Result<Vec<Step>, AllocError>
+    pub fn joined_steps(&self, alloc: Global, keep: bool) -> Result<Vec<LoadStep>, AllocError>
         ensures { IfOk result (λ steps. steps.items ≡ steps_under keep self.now.steps.items) }
     {
         let mut all = Vec::new(alloc);

@@ -27,7 +27,7 @@ pub const LAST_TICK: u64 = 9_223_372_036_854_775_807;
 
 /// A step of a thread: it runs for so many ticks, and leaves its CPU so.
 #[derive(Clone, Copy, Debug, PartialEq, Eq)]
-pub struct Step {
+pub struct LoadStep {
     pub leaving: Leaving,
     pub ticks: u32,
 }
@@ -40,7 +40,7 @@ pub struct ThreadDraft {
     /// The CPUs that it may run on: bit `c` stands for CPU `c`. A mask with bit 63 cannot be written so.
     pub mask: i64,
     /// Its steps, the first one first.
-    pub steps: Vec<Step>,
+    pub steps: Vec<LoadStep>,
     /// The tick of its creation.
     pub start: i64,
     /// Its level.
@@ -57,7 +57,7 @@ pub struct ThreadLoad {
     /// The CPUs that it may run on: bit `c` stands for CPU `c`.
     pub mask: u64,
     /// Its steps, the first one first: the last is a die, and no other is.
-    pub steps: Vec<Step>,
+    pub steps: Vec<LoadStep>,
     /// The tick of its creation.
     pub start: u32,
     /// Its level, 0 to 7.

@@ -13,7 +13,7 @@ use Rattle.clap.specs.declared.error.kind.ErrorKind.TheVariants as kind
 use Rattle.pc_draw.specs.declared.ticks.Axis.{Axis}
 use Rattle.pc_draw.specs.declared.ticks.Axis.TheVariants.{Lines, Ticks}
 use Rattle.pc_draw.specs.declared.part.Interval.{Interval}
-use Rattle.pc_draw.specs.declared.part.Part.{Part}
+use Rattle.pc_draw.specs.declared.part.DrawnPart.{DrawnPart}
 use Rattle.pc_policy.specs.Names.{is_usual, policy_text}
 use Rattle.pc_policy.specs.declared.named.PolicyName.{PolicyName}
 use Rattle.pc_program.specs.Numbers.{IsWritten, SpellsNone}
@@ -145,7 +145,7 @@ IsSpelled (Some word) None = ⊥
 IsSpelled (Some word) (Some numbers) = IsWritten word numbers
 
 -- which part of a picture is asked for
-abbrev pub IsPart : Part → List Row → Type 0
+abbrev pub IsPart : DrawnPart → List Row → Type 0
 IsPart part rows =
     IsSpelled (first_of (codes "cpus") rows) part.cpus × IsSpelled (first_of (codes "lines") rows) part.lines
 

@@ -18,7 +18,7 @@ use crate::report::ReportForm;
 use clap::error::ErrorKind;
 use clap::{ArgMatches, Command as Parser, Error};
 use parsers::parser_for;
-use pc_draw::{Axis, Interval, Part};
+use pc_draw::{Axis, Interval, DrawnPart};
 use pc_policy::PolicyName;
 use std::alloc::{AllocError, Global};
 use std::convert::AsStr;
@@ -39,7 +39,7 @@ pub enum Command {
     Draw {
         file: Option<String>,
         /// What part of it is drawn.
-        part: Part,
+        part: DrawnPart,
         /// What goes to the right.
         axis: Axis,
     },
@@ -261,7 +261,7 @@ fn variants_of(alloc: Global, matches: &ArgMatches<'_>) -> Result<VariantsFrom, 
 }
 
 /// The part of a picture that is asked for.
-fn part_of(matches: &ArgMatches<'_>) -> Result<Part, CommandFault>
+fn part_of(matches: &ArgMatches<'_>) -> Result<DrawnPart, CommandFault>
     ensures asked { IfOk result (λ part. IsPart part (rows_of (found_of matches.now))) }
     ensures refused { IfErr result (λ fault. (fault ≡ CommandFault.BadNumbers)
         × (IsUnread (codes "cpus") (rows_of (found_of matches.now))
@@ -269,7 +269,7 @@ fn part_of(matches: &ArgMatches<'_>) -> Result<Part, CommandFault>
 {
     let cpus = numbers_of(matches, "cpus")?;
     let lines = numbers_of(matches, "lines")?;
-    Ok(Part { cpus, lines })
+    Ok(DrawnPart { cpus, lines })
 }
 
 /// What goes to the right in a picture.

@@ -15,7 +15,7 @@ use crate::ending::{Ending, Failure};
 use crate::progress::Progress;
 use crate::report::ReportForm;
 use crate::run_text::run_config;
-use pc_draw::{Axis, Part, draw_script};
+use pc_draw::{Axis, DrawnPart, draw_script};
 use pc_explain::explain_script;
 use pc_policy::AgentPolicy;
 use pc_script::{Outcome, ScriptFault};
@@ -34,7 +34,7 @@ pub enum Form {
     /// These, with comments between that explain them.
     Explained,
     /// A picture of this part of what happened, by this axis.
-    Picture(Part, Axis),
+    Picture(DrawnPart, Axis),
 }
 
 /// Reads a script, answers its commands one after another on a world of its own, and writes the replies.
@@ -78,7 +78,7 @@ fn explained<R: Read, W: Write>(alloc: Global, reader: &mut R, writer: &mut W) -
 
 fn picture<R: Read, W: Write>(
     alloc: Global,
-    part: Part,
+    part: DrawnPart,
     axis: Axis,
     reader: &mut R,
     writer: &mut W,

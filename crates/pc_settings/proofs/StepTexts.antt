@@ -6,7 +6,7 @@ use Rattle.std.proofs.Math.Seq.{take-append_seam, drop-append_seam}
 use Rattle.std.proofs.lemmas.Slice.Eq.{bytes_eq-Decides}
 use Rattle.pc_calls.specs.declared.leaving.Leaving.{Leaving}
 use Rattle.pc_calls.specs.declared.leaving.Leaving.TheVariants.{Yield, Block, Preempt, Die}
-use Rattle.pc_load.specs.declared.load.Step.{Step}
+use Rattle.pc_load.specs.declared.load.LoadStep.{LoadStep}
 use Rattle.pc_threads.specs.Settings.{ticks}
 use Rattle.pc_threads.specs.declared.settings.plans.Step as run
 use Rattle.pc_threads.specs.declared.settings.plans.Step.TheVariants as run_step
@@ -32,21 +32,21 @@ after_written name n small =
     let same : bytes_eq (take (length name) (name ++ decimal n)) name ≡ true = (bytes_eq-Decides (take (length name) (name ++ decimal n)) name).1 front in
     ap (λ b. cond b (read_number (drop (length name) (name ++ decimal n))) None) same ∙ number_read (drop (length name) (name ++ decimal n)) n small rest
 
-abbrev so : Leaving → ℕ → Step
+abbrev so : Leaving → ℕ → LoadStep
 so leaving ticks = record { leaving = leaving; ticks = ticks }
 
-abbrev IsText : List ℕ → Step → Type 0
+abbrev IsText : List ℕ → LoadStep → Type 0
 IsText text step = (text ≡ step_text step) × (step.ticks < 2 ^ 32)
 
-leaving_test : (text : List ℕ) (leaving : Leaving) (step : Step) (number : Option ℕ) → read_after (leaving_word leaving) text ≡ number → option_map (so leaving) number ≡ Some step → IsText text step
+leaving_test : (text : List ℕ) (leaving : Leaving) (step : LoadStep) (number : Option ℕ) → read_after (leaving_word leaving) text ≡ number → option_map (so leaving) number ≡ Some step → IsText text step
 leaving_test text leaving step (Some n) e h = let is : so leaving n ≡ step = cc in subst (IsText text) is (after_means (leaving_word leaving) text n e)
 leaving_test text leaving step None e h = cc
 
-leaving_means : (text : List ℕ) (leaving : Leaving) (step : Step) → read_leaving text leaving ≡ Some step → IsText text step
+leaving_means : (text : List ℕ) (leaving : Leaving) (step : LoadStep) → read_leaving text leaving ≡ Some step → IsText text step
 leaving_means text leaving step h = leaving_test text leaving step (read_after (leaving_word leaving) text) refl h
 
-one_of : (a b c d : Option Step) (P : Step → Type 0) (step : Step) → first_some (a ∷ b ∷ c ∷ d ∷ []) ≡ Some step
-    → ((s : Step) → a ≡ Some s → P s) → ((s : Step) → b ≡ Some s → P s) → ((s : Step) → c ≡ Some s → P s) → ((s : Step) → d ≡ Some s → P s) → P step
+one_of : (a b c d : Option LoadStep) (P : LoadStep → Type 0) (step : LoadStep) → first_some (a ∷ b ∷ c ∷ d ∷ []) ≡ Some step
+    → ((s : LoadStep) → a ≡ Some s → P s) → ((s : LoadStep) → b ≡ Some s → P s) → ((s : LoadStep) → c ≡ Some s → P s) → ((s : LoadStep) → d ≡ Some s → P s) → P step
 one_of (Some s) b c d P step e f g h k = let is : s ≡ step = cc in subst P is (f s refl)
 one_of None (Some s) c d P step e f g h k = let is : s ≡ step = cc in subst P is (g s refl)
 one_of None None (Some s) d P step e f g h k = let is : s ≡ step = cc in subst P is (h s refl)
@@ -74,7 +74,7 @@ as_written text step = (
 )
 
 -- the steps of a run
-abbrev run_of : Step → run.Step
+abbrev run_of : LoadStep → run.Step
 run_of step = run_leaving step.leaving step.ticks
 
 abbrev IsRunText : List ℕ → run.Step → Type 0
@@ -86,7 +86,7 @@ run_text text Block n h = h
 run_text text Preempt n h = h
 run_text text Die n h = h
 
-run_test : (text : List ℕ) (step : run.Step) (read : Option Step) → read_step text ≡ read → option_map run_of read ≡ Some step → IsRunText text step
+run_test : (text : List ℕ) (step : run.Step) (read : Option LoadStep) → read_step text ≡ read → option_map run_of read ≡ Some step → IsRunText text step
 run_test text step (Some s) e h =
     let is : run_of s ≡ step = cc in
     subst (IsRunText text) is (run_text text s.leaving s.ticks ((as_written text s).0 e))

@@ -4,7 +4,8 @@ use Rattle.std.specs.Prelude.{Some, None, option_map, if◌then◌else◌, bytes
 use Rattle.std.specs.Str.Parse.{digits_value}
 use Rattle.pc_calls.specs.declared.leaving.Leaving.{Leaving}
 use Rattle.pc_calls.specs.declared.leaving.Leaving.TheVariants.{Yield, Block, Preempt, Die}
-use Rattle.pc_load.specs.declared.load.Step.{Step}
+use Rattle.pc_calls.specs.Leavings as leavings
+use Rattle.pc_load.specs.declared.load.LoadStep.{LoadStep}
 use Rattle.pc_settings.specs.Keys.{first_some}
 use Rattle.pc_threads.specs.Settings.{ticks}
 use Rattle.pc_threads.specs.declared.settings.plans.Step as run
@@ -12,13 +13,10 @@ use Rattle.pc_threads.specs.declared.settings.plans.Step.TheVariants as run_step
 
 -- how a thread that leaves so is written, with a space behind
 abbrev pub leaving_word : Leaving → List ℕ
-leaving_word Yield = codes "yield "
-leaving_word Block = codes "block "
-leaving_word Preempt = codes "preempt "
-leaving_word Die = codes "die "
+leaving_word leaving = leavings.leaving_word leaving ++ codes " "
 
 -- the text of a step: that, and for how many ticks the thread ran
-abbrev pub step_text : Step → List ℕ
+abbrev pub step_text : LoadStep → List ℕ
 step_text step = leaving_word step.leaving ++ decimal step.ticks
 
 -- the number below 2 ^ 32 that a text is in decimal, with neither a sign nor a zero in front
@@ -31,12 +29,12 @@ abbrev pub read_after : List ℕ → List ℕ → Option ℕ
 read_after word text = if bytes_eq (take (length word) text) word then read_number (drop (length word) text) else None
 
 -- the step of this kind that a text is
-abbrev pub read_leaving : List ℕ → Leaving → Option Step
+abbrev pub read_leaving : List ℕ → Leaving → Option LoadStep
 read_leaving text leaving =
     option_map (λ ticks. record { leaving = leaving; ticks = ticks }) (read_after (leaving_word leaving) text)
 
 -- the step that a text is
-abbrev pub read_step : List ℕ → Option Step
+abbrev pub read_step : List ℕ → Option LoadStep
 read_step text =
     first_some
     (read_leaving text Yield ∷ read_leaving text Block ∷ read_leaving text Preempt ∷ read_leaving text Die ∷ [])
@@ -44,10 +42,10 @@ read_step text =
 -- reading a step gives the step that is written so
 abbrev pub StepsAreReadAsWritten : Type 0
 StepsAreReadAsWritten =
-    (text : List ℕ) (step : Step) → (read_step text ≡ Some step) ↔ ((text ≡ step_text step) × (step.ticks < 2 ^ 32))
+    (text : List ℕ) (step : LoadStep) → (read_step text ≡ Some step) ↔ ((text ≡ step_text step) × (step.ticks < 2 ^ 32))
 
 -- the step of a load that is written as a step of a run is
-abbrev pub of_run : run.Step → Step
+abbrev pub of_run : run.Step → LoadStep
 of_run (run_step.Yield n) = record { leaving = Yield; ticks = n }
 of_run (run_step.Block n) = record { leaving = Block; ticks = n }
 of_run (run_step.Preempt n) = record { leaving = Preempt; ticks = n }

@@ -8,7 +8,7 @@ ghost use Rattle.pc_settings.specs.Steps.{RunStepsAreReadAsWritten, StepsAreRead
 ghost use Rattle.pc_settings.specs.Steps.{read_after, read_leaving, read_run_step, read_step, run_leaving};
 
 use pc_calls::Leaving;
-use pc_load::Step;
+use pc_load::LoadStep;
 use pc_script::count;
 use pc_threads::Step as RunStep;
 use toml::Value;
@@ -24,27 +24,27 @@ fn number_after(word: &[u8], text: &[u8]) -> Option<u32>
 }
 
 /// The step that a text is.
-fn step_of(text: &str) -> Option<Step>
+fn step_of(text: &str) -> Option<LoadStep>
     ensures { result ≡ read_step text.now }
 {
     let text = text.as_bytes();
     if let Some(ticks) = number_after(b"yield ", text) {
-        Some(Step {
+        Some(LoadStep {
             leaving: Leaving::Yield,
             ticks,
         })
     } else if let Some(ticks) = number_after(b"block ", text) {
-        Some(Step {
+        Some(LoadStep {
             leaving: Leaving::Block,
             ticks,
         })
     } else if let Some(ticks) = number_after(b"preempt ", text) {
-        Some(Step {
+        Some(LoadStep {
             leaving: Leaving::Preempt,
             ticks,
         })
     } else if let Some(ticks) = number_after(b"die ", text) {
-        Some(Step {
+        Some(LoadStep {
             leaving: Leaving::Die,
             ticks,
         })
@@ -54,7 +54,7 @@ fn step_of(text: &str) -> Option<Step>
 }
 
 /// The step that a value is, which is a text.
-pub(crate) fn step_in(value: &Value) -> Option<Step>
+pub(crate) fn step_in(value: &Value) -> Option<LoadStep>
     requires { IsSome (as_str (view value.now)) }
     ensures { result ≡ read_step (text_in value.now) }
 {
@@ -65,7 +65,7 @@ pub(crate) fn step_in(value: &Value) -> Option<Step>
 }
 
 /// The same step, of a run of agents in threads.
-fn run_step(step: Step) -> RunStep
+fn run_step(step: LoadStep) -> RunStep
     ensures { result ≡ run_leaving step.leaving step.ticks }
 {
     match step.leaving {

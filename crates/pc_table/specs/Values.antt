@@ -9,8 +9,8 @@ use Rattle.pc_lab.specs.declared.counted.Counted.TheVariants.{Commit, Steal, Mes
 use Rattle.pc_lab.specs.declared.counted.Counted.TheVariants.{PreemptSpent, WakeSpent, BlockSpent, YieldSpent, DieSpent}
 use Rattle.pc_lab.specs.declared.counted.Counted.TheVariants.{PickStale, PickNothingReady, StealNothing, StealDead}
 use Rattle.pc_lab.specs.declared.counted.Counted.TheVariants.{StealStale, SleepStale}
-use Rattle.pc_lab.specs.declared.summary.Ending.{Ending}
-use Rattle.pc_lab.specs.declared.summary.Ending.TheVariants.{Done, Until, NumbersSpent}
+use Rattle.pc_lab.specs.declared.summary.RunEnding.{RunEnding}
+use Rattle.pc_lab.specs.declared.summary.RunEnding.TheVariants.{Done, Until, NumbersSpent}
 use Rattle.pc_lab.specs.declared.summary.Summary.{Summary}
 use Rattle.pc_lab.specs.declared.times.CpuTime.{CpuTime}
 use Rattle.pc_table.specs.Percentiles.{percentile, ticks_of}
@@ -26,7 +26,7 @@ use Rattle.pc_table.specs.declared.rows.Spent.TheVariants.{Ran, InTurns, Idle, I
 use Rattle.pc_table.specs.declared.rows.Which.{Which}
 
 -- the word for how a run ended
-abbrev pub ending_word : Ending → List ℕ
+abbrev pub ending_word : RunEnding → List ℕ
 ending_word Done = codes "done"
 ending_word Until = codes "until"
 ending_word NumbersSpent = codes "NumbersSpent"

@@ -4,17 +4,17 @@ ghost use Rattle.std.specs.Prelude.{◌≡◌, if◌then◌else◌};
 ghost use Rattle.pc_table.specs.Values.{count_name, ending_word, spent_name, whose_word};
 
 use crate::rows::{Number, Spent, Which};
-use pc_lab::{Counted, Ending};
+use pc_lab::{Counted, RunEnding};
 use std::fmt::{self, Display, Formatter, Write};
 
 /// The word for how a run ended.
-pub(crate) const fn ending_word(ending: Ending) -> &'static str
+pub(crate) const fn ending_word(ending: RunEnding) -> &'static str
     ensures { result.now ≡ ending_word ending }
 {
     match ending {
-        Ending::Done => "done",
-        Ending::Until => "until",
-        Ending::NumbersSpent => "NumbersSpent",
+        RunEnding::Done => "done",
+        RunEnding::Until => "until",
+        RunEnding::NumbersSpent => "NumbersSpent",
     }
 }
 

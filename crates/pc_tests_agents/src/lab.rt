@@ -5,7 +5,7 @@ use pc_lab::{
     Chronicle, Counted, Ending, LabFault, Played, Summary, Wait, check_account, head_of, limits_of,
     play,
 };
-use pc_load::{Leaving, Load, Step, ThreadDraft, Variant};
+use pc_load::{Leaving, Load, LoadStep, ThreadDraft, Variant};
 use pc_messages::{Cpu, Tid};
 use pc_script::{OrderName, PolicyName};
 use pc_world::World;
@@ -29,7 +29,7 @@ static CONVOY: &[u8] = b"\
 /// A thread of CPU 0's queue that needs so many ticks, on the CPUs of the mask.
 fn draft_of(alloc: Global, mask: i64, ticks: u32) -> Result<ThreadDraft, LabFault> {
     let mut steps = Vec::new(alloc);
-    steps.push(Step {
+    steps.push(LoadStep {
         leaving: Leaving::Die,
         ticks,
     })?;

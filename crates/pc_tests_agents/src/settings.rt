@@ -1,6 +1,6 @@
 //! Texts of loads: what is wrong with them, and what is read.
 
-use pc_load::{LAST_TICK, Leaving, Load, Step, ThreadLoad, Variant, Variants};
+use pc_load::{LAST_TICK, Leaving, Load, LoadStep, ThreadLoad, Variant, Variants};
 use pc_settings::{read_load, read_variants};
 use std::alloc::{AllocError, Global};
 
@@ -339,16 +339,16 @@ fn a_load_is_read_with_its_variants(rt: HostRuntime) {
 const PREEMPTS: &str = "cpus = 1\nuntil = 4\n[[thread]]\nqueue = 0\nmask = 1\n\
     steps = [\"preempt 3\", \"yield 4\", \"preempt 4294967295\", \"preempt 1\", \"die 2\"]\n";
 
-const JOINED: &[Step] = &[
-    Step {
+const JOINED: &[LoadStep] = &[
+    LoadStep {
         leaving: Leaving::Yield,
         ticks: 7,
     },
-    Step {
+    LoadStep {
         leaving: Leaving::Preempt,
         ticks: 4_294_967_295,
     },
-    Step {
+    LoadStep {
         leaving: Leaving::Die,
         ticks: 3,
     },

@@ -7,7 +7,7 @@ use pc_compare::{
 };
 use pc_curves::picture_of as waits_of;
 use pc_lab::{Chronicle, play};
-use pc_load::{Leaving, Load, Step, ThreadDraft, Variant, VariantDraft, Variants};
+use pc_load::{Leaving, Load, LoadStep, ThreadDraft, Variant, VariantDraft, Variants};
 use pc_table::{Column, Figures, figures_of, text_of};
 use std::alloc::Global;
 
@@ -351,13 +351,13 @@ fn draft(
     let mut steps = Vec::new(alloc);
     let mut sleeps = Vec::new(alloc);
     for _ in 0..blocks {
-        steps.push(Step {
+        steps.push(LoadStep {
             leaving: Leaving::Block,
             ticks,
         })?;
         sleeps.push(8)?;
     }
-    steps.push(Step {
+    steps.push(LoadStep {
         leaving: Leaving::Die,
         ticks,
     })?;

@@ -1,7 +1,7 @@
 //! The sentence on what would make a refused line accepted: its steps, as a script spells them.
 
 use crate::sentences::Sentences;
-use pc_advice::{Advice, Deed, Plan, Step, advise};
+use pc_advice::{Advice, Deed, Plan, PlannedStep, advise};
 use pc_policy::PolicyName;
 use pc_world::World;
 use std::fmt::{self, Write};
@@ -38,7 +38,7 @@ fn steps(text: &mut Sentences, plan: &Plan) -> fmt::Result {
 
 /// A step as a script spells it, and how often it stands there.
 #[derive(Clone, Copy)]
-struct Spelled(Step);
+struct Spelled(PlannedStep);
 
 impl fmt::Display for Spelled {
     fn fmt<W: fmt::Write>(&self, f: &mut fmt::Formatter<W>) -> fmt::Result {

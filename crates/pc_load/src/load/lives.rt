@@ -5,10 +5,10 @@ ghost use Rattle.std.specs.List.{list_all};
 ghost use Rattle.pc_load.specs.Loads.{are_sleeps, blocks, dies, is_life, is_u32};
 
 use crate::load::numbers::is_u32;
-use crate::load::{MOST_STEPS, Step};
+use crate::load::{MOST_STEPS, LoadStep};
 use pc_calls::Leaving;
 
-impl Step {
+impl LoadStep {
     const fn dies(&self) -> bool
         ensures { result ≡ dies self.now.leaving }
     {
@@ -23,14 +23,14 @@ impl Step {
 }
 
 /// The place of the first step that is a die.
-fn first_die(steps: &[Step]) -> Option<usize>
+fn first_die(steps: &[LoadStep]) -> Option<usize>
     ensures { result ≡ position (λ step. dies step.leaving) steps.now }
 {
     steps.iter().position(|step| step.dies())
 }
 
 /// Whether there are 1 to [`MOST_STEPS`] steps, of which the last is a die and no other is.
-pub(crate) fn is_life(steps: &[Step]) -> bool
+pub(crate) fn is_life(steps: &[LoadStep]) -> bool
     ensures { result ≡ is_life steps.now }
 {
     steps.len() <= MOST_STEPS
@@ -41,7 +41,7 @@ pub(crate) fn is_life(steps: &[Step]) -> bool
 }
 
 /// How many steps are blocks.
-fn count_of_blocks(steps: &[Step]) -> usize
+fn count_of_blocks(steps: &[LoadStep]) -> usize
     ensures { result ≡ count_by (λ step. blocks step.leaving) steps.now }
 {
     steps.iter().filter(|step| step.blocks()).count()
@@ -55,7 +55,7 @@ fn are_u32s(numbers: &[i64]) -> bool
 }
 
 /// Whether no more sleeps are told than there are blocks, a u32 each.
-pub(crate) fn are_sleeps(steps: &[Step], sleeps: &[i64]) -> bool
+pub(crate) fn are_sleeps(steps: &[LoadStep], sleeps: &[i64]) -> bool
     ensures { result ≡ are_sleeps steps.now sleeps.now }
 {
     sleeps.len() <= count_of_blocks(steps) && are_u32s(sleeps)

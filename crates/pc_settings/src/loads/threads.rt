@@ -15,7 +15,7 @@ use crate::loads::draft::Draft;
 use crate::loads::{LoadField, LoadTextFault};
 use crate::shared_keys::ThreadKeys;
 use crate::steps::step_in;
-use pc_load::{Step, ThreadDraft};
+use pc_load::{LoadStep, ThreadDraft};
 use std::alloc::{AllocError, Global};
 use toml::Value;
 
@@ -62,7 +62,7 @@ pub(crate) fn drafts_of<'a>(
 }
 
 /// The steps of the thread at this place, from their texts.
-fn steps_of(alloc: Global, thread: usize, texts: &[Value]) -> Result<Vec<Step>, LoadTextFault>
+fn steps_of(alloc: Global, thread: usize, texts: &[Value]) -> Result<Vec<LoadStep>, LoadTextFault>
     requires { are_texts texts.now ≡ true }
     ensures { IsRead (of_each (text_fault thread) 0 (map text_in texts.now))
         (filter_map read_step (map text_in texts.now)) (λ steps. steps.items) result }

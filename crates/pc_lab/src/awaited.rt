@@ -8,16 +8,16 @@ const DIGITS: usize = 13;
 /// A word has one binary digit of the counts of all CPUs. So the CPUs of a mask are counted together, by a carry from
 /// each digit to the next, however many CPUs and masks there are.
 #[derive(Clone, Copy)]
-pub(crate) struct Wanted {
+pub(crate) struct AwaitedCpus {
     /// The digits, from the lowest on.
     digits: [u64; DIGITS],
     /// The CPUs for which a thread waits.
     pub word: u64,
 }
 
-impl Wanted {
+impl AwaitedCpus {
     /// No thread waits.
-    pub(crate) const NONE: Wanted = Wanted {
+    pub(crate) const NONE: AwaitedCpus = AwaitedCpus {
         digits: [0; DIGITS],
         word: 0,
     };
