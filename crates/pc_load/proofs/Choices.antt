@@ -1,5 +1,5 @@
 -- Variants that were tested one by one.
-use Rattle.std.proofs.Common.{ℕ, ◌≡◌, ◌+◌, Bool, true, false, ◌&&◌, not, List, [], ◌∷◌, ◌++◌, length, length-append, map, take, drop, get_or, Some, None, Option, refl, sym, ap, ◌∙◌, subst, append_assoc, ◌<◌, ◌⊎◌, inl, inr, ◌≤◌, add-one}
+use Rattle.std.proofs.Common.{ℕ, ◌≡◌, ◌+◌, Bool, true, false, ◌&&◌, not, List, [], ◌∷◌, ◌++◌, length, length-append, map, take, drop, get_or, Some, None, refl, sym, ap, ◌∙◌, subst, append_assoc, ◌<◌, ◌⊎◌, inl, inr, ◌≤◌, add-one}
 use Rattle.std.specs.Prelude.{bytes_eq}
 use Rattle.std.specs.List.{list_all}
 use Rattle.std.proofs.lemmas.List.{append-nil, map-append, take_more, take_all}

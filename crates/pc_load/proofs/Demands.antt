@@ -1,11 +1,10 @@
 -- The faults of a load whose numbers are in range.
-use Rattle.std.proofs.Common.{ℕ, ℤ, pos, nat_abs, ◌≡◌, ◌≤◌, ◌<◌, Bool, true, false, not, ltb, List, length, Some, None, refl, ap, ◌∙◌, rules, tests}
+use Rattle.std.proofs.Common.{ℕ, ℤ, pos, nat_abs, ◌≡◌, ◌≤◌, ◌<◌, true, false, ltb, List, length, Some, refl, ap, rules, tests}
 use Rattle.pc_calls.specs.Conditions.{first_of}
 use Rattle.pc_calls.specs.declared.limits.TheConstants.{MOST_CPUS, MOST_THREADS}
 use Rattle.pc_load.specs.declared.load.TheConstants.{LAST_TICK}
-use Rattle.pc_load.specs.declared.load.LoadFault.{LoadFault}
 use Rattle.pc_load.specs.declared.load.LoadFault.TheVariants.{BadCpus, BadUntil, TooManyThreads}
-use Rattle.pc_load.specs.Loads.{Need, demand, end_of, fault_of, is_between, thread_faults}
+use Rattle.pc_load.specs.Loads.{Need, demand, fault_of, is_between, thread_faults}
 
 pub bad_cpus : (cpus until : ℤ) (needs : List Need) → is_between 1 MOST_CPUS cpus ≡ false → fault_of (demand cpus until needs) ≡ Some BadCpus
 bad_cpus cpus until needs h = rw h refl

@@ -1,5 +1,5 @@
 -- Steps that are joined one by one.
-use Rattle.std.proofs.Common.{ℕ, ◌≡◌, ◌+◌, ◌^◌, ◌<◌, ◌⊎◌, Bool, true, false, ltb, ◌&&◌, List, [], ◌∷◌, ◌++◌, length, drop, refl, sym, ap, ◌∙◌, inl, inr, append_assoc, subst, get_or, add-one, drop-cons, take, ◌-◌, arith, rules, tests}
+use Rattle.std.proofs.Common.{ℕ, ◌≡◌, ◌+◌, ◌^◌, ◌<◌, ◌⊎◌, true, false, ltb, List, [], ◌∷◌, length, drop, refl, sym, ap, ◌∙◌, inl, inr, subst, get_or, add-one, drop-cons, take, ◌-◌, rules, tests}
 use Rattle.std.proofs.lemmas.List.{length-drop}
 use Rattle.std.proofs.Math.Seq.{take-length}
 use Rattle.pc_messages.proofs.Bools.{second_true}

@@ -1,5 +1,5 @@
 -- What the tests of a thread are put together of.
-use Rattle.std.proofs.Common.{ℕ, ℤ, pos, nat_abs, ◌≡◌, ◌&&◌, Bool, true, false, int_le}
+use Rattle.std.proofs.Common.{ℕ, ℤ, nat_abs, ◌≡◌, ◌&&◌, true, int_le}
 use Rattle.pc_messages.specs.Mask.{allows}
 use Rattle.pc_messages.proofs.Bools.{first_true, second_true}
 use Rattle.pc_load.specs.declared.load.TheConstants.{MOST_LEVEL}

@@ -10,7 +10,7 @@ use Rattle.pc_calls.specs.Conditions.{first_of}
 use Rattle.pc_calls.specs.declared.limits.TheConstants.{MOST_CPUS, MOST_THREADS}
 use Rattle.pc_load.specs.declared.load.TheConstants.{MOST_STEPS, MOST_LEVEL, LAST_TICK}
 use Rattle.pc_calls.specs.declared.leaving.Leaving.{Leaving}
-use Rattle.pc_calls.specs.declared.leaving.Leaving.TheVariants.{Yield, Block, Preempt, Die}
+use Rattle.pc_calls.specs.declared.leaving.Leaving.TheVariants.{Block, Die}
 use Rattle.pc_load.specs.declared.load.LoadStep.{LoadStep}
 use Rattle.pc_load.specs.declared.load.ThreadDraft.{ThreadDraft}
 use Rattle.pc_load.specs.declared.load.ThreadLoad.{ThreadLoad}

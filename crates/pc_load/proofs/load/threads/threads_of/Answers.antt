@@ -1,7 +1,5 @@
-use Rattle.std.proofs.Common.{◌≡◌, ◌⊎◌, Err, [], ◌∷◌, ◌++◌, ap, sym, ◌∙◌, subst, length, append_assoc, rules}
+use Rattle.std.proofs.Common.{◌≡◌, Err, [], ◌∷◌, ◌++◌, ap, sym, ◌∙◌, subst, length, append_assoc, rules}
 use Rattle.std.specs.Vec.Iter.{into_iter_items}
-use Rattle.pc_calls.specs.Conditions.{first_of}
-use Rattle.pc_load.specs.Loads.{drafted}
 use Rattle.pc_load.proofs.Threads.{SoFar, turn, stopped}
 use Rattle.pc_load.proofs.load.threads.threads_of.Goals as goal
 

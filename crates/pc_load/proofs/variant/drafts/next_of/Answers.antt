@@ -1,4 +1,4 @@
-use Rattle.std.proofs.Common.{◌≡◌, false, not, inl, refl, sym, ◌∙◌, rules}
+use Rattle.std.proofs.Common.{◌≡◌, false, not, inl, refl, rules}
 use Rattle.std.specs.Prelude.{bytes_eq}
 use Rattle.std.specs.List.{list_all}
 use Rattle.pc_load.specs.Variants.{choice_in, is_variant}

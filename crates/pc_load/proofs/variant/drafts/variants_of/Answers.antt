@@ -1,4 +1,4 @@
-use Rattle.std.proofs.Common.{◌≡◌, ◌⊎◌, ◌≤◌, ◌+◌, Err, [], ◌∷◌, ◌++◌, length, map, take, subst, sym, rules}
+use Rattle.std.proofs.Common.{◌≡◌, ◌≤◌, ◌+◌, Err, length, map, take, subst, sym, rules}
 use Rattle.pc_load.specs.Variants.{choice_in}
 use Rattle.pc_load.proofs.Choices.{SoFar, finished_at, stopped_at, turn_at}
 use Rattle.pc_load.proofs.variant.drafts.variants_of.Goals as goal
