@@ -142,7 +142,7 @@ const TO_SCRIPT: &str = "also writes the calls of the run as a script, into this
 
 const POLICY: &str =
     "by which agents run and steal threads: levels (the default), fifo, least-ran or \
-     levels-then-least-ran, and `,exact` behind it where steals are exact";
+     levels-then-least-ran, and ` exact` behind it where steals are exact";
 
 const SETTINGS: &str = "the settings; without it, and where it is `-`, the standard input is read";
 
