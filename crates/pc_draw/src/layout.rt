@@ -5,7 +5,7 @@
 //! there are more ticks than columns. CPUs have lanes, one under another.
 
 use crate::legend::legend_height;
-use crate::part::{Interval, DrawnPart};
+use crate::part::{DrawnPart, Interval};
 use crate::ticks::Scale;
 
 /// The most steps, or ticks, that have a column each.

@@ -10,7 +10,7 @@ use crate::lanes::Scene;
 use crate::layout::Layout;
 use crate::legend::draw_legend;
 use crate::moments::Moments;
-use crate::part::{Interval, DrawnPart};
+use crate::part::{DrawnPart, Interval};
 use crate::step::{Answer, Step, Story, Traces};
 use crate::ticks::Scale;
 use pc_pen::{Canvas, write_end, write_opening};

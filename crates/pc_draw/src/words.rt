@@ -3,7 +3,7 @@
 ghost use Rattle.std.specs.Prelude.{◌++◌, Some, codes, decimal};
 ghost use Rattle.pc_draw.specs.Pictures.{fault_text, given_text, script_title};
 
-use crate::part::{Interval, DrawnPart};
+use crate::part::{DrawnPart, Interval};
 use pc_pen::Count;
 use pc_policy::PolicyName;
 use pc_script::Outcome;

@@ -20,7 +20,10 @@ use crate::faults::tell_fault;
 use crate::sentences::Sentences;
 use crate::telling::{Scene, tell};
 use pc_policy::PolicyName;
-use pc_script::{Command, Conversed, Helper, Line, Observer, Outcome, Response, ScriptFault, Version, converse, read_text, walk};
+use pc_script::{
+    Command, Conversed, Helper, Line, Observer, Outcome, Response, ScriptFault, Version, converse,
+    read_text, walk,
+};
 use pc_session::{Session, let_view_go};
 use std::alloc::Global;
 use std::io::{BufWriter, Read, Write};

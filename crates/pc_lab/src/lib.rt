@@ -6,6 +6,7 @@
 #![tactic(auto)]
 
 mod account;
+mod awaited;
 mod calls;
 mod chronicle;
 mod counted;
@@ -24,7 +25,6 @@ mod summary;
 mod times;
 mod turns;
 mod waits;
-mod awaited;
 
 pub use account::check_account;
 pub use chronicle::{Chronicle, MOST_BYTES};
@@ -33,6 +33,6 @@ pub use fault::LabFault;
 pub use head::head_of;
 pub use laws::runs_are_of_the_world;
 pub use player::{limits_of, play};
-pub use summary::{RunEnding, Played, Summary};
+pub use summary::{Played, RunEnding, Summary};
 pub use times::CpuTime;
 pub use waits::Wait;

@@ -10,7 +10,7 @@ use crate::due::{Due, What, first_of};
 use crate::fault::LabFault;
 use crate::run::{Numbers, Run, Stop};
 use crate::stage::{Setting, Stage};
-use crate::summary::{RunEnding, Played};
+use crate::summary::{Played, RunEnding};
 use pc_calls::{Limits, MOST_NUMBERS, MOST_POSTS, MOST_ROOM};
 use pc_load::{Load, Variant};
 use pc_messages::Cpu;

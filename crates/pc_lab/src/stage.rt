@@ -13,7 +13,7 @@ use crate::counted::{Tally, one_more};
 use crate::fault::LabFault;
 use crate::player::limits_of;
 use crate::ranges::is_in_range;
-use crate::summary::{RunEnding, Played, Summary};
+use crate::summary::{Played, RunEnding, Summary};
 use crate::times::Times;
 use crate::waits::Waits;
 use pc_calls::{EnvCall, Event, Posted, Profile, Refusal, Reply};

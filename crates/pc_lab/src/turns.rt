@@ -286,10 +286,12 @@ impl<K: Setting> Run<K> {
         let reply = self.stage.create(load)?;
         self.note_post(&reply)?;
         match reply {
-            Reply::Posted(Posted {
-                thread: Some(thread),
-                ..
-            }) if plan.level != 0 => {
+            Reply::Posted(
+                Posted {
+                    thread: Some(thread),
+                    ..
+                },
+            ) if plan.level != 0 => {
                 let level = plan.level;
                 self.post(Event::Env(EnvCall::SetPriority { thread, level }))
             }

@@ -8,8 +8,8 @@ ghost use Rattle.pc_lab.specs.Waiters.{AreNext, since_in, wait_in};
 ghost use Rattle.pc_lab.specs.Waiting.{ended_by, is_ready_phase, is_waiting, made_ready_by, ready_in, waits_below};
 ghost use Rattle.pc_lab.specs.declared.counted.Counted.TheVariants.{Commit};
 
-use crate::fault::LabFault;
 use crate::awaited::AwaitedCpus;
+use crate::fault::LabFault;
 use pc_calls::{EnvCall, Event, Posted, Reply};
 use pc_kernel::Kernel;
 use pc_messages::{Phase, Tid};

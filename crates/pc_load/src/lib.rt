@@ -9,7 +9,7 @@ mod load;
 mod variant;
 
 pub use load::{
-    LAST_TICK, Load, LoadFault, MOST_LEVEL, MOST_STEPS, LoadStep, ThreadDraft, ThreadLoad,
+    LAST_TICK, Load, LoadFault, LoadStep, MOST_LEVEL, MOST_STEPS, ThreadDraft, ThreadLoad,
 };
 pub use variant::{
     MOST_GROUP, MOST_NAME, MOST_VARIANTS, Variant, VariantDraft, VariantFault, Variants,

@@ -18,7 +18,7 @@ use crate::report::ReportForm;
 use clap::error::ErrorKind;
 use clap::{ArgMatches, Command as Parser, Error};
 use parsers::parser_for;
-use pc_draw::{Axis, Interval, DrawnPart};
+use pc_draw::{Axis, DrawnPart, Interval};
 use pc_policy::PolicyName;
 use std::alloc::{AllocError, Global};
 use std::convert::AsStr;

@@ -28,7 +28,7 @@ pub use command_line::{Command, CommandFault, VariantsFrom, read_command};
 pub use ending::{BadSettings, Ending, Failure, Unsettled};
 pub use forms::{Form, make, make_flushed, replay_flushed, run_flushed, run_script};
 pub use input::{MOST_SETTINGS, read_settings};
-pub use pc_draw::{Axis, Interval, DrawnPart};
+pub use pc_draw::{Axis, DrawnPart, Interval};
 pub use pc_policy::{AgentPolicy, Order, OrderName, PolicyName, Stealing};
 pub use pc_script::Helper;
 pub use pc_settings::{

@@ -5,7 +5,7 @@ ghost use Rattle.std.specs.List.{list_all};
 ghost use Rattle.pc_load.specs.Loads.{are_sleeps, blocks, dies, is_life, is_u32};
 
 use crate::load::numbers::is_u32;
-use crate::load::{MOST_STEPS, LoadStep};
+use crate::load::{LoadStep, MOST_STEPS};
 use pc_calls::Leaving;
 
 impl LoadStep {
