@@ -83,7 +83,8 @@ impl EnvCall {
     /// How the thread on a CPU leaves it by this call; none where none does. It takes no memory.
     pub const fn left(&self) -> Option<Left>
         ensures left { result ≡ left_by self.now }
-        ensures call { MatchOption result ((any : Left) → self.now ≡ call_by any → ⊥) (λ left. self.now ≡ call_by left) }
+        ensures call { MatchOption result ((any : Left) → self.now ≡ call_by any → ⊥)
+            (λ left. self.now ≡ call_by left) }
     {
         let (cpu, leaving, ran) = match *self {
             EnvCall::YieldNow { cpu, ran } => (cpu, Leaving::Yield, ran),

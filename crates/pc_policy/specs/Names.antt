@@ -1,5 +1,6 @@
 -- Policies by their texts.
-use Rattle.std.specs.Prelude.{◌≡◌, ℕ, Bool, true, false, not, ◌&&◌, ◌||◌, bytes_eq, if◌then◌else◌, List, [], ◌++◌, codes, length, All}
+use Rattle.std.specs.Prelude.{◌≡◌, ℕ, Bool, true, false, not, ◌&&◌, ◌||◌, bytes_eq, if◌then◌else◌, List, [], ◌++◌}
+use Rattle.std.specs.Prelude.{codes, length, All}
 use Rattle.pc_policy.specs.declared.agent_policy.AgentPolicy.{AgentPolicy}
 use Rattle.pc_policy.specs.declared.agent_policy.Stealing.{Stealing}
 use Rattle.pc_policy.specs.declared.agent_policy.Stealing.TheVariants.{Exact, Least}
