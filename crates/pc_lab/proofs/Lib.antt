@@ -7,3 +7,4 @@ pub mod Staging
 pub mod Texts
 pub mod Spending
 pub mod Readiness
+pub mod Leaving
