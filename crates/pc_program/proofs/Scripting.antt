@@ -6,7 +6,7 @@ use Rattle.toml.specs.Data.{Members}
 use Rattle.pc_script.specs.declared.command.Command.{Command}
 use Rattle.pc_threads.specs.Reports.{AddsUp, TellsItsBook}
 use Rattle.pc_threads.specs.declared.report.LoadReport.{LoadReport}
-use Rattle.pc_transcript.specs.Transcripts.{WritesCalls, lines_text, script_of}
+use Rattle.pc_report.specs.Transcripts.{WritesCalls, lines_text, script_of}
 use Rattle.pc_program.proofs.Reporting.{kept}
 use Rattle.pc_program.specs.Programs.{IsScripted, IsWrittenBoth}
 use Rattle.pc_program.specs.Runs.{DoesWhatIsSpelled}

@@ -8,8 +8,8 @@ use Rattle.pc_script.specs.declared.session.Conversed.{Conversed}
 use Rattle.pc_threads.specs.declared.settings.faults.ConfigFault.TheVariants as config
 use Rattle.pc_threads.specs.declared.book.settling.RunFault.{RunFault}
 use Rattle.pc_threads.specs.declared.book.settling.RunFault.TheVariants as run
-use Rattle.pc_transcript.specs.declared.transcript.TranscriptFault.{TranscriptFault}
-use Rattle.pc_transcript.specs.declared.transcript.TranscriptFault.TheVariants as script
+use Rattle.pc_report.specs.declared.transcript.TranscriptFault.{TranscriptFault}
+use Rattle.pc_report.specs.declared.transcript.TranscriptFault.TheVariants as script
 use Rattle.pc_program.specs.declared.ending.BadSettings.{BadSettings}
 use Rattle.pc_program.specs.declared.ending.BadSettings.TheVariants as bad
 use Rattle.pc_program.specs.declared.ending.Unsettled.{Unsettled}

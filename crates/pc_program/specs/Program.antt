@@ -38,7 +38,7 @@ use Rattle.pc_session.specs.ShownViews as shown
 use Rattle.pc_explain.specs.Comments as comments
 use Rattle.pc_draw.specs.Pictures as picture
 use Rattle.pc_threads.specs.Pages.{IsReplay, Pages}
-use Rattle.pc_transcript.specs.Transcripts as transcript
+use Rattle.pc_report.specs.Transcripts as transcript
 use Rattle.pc_threads.specs.Reports as report
 use Rattle.pc_threads.specs.declared.report.LoadReport.{LoadReport}
 use Rattle.pc_program.specs.Endings as ending

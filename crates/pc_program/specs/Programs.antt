@@ -14,7 +14,7 @@ use Rattle.pc_program.specs.Endings.{ending_of_settings}
 use Rattle.pc_program.specs.ReportText.{IsReport}
 use Rattle.pc_program.specs.Runs.{DoesWhatIsSpelled}
 use Rattle.pc_session.specs.Session.{IsSession, RanOut}
-use Rattle.pc_transcript.specs.Transcripts.{WritesCalls, script_of}
+use Rattle.pc_report.specs.Transcripts.{WritesCalls, script_of}
 use Rattle.pc_settings.specs.SettingsText.{Reads, SpellsSettings}
 use Rattle.pc_program.specs.declared.ending.Ending.{Ending}
 use Rattle.pc_program.specs.declared.ending.Ending.TheVariants.{Finished, FaultLine, DrawnToFault, CannotRead}

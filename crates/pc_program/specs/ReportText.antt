@@ -1,7 +1,7 @@
 -- A run's report, as text or as a picture.
 use Rattle.std.specs.Prelude.{ℕ, List, [], ◌∷◌, ◌++◌, Option, codes, decimal, flat_map}
 use Rattle.std.specs.Io.KnownBytes.{Appends}
-use Rattle.pc_chart.specs.Reports.{IsPictureOfReport}
+use Rattle.pc_report.specs.Reports.{IsPictureOfReport}
 use Rattle.pc_threads.specs.declared.report.LoadReport.{LoadReport}
 use Rattle.pc_threads.specs.declared.report.row.Row.{Row}
 use Rattle.pc_program.specs.declared.report.ReportForm.{ReportForm}

@@ -4,7 +4,7 @@ ghost use Rattle.std.specs.Prelude.{Some, OnOk};
 ghost use Rattle.pc_program.specs.ReportText.{IsReport, row_text, rows_text, totals_text};
 ghost use Rattle.pc_program.specs.ReportText.{refusals_row_text, refusals_rows_text};
 
-use pc_chart::draw_report;
+use pc_report::draw_report;
 use pc_threads::{LoadReport, Row};
 use std::fmt;
 use std::io::{self, Write};

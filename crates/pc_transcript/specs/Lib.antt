@@ -1,2 +1,0 @@
--- A run of agents in threads, as a script.
-pub mod Transcripts
