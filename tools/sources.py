@@ -29,8 +29,6 @@ LEFT_BY = {
     "pc_agent Agent::answer_beyond": ["answers"],
     "pc_agent Agent::publish": ["publishes", "own"],
     "pc_agent Wire::send": ["says"],
-    "pc_compare compare_watched": "no clause says what a watcher was told: `Progress` shows it at a terminal, and drops what its writes answer",
-    "pc_compare picture_watched": "the same",
     "pc_program converse_flushed": ["told", "flushed"],
     "pc_program make": "its only clause tells it by how it ended, and has no name",
     "pc_program make_flushed": ["told", "flushed"],
@@ -40,6 +38,8 @@ LEFT_BY = {
     "pc_script read_bytes": ["reads"],
     "pc_script read_text": ["reads"],
     "pc_settings read_utf8": ["reads"],
+    "pc_trial compare_watched": "no clause says what a watcher was told: `Progress` shows it at a terminal, and drops what its writes answer",
+    "pc_trial picture_watched": "the same",
 }
 
 

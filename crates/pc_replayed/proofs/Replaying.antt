@@ -3,7 +3,7 @@ use Rattle.std.proofs.Common.{◌≡◌, All, ◌∙◌, ℕ, Bool, true, false,
 use Rattle.std.specs.Prelude.{codes, flat_map}
 use Rattle.pc_calls.specs.declared.limits.Limits.{Limits}
 use Rattle.pc_calls.specs.declared.limits.Profile.TheVariants as profile
-use Rattle.pc_compare.specs.Comparing.{IsScript}
+use Rattle.pc_trial.specs.Comparing.{IsScript}
 use Rattle.pc_lab.specs.Heads.{command_line}
 use Rattle.pc_policy.specs.Names.{is_usual}
 use Rattle.pc_lab.specs.Limits.{limits_for}

@@ -2,7 +2,7 @@
 use Rattle.std.specs.Prelude.{◌≡◌, Bool, true, false, List, [], ◌∷◌, ◌++◌, All, flat_map, map, ℕ, ℤ, ◌<◌}
 use Rattle.std.specs.Prelude.{None, Some, codes}
 use Rattle.pc_calls.specs.declared.limits.Limits.{Limits}
-use Rattle.pc_compare.specs.Comparing.{IsScript, IsScriptOf}
+use Rattle.pc_trial.specs.Comparing.{IsScript, IsScriptOf}
 use Rattle.pc_policy.specs.Names.{is_usual}
 use Rattle.pc_lab.specs.Limits.{limits_for}
 use Rattle.pc_lab.specs.Moments.{IsNoAnswer, Moment}

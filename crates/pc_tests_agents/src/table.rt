@@ -1,14 +1,14 @@
 //! Worked loads of the lab, compared: tables and CSV to the byte, of which the numbers were found by hand, and what a
 //! picture begins with.
 
-use pc_compare::{
-    CompareFault, Form, Layout, SoFar, Watcher, compare, compare_watched, picture_of,
-    picture_watched, script_of,
-};
 use pc_curves::picture_of as waits_of;
 use pc_lab::{Chronicle, play};
 use pc_load::{Leaving, Load, LoadStep, ThreadDraft, Variant, VariantDraft, Variants};
 use pc_table::{Column, Figures, figures_of, text_of};
+use pc_trial::{
+    CompareFault, Form, Layout, SoFar, Watcher, compare, compare_watched, picture_of,
+    picture_watched, script_of,
+};
 use std::alloc::Global;
 
 /// Eight threads of 10 ticks on two CPUs, alone and in a group, with the time of each CPU.

@@ -1,6 +1,6 @@
 -- The line by which a person at a terminal sees that the lab goes on.
 use Rattle.std.specs.Prelude.{ℕ, List, ◌∷◌, ◌++◌, ◌+◌, ◌≤◌, codes, decimal}
-use Rattle.pc_compare.specs.declared.watcher.SoFar.{SoFar}
+use Rattle.pc_trial.specs.declared.watcher.SoFar.{SoFar}
 use Rattle.pc_trial.specs.declared.progress.TheConstants.{EVENTS_BETWEEN}
 
 -- how many of the variants were played, and how many events there were

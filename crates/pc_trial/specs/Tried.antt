@@ -11,7 +11,7 @@ use Rattle.pc_settings.specs.LoadTexts.{ReadsLoad, ReadsVariants}
 use Rattle.pc_settings.specs.declared.input.Unread.{Unread}
 use Rattle.pc_settings.specs.declared.input.Unread.TheVariants.{Failed, TooLong, NotUtf8}
 use Rattle.pc_settings.specs.declared.loads.LoadTextFault.TheVariants as fault
-use Rattle.pc_compare.specs.Comparing.{Compares, Draws, IsScriptOf, is_named}
+use Rattle.pc_trial.specs.Comparing.{Compares, Draws, IsScriptOf, is_named}
 use Rattle.pc_table.specs.declared.form.Layout.{Layout}
 use Rattle.pc_table.specs.declared.form.Layout.TheVariants as layout
 use Rattle.pc_trial.specs.declared.ending.LabEnding.{LabEnding}

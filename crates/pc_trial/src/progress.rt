@@ -4,7 +4,7 @@ ghost use Rattle.std.specs.Prelude.{◌≡◌, ◌↔◌, [], Some, IsTrue, OnOk
 ghost use Rattle.std.specs.Io.KnownBytes.{Appends};
 ghost use Rattle.pc_trial.specs.Progress.{IsDue, in_place, progress_text};
 
-use pc_compare::{SoFar, Watcher};
+use crate::watcher::{SoFar, Watcher};
 use std::fmt;
 use std::io::{self, Write};
 

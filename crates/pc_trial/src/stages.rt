@@ -6,11 +6,15 @@ ghost use Rattle.std.specs.Io.KnownBytes.{Appends, Consumes};
 ghost use Rattle.pc_trial.specs.Tried.{EndsAtLoad, EndsAtTelling, EndsAtVariants, IsOfLoad, IsTold, Lists, Spells};
 ghost use Rattle.pc_trial.specs.Inner.Stages.{IsLoadOf, IsVariantsOf};
 
+use crate::comparison::{compare_watched, picture_watched};
 use crate::ending::LabEnding;
+use crate::fault::CompareFault;
+use crate::script::script_of;
 use crate::wanted::Wanted;
-use pc_compare::{CompareFault, Form, Watcher, compare_watched, picture_watched, script_of};
+use crate::watcher::Watcher;
 use pc_load::{Load, Variants};
 use pc_settings::{LoadTextFault, TextFault, read_load, read_utf8, read_variants};
+use pc_table::Form;
 use std::alloc::Global;
 use std::io::{BufWriter, Read, Write};
 

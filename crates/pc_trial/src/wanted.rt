@@ -3,7 +3,7 @@
 ghost use Rattle.std.specs.Prelude.{option_map, string_bytes};
 ghost use Rattle.pc_trial.specs.Tried.{IsAskedBy};
 
-use pc_compare::{Form, Layout};
+use pc_table::{Form, Layout};
 
 /// What is told of a load that is tried (own).
 #[derive(Debug, Drop)]

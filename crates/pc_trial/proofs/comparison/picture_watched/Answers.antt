@@ -1,6 +1,6 @@
 use Rattle.std.proofs.Common.{subst}
 use Rattle.pc_curves.specs.Waits.{IsPictureOfWaits}
-use Rattle.pc_compare.proofs.comparison.picture_watched.Goals as goal
+use Rattle.pc_trial.proofs.comparison.picture_watched.Goals as goal
 
 pub returns-clause-drawn : goal.returns-clause-drawn
 returns-clause-drawn g c =

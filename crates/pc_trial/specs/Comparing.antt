@@ -15,9 +15,9 @@ use Rattle.pc_load.specs.declared.variant.Variant.{Variant}
 use Rattle.pc_table.specs.Sheets.{text_of}
 use Rattle.pc_table.specs.declared.form.Column.{Column}
 use Rattle.pc_table.specs.declared.form.Form.{Form}
-use Rattle.pc_compare.specs.declared.fault.CompareFault.{CompareFault}
-use Rattle.pc_compare.specs.declared.fault.CompareFault.TheVariants.{NoVariant, ScriptTooLong, TooLong}
-use Rattle.pc_compare.specs.declared.fault.CompareFault.TheVariants.{Unaccounted, OutOfMemory}
+use Rattle.pc_trial.specs.declared.fault.CompareFault.{CompareFault}
+use Rattle.pc_trial.specs.declared.fault.CompareFault.TheVariants.{NoVariant, ScriptTooLong, TooLong}
+use Rattle.pc_trial.specs.declared.fault.CompareFault.TheVariants.{Unaccounted, OutOfMemory}
 
 -- a fault of the lab, as it is told
 abbrev pub fault_of : LabFault → CompareFault

@@ -1,6 +1,6 @@
-use Rattle.pc_compare.proofs.Played.{all_ok, scripted}
-use Rattle.pc_compare.specs.Comparing.{IsScript}
-use Rattle.pc_compare.proofs.script.script_under.Goals as goal
+use Rattle.pc_trial.proofs.Played.{all_ok, scripted}
+use Rattle.pc_trial.specs.Comparing.{IsScript}
+use Rattle.pc_trial.proofs.script.script_under.Goals as goal
 
 pub returns-clause-told : goal.returns-clause-told
 returns-clause-told c =

@@ -1,9 +1,9 @@
 use Rattle.std.proofs.Common.{◌∙◌, ◌++◌, ◌∷◌, [], take, ap, sym, subst}
 use Rattle.std.specs.List.{AllZip}
 use Rattle.std.proofs.lemmas.List.{take_more}
-use Rattle.pc_compare.proofs.Played.{zip_push}
-use Rattle.pc_compare.specs.Comparing.{IsRunOf}
-use Rattle.pc_compare.proofs.comparison.columns_of.Goals as goal
+use Rattle.pc_trial.proofs.Played.{zip_push}
+use Rattle.pc_trial.specs.Comparing.{IsRunOf}
+use Rattle.pc_trial.proofs.comparison.columns_of.Goals as goal
 
 pub loop-variant-preserved : goal.loop-variant-preserved
 loop-variant-preserved g c =

@@ -3,7 +3,7 @@
 ghost use Rattle.std.specs.Prelude.{◌≡◌, ◌<◌, ◌≤◌, ◌↔◌, Err, IfOk, MatchOption, bytes_eq, false, true, length};
 ghost use Rattle.std.specs.Prelude.{position};
 ghost use Rattle.std.specs.List.{Contains, list_any};
-ghost use Rattle.pc_compare.specs.Comparing.{IsScript, IsScriptOf, is_named};
+ghost use Rattle.pc_trial.specs.Comparing.{IsScript, IsScriptOf, is_named};
 
 use crate::fault::{CompareFault, fault_of};
 use pc_lab::{Chronicle, LabFault, MOST_BYTES, head_of, play};

@@ -9,7 +9,7 @@ use Rattle.std.proofs.lemmas.List.Sums.{fails_before_first}
 use Rattle.pc_table.proofs.Lists.{some_of}
 use Rattle.pc_lab.specs.declared.fault.LabFault.{LabFault}
 use Rattle.pc_lab.specs.declared.fault.LabFault.TheVariants as lab
-use Rattle.pc_compare.specs.declared.fault.CompareFault.TheVariants.{NoVariant}
+use Rattle.pc_trial.specs.declared.fault.CompareFault.TheVariants.{NoVariant}
 use Rattle.pc_load.specs.Variants.{Choice, choice_of}
 use Rattle.pc_lab.specs.Heads.{head_text}
 use Rattle.pc_lab.specs.Limits.{limits_for}
@@ -20,7 +20,7 @@ use Rattle.pc_lab.specs.declared.chronicle.Chronicle.TheVariants.{Script}
 use Rattle.pc_lab.specs.declared.summary.Played.{Played}
 use Rattle.pc_load.specs.Loads.{Demand}
 use Rattle.pc_load.specs.declared.variant.Variant.{Variant}
-use Rattle.pc_compare.specs.Comparing.{IsScript, fault_of, is_named}
+use Rattle.pc_trial.specs.Comparing.{IsScript, fault_of, is_named}
 
 -- two lists go on side by side
 pub zip_push : {A B : Type 0} (R : A → B → Type 0) (xs : List A) (ys : List B) (x : A) (y : B) → AllZip R xs ys → R x y → AllZip R (xs ++ x ∷ []) (ys ++ y ∷ [])

@@ -2,7 +2,7 @@
 
 ghost use Rattle.std.specs.Prelude.{IfErr, IfOk};
 ghost use Rattle.std.specs.List.{AllZip};
-ghost use Rattle.pc_compare.specs.Comparing.{Compares, Draws, IsOfRuns, IsRunOf};
+ghost use Rattle.pc_trial.specs.Comparing.{Compares, Draws, IsOfRuns, IsRunOf};
 
 use crate::fault::{CompareFault, untold_fault_of};
 use crate::watcher::{Nobody, SoFar, Watcher};

@@ -1,8 +1,8 @@
 use Rattle.std.proofs.Common.{◌≡◌, ◌∙◌, sym, subst, false, refl}
 use Rattle.std.specs.List.{list_any}
-use Rattle.pc_compare.proofs.Played.{missing, none_named, not_missing, same_bytes, some_named}
-use Rattle.pc_compare.specs.Comparing.{is_named}
-use Rattle.pc_compare.proofs.script.script_of.Goals as goal
+use Rattle.pc_trial.proofs.Played.{missing, none_named, not_missing, same_bytes, some_named}
+use Rattle.pc_trial.specs.Comparing.{is_named}
+use Rattle.pc_trial.proofs.script.script_of.Goals as goal
 
 pub returns-in-Ok-clause-told : goal.returns-in-Ok-clause-told
 returns-in-Ok-clause-told c =

@@ -1,8 +1,8 @@
 use Rattle.std.proofs.Common.{◌∙◌, Bool, ap, sym, bytes_eq}
 use Rattle.std.proofs.lemmas.List.Quantifiers.{position-Some}
 use Rattle.pc_load.specs.declared.variant.Variant.{Variant}
-use Rattle.pc_compare.proofs.Played.{none_there}
-use Rattle.pc_compare.proofs.script.find.Goals as goal
+use Rattle.pc_trial.proofs.Played.{none_there}
+use Rattle.pc_trial.proofs.script.find.Goals as goal
 
 pub returns-in-Some : goal.returns-in-Some
 returns-in-Some c =

@@ -1,7 +1,7 @@
 //! Why nothing is written.
 
 ghost use Rattle.std.specs.Prelude.{◌≡◌};
-ghost use Rattle.pc_compare.specs.Comparing.{IsOfRuns, fault_of};
+ghost use Rattle.pc_trial.specs.Comparing.{IsOfRuns, fault_of};
 
 use pc_lab::LabFault;
 use std::alloc::{AllocError, AllocFailed};
@@ -52,7 +52,7 @@ pub(crate) const fn untold_fault_of(fault: LabFault) -> CompareFault
 
 impl From<LabFault> for CompareFault {
     ghost use Rattle.std.specs.Prelude.{◌≡◌};
-    ghost use Rattle.pc_compare.specs.Comparing.{fault_of};
+    ghost use Rattle.pc_trial.specs.Comparing.{fault_of};
 
     ghost from_gives = { λ fault given. given ≡ fault_of fault };
 
@@ -63,7 +63,7 @@ impl From<LabFault> for CompareFault {
 
 impl From<AllocError> for CompareFault {
     ghost use Rattle.std.specs.Prelude.{◌≡◌};
-    ghost use Rattle.pc_compare.specs.declared.fault.CompareFault.TheVariants.{OutOfMemory};
+    ghost use Rattle.pc_trial.specs.declared.fault.CompareFault.TheVariants.{OutOfMemory};
 
     ghost from_gives = { λ _ fault. fault ≡ OutOfMemory };
 
@@ -74,7 +74,7 @@ impl From<AllocError> for CompareFault {
 
 impl<T: Drop> From<AllocFailed<T>> for CompareFault {
     ghost use Rattle.std.specs.Prelude.{◌≡◌};
-    ghost use Rattle.pc_compare.specs.declared.fault.CompareFault.TheVariants.{OutOfMemory};
+    ghost use Rattle.pc_trial.specs.declared.fault.CompareFault.TheVariants.{OutOfMemory};
 
     ghost from_gives = { λ _ fault. fault ≡ OutOfMemory };
 

@@ -1,6 +1,6 @@
 use Rattle.std.proofs.Common.{◌∙◌, ap}
 use Rattle.pc_table.specs.Sheets.{text_of}
-use Rattle.pc_compare.proofs.comparison.compare_watched.Goals as goal
+use Rattle.pc_trial.proofs.comparison.compare_watched.Goals as goal
 
 pub returns-clause-told : goal.returns-clause-told
 returns-clause-told g c =

@@ -1,2 +1,0 @@
--- Proofs.
-pub mod Played
