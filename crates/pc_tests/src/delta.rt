@@ -1,95 +1,33 @@
-//! Deltas and digests, with ample memory.
+//! Deltas and digests, with ample memory; and what no clause says of deltas: how few parts an answer has, and what is
+//! known where parts contradict each other.
 
-use crate::rows::{Failed, is_so};
+use crate::rows::{Failed, Row, each_holds, is_found_so};
 use pc_delta::{Delta, DeltaFault, Digest, Part, delta_beyond, delta_since, take_all, take_in};
 use pc_join::{Join, OutOfMemory};
-use pc_messages::{Kind, Level, Mask, MaskFault, Message, Phase, Reported, Tid};
+use pc_kernel::{Kernel, Limits};
+use pc_messages::{Cpu, Item, Kind, Level, Mask, MaskFault, Message, Phase, Reported, Tid};
 use pc_view::View;
 use std::alloc::{AllocError, Global};
 
-mod deliveries;
-mod exchange;
-mod refusals;
-
-fn one(thread: u32, number: u32, kind: Kind) -> Part {
-    Part::One(Message {
-        thread: Tid(thread),
-        number,
-        kind,
-    })
-}
-
-/// What a message says.
-#[derive(Clone, Copy)]
-enum Says {
-    /// The thread is created, blocked, with a mask of both CPUs.
-    Created,
-    Wakes,
-    /// The thread leaves its CPU after so many ticks.
-    Yields(u32),
-    Preempts(u32),
-    Blocks(u32),
-    Dies(u32),
-    /// The thread's mask is this one from now on.
-    Moves(u64),
-}
-
-fn created() -> Result<Kind, MaskFault> {
-    let mask = Mask::new(3, 2)?;
-    Ok(Kind::Created { mask, ready: false })
-}
-
-fn moved(bits: u64) -> Result<Kind, MaskFault> {
-    let mask = Mask::new(bits, 2)?;
-    Ok(Kind::Affinity { mask })
-}
-
-fn kind_of(says: Says) -> Result<Kind, MaskFault> {
-    match says {
-        Says::Created => created(),
-        Says::Wakes => Ok(Kind::Wakeup),
-        Says::Yields(ran) => Ok(Kind::Yield { ran }),
-        Says::Preempts(ran) => Ok(Kind::Preempted { ran }),
-        Says::Blocks(ran) => Ok(Kind::Blocked { ran }),
-        Says::Dies(ran) => Ok(Kind::Dead { ran }),
-        Says::Moves(bits) => moved(bits),
-    }
-}
-
-/// A part, with two CPUs and the lowest level.
+/// What t0 is told of.
 #[derive(Clone, Copy)]
 enum Shape {
-    /// A message: its thread, its number and its kind.
-    One(u32, u32, Says),
-    /// A wakeup of t0.
+    /// The message of this number is a wakeup.
     Wakeup(u32),
-    /// t0 leaves its CPU after one tick.
-    Yield(u32),
-    /// t0 dies after so many ticks.
+    /// The thread dies after so many ticks.
     Dead(u32, u32),
-    /// t0 blocks after so many ticks.
-    Blocked(u32, u32),
-    /// A thread is created, by the message of this number.
-    Created(u32, u32),
-    /// All of t0 up to a number: blocked, mask 3, with these ticks.
+    /// All messages up to a number, in which it ran for so many ticks.
     Folded(u32, u64),
-    /// The same, ready.
-    Ready(u32, u64),
 }
 
-fn told(thread: u32, number: u32, says: Says) -> Result<Part, MaskFault> {
-    let kind = kind_of(says)?;
-    Ok(one(thread, number, kind))
-}
-
-/// All of t0 up to a number.
-fn state(phase: Phase, upto: u32, ran: u64) -> Result<Part, MaskFault> {
+/// All messages of t0 up to a number.
+fn folded(upto: u32, ran: u64) -> Result<Part, MaskFault> {
     let mask = Mask::new(3, 2)?;
     Ok(Part::Folded {
         thread: Tid(0),
         upto,
         reported: Reported {
-            phase,
+            phase: Phase::Blocked,
             mask,
             ran,
             level: Level::LOWEST,
@@ -97,33 +35,25 @@ fn state(phase: Phase, upto: u32, ran: u64) -> Result<Part, MaskFault> {
     })
 }
 
-fn part(shape: &Shape) -> Result<Part, MaskFault> {
-    match *shape {
-        Shape::One(thread, number, says) => told(thread, number, says),
-        Shape::Wakeup(number) => told(0, number, Says::Wakes),
-        Shape::Yield(number) => told(0, number, Says::Yields(1)),
-        Shape::Dead(number, ran) => told(0, number, Says::Dies(ran)),
-        Shape::Blocked(number, ran) => told(0, number, Says::Blocks(ran)),
-        Shape::Created(thread, number) => told(thread, number, Says::Created),
-        Shape::Folded(upto, ran) => state(Phase::Blocked, upto, ran),
-        Shape::Ready(upto, ran) => state(Phase::Ready, upto, ran),
-    }
-}
-
 fn add<T: Copy>(items: &mut Vec<T>, item: T) -> Result<(), AllocError> {
     items.push(item)?;
     Ok(())
 }
 
-fn adds_shape(parts: &mut Vec<Part>, shape: &Shape) -> Result<(), Failed> {
-    // A message stands here by its type's name, without which the checker has a bug at this function.
+fn adds(parts: &mut Vec<Part>, shape: &Shape) -> Result<(), Failed> {
+    // Messages stand here by their type's name, without which the checker has a bug at this function.
     let told = match *shape {
-        Shape::One(thread, number, says) => Part::One(Message {
-            thread: Tid(thread),
+        Shape::Wakeup(number) => Part::One(Message {
+            thread: Tid(0),
             number,
-            kind: kind_of(says)?,
+            kind: Kind::Wakeup,
         }),
-        _ => part(shape)?,
+        Shape::Dead(number, ran) => Part::One(Message {
+            thread: Tid(0),
+            number,
+            kind: Kind::Dead { ran },
+        }),
+        Shape::Folded(upto, ran) => folded(upto, ran)?,
     };
     add(parts, told)?;
     Ok(())
@@ -132,42 +62,186 @@ fn adds_shape(parts: &mut Vec<Part>, shape: &Shape) -> Result<(), Failed> {
 fn parts(alloc: Global, shapes: &[Shape]) -> Result<Vec<Part>, Failed> {
     let mut parts = Vec::new(alloc);
     for shape in shapes {
-        adds_shape(&mut parts, shape)?;
+        adds(&mut parts, shape)?;
     }
     Ok(parts)
 }
 
+// Without contracts, as the functions below, so that a test's proof does not carry those of deltas.
 fn delta(alloc: Global, shapes: &[Shape]) -> Result<Delta, Failed> {
     Ok(Delta::from_parts(parts(alloc, shapes)?)?)
 }
 
-fn refusal(alloc: Global, shapes: &[Shape]) -> Result<Option<DeltaFault>, Failed> {
-    Ok(Delta::from_parts(parts(alloc, shapes)?).err())
+fn takes(alloc: Global, view: &mut View, shapes: &[Shape]) -> Result<(), Failed> {
+    let told = delta(alloc, shapes)?;
+    take_in(view, &told)?;
+    Ok(())
 }
 
-/// What a message of t7 and a prefix of t9 tell of.
-fn threads_of_two(mask: Mask) -> (Tid, Tid) {
-    let folded = Part::Folded {
-        thread: Tid(9),
-        upto: 2,
-        reported: Reported {
-            phase: Phase::Ready,
-            mask,
-            ran: 0,
-            level: Level::LOWEST,
-        },
-    };
-    (one(7, 2, Kind::Wakeup).thread(), folded.thread())
+fn takes_each(alloc: Global, view: &mut View, deltas: &[&'static [Shape]]) -> Result<(), Failed> {
+    for shapes in deltas {
+        takes(alloc, view, shapes)?;
+    }
+    Ok(())
 }
 
-fn are_of_two_threads() -> bool {
-    match Mask::new(3, 2) {
-        Ok(mask) => threads_of_two(mask) == (Tid(7), Tid(9)),
-        Err(_) => false,
+fn held(view: &View) -> Option<(u32, usize)> {
+    let thread = view.thread(Tid(0))?;
+    Some((thread.upto(), thread.early().len()))
+}
+
+/// The deltas that a view takes in, how far it then knows t0 without a gap, and how many messages past one.
+type Taken = (&'static [&'static [Shape]], u32, usize);
+
+fn held_after(alloc: Global, deltas: &[&'static [Shape]]) -> Result<Option<(u32, usize)>, Failed> {
+    let mut view = View::new(alloc);
+    takes_each(alloc, &mut view, deltas)?;
+    Ok(held(&view))
+}
+
+impl Row for Taken {
+    fn holds(&self, alloc: Global) -> bool {
+        match held_after(alloc, self.0) {
+            Ok(held) => held == Some((self.1, self.2)),
+            Err(_) => false,
+        }
     }
 }
 
+/// A message that contradicts a folded part.
+const LATE_DEATH: &[Shape] = &[Shape::Folded(3, 7), Shape::Dead(2, 1), Shape::Wakeup(5)];
+
+/// A folded part that contradicts early messages.
+const LATE_PREFIX: &[Shape] = &[Shape::Wakeup(5), Shape::Dead(3, 1), Shape::Folded(2, 7)];
+
+// Nothing grows past the parts.
 #[test]
-fn a_part_tells_of_its_thread(rt: HostRuntime) {
-    is_so(&rt, are_of_two_threads());
+fn contradicting_parts_are_safe(rt: HostRuntime) {
+    const ROWS: &[Taken] = &[
+        (&[LATE_DEATH, LATE_DEATH], 3, 1),
+        (&[LATE_PREFIX, LATE_PREFIX], 3, 1),
+        (
+            &[
+                &[Shape::Wakeup(2)],
+                &[Shape::Folded(1, 0)],
+                &[Shape::Dead(2, 9)],
+                &[Shape::Folded(2, 9)],
+            ],
+            2,
+            0,
+        ),
+    ];
+    each_holds(&rt, rt.alloc(), ROWS);
+}
+
+fn since(alloc: Global, view: &View, asker: &View) -> Result<Delta, OutOfMemory> {
+    let digest = Digest::of(alloc, asker)?;
+    delta_since(alloc, view, &digest)
+}
+
+fn beyond(alloc: Global, view: &View, asker: &View) -> Result<Delta, OutOfMemory> {
+    delta_beyond(alloc, view, asker)
+}
+
+fn has_parts(delta: &Delta, wanted: &[Part]) -> bool {
+    delta.parts() == wanted
+}
+
+/// Whether the view answers one that knows nothing by a prefix and an early message, either way.
+fn is_answered(alloc: Global, view: &View) -> Result<bool, Failed> {
+    let wanted = parts(alloc, KNOWN)?;
+    let nobody = View::new(alloc);
+    let first = since(alloc, view, &nobody)?;
+    let other = beyond(alloc, view, &nobody)?;
+    Ok(has_parts(&first, wanted.as_slice()) && has_parts(&other, wanted.as_slice()))
+}
+
+/// A prefix of the most messages, of which it takes one part to tell, and one early message.
+const KNOWN: &[Shape] = &[Shape::Folded(15_999_998, 5), Shape::Wakeup(16_000_000)];
+
+fn a_prefix_is_one_part(alloc: Global) -> Result<bool, Failed> {
+    let mut view = View::new(alloc);
+    takes(alloc, &mut view, KNOWN)?;
+    is_answered(alloc, &view)
+}
+
+#[test]
+fn an_answer_tells_a_prefix_by_its_state(rt: HostRuntime) {
+    is_found_so(&rt, a_prefix_is_one_part(rt.alloc()));
+}
+
+fn join_both<V: Join>(first: &V, other: &V) -> Result<V, OutOfMemory> {
+    let mut joined = first.try_copy()?;
+    joined.join_from(other)?;
+    Ok(joined)
+}
+
+/// Whether the join covers both, and is something.
+fn is_above<V: Join>(joined: &V, first: &V, other: &V) -> bool {
+    joined.covers(first) && joined.covers(other) && !joined.is_empty()
+}
+
+/// Whether a digest is joined with one of nothing.
+fn digests_are_joined(alloc: Global, view: &View) -> Result<bool, OutOfMemory> {
+    let (first, other) = (Digest::of(alloc, view)?, Digest::new(alloc));
+    let joined = join_both(&other, &first)?;
+    Ok(is_above(&joined, &first, &other) && joined == first)
+}
+
+fn takes_copies(view: &mut View, told: Delta) -> Result<(), OutOfMemory> {
+    let copy = told.try_copy()?;
+    take_all(view, &[told, copy])
+}
+
+/// Whether a view takes in a delta twice, and its digest is joined.
+fn is_known(alloc: Global) -> Result<bool, Failed> {
+    let mut view = View::new(alloc);
+    takes_copies(&mut view, delta(alloc, LATE_DEATH)?)?;
+    Ok(held(&view) == Some((3, 1)) && digests_are_joined(alloc, &view)?)
+}
+
+/// Whether two messages of one number make no delta, and are told.
+fn is_conflict(alloc: Global) -> Result<bool, Failed> {
+    const CONFLICT: DeltaFault = DeltaFault::Conflict {
+        thread: Tid(0),
+        number: 2,
+    };
+    let parts = parts(alloc, &[Shape::Wakeup(2), Shape::Dead(2, 1)])?;
+    Ok(Delta::from_parts(parts).err() == Some(CONFLICT))
+}
+
+#[test]
+fn deltas_are_taken_in_and_digests_joined(rt: HostRuntime) {
+    is_found_so(&rt, is_known(rt.alloc()));
+    is_found_so(&rt, is_conflict(rt.alloc()));
+}
+
+/// A kernel in whose first queue a thread's first message stands.
+fn kernel_of_one(alloc: Global) -> Result<Kernel, Failed> {
+    let limits = Limits {
+        cpus: 1,
+        threads: 1,
+        numbers: 1,
+        room: 1,
+        posts: 1,
+    };
+    let mut kernel = Kernel::new(alloc, limits)?;
+    if kernel.create(Cpu(0), 1, true).is_ok() {
+        Ok(kernel)
+    } else {
+        Err("no thread was created".into())
+    }
+}
+
+/// Whether the delta has one part that tells what the queue holds.
+fn is_told(alloc: Global) -> Result<bool, Failed> {
+    let kernel = kernel_of_one(alloc)?;
+    let (_, items): (u32, Vec<Item>) = kernel.peek(Cpu(0))?;
+    let delta = Delta::of_items(alloc, items.as_slice())?;
+    Ok(delta.parts().len() == 1)
+}
+
+#[test]
+fn a_delta_tells_what_a_queue_holds(rt: HostRuntime) {
+    is_found_so(&rt, is_told(rt.alloc()));
 }

@@ -6,7 +6,7 @@ use crate::rows::is_so;
 use pc_delta::{Delta, Digest, delta_since, take_in};
 use pc_kernel::{Kernel, Limits};
 use pc_messages::{Cpu, Kind, Mask, MaskFault, Message, Reported, Tid};
-use pc_policy::{Order, Policy};
+use pc_policy::{OrderName, Policy};
 use pc_run_queue::RunQueue;
 use pc_view::View;
 use std::alloc::Global;
@@ -118,7 +118,7 @@ fn a_digest_is_answered(rt: HostRuntime) -> Result<(), Fail> {
 fn listed(alloc: Global, view: &View) -> Result<Option<Tid>, Fail> {
     let mut list = RunQueue::new(alloc);
     // Of the touched threads those that are ready and allowed on CPU 1 enter, the highest level first.
-    list.refresh(&Order::Levels, view, &[Tid(0)], Cpu(1))?;
+    list.refresh(&OrderName::Levels, view, &[Tid(0)], Cpu(1))?;
     Ok(list.first())
 }
 

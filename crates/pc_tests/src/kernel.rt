@@ -1,18 +1,11 @@
-//! What no script can say: calls by their own names, and what is read of a kernel. What each call answers, and each
-//! refusal beside its neighbour, stands in the scripts of tests/cases.
+//! What no script can say: calls by their own names, and what is read of a kernel, with ample memory.
 
 mod caller;
-mod calls;
-mod reads;
 
-use crate::rows::{Step as Walked, first_wrong, is_so, none_is_wrong};
-use pc_kernel::{
-    Call, CallFault, EnvCall, Kernel, LimitField, Limits, LimitsFault, Posted, Profile, Refusal,
-    Status,
-};
-use pc_messages::{Cpu, Phase, Tid};
+use crate::rows::is_so;
+use pc_kernel::{Call, CallFault, EnvCall, Kernel, Limits, Profile};
+use pc_messages::{Cpu, Kind, Phase, Tid};
 use std::alloc::Global;
-use std::process::Abort;
 
 /// Two CPUs, and room for all that the tests do.
 const SMALL: Limits = Limits {
@@ -23,120 +16,165 @@ const SMALL: Limits = Limits {
     posts: 1_000,
 };
 
-/// Threads that only profile Two may have.
-const MANY: Limits = Limits {
-    cpus: 1,
-    threads: 65_535,
-    numbers: 1,
-    room: 1,
-    posts: 1,
-};
-
-/// What a thread's post answers where no agent is woken.
-const fn posted(thread: u32, number: u32, queue: u8, aseq: u32) -> Posted {
-    Posted {
-        thread: Some(Tid(thread)),
-        number: Some(number),
-        queue: Cpu(queue),
-        aseq,
-        woken: None,
-    }
-}
-
-/// A call and what it answers, or what is read.
-#[derive(Clone, Copy)]
-enum Step {
-    Posts(EnvCall, Result<Posted, CallFault>),
-    /// A call posts the thread's next message to queue 0, which had one message fewer.
-    PostsNext(EnvCall, u32),
-    /// t0 is created for the queue, ready or not, with a mask of both CPUs, by the queue's first post.
-    Creates(u8, bool),
-    Does(Call, Result<(), Refusal>),
-    /// t0 is put on CPU 0 after so many posts.
-    Commits(u32),
-    /// The CPU's agent falls asleep after so many posts.
-    FallsAsleep(u8, u32),
-    /// A ready thread is created for queue 0, the thread with this number put on CPU 0 after so many posts, and CPU 1
-    /// asked for as the home of t0; whether it moves.
-    Moves(u32, u32, bool),
-    Runs(Option<Tid>),
-    Sleeps(Cpu, bool),
-    Tells(Status),
-    Reports(Phase, u64, u64, u8),
-    QueueOf(u32, Option<Cpu>),
-    /// The thread has a state, and the reported one is the same.
-    IsThere(u32),
-    /// The thread has no state, and none is reported.
-    IsNowhere(u32),
-    /// There are so many threads, and limits and CPUs are those asked for.
-    Counts(u32),
-    /// The CPU's queue has had so many posts.
-    Had(u8, Option<u32>),
-    /// The queue of CPU 0 has had one post, holds the first message alone, and its agent sleeps on.
-    Peeked,
-    /// The CPU's queue holds the first message alone, where it stands.
-    QueuesFirst(u8),
-    QueuesNothing(u8),
-    NoQueue(u8),
-    /// The history of t0 is its creation.
-    OneKind,
-    /// The history of t0 is its creation and a wakeup.
-    TwoKinds,
-    NoHistory(u32),
-}
-
 /// How a call of the environment is made.
 #[derive(Clone, Copy)]
 enum Way {
     ByName,
     AsValue,
+    AsCall,
 }
 
-/// A kernel, and how it is called.
-#[derive(Drop)]
-struct Called {
-    kernel: Kernel,
-    way: Way,
+// Without contracts, as the functions below, so that a test's proof does not carry those of the kernel.
+fn posts_by_name(kernel: &mut Kernel, call: EnvCall) -> bool {
+    let posted = match call {
+        EnvCall::Create { queue, mask, ready } => kernel.create(queue, mask, ready),
+        EnvCall::Wake { thread } => kernel.wake(thread),
+        EnvCall::Block { cpu, ran } => kernel.block(cpu, ran),
+        EnvCall::YieldNow { cpu, ran } => kernel.yield_now(cpu, ran),
+        EnvCall::Preempt { cpu, ran } => kernel.preempt(cpu, ran),
+        EnvCall::Die { cpu, ran } => kernel.die(cpu, ran),
+        EnvCall::SetAffinity { thread, mask } => kernel.set_affinity(thread, mask),
+        EnvCall::SetPriority { thread, level } => kernel.set_priority(thread, level),
+        EnvCall::Tick { cpu } => kernel.tick(cpu),
+    };
+    posted.is_ok()
 }
 
-impl Walked<Called> for Step {
-    fn holds(&self, _alloc: Global, called: &mut Called) -> bool {
-        calls::holds(&mut called.kernel, called.way, self)
+fn posts(kernel: &mut Kernel, way: Way, call: EnvCall) -> bool {
+    match way {
+        Way::ByName => posts_by_name(kernel, call),
+        Way::AsValue => kernel.apply_env(call).is_ok(),
+        Way::AsCall => kernel.apply(Call::Env(call)).is_ok(),
     }
 }
 
-/// The place of the first step that does not hold of a new kernel and the steps before it.
-fn first_wrong_of(alloc: Global, way: Way, steps: &[Step]) -> Option<usize> {
+/// t0 is put on the CPU after so many posts.
+fn commits(kernel: &mut Kernel, aseq: u32) -> bool {
+    kernel.commit(CPU, THREAD, aseq) == Ok(())
+}
+
+const CPU: Cpu = Cpu(0);
+
+const THREAD: Tid = Tid(0);
+
+const WAKE: EnvCall = EnvCall::Wake { thread: THREAD };
+
+/// How many posts there were before t0 is put on its CPU, where it is, and a post.
+type Step = (Option<u32>, EnvCall);
+
+/// Each call of the environment.
+const LIFE: [Step; 10] = [
+    (
+        None,
+        EnvCall::Create {
+            queue: CPU,
+            mask: 3,
+            ready: false,
+        },
+    ),
+    (None, WAKE),
+    (
+        None,
+        EnvCall::SetAffinity {
+            thread: THREAD,
+            mask: 1,
+        },
+    ),
+    (
+        None,
+        EnvCall::SetPriority {
+            thread: THREAD,
+            level: 7,
+        },
+    ),
+    (None, EnvCall::Tick { cpu: CPU }),
+    (Some(5), EnvCall::YieldNow { cpu: CPU, ran: 2 }),
+    (Some(6), EnvCall::Preempt { cpu: CPU, ran: 4 }),
+    (Some(7), EnvCall::Block { cpu: CPU, ran: 8 }),
+    (None, WAKE),
+    (Some(9), EnvCall::Die { cpu: CPU, ran: 5 }),
+];
+
+fn does(kernel: &mut Kernel, way: Way, step: &Step) -> bool {
+    let is_ready = match step.0 {
+        Some(aseq) => commits(kernel, aseq),
+        None => true,
+    };
+    is_ready && posts(kernel, way, step.1)
+}
+
+fn lives(kernel: &mut Kernel, way: Way) -> bool {
+    for step in &LIFE {
+        if !does(kernel, way, step) {
+            return false;
+        }
+    }
+    true
+}
+
+/// Whether all that is reported of the thread is what it came to.
+fn is_reported(kernel: &Kernel) -> bool {
+    match (kernel.reported(THREAD), kernel.state(THREAD)) {
+        (Some(told), Some(state)) => told == *state
+            && told.phase == Phase::Dead
+            && told.mask.bits() == 1
+            && told.ran == 19
+            && told.level.get() == 7,
+        _ => false,
+    }
+}
+
+/// Whether the thread's messages are nine, the second and the last of which are these.
+fn has_history(kernel: &Kernel) -> bool {
+    match kernel.history(THREAD) {
+        Some([_, second, .., last]) => *second == Kind::Wakeup && *last == Kind::Dead { ran: 5 },
+        _ => false,
+    }
+}
+
+fn is_unknown(kernel: &Kernel) -> bool {
+    kernel.reported(Tid(1)).is_none()
+        && kernel.state(Tid(1)).is_none()
+        && kernel.history(Tid(1)).is_none()
+}
+
+fn content(kernel: &Kernel) -> Result<(u32, usize), CallFault> {
+    let (posts, items) = kernel.peek(CPU)?;
+    Ok((posts, items.len()))
+}
+
+fn is_read(kernel: &Kernel) -> bool {
+    is_reported(kernel)
+        && has_history(kernel)
+        && is_unknown(kernel)
+        && content(kernel) == Ok((10, 10))
+}
+
+/// Whether each call is done in this way, and all is read that came of them.
+fn is_lived(alloc: Global, way: Way) -> bool {
     match Kernel::new(alloc, SMALL) {
-        Ok(kernel) => first_wrong(alloc, &mut Called { kernel, way }, steps),
-        Err(_) => Some(0),
-    }
-}
-
-fn each_holds(rt: &impl Abort, alloc: Global, way: Way, steps: &[Step]) {
-    none_is_wrong(rt, first_wrong_of(alloc, way, steps));
-}
-
-// Without contracts, as the function below, so that a test's proof does not carry those of the kernel.
-fn fault_of_many(alloc: Global) -> Option<LimitsFault> {
-    Kernel::new(alloc, MANY).err()
-}
-
-// A kernel that is made without a profile's name is one of profile One.
-#[test]
-fn the_profile_of_new(rt: HostRuntime) {
-    let fault = LimitsFault::BadLimits(LimitField::Threads);
-    is_so(&rt, fault_of_many(rt.alloc()) == Some(fault));
-}
-
-fn has_many(alloc: Global) -> bool {
-    match Kernel::new_in(alloc, Profile::Two, MANY) {
-        Ok(kernel) => kernel.limits() == MANY && kernel.cpus() == 1,
+        Ok(mut kernel) => lives(&mut kernel, way) && is_read(&kernel),
         Err(_) => false,
     }
 }
 
 #[test]
-fn the_profile_of_new_in(rt: HostRuntime) {
+fn each_call_of_the_environment_is_made(rt: HostRuntime) {
+    is_so(&rt, is_lived(rt.alloc(), Way::ByName));
+    is_so(&rt, is_lived(rt.alloc(), Way::AsValue));
+    is_so(&rt, is_lived(rt.alloc(), Way::AsCall));
+}
+
+/// Whether there is a kernel with threads that only profile Two may have.
+fn has_many(alloc: Global) -> bool {
+    let limits = Limits {
+        threads: 65_535,
+        ..SMALL
+    };
+    Kernel::new_in(alloc, Profile::Two, limits).is_ok()
+}
+
+#[test]
+fn a_kernel_of_profile_two_is_made(rt: HostRuntime) {
     is_so(&rt, has_many(rt.alloc()));
 }

@@ -1,171 +1,25 @@
-//! Scripts over memory, with a machine whose responses are fixed by the command.
+//! Scripts over memory, with ample memory and a machine whose responses are fixed by the command; and what no clause
+//! says of them: when is read, written and flushed, and who asks for help.
 
-mod commands;
-mod ends;
-mod faults;
-mod mends;
-mod policies;
-mod reading;
-mod responses;
-mod sessions;
-mod texts;
-mod troubles;
-mod waiting;
 mod walking;
 
-use crate::rows::Row;
-use pc_calls::{AgentCall, EnvCall, Event, LimitField, Posted, Profile, Refusal, Reply, Status};
-use pc_messages::{Cpu, Level, Mask, Phase, Reported, Tid};
+use crate::rows::{Row, each_holds, is_found_so, is_so};
+use pc_calls::{EnvCall, Event, Profile, Refusal, Reply};
+use pc_messages::Tid;
 use pc_script::{
-    Command, EarlyNumbers, Machine, Outcome, Read as Question, Response, ScriptFault, ShownThread,
-    ShownThreads, run_script,
+    Command, Conversed, EarlyNumbers, Helper, Machine, Outcome, Read as Question, Response,
+    ScriptFault, ShownThread, ShownThreads, read_bytes, read_text, run_script, run_session,
 };
 use std::alloc::{AllocError, Global};
-use std::io::{Read, Write};
+use std::io::{self, BufWriter, Error, ErrorKind, Read, Write};
 
-/// Gives as many responses as it took commands: `ok` to `enclave`, and to the others what their arguments make.
+/// Answers a wake by a refusal of 16 bytes with their line feed, and all else by `ok`. Of one CPU it finds no memory to
+/// tell whether its agent sleeps.
 #[derive(Drop)]
-struct Echo {
-    alloc: Global,
-    profile: Profile,
-}
-
-/// What is answered to an enclave with so many threads.
-fn enclave(profile: Profile, threads: u32) -> Response {
-    if profile == Profile::One && threads == 65_535 {
-        return Response::BadLimits(LimitField::Threads);
-    }
-    Response::Opened
-}
-
-/// What is replied to a tick, where there are two CPUs.
-fn tick(cpu: Cpu) -> Reply {
-    if cpu.index() > 1 {
-        return Reply::Refused(Refusal::BadCpu);
-    }
-    Reply::Posted(Posted {
-        thread: None,
-        number: None,
-        queue: cpu,
-        aseq: 1,
-        woken: None,
-    })
-}
-
-/// What is replied where a thread was created.
-fn created(queue: Cpu) -> Reply {
-    Reply::Posted(Posted {
-        thread: Some(Tid(0)),
-        number: Some(1),
-        queue,
-        aseq: 1,
-        woken: None,
-    })
-}
-
-/// What is replied where a thread's second message was posted.
-fn message(thread: Tid, aseq: u32) -> Reply {
-    Reply::Posted(Posted {
-        thread: Some(thread),
-        number: Some(2),
-        queue: Cpu(0),
-        aseq,
-        woken: Some(Cpu(1)),
-    })
-}
-
-/// What is replied to a delivery, where one delta was sent.
-fn delivered(delta: u64) -> Reply {
-    if delta == 0 {
-        return Reply::Done;
-    }
-    Reply::Refused(Refusal::NoDelta)
-}
-
-/// What is replied to a call of the environment.
-fn called(call: EnvCall) -> Reply {
-    match call {
-        EnvCall::Create { queue, .. } => created(queue),
-        EnvCall::Wake { thread } => Reply::Refused(Refusal::Stale(thread.index())),
-        EnvCall::SetAffinity { thread, .. } => message(thread, 3),
-        EnvCall::SetPriority { thread, level } => message(thread, u32::from(level)),
-        EnvCall::Tick { cpu } => tick(cpu),
-        EnvCall::Block { ran, .. } => message(Tid(1), ran),
-        EnvCall::YieldNow { ran, .. } => message(Tid(2), ran),
-        EnvCall::Preempt { ran, .. } => message(Tid(3), ran),
-        EnvCall::Die { ran, .. } => message(Tid(4), ran),
-    }
-}
-
-/// What is replied to a call of an agent.
-fn agreed(call: AgentCall) -> Reply {
-    match call {
-        AgentCall::Associate { thread, queue, .. } => Reply::Associated { thread, queue },
-        AgentCall::Commit { cpu, thread, .. } => Reply::Committed { thread, cpu },
-        _ => Reply::Done,
-    }
-}
-
-/// What is replied to an event.
-fn happened(event: Event) -> Reply {
-    match event {
-        Event::Env(call) => called(call),
-        Event::Agent(call) => agreed(call),
-        Event::Publish { cpu, .. } => Reply::Published {
-            delta: 0,
-            items: u32::from(cpu.index()),
-        },
-        Event::Consume { cpu } => Reply::Consumed {
-            items: u32::from(cpu.index()),
-        },
-        Event::Deliver { delta, .. } => delivered(delta),
-        Event::Answer { asker, .. } => Reply::Answered {
-            delta: u64::from(asker.index()),
-        },
-        _ => Reply::Done,
-    }
-}
-
-/// What is replied where a CPU is to be mended: on CPU 0 a thread runs already.
-fn mended(cpu: Cpu) -> Reply {
-    if cpu.index() == 0 {
-        Reply::Refused(Refusal::Busy)
-    } else {
-        Reply::Committed {
-            thread: Tid(0),
-            cpu,
-        }
-    }
-}
-
-/// Whether an agent sleeps; of one CPU no memory is found to tell it.
-fn sleeps(cpu: Cpu) -> Result<Response, AllocError> {
-    if cpu.index() == 63 {
-        return Err(AllocError);
-    }
-    Ok(Response::Truth(cpu.index() == 0))
-}
-
-/// What is answered to a question.
-fn told(alloc: Global, question: Question) -> Result<Response, AllocError> {
-    match question {
-        Question::Status { thread } => Ok(Response::Status {
-            thread,
-            status: Status {
-                number: 1,
-                running_on: None,
-            },
-            phase: Phase::Ready,
-        }),
-        Question::Asleep { cpu } => sleeps(cpu),
-        Question::Show { .. } => Ok(Response::View(shown(alloc)?)),
-        Question::Same { cpu, other } => Ok(Response::Sameness(cpu == other)),
-        Question::Complete { thread, .. } => Ok(Response::Truth(thread.index() == 0)),
-    }
-}
+struct Echo;
 
 impl Machine for Echo {
-    ghost use Rattle.std.specs.Prelude.{◌≡◌, length, refl};
+    ghost use Rattle.std.specs.Prelude.{◌≡◌, length};
 
     ghost IsRun = { λ _ commands responses. length commands ≡ length responses };
 
@@ -173,54 +27,22 @@ impl Machine for Echo {
 
     ghost RanOut = { λ _ commands responses _. length commands ≡ length responses };
 
-    fn start(alloc: Global, profile: Profile) -> Self {
-        Echo { alloc, profile }
+    fn start(_alloc: Global, _profile: Profile) -> Self {
+        Echo
     }
 
     fn answer(&mut self, command: &Command, response: &mut Response) -> Result<(), AllocError> {
         *response = match *command {
-            Command::Enclave(limits) => enclave(self.profile, limits.threads),
-            Command::Event(event) => Response::Event(happened(event)),
-            Command::Read(question) => told(self.alloc, question)?,
-            Command::Policy(policy) => Response::Ruled(policy),
-            Command::Mend { cpu } => Response::Event(mended(cpu)),
+            Command::Event(Event::Env(EnvCall::Wake { thread })) => {
+                Response::Event(Reply::Refused(Refusal::Stale(thread.index())))
+            }
+            Command::Read(Question::Asleep { cpu }) if cpu.index() == 63 => return Err(AllocError),
+            _ => Response::Opened,
         };
         Ok(())
     }
 
     ghost is_run_after = { λ _ _ _ _ h. h };
-}
-
-/// What is told of a blocked thread that ran five ticks.
-fn blocked() -> Option<Reported> {
-    let mask = Mask::new(3, 2).ok()?;
-    Some(Reported {
-        phase: Phase::Blocked,
-        mask,
-        ran: 5,
-        level: Level::LOWEST,
-    })
-}
-
-/// Two threads, the second without its first message.
-fn shown(alloc: Global) -> Result<ShownThreads, AllocError> {
-    let mut threads = ShownThreads::new(alloc);
-    threads.push(ShownThread {
-        thread: Tid(0),
-        upto: 2,
-        reported: blocked(),
-        early: EarlyNumbers::new(alloc),
-    })?;
-    let mut early = EarlyNumbers::new(alloc);
-    early.push(2)?;
-    early.push(1_000_000)?;
-    threads.push(ShownThread {
-        thread: Tid(12),
-        upto: 0,
-        reported: None,
-        early,
-    })?;
-    Ok(threads)
 }
 
 // Without contracts, as the functions below, so that a test's proof does not carry those of scripts.
@@ -232,38 +54,338 @@ fn runs<R: Read, W: Write>(
     run_script::<Echo, _, _>(alloc, reader, writer)
 }
 
-/// A script, what is written of it, and how it ends.
-type Ended = (&'static [u8], &'static [u8], Result<Outcome, ScriptFault>);
-
-/// Whether that is written of the script, and it ends so.
-fn ends_so(
-    alloc: Global,
-    script: &[u8],
-    output: &[u8],
-    wanted: Result<Outcome, ScriptFault>,
-) -> bool {
-    let mut reader = script;
-    let mut writer: Vec<u8> = Vec::new(alloc);
-    runs(alloc, &mut reader, &mut writer) == wanted && writer.as_slice() == output
-}
-
-impl Row for Ended {
-    fn holds(&self, alloc: Global) -> bool {
-        ends_so(alloc, self.0, self.1, self.2)
-    }
-}
-
-/// The script was read to its end.
 const FINISHED: Result<Outcome, ScriptFault> = Ok(Outcome::Finished);
 
-/// What is written where the first line is a fault.
-const FAULT: &[u8] = b"fault line 1\n";
+const UNREAD: Result<Outcome, ScriptFault> = Err(ScriptFault::Read);
 
-/// A line that is a fault.
-type Faulty = &'static [u8];
+const TOO_LONG: Result<Outcome, ScriptFault> = Err(ScriptFault::TooLong);
 
-impl Row for Faulty {
-    fn holds(&self, alloc: Global) -> bool {
-        ends_so(alloc, self, FAULT, Ok(Outcome::FaultLine(1)))
+const UNWRITTEN: Result<Outcome, ScriptFault> = Err(ScriptFault::Write);
+
+const NO_MEMORY: Result<Outcome, ScriptFault> = Err(ScriptFault::OutOfMemory);
+
+/// Gives so many line feeds, and then ends or fails. Counts the reads that gave none or failed, and those that came
+/// after one of these.
+#[derive(Drop)]
+struct Feeds {
+    left: usize,
+    fails: bool,
+    ended: u32,
+    late: u32,
+}
+
+impl Read for Feeds {
+    fn read(&mut self, buf: &mut [u8]) -> io::Result<usize> {
+        if self.ended > 0 {
+            self.late = self.late.saturating_add(1);
+        }
+        let count = buf.len().min(self.left);
+        if count == 0 {
+            self.ended = self.ended.saturating_add(1);
+            if self.fails {
+                return Err(Error::from(ErrorKind::Interrupted));
+            }
+        }
+        for place in buf[..count].iter_mut() {
+            *place = b'\n';
+        }
+        self.left -= count;
+        Ok(count)
     }
+}
+
+const fn feeding(left: usize, fails: bool) -> Feeds {
+    Feeds {
+        left,
+        fails,
+        ended: 0,
+        late: 0,
+    }
+}
+
+/// How many line feeds a reader gives before it ends, or fails; how the script ends; how many reads gave none or
+/// failed, and came after one of these; and how many line feeds the reader would give still.
+type Fed = (usize, bool, Result<Outcome, ScriptFault>, (u32, u32), usize);
+
+impl Row for Fed {
+    fn holds(&self, alloc: Global) -> bool {
+        let mut reader = feeding(self.0, self.1);
+        let mut writer: Vec<u8> = Vec::new(alloc);
+        let ended = runs(alloc, &mut reader, &mut writer);
+        (ended, (reader.ended, reader.late), reader.left) == (self.2, self.3, self.4)
+    }
+}
+
+// Of a text that is too long one byte past the greatest length is read.
+#[test]
+fn nothing_is_read_after_the_end_a_failed_read_or_the_greatest_length(rt: HostRuntime) {
+    static ROWS: [Fed; 6] = [
+        (0, false, FINISHED, (1, 0), 0),
+        (0, true, UNREAD, (1, 0), 0),
+        (200_000, false, FINISHED, (1, 0), 0),
+        (200_000, true, UNREAD, (1, 0), 0),
+        (16_777_216, false, FINISHED, (1, 0), 0),
+        (16_777_300, true, TOO_LONG, (0, 0), 83),
+    ];
+    each_holds(&rt, rt.alloc(), &ROWS);
+}
+
+fn length_up_to(alloc: Global, reader: &mut Feeds, most: usize) -> Result<usize, ScriptFault> {
+    Ok(read_bytes(alloc, reader, most)?.len())
+}
+
+fn length_of(alloc: Global, reader: &mut Feeds) -> Result<usize, ScriptFault> {
+    Ok(read_text(alloc, reader)?.len())
+}
+
+fn are_read(alloc: Global) -> bool {
+    length_up_to(alloc, &mut feeding(20_000, false), 20_000) == Ok(20_000)
+        && length_up_to(alloc, &mut feeding(5, true), 5) == Err(ScriptFault::Read)
+        && length_of(alloc, &mut feeding(20_000, false)) == Ok(20_000)
+}
+
+#[test]
+fn texts_are_read(rt: HostRuntime) {
+    is_so(&rt, are_read(rt.alloc()));
+}
+
+/// Takes all that it is given, and counts how often; fails at one of the writes.
+#[derive(Drop)]
+struct Writes {
+    count: u32,
+    fails_at: u32,
+    taken: usize,
+}
+
+impl Write for Writes {
+    fn write(&mut self, buf: &[u8]) -> io::Result<usize> {
+        self.count = self.count.saturating_add(1);
+        if self.count == self.fails_at {
+            return Err(Error::from(ErrorKind::BrokenPipe));
+        }
+        self.taken = self.taken.saturating_add(buf.len());
+        Ok(buf.len())
+    }
+
+    fn flush(&mut self) -> io::Result<()> {
+        Ok(())
+    }
+}
+
+/// So many wakes, and this line.
+fn wakes(alloc: Global, times: u32, last: &[u8]) -> Result<Vec<u8>, AllocError> {
+    let mut whole = Vec::new(alloc);
+    for _ in 0..times {
+        whole.extend_from_slice(b"wake t1\n")?;
+    }
+    whole.extend_from_slice(last)?;
+    Ok(whole)
+}
+
+/// How many wakes there are, the line behind them, the write that fails, how the script ends, how many writes there
+/// are, and the bytes that are taken.
+type Written = (
+    u32,
+    &'static [u8],
+    u32,
+    Result<Outcome, ScriptFault>,
+    u32,
+    usize,
+);
+
+fn written(
+    alloc: Global,
+    script: &[u8],
+    fails_at: u32,
+) -> (Result<Outcome, ScriptFault>, u32, usize) {
+    let mut reader = script;
+    let mut writer = Writes {
+        count: 0,
+        fails_at,
+        taken: 0,
+    };
+    let ended = runs(alloc, &mut reader, &mut writer);
+    (ended, writer.count, writer.taken)
+}
+
+impl Row for Written {
+    fn holds(&self, alloc: Global) -> bool {
+        match wakes(alloc, self.0, self.1) {
+            Ok(script) => written(alloc, script.as_slice(), self.2) == (self.3, self.4, self.5),
+            Err(_) => false,
+        }
+    }
+}
+
+/// The line at which no memory is found.
+const LACKING: &[u8] = b"asleep 63\nwake t1\n";
+
+// Replies wait until there are 16,384 bytes of them, or memory runs out.
+#[test]
+fn many_replies_are_one_write_and_none_follows_one_that_failed(rt: HostRuntime) {
+    static ROWS: [Written; 12] = [
+        (0, b"", 0, FINISHED, 0, 0),
+        (1, b"", 0, FINISHED, 1, 16),
+        (1024, b"", 0, FINISHED, 1, 16_384),
+        (1025, b"", 0, FINISHED, 2, 16_400),
+        (1024, b"x", 0, Ok(Outcome::FaultLine(1025)), 2, 16_400),
+        (3072, b"", 0, FINISHED, 3, 49_152),
+        (3072, b"", 1, UNWRITTEN, 1, 0),
+        (3072, b"", 2, UNWRITTEN, 2, 16_384),
+        (3072, b"", 3, UNWRITTEN, 3, 32_768),
+        (0, LACKING, 0, NO_MEMORY, 0, 0),
+        (1, LACKING, 0, NO_MEMORY, 1, 16),
+        (1025, LACKING, 0, NO_MEMORY, 2, 16_400),
+    ];
+    each_holds(&rt, rt.alloc(), &ROWS);
+}
+
+/// A thread of which the second message alone is known.
+fn shown(alloc: Global) -> Result<ShownThreads, AllocError> {
+    let mut early = EarlyNumbers::new(alloc);
+    early.push(2)?;
+    let mut threads = ShownThreads::new(alloc);
+    threads.push(ShownThread {
+        thread: Tid(12),
+        upto: 0,
+        reported: None,
+        early,
+    })?;
+    Ok(threads)
+}
+
+fn is_written(alloc: Global, response: Response, text: &[u8]) -> bool {
+    let mut writer: Vec<u8> = Vec::new(alloc);
+    response.write_to(&mut writer).is_ok() && writer.as_slice() == text
+}
+
+fn are_written(alloc: Global) -> Result<bool, AllocError> {
+    let view = Response::View(shown(alloc)?);
+    Ok(
+        is_written(alloc, view, b"t12 upto 0 - early 2\nend\n")
+            && is_written(alloc, Response::Opened, b"ok\n"),
+    )
+}
+
+#[test]
+fn responses_are_written(rt: HostRuntime) {
+    is_found_so(&rt, are_written(rt.alloc()));
+}
+
+/// Gives a text in pieces of so many bytes; at the end it fails, if it is to.
+#[derive(Drop)]
+struct Pieces {
+    text: &'static [u8],
+    size: usize,
+    fails: bool,
+}
+
+impl Read for Pieces {
+    fn read(&mut self, buf: &mut [u8]) -> io::Result<usize> {
+        if self.text.is_empty() && self.fails {
+            return Err(Error::from(ErrorKind::Interrupted));
+        }
+        let count = buf.len().min(self.text.len()).min(self.size);
+        buf[..count].copy_from_slice(&self.text[..count]);
+        self.text = &self.text[count..];
+        Ok(count)
+    }
+}
+
+/// Keeps how much was written, and how much of it there was at each flush.
+#[derive(Drop)]
+struct Flushes {
+    count: usize,
+    at: Vec<usize>,
+}
+
+impl Write for Flushes {
+    fn write(&mut self, buf: &[u8]) -> io::Result<usize> {
+        self.count = self.count.saturating_add(buf.len());
+        Ok(buf.len())
+    }
+
+    fn flush(&mut self) -> io::Result<()> {
+        self.at.push(self.count)?;
+        Ok(())
+    }
+}
+
+/// Counts how often help is asked for.
+#[derive(Drop)]
+struct Counts {
+    asked: u32,
+}
+
+impl Helper for Counts {
+    fn help(&mut self) {
+        self.asked = self.asked.saturating_add(1);
+    }
+}
+
+/// A text, the size of its pieces, and whether a read fails behind it; whether there is a fault in it and it is read to
+/// its end, how often help is asked for, and how much is written at each flush.
+type Talk = (
+    &'static [u8],
+    usize,
+    bool,
+    (bool, bool),
+    u32,
+    &'static [usize],
+);
+
+fn talks(alloc: Global, talk: &Talk) -> io::Result<bool> {
+    let (text, size, fails, (had_fault, is_whole), asked, at) = *talk;
+    let mut reader = Pieces { text, size, fails };
+    let mut helper = Counts { asked: 0 };
+    let sink = Flushes {
+        count: 0,
+        at: Vec::new(alloc),
+    };
+    let mut writer = BufWriter::new(alloc, sink)?;
+    let ended = run_session::<Echo, _, _, _>(alloc, &mut reader, &mut helper, &mut writer);
+    let wanted = Conversed {
+        had_fault,
+        is_whole,
+    };
+    Ok(ended == Ok(wanted) && helper.asked == asked && writer.get_ref().at.as_slice() == at)
+}
+
+impl Row for Talk {
+    fn holds(&self, alloc: Global) -> bool {
+        matches!(talks(alloc, self), Ok(true))
+    }
+}
+
+const THREE: &[u8] = b"wake t1\nwake t2\nwake t3\n";
+
+// A line is answered as soon as its line feed was read. What is left before a read that fails is the last line.
+#[test]
+fn answers_are_flushed_before_each_read_and_at_no_other_time(rt: HostRuntime) {
+    static ROWS: [Talk; 9] = [
+        (THREE, 1_000, false, (false, true), 0, &[0, 48, 48]),
+        (THREE, 8, false, (false, true), 0, &[0, 16, 32, 48, 48]),
+        (THREE, 12, false, (false, true), 0, &[0, 16, 48, 48]),
+        (b"wake t1", 4, false, (false, true), 0, &[0, 0, 0, 16]),
+        (b"", 5, true, (false, false), 0, &[0, 0]),
+        (
+            b"wake t1\nwake t2",
+            9,
+            true,
+            (false, false),
+            0,
+            &[0, 16, 16, 32],
+        ),
+        (b"walk\nwa", 5, true, (true, false), 0, &[0, 13, 13, 26]),
+        (b"?", 4, false, (false, true), 1, &[0, 0, 0]),
+        (
+            b"?\n?\r\n??\n? \n",
+            99,
+            false,
+            (true, true),
+            2,
+            &[0, 26, 26],
+        ),
+    ];
+    each_holds(&rt, rt.alloc(), &ROWS);
 }

@@ -1,9 +1,9 @@
 //! Tests: advice in a small world, written down by hand. What advice makes accepted, a script's test acts on.
 
-use pc_advice::{Advice, Deed, Plan, Step, advise, tried_by_steal};
+use pc_advice::{Advice, Deed, Plan, PlannedStep, advise, tried_by_steal};
 use pc_calls::{EnvCall, Limits};
 use pc_messages::{Cpu, Tid};
-use pc_script::{OrderName, PolicyName};
+use pc_policy::PolicyName;
 use pc_world::{Event, World};
 use std::alloc::Global;
 
@@ -48,7 +48,7 @@ fn is_never(world: &World, event: &Event) -> bool {
     )
 }
 
-fn is_wake(step: &Step) -> bool {
+fn is_wake(step: &PlannedStep) -> bool {
     matches!(step.deed, Deed::Env(EnvCall::Wake { .. })) && step.times == 1 && step.number == 2
 }
 
@@ -63,10 +63,10 @@ fn wakes(world: &World, event: &Event) -> bool {
     }
 }
 
-/// Levels, and exact steals.
+/// The usual order, and exact steals.
 const EXACT: PolicyName = PolicyName {
-    order: OrderName::Levels,
     exact: true,
+    ..PolicyName::USUAL
 };
 
 fn tries_exactly(world: &World, cpu: u8) -> Option<Tid> {

@@ -1,33 +1,24 @@
-//! Worked loads of the lab: a script to the byte, and counts that were found by hand.
+//! The lab, with ample memory: a load is played, told and drawn. And what no clause says: that a run which adds up is
+//! told, and that watchers are told of each run. What runs come to, `tests/lab_tests.py` has.
 
-use pc_calls::{AgentCall, EnvCall, Event};
+use pc_calls::{AgentCall, EnvCall, Event, Leaving};
+use pc_curves::picture_of as waits_of;
 use pc_lab::{
-    Chronicle, Counted, Ending, LabFault, Played, Summary, Wait, check_account, head_of, limits_of,
+    Chronicle, Counted, LabFault, Played, RunEnding, Summary, check_account, head_of, limits_of,
     play,
 };
-use pc_load::{Leaving, Load, LoadStep, ThreadDraft, Variant};
+use pc_load::{Load, LoadStep, ThreadDraft, Variant, VariantDraft, Variants};
 use pc_messages::{Cpu, Tid};
-use pc_script::{OrderName, PolicyName};
+use pc_table::{Column, figures_of, text_of};
+use pc_trial::{
+    CompareFault, Form, Layout, SoFar, Watcher, compare, compare_watched, picture_of,
+    picture_watched, script_of,
+};
 use pc_world::World;
 use std::alloc::Global;
 
-/// One CPU: a thread of 100 ticks in front of ten of one, in the order of their creation.
-static CONVOY: &[u8] = b"\
-    # lab, variant fifo: order fifo, steals least, quantum 0, group 64, delay 0, cost 0, urgent false, keep false\n\
-    version 3\nenclave 1 11 1000000 65536 4294967295\npolicy fifo\n# at 0\nsleep 0 0\ncreate 0 1 ready\n\
-    create 0 1 ready\ncreate 0 1 ready\ncreate 0 1 ready\ncreate 0 1 ready\ncreate 0 1 ready\n\
-    create 0 1 ready\ncreate 0 1 ready\ncreate 0 1 ready\ncreate 0 1 ready\ncreate 0 1 ready\npublish 0\n\
-    consume 0\npick 0 11\nsleep 0 11\n# at 100\ndie 0 100\npublish 0\nconsume 0\npick 0 12\nsleep 0 12\n\
-    # at 101\ndie 0 1\npublish 0\nconsume 0\npick 0 13\nsleep 0 13\n# at 102\ndie 0 1\npublish 0\n\
-    consume 0\npick 0 14\nsleep 0 14\n# at 103\ndie 0 1\npublish 0\nconsume 0\npick 0 15\nsleep 0 15\n\
-    # at 104\ndie 0 1\npublish 0\nconsume 0\npick 0 16\nsleep 0 16\n# at 105\ndie 0 1\npublish 0\n\
-    consume 0\npick 0 17\nsleep 0 17\n# at 106\ndie 0 1\npublish 0\nconsume 0\npick 0 18\nsleep 0 18\n\
-    # at 107\ndie 0 1\npublish 0\nconsume 0\npick 0 19\nsleep 0 19\n# at 108\ndie 0 1\npublish 0\n\
-    consume 0\npick 0 20\nsleep 0 20\n# at 109\ndie 0 1\npublish 0\nconsume 0\npick 0 21\nsleep 0 21\n\
-    # at 110\ndie 0 1\n";
-
-/// A thread of CPU 0's queue that needs so many ticks, on the CPUs of the mask.
-fn draft_of(alloc: Global, mask: i64, ticks: u32) -> Result<ThreadDraft, LabFault> {
+/// A thread of CPU 0's queue that needs so many ticks.
+fn draft_of(alloc: Global, ticks: u32) -> Result<ThreadDraft, LabFault> {
     let mut steps = Vec::new(alloc);
     steps.push(LoadStep {
         leaving: Leaving::Die,
@@ -35,7 +26,7 @@ fn draft_of(alloc: Global, mask: i64, ticks: u32) -> Result<ThreadDraft, LabFaul
     })?;
     Ok(ThreadDraft {
         queue: 0,
-        mask,
+        mask: 1,
         steps,
         start: 0,
         level: 0,
@@ -43,139 +34,89 @@ fn draft_of(alloc: Global, mask: i64, ticks: u32) -> Result<ThreadDraft, LabFaul
     })
 }
 
-/// Threads that come at tick 0, of a run that stops at a tick, or goes on to its end.
-fn load_until(
-    alloc: Global,
-    until: i64,
-    cpus: i64,
-    mask: i64,
-    all: &[u32],
-) -> Result<Load, LabFault> {
+/// Two threads of 3 and 5 ticks on one CPU.
+fn two_threads(alloc: Global) -> Result<Load, LabFault> {
     let mut threads = Vec::new(alloc);
-    for ticks in all {
-        threads.push(draft_of(alloc, mask, *ticks)?)?;
+    for ticks in [3, 5] {
+        threads.push(draft_of(alloc, ticks)?)?;
     }
-    match Load::new(alloc, cpus, until, threads) {
+    match Load::new(alloc, 1, 0, threads) {
         Ok(load) => Ok(load),
         Err(_) => Err(LabFault::TooLong),
     }
 }
 
-/// Threads that come at tick 0, of a run that goes on to its end.
-fn load_of(alloc: Global, cpus: i64, mask: i64, all: &[u32]) -> Result<Load, LabFault> {
-    load_until(alloc, 0, cpus, mask, all)
-}
-
-fn variant_of(
-    alloc: Global,
-    name: &[u8],
-    order: OrderName,
-    group: u8,
-) -> Result<Variant, LabFault> {
-    Ok(Variant {
-        name: Vec::from_slice(alloc, name)?,
-        policy: PolicyName {
-            order,
-            exact: false,
-        },
+/// All defaults, but for the order.
+const fn draft<'a>(name: &'a str, order: &'a str) -> VariantDraft<'a> {
+    VariantDraft {
+        name,
+        order,
+        steals: "least",
         quantum: 0,
-        group,
+        group: 64,
         delay: 0,
         cost: 0,
         urgent: false,
         keep: false,
-    })
+    }
 }
 
-/// Whether the script of the convoy is the worked one.
-fn convoy_is_told(alloc: Global) -> Result<bool, LabFault> {
-    let load = load_of(alloc, 1, 1, &[100, 1, 1, 1, 1, 1, 1, 1, 1, 1, 1])?;
-    let variant = variant_of(alloc, b"fifo", OrderName::Fifo, 64)?;
-    let head = head_of(alloc, &load, &variant)?;
-    let Played { chronicle, .. } = play(alloc, &load, &variant, Chronicle::Script(head))?;
+fn two_variants(alloc: Global) -> Result<Variants, LabFault> {
+    let drafts = [draft("fifo", "fifo"), draft("ran", "least-ran")];
+    match Variants::new(alloc, &drafts) {
+        Ok(variants) => Ok(variants),
+        Err(_) => Err(LabFault::TooLong),
+    }
+}
+
+// Without contracts, as the functions below, so that a test's proof does not carry those of the lab.
+fn is_played(alloc: Global, load: &Load, variant: &Variant) -> Result<bool, LabFault> {
+    let head = head_of(alloc, load, variant)?;
+    let Played { chronicle, .. } = play(alloc, load, variant, Chronicle::Script(head))?;
     match chronicle {
-        Chronicle::Script(text) => Ok(text.as_slice() == CONVOY),
+        Chronicle::Script(text) => Ok(text.as_slice().ends_with(b"\ndie 0 5\n")),
         Chronicle::Untold => Ok(false),
     }
 }
 
-/// The makespan, and how many commits, switches, steals, messages, deltas, deliveries and events there were.
-fn numbers_of(summary: &Summary) -> [u64; 8] {
-    [
-        summary.makespan,
-        summary.tally.of(Counted::Commit),
-        summary.switches,
-        summary.tally.of(Counted::Steal),
-        summary.tally.of(Counted::Message),
-        summary.tally.of(Counted::Delta),
-        summary.tally.of(Counted::Deliver),
-        summary.events,
-    ]
+/// The makespan of a run that is done, and how many commits there were.
+fn numbers(summary: &Summary) -> (bool, u64, u64) {
+    let is_done = summary.ending == RunEnding::Done;
+    (is_done, summary.makespan, summary.tally.of(Counted::Commit))
 }
 
-/// The numbers of eight threads of 10 ticks on two CPUs, in groups of so many.
-fn played_in_groups(alloc: Global, group: u8) -> Result<[u64; 8], LabFault> {
-    let load = load_of(alloc, 2, 3, &[10, 10, 10, 10, 10, 10, 10, 10])?;
-    let variant = variant_of(alloc, b"plain", OrderName::Levels, group)?;
-    let Played { summary, .. } = play(alloc, &load, &variant, Chronicle::Untold)?;
-    Ok(if summary.ending == Ending::Done {
-        numbers_of(&summary)
-    } else {
-        [0; 8]
-    })
+fn summary_of(alloc: Global, load: &Load, variant: &Variant) -> Result<Summary, LabFault> {
+    let Played { summary, .. } = play(alloc, load, variant, Chronicle::Untold)?;
+    Ok(summary)
 }
 
-/// A thread that came at tick 0 was ready for so long.
-fn waited(ticks: u64) -> Wait {
-    Wait {
-        ticks,
-        level: 0,
-        is_woken: true,
+/// Whether a run of the load is told to its end, as a script and by its numbers.
+fn is_told_whole(alloc: Global) -> Result<bool, LabFault> {
+    let (load, variants) = (two_threads(alloc)?, two_variants(alloc)?);
+    match variants.as_slice().first() {
+        Some(variant) => {
+            let summary = summary_of(alloc, &load, variant)?;
+            Ok(is_played(alloc, &load, variant)? && numbers(&summary) == (true, 8, 2))
+        }
+        None => Ok(false),
     }
 }
 
-/// Whether these are the waits of two threads of 3 and 5 ticks on one CPU, up to a tick: those that ended, and those
-/// that did not.
-fn are_waits(
-    alloc: Global,
-    until: i64,
-    ended: &[Wait],
-    unended: &[Wait],
-) -> Result<bool, LabFault> {
-    let load = load_until(alloc, until, 1, 1, &[3, 5])?;
-    let variant = variant_of(alloc, b"fifo", OrderName::Fifo, 1)?;
-    let Played { summary, .. } = play(alloc, &load, &variant, Chronicle::Untold)?;
-    Ok(summary.waits.as_slice() == ended && summary.unended.as_slice() == unended)
+#[test]
+fn a_load_is_played(rt: HostRuntime) {
+    let is_told = is_told_whole(rt.alloc()).expect(&rt, "ample memory");
+    assert!(rt; is_told);
 }
-
-/// What is told of a run of two threads of 3 and 5 ticks on one CPU, of which each was committed once: how it ended,
-/// how long each thread ran, as it died, the level of the first, how long the CPU ran, and the preempts; and whether it
-/// adds up to them.
-type Told = (Ending, [u32; 2], u8, u64, u64, bool);
-
-const TOLD: &[Told] = &[
-    (Ending::Done, [3, 5], 0, 8, 0, true),
-    (Ending::Done, [4, 5], 0, 8, 0, false),
-    (Ending::Done, [3, 4], 0, 8, 0, false),
-    (Ending::Done, [4, 4], 0, 8, 0, false),
-    (Ending::Done, [3, 5], 1, 8, 0, false),
-    (Ending::Done, [3, 5], 0, 9, 0, false),
-    (Ending::Done, [3, 5], 0, 7, 0, false),
-    (Ending::Done, [3, 5], 0, 8, 1, false),
-    (Ending::Until, [1, 0], 0, 1, 0, true),
-];
 
 /// A thread of CPU 0 comes.
-fn creation() -> Event {
-    Event::Env(EnvCall::Create {
-        queue: Cpu(0),
-        mask: 1,
-        ready: true,
-    })
-}
+const CREATION: Event = Event::Env(EnvCall::Create {
+    queue: Cpu(0),
+    mask: 1,
+    ready: true,
+});
 
 /// The thread is put on the CPU, behind so many posts.
-fn commit(thread: u32, aseq: u32) -> Event {
+const fn commit(thread: u32, aseq: u32) -> Event {
     Event::Agent(AgentCall::Commit {
         cpu: Cpu(0),
         thread: Tid(thread),
@@ -184,93 +125,173 @@ fn commit(thread: u32, aseq: u32) -> Event {
 }
 
 /// The thread that runs dies.
-fn death(ran: u32) -> Event {
+const fn death(ran: u32) -> Event {
     Event::Env(EnvCall::Die { cpu: Cpu(0), ran })
 }
 
-/// A world in which both threads ran for so long, and the first had this level.
-fn lived(alloc: Global, load: &Load, ran: [u32; 2], level: u8) -> Result<World, LabFault> {
+/// A world in which both threads ran for so long.
+fn lived(alloc: Global, load: &Load, ran: [u32; 2]) -> Result<World, LabFault> {
     let Ok(mut world) = World::new(alloc, limits_of(load)) else {
         return Err(LabFault::OutOfMemory);
     };
     let [first, second] = ran;
-    let level = EnvCall::SetPriority {
-        thread: Tid(0),
-        level,
-    };
     let events = [
-        creation(),
-        creation(),
-        Event::Env(level),
-        commit(0, 3),
+        CREATION,
+        CREATION,
+        commit(0, 2),
         death(first),
-        commit(1, 4),
+        commit(1, 3),
         death(second),
     ];
     world.run(&events)?;
     Ok(world)
 }
 
-/// Whether it adds up, or does not, as it should.
-fn is_judged(
-    alloc: Global,
-    load: &Load,
-    summary: &mut Summary,
-    told: &Told,
-) -> Result<bool, LabFault> {
-    let (ending, ran, level, by_cpu, preempts, adds_up) = *told;
-    let world = lived(alloc, load, ran, level)?;
-    summary.ending = ending;
-    summary.preempts = preempts;
-    if let Some(time) = summary.times.first_mut() {
-        time.ran = by_cpu;
-    }
+/// Whether a run of the load that ended so adds up to it, where threads ran for so long.
+fn adds_up(alloc: Global, load: &Load, summary: &Summary, ran: [u32; 2]) -> Result<bool, LabFault> {
+    let world = lived(alloc, load, ran)?;
     match check_account(alloc, load, false, world.kernel(), summary) {
-        Ok(()) => Ok(adds_up),
-        Err(LabFault::Unaccounted) => Ok(!adds_up),
+        Ok(()) => Ok(true),
+        Err(LabFault::Unaccounted) => Ok(false),
         Err(fault) => Err(fault),
     }
 }
 
-/// The place of the first of these of which it is not so.
-fn first_wrong(alloc: Global, all: &[Told]) -> Result<Option<usize>, LabFault> {
-    let load = load_of(alloc, 1, 1, &[3, 5])?;
-    let variant = variant_of(alloc, b"fifo", OrderName::Fifo, 1)?;
-    let Played { mut summary, .. } = play(alloc, &load, &variant, Chronicle::Untold)?;
-    for (place, told) in all.iter().enumerate() {
-        if !is_judged(alloc, &load, &mut summary, told)? {
-            return Ok(Some(place));
+/// Whether a run adds up that is done, one in which a thread ran for too long, and one that is not done.
+fn judged(alloc: Global, load: &Load, variant: &Variant) -> Result<[bool; 3], LabFault> {
+    let mut summary = summary_of(alloc, load, variant)?;
+    let is_done = adds_up(alloc, load, &summary, [3, 5])?;
+    let is_longer = adds_up(alloc, load, &summary, [4, 5])?;
+    summary.ending = RunEnding::Until;
+    let is_cut = adds_up(alloc, load, &summary, [1, 0])?;
+    Ok([is_done, is_longer, is_cut])
+}
+
+fn judged_of_two(alloc: Global) -> Result<[bool; 3], LabFault> {
+    let (load, variants) = (two_threads(alloc)?, two_variants(alloc)?);
+    match variants.as_slice().first() {
+        Some(variant) => judged(alloc, &load, variant),
+        None => Err(LabFault::TooLong),
+    }
+}
+
+#[test]
+fn a_run_that_adds_up_is_told(rt: HostRuntime) {
+    let judged = judged_of_two(rt.alloc()).expect(&rt, "ample memory");
+    assert!(rt; judged == [true, false, true]);
+}
+
+/// A watcher who keeps what it was told last, and counts how often.
+#[derive(Clone, Copy)]
+struct Kept {
+    times: usize,
+    last: Option<SoFar>,
+}
+
+impl Watcher for Kept {
+    fn played(&mut self, so_far: SoFar) {
+        self.times = self.times.saturating_add(1);
+        self.last = Some(so_far);
+    }
+}
+
+impl Kept {
+    const NOTHING: Kept = Kept {
+        times: 0,
+        last: None,
+    };
+
+    /// Whether it was told of two runs, each behind it.
+    fn is_of_both(&self) -> bool {
+        match self.last {
+            Some(last) => self.times == 2 && last.all == 2 && last.played == 2 && last.events > 0,
+            None => false,
         }
     }
-    Ok(None)
+}
+
+const FORM: Form = Form {
+    layout: Layout::Csv,
+    per_cpu: true,
+};
+
+fn tables(alloc: Global, load: &Load, variants: &Variants) -> Result<bool, CompareFault> {
+    let mut watcher = Kept::NOTHING;
+    let watched = compare_watched(alloc, load, variants, FORM, &mut watcher)?;
+    let text = compare(alloc, load, variants, FORM)?;
+    Ok(text.as_slice() == watched.as_slice() && watcher.is_of_both())
+}
+
+fn pictures(alloc: Global, load: &Load, variants: &Variants) -> Result<bool, CompareFault> {
+    let mut watcher = Kept::NOTHING;
+    let watched = picture_watched(alloc, load, variants, &mut watcher)?;
+    let picture = picture_of(alloc, load, variants)?;
+    Ok(picture.as_slice() == watched.as_slice() && watcher.is_of_both())
+}
+
+fn is_scripted(alloc: Global, load: &Load, variants: &Variants) -> Result<bool, CompareFault> {
+    let script = script_of(alloc, load, variants, "ran")?;
+    Ok(script.as_slice().starts_with(b"# lab, variant ran: "))
+}
+
+fn are_compared(alloc: Global) -> Result<bool, CompareFault> {
+    let (load, variants) = (two_threads(alloc)?, two_variants(alloc)?);
+    Ok(
+        tables(alloc, &load, &variants)?
+            && pictures(alloc, &load, &variants)?
+            && is_scripted(alloc, &load, &variants)?,
+    )
 }
 
 #[test]
-fn a_convoy_is_told(rt: HostRuntime) {
-    let alloc = rt.alloc();
-    let is_told = convoy_is_told(alloc).expect(&rt, "ample memory");
+fn runs_are_compared_and_watched(rt: HostRuntime) {
+    let is_watched = are_compared(rt.alloc()).expect(&rt, "ample memory");
+    assert!(rt; is_watched);
+}
+
+/// A run of the load under each variant.
+fn columns_of<'a>(
+    alloc: Global,
+    load: &Load,
+    variants: &'a [Variant],
+) -> Result<Vec<Column<'a>>, CompareFault> {
+    let mut columns = Vec::new(alloc);
+    for variant in variants {
+        let Ok(played) = play(alloc, load, variant, Chronicle::Untold) else {
+            return Err(CompareFault::TooLong);
+        };
+        columns.push(Column {
+            name: variant.name.as_slice(),
+            summary: played.summary,
+        })?;
+    }
+    Ok(columns)
+}
+
+/// How many waits the runs had.
+fn waits(alloc: Global, columns: &[Column<'_>]) -> Result<usize, CompareFault> {
+    let mut all: usize = 0;
+    for column in columns {
+        all = all.saturating_add(figures_of(alloc, &column.summary)?.waits);
+    }
+    Ok(all)
+}
+
+/// Whether runs are told as text, as a picture and by their figures.
+fn are_told(alloc: Global) -> Result<bool, CompareFault> {
+    let (load, variants) = (two_threads(alloc)?, two_variants(alloc)?);
+    let columns = columns_of(alloc, &load, variants.as_slice())?;
+    let text = text_of(alloc, &load, columns.as_slice(), FORM)?;
+    let picture = waits_of(alloc, columns.as_slice())?;
+    Ok(
+        waits(alloc, columns.as_slice())? == 4
+            && text.as_slice().starts_with(b"variant,")
+            && picture.as_slice().starts_with(b"<svg "),
+    )
+}
+
+#[test]
+fn runs_are_told_and_drawn(rt: HostRuntime) {
+    let is_told = are_told(rt.alloc()).expect(&rt, "ample memory");
     assert!(rt; is_told);
-}
-
-#[test]
-fn kin_take_threads_over(rt: HostRuntime) {
-    let alloc = rt.alloc();
-    let alone = played_in_groups(alloc, 1).expect(&rt, "ample memory");
-    assert_eq!(rt; alone, [80, 8, 8, 0, 16, 8, 0, 50]);
-    let together = played_in_groups(alloc, 64).expect(&rt, "ample memory");
-    assert_eq!(rt; together, [40, 8, 8, 4, 16, 7, 4, 61]);
-}
-
-#[test]
-fn each_wait_is_told_once(rt: HostRuntime) {
-    let alloc = rt.alloc();
-    let whole = are_waits(alloc, 0, &[waited(0), waited(3)], &[]).expect(&rt, "ample memory");
-    let cut = are_waits(alloc, 2, &[waited(0)], &[waited(2)]).expect(&rt, "ample memory");
-    assert!(rt; whole && cut);
-}
-
-#[test]
-fn a_run_that_does_not_add_up_is_not_told(rt: HostRuntime) {
-    let wrong = first_wrong(rt.alloc(), TOLD).expect(&rt, "ample memory");
-    assert_eq!(rt; wrong, None);
 }

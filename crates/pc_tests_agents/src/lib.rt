@@ -1,5 +1,5 @@
-//! Tests of agents, the world, sessions, what is told of scripts, and the book, by their public names alone: beside
-//! `pc_tests`, so that two jobs share the proofs of tests.
+//! Tests of agents, the world, sessions, what is told of scripts, the book and the lab, by their public names alone:
+//! beside `pc_tests`, so that two jobs share the proofs of tests. They try what no contract says.
 #![tactic(auto)]
 
 #[cfg(test)]
@@ -17,10 +17,6 @@ mod session;
 #[cfg(test)]
 mod settings;
 #[cfg(test)]
-mod table;
-#[cfg(test)]
 mod threads;
-#[cfg(test)]
-mod wire;
 #[cfg(test)]
 mod world;

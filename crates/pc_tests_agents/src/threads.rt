@@ -1,23 +1,18 @@
-//! A book of two CPUs, with an agent for each unless a test says otherwise, and ample memory: values written down
-//! by hand.
+//! A book of two CPUs with an agent for each, runs of agents in threads, and their scripts, with ample memory.
 
-mod agents;
 mod asking;
-mod drawn;
 mod holds;
-mod refusals;
 mod runs;
 mod schedules;
-mod settings;
-mod settled;
 mod transcripts;
 
 use pc_agent::Agent;
 use pc_delta::Delta;
+use pc_join::Join;
 use pc_messages::{Cpu, Tid};
-use pc_threads::{Answer, Book, Call, CallFault, EnvCall, Limits, Posted, Refusal};
+use pc_threads::{Book, EnvCall, Limits, Posted, settle};
+use pc_view::View;
 use std::alloc::Global;
-use std::process::Abort;
 
 /// Two CPUs, eight threads.
 const SMALL: Limits = Limits {
@@ -52,11 +47,7 @@ const fn posted(number: u32, aseq: u32) -> Posted {
     }
 }
 
-const fn refused(refusal: Refusal) -> CallFault {
-    CallFault::Refused(refusal)
-}
-
-/// A book, and agents of two CPUs.
+/// A book, and an agent of each CPU.
 #[derive(Drop)]
 struct Scene {
     book: Book,
@@ -64,13 +55,13 @@ struct Scene {
     other: Agent,
 }
 
-/// Nothing has happened, and nothing is known. The first agent is of CPU 0, the other one of this CPU.
-fn new_scene(alloc: Global, limits: Limits, other: u8) -> Option<Scene> {
-    match Book::new(alloc, limits) {
+/// Nothing has happened, and nothing is known.
+fn new_scene(alloc: Global) -> Option<Scene> {
+    match Book::new(alloc, SMALL) {
         Ok(book) => Some(Scene {
             book,
             first: Agent::new(alloc, Cpu(0)),
-            other: Agent::new(alloc, Cpu(other)),
+            other: Agent::new(alloc, Cpu(1)),
         }),
         Err(_) => None,
     }
@@ -90,93 +81,50 @@ fn copies(book: &Book, agent: &mut Agent) -> Option<Delta> {
     }
 }
 
-/// How many posts and items a peek at the CPU's queue tells of.
-fn peeked(book: &Book, cpu: Cpu) -> Result<(u32, usize), CallFault> {
-    match book.peek(cpu) {
-        Ok((posts, items)) => Ok((posts, items.len())),
-        Err(fault) => Err(fault),
-    }
-}
-
-/// What is done, with what comes of it, or what is told.
+/// What is done, and accepted.
 #[derive(Clone, Copy)]
 enum Step {
-    Posts(EnvCall, Result<Posted, CallFault>),
-    /// A post that is accepted, whatever is answered.
-    Accepts(EnvCall),
-    /// The first agent removes what it counts as sent.
-    Consumes(Result<u32, CallFault>),
-    Picks(u32, Result<Tid, CallFault>),
-    /// The other agent steals.
-    Steals(Result<Tid, CallFault>),
-    FirstSteals(Result<Tid, CallFault>),
-    OtherConsumes(Result<u32, CallFault>),
-    Sleeps(u8, u32, Result<(), CallFault>),
-    Rouses(u8, Result<(), CallFault>),
+    Posts(EnvCall),
     /// The first agent copies what its queue holds.
     Copies,
-    /// The first agent copies what its queue holds, and the other takes it in.
-    Tells,
-    /// The first agent counts so many items as sent.
-    Counts(u32),
+    /// The first agent removes what it counts as sent.
+    Consumes,
+    /// The first agent picks by so many posts.
+    Picks(u32),
+    /// The CPU's agent sleeps by so many posts.
+    Sleeps(u8, u32),
+    Rouses(u8),
     /// A thread is created, the first agent copies that, removes it, and has the thread run.
     RunsOne,
     /// The thread leaves the CPU, the first agent copies and removes that, and the other takes it in and the
     /// thread over.
     MovesOne,
-    Peeks(u8, Result<(u32, usize), CallFault>),
-    Asleep(u8, bool),
-    /// How many refusals the first agent counted that are neither stale nor pending.
-    Others(u64),
-    /// What the first agent was refused by name: busy, nothing ready, nothing to steal, dead.
-    Refused([u64; 4]),
-    /// How many calls are listed.
-    Listed(usize),
-}
-
-/// What the agent was refused by name: busy, nothing ready, nothing to steal, dead.
-fn refused_by_name(agent: &Agent) -> [u64; 4] {
-    let counts = agent.counts();
-    [
-        counts.busy,
-        counts.nothing_ready,
-        counts.nothing_to_steal,
-        counts.dead,
-    ]
 }
 
 // Without contracts, so that a test's proof does not carry those of the book.
 impl Scene {
-    fn posts(&mut self, call: EnvCall) -> Result<Posted, CallFault> {
-        self.book.post(call)
+    fn posts(&mut self, call: EnvCall) -> bool {
+        self.book.post(call).is_ok()
     }
 
-    fn consumes(&mut self) -> Result<u32, CallFault> {
-        self.book.consume(&mut self.first)
+    fn consumes(&mut self) -> bool {
+        self.book.consume(&mut self.first).is_ok()
     }
 
-    fn other_consumes(&mut self) -> Result<u32, CallFault> {
-        self.book.consume(&mut self.other)
+    fn picks(&mut self, aseq: u32) -> bool {
+        self.book.pick(&mut self.first, aseq).is_ok()
     }
 
-    fn picks(&mut self, aseq: u32) -> Result<Tid, CallFault> {
-        self.book.pick(&mut self.first, aseq)
+    fn steals(&mut self) -> bool {
+        self.book.steal(&mut self.other).is_ok()
     }
 
-    fn steals(&mut self) -> Result<Tid, CallFault> {
-        self.book.steal(&mut self.other)
+    fn sleeps(&mut self, cpu: u8, aseq: u32) -> bool {
+        self.book.sleep(Cpu(cpu), aseq).is_ok()
     }
 
-    fn first_steals(&mut self) -> Result<Tid, CallFault> {
-        self.book.steal(&mut self.first)
-    }
-
-    fn sleeps(&mut self, cpu: u8, aseq: u32) -> Result<(), CallFault> {
-        self.book.sleep(Cpu(cpu), aseq)
-    }
-
-    fn rouses(&mut self, cpu: u8) -> Result<(), CallFault> {
-        self.book.rouse(Cpu(cpu))
+    fn rouses(&mut self, cpu: u8) -> bool {
+        self.book.rouse(Cpu(cpu)).is_ok()
     }
 
     fn copies(&mut self) -> bool {
@@ -191,96 +139,54 @@ impl Scene {
     }
 
     fn runs_one(&mut self) -> bool {
-        self.posts(CREATE) == Ok(posted(1, 1))
-            && self.tells()
-            && self.consumes() == Ok(1)
-            && self.picks(1) == Ok(Tid(0))
+        self.posts(CREATE) && self.tells() && self.consumes() && self.picks(1)
     }
 
     fn moves_one(&mut self) -> bool {
-        self.posts(PREEMPT) == Ok(posted(2, 2))
-            && self.tells()
-            && self.consumes() == Ok(1)
-            && self.steals() == Ok(Tid(0))
+        self.posts(PREEMPT) && self.tells() && self.consumes() && self.steals()
     }
 
-    fn listed(&self) -> usize {
-        self.book.calls().len()
-    }
-
-    /// Whether these calls are the last ones listed, from this place on.
-    fn lists(&self, from: usize, listed: &[(Call, Answer)]) -> bool {
-        self.book.calls().get(from..).unwrap_or(&[]) == listed
-    }
-
-    /// Whether the step comes out as it should.
     fn does(&mut self, step: &Step) -> bool {
         match *step {
-            Step::Posts(call, wanted) => self.posts(call) == wanted,
-            Step::Accepts(call) => self.posts(call).is_ok(),
-            Step::Sleeps(cpu, aseq, wanted) => self.sleeps(cpu, aseq) == wanted,
-            Step::Rouses(cpu, wanted) => self.rouses(cpu) == wanted,
+            Step::Posts(call) => self.posts(call),
+            Step::Copies => self.copies(),
+            Step::Consumes => self.consumes(),
+            Step::Picks(aseq) => self.picks(aseq),
+            Step::Sleeps(cpu, aseq) => self.sleeps(cpu, aseq),
+            Step::Rouses(cpu) => self.rouses(cpu),
             Step::RunsOne => self.runs_one(),
             Step::MovesOne => self.moves_one(),
-            _ => self.agents_do(step) || self.is_told(step),
         }
     }
 
-    /// Whether it is a step of an agent, and comes out as it should.
-    fn agents_do(&mut self, step: &Step) -> bool {
-        match *step {
-            Step::Consumes(wanted) => self.consumes() == wanted,
-            Step::OtherConsumes(wanted) => self.other_consumes() == wanted,
-            Step::Picks(aseq, wanted) => self.picks(aseq) == wanted,
-            Step::Steals(wanted) => self.steals() == wanted,
-            Step::FirstSteals(wanted) => self.first_steals() == wanted,
-            Step::Copies => self.copies(),
-            Step::Tells => self.tells(),
-            Step::Counts(items) => {
-                self.first.sent(items);
-                true
-            }
-            _ => false,
-        }
-    }
-
-    /// Whether that is told.
-    fn is_told(&self, step: &Step) -> bool {
-        match *step {
-            Step::Peeks(cpu, wanted) => peeked(&self.book, Cpu(cpu)) == wanted,
-            Step::Asleep(cpu, wanted) => self.book.kernel().is_asleep(Cpu(cpu)) == wanted,
-            Step::Others(wanted) => self.first.counts().other == wanted,
-            Step::Refused(wanted) => refused_by_name(&self.first) == wanted,
-            Step::Listed(wanted) => self.listed() == wanted,
-            _ => false,
-        }
-    }
-
-    /// The place of the first step that does not come out as it should.
-    fn first_wrong(&mut self, steps: &[Step]) -> Option<usize> {
-        for (place, step) in steps.iter().enumerate() {
+    /// Whether all is accepted.
+    fn does_all(&mut self, steps: &[Step]) -> bool {
+        for step in steps {
             if !self.does(step) {
-                return Some(place);
+                return false;
             }
         }
-        None
-    }
-
-    /// Whether the steps come out as they should, and these calls are then the last ones listed, from this place on.
-    fn lists_after(&mut self, steps: &[Step], from: usize, listed: &[(Call, Answer)]) -> bool {
-        self.first_wrong(steps).is_none() && self.lists(from, listed)
+        true
     }
 }
 
-/// What comes of the steps in a new scene: the place of the first that is wrong, if any is.
-fn wrong_step(alloc: Global, limits: Limits, other: u8, steps: &[Step]) -> Option<Option<usize>> {
-    match new_scene(alloc, limits, other) {
-        Some(mut scene) => Some(scene.first_wrong(steps)),
-        None => None,
-    }
+fn settled(alloc: Global, book: &Book, first: View, other: View) -> Option<View> {
+    settle(alloc, book, &[first, other]).ok()
 }
 
-/// The steps come out as they should, with an agent of this CPU beside the first one.
-fn comes_out(rt: &impl Abort, alloc: Global, limits: Limits, other: u8, steps: &[Step]) {
-    assert_eq!(rt; wrong_step(alloc, limits, other, steps), Some(None));
+/// Whether the agents' views settle to all that the other agent knows, behind a thread that moved to it.
+fn is_settled(alloc: Global) -> Option<bool> {
+    let mut scene = new_scene(alloc)?;
+    if !scene.runs_one() || !scene.moves_one() {
+        return None;
+    }
+    let first = scene.first.view().try_copy().ok()?;
+    let other = scene.other.view().try_copy().ok()?;
+    let view = settled(alloc, &scene.book, first, other)?;
+    Some(view == *scene.other.view())
+}
+
+#[test]
+fn views_of_a_book_are_settled(rt: HostRuntime) {
+    assert_eq!(rt; is_settled(rt.alloc()), Some(true));
 }

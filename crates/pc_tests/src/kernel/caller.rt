@@ -4,8 +4,8 @@ ghost use Rattle.std.specs.Prelude.{[], ◌∷◌, IfOk, true};
 ghost use Rattle.pc_calls.specs.AgentCalls.{associates, commits};
 ghost use Rattle.pc_kernel.specs.Answers.{Replays};
 
-use super::{SMALL, Step, Way, each_holds};
-use crate::rows::is_so;
+use super::SMALL;
+use crate::rows::is_found_so;
 use pc_kernel::{AgentCall, Answer, Call, CallFault, EnvCall, Kernel, LimitsFault};
 use pc_messages::{Cpu, Tid};
 use std::alloc::Global;
@@ -51,34 +51,36 @@ fn run_and_move(
 }
 
 // Without contracts, as the functions below, so that a test's proof does not carry those of the kernel.
-pub(super) fn moves(kernel: &mut Kernel, runs: u32, aseq: u32, wanted: bool) -> bool {
-    run_and_move(kernel, Cpu(0), Tid(runs), aseq, Tid(0), Cpu(1), 1) == Ok(wanted)
+fn moves(kernel: &mut Kernel, runs: u32, aseq: u32) -> Result<bool, CallFault> {
+    run_and_move(kernel, Cpu(0), Tid(runs), aseq, Tid(0), Cpu(1), 1)
 }
 
-#[test]
-fn a_running_thread_is_not_moved(rt: HostRuntime) {
-    const STEPS: [Step; 3] = [
-        Step::Moves(0, 1, false),
-        Step::Runs(Some(Tid(0))),
-        Step::QueueOf(0, Some(Cpu(0))),
-    ];
-    each_holds(&rt, rt.alloc(), Way::ByName, &STEPS);
+/// Whether t0, which runs, is not moved.
+fn runs_and_stays(alloc: Global) -> Result<bool, LimitsFault> {
+    let mut kernel = Kernel::new(alloc, SMALL)?;
+    Ok(moves(&mut kernel, 0, 1) == Ok(false) && kernel.running(Cpu(0)) == Some(Tid(0)))
+}
+
+/// A thread is created, and its first message removed.
+fn creates(kernel: &mut Kernel) -> bool {
+    kernel.create(Cpu(0), 3, true).is_ok() && kernel.consume(Cpu(0), 1) == Ok(())
+}
+
+/// Whether t0 is moved beside t1, which runs.
+fn is_moved(alloc: Global) -> Result<bool, LimitsFault> {
+    let mut kernel = Kernel::new(alloc, SMALL)?;
+    Ok(
+        creates(&mut kernel)
+            && moves(&mut kernel, 1, 2) == Ok(true)
+            && kernel.running(Cpu(0)) == Some(Tid(1))
+            && kernel.queue_of(Tid(0)) == Some(Cpu(1)),
+    )
 }
 
 #[test]
 fn a_thread_moves_beside_one_that_runs(rt: HostRuntime) {
-    const CONSUME: Call = Call::Consume {
-        cpu: Cpu(0),
-        count: 1,
-    };
-    const STEPS: [Step; 5] = [
-        Step::Creates(0, true),
-        Step::Does(CONSUME, Ok(())),
-        Step::Moves(1, 2, true),
-        Step::Runs(Some(Tid(1))),
-        Step::QueueOf(0, Some(Cpu(1))),
-    ];
-    each_holds(&rt, rt.alloc(), Way::ByName, &STEPS);
+    is_found_so(&rt, runs_and_stays(rt.alloc()));
+    is_found_so(&rt, is_moved(rt.alloc()));
 }
 
 const CREATE: Call = Call::Env(EnvCall::Create {
@@ -103,5 +105,5 @@ fn third_is_done(alloc: Global) -> Result<bool, LimitsFault> {
 
 #[test]
 fn three_calls_in_a_row(rt: HostRuntime) {
-    is_so(&rt, third_is_done(rt.alloc()) == Ok(true));
+    is_found_so(&rt, third_is_done(rt.alloc()));
 }

@@ -1,7 +1,7 @@
 //! What an observer is told of the lines of a script, in which order, and what ends the walk over them.
 
-use super::FINISHED;
-use crate::rows::{Row, Step, each_holds, first_wrong, none_is_wrong};
+use super::{FINISHED, NO_MEMORY, TOO_LONG, UNREAD, UNWRITTEN};
+use crate::rows::{Row, each_holds};
 use pc_calls::{Event, Profile, Reply};
 use pc_messages::Cpu;
 use pc_script::{
@@ -206,20 +206,16 @@ fn walked(
 /// A script, what the observer notes of it, and how the walk ends.
 type Walked = (&'static [u8], &'static [u8], Result<Outcome, ScriptFault>);
 
-/// How many lines an observer is told of before the one at which it gives up, and by which fault.
-#[derive(Clone, Copy)]
-struct Patience {
-    left: u32,
-    fault: ScriptFault,
-}
+/// How many lines an observer is told of before the one at which it gives up, by which fault, and the walk.
+type GivenUp = (u32, ScriptFault, Walked);
 
 /// Whether an observer with this patience notes that, the walk ends so, and nothing is written.
-fn is_walked(alloc: Global, row: &Walked, patience: Patience) -> bool {
+fn is_walked(alloc: Global, left: u32, fault: ScriptFault, row: &Walked) -> bool {
     let mut notes = Notes {
         text: Vec::new(alloc),
         expected: None,
-        left: patience.left,
-        fault: patience.fault,
+        left,
+        fault,
     };
     let mut writer: Vec<u8> = Vec::new(alloc);
     walked(alloc, row.0, &mut notes, &mut writer) == row.2
@@ -227,32 +223,28 @@ fn is_walked(alloc: Global, row: &Walked, patience: Patience) -> bool {
         && writer.is_empty()
 }
 
-impl Step<Patience> for Walked {
-    fn holds(&self, alloc: Global, patience: &mut Patience) -> bool {
-        is_walked(alloc, self, *patience)
+impl Row for Walked {
+    fn holds(&self, alloc: Global) -> bool {
+        is_walked(alloc, u32::MAX, ScriptFault::Write, self)
     }
 }
 
-/// The place of the first script over which another walk leads, where the observer does not give up.
-fn first_other(alloc: Global, rows: &[Walked]) -> Option<usize> {
-    let mut patience = Patience {
-        left: u32::MAX,
-        fault: ScriptFault::Write,
-    };
-    first_wrong(alloc, &mut patience, rows)
+impl Row for GivenUp {
+    fn holds(&self, alloc: Global) -> bool {
+        is_walked(alloc, self.0, self.1, &self.2)
+    }
 }
 
-// A line is told of after its command was expected and answered, with its number and its text as it stands.
+const FAULT_AT_1: Result<Outcome, ScriptFault> = Ok(Outcome::FaultLine(1));
+
+const FAULT_AT_3: Result<Outcome, ScriptFault> = Ok(Outcome::FaultLine(3));
+
+// A line is told of after its command was expected and answered, with its number and its text as it stands. Nothing is
+// told after a fault, or want of memory.
 #[test]
 fn each_line_that_has_a_reply_is_told_of_in_its_order(rt: HostRuntime) {
-    static ROWS: [Walked; 5] = [
-        (b"", b"", FINISHED),
+    static ROWS: [Walked; 9] = [
         (b"\n# none\n  \n#tick 0\n\r\n", b"", FINISHED),
-        (
-            b"show 0\n",
-            b"expect 0 0 one\nanswered 1 1 show 0\n",
-            FINISHED,
-        ),
         (
             b"# a\ntick 0\n\n  tick   1 \r\n#\nstatus t0",
             b"expect 0 0 one\nanswered 2 1 tick 0\nexpect 0 1 one\n\
@@ -260,144 +252,55 @@ answered 4 2   tick   1 \nexpect 0 2 one\nanswered 6 3 status t0\n",
             FINISHED,
         ),
         (
-            b"wake t1\nenclave 1 2 3 4 5\nwake t1",
-            b"expect 0 0 one\nanswered 1 1 wake t1\nexpect 0 1 one\n\
-answered 2 2 enclave 1 2 3 4 5\nexpect 0 2 one\nanswered 3 3 wake t1\n",
-            FINISHED,
-        ),
-    ];
-    none_is_wrong(&rt, first_other(rt.alloc(), &ROWS));
-}
-
-#[test]
-fn nothing_is_told_after_a_fault_or_want_of_memory(rt: HostRuntime) {
-    static ROWS: [Walked; 7] = [
-        (b"walk", b"fault 1 0 walk\n", Ok(Outcome::FaultLine(1))),
-        (
             b"# one\n\n tick 18446744073709551615\r\n",
             b"fault 3 0  tick 18446744073709551615\n",
-            Ok(Outcome::FaultLine(3)),
+            FAULT_AT_3,
         ),
         (
             b"tick 0\n\nwalk\ntick 1\nwalk\n",
             b"expect 0 0 one\nanswered 1 1 tick 0\nfault 3 0 walk\n",
-            Ok(Outcome::FaultLine(3)),
-        ),
-        (
-            b" # x\ntick 0",
-            b"fault 1 0  # x\n",
-            Ok(Outcome::FaultLine(1)),
-        ),
-        (
-            b"crash 9\ntick 0",
-            b"expect 0 0 one\n",
-            Err(ScriptFault::OutOfMemory),
+            FAULT_AT_3,
         ),
         (
             b"tick 0\ncrash 9\ntick 1",
             b"expect 0 0 one\nanswered 1 1 tick 0\nexpect 0 1 one\n",
-            Err(ScriptFault::OutOfMemory),
+            NO_MEMORY,
         ),
         (
             b"version 2\ncrash 9\nwalk",
             b"version 1 2 version 2\nexpect 0 0 two\n",
-            Err(ScriptFault::OutOfMemory),
+            NO_MEMORY,
         ),
-    ];
-    none_is_wrong(&rt, first_other(rt.alloc(), &ROWS));
-}
-
-#[test]
-fn the_version_is_named_by_the_first_line_that_has_a_reply_alone(rt: HostRuntime) {
-    static ROWS: [Walked; 11] = [
-        (b"version 2", b"version 1 2 version 2\n", FINISHED),
         (
-            b"\nversion 3\npolicy fifo",
-            b"version 2 3 version 3\nexpect 0 0 two\nanswered 3 1 policy fifo\n",
+            b"#x\n\n version  3 \r\npolicy fifo",
+            b"version 3 3  version  3 \nexpect 0 0 two\nanswered 4 1 policy fifo\n",
             FINISHED,
-        ),
-        (
-            b"version 2\npolicy fifo",
-            b"version 1 2 version 2\nfault 2 0 policy fifo\n",
-            Ok(Outcome::FaultLine(2)),
-        ),
-        (
-            b"policy fifo\nversion 3",
-            b"fault 1 0 policy fifo\n",
-            Ok(Outcome::FaultLine(1)),
-        ),
-        (
-            b"#x\n\n version  2 \r\nenclave 1 2 3 4 5\n",
-            b"version 3 2  version  2 \nexpect 0 0 two\nanswered 4 1 enclave 1 2 3 4 5\n",
-            FINISHED,
-        ),
-        (
-            b"version 2\ntick 01",
-            b"version 1 2 version 2\nfault 2 0 tick 01\n",
-            Ok(Outcome::FaultLine(2)),
         ),
         (
             b"version 2\n\nversion 2\ntick 0",
             b"version 1 2 version 2\nfault 3 0 version 2\n",
-            Ok(Outcome::FaultLine(3)),
-        ),
-        (
-            b"tick 0\nversion 2\ntick 1",
-            b"expect 0 0 one\nanswered 1 1 tick 0\nfault 2 0 version 2\n",
-            Ok(Outcome::FaultLine(2)),
-        ),
-        (
-            b"version 4\ntick 0",
-            b"fault 1 0 version 4\n",
-            Ok(Outcome::FaultLine(1)),
+            FAULT_AT_3,
         ),
         (
             b"version 2 2\ntick 0",
             b"fault 1 0 version 2 2\n",
-            Ok(Outcome::FaultLine(1)),
-        ),
-        (
-            b"#version 2\ntick 0",
-            b"expect 0 0 one\nanswered 2 1 tick 0\n",
-            FINISHED,
+            FAULT_AT_1,
         ),
     ];
-    none_is_wrong(&rt, first_other(rt.alloc(), &ROWS));
-}
-
-/// How many lines the observer is told of before the one at which it gives up, by which fault, and the walk.
-type GivenUp = (u32, ScriptFault, Walked);
-
-impl Row for GivenUp {
-    fn holds(&self, alloc: Global) -> bool {
-        let patience = Patience {
-            left: self.0,
-            fault: self.1,
-        };
-        is_walked(alloc, &self.2, patience)
-    }
+    each_holds(&rt, rt.alloc(), &ROWS);
 }
 
 #[test]
 fn an_observer_that_gives_up_ends_the_walk(rt: HostRuntime) {
-    static ROWS: [GivenUp; 9] = [
+    static ROWS: [GivenUp; 6] = [
         (0, ScriptFault::Write, (b"# x\n\n", b"", FINISHED)),
-        (
-            0,
-            ScriptFault::Write,
-            (
-                b"tick 0\ntick 1\nwalk",
-                b"expect 0 0 one\nanswered 1 1 tick 0\n",
-                Err(ScriptFault::Write),
-            ),
-        ),
         (
             1,
             ScriptFault::TooLong,
             (
                 b"tick 0\n\ntick 1\ntick 2",
                 b"expect 0 0 one\nanswered 1 1 tick 0\nexpect 0 1 one\nanswered 3 2 tick 1\n",
-                Err(ScriptFault::TooLong),
+                TOO_LONG,
             ),
         ),
         (
@@ -412,47 +315,17 @@ fn an_observer_that_gives_up_ends_the_walk(rt: HostRuntime) {
         (
             0,
             ScriptFault::Read,
-            (
-                b"version 2\ntick 0",
-                b"version 1 2 version 2\n",
-                Err(ScriptFault::Read),
-            ),
-        ),
-        (
-            1,
-            ScriptFault::OutOfMemory,
-            (
-                b"version 2\ntick 0\ntick 1",
-                b"version 1 2 version 2\nexpect 0 0 two\nanswered 2 1 tick 0\n",
-                Err(ScriptFault::OutOfMemory),
-            ),
+            (b"version 2\ntick 0", b"version 1 2 version 2\n", UNREAD),
         ),
         (
             0,
             ScriptFault::Write,
-            (
-                b"walk\ntick 0",
-                b"fault 1 0 walk\n",
-                Err(ScriptFault::Write),
-            ),
-        ),
-        (
-            1,
-            ScriptFault::OutOfMemory,
-            (
-                b"tick 0\nwalk\ntick 1",
-                b"expect 0 0 one\nanswered 1 1 tick 0\nfault 2 0 walk\n",
-                Err(ScriptFault::OutOfMemory),
-            ),
+            (b"walk\ntick 0", b"fault 1 0 walk\n", UNWRITTEN),
         ),
         (
             0,
             ScriptFault::Write,
-            (
-                b"crash 9\ntick 0",
-                b"expect 0 0 one\n",
-                Err(ScriptFault::OutOfMemory),
-            ),
+            (b"crash 9\ntick 0", b"expect 0 0 one\n", NO_MEMORY),
         ),
     ];
     each_holds(&rt, rt.alloc(), &ROWS);

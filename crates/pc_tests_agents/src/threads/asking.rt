@@ -3,8 +3,7 @@
 use crate::threads::holds::{
     ASKER, DRIVER, Order, SENDERS, WAKER, comes_to_ordered, given_up_after,
 };
-use crate::threads::runs::{Fact, comes_to};
-use crate::threads::settings::Plan;
+use crate::threads::runs::{Fact, Plan, comes_to};
 use pc_threads::{RunFault, Step};
 use std::time::Duration;
 

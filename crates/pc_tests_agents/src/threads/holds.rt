@@ -1,7 +1,6 @@
 //! A gate that forces the order of a run: it holds agents and the driver at points until others have come to theirs.
 
-use crate::threads::runs::{Fact, first_wrong, gated_run};
-use crate::threads::settings::Plan;
+use crate::threads::runs::{Fact, Plan, first_wrong, gated_run};
 use pc_messages::{Cpu, Tid};
 use pc_threads::{Driven, Gate, LoadReport, Point, RunFault};
 use std::alloc::Global;

@@ -1,9 +1,9 @@
 //! Runs of agents in threads, whatever the schedule.
 
-use super::settings::{Plan, config};
 use pc_messages::{Cpu, Tid};
 use pc_threads::{
-    AgentCall, Answer, Call, Gate, LoadReport, OpenGate, Point, Row, RunFault, Step, run_agents,
+    AgentCall, Answer, Call, Config, Gate, LoadReport, OpenGate, Point, Restart, Row, RunFault,
+    Step, ThreadPlan, run_agents,
 };
 use std::alloc::Global;
 use std::process::Abort;
@@ -12,6 +12,56 @@ use std::sync::atomic::{AtomicU64, Ordering};
 use std::thread;
 use std::thread::Threads;
 use std::time::{Clock, Duration, Instant};
+
+/// A thread by its queue, its mask and its steps.
+pub(crate) type Plan<'a> = (i64, i64, &'a [Step]);
+
+fn add_plan(alloc: Global, threads: &mut Vec<ThreadPlan>, plan: &Plan<'_>) -> bool {
+    match Vec::from_slice(alloc, plan.2) {
+        Ok(steps) => {
+            let thread = ThreadPlan {
+                queue: plan.0,
+                mask: plan.1,
+                steps,
+            };
+            threads.push(thread).is_ok()
+        }
+        Err(_) => false,
+    }
+}
+
+fn add_plans(alloc: Global, threads: &mut Vec<ThreadPlan>, plans: &[Plan<'_>]) -> bool {
+    for plan in plans {
+        if !add_plan(alloc, threads, plan) {
+            return false;
+        }
+    }
+    true
+}
+
+fn add_restarts(restarts: &mut Vec<Restart>, turns: &[(i64, i64)]) -> bool {
+    for (cpu, turn) in turns {
+        let restart = Restart {
+            cpu: *cpu,
+            turn: *turn,
+        };
+        if restarts.push(restart).is_err() {
+            return false;
+        }
+    }
+    true
+}
+
+/// Settings of these CPUs, threads and restarts (their CPU and turn), where they are accepted.
+fn config(alloc: Global, cpus: i64, plans: &[Plan<'_>], turns: &[(i64, i64)]) -> Option<Config> {
+    let mut threads = Vec::new(alloc);
+    let mut restarts = Vec::new(alloc);
+    if add_plans(alloc, &mut threads, plans) && add_restarts(&mut restarts, turns) {
+        Config::new(cpus, threads, restarts).ok()
+    } else {
+        None
+    }
+}
 
 /// A thread that may run on two CPUs: it yields, blocks and dies.
 const LIFE: Plan<'static> = (0, 3, &[Step::Yield(2), Step::Block(3), Step::Die(1)]);

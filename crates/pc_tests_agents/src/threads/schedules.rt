@@ -2,8 +2,7 @@
 
 use crate::threads::holds::{DRIVER, Hold, comes_to_held};
 use crate::threads::posted;
-use crate::threads::runs::{Fact, comes_to};
-use crate::threads::settings::Plan;
+use crate::threads::runs::{Fact, Plan, comes_to};
 use pc_messages::{Cpu, Tid};
 use pc_threads::{AgentCall, Answer, Call, EnvCall, Posted, Step};
 

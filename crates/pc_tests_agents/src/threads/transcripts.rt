@@ -1,9 +1,7 @@
 //! The calls of a book as a script: texts written down by hand.
 
-use super::runs::run;
-use super::{CREATE, PREEMPT, SMALL, Step, new_scene, posted};
-use crate::threads::settings::Plan;
-use pc_messages::Tid;
+use super::runs::{Plan, run};
+use super::{CREATE, PREEMPT, Step, new_scene};
 use pc_report::write_transcript;
 use pc_threads::Book;
 use std::alloc::Global;
@@ -28,12 +26,10 @@ fn has_script(alloc: Global, book: &Book, wanted: &[u8]) -> bool {
     }
 }
 
-/// Whether the steps come out as they should, and this is then the script of the book.
+/// Whether the steps are accepted, and this is then the script of the book.
 fn is_written(alloc: Global, steps: &[Step], wanted: &[u8]) -> bool {
-    match new_scene(alloc, SMALL, 1) {
-        Some(mut scene) => {
-            scene.first_wrong(steps).is_none() && has_script(alloc, &scene.book, wanted)
-        }
+    match new_scene(alloc) {
+        Some(mut scene) => scene.does_all(steps) && has_script(alloc, &scene.book, wanted),
         None => false,
     }
 }
@@ -47,10 +43,10 @@ fn of_a_book_without_calls(rt: HostRuntime) {
 fn of_a_thread_that_moves(rt: HostRuntime) {
     const STEPS: [Step; 5] = [
         Step::RunsOne,
-        Step::Sleeps(0, 1, Ok(())),
-        Step::Rouses(0, Ok(())),
+        Step::Sleeps(0, 1),
+        Step::Rouses(0),
         Step::MovesOne,
-        Step::Sleeps(1, 0, Ok(())),
+        Step::Sleeps(1, 0),
     ];
     const WANTED: &[u8] = b"enclave 2 8 100 16 1000
 create 0 3 ready
@@ -73,14 +69,14 @@ sleep 1 0
 #[test]
 fn an_agent_has_looked_before_what_it_left_was_posted(rt: HostRuntime) {
     let steps = [
-        Step::Posts(CREATE, Ok(posted(1, 1))),
+        Step::Posts(CREATE),
         Step::Copies,
-        Step::Accepts(CREATE),
-        Step::Consumes(Ok(1)),
+        Step::Posts(CREATE),
+        Step::Consumes,
         Step::Copies,
-        Step::Consumes(Ok(1)),
-        Step::Consumes(Ok(0)),
-        Step::Picks(2, Ok(Tid(0))),
+        Step::Consumes,
+        Step::Consumes,
+        Step::Picks(2),
     ];
     const WANTED: &[u8] = b"enclave 2 8 100 16 1000
 create 0 3 ready
@@ -97,7 +93,7 @@ commit 0 t0 2
 
 #[test]
 fn what_is_left_in_the_end_is_not_looked_at(rt: HostRuntime) {
-    const STEPS: [Step; 2] = [Step::RunsOne, Step::Accepts(PREEMPT)];
+    const STEPS: [Step; 2] = [Step::RunsOne, Step::Posts(PREEMPT)];
     const WANTED: &[u8] = b"enclave 2 8 100 16 1000
 create 0 3 ready
 publish 0

@@ -1,13 +1,10 @@
-//! The events of worked scripts, disturbed: a crash after any of them, a send that is refused. Nothing is lost, and
-//! once each CPU was mended none idles while a thread waits for it.
+//! The events of worked scripts, disturbed: a crash after any of them, a send that is refused. Once each CPU was mended
+//! none idles while a thread waits for it.
 
-use super::{crash, publish_in_vain};
 use pc_calls::Limits;
-use pc_delta::{Delta, take_in};
 use pc_kernel::Kernel;
 use pc_messages::{Cpu, Phase, Tid};
 use pc_script::{Command, Version, Wish, asked};
-use pc_view::{View, audit, complete};
 use pc_world::{Event, World};
 use std::alloc::Global;
 use std::process::Abort;
@@ -32,76 +29,6 @@ fn add_lines(script: &[u8], limits: &mut Option<Limits>, events: &mut Vec<Event>
         }
     }
     true
-}
-
-fn take_sent(view: &mut View, world: &World) -> bool {
-    for delta in world.sent() {
-        if take_in(view, delta).is_err() {
-            return false;
-        }
-    }
-    true
-}
-
-/// What the CPU's queue holds.
-fn held(alloc: Global, kernel: &Kernel, cpu: Cpu) -> Option<Delta> {
-    match kernel.peek(cpu) {
-        Ok((_, items)) => Delta::of_items(alloc, items.as_slice()).ok(),
-        Err(_) => None,
-    }
-}
-
-fn take_queue(alloc: Global, view: &mut View, kernel: &Kernel, cpu: Cpu) -> bool {
-    match held(alloc, kernel, cpu) {
-        Some(delta) => take_in(view, &delta).is_ok(),
-        None => false,
-    }
-}
-
-fn take_queues(alloc: Global, view: &mut View, kernel: &Kernel) -> bool {
-    for cpu in 0..kernel.cpus() {
-        if !take_queue(alloc, view, kernel, Cpu(cpu)) {
-            return false;
-        }
-    }
-    true
-}
-
-/// Whether the view of the CPU's agent is of the kernel's run.
-fn is_of_run(world: &World, cpu: Cpu) -> bool {
-    match world.view(cpu) {
-        Some(view) => audit(view, world.kernel()).is_ok(),
-        None => false,
-    }
-}
-
-fn are_of_run(world: &World) -> bool {
-    for cpu in 0..world.kernel().cpus() {
-        if !is_of_run(world, Cpu(cpu)) {
-            return false;
-        }
-    }
-    true
-}
-
-/// Whether the view tells each known thread to its last message.
-fn tells_all(view: &View, kernel: &Kernel) -> bool {
-    for thread in 0..kernel.threads() {
-        if !complete(view, kernel, Tid(thread)) {
-            return false;
-        }
-    }
-    true
-}
-
-/// Whether each view is of the kernel's run, and an agent who starts with nothing and takes in all that was sent and
-/// all that the queues hold knows each known thread to its last message.
-fn is_whole(alloc: Global, world: &World) -> bool {
-    let mut view = View::new(alloc);
-    are_of_run(world)
-        && take_sent(&mut view, world)
-        && take_queues(alloc, &mut view, world.kernel())
-        && tells_all(&view, world.kernel())
 }
 
 fn add_all(all: &mut Vec<Event>, events: &[Event]) -> bool {
@@ -179,14 +106,12 @@ fn none_idles(kernel: &Kernel) -> bool {
     true
 }
 
-/// Whether a new world stays whole by these events, and is mended then.
-fn stays_whole(alloc: Global, limits: Limits, events: &[Event]) -> bool {
+/// Whether a new world is mended behind these events.
+fn is_mended(alloc: Global, limits: Limits, events: &[Event]) -> bool {
     match World::new(alloc, limits) {
-        Ok(mut world) => replies_to(&mut world, events)
-            && is_whole(alloc, &world)
-            && mends(&mut world)
-            && none_idles(world.kernel())
-            && is_whole(alloc, &world),
+        Ok(mut world) => {
+            replies_to(&mut world, events) && mends(&mut world) && none_idles(world.kernel())
+        }
         Err(_) => false,
     }
 }
@@ -200,26 +125,26 @@ struct Script {
 }
 
 impl Script {
-    /// Whether a new world stays whole by the events, with others in the place of one.
-    fn is_whole_with(&self, place: usize, others: &[Event]) -> bool {
+    /// Whether a new world is mended behind the events, with others in the place of one.
+    fn is_mended_with(&self, place: usize, others: &[Event]) -> bool {
         let mut all = Vec::new(self.alloc);
         add_with(&mut all, self.events.as_slice(), place, others)
-            && stays_whole(self.alloc, self.limits, all.as_slice())
+            && is_mended(self.alloc, self.limits, all.as_slice())
     }
 
     /// How many runs disturb this event: one for each CPU, whose agent crashes after it, and one for a send, which is
-    /// refused. Nothing where one of them does not stay whole.
+    /// refused. Nothing where one of them is not mended.
     fn runs_at(&self, place: usize, event: &Event) -> Option<usize> {
         let mut runs = 0_usize;
         for cpu in 0..self.limits.cpus {
-            if !self.is_whole_with(place, &[*event, crash(cpu)]) {
+            if !self.is_mended_with(place, &[*event, Event::Crash { cpu: Cpu(cpu) }]) {
                 return None;
             }
             runs = runs.saturating_add(1);
         }
         match *event {
             Event::Publish { cpu, .. } => {
-                if !self.is_whole_with(place, &[publish_in_vain(cpu.index())]) {
+                if !self.is_mended_with(place, &[Event::Publish { cpu, fails: true }]) {
                     return None;
                 }
                 Some(runs.saturating_add(1))
@@ -228,7 +153,7 @@ impl Script {
         }
     }
 
-    /// How many runs disturb the events, each of which stays whole.
+    /// How many runs disturb the events, each of which is mended.
     fn runs(&self) -> Option<usize> {
         let mut runs = 0_usize;
         for (place, event) in self.events.iter().enumerate() {
@@ -255,7 +180,7 @@ fn read(alloc: Global, script: &[u8]) -> Option<Script> {
     }
 }
 
-/// How many runs disturb a script, each of which stays whole.
+/// How many runs disturb a script, each of which is mended.
 fn runs_of(alloc: Global, script: &[u8]) -> Option<usize> {
     match read(alloc, script) {
         Some(script) => script.runs(),
@@ -263,7 +188,7 @@ fn runs_of(alloc: Global, script: &[u8]) -> Option<usize> {
     }
 }
 
-/// The place of the first script that is not disturbed by so many runs, each of which stays whole.
+/// The place of the first script that is not disturbed by so many runs, each of which is mended.
 fn first_wrong(alloc: Global, scripts: &[(&[u8], usize)]) -> Option<usize> {
     for (place, (script, runs)) in scripts.iter().enumerate() {
         if runs_of(alloc, script) != Some(*runs) {
@@ -273,8 +198,8 @@ fn first_wrong(alloc: Global, scripts: &[(&[u8], usize)]) -> Option<usize> {
     None
 }
 
-/// So many runs of each script, and each of them stays whole.
-fn each_stays_whole(rt: &impl Abort, alloc: Global, scripts: &[(&[u8], usize)]) {
+/// So many runs of each script, and each of them is mended.
+fn each_is_mended(rt: &impl Abort, alloc: Global, scripts: &[(&[u8], usize)]) {
     assert_eq!(rt; first_wrong(alloc, scripts), None);
 }
 
@@ -302,11 +227,11 @@ fn what_was_sent_is_looked_at_and_delivered(rt: HostRuntime) {
         ),
         (b"enclave 2 8 100 16 1000; deliver 0 0; consume 0", 4),
     ];
-    each_stays_whole(&rt, rt.alloc(), &SCRIPTS);
+    each_is_mended(&rt, rt.alloc(), &SCRIPTS);
 }
 
 #[test]
-fn a_thread_that_is_moved_stays_whole(rt: HostRuntime) {
+fn a_thread_that_is_moved(rt: HostRuntime) {
     const SCRIPTS: [(&[u8], usize); 3] = [
         (
             b"enclave 2 8 100 16 1000; create 0 3 ready; associate t0 1 2",
@@ -322,7 +247,7 @@ fn a_thread_that_is_moved_stays_whole(rt: HostRuntime) {
             8,
         ),
     ];
-    each_stays_whole(&rt, rt.alloc(), &SCRIPTS);
+    each_is_mended(&rt, rt.alloc(), &SCRIPTS);
 }
 
 #[test]
@@ -339,7 +264,7 @@ fn what_a_crash_left_is_taken_up_again(rt: HostRuntime) {
             19,
         ),
     ];
-    each_stays_whole(&rt, rt.alloc(), &SCRIPTS);
+    each_is_mended(&rt, rt.alloc(), &SCRIPTS);
 }
 
 #[test]
@@ -361,7 +286,7 @@ fn a_thread_that_runs_and_one_that_is_stolen(rt: HostRuntime) {
             23,
         ),
     ];
-    each_stays_whole(&rt, rt.alloc(), &SCRIPTS);
+    each_is_mended(&rt, rt.alloc(), &SCRIPTS);
 }
 
 #[test]
@@ -389,5 +314,5 @@ fn limits_that_are_reached_and_agents_that_sleep(rt: HostRuntime) {
             16,
         ),
     ];
-    each_stays_whole(&rt, rt.alloc(), &SCRIPTS);
+    each_is_mended(&rt, rt.alloc(), &SCRIPTS);
 }
