@@ -20,8 +20,12 @@
     generate.py levels LINES        2,000 times another level of one thread, published and consumed, in a run list of as many names as LINES
                                     leaves (6,004 lines are for the rest: 7,004 for 1,000 names)
 """
+import pathlib
 import random
 import sys
+
+sys.path.insert(0, str(pathlib.Path(__file__).resolve().parent.parent / "tests"))
+from kernel import World  # noqa: E402
 
 CPUS, THREADS = 64, 4096
 
@@ -49,107 +53,57 @@ def first_run(lines):
             yield f"status t{chance.randrange(created)}"
 
 
-class Threads:
-    """What the kernel will know of its threads and queues, so that most calls are accepted."""
-
-    def __init__(self, consumes):
-        self.consumes = consumes
-        self.home, self.on, self.blocked, self.dead, self.number, self.pending = [], [], [], [], [], []
-        self.posts, self.running, self.held = [0] * CPUS, [None] * CPUS, [[] for _ in range(CPUS)]
-
-    def post(self, thread):
-        self.number[thread] += 1
-        self.pending[thread] += 1
-        self.posts[self.home[thread]] += 1
-        self.held[self.home[thread]].append(thread)
-
-    def consume(self, cpu):
-        if not self.consumes:
-            return "status t7"
-        for thread in self.held[cpu]:
-            self.pending[thread] -= 1
-        self.held[cpu] = []
-        return f"consume {cpu}"
-
-    def associate(self, thread, queue):
-        command = f"associate t{thread} {queue} {self.number[thread]}"
-        if self.pending[thread] == 0:
-            self.home[thread] = queue
-        return command
-
-    def create(self, queue):
-        self.home.append(queue)
-        self.on.append(None)
-        self.blocked.append(False)
-        self.dead.append(False)
-        self.number.append(0)
-        self.pending.append(0)
-        self.post(len(self.home) - 1)
-
-    def leave(self, thread, how):
-        cpu = self.on[thread]
-        self.on[thread], self.running[cpu] = None, None
-        self.blocked[thread], self.dead[thread] = how == "block", how == "die"
-        self.post(thread)
-        return cpu
-
-    def commit(self, thread):
-        cpu = self.home[thread]
-        self.on[thread], self.running[cpu] = cpu, thread
-        return f"commit {cpu} t{thread} {self.posts[cpu]}"
+def said(world, line):
+    """The line, once the model was told it: so most lines that come behind it are accepted."""
+    world.say(line)
+    return line
 
 
-def thread_call(chance, threads, thread):
+def thread_call(chance, world, name):
     """The next call in a thread's life."""
-    if threads.dead[thread]:
-        return f"status t{thread}"
-    if threads.blocked[thread]:
-        threads.blocked[thread] = False
-        threads.post(thread)
-        return f"wake t{thread}"
-    if threads.on[thread] is not None:
+    thread = world.threads[name]
+    if thread.now.phase == "dead":
+        return f"status t{name}"
+    if thread.now.phase == "blocked":
+        return f"wake t{name}"
+    if thread.cpu is not None:
         leave = "die" if chance.random() < 0.001 else chance.choice(["yield", "block", "preempt"])
-        return f"{leave} {threads.leave(thread, leave)} {chance.randrange(100)}"
-    if threads.running[threads.home[thread]] is None:
-        return threads.commit(thread)
+        return f"{leave} {thread.cpu} {chance.randrange(100)}"
+    if world.running[thread.home] is None:
+        return f"commit {thread.home} t{name} {world.queues[thread.home].posts}"
     pick = chance.random()
     if pick < 0.3:
-        return threads.associate(thread, chance.randrange(CPUS))
+        return f"associate t{name} {chance.randrange(CPUS)} {thread.number}"
     if pick < 0.6:
-        threads.post(thread)
-        return f"priority t{thread} {chance.randrange(8)}" if pick < 0.45 else f"affinity t{thread} {2**CPUS - 1}"
-    return f"status t{thread}"
+        return f"priority t{name} {chance.randrange(8)}" if pick < 0.45 else f"affinity t{name} {2**CPUS - 1}"
+    return f"status t{name}"
 
 
-def cpu_call(chance, threads, cpu):
+def cpu_call(chance, world, cpu):
     """A call on a CPU, its queue or its agent."""
     pick = chance.randrange(5)
     if pick == 0:
-        threads.posts[cpu] += 1
         return f"tick {cpu}"
     target = chance.choice([*range(CPUS), "-"])
-    return [f"sleep {cpu} {threads.posts[cpu]}", f"rouse {cpu}", f"config {cpu} {target}", f"asleep {cpu}"][pick - 1]
+    return [f"sleep {cpu} {world.queues[cpu].posts}", f"rouse {cpu}", f"config {cpu} {target}", f"asleep {cpu}"][pick - 1]
 
 
 def kernel_calls(lines, learns=True):
     """All calls of the kernel on 64 CPUs and 4,096 threads. Each queue is published and consumed in its turn."""
     chance = random.Random(20261122)
-    threads = Threads(learns)
+    world = World(CPUS)
     yield f"enclave {CPUS} {THREADS} 1000000 65536 4294967295"
     for line in range(1, lines):
         if line <= THREADS:
-            queue = chance.randrange(CPUS)
-            threads.create(queue)
-            yield f"create {queue} {2**CPUS - 1} ready"
-        elif line % 32 == 1:
-            yield f"publish {line // 32 % CPUS}" if learns else "status t7"
-        elif line % 32 == 2:
-            yield threads.consume(line // 32 % CPUS)
+            call = f"create {chance.randrange(CPUS)} {2**CPUS - 1} ready"
+        elif line % 32 in (1, 2):
+            call = f"{'publish' if line % 32 == 1 else 'consume'} {line // 32 % CPUS}" if learns else "status t7"
         elif chance.random() < 0.8:
-            running = threads.running[chance.randrange(CPUS)]
-            yield thread_call(chance, threads, chance.randrange(THREADS) if running is None or chance.random() < 0.5 else running)
+            running = world.running[chance.randrange(CPUS)]
+            call = thread_call(chance, world, chance.randrange(THREADS) if running is None or chance.random() < 0.5 else running)
         else:
-            yield cpu_call(chance, threads, chance.randrange(CPUS))
+            call = cpu_call(chance, world, chance.randrange(CPUS))
+        yield said(world, call)
 
 
 def kernel_only(lines):
@@ -268,109 +222,40 @@ def restarts(lines):
         sent += 2
 
 
-class Group:
-    """What the agents of four CPUs know, list and have sent, with all messages delivered in order: so that most calls are accepted."""
-
-    def __init__(self, threads, cpus):
-        self.threads, self.cpus = threads, cpus
-        self.known = {cpu: {} for cpu in cpus}  # of each agent and thread, how many messages and whether it is ready
-        self.lists = {cpu: {} for cpu in cpus}  # run lists: dictionaries keep their order
-        self.items = {cpu: [] for cpu in cpus}  # what each queue holds: threads, with number and whether ready
-        self.blocked = []
-
-    def post(self, thread, ready):
-        self.threads.blocked[thread] = not ready
-        self.threads.post(thread)
-        self.items[self.threads.home[thread]].append((thread, self.threads.number[thread], ready))
-
-    def copy(self, cpu, items, lists):
-        for thread, number, ready in items:
-            if number > self.known[cpu].get(thread, (0,))[0]:
-                self.known[cpu][thread] = (number, ready)
-        if lists:
-            names = [*self.lists[cpu], *(thread for thread, _, _ in items)]
-            self.lists[cpu] = {thread: None for thread in names if self.known[cpu][thread][1]}
-
-    def publish(self, cpu, sent):
-        """The agent sends what its queue holds and removes it, and the others of the group are told."""
-        items, self.items[cpu] = self.items[cpu], []
-        self.copy(cpu, items, True)
-        yield f"publish {cpu}"
-        yield self.threads.consume(cpu)
-        for other in self.cpus:
-            if other != cpu:
-                self.copy(other, items, False)
-                yield f"deliver {other} {sent}"
-
-    def pick(self, cpu):
-        if self.threads.running[cpu] is None:
-            while self.lists[cpu]:
-                thread = next(iter(self.lists[cpu]))
-                del self.lists[cpu][thread]
-                if self.threads.home[thread] == cpu and self.threads.on[thread] is None and not self.threads.blocked[thread]:
-                    self.threads.on[thread], self.threads.running[cpu] = cpu, thread
-                    break
-        return f"pick {cpu} {self.threads.posts[cpu]}"
-
-    def steal(self, cpu):
-        threads = self.threads
-        wanted = (t for t, (_, ready) in self.known[cpu].items() if ready and t not in self.lists[cpu] and threads.on[t] is None)
-        least = min(wanted, default=None)
-        if threads.running[cpu] is None and least is not None:
-            if threads.number[least] == self.known[cpu][least][0] and threads.pending[least] == 0:
-                threads.home[least] = cpu
-                self.lists[cpu][least] = None
-        return f"steal {cpu}"
-
-    def crash(self, cpu, sent):
-        """The agent forgets all, is told all by another, and takes threads back."""
-        self.known[cpu], self.lists[cpu] = {}, {}
-        other = next(it for it in self.cpus if it != cpu)
-        yield from (f"crash {cpu}", f"answer {other} {cpu}", f"deliver {cpu} {sent}")
-        self.known[cpu] = dict(self.known[other])
-        for _ in range(8):
-            yield self.steal(cpu)
-
-
-def turn_of(chance, group, cpu):
+def turn_of(chance, world, cpu, blocked):
     """What the threads of a CPU do before its agent looks."""
-    threads = group.threads
-    running = threads.running[cpu]
+    running = world.running[cpu]
     if running is not None:
         how = chance.choice(["yield", "yield", "block", "preempt"])
-        threads.on[running], threads.running[cpu] = None, None
-        group.post(running, how != "block")
-        if how == "block":
-            group.blocked.append(running)
+        blocked += [running] * (how == "block")
         yield f"{how} {cpu} {chance.randrange(1000)}"
-    while group.blocked and (len(group.blocked) > 24 or chance.random() < 0.4):
-        thread = group.blocked.pop(chance.randrange(len(group.blocked)))
-        group.post(thread, True)
-        yield f"wake t{thread}"
+    while blocked and (len(blocked) > 24 or chance.random() < 0.4):
+        yield f"wake t{blocked.pop(chance.randrange(len(blocked)))}"
+
+
+def day_of(chance, world, cpu, blocked):
+    """A turn of an agent, which the others of its group of four hear of; now and then it crashes, is told all by another, and takes threads back."""
+    group = [other for other in range(cpu // 4 * 4, cpu // 4 * 4 + 4) if other != cpu]
+    yield from turn_of(chance, world, cpu, blocked)
+    if chance.random() < 0.0005:
+        yield from (f"crash {cpu}", f"answer {group[0]} {cpu}", f"deliver {cpu} {len(world.deltas)}", *[f"steal {cpu}"] * 8)
+    sent = len(world.deltas)
+    yield from (*look(cpu), *(f"deliver {other} {sent}" for other in group))
+    if not world.agents[cpu].names or chance.random() < 0.02:
+        yield from [f"steal {cpu}"] * 4
+    yield f"pick {cpu} {world.queues[cpu].posts}"
 
 
 def day(lines):
     """Agents of 64 CPUs in groups of four, over 4,096 threads that they run, wake, steal and tell each other of."""
-    chance = random.Random(20261123)
-    threads, written, sent = Threads(True), 1 + THREADS, 0
-    groups = [Group(threads, range(first, first + 4)) for first in range(0, CPUS, 4)]
+    chance, world, written = random.Random(20261123), World(CPUS), 1 + THREADS
+    blocked = [[] for _ in range(CPUS // 4)]
     yield f"enclave {CPUS} {THREADS} 1000000 65536 4294967295"
     for thread in range(THREADS):
-        threads.create(thread % CPUS)
-        groups[thread % CPUS // 4].items[thread % CPUS].append((thread, 1, True))
-        yield f"create {thread % CPUS} {2**CPUS - 1} ready"
+        yield said(world, f"create {thread % CPUS} {2**CPUS - 1} ready")
     while written < lines:
         cpu = chance.randrange(CPUS)
-        group = groups[cpu // 4]
-        turn = [*turn_of(chance, group, cpu)]
-        if chance.random() < 0.0005:
-            turn += group.crash(cpu, sent)
-            sent += 1
-        turn += group.publish(cpu, sent)
-        sent += 1
-        if not group.lists[cpu] or chance.random() < 0.02:
-            turn += [group.steal(cpu) for _ in range(4)]
-        turn.append(group.pick(cpu))
+        turn = [said(world, line) for line in day_of(chance, world, cpu, blocked[cpu // 4])]
         yield from turn[:lines - written]
         written += len(turn)
 

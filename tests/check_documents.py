@@ -20,6 +20,7 @@
   files        each file of docs/, examples/, tools/, tests/ and bench/ is named by some other file
   numbers      nothing is cited by a number: no theorem, request, row or issue
   titles       each commit's title has at most 72 columns, and none of the words that tell of work under way
+  twins        two places that share six lines or more, names aside, are told of in tests/twins.txt, with why they stay
 
 A line for each finding, how much was looked at, and then `N passed, M failed`, of these checks. The exit status is 0 only where
 none failed. The last six are those of tests/tidy.py.
@@ -415,6 +416,9 @@ class Checker:
     def check_titles(self):
         self.add(*tidy.titles(ROOT))
 
+    def check_twins(self):
+        self.add(*tidy.twins(ROOT))
+
 
 def main():
     checker = Checker()
@@ -436,6 +440,7 @@ def main():
         checker.check_files,
         checker.check_numbers,
         checker.check_titles,
+        checker.check_twins,
     ]
     failed = 0
     for check in checks:

@@ -6,27 +6,27 @@
 FILE is a script or settings (of which the report is drawn); without one, three of examples/. With --time scripts are drawn by their
 ticks. With --variants it is a load of the lab, whose waits are drawn under these variants. It needs headless Chromium (Debian's package
 `chromium`). ./test does not need it: the pictures are for people, and docs/pictures keeps four. A picture that the browser cannot parse,
-or that shows no element, is a failure. The last line is 'N passed, M failed'.
+or that shows no element, is a failure.
 """
 from __future__ import annotations
 
-import argparse
+import functools
 import pathlib
 import re
 import shutil
-import subprocess
 import sys
 import tempfile
+from collections.abc import Callable
 
-ROOT = pathlib.Path(__file__).resolve().parent.parent
-PROGRAM = ROOT / "crates/pc_sim/out/pc_sim"
+import rig
+from rig import ROOT, run
+
 EXAMPLES = [
     ROOT / "examples/crash-and-steal.script",
     ROOT / "examples/recordings/python-pool.script",
     ROOT / "examples/steals-and-restarts.toml",
 ]
 FLAGS = ["--headless", "--no-sandbox", "--disable-gpu", "--hide-scrollbars", "--force-device-scale-factor=1"]
-SECONDS = 120
 # What the browser tells of a picture that it has parsed: how many elements are shown, and how many have a title.
 PAGE = """<!DOCTYPE html><title>?</title><body style="margin:0"><script>
 const parsed = new DOMParser().parseFromString({text}, "image/svg+xml");
@@ -37,83 +37,48 @@ document.title = `faults ${{faults}} shown ${{shown}} titles ${{picture.querySel
 </script>"""
 
 
-def asked(file: pathlib.Path, variants: pathlib.Path | None, by_ticks: bool) -> tuple[list[str], str]:
+def asked(file: pathlib.Path) -> tuple[list[object], str]:
     """The words by which the program draws the file, and the name of that picture."""
-    if variants:
-        return ["lab", "--picture", "--variants", str(variants)], f"{file.stem}-waits"
+    if rig.options.variants:
+        return ["lab", "--picture", "--variants", rig.options.variants], f"{file.stem}-waits"
     if file.suffix == ".toml":
         return ["run", "--draw"], f"{file.stem}-report"
-    return (["draw", "--time"], f"{file.stem}-ticks") if by_ticks else (["draw"], file.stem)
+    return (["draw", "--time"], f"{file.stem}-ticks") if rig.options.time else (["draw"], file.stem)
 
 
-def drawn(program: pathlib.Path, words: list[str], file: pathlib.Path) -> bytes:
-    run = subprocess.run([str(program), *words, str(file)], stdout=subprocess.PIPE, timeout=SECONDS)
-    if run.returncode not in (0, 1) or not run.stdout:
-        raise ValueError(f"{program.name} ended with {run.returncode}")
-    return run.stdout
+def browse(folder: pathlib.Path, *words: str) -> str:
+    browser = rig.options.browser
+    told = run(browser, *FLAGS, f"--user-data-dir={folder / 'profile'}", *words)
+    assert told.returncode == 0, f"{browser} ended with {told.returncode}: {told.stderr[-300:]}"
+    return told.stdout
 
 
-def size_of(picture: bytes) -> tuple[int, int]:
-    found = re.search(rb'<svg [^>]*width="(\d+)" height="(\d+)"', picture)
-    if not found:
-        raise ValueError("no size in the picture's first line")
-    return int(found[1]), int(found[2])
+def shows(file: pathlib.Path) -> None:
+    """A browser shows the picture of the file, of which PNG and SVG are put into the folder."""
+    words, name = asked(file)
+    drawn = run(rig.program, *words, file, text=False)
+    assert drawn.returncode in (0, 1) and drawn.stdout, f"the program ended with {drawn.returncode}"
+    width, height = map(int, re.search(rb'<svg [^>]*width="(\d+)" height="(\d+)"', drawn.stdout).groups())
+    rig.options.to.mkdir(parents=True, exist_ok=True)
+    svg, png = (rig.options.to / f"{name}{suffix}" for suffix in (".svg", ".png"))
+    svg.write_bytes(drawn.stdout)
+    with rig.file(PAGE.format(text=repr(drawn.stdout.decode("ascii"))), "page.html") as page:
+        told = re.search(r"<title>faults (\d+) shown (\d+) titles (\d+)</title>", browse(page.parent, "--dump-dom", page.as_uri()))
+        browse(page.parent, f"--screenshot={png}", f"--window-size={width},{height}", svg.resolve().as_uri())
+    assert told, "the browser did not tell what it shows"
+    faults, shown, titles = map(int, told.groups())
+    assert not faults and shown and titles, f"{faults} faults, {shown} elements shown, {titles} titles"
+    assert png.is_file() and png.read_bytes().startswith(b"\x89PNG"), "no screenshot was made"
+    print(f"{file.name}: {width} x {height}, {len(drawn.stdout)} bytes, {shown} elements shown, {titles} titles: {png}")
 
 
-def browse(browser: str, folder: pathlib.Path, *words: str) -> str:
-    flags = [*FLAGS, f"--user-data-dir={folder / 'profile'}"]
-    run = subprocess.run([browser, *flags, *words], capture_output=True, text=True, timeout=SECONDS)
-    if run.returncode != 0:
-        raise ValueError(f"{browser} ended with {run.returncode}: {run.stderr[-300:]}")
-    return run.stdout
-
-
-def fault_of(options: argparse.Namespace, file: pathlib.Path) -> str | None:
-    """What is wrong with the picture of the file, of which PNG and SVG are put into the folder."""
-    browser, (words, name) = options.browser, asked(file, options.variants, options.time)
-    picture = drawn(options.program, words, file)
-    width, height = size_of(picture)
-    svg, png = (options.to / f"{name}{suffix}" for suffix in (".svg", ".png"))
-    svg.write_bytes(picture)
-    with tempfile.TemporaryDirectory() as name:
-        folder = pathlib.Path(name)
-        page = folder / "page.html"
-        page.write_text(PAGE.format(text=repr(picture.decode("ascii"))))
-        told = re.search(r"<title>faults (\d+) shown (\d+) titles (\d+)</title>", browse(browser, folder, "--dump-dom", page.as_uri()))
-        browse(browser, folder, f"--screenshot={png}", f"--window-size={width},{height}", svg.resolve().as_uri())
-    if not told:
-        return "the browser did not tell what it shows"
-    faults, shown, titles = (int(count) for count in told.groups())
-    if faults or not shown or not titles:
-        return f"{faults} faults, {shown} elements shown, {titles} titles"
-    if not png.is_file() or not png.read_bytes().startswith(b"\x89PNG"):
-        return "no screenshot was made"
-    print(f"{file.name}: {width} x {height}, {len(picture)} bytes, {shown} elements shown, {titles} titles: {png}")
-    return None
-
-
-def main() -> int:
-    parser = argparse.ArgumentParser(description=__doc__, formatter_class=argparse.RawDescriptionHelpFormatter)
-    parser.add_argument("--program", type=pathlib.Path, default=PROGRAM)
-    parser.add_argument("--browser", default=shutil.which("chromium") or "chromium")
-    parser.add_argument("--to", type=pathlib.Path, default=pathlib.Path(tempfile.gettempdir()))
-    parser.add_argument("--time", action="store_true", help="draws scripts by their ticks")
-    parser.add_argument("--variants", type=pathlib.Path, metavar="FILE")
-    parser.add_argument("file", type=pathlib.Path, nargs="*", default=EXAMPLES)
-    options = parser.parse_args()
-    options.to.mkdir(parents=True, exist_ok=True)
-    passed = failed = 0
-    for file in options.file:
-        try:
-            fault = fault_of(options, file)
-        except (OSError, ValueError, subprocess.SubprocessError) as error:
-            fault = str(error)
-        passed, failed = (passed, failed + 1) if fault else (passed + 1, failed)
-        if fault:
-            print(f"{file.name}: {fault}")
-    print(f"{passed} passed, {failed} failed")
-    return 1 if failed else 0
+def add_words(add: Callable[..., object]) -> None:
+    add("--browser", default=shutil.which("chromium") or "chromium")
+    add("--to", type=pathlib.Path, default=pathlib.Path(tempfile.gettempdir()))
+    add("--time", action="store_true", help="draws scripts by their ticks")
+    add("--variants", type=pathlib.Path, metavar="FILE")
+    add("file", type=pathlib.Path, nargs="*", default=EXAMPLES)
 
 
 if __name__ == "__main__":
-    sys.exit(main())
+    sys.exit(rig.main(__doc__, lambda: [(file.name, functools.partial(shows, file)) for file in rig.options.file], add_words))

@@ -2,61 +2,47 @@
 """Tests what the built program tells a person at a terminal while a run or the lab goes on, as both compilers built it; the terminal is a made-up one.
 
     tests/terminal_tests.py [--program PROGRAM]
-
-The last line is 'N passed, M failed', and where any were skipped 'N passed, M failed, K skipped'.
 """
-import argparse
+from __future__ import annotations
+
+import contextlib
 import os
-import pathlib
 import pty
 import re
 import subprocess
 import sys
 import tempfile
 import threading
-import unittest
+from collections.abc import Iterator
+from typing import Any
 
-ROOT = pathlib.Path(__file__).resolve().parent.parent
-PROGRAMS = [ROOT / "crates/pc_sim/out/pc_sim", ROOT / "crates/pc_sim/out/pc_sim.by-rattle"]
-SECONDS = 120
+import rig
+from rig import SECONDS, same
+from tables import thread, variant
 
 THREADS, YIELDS = 40, 99
-LIFE = "steps = [" + '"yield 1", ' * YIELDS + '"die 1"]\n'
-SETTINGS = "cpus = 4\n" + "".join(f"[[thread]]\nqueue = {it % 4}\nmask = {1 << it % 4}\n" + LIFE for it in range(THREADS))
+SETTINGS = "cpus = 4\n" + "".join(thread(it % 4, 1 << it % 4, *["yield 1"] * YIELDS, "die 1") for it in range(THREADS))
 # Each thread tells one message when it is created, and one for each step.
 STEPS = THREADS * (YIELDS + 1)
 REPORT = f"threads {THREADS}\nmessages {THREADS + STEPS}\ncommits {STEPS}\nran {STEPS}\n".encode()
-SHORT = "cpus = 1\n[[thread]]\nqueue = 0\nmask = 1\nsteps = [\"yield 1\", \"die 2\"]\n"
-SHORT_REPORT = b"threads 1\nmessages 3\ncommits 2\nran 3\n"
-
+FAULTY = "cpus = 0\n"
 # Two threads of so many ticks on one CPU. Each commit costs five events: pick, preempt or die, publish, consume and sleep; a first
 # sleep and two creations come before.
-TICKS = 100_000
+TICKS, QUANTA = 100_000, (1, 1000, 1)
 
 
-def events(commits):
-    return 5 * commits + 3
-
-
-def load_of(*quanta):
+def load_of(*quanta: int) -> str:
     """The load under fifo, with a variant for each of these quanta."""
-    thread = f'[[thread]]\nqueue = 0\nmask = 1\nsteps = ["die {TICKS}"]\n'
-    variant = '[[variant]]\nname = "{}"\norder = "fifo"\nquantum = {}\n'
-    return "cpus = 1\n" + 2 * thread + "".join(variant.format(f"v{place}", quantum) for place, quantum in enumerate(quanta))
+    variants = (variant(f"v{place}", order="fifo", quantum=quantum) for place, quantum in enumerate(quanta))
+    return "cpus = 1\n" + 2 * thread(0, 1, f"die {TICKS}") + "".join(variants)
 
 
-def commits_of(*quanta):
-    """A commit for each quantum that the ticks fill."""
-    return [2 * TICKS // quantum for quantum in quanta]
-
-
-QUANTA = (1, 1000, 1)
 LOAD = load_of(*QUANTA)
-COMMITS = commits_of(*QUANTA)
+# A commit for each quantum that the ticks fill.
+COMMITS = [2 * TICKS // quantum for quantum in QUANTA]
 # A line is due each 1,000,000 events, so the second variant has none.
-FIRST, ALL = events(COMMITS[0]), sum(map(events, COMMITS))
+FIRST, ALL = 5 * COMMITS[0] + 3, sum(5 * commits + 3 for commits in COMMITS)
 LAB_LINES = (f"\r1 of 3 variants played, {FIRST} events\x1b[K" f"\r3 of 3 variants played, {ALL} events\x1b[K" "\r\x1b[K").encode()
-
 ERASED = rb"\r\x1b\[K"
 LINE = rb"\r(\d+) of 40 threads dead, (\d+) messages\x1b\[K"
 
@@ -64,192 +50,153 @@ LINE = rb"\r(\d+) of 40 threads dead, (\d+) messages\x1b\[K"
 class Terminal:
     """A terminal, and all that is written on it. A terminal of its own kind writes a carriage return in front of each line feed."""
 
-    def __init__(self):
+    def __init__(self) -> None:
         self.screen, self.line = pty.openpty()
         self.written = b""
         self.reader = threading.Thread(target=self.read)
         self.reader.start()
 
-    def read(self):
-        try:
+    def read(self) -> None:
+        with contextlib.suppress(OSError):  # nobody has the line any more
             while some := os.read(self.screen, 65536):
                 self.written += some
-        except OSError:
-            pass  # nobody has the line any more
 
-    def close(self):
-        """Everything that was written, once nobody has the line any more."""
+    def close(self) -> None:
         os.close(self.line)
         self.reader.join()
         os.close(self.screen)
-        return self.written
 
 
-class Lines(unittest.TestCase):
-    program = None
+@contextlib.contextmanager
+def begun(text: str, *words: str, **streams: Any) -> Iterator[subprocess.Popen[bytes]]:
+    """A run by the settings, or what the words say of them, whose standard output is a pipe where nothing else is said."""
+    with rig.file(text) as file:
+        command = [str(rig.program), *(words or ["run"]), str(file)]
+        run = subprocess.Popen(command, stdin=subprocess.DEVNULL, **{"stdout": subprocess.PIPE, **streams})
+        try:
+            yield run
+        finally:
+            run.kill()
 
-    def begin(self, settings, *words, **streams):
-        """A run by the settings, or what the words say of them, whose standard output is a pipe where nothing else is said."""
-        file = tempfile.NamedTemporaryFile("w", suffix=".toml")
-        self.addCleanup(file.close)
-        file.write(settings)
-        file.flush()
-        words = [str(self.program), *(words or ["run"]), file.name]
-        run = subprocess.Popen(words, stdin=subprocess.DEVNULL, **{"stdout": subprocess.PIPE, **streams})
-        self.addCleanup(run.kill)
-        return run
 
-    def run_it(self, settings, *words, **streams):
-        """The status, and standard output where it is a pipe."""
-        run = self.begin(settings, *words, **streams)
+def come_to(text: str, *words: str, **streams: Any) -> tuple[int, bytes | None]:
+    """The status, and standard output where it is a pipe."""
+    with begun(text, *words, **streams) as run:
         out, _ = run.communicate(timeout=SECONDS)
         return run.returncode, out
 
-    def at_a_terminal(self, settings, *words):
-        """The status, standard output, and what the terminal got that is standard error alone."""
-        terminal = Terminal()
-        try:
-            status, out = self.run_it(settings, *words, stderr=terminal.line)
-        finally:
-            written = terminal.close()
-        return status, out, written
 
-    def expect_lines(self, written):
-        """A line at each thousandth message, each written over the one before, and nothing left of the last one."""
-        self.assertRegex(written, b"\\A(%b)+%b\\Z" % (LINE, ERASED))
-        lines = re.findall(LINE, written)
-        self.assertEqual([int(messages) for _, messages in lines], list(range(1000, STEPS + 1, 1000)))
-        dead = [int(dead) for dead, _ in lines]
-        self.assertEqual((dead, dead[-1]), (sorted(dead), THREADS))
+def at_a_terminal(text: str, *words: str, on: tuple[str, ...] = ("stderr",), **streams: Any) -> tuple[int, bytes | None, bytes]:
+    """The status, standard output, and what the terminal got, on which these streams are."""
+    terminal = Terminal()
+    try:
+        status, out = come_to(text, *words, **streams, **dict.fromkeys(on, terminal.line))
+    finally:
+        terminal.close()
+    return status, out, terminal.written
 
-    def test_a_person_at_a_terminal_sees_lines(self):
-        status, out, written = self.at_a_terminal(SETTINGS)
-        self.assertEqual((status, out), (0, REPORT))
-        self.expect_lines(written)
 
-    def test_nobody_else_does(self):
-        with tempfile.TemporaryFile() as errors:
-            self.assertEqual(self.run_it(SETTINGS, stderr=errors), (0, REPORT))
-            errors.seek(0)
-            self.assertEqual(errors.read(), b"")
-        reader, writer = os.pipe()
-        with os.fdopen(reader, "rb") as errors:
-            with os.fdopen(writer, "wb") as end:
-                self.assertEqual(self.run_it(SETTINGS, stderr=end), (0, REPORT))
-            self.assertEqual(errors.read(), b"")
+def elsewhere(text: str, *words: str, **streams: Any) -> tuple[int, bytes | None, bytes]:
+    """The same where standard error is a file."""
+    with tempfile.TemporaryFile() as errors:
+        status, out = come_to(text, *words, stderr=errors, **streams)
+        errors.seek(0)
+        return status, out, errors.read()
 
-    def test_standard_output_at_a_terminal_is_not_asked(self):
-        terminal = Terminal()
-        try:
-            with tempfile.TemporaryFile() as errors:
-                status, _ = self.run_it(SETTINGS, stdout=terminal.line, stderr=errors)
-                self.assertEqual((status, os.fstat(errors.fileno()).st_size), (0, 0))
-        finally:
-            written = terminal.close()
-        self.assertEqual(written, REPORT.replace(b"\n", b"\r\n"))
 
-    def test_the_report_stands_on_a_clean_line(self):
-        terminal = Terminal()
-        try:
-            status, _ = self.run_it(SETTINGS, stdout=terminal.line, stderr=terminal.line)
-        finally:
-            written = terminal.close()
-        report = REPORT.replace(b"\n", b"\r\n")
-        self.assertEqual(status, 0)
-        self.assertTrue(written.endswith(report), written)
-        self.expect_lines(written[:-len(report)])
+def shown(text: bytes) -> bytes:
+    """A text as a terminal has it."""
+    return text.replace(b"\n", b"\r\n")
 
-    def test_a_short_run_tells_nothing(self):
-        self.assertEqual(self.at_a_terminal(SHORT), (0, SHORT_REPORT, b""))
 
-    def test_what_else_is_said_at_a_terminal_stays(self):
-        self.assertEqual(self.at_a_terminal("cpus = 0\n"), (1, b"", b"pc-sim: settings BadCpus\r\npc-sim: cpus 0: 1 to 64 are wanted\r\n"))
+def expect_lines(written: bytes) -> None:
+    """A line at each thousandth message, each written over the one before, and nothing left of the last one."""
+    rig.matches(written, b"\\A(%b)+%b\\Z" % (LINE, ERASED))
+    lines = re.findall(LINE, written)
+    same([int(messages) for _, messages in lines], list(range(1000, STEPS + 1, 1000)))
+    dead = [int(dead) for dead, _ in lines]
+    same((dead, dead[-1]), (sorted(dead), THREADS))
 
-    def test_a_terminal_that_goes_away_is_passed_over(self):
-        screen, line = pty.openpty()
-        run = self.begin(SETTINGS, stderr=line)
+
+def test_a_person_at_a_terminal_sees_lines() -> None:
+    status, out, written = at_a_terminal(SETTINGS)
+    same((status, out), (0, REPORT))
+    expect_lines(written)
+
+
+def test_nobody_else_does() -> None:
+    same(elsewhere(SETTINGS), (0, REPORT, b""))
+    with begun(SETTINGS, stderr=subprocess.PIPE) as run:
+        same((*run.communicate(timeout=SECONDS), run.returncode), (REPORT, b"", 0))
+
+
+def test_standard_output_at_a_terminal_is_not_asked() -> None:
+    with tempfile.TemporaryFile() as errors:
+        same(at_a_terminal(SETTINGS, on=("stdout",), stderr=errors), (0, None, shown(REPORT)))
+        same(os.fstat(errors.fileno()).st_size, 0)
+
+
+def test_the_report_stands_on_a_clean_line() -> None:
+    status, _, written = at_a_terminal(SETTINGS, on=("stdout", "stderr"))
+    assert status == 0 and written.endswith(shown(REPORT)), written
+    expect_lines(written.removesuffix(shown(REPORT)))
+
+
+def test_a_short_run_tells_nothing() -> None:
+    same(at_a_terminal("cpus = 1\n" + thread(0, 1, "yield 1", "die 2")), (0, b"threads 1\nmessages 3\ncommits 2\nran 3\n", b""))
+
+
+def test_what_else_is_said_at_a_terminal_stays() -> None:
+    same(at_a_terminal(FAULTY), (1, b"", b"pc-sim: settings BadCpus\r\npc-sim: cpus 0: 1 to 64 are wanted\r\n"))
+
+
+def test_a_terminal_that_goes_away_is_passed_over() -> None:
+    screen, line = pty.openpty()
+    with begun(SETTINGS, stderr=line) as run:
         os.close(line)
         told = b""
         while not re.search(LINE, told):
             told += os.read(screen, 65536)
         os.close(screen)
-        out, _ = run.communicate(timeout=SECONDS)
-        self.assertEqual((run.returncode, out), (0, REPORT))
-
-    def elsewhere(self, settings, *words):
-        """The status, standard output, and standard error that is a file."""
-        with tempfile.TemporaryFile() as errors:
-            status, out = self.run_it(settings, *words, stderr=errors)
-            errors.seek(0)
-            return status, out, errors.read()
-
-    def test_a_lab_at_a_terminal_tells_how_many_variants_were_played(self):
-        for words in (["lab"], ["lab", "--csv"], ["lab", "--picture"]):
-            status, out, written = self.at_a_terminal(LOAD, *words)
-            self.assertEqual((status, written), (0, LAB_LINES))
-            self.assertEqual(self.elsewhere(LOAD, *words), (0, out, b""))
-        self.assertIn(f"commits {' '.join(map(str, COMMITS))}\n", self.words_of_table(LOAD))
-
-    def words_of_table(self, load):
-        """The table, with one space between words."""
-        _, out = self.run_it(load, "lab")
-        return re.sub(" +", " ", out.decode())
-
-    def test_a_table_stands_on_a_clean_line(self):
-        terminal = Terminal()
-        try:
-            status, _ = self.run_it(LOAD, "lab", stdout=terminal.line, stderr=terminal.line)
-        finally:
-            written = terminal.close()
-        _, table = self.run_it(LOAD, "lab")
-        self.assertEqual((status, written), (0, LAB_LINES + table.replace(b"\n", b"\r\n")))
-
-    def test_a_short_lab_tells_nothing(self):
-        status, out, written = self.at_a_terminal(load_of(1000, 100), "lab")
-        self.assertEqual((status, written), (0, b""))
-        self.assertEqual(out, self.run_it(load_of(1000, 100), "lab")[1])
-
-    def test_a_script_of_the_lab_is_one_run_of_which_nothing_is_told(self):
-        status, out, written = self.at_a_terminal(load_of(2), "lab", "--script", "v0")
-        self.assertEqual((status, written), (0, b""))
-        self.assertEqual(self.elsewhere(load_of(2), "lab", "--script", "v0"), (0, out, b""))
-
-    def test_what_else_the_lab_says_at_a_terminal_stays(self):
-        self.assertEqual(self.at_a_terminal("cpus = 0\n", "lab"), (1, b"", b"pc-sim: lab BadCpus\r\n"))
-
-    def test_what_cannot_be_written_is_told_on_a_clean_line(self):
-        if not os.path.exists("/dev/full"):
-            self.skipTest("no /dev/full")
-        terminal = Terminal()
-        try:
-            with open("/dev/full", "wb") as full:
-                status, _ = self.run_it(LOAD, "lab", stdout=full, stderr=terminal.line)
-        finally:
-            written = terminal.close()
-        said = b"pc-sim: cannot read\r\npc-sim: the standard output: No space left on device (os error 28)\r\n"
-        self.assertEqual((status, written), (1, LAB_LINES + said))
+        same((run.communicate(timeout=SECONDS)[0], run.returncode), (REPORT, 0))
 
 
-def main():
-    parser = argparse.ArgumentParser(description=__doc__, formatter_class=argparse.RawDescriptionHelpFormatter)
-    parser.add_argument("--program", type=pathlib.Path, help="test this program alone, as `rt run` leaves it")
-    options = parser.parse_args()
-    passed = failed = skipped = 0
-    for program in [options.program] if options.program else PROGRAMS:
-        kind = type("Lines", (Lines,), {"program": program.resolve()})
-        for name in unittest.defaultTestLoader.getTestCaseNames(kind):
-            result = unittest.TestResult()
-            kind(name).run(result)
-            faults = [text for _, text in [*result.failures, *result.errors]]
-            skipped += len(result.skipped)
-            passed, failed = (passed, failed + 1) if faults else (passed + 1 - len(result.skipped), failed)
-            for fault in faults:
-                print(f"terminal, {name} ({program.name}): {fault}")
-            for test, reason in result.skipped:
-                print(f"skipped: {test} ({program.name}): {reason}")
-    print(f"{passed} passed, {failed} failed" + (f", {skipped} skipped" if skipped else ""))
-    return 1 if failed else 0
+def test_a_lab_at_a_terminal_tells_how_many_variants_were_played() -> None:
+    for words in (["lab"], ["lab", "--csv"], ["lab", "--picture"]):
+        status, out, written = at_a_terminal(LOAD, *words)
+        same((status, written), (0, LAB_LINES))
+        same(elsewhere(LOAD, *words), (0, out, b""))
+    table = re.sub(rb" +", b" ", come_to(LOAD, "lab")[1] or b"").decode()
+    assert f"commits {' '.join(map(str, COMMITS))}\n" in table, table
+
+
+def test_a_table_stands_on_a_clean_line() -> None:
+    status, _, written = at_a_terminal(LOAD, "lab", on=("stdout", "stderr"))
+    same((status, written), (0, LAB_LINES + shown(come_to(LOAD, "lab")[1] or b"")))
+
+
+def test_a_short_lab_tells_nothing() -> None:
+    load = load_of(1000, 100)
+    same(at_a_terminal(load, "lab"), (*come_to(load, "lab"), b""))
+
+
+def test_a_script_of_the_lab_is_one_run_of_which_nothing_is_told() -> None:
+    told = at_a_terminal(load_of(2), "lab", "--script", "v0")
+    same((told[0], told[2]), (0, b""))
+    same(elsewhere(load_of(2), "lab", "--script", "v0"), told)
+
+
+def test_what_else_the_lab_says_at_a_terminal_stays() -> None:
+    same(at_a_terminal(FAULTY, "lab"), (1, b"", b"pc-sim: lab BadCpus\r\n"))
+
+
+def test_what_cannot_be_written_is_told_on_a_clean_line() -> None:
+    rig.needs(os.path.exists("/dev/full"), "no /dev/full")
+    with open("/dev/full", "wb") as full:
+        status, _, written = at_a_terminal(LOAD, "lab", stdout=full)
+    said = b"pc-sim: cannot read\r\npc-sim: the standard output: No space left on device (os error 28)\r\n"
+    same((status, written), (1, LAB_LINES + said))
 
 
 if __name__ == "__main__":
-    sys.exit(main())
+    sys.exit(rig.main(__doc__, rig.tests_in(globals()), both=True))

@@ -2,6 +2,8 @@
 
 Each answers how much was looked at, and its findings.
 """
+import collections
+import itertools
 import re
 import subprocess
 
@@ -47,6 +49,19 @@ SOURCES = {".rt", ".antt", ".edit", ".md", ".txt", ".py", ".sh", ".script", ".ou
 STRING = re.compile(r"//[^\n]*|b?r(#*)\".*?\"\1|b?\"(?:[^\"\\]|\\.)*\"|b?'(?:[^'\\\n]|\\[^'\n]*.)'", re.S)
 # Folders of what is made.
 UNTRACKED = {".git", ".mypy_cache", ".trees", "__pycache__", "dist", "out"}
+# So many lines make twins of two places; one that stands in more places than that is what all files have.
+TWIN_LINES, TWIN_PLACES = 6, 8
+TWINS = "tests/twins.txt"
+TWIN_ROW = re.compile(r"(\S+) ~ (\S+): (\S.*)")
+# Of each kind of source: what begins a comment, and of how many sorts the lines of a place have to be at least.
+TWIN_KINDS = {".rt": ("//", 3), ".antt": ("--", 2), ".py": ("#", 3)}
+IMPORTED = re.compile(r"(?:pub(?:\(crate\))? )?(?:ghost use|use|mod|import|from)\b")
+TWIN_TOKEN = re.compile(r"\"(?:[^\"\\]|\\.)*\"|'(?:[^'\\\n]|\\.)'|\d[\w.]*|[^\W\d][\w']*|[^\s\w]")
+# Words that are no names: two lines are alike only where these are.
+TWIN_WORDS = set(
+    "fn let mut if else match for in while return ensures requires impl struct enum trait pub ghost where self Self result old now const as "
+    "def class with try except assert not and or is None True False lambda yield raise record data case of derive "
+    "u8 u16 u32 u64 i64 usize bool str Vec Option Result Some Ok Err Box Drop Clone Copy Debug PartialEq Eq alloc Global true false".split())
 # What a tool looks for by itself, and so nobody has to name.
 FOUND_BY_NAME = re.compile(r"^(?:tests/(?:cases|lab_faults)/|examples/lab/worked/|README\.md$)")
 
@@ -184,3 +199,66 @@ def titles(root):
         if UNDER_WAY.search(title):
             findings.append(f"commit {commit}: `{UNDER_WAY.search(title)[0]}` is no word of a title")
     return len(told), findings
+
+
+def shape(line):
+    """A line with its names, strings and numbers aside."""
+    def told(token):
+        if token[0].isalpha() or token[0] == "_":
+            return token if token in TWIN_WORDS else "x"
+        return "0" if token[0].isdigit() else "s" if token[0] in "\"'" and len(token) > 2 else token
+
+    return " ".join(map(told, TWIN_TOKEN.findall(line)))
+
+
+def shapes(path, kind):
+    """The shapes of a source's lines, without comments, imports, and lines of nothing but signs."""
+    text, mark = path.read_text(), TWIN_KINDS[kind][0]
+    if kind == ".py":
+        text = re.sub(r'"""(?:.|\n)*?"""', "", text)
+    lines = (re.sub(rf"{mark}(?=[^\"]*(?:\"[^\"]*\"[^\"]*)*$).*", "", line).strip() for line in text.splitlines())
+    return [shape(line) for line in lines if re.search(r"\w", line) and not IMPORTED.match(line)]
+
+
+def kind_of(path, name):
+    """Which kind of source a file is whose twins are looked for: no tests' crate in Rattle; scripts in Python have no suffix."""
+    if path.suffix in (".rt", ".antt"):
+        return None if path.suffix == ".rt" and name.startswith("crates/pc_tests") else path.suffix
+    is_python = path.suffix == ".py" or not path.suffix and path.read_bytes()[:40].startswith(b"#!/usr/bin/env python")
+    return ".py" if is_python else None
+
+
+def pairs(root):
+    """The pairs of files that share six lines or more but for names, strings and numbers, and a file with itself; and how many were read."""
+    read, found = 0, set()
+    places = {kind: collections.defaultdict(list) for kind in TWIN_KINDS}
+    for path in all_files(root):
+        name = str(path.relative_to(root))
+        kind = kind_of(path, name)
+        lines = shapes(path, kind) if kind else []
+        read += bool(lines)
+        for at in range(len(lines) - TWIN_LINES + 1):
+            places[kind][tuple(lines[at:at + TWIN_LINES])].append((name, at))
+    for kind, (_, sorts) in TWIN_KINDS.items():
+        for lines, stands in places[kind].items():
+            if len(stands) <= TWIN_PLACES and len(set(lines)) >= sorts:
+                for (one, at), (other, there) in itertools.combinations(stands, 2):
+                    if one != other or abs(at - there) >= TWIN_LINES:
+                        found.add((min(one, other), max(one, other)))
+    return read, found
+
+
+def twins(root):
+    """Pairs of files that share lines, against tests/twins.txt: each stands there with why it stays, and none that is gone."""
+    checked, found = pairs(root)
+    findings, told = [], set()
+    for number, line in enumerate((root / TWINS).read_text().splitlines(), 1):
+        row = TWIN_ROW.fullmatch(line)
+        if not row or (row[1], row[2]) in told:
+            findings.append(f"{TWINS}:{number}: it is no row `FILE ~ FILE: why`, or stands twice")
+            continue
+        told.add((row[1], row[2]))
+        if (row[1], row[2]) not in found:
+            findings.append(f"{TWINS}:{number}: {row[1]} and {row[2]} share no {TWIN_LINES} lines any more")
+    findings += [f"{one} and {other} share {TWIN_LINES} lines or more, and {TWINS} does not say why" for one, other in sorted(found - told)]
+    return checked, findings

@@ -5,20 +5,18 @@ answers. Nothing is taken from the picture but the places that are held against 
 """
 from __future__ import annotations
 
-import pathlib
 import random
 import re
-import subprocess
-import sys
-import tempfile
-import xml.etree.ElementTree as ElementTree
 from collections import Counter
-from dataclasses import dataclass
+from typing import NamedTuple
 
-from drawing_tests import (
-    ENCLAVE, LEFT, MENDED, MOST_SINGLE, ROOT, ROWS, SCRIPTS, SHAPES, SINGLE_WORDS, SVG, WHOLE, Drawings, Part, Watched, answered, bars_of, drawn_part,
-    drawn_script, edges_of, front_of, is_asked, mended, story_of, words_in,
+import rig
+from kernel import answered
+from pictures import (
+    ENCLAVE, LEFT, MOST_SINGLE, ROWS, SCRIPTS, SINGLE_WORDS, SVG, WHOLE, Element, Part, Picture, Steps, answers_to, are_one, bars_of, bars_told,
+    draw, drawn_script, edges_of, front_of, is_asked, many, refused_words, shown_often, steps_of, story_of, x_of,
 )
+from rig import ROOT, good, outcome, same
 
 MOST_TICK = 2**64 - 1
 DRAWN = 100
@@ -31,7 +29,6 @@ NO_TICKS = [
 ]
 GAPS = {"few": [0, 0, 1, 1, 2, 3], "many": [0, 1, 5, 40, 700], "far": [0, 1, 1000, 10**6, 10**12]}
 TICK_WORDS = "Axis: ticks, from left to right, a column for each tick. A lane for each CPU."
-LINE_WORDS = SINGLE_WORDS.replace("Lines of the script from", 'No line "# at TICK": lines from')
 # How far left of its column's middle a mark begins.
 BEFORE = {"crash": 7, "stolen": 3, "moved": 1, "refused": 1}
 
@@ -72,8 +69,7 @@ class Axis:
         return LEFT + self.wide * self.columns
 
 
-@dataclass(frozen=True)
-class Timed:
+class Timed(NamedTuple):
     """A bar of a row: its CPU, what it shows, from where to where it goes, and the lines and ticks that its title tells."""
 
     row: str
@@ -84,33 +80,16 @@ class Timed:
     ticks: tuple[int, int]
 
 
-def timed_bars(steps: list[tuple[int, dict[str, list[int | None]]]], cpus: int, ticks: list[int], axis: Axis) -> Counter[Timed]:
+def timed_bars(steps: Steps, cpus: int, ticks: list[int], axis: Axis) -> Counter[Timed]:
     """The bars by which the steps, which have these ticks, are to be shown. What lasts no tick is not; what lasts less than a column is as wide as one."""
     timed: Counter[Timed] = Counter()
-    for bar, times in bars_of(steps, cpus).items():
-        start, end = bar.columns
-        begins, ends = ticks[start], ticks[end] if end < len(ticks) else axis.last
-        right = axis.x(ends) if end < len(ticks) else axis.end
-        if end < len(ticks) and begins == ends:
-            continue
-        left = axis.x(begins)
-        timed[Timed(bar.row, bar.cpu, bar.value, (left, max(right, left + axis.wide)), bar.lines, (begins, ends))] += times
+    for (row, cpu, value, (start, end), lines), times in bars_of(steps, cpus).items():
+        is_last = end >= len(ticks)
+        begins, ends = ticks[start], axis.last if is_last else ticks[end]
+        if is_last or begins != ends:
+            left, right = axis.x(begins), axis.end if is_last else axis.x(ends)
+            timed[Timed(row, cpu, value, (left, max(right, left + axis.wide)), lines, (begins, ends))] += times
     return timed
-
-
-def timed_bars_in(root: ElementTree.Element) -> Counter[Timed]:
-    """The bars that a picture shows."""
-    bars: Counter[Timed] = Counter()
-    for element in root[1:]:
-        for row, pattern in ROWS.items():
-            told = re.fullmatch(f"{pattern}, {TICKS}", element[0].text or "") if element.tag in SHAPES else None
-            if told:
-                first, last, begins, ends = told.groups()[-4:]
-                bars[Timed(
-                    row, int(told["cpu"]), int(told.groupdict().get("value", 1)), edges_of(element),
-                    (int(first), int(last or first)), (int(begins), int(ends or begins)),
-                )] += 1
-    return bars
 
 
 def timed_script(script: str, place: int) -> str:
@@ -126,424 +105,382 @@ def timed_script(script: str, place: int) -> str:
     return "\n".join(lines) + "\n"
 
 
-def x_of(element: ElementTree.Element) -> tuple[int, ...]:
-    """Where a line begins and ends, or a path begins, from left to right."""
-    if element.tag == SVG + "line":
-        return int(element.get("x1")), int(element.get("x2"))
-    return (int(re.match(r"M(\d+),", element.get("d"))[1]),)
+def timed(script: str, status: int = 0, flags: tuple[str, ...] = ()) -> Picture:
+    return draw(script, status, ("--time", *flags))
 
 
-def sent_in(script: str, output: str) -> dict[int, int]:
-    """Of each delta the line of the command that sent it."""
-    sent: dict[int, int] = {}
-    for number, words, answer in answered(script, output):
-        told = re.fullmatch(r"ok d(\d+) items \d+", answer)
-        if told:
-            sent[int(told[1])] = number
-    return sent
+def labels(picture: Picture) -> list[int]:
+    """The ticks that the axis tells. Holds each number's place against that of the thin line that has it in its title."""
+    lines = [(int(it.get("x1")), found[0]) for found, it in picture.found(r"tick \d+") if it.tag == SVG + "line"]
+    height = next(words.y for words in picture.words if words.text == "tick")
+    numbers = [words for words in picture.words if words.y == height and words.text.isdigit()]
+    same([(words.x + 3, f"tick {words.text}") for words in numbers], lines)
+    assert all(other.x - one.x >= max(50, 7 * len(one.text)) for one, other in zip(numbers, numbers[1:])), numbers
+    return [int(words.text) for words in numbers]
 
 
-class TimedDrawings(Drawings):
-    def timed(self, script: str, status: int = 0, flags: tuple[str, ...] = ()) -> ElementTree.Element:
-        return self.draw(script, status, ("--time", *flags))
+def axis_is_told_by_ticks(picture: Picture, axis: Axis) -> None:
+    """The axis tells each multiple of the least distance for which there is room, which is 1, 2 or 5 times a power
+    of ten, or else the first tick: each at its column. Where columns are of several ticks, one is room too."""
+    told = labels(picture)
+    for tick in told:
+        same([at for at, _ in picture.places(f"tick {tick}")], [axis.middle(tick)])
+    room = max(56, 7 * (len(str(axis.last)) + 1)) + (axis.wide if axis.count > axis.columns else 0)
+    distances = (factor * 10**power for power in range(20) for factor in (1, 2, 5))
+    distance = next(it for it in distances if axis.x(axis.first + it) - LEFT >= room)
+    rounds = range(-(-axis.first // distance) * distance, axis.last + 1, distance)
+    same(told, list(rounds) or [axis.first])
 
-    def edges(self, root: ElementTree.Element, pattern: str) -> list[tuple[float, float]]:
-        """From where to where the bars with such titles go."""
-        return [edges_of(element) for element in root[1:] if element.tag in SHAPES and re.fullmatch(pattern, element[0].text or "")]
 
-    def places(self, root: ElementTree.Element, pattern: str) -> list[tuple[int, ...]]:
-        return [x_of(element) for element in root[1:] if element.tag in SHAPES and re.fullmatch(pattern, element[0].text or "")]
+def stand(picture: Picture, edges: dict[str, list[tuple[float, float]]], places: dict[str, list[tuple[int, ...]]]) -> None:
+    """From where to where the bars with such titles go, and where marks stand."""
+    same({title: picture.edges(title) for title in edges}, edges)
+    same({title: picture.places(title) for title in places}, places)
 
-    def labels(self, root: ElementTree.Element) -> list[int]:
-        """The ticks that the axis tells. Holds each number's place against that of the thin line that has it in its title."""
-        lines = [(int(it.get("x1")), it[0].text) for it in root[1:] if it.tag == SVG + "line" and re.fullmatch(r"tick \d+", it[0].text or "")]
-        height = next(words.y for words in words_in(root) if words.text == "tick")
-        numbers = [words for words in words_in(root) if words.y == height and words.text.isdigit()]
-        self.assertEqual([(words.x + 3, f"tick {words.text}") for words in numbers], lines)
-        for one, other in zip(numbers, numbers[1:]):
-            self.assertGreaterEqual(other.x - one.x, max(50, 7 * len(one.text)))
-        return [int(words.text) for words in numbers]
 
-    def axis_is_told_by_ticks(self, root: ElementTree.Element, axis: Axis) -> None:
-        """The axis tells each multiple of the least distance for which there is room, which is 1, 2 or 5 times a power
-        of ten, or else the first tick: each at its column. Where columns are of several ticks, one is room too."""
-        told = self.labels(root)
-        for tick in told:
-            self.assertEqual([at for at, _ in self.places(root, f"tick {tick}")], [axis.middle(tick)])
-        room = max(56, 7 * (len(str(axis.last)) + 1)) + (axis.wide if axis.count > axis.columns else 0)
-        distances = (factor * 10**power for power in range(20) for factor in (1, 2, 5))
-        distance = next(it for it in distances if axis.x(axis.first + it) - LEFT >= room)
-        rounds = range(-(-axis.first // distance) * distance, axis.last + 1, distance)
-        self.assertEqual(told, list(rounds) or [axis.first])
+def test_a_script_by_hand_stands_by_its_ticks() -> None:
+    """41 ticks have 24 pixels each, from x 72 on; marks stand in the middle of their column, 12 pixels on."""
+    picture = timed(
+        "enclave 2 8 100 16 1000\n# at 0\ncreate 0 3 ready\npublish 0\nconsume 0\ncommit 0 t0 1\n# at 10\ncreate 1 3 ready\n# at 15\npublish 1\nconsume 1\n"
+        "deliver 0 1\ncommit 1 t1 1\n# at 17\ncrash 0\nblock 0 5\nwake t1\n# at 30\ndeliver 1 0\n# at 40\nblock 1 5\n")
+    same((picture.title, picture.width, picture.texts[1]), ("commands 15, refused 1", 72 + 41 * 24 + 120, TICK_WORDS))
+    stand(picture, {
+        "t0 on CPU 0, lines 6 to 16, ticks 0 to 17": [(72, 480)], "t1 on CPU 1, lines 13 to 21, ticks 15 to 40": [(432, 1032)],
+        "1 item in queue 1, lines 8 to 11, ticks 10 to 15": [(312, 432)], ".* queue 0, .*ticks .*": [(480, 1056)],
+        "1 ready thread waits for CPU 1, lines 8 to 13, ticks 10 to 15": [(312, 432)],
+        "CPU 1 idle while up to 1 ready thread waits, lines 8 to 13, ticks 10 to 15": [(312, 432)],
+    }, {
+        "crash 0, line 15": [(492 - 7,)], "line 17: wake t1: refused NotBlocked": [(492 - 1,)], "line 3: create 0 3 ready": [(84, 84)],
+        "line 8: create 1 3 ready": [(324, 324)], "line 12: deliver 0 1": [(444, 444), (444,)], "line 19: deliver 1 0": [(84, 804), (804,)],
+    })
+    same(labels(picture), [0, 5, 10, 15, 20, 25, 30, 35, 40])
+    same([x for x, _ in picture.places(r"tick \d+")], [84 + 120 * place for place in range(9)])
 
-    def test_a_script_by_hand_stands_by_its_ticks(self) -> None:
-        """41 ticks have 24 pixels each, from x 72 on; marks stand in the middle of their column, 12 pixels on."""
-        script = (
-            "enclave 2 8 100 16 1000\n# at 0\ncreate 0 3 ready\npublish 0\nconsume 0\ncommit 0 t0 1\n# at 10\ncreate 1 3 ready\n# at 15\npublish 1\nconsume 1\n"
-            "deliver 0 1\ncommit 1 t1 1\n# at 17\ncrash 0\nblock 0 5\nwake t1\n# at 30\ndeliver 1 0\n# at 40\nblock 1 5\n"
-        )
-        root = self.timed(script)
-        self.assertEqual(self.title(root), "commands 15, refused 1")
-        self.assertEqual(int(root.get("width")), 72 + 41 * 24 + 120)
-        self.assertEqual(words_in(root)[1].text, TICK_WORDS)
-        self.assertEqual(self.edges(root, "t0 on CPU 0, lines 6 to 16, ticks 0 to 17"), [(72, 480)])
-        self.assertEqual(self.edges(root, "t1 on CPU 1, lines 13 to 21, ticks 15 to 40"), [(432, 1032)])
-        self.assertEqual(self.edges(root, "1 item in queue 1, lines 8 to 11, ticks 10 to 15"), [(312, 432)])
-        self.assertEqual(self.edges(root, "1 ready thread waits for CPU 1, lines 8 to 13, ticks 10 to 15"), [(312, 432)])
-        self.assertEqual(self.edges(root, ".* queue 0, .*ticks .*"), [(480, 1056)])
-        self.assertEqual(self.edges(root, "CPU 1 idle while up to 1 ready thread waits, lines 8 to 13, ticks 10 to 15"), [(312, 432)])
-        self.assertEqual(self.places(root, "crash 0, line 15"), [(492 - 7,)])
-        self.assertEqual(self.places(root, "line 17: wake t1: refused NotBlocked"), [(492 - 1,)])
-        self.assertEqual(self.places(root, "line 3: create 0 3 ready"), [(84, 84)])
-        self.assertEqual(self.places(root, "line 8: create 1 3 ready"), [(324, 324)])
-        self.assertEqual(self.places(root, "line 12: deliver 0 1"), [(444, 444), (444,)])
-        self.assertEqual(self.places(root, "line 19: deliver 1 0"), [(84, 804), (804,)])
-        self.assertEqual(self.labels(root), [0, 5, 10, 15, 20, 25, 30, 35, 40])
-        self.assertEqual([x for x, _ in self.places(root, r"tick \d+")], [84 + 120 * place for place in range(9)])
 
-    def test_what_lasts_less_than_a_column_is_as_wide_as_one(self) -> None:
-        """12,000 ticks stand in 1,200 columns of a pixel, ten in each."""
-        script = (
-            "enclave 1 8 100 16 1000\ncreate 0 1 ready\npublish 0\nconsume 0\n# at 105\ncommit 0 t0 1\n# at 109\nyield 0 4\npublish 0\nconsume 0\ncommit 0 t0 2\n"
-            "# at 5000\nyield 0 4891\npublish 0\nconsume 0\ncommit 0 t0 3\nblock 0 0\n# at 11999\ntick 0\n"
-        )
-        root = self.timed(script)
-        self.assertEqual(int(root.get("width")), 72 + 1200 + 120)
-        self.assertEqual(words_in(root)[1].text, "Axis: ticks, from left to right; a column is of up to 10 ticks. A lane for each CPU.")
-        self.assertEqual(self.edges(root, "t0 on CPU 0, lines 6 to 8, ticks 105 to 109"), [(82, 83)])
-        self.assertEqual(self.edges(root, "t0 on CPU 0, lines 11 to 13, ticks 109 to 5000"), [(82, 572)])
-        self.assertEqual(len(self.edges(root, "t0 on CPU 0.*")), 2)
-        self.assertEqual(self.edges(root, "2 items in queue 0, line 19, tick 11999"), [(1271, 1272)])
-        self.assertEqual(self.edges(root, "1 item in queue 0, lines 17 to 19, ticks 5000 to 11999"), [(572, 1271)])
-        self.assertEqual(self.edges(root, "1 ready thread waits for CPU 0, lines 2 to 6, ticks 0 to 105"), [(72, 82)])
-        told = self.labels(root)
-        self.assertEqual(told, list(range(0, 12_000, 1_000)))
-        self.assertEqual([x for x, _ in self.places(root, r"tick \d+")], [72 + tick // 10 for tick in told])
+def test_what_lasts_less_than_a_column_is_as_wide_as_one() -> None:
+    """12,000 ticks stand in 1,200 columns of a pixel, ten in each."""
+    picture = timed(
+        "enclave 1 8 100 16 1000\ncreate 0 1 ready\npublish 0\nconsume 0\n# at 105\ncommit 0 t0 1\n# at 109\nyield 0 4\npublish 0\nconsume 0\ncommit 0 t0 2\n"
+        "# at 5000\nyield 0 4891\npublish 0\nconsume 0\ncommit 0 t0 3\nblock 0 0\n# at 11999\ntick 0\n")
+    same(picture.width, 72 + 1200 + 120)
+    same(picture.texts[1], "Axis: ticks, from left to right; a column is of up to 10 ticks. A lane for each CPU.")
+    stand(picture, {
+        "t0 on CPU 0, lines 6 to 8, ticks 105 to 109": [(82, 83)], "t0 on CPU 0, lines 11 to 13, ticks 109 to 5000": [(82, 572)],
+        "2 items in queue 0, line 19, tick 11999": [(1271, 1272)], "1 item in queue 0, lines 17 to 19, ticks 5000 to 11999": [(572, 1271)],
+        "1 ready thread waits for CPU 0, lines 2 to 6, ticks 0 to 105": [(72, 82)],
+    }, {})
+    same(len(picture.edges("t0 on CPU 0.*")), 2)
+    same(labels(picture), list(range(0, 12_000, 1_000)))
+    same([x for x, _ in picture.places(r"tick \d+")], [72 + tick // 10 for tick in labels(picture)])
 
-    def test_ticks_that_descend_stand_still(self) -> None:
-        lines = ["tick 0", "# at 10", "tick 0", "# at 4", "tick 0", "# at 0", "# at 9", "tick 0", "# at 20", "tick 0", "# at 12", "tick 0"]
-        root = self.timed(ENCLAVE + "\n".join(lines) + "\n")
-        self.assertEqual([self.places(root, f"line {number}: tick 0")[0][0] for number in (2, 4, 6, 9, 11, 13)], [84, 324, 324, 324, 564, 564])
-        self.assertEqual(int(root.get("width")), max(720, 72 + 21 * 24 + 120))
 
-    def test_a_script_without_ticks_is_drawn_by_its_lines(self) -> None:
-        script = ENCLAVE + "create 0 3 ready\npublish 0\nconsume 0\ncommit 0 t0 1\ncrash 0\nblock 0 5\n"
-        untold = ["".join(f"{line}\n{it}\n" for it in script.splitlines()) for line in NO_TICKS]
-        for place, text in enumerate([script, script + "# at 5\n", *untold]):
-            with self.subTest(place=place):
-                by_lines, by_ticks = (self.run_program("draw", *flags, text=text).stdout for flags in ([], ["--time"]))
-                self.assertIn(f">{SINGLE_WORDS}</text>", by_lines)
-                self.assertEqual(by_ticks, by_lines.replace(f">{SINGLE_WORDS}</text>", f">{LINE_WORDS}</text>"))
-        many = ENCLAVE + "tick 0\n" * 2_000
-        by_lines, by_ticks = (self.run_program("draw", *flags, text=many).stdout for flags in ([], ["--time"]))
-        self.assertIn("; a column is of up to 2 commands. ", by_ticks)
-        self.assertEqual(by_ticks, by_lines.replace("Lines of the script from left", 'No line "# at TICK": lines from left'))
-        for flags in ([], ["--time"]):
-            self.assertEqual(self.title(self.parsed(self.run_program("draw", *flags, text="# at 5\n").stdout)), "commands 0, refused 0")
+def test_ticks_that_descend_stand_still() -> None:
+    lines = ["tick 0", "# at 10", "tick 0", "# at 4", "tick 0", "# at 0", "# at 9", "tick 0", "# at 20", "tick 0", "# at 12", "tick 0"]
+    picture = timed(ENCLAVE + "\n".join(lines) + "\n")
+    same([picture.places(f"line {number}: tick 0")[0][0] for number in (2, 4, 6, 9, 11, 13)], [84, 324, 324, 324, 564, 564])
+    same(picture.width, max(720, 72 + 21 * 24 + 120))
 
-    def test_by_lines_a_line_that_tells_a_tick_is_a_comment(self) -> None:
-        for place in range(20):
-            script = timed_script(drawn_script(place), place)
-            one, other = (self.run_program("draw", text=text) for text in (script, script.replace("# at", "# when")))
-            self.assertEqual((other.returncode, other.stdout, other.stderr), (one.returncode, one.stdout, one.stderr))
-            story, title = story_of(script, self.answers(script)), self.title(self.parsed(one.stdout))
-            self.assertGreater(story.commands, 0)
-            self.assertIn(f"commands {story.commands}, refused {story.refused}", title)
-            self.assertEqual(one.returncode, 1 if ", fault line " in title else 0)
 
-    def test_lines_that_tell_a_tick(self) -> None:
-        """A carriage return at the end is none of the line's; a zero, and the greatest number, are ticks."""
-        for told, tick in (("# at 5\r", 5), ("# at 0", 0), (f"# at {MOST_TICK}", MOST_TICK), (f"# at 3\n# at {MOST_TICK}0", 3)):
-            root = self.timed(f"{told}\n{ENCLAVE}tick 0\n")
-            self.assertEqual(words_in(root)[1].text, TICK_WORDS, told)
-            self.assertEqual(self.labels(root), [tick])
-            self.assertEqual(self.edges(root, f"1 item in queue 0, line {told.count(chr(10)) + 3}, tick {tick}"), [(72, 96)])
+def test_a_script_without_ticks_is_drawn_by_its_lines() -> None:
+    script = ENCLAVE + "create 0 3 ready\npublish 0\nconsume 0\ncommit 0 t0 1\ncrash 0\nblock 0 5\n"
+    untold = ["".join(f"{line}\n{it}\n" for it in script.splitlines()) for line in NO_TICKS]
+    for text in [script, script + "# at 5\n", *untold, ENCLAVE + "tick 0\n" * 2_000]:
+        by_lines, by_ticks = (rig.ask("draw", *flags, given=text).stdout for flags in ([], ["--time"]))
+        assert f">{SINGLE_WORDS}</text>" in by_lines or "; a column is of up to 2 commands. " in by_ticks
+        same(by_ticks, by_lines.replace("Lines of the script from left", 'No line "# at TICK": lines from left'), text)
+    for draws in (draw, timed):
+        same(draws("# at 5\n").title, "commands 0, refused 0")
 
-    def test_all_steps_in_one_tick(self) -> None:
-        """How things stand behind the last step is shown in the only column, and all marks stand there."""
-        script = "# at 1234\n" + ENCLAVE + "create 0 3 ready\npublish 0\nconsume 0\ncommit 0 t0 1\ncreate 0 3 ready\ndeliver 1 0\nsteal 1\ncrash 0\ntick 1\n"
-        root = self.timed(script)
-        ticks = ticks_of(script)
-        self.assertEqual(set(ticks.values()), {1234})
-        bars = [title for title in self.titles(root) if title.endswith(", tick 1234")]
-        self.assertEqual(sorted(bars), sorted([
-            "t0 on CPU 0, lines 6 to 11, tick 1234", "1 item in queue 0, lines 7 to 11, tick 1234", "1 item in queue 1, line 11, tick 1234",
-            "1 ready thread waits for CPU 0, lines 7 to 11, tick 1234", "CPU 1 idle while up to 1 ready thread waits, lines 7 to 11, tick 1234",
-        ]))
-        self.assertEqual({edges for bar in bars for edges in self.edges(root, re.escape(bar))}, {(72, 96)})
-        self.assertEqual(self.places(root, "crash 0, line 10"), [(84 - 7,)])
-        self.assertEqual(self.labels(root), [1234])
 
-    def test_the_greatest_tick(self) -> None:
-        root = self.timed(f"# at 0\n{ENCLAVE}create 0 3 ready\n# at {2**63}\npublish 0\n# at {MOST_TICK}\nconsume 0\ntick 1\n")
-        self.assertEqual(int(root.get("width")), 72 + 1200 + 120)
-        self.assertEqual(self.edges(root, f"1 item in queue 0, lines 3 to 7, ticks 0 to {MOST_TICK}"), [(72, 1271)])
-        self.assertEqual(self.edges(root, f"1 item in queue 1, line 8, tick {MOST_TICK}"), [(1271, 1272)])
-        self.assertEqual(self.places(root, "line 8: tick 1"), [(1271, 1271)])
-        self.axis_is_told_by_ticks(root, Axis([0, MOST_TICK], 2))
-        self.assertEqual(self.labels(root), [0, 5 * 10**18, 10**19, 15 * 10**18])
+def test_by_lines_a_line_that_tells_a_tick_is_a_comment() -> None:
+    for place in range(20):
+        script = timed_script(drawn_script(place), place)
+        one, other = (rig.ask("draw", given=text) for text in (script, script.replace("# at", "# when")))
+        same(outcome(other), outcome(one))
+        story, title = story_of(script), Picture(one.stdout).title
+        assert story.commands > 0 and f"commands {story.commands}, refused {story.refused}" in title
+        same(one.returncode, 1 if ", fault line " in title else 0)
 
-    def shown_by_ticks(self, script: str, part: Part = WHOLE) -> Counter[str]:
-        """Holds bars, marks and axis of a part of a script's picture against what the script answers and when. Counts what was held."""
-        watched, ticks = Watched(script), ticks_of(script)
-        steps = [step for step in watched.steps(self.answers(watched.script)) if part.has_line(step[0])]
-        root = self.parsed(self.run_program("draw", "--time", *part.flags(), text=script).stdout)
-        times = [ticks[number] for number, _ in steps]
-        if not times:
-            self.assertEqual(self.places(root, r"tick \d+"), [])
-            return Counter()
-        axis = Axis(times, watched.cpus)
-        drawn = timed_bars_in(root)
-        wanted = Counter({bar: count for bar, count in timed_bars(steps, watched.cpus, times, axis).items() if part.has_cpu(bar.cpu)})
-        self.assertEqual(drawn - wanted, Counter(), "drawn, and not so")
-        self.assertEqual(wanted - drawn, Counter(), "so, and not drawn")
-        self.axis_is_told_by_ticks(root, axis)
-        each = -(-axis.count // axis.columns)
-        scale = "; a column is of up to " + f"{each} ticks" if axis.count > axis.columns else ", a column for each tick"
-        self.assertEqual(words_in(root)[1].text, f"Axis: ticks, from left to right{scale}. A lane for each CPU.")
-        return Counter(bar.row for bar in drawn.elements()) + self.marks_by_ticks(root, script, axis, ticks, steps[0][0])
 
-    def marks_by_ticks(self, root: ElementTree.Element, script: str, axis: Axis, ticks: dict[int, int], first: int) -> Counter[str]:
-        """Holds the place of each mark of a single step against its tick, and that of each arrow against the tick at which it was sent, or where the part
-        begins whose first line this is."""
-        sent, marks = sent_in(script, self.answers(script)), Counter()
-        for element in root[1:]:
-            text = element[0].text or "" if element.tag in SHAPES else ""
-            crash, line = re.fullmatch(r"crash \d+, line (\d+)", text), re.match(r"(?:t\d+ (stolen|moved) from queue \d+ to queue \d+, )?line (\d+): (.*)", text)
-            if crash:
-                marks["crash"] += 1
-                self.assertEqual(x_of(element), (axis.middle(ticks[int(crash[1])]) - 7,), text)
-            elif line and line[3].startswith("deliver ") and ": refused" not in text:
-                self.delta_by_ticks(element, axis, ticks, int(line[2]), sent.get(int(line[3].split()[2])), first)
-                marks["delta"] += 1
-            elif line:
-                kind = line[1] or ("refused" if ": refused " in text else "post")
-                marks[kind] += 1
-                self.assertEqual({place + BEFORE.get(kind, 0) for place in x_of(element)}, {axis.middle(ticks[int(line[2])])}, text)
-        return marks
+def test_lines_that_tell_a_tick() -> None:
+    """A carriage return at the end is none of the line's; a zero, and the greatest number, are ticks."""
+    for told, tick in (("# at 5\r", 5), ("# at 0", 0), (f"# at {MOST_TICK}", MOST_TICK), (f"# at 3\n# at {MOST_TICK}0", 3)):
+        picture = timed(f"{told}\n{ENCLAVE}tick 0\n")
+        same((picture.texts[1], labels(picture)), (TICK_WORDS, [tick]), told)
+        same(picture.edges(f"1 item in queue 0, line {told.count(chr(10)) + 3}, tick {tick}"), [(72, 96)])
 
-    def delta_by_ticks(self, element: ElementTree.Element, axis: Axis, ticks: dict[int, int], line: int, sender: int | None, first: int) -> None:
-        at = axis.middle(ticks[line])
-        self.assertEqual(x_of(element)[-1], at)
-        if element.tag == SVG + "line" and sender is not None:
-            self.assertEqual(x_of(element)[0], axis.middle(ticks[sender]) if sender >= first else LEFT)
 
-    def with_ticks(self, place: int) -> str:
-        """A drawn script, most of whose commands are accepted, with lines that tell ticks."""
-        script = drawn_script(place)
-        for _ in range(MENDED):
-            script = mended(script, self.answers(script))
-        return f"# at {place % 3}\n" + timed_script(script, place)
+def test_all_steps_in_one_tick() -> None:
+    """How things stand behind the last step is shown in the only column, and all marks stand there."""
+    script = "# at 1234\n" + ENCLAVE + "create 0 3 ready\npublish 0\nconsume 0\ncommit 0 t0 1\ncreate 0 3 ready\ndeliver 1 0\nsteal 1\ncrash 0\ntick 1\n"
+    picture = timed(script)
+    same(set(ticks_of(script).values()), {1234})
+    bars = [title for title in picture.titles if title.endswith(", tick 1234")]
+    same(sorted(bars), sorted([
+        "t0 on CPU 0, lines 6 to 11, tick 1234", "1 item in queue 0, lines 7 to 11, tick 1234", "1 item in queue 1, line 11, tick 1234",
+        "1 ready thread waits for CPU 0, lines 7 to 11, tick 1234", "CPU 1 idle while up to 1 ready thread waits, lines 7 to 11, tick 1234",
+    ]))
+    same({edges for bar in bars for edges in picture.edges(re.escape(bar))}, {(72, 96)})
+    same(picture.places("crash 0, line 10"), [(84 - 7,)])
+    same(labels(picture), [1234])
 
-    def test_what_drawn_scripts_show_stands_by_its_ticks(self) -> None:
-        held: Counter[str] = Counter()
-        for place in range(DRAWN):
-            with self.subTest(place=place):
-                held += self.shown_by_ticks(self.with_ticks(place))
-        for kind in (*ROWS, "crash", "stolen", "moved", "refused", "post", "delta"):
-            self.assertGreater(held[kind], 15, f"hardly any picture shows this: {kind}")
 
-    def test_parts_of_drawn_scripts_go_from_their_first_tick_to_their_last(self) -> None:
-        held: Counter[str] = Counter()
-        for place in range(DRAWN):
-            script = self.with_ticks(place)
-            part = drawn_part(place, Watched(script).cpus, script.count("\n"))
-            with self.subTest(place=place, part=part):
-                held += self.shown_by_ticks(script, part)
-        for row in ROWS:
-            self.assertGreater(held[row], 10, f"hardly any part has a bar of the row {row}")
+def test_the_greatest_tick() -> None:
+    picture = timed(f"# at 0\n{ENCLAVE}create 0 3 ready\n# at {2**63}\npublish 0\n# at {MOST_TICK}\nconsume 0\ntick 1\n")
+    same(picture.width, 72 + 1200 + 120)
+    stand(picture, {f"1 item in queue 0, lines 3 to 7, ticks 0 to {MOST_TICK}": [(72, 1271)], f"1 item in queue 1, line 8, tick {MOST_TICK}": [(1271, 1272)]},
+          {"line 8: tick 1": [(1271, 1271)]})
+    axis_is_told_by_ticks(picture, Axis([0, MOST_TICK], 2))
+    same(labels(picture), [0, 5 * 10**18, 10**19, 15 * 10**18])
 
-    def test_a_part_by_hand_goes_from_its_first_tick_to_its_last(self) -> None:
-        script = "enclave 3 8 100 16 1000\n# at 100\ncreate 0 7 ready\npublish 0\nconsume 0\n# at 110\ntick 1\n# at 112\ndeliver 2 0\nsteal 2\n# at 130\ntick 2\n"
-        root = self.timed(script, flags=("--lines", "7-10", "--cpus", "1-2"))
-        self.assertEqual(self.labels(root), [110])
-        self.assertEqual(self.edges(root, "1 item in queue 1, lines 7 to 10, ticks 110 to 112"), [(72, 144)])
-        self.assertEqual(self.places(root, "t0 stolen from queue 0 to queue 2, line 10: steal 2"), [(132 - 3,)])
-        self.assertEqual(self.places(root, "line 9: deliver 2 0"), [(72, 132), (132,)])
-        self.assertIn("Only a part of it: CPUs 1 to 2, lines 7 to 10.", [words.text for words in words_in(root)])
 
-    def test_examples_and_loads_of_the_lab_stand_by_their_ticks(self) -> None:
-        scripts = {file.name: file.read_text() for file in sorted((ROOT / "examples/lab/worked").glob("*.script"))}
-        scripts |= {file.name: timed_script(front_of(file.read_text(), MOST_SINGLE - 100), place) for place, file in enumerate(SCRIPTS)}
-        for name in ("shell-pipelines", "python-pool"):
-            scripts[name] = self.recorded(name)
-        self.assertGreater(len(scripts), 15)
-        for name, script in scripts.items():
-            with self.subTest(name=name):
-                self.assertGreater(self.shown_by_ticks(front_of(script, MOST_SINGLE)).total(), 0)
+def shown_by_ticks(script: str, part: Part = WHOLE) -> Counter[str]:
+    """Holds bars, marks and axis of a part of a script's picture against what the script answers and when. Counts what was held."""
+    (cpus, every), ticks = steps_of(script), ticks_of(script)
+    steps = [step for step in every if part.has_line(step[0])]
+    picture = Picture(rig.ask("draw", "--time", *part.flags(), given=script).stdout)
+    times = [ticks[number] for number, _ in steps]
+    if not times:
+        same(picture.places(r"tick \d+"), [])
+        return Counter()
+    axis = Axis(times, cpus)
+    drawn = Counter(Timed(*bar, told) for bar, told in bars_told(picture, f", {TICKS}"))
+    are_one(drawn, Counter({bar: count for bar, count in timed_bars(steps, cpus, times, axis).items() if part.has_cpu(bar.cpu)}))
+    axis_is_told_by_ticks(picture, axis)
+    each = -(-axis.count // axis.columns)
+    scale = "; a column is of up to " + f"{each} ticks" if axis.count > axis.columns else ", a column for each tick"
+    same(picture.texts[1], f"Axis: ticks, from left to right{scale}. A lane for each CPU.")
+    return Counter(bar.row for bar in drawn.elements()) + marks_by_ticks(picture, script, axis, ticks, steps[0][0])
 
-    def recorded(self, name: str) -> str:
-        """A recording as a script that tells microseconds."""
-        with tempfile.TemporaryDirectory() as folder:
-            made = pathlib.Path(folder) / "made.script"
-            tool = [sys.executable, str(ROOT / "tools/from-perf-sched"), "--times", str(ROOT / f"examples/recordings/{name}.txt"), "-o", str(made)]
-            subprocess.run(tool, check=True, capture_output=True)
-            return made.read_text()
 
-    def test_a_script_of_the_lab_is_piped(self) -> None:
-        load = str(ROOT / "examples/lab/worked/2-steals.toml")
-        made = self.run_program("lab", load, "--script", "steals")
-        self.assertEqual((made.returncode, made.stderr), (0, ""))
-        self.assertEqual(made.stdout, (ROOT / "examples/lab/worked/2-steals.steals.script").read_text())
-        self.assertGreater(self.shown_by_ticks(front_of(made.stdout, MOST_SINGLE)).total(), 0)
+def marks_by_ticks(picture: Picture, script: str, axis: Axis, ticks: dict[int, int], first: int) -> Counter[str]:
+    """Holds the place of each mark of a single step against its tick, and that of each arrow against the tick at which it was sent, or where the part
+    begins whose first line this is."""
+    told = ((number, re.fullmatch(r"ok d(\d+) items \d+", answer)) for number, _, answer in answered(script, answers_to(script)))
+    sent, marks = {int(delta[1]): number for number, delta in told if delta}, Counter[str]()
+    for text, element in picture.shapes:
+        crash = re.fullmatch(r"crash \d+, line (\d+)", text)
+        line = re.match(r"(?:t\d+ (stolen|moved) from queue \d+ to queue \d+, )?line (\d+): (.*)", text)
+        if crash:
+            marks["crash"] += 1
+            same(x_of(element), (axis.middle(ticks[int(crash[1])]) - 7,), text)
+        elif line and line[3].startswith("deliver ") and ": refused" not in text:
+            delta_by_ticks(element, axis, ticks, int(line[2]), sent.get(int(line[3].split()[2])), first)
+            marks["delta"] += 1
+        elif line:
+            kind = line[1] or ("refused" if ": refused " in text else "post")
+            marks[kind] += 1
+            same({place + BEFORE.get(kind, 0) for place in x_of(element)}, {axis.middle(ticks[int(line[2])])}, text)
+    return marks
 
-    def test_many_steps_over_many_ticks(self) -> None:
-        """Of 20,000 commands over 10^9 ticks each of 1,200 columns tells who ran in it, and for how much of its ticks."""
-        for cpus, gap in ((2, 300_000), (2, 20), (8, 1), (64, 700)):
-            with self.subTest(cpus=cpus, gap=gap):
-                script = self.spread(self.many(cpus, 20_000), gap)
-                root = self.timed(script)
-                ticks, story = ticks_of(script), story_of(script, self.answers(script))
-                axis = Axis(list(ticks.values()), cpus)
-                self.assertEqual(self.title(root), f"commands {story.commands}, refused {story.refused}")
-                self.assertEqual(self.runs_in(root, axis), self.runs_by_column(script, axis, ticks, cpus))
-                self.assertEqual(self.sum_of(root, r"\d+ posts? to queue .*"), story.posted)
-                self.assertEqual(self.sum_of(root, r"\d+ deltas? taken in by agent .*"), story.taken_in)
-                self.assertEqual(self.counts_in(root, axis), self.posts_by_column(script, axis, ticks))
-                self.axis_is_told_by_ticks(root, axis)
-                self.assertLess(int(root.get("width")), 1400)
 
-    def test_parts_of_many_steps_over_many_ticks(self) -> None:
-        """A part of more than 1,000 commands goes from its first tick to its last; who ran when it began is shown from there on."""
-        script = self.spread(self.many(4, 12_000), 5_000)
-        ticks = ticks_of(script)
-        for first, last in ((1, 9_000), (7_001, 14_000), (15_000, 4294967295)):
-            with self.subTest(first=first):
-                part = {number: tick for number, tick in ticks.items() if first <= number <= last}
-                self.assertGreater(len(part), 1_000)
-                axis = Axis(list(part.values()), 4)
-                shown = self.runs_in(self.timed(script, flags=("--lines", f"{first}-{last}")), axis)
-                self.assertEqual(shown, self.runs_by_column(script, axis, part, 4))
-                some = self.runs_in(self.timed(script, flags=("--lines", f"{first}-{last}", "--cpus", "1-2")), axis)
-                self.assertEqual(some, {place: what for place, what in shown.items() if place[0] in (1, 2)})
+def delta_by_ticks(element: Element, axis: Axis, ticks: dict[int, int], line: int, sender: int | None, first: int) -> None:
+    at = axis.middle(ticks[line])
+    same(x_of(element)[-1], at)
+    if element.tag == SVG + "line" and sender is not None:
+        same(x_of(element)[0], axis.middle(ticks[sender]) if sender >= first else LEFT)
 
-    def spread(self, script: str, gap: int) -> str:
-        """The script with a tick in front of each line but the first, at gaps by chance."""
-        chance, tick, lines = random.Random(f"spread {gap}"), 5, []
-        for line in script.splitlines():
-            tick += chance.choice([0, 0, chance.randint(0, gap)])
-            lines += [f"# at {tick}", line]
-        return "\n".join(lines) + "\n"
 
-    def runs_by_column(self, script: str, axis: Axis, ticks: dict[int, int], cpus: int) -> dict[tuple[int, int], str]:
-        """Who ran at each CPU in each column: a thread that did in each of its ticks, or the share of them in fifths. What came before the commands that
-        have a tick was before the first tick, and what comes behind them is left out."""
-        begins = [-(-column * axis.count // axis.columns) for column in range(axis.columns + 1)]
-        busy: dict[tuple[int, int], Counter[int]] = {}
-        on: dict[int, tuple[int, int]] = {}
+def with_ticks(place: int) -> str:
+    """A drawn script, most of whose commands are accepted, with lines that tell ticks."""
+    return f"# at {place % 3}\n" + timed_script(drawn_script(place), place)
 
-        def left(cpu: int, until: int) -> None:
-            thread, since = on.pop(cpu)
-            column = axis.column(since)
-            while column < axis.columns and begins[column] < until - axis.first:
-                there = min(until - axis.first, begins[column + 1]) - max(since - axis.first, begins[column])
-                if there:
-                    busy.setdefault((cpu, column), Counter())[thread] += there
-                column += 1
 
-        for number, words, answer in answered(script, self.answers(script)):
-            if number > max(ticks):
-                break
-            if words[0] == "commit" and answer.startswith("ok"):
-                on[int(words[1])] = (int(words[2][1:]), ticks.get(number, axis.first))
-            elif words[0] == "block" and answer.startswith("ok"):
-                left(int(words[1]), ticks.get(number, axis.first))
-        for cpu in list(on):
-            left(cpu, axis.last + 1)
-        shown = {}
-        for (cpu, column), threads in busy.items():
-            length = begins[column + 1] - begins[column]
-            if len(threads) == 1 and threads.total() == length:
-                shown[cpu, column] = f"t{next(iter(threads))}"
-            else:
-                shown[cpu, column] = f"{20 * max(1, min(5, (10 * threads.total() + length) // (2 * length)))} %"
-        return shown
+def test_what_drawn_scripts_show_stands_by_its_ticks() -> None:
+    shown_often(shown_by_ticks, with_ticks, DRAWN, 15, (*ROWS, "crash", "stolen", "moved", "refused", "post", "delta"), False)
 
-    def runs_in(self, root: ElementTree.Element, axis: Axis) -> dict[tuple[int, int], str]:
-        """Who ran at each CPU in each column, as the picture shows it."""
-        shown: dict[tuple[int, int], str] = {}
-        for element in root[1:]:
-            text = element[0].text or "" if element.tag in SHAPES else ""
-            thread, share = re.match(r"(t\d+) on CPU (\d+), ", text), re.match(r"CPU (\d+) busy about (\d+ %), ", text)
-            if thread or share:
-                cpu, what = (int(thread[2]), thread[1]) if thread else (int(share[1]), share[2])
-                left, right = ((int(edge) - LEFT) / axis.wide for edge in edges_of(element))
-                self.assertTrue(left.is_integer() and right.is_integer() and left < right)
-                for column in range(int(left), int(right)):
-                    self.assertNotIn((cpu, column), shown)
-                    shown[cpu, column] = what
-        return shown
 
-    def posts_by_column(self, script: str, axis: Axis, ticks: dict[int, int]) -> Counter[tuple[int, int]]:
-        """How many posts to each queue there are up to the end of each run of columns: how many in which column."""
-        posts: Counter[tuple[int, int]] = Counter()
-        for number, _, answer in answered(script, self.answers(script)):
-            posted = re.fullmatch(r"ok (?:t\d+ n\d+|-) q(\d+) a\d+ wake .*", answer)
-            if posted:
-                posts[int(posted[1]), axis.column(ticks[number])] += 1
-        return self.in_runs(posts)
+def test_parts_of_drawn_scripts_go_from_their_first_tick_to_their_last() -> None:
+    shown_often(shown_by_ticks, with_ticks, DRAWN, 10, ROWS, True)
 
-    def in_runs(self, counts: Counter[tuple[int, int]]) -> Counter[tuple[int, int]]:
-        """Counts of columns that stand side by side, all of which have some, together at the first of them."""
-        runs: Counter[tuple[int, int]] = Counter()
-        for queue, column in counts:
-            first = column
-            while counts[queue, first - 1]:
-                first -= 1
-            runs[queue, first] += counts[queue, column]
-        return runs
 
-    def counts_in(self, root: ElementTree.Element, axis: Axis) -> Counter[tuple[int, int]]:
-        """The posts that the picture's strips tell, those of strips side by side together at the first column."""
-        strips: dict[tuple[int, int], tuple[int, int]] = {}
-        for element in root[1:]:
-            told = re.match(r"(\d+) posts? to queue (\d+), ", element[0].text or "") if element.tag in SHAPES else None
-            if told:
-                left, right = (round((edge - LEFT) / axis.wide) for edge in edges_of(element))
-                strips[int(told[2]), left] = (right, int(told[1]))
-        ends = {(queue, right): (queue, left) for (queue, left), (right, _) in strips.items()}
-        runs: Counter[tuple[int, int]] = Counter()
-        for place, (_, count) in strips.items():
-            while place in ends:
-                place = ends[place]
-            runs[place] += count
-        return runs
+def test_a_part_by_hand_goes_from_its_first_tick_to_its_last() -> None:
+    script = "enclave 3 8 100 16 1000\n# at 100\ncreate 0 7 ready\npublish 0\nconsume 0\n# at 110\ntick 1\n# at 112\ndeliver 2 0\nsteal 2\n# at 130\ntick 2\n"
+    picture = timed(script, flags=("--lines", "7-10", "--cpus", "1-2"))
+    same(labels(picture), [110])
+    stand(picture, {"1 item in queue 1, lines 7 to 10, ticks 110 to 112": [(72, 144)]},
+          {"t0 stolen from queue 0 to queue 2, line 10: steal 2": [(132 - 3,)], "line 9: deliver 2 0": [(72, 132), (132,)]})
+    assert "Only a part of it: CPUs 1 to 2, lines 7 to 10." in picture.texts
 
-    def test_many_steps_in_one_tick(self) -> None:
-        for tick in (0, 77, MOST_TICK):
-            root = self.timed(f"# at {tick}\n{self.many(2, 3_000)}tick 0\n")
-            self.assertEqual(len(self.edges(root, rf".* in queue 0, .*tick {tick}")), 1)
-            self.assertEqual(self.labels(root), [tick])
-            for left, right in self.edges(root, r".*, tick \d+"):
-                self.assertEqual((left, right), (72, 96))
 
-    def test_many_moves_are_drawn_over_all_ticks(self) -> None:
-        lines = ["enclave 2 4096 100000 4096 100000", "create 0 3 ready", "publish 0", "consume 0"]
-        for place in range(1_800):
-            lines += [f"# at {place * place}", f"associate t0 {(place + 1) % 2} 1"]
-        script = "\n".join(lines) + "\n"
-        root, ticks = self.timed(script), ticks_of(script)
-        axis = Axis(list(ticks.values()), 2)
-        arrows = [(x_of(it)[0], int(re.search(r"line (\d+)", it[0].text)[1])) for it in root[1:] if it.tag in SHAPES and (it[0].text or "").startswith("t0 moved")]
-        self.assertEqual(len(arrows), 500)
-        self.assertEqual([x for x, _ in arrows], [axis.middle(ticks[number]) - 1 for _, number in arrows])
-        self.assertEqual(self.sum_of(root, r"\d+ moves? of threads to queue .*"), 1_800)
+def test_examples_and_loads_of_the_lab_stand_by_their_ticks() -> None:
+    scripts = {file.name: file.read_text() for file in sorted((ROOT / "examples/lab/worked").glob("*.script"))}
+    scripts |= {file.name: timed_script(front_of(file.read_text(), MOST_SINGLE - 100), place) for place, file in enumerate(SCRIPTS)}
+    for name in ("shell-pipelines", "python-pool"):
+        scripts[name] = rig.run(ROOT / "tools/from-perf-sched", "--times", ROOT / f"examples/recordings/{name}.txt", check=True).stdout
+    assert len(scripts) > 15
+    for name, script in scripts.items():
+        with rig.about(name):
+            assert shown_by_ticks(front_of(script, MOST_SINGLE)).total() > 0
 
-    def test_time_goes_with_the_other_flags(self) -> None:
-        script = "# at 5\n" + ENCLAVE + "# at 9\ntick 0\n"
-        wanted = self.run_program("draw", "--time", "--lines", "4", text=script)
-        self.assertEqual(self.labels(self.parsed(wanted.stdout)), [9])
-        self.assertIn("Only a part of it: line 4.", wanted.stdout)
-        for words in (["--time", "--lines", "4"], ["--lines=4", "--time"], ["--time", "-", "--lines", "4-4"]):
-            run = self.run_program("draw", *words, text=script)
-            self.assertEqual((run.returncode, run.stdout, run.stderr), (0, wanted.stdout, ""), words)
-        for words in (["draw", "--time", "--time"], ["draw", "--time=1"], ["replay", "--time"], ["draw", "--times"]):
-            run = self.run_program(*words, text=ENCLAVE)
-            self.assertEqual((run.returncode, run.stdout, run.stderr), (2, "", "pc-sim: bad command line\n"), words)
 
-    def test_a_fault_stands_behind_the_last_tick(self) -> None:
-        run = self.run_program("draw", "--time", text=ENCLAVE + "# at 9\ntick 0\n# at 50\nwalk\n# at 99\n")
-        self.assertEqual((run.returncode, run.stderr), (1, "pc-sim: a line of the script is no command, and the picture ends there\n"))
-        root = self.parsed(run.stdout)
-        self.assertEqual(self.title(root), "commands 2, refused 0, fault line 5")
-        self.assertEqual(self.places(root, "fault line 5"), [(72 + 10 * 24 + 3,) * 2])
+def test_a_script_of_the_lab_is_piped() -> None:
+    worked = ROOT / "examples/lab/worked"
+    made = good(rig.ask("lab", worked / "2-steals.toml", "--script", "steals"))
+    same(made, (worked / "2-steals.steals.script").read_text())
+    assert shown_by_ticks(front_of(made, MOST_SINGLE)).total() > 0
+
+
+def test_many_steps_over_many_ticks() -> None:
+    """Of 20,000 commands over 10^9 ticks each of 1,200 columns tells who ran in it, and for how much of its ticks."""
+    for cpus, gap in ((2, 300_000), (2, 20), (8, 1), (64, 700)):
+        with rig.about(cpus, gap):
+            script = spread(many(cpus, 20_000), gap)
+            picture = timed(script)
+            ticks, story = ticks_of(script), story_of(script)
+            axis = Axis(list(ticks.values()), cpus)
+            same(picture.title, story.heading)
+            same(runs_in(picture, axis), runs_by_column(script, axis, ticks, cpus))
+            same(picture.sum_of(r"\d+ posts? to queue .*"), story.posted)
+            same(picture.sum_of(r"\d+ deltas? taken in by agent .*"), story.done["deliver"])
+            same(counts_in(picture, axis), posts_by_column(script, axis, ticks))
+            axis_is_told_by_ticks(picture, axis)
+            assert picture.width < 1400
+
+
+def test_parts_of_many_steps_over_many_ticks() -> None:
+    """A part of more than 1,000 commands goes from its first tick to its last; who ran when it began is shown from there on."""
+    script = spread(many(4, 12_000), 5_000)
+    ticks = ticks_of(script)
+    for first, last in ((1, 9_000), (7_001, 14_000), (15_000, 4294967295)):
+        with rig.about(first):
+            part = {number: tick for number, tick in ticks.items() if first <= number <= last}
+            assert len(part) > 1_000
+            axis = Axis(list(part.values()), 4)
+            shown = runs_in(timed(script, flags=("--lines", f"{first}-{last}")), axis)
+            same(shown, runs_by_column(script, axis, part, 4))
+            some = runs_in(timed(script, flags=("--lines", f"{first}-{last}", "--cpus", "1-2")), axis)
+            same(some, {place: what for place, what in shown.items() if place[0] in (1, 2)})
+
+
+def spread(script: str, gap: int) -> str:
+    """The script with a tick in front of each line but the first, at gaps by chance."""
+    chance, tick, lines = random.Random(f"spread {gap}"), 5, []
+    for line in script.splitlines():
+        tick += chance.choice([0, 0, chance.randint(0, gap)])
+        lines += [f"# at {tick}", line]
+    return "\n".join(lines) + "\n"
+
+
+def runs_by_column(script: str, axis: Axis, ticks: dict[int, int], cpus: int) -> dict[tuple[int, int], str]:
+    """Who ran at each CPU in each column: a thread that did in each of its ticks, or the share of them in fifths. What came before the commands that
+    have a tick was before the first tick, and what comes behind them is left out."""
+    begins = [-(-column * axis.count // axis.columns) for column in range(axis.columns + 1)]
+    busy: dict[tuple[int, int], Counter[int]] = {}
+    on: dict[int, tuple[int, int]] = {}
+
+    def left(cpu: int, until: int) -> None:
+        thread, since = on.pop(cpu)
+        column = axis.column(since)
+        while column < axis.columns and begins[column] < until - axis.first:
+            there = min(until - axis.first, begins[column + 1]) - max(since - axis.first, begins[column])
+            if there:
+                busy.setdefault((cpu, column), Counter())[thread] += there
+            column += 1
+
+    for number, words, answer in answered(script, answers_to(script)):
+        if number > max(ticks):
+            break
+        if words[0] == "commit" and answer.startswith("ok"):
+            on[int(words[1])] = (int(words[2][1:]), ticks.get(number, axis.first))
+        elif words[0] == "block" and answer.startswith("ok"):
+            left(int(words[1]), ticks.get(number, axis.first))
+    for cpu in list(on):
+        left(cpu, axis.last + 1)
+    shown = {}
+    for (cpu, column), threads in busy.items():
+        length = begins[column + 1] - begins[column]
+        if len(threads) == 1 and threads.total() == length:
+            shown[cpu, column] = f"t{next(iter(threads))}"
+        else:
+            shown[cpu, column] = f"{20 * max(1, min(5, (10 * threads.total() + length) // (2 * length)))} %"
+    return shown
+
+
+def runs_in(picture: Picture, axis: Axis) -> dict[tuple[int, int], str]:
+    """Who ran at each CPU in each column, as the picture shows it."""
+    shown: dict[tuple[int, int], str] = {}
+    for text, element in picture.shapes:
+        thread, share = re.match(r"(t\d+) on CPU (\d+), ", text), re.match(r"CPU (\d+) busy about (\d+ %), ", text)
+        if thread or share:
+            cpu, what = (int(thread[2]), thread[1]) if thread else (int(share[1]), share[2])
+            left, right = ((int(edge) - LEFT) / axis.wide for edge in edges_of(element))
+            assert left.is_integer() and right.is_integer() and left < right
+            for column in range(int(left), int(right)):
+                assert (cpu, column) not in shown
+                shown[cpu, column] = what
+    return shown
+
+
+def posts_by_column(script: str, axis: Axis, ticks: dict[int, int]) -> Counter[tuple[int, int]]:
+    """How many posts to each queue there are up to the end of each run of columns: how many in which column."""
+    posts: Counter[tuple[int, int]] = Counter()
+    for number, _, answer in answered(script, answers_to(script)):
+        posted = re.fullmatch(r"ok (?:t\d+ n\d+|-) q(\d+) a\d+ wake .*", answer)
+        if posted:
+            posts[int(posted[1]), axis.column(ticks[number])] += 1
+    return in_runs(posts)
+
+
+def in_runs(counts: Counter[tuple[int, int]]) -> Counter[tuple[int, int]]:
+    """Counts of columns that stand side by side, all of which have some, together at the first of them."""
+    runs: Counter[tuple[int, int]] = Counter()
+    for queue, column in counts:
+        first = column
+        while counts[queue, first - 1]:
+            first -= 1
+        runs[queue, first] += counts[queue, column]
+    return runs
+
+
+def counts_in(picture: Picture, axis: Axis) -> Counter[tuple[int, int]]:
+    """The posts that the picture's strips tell, those of strips side by side together at the first column."""
+    strips: dict[tuple[int, int], tuple[int, int]] = {}
+    for told, element in picture.found(r"(\d+) posts? to queue (\d+), .*"):
+        left, right = (round((edge - LEFT) / axis.wide) for edge in edges_of(element))
+        strips[int(told[2]), left] = (right, int(told[1]))
+    ends = {(queue, right): (queue, left) for (queue, left), (right, _) in strips.items()}
+    runs: Counter[tuple[int, int]] = Counter()
+    for place, (_, count) in strips.items():
+        while place in ends:
+            place = ends[place]
+        runs[place] += count
+    return runs
+
+
+def test_many_steps_in_one_tick() -> None:
+    for tick in (0, 77, MOST_TICK):
+        picture = timed(f"# at {tick}\n{many(2, 3_000)}tick 0\n")
+        same(len(picture.edges(rf".* in queue 0, .*tick {tick}")), 1)
+        same((labels(picture), set(picture.edges(r".*, tick \d+"))), ([tick], {(72, 96)}))
+
+
+def test_many_moves_are_drawn_over_all_ticks() -> None:
+    lines = ["enclave 2 4096 100000 4096 100000", "create 0 3 ready", "publish 0", "consume 0"]
+    for place in range(1_800):
+        lines += [f"# at {place * place}", f"associate t0 {(place + 1) % 2} 1"]
+    script = "\n".join(lines) + "\n"
+    picture, ticks = timed(script), ticks_of(script)
+    axis = Axis(list(ticks.values()), 2)
+    arrows = [(x_of(it)[0], int(found[1])) for found, it in picture.found(r"t0 moved.*, line (\d+).*")]
+    same(len(arrows), 500)
+    same([x for x, _ in arrows], [axis.middle(ticks[number]) - 1 for _, number in arrows])
+    same(picture.sum_of(r"\d+ moves? of threads to queue .*"), 1_800)
+
+
+def test_time_goes_with_the_other_flags() -> None:
+    script = "# at 5\n" + ENCLAVE + "# at 9\ntick 0\n"
+    wanted = rig.ask("draw", "--time", "--lines", "4", given=script)
+    same(labels(Picture(wanted.stdout)), [9])
+    assert "Only a part of it: line 4." in wanted.stdout
+    for words in (["--time", "--lines", "4"], ["--lines=4", "--time"], ["--time", "-", "--lines", "4-4"]):
+        same(good(rig.ask("draw", *words, given=script)), wanted.stdout, words)
+    for line in ("draw --time --time", "draw --time=1", "replay --time", "draw --times"):
+        refused_words(*line.split())
+
+
+def test_a_fault_stands_behind_the_last_tick() -> None:
+    status, text, errors = outcome(rig.ask("draw", "--time", given=ENCLAVE + "# at 9\ntick 0\n# at 50\nwalk\n# at 99\n"))
+    same((status, errors), (1, "pc-sim: a line of the script is no command, and the picture ends there\n"))
+    picture = Picture(text)
+    same((picture.title, picture.places("fault line 5")), ("commands 2, refused 0, fault line 5", [(72 + 10 * 24 + 3,) * 2]))

@@ -1,18 +1,16 @@
 #!/usr/bin/env python3
 """Tests that tests/wrong_bodies.py can fail, over a made-up crate and a stand-in for the kit.
-
-The last line is 'N passed, M failed'.
 """
 from __future__ import annotations
 
+import json
 import os
 import pathlib
-import subprocess
 import sys
-import tempfile
-import unittest
 
-ROOT = pathlib.Path(__file__).resolve().parent.parent
+import rig
+from rig import ROOT, same
+
 SOURCE = """\
 //! Counts.
 
@@ -83,7 +81,7 @@ for holds, lines in said.items():
     if there in text and not (absent and absent in text):
         print(lines)
 """
-# What the kit knows of the crate.
+# What the kit knows of the it.
 RTLIB = """\
 import pathlib
 
@@ -128,11 +126,9 @@ SAYS = {
 }
 
 
-class WrongBodies(unittest.TestCase):
-    def setUp(self) -> None:
-        folder = tempfile.TemporaryDirectory()
-        self.addCleanup(folder.cleanup)
-        self.root = pathlib.Path(folder.name)
+class WrongBodies:
+    def __init__(self, root: pathlib.Path) -> None:
+        self.root = root
         self.bodies = self.root / "crates/low/wrong-bodies"
         for it in (self.bodies, self.root / "crates/low/src", self.root / "crates/low/out", self.root / "bin", self.root / "tests"):
             it.mkdir(parents=True)
@@ -155,158 +151,169 @@ class WrongBodies(unittest.TestCase):
         (self.root / "tests/wrong_bodies.txt").write_text("".join(f"low/{name}: {row}\n" for name, row in rows.items()))
 
     def put_says(self, says: dict[str, str]) -> None:
-        import json
-
         (self.root / "says").write_text(json.dumps(says))
 
     def put_alone(self, text: str, other: str, said: str) -> None:
         """What is said of a text where another is not there."""
-        import json
-
         says = json.loads((self.root / "says").read_text())
         self.put_says(says | {f"{text}|{other}": said})
 
     def run_it(self, *words: str, path: str = "") -> tuple[int, list[str]]:
-        command = [sys.executable, str(ROOT / "tests/wrong_bodies.py"), "--root", str(self.root), *words]
         path = path or f"{self.root / 'bin'}:{os.environ['PATH']}"
-        ran = subprocess.run(command, capture_output=True, text=True, env={**os.environ, "PATH": path}, timeout=60)
+        ran = rig.run(sys.executable, ROOT / "tests/wrong_bodies.py", "--root", self.root, *words, env={**os.environ, "PATH": path})
         return ran.returncode, (ran.stdout + ran.stderr).splitlines()
 
     def fails_by(self, words: str) -> None:
         status, lines = self.run_it()
-        self.assertEqual(status, 1, lines)
-        self.assertTrue(any(words in line for line in lines), lines)
-
-    def test_each_that_is_refused_for_its_goal_passes(self) -> None:
-        self.assertEqual(self.run_it(), (0, ["4 passed, 0 failed"]))
+        same(status, 1, lines)
+        assert any(words in line for line in lines), lines
 
     def asked(self) -> list[str]:
         """The functions that each check was asked for."""
         return [line.partition(": ")[0] for line in (self.root / "says.asked").read_text().splitlines()]
 
-    def test_those_that_change_one_function_stand_in_copies_of_it(self) -> None:
-        self.run_it()
-        self.assertEqual(self.asked(), ["count::Count::none count::CountFrom::from count::more count::more_copied_1"])
 
-    def test_those_that_change_one_function_of_a_trait_are_tried_one_after_another(self) -> None:
-        self.put_edits({"from-counts-none": "old: told.len()\nnew: told.none()"})
-        self.put_table({"from-counts-none": TABLE["from-counts-twice"]} | TABLE)
-        self.put_says(SAYS | {"told.none()": SAYS["told.len() * 2"]})
-        self.assertEqual(self.run_it(), (0, ["5 passed, 0 failed"]))
-        self.assertEqual(self.asked(), ["count::Count::none count::CountFrom::from count::more", "count::CountFrom::from count::more"])
-
-    def test_other_functions_have_no_bodies(self) -> None:
-        self.run_it()
-        text = (self.root / "says.text").read_text()
-        emptied = SOURCE.replace("    if count > 9 {\n        return 9;\n    }\n    count - 1\n", "unreachable!()\n")
-        emptied = emptied.replace("        self.count() == 0\n", "unreachable!()\n")
-        changed = emptied.replace("value: 0", "value: 1").replace("told.len()", "told.len() * 2").replace("count + 1", "count")
-        copy = "\npub const fn more_copied_1(count: u64) -> u64\n    ensures { result }\n{\n    count + 2\n}\n"
-        self.assertEqual(text, changed.replace("    count\n}\n", f"    count\n}}\n{copy}"))
-
-    def test_what_other_functions_promise_is_taken_as_proved(self) -> None:
-        import json
-
-        made = self.root / "crates/low/out/rlib/low.rlib/toolchain"
-        made.mkdir(parents=True)
-        paths = ("count/fewer", "count/more", "count/CountFrom/from", "count/gone")
-        (made / "made.json").write_text("".join(json.dumps([f"proofs/{path}/Proof", 1]) + "\n" for path in paths))
-        for path in ("count/fewer", "count/more"):
-            (self.root / "crates/low/proofs" / path).mkdir(parents=True)
-            text = f"use Rattle.low.proofs.{path.replace('/', '.')}.Goals as goal\n"
-            (self.root / "crates/low/proofs" / path / "Answers.antt").write_text(text)
-        self.run_it()
-        proofs = json.loads((self.root / "says.proofs").read_text())
-        self.assertEqual(sorted(proofs), ["proofs/count/fewer/Proof.antt", "proofs/count/more/Answers.antt",
-                                          "proofs/count/more_copied_1/Answers.antt"])
-        self.assertEqual(proofs["proofs/count/more_copied_1/Answers.antt"], "use Rattle.low.proofs.count.more_copied_1.Goals as goal\n")
-        self.assertEqual(proofs["proofs/count/fewer/Proof.antt"], "use Rattle.low.proofs.count.fewer.Statement.{statement}\n\n"
-                         "pub fewer_spec : {M : Type 1} → statement M\nfewer_spec = ?\n")
-        self.assertEqual((self.root / "crates/low/proofs/count/fewer/Answers.antt").read_text(),
-                         "use Rattle.low.proofs.count.fewer.Goals as goal\n")
-
-    def test_one_that_a_check_of_many_does_not_tell_is_tried_alone(self) -> None:
-        quiet = {"value: 1": "fn low::count::Count::none: no proof: it calls `low::count::more`, which is not proved"}
-        self.put_says({key: said for key, said in SAYS.items() if key != "value: 1"} | quiet)
-        self.put_alone("value: 1", "told.len() * 2", SAYS["value: 1"])
-        self.assertEqual(self.run_it(), (0, ["4 passed, 0 failed"]))
-        self.assertEqual(self.asked()[1:], ["count::Count::none"])
-
-    def test_a_goal_in_a_note_is_of_the_function_behind_it(self) -> None:
-        note = "note: src/count.rt:12:5: it is not proved that what the function ensures holds when it returns (`{}`); `search` gave up"
-        told = "\n".join([note.format("returns-clause-fresh"), "fn low::count::Count::none: not proved", "fn low::count::more: not proved"])
-        self.put_says(SAYS | {"value: 1": told})
-        self.assertEqual(self.run_it(), (0, ["4 passed, 0 failed"]))
-        self.put_table(TABLE | {"none-is-one": "count::more returns-clause-fresh"})
-        self.fails_by("low/none-is-one: refused for")
-
-    def test_one_that_is_proved_fails(self) -> None:
-        self.put_says(SAYS | {"fn more_copied_1": "fn low::count::more_copied_1: proved", "count + 2|more_copied": "fn low::count::more: proved"})
-        self.fails_by("low/more-is-two: refused for `nothing`, wanted `count::more returns`")
-
-    def test_one_that_is_refused_for_another_goal_fails(self) -> None:
-        self.put_says(SAYS | {"value: 1": UNPROVED.format("count::Count::none", "`returns-clause-other`")})
-        self.fails_by("low/none-is-one: refused for `count::Count::none returns-clause-other`, wanted")
-
-    def test_one_whose_function_fails_for_what_it_calls_alone_fails(self) -> None:
-        self.put_says(SAYS | {"value: 1": "fn low::count::Count::none: no proof: it calls `low::count::more`, which is not proved"})
-        self.fails_by("low/none-is-one: refused for `nothing`")
-
-    def test_one_that_the_table_does_not_name_fails(self) -> None:
-        self.put_table({name: row for name, row in TABLE.items() if name != "more-is-two"})
-        self.fails_by("low/more-is-two: tests/wrong_bodies.txt does not name it; refused for `count::more returns`")
-
-    def test_a_row_of_none_fails(self) -> None:
-        (self.bodies / "more-is-none.edit").unlink()
-        self.fails_by("low/more-is-none: tests/wrong_bodies.txt names it, and it is not there")
-
-    def test_one_that_cannot_be_applied_fails(self) -> None:
-        for text in ("old: count + 3\nnew: count", "old: Count\nnew: Sum", "new: x"):
-            with self.subTest(text=text):
-                self.put_edits({"more-is-two": text})
-                self.fails_by("low/more-is-two: it cannot be tried")
-
-    def test_one_that_fails_elsewhere_wants_a_reason(self) -> None:
-        elsewhere = "count::Count::none returns-clause-fresh"
-        self.put_says(SAYS | {"count + 2|more_copied": UNPROVED.format("count::Count::none", "`returns-clause-fresh`")})
-        self.put_table(TABLE | {"more-is-two": elsewhere})
-        self.fails_by("low/more-is-two: it fails in another function than it changes")
-        self.put_table(TABLE | {"more-is-two": f"{elsewhere} | none counts by it"})
-        self.assertEqual(self.run_it(), (0, ["4 passed, 0 failed"]))
-
-    def test_a_check_without_verdict_fails(self) -> None:
-        for said in ("src/count.rt:3:1: error: this is no Rattle", "rattle: out of memory"):
-            with self.subTest(said=said):
-                self.put_says({"": said})
-                self.fails_by("low/none-is-one: the check came to no verdict")
-
-    def test_a_table_that_cannot_be_read_fails(self) -> None:
-        for text in ("low/x\n", "low/b: f g\nlow/a: f g\n"):
-            with self.subTest(text=text):
-                (self.root / "tests/wrong_bodies.txt").write_text(text)
-                self.fails_by("tests/wrong_bodies.txt, line")
-
-    def test_what_is_told_is_printed_as_a_table(self) -> None:
-        self.put_table({})
-        status, lines = self.run_it("--told")
-        self.assertEqual(sorted(lines[:-1]), [f"low/{name}: {row}" for name, row in sorted((TABLE | {
-            "none-is-one": "count::Count::none returns-clause-other"}).items())])
-
-    def test_without_the_kit_it_fails(self) -> None:
-        self.assertEqual(self.run_it(path="/nowhere"), (1, ["the kit's command rt is not on the path", "0 passed, 1 failed"]))
-
-    def test_the_crate_is_left_as_it_was(self) -> None:
-        self.run_it()
-        self.assertEqual((self.root / "crates/low/src/count.rt").read_text(), SOURCE)
-        self.assertEqual(sorted(it.name for it in self.root.iterdir() if it.name.startswith(".")), [])
+FIXTURE = WrongBodies
 
 
-def main() -> int:
-    outcome = unittest.TextTestRunner(verbosity=1).run(unittest.defaultTestLoader.loadTestsFromModule(sys.modules[__name__]))
-    failed = len(outcome.failures) + len(outcome.errors)
-    print(f"{outcome.testsRun - failed} passed, {failed} failed")
-    return 1 if failed else 0
+def test_each_that_is_refused_for_its_goal_passes(it: WrongBodies) -> None:
+    same(it.run_it(), (0, ["4 passed, 0 failed"]))
+
+
+def test_those_that_change_one_function_stand_in_copies_of_it(it: WrongBodies) -> None:
+    it.run_it()
+    same(it.asked(), ["count::Count::none count::CountFrom::from count::more count::more_copied_1"])
+
+
+def test_those_that_change_one_function_of_a_trait_are_tried_one_after_another(it: WrongBodies) -> None:
+    it.put_edits({"from-counts-none": "old: told.len()\nnew: told.none()"})
+    it.put_table({"from-counts-none": TABLE["from-counts-twice"]} | TABLE)
+    it.put_says(SAYS | {"told.none()": SAYS["told.len() * 2"]})
+    same(it.run_it(), (0, ["5 passed, 0 failed"]))
+    same(it.asked(), ["count::Count::none count::CountFrom::from count::more", "count::CountFrom::from count::more"])
+
+
+def test_other_functions_have_no_bodies(it: WrongBodies) -> None:
+    it.run_it()
+    text = (it.root / "says.text").read_text()
+    emptied = SOURCE.replace("    if count > 9 {\n        return 9;\n    }\n    count - 1\n", "unreachable!()\n")
+    emptied = emptied.replace("        self.count() == 0\n", "unreachable!()\n")
+    changed = emptied.replace("value: 0", "value: 1").replace("told.len()", "told.len() * 2").replace("count + 1", "count")
+    copy = "\npub const fn more_copied_1(count: u64) -> u64\n    ensures { result }\n{\n    count + 2\n}\n"
+    same(text, changed.replace("    count\n}\n", f"    count\n}}\n{copy}"))
+
+
+def test_what_other_functions_promise_is_taken_as_proved(it: WrongBodies) -> None:
+    made = it.root / "crates/low/out/rlib/low.rlib/toolchain"
+    made.mkdir(parents=True)
+    paths = ("count/fewer", "count/more", "count/CountFrom/from", "count/gone")
+    (made / "made.json").write_text("".join(json.dumps([f"proofs/{path}/Proof", 1]) + "\n" for path in paths))
+    for path in ("count/fewer", "count/more"):
+        (it.root / "crates/low/proofs" / path).mkdir(parents=True)
+        text = f"use Rattle.low.proofs.{path.replace('/', '.')}.Goals as goal\n"
+        (it.root / "crates/low/proofs" / path / "Answers.antt").write_text(text)
+    it.run_it()
+    proofs = json.loads((it.root / "says.proofs").read_text())
+    same(sorted(proofs), ["proofs/count/fewer/Proof.antt", "proofs/count/more/Answers.antt",
+         "proofs/count/more_copied_1/Answers.antt"])
+    same(proofs["proofs/count/more_copied_1/Answers.antt"], "use Rattle.low.proofs.count.more_copied_1.Goals as goal\n")
+    same(proofs["proofs/count/fewer/Proof.antt"], "use Rattle.low.proofs.count.fewer.Statement.{statement}\n\n"
+         "pub fewer_spec : {M : Type 1} → statement M\nfewer_spec = ?\n")
+    same((it.root / "crates/low/proofs/count/fewer/Answers.antt").read_text(),
+         "use Rattle.low.proofs.count.fewer.Goals as goal\n")
+
+
+def test_one_that_a_check_of_many_does_not_tell_is_tried_alone(it: WrongBodies) -> None:
+    quiet = {"value: 1": "fn low::count::Count::none: no proof: it calls `low::count::more`, which is not proved"}
+    it.put_says({key: said for key, said in SAYS.items() if key != "value: 1"} | quiet)
+    it.put_alone("value: 1", "told.len() * 2", SAYS["value: 1"])
+    same(it.run_it(), (0, ["4 passed, 0 failed"]))
+    same(it.asked()[1:], ["count::Count::none"])
+
+
+def test_a_goal_in_a_note_is_of_the_function_behind_it(it: WrongBodies) -> None:
+    note = "note: src/count.rt:12:5: it is not proved that what the function ensures holds when it returns (`{}`); `search` gave up"
+    told = "\n".join([note.format("returns-clause-fresh"), "fn low::count::Count::none: not proved", "fn low::count::more: not proved"])
+    it.put_says(SAYS | {"value: 1": told})
+    same(it.run_it(), (0, ["4 passed, 0 failed"]))
+    it.put_table(TABLE | {"none-is-one": "count::more returns-clause-fresh"})
+    it.fails_by("low/none-is-one: refused for")
+
+
+# What is said otherwise, and a row of the table that is gone; and what fails then.
+FAILS = {
+    "one that is proved": (
+        {"fn more_copied_1": "fn low::count::more_copied_1: proved", "count + 2|more_copied": "fn low::count::more: proved"}, "",
+        "low/more-is-two: refused for `nothing`, wanted `count::more returns`"),
+    "one that is refused for another goal": (
+        {"value: 1": UNPROVED.format("count::Count::none", "`returns-clause-other`")}, "",
+        "low/none-is-one: refused for `count::Count::none returns-clause-other`, wanted"),
+    "one whose function fails for what it calls alone": (
+        {"value: 1": "fn low::count::Count::none: no proof: it calls `low::count::more`, which is not proved"}, "",
+        "low/none-is-one: refused for `nothing`"),
+    "one that the table does not name": (
+        {}, "more-is-two", "low/more-is-two: tests/wrong_bodies.txt does not name it; refused for `count::more returns`"),
+}
+
+
+@rig.each(FAILS)
+def test_fails(it: WrongBodies, says: dict[str, str], row: str, words: str) -> None:
+    it.put_says(SAYS | says)
+    it.put_table({name: goal for name, goal in TABLE.items() if name != row})
+    it.fails_by(words)
+
+
+def test_a_row_of_none_fails(it: WrongBodies) -> None:
+    (it.bodies / "more-is-none.edit").unlink()
+    it.fails_by("low/more-is-none: tests/wrong_bodies.txt names it, and it is not there")
+
+
+def test_one_that_cannot_be_applied_fails(it: WrongBodies) -> None:
+    for text in ("old: count + 3\nnew: count", "old: Count\nnew: Sum", "new: x"):
+        with rig.about(text):
+            it.put_edits({"more-is-two": text})
+            it.fails_by("low/more-is-two: it cannot be tried")
+
+
+def test_one_that_fails_elsewhere_wants_a_reason(it: WrongBodies) -> None:
+    elsewhere = "count::Count::none returns-clause-fresh"
+    it.put_says(SAYS | {"count + 2|more_copied": UNPROVED.format("count::Count::none", "`returns-clause-fresh`")})
+    it.put_table(TABLE | {"more-is-two": elsewhere})
+    it.fails_by("low/more-is-two: it fails in another function than it changes")
+    it.put_table(TABLE | {"more-is-two": f"{elsewhere} | none counts by it"})
+    same(it.run_it(), (0, ["4 passed, 0 failed"]))
+
+
+def test_a_check_without_verdict_fails(it: WrongBodies) -> None:
+    for said in ("src/count.rt:3:1: error: this is no Rattle", "rattle: out of memory"):
+        with rig.about(said):
+            it.put_says({"": said})
+            it.fails_by("low/none-is-one: the check came to no verdict")
+
+
+def test_a_table_that_cannot_be_read_fails(it: WrongBodies) -> None:
+    for text in ("low/x\n", "low/b: f g\nlow/a: f g\n"):
+        with rig.about(text):
+            (it.root / "tests/wrong_bodies.txt").write_text(text)
+            it.fails_by("tests/wrong_bodies.txt, line")
+
+
+def test_what_is_told_is_printed_as_a_table(it: WrongBodies) -> None:
+    it.put_table({})
+    status, lines = it.run_it("--told")
+    same(sorted(lines[:-1]), [f"low/{name}: {row}" for name, row in sorted((TABLE | {
+        "none-is-one": "count::Count::none returns-clause-other"}).items())])
+
+
+def test_without_the_kit_it_fails(it: WrongBodies) -> None:
+    same(it.run_it(path="/nowhere"), (1, ["the kit's command rt is not on the path", "0 passed, 1 failed"]))
+
+
+def test_the_crate_is_left_as_it_was(it: WrongBodies) -> None:
+    it.run_it()
+    same((it.root / "crates/low/src/count.rt").read_text(), SOURCE)
+    same(sorted(it.name for it in it.root.iterdir() if it.name.startswith(".")), [])
 
 
 if __name__ == "__main__":
-    sys.exit(main())
+    sys.exit(rig.main(__doc__, rig.tests_in(globals())))

@@ -4,11 +4,9 @@ from __future__ import annotations
 from collections import Counter
 from dataclasses import dataclass, field
 
-from lab_load import MOST_BYTES, MOST_STEPS, MOST_THREADS
-from lab_run import Wait
-from lab_table import FEW, Rows, add_waits
 from perf_text import plain
 
+MOST_BYTES, MOST_STEPS, MOST_THREADS = 16_777_216, 100_000, 4_096  # of a load
 MASK = (1 << 63) - 1  # TOML has no number for bit 63
 
 
@@ -32,7 +30,7 @@ class Timed:
     def __init__(self, cpus: int) -> None:
         self.cpus = cpus
         self.lives: dict[int, TimedLife] = {}
-        self.waits: list[Wait] = []
+        self.waits: list[tuple[int, bool]] = []  # how long each was, and whether a waking began it
         self.left_out: Counter[str] = Counter()
 
     def created(self, name: int, comm: str, queue: int, is_ready: bool, tick: int) -> None:
@@ -51,7 +49,7 @@ class Timed:
 
     def came(self, name: int, tick: int) -> None:
         life = self.lives[name]
-        self.waits.append(Wait(tick - life.ready_since, 0, life.is_woken))
+        self.waits.append((tick - life.ready_since, life.is_woken))
 
     def left(self, name: int, word: str, ticks: int, tick: int) -> None:
         """Who left while it could run on did so by the recorded scheduler's doing, as far as a recording can tell."""
@@ -86,9 +84,12 @@ class Timed:
 
     def rows(self, makespan: int) -> str:
         """The recorded numbers, by the names that a lab's table has for them."""
-        rows: Rows = {"makespan": makespan, "commits": len(self.waits)}
-        add_waits(rows, "wait", [wait.ticks for wait in self.waits], FEW)
-        add_waits(rows, "woken", [wait.ticks for wait in self.waits if wait.is_woken], FEW)
+        rows: dict[str, int | None] = {"makespan": makespan, "commits": len(self.waits)}
+        for head, kinds in (("wait", (False, True)), ("woken", (True,))):
+            waits = sorted(ticks for ticks, is_woken in self.waits if is_woken in kinds)
+            for percent in (50, 90, 99):  # the one of rank ceil(percent n / 100)
+                rows[f"{head} p{percent}"] = waits[-(-percent * len(waits) // 100) - 1] if waits else None
+            rows |= {f"{head} max": waits[-1] if waits else None, f"{head} sum": sum(waits)}
         rows["ticks ran"] = sum(ticks for life in self.lives.values() for _, ticks in life.steps)
         cells = {"variant": "recorded", **{name: "-" if value is None else str(value) for name, value in rows.items()}}
         width = max(map(len, cells.values()))

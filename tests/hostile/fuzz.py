@@ -1,10 +1,11 @@
-"""Scripts drawn at random, with a fixed seed: no run ends by a signal, or takes more memory or time than is named, and each answer is one."""
+"""Scripts drawn at random, with a fixed seed: no run ends by a signal, or takes more memory or time than is named, and each answer is the model's."""
+import itertools
 import pathlib
 import random
 
 from growths import fault_of_refused
+from kernel import told_of
 from machine import Subject, told
-from replies import fault_of_output
 from scripts import random_bytes, script
 
 SEED = "nimhessian"
@@ -19,6 +20,15 @@ def drawn_script(place):
     return random_bytes(chance) if place % 50 == 49 else script(chance)
 
 
+def fault_of_answers(text, out, status):
+    """What is wrong with what was written of a script, by the model, or None."""
+    wanted, ends = told_of(text)
+    if out.decode("latin-1") == wanted:
+        return None if status == ends else f"status {status}, wanted {ends}"
+    pairs = itertools.zip_longest(out.decode("latin-1").split("\n"), wanted.split("\n"))
+    return next(f"answer {place}: {found!r}, wanted {want!r}" for place, (found, want) in enumerate(pairs, 1) if found != want)
+
+
 def fault_of_script(machine, place, peer=None):
     """What is wrong with the run of a drawn script."""
     text = drawn_script(place)
@@ -29,11 +39,10 @@ def fault_of_script(machine, place, peer=None):
         run = machine.run(subject, seconds=SECONDS, memory=MEMORY)
         if run.status not in (0, 1) or run.err:
             return told(run)
-        fault = fault_of_output(text, run.out, run.status)
-        if fault is None and peer is not None:
-            other = peer.run(subject, seconds=SECONDS)
-            fault = None if (run.status, run.out) == (other.status, other.out) else f"the other program differs: {told(other)}"
-        return fault
+        if fault := fault_of_answers(text, run.out, run.status):
+            return fault
+        other = peer.run(subject, seconds=SECONDS) if peer else run
+        return None if (run.status, run.out) == (other.status, other.out) else f"the other program differs: {told(other)}"
     finally:
         file.unlink()
 

@@ -13,16 +13,17 @@ import tempfile
 import time
 from dataclasses import dataclass
 
+sys.path.insert(0, str(pathlib.Path(__file__).resolve().parent.parent))
+
+import rig  # noqa: E402
 from calls import refuse_in_calls
 from fuzz import draw_growths, draw_scripts
 from growths import bound_stack, refuse_growths, refuse_memory
 from loads import draw_loads, use_worst
-from machine import ROOT, Machine, NoCompiler, Tally
+from machine import Machine, NoCompiler, Tally
 from settings import draw_settings, use_rows
 from streams import disturb_streams
 from subjects import examples, generated, greatest, replayed
-
-PROGRAMS = [ROOT / "crates/pc_sim/out/pc_sim", ROOT / "crates/pc_sim/out/pc_sim.by-rattle"]
 
 
 @dataclass(frozen=True)
@@ -69,7 +70,8 @@ def parts_of(machine, tally, options):
 
 
 def use(program, options):
-    """Uses one program, and answers what passed and failed."""
+    """Uses one program, and answers what came of it."""
+    rig.program = program
     form = "--short " if options.short else ""
     repeat = f"python3 tests/hostile/hostile.py {form}--program {shlex.quote(str(program))}"
     tally = Tally(repeat, options.only, options.jobs)
@@ -81,7 +83,7 @@ def use(program, options):
             part()
             count = tally.passed + tally.failed - before
             print(f"{program.name}, {name}: {count} runs and comparisons in {time.perf_counter() - began:.0f} s", flush=True)
-    return tally.passed, tally.failed
+    return tally
 
 
 def use_calls(options):
@@ -91,13 +93,13 @@ def use_calls(options):
         began = time.perf_counter()
         refuse_in_calls(tally, folder)
         print(f"single calls: {tally.passed + tally.failed} runs in {time.perf_counter() - began:.0f} s", flush=True)
-    return tally.passed, tally.failed
+    return tally
 
 
 def uses_of(options):
     """What is used, by name: each program, and the single calls in the long form."""
     if not options.calls:
-        for program in options.program or PROGRAMS:
+        for program in options.program or rig.BUILT:
             yield program.name, lambda program=program: use(program.resolve(), options)
     if options.calls or not (options.short or options.part or options.only or options.program):
         yield "single calls", lambda: use_calls(options)
@@ -115,19 +117,16 @@ def main():
     parser.add_argument("--peer", type=pathlib.Path, help="another program of the same formats: its answers to drawn scripts are compared")
     parser.add_argument("--jobs", type=int, default=os.cpu_count() or 1, help="runs at once")
     options = parser.parse_args()
-    passed = failed = 0
+    whole = rig.Tally()
     for name, run in uses_of(options):
         try:
-            counts = run()
+            tally = run()
+            whole.passed, whole.failed = whole.passed + tally.passed, whole.failed + tally.failed
         except (NoCompiler, OSError) as error:
-            print(f"{name}: {error}")
-            counts = (0, 1)
-        passed, failed = passed + counts[0], failed + counts[1]
-    if options.only and passed + failed == 0:
-        print(f"no run is named {options.only!r}")
-        failed = 1
-    print(f"{passed} passed, {failed} failed")
-    return 1 if failed else 0
+            whole.add(name, str(error))
+    if options.only and whole.passed + whole.failed == 0:
+        whole.add("--only", f"no run is named {options.only!r}")
+    return whole.last_line()
 
 
 if __name__ == "__main__":

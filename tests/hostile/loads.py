@@ -2,13 +2,13 @@
 import random
 import re
 
+import tables
 from fuzz import SEED
 from machine import ROOT, Subject, told
 from settings import MEMORY, spoilt, written
 from worst import load_text
 
 WORKED = ROOT / "examples/lab/worked"
-ORDERS = ["levels", "fifo", "least-ran", "levels-then-least-ran"]
 TABLE = re.compile(rb"variant( +[a-z0-9.-]+)+\nend( +(done|until|NumbersSpent))+\n([a-zA-Z0-9 -]+\n)+")
 FAULT = re.compile(rb"pc-sim: (cannot read|lab [A-Z][A-Za-z]+( [a-z0-9.]+){0,2})\n")
 # Loads of worst.py, with which a run ends after some seconds: how it ends, and when.
@@ -28,34 +28,10 @@ def streamed():
     yield Subject("a faulty load", ["lab", str(faulty)], err=b"pc-sim: lab BadCpus\n", status=1)
 
 
-def drawn_thread(chance, cpus, start):
-    """The table of a thread, which has a sleep behind each block."""
-    queue = chance.randrange(cpus)
-    steps = [(chance.choice(["yield", "block", "preempt"]), chance.choice([0, 1, 7, 1000])) for _ in range(chance.choice([0, 1, 2, 5]))]
-    steps.append(("die", chance.choice([0, 1, 50])))
-    sleeps = [chance.choice([0, 1, 30]) for how, _ in steps if how == "block"]
-    words = ", ".join(f'"{how} {ran}"' for how, ran in steps)
-    mask = chance.randrange(2**cpus) | 1 << queue
-    return f"[[thread]]\nqueue = {queue}\nmask = {mask}\nsteps = [{words}]\nstart = {start}\nlevel = {chance.randrange(8)}\nsleeps = {sleeps}\n"
-
-
-def drawn_variant(chance, place):
-    numbers = {"quantum": [0, 1, 10], "group": [1, 2, 64], "delay": [0, 3], "cost": [0, 2]}
-    words = {"order": ORDERS, "steals": ["least", "exact"]}
-    keys = {key: chance.choice(it) for key, it in numbers.items()} | {key: f'"{chance.choice(it)}"' for key, it in words.items()}
-    keys |= {key: chance.choice(["true", "false"]) for key in ("urgent", "keep")}
-    return f'[[variant]]\nname = "v{place}"\n' + "".join(f"{key} = {value}\n" for key, value in keys.items())
-
-
 def drawn_load(place):
     """The load of this number, and whether it was spoilt."""
     chance = random.Random(f"{SEED} load {place}")
-    cpus = chance.choice([1, 1, 2, 2, 3, 4, 8])
-    text, start = f"cpus = {cpus}\nuntil = {chance.choice([0, 0, 0, 1, 5000])}\n", 0
-    for _ in range(chance.choice([0, 1, 2, 3, 8])):
-        start += chance.choice([0, 0, 5, 100])
-        text += drawn_thread(chance, cpus, start)
-    text += "".join(drawn_variant(chance, place) for place in range(chance.choice([0, 1, 2, 3])))
+    text = tables.drawn_load(chance, 8)
     return (text.encode(), False) if chance.random() < 0.5 else (spoilt(chance, text), True)
 
 

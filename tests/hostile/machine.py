@@ -14,8 +14,10 @@ import time
 from concurrent.futures import ThreadPoolExecutor
 from dataclasses import dataclass, field
 
+import rig
+
 HERE = pathlib.Path(__file__).resolve().parent
-ROOT = HERE.parent.parent
+ROOT = rig.ROOT
 COMPILERS = ["cc", "gcc", "clang"]
 COUNTS = struct.Struct("QQQQQQQQ")
 # After so many seconds a run is ended.
@@ -162,29 +164,22 @@ def told(run):
     return f"{name}, {len(run.out)} bytes written, standard error {run.err[:200]!r}"
 
 
-class Tally:
+class Tally(rig.Tally):
     """What passed and what failed, with how to repeat each failure."""
 
     def __init__(self, repeat, only=None, jobs=4):
-        self.repeat, self.only = repeat, only
-        self.pool = ThreadPoolExecutor(jobs)
-        self.passed = self.failed = 0
-        self.notes = []
+        super().__init__()
+        self.repeat, self.only, self.pool = repeat, only, ThreadPoolExecutor(jobs)
 
     def wants(self, name):
         return self.only is None or name == self.only
 
     def note(self, text):
         """Says what was skipped, or counted beside."""
-        self.notes.append(text)
         print(text, flush=True)
 
     def add(self, name, fault):
-        if fault is None:
-            self.passed += 1
-            return
-        self.failed += 1
-        print(f"{name}: {fault}\n    repeat: {self.repeat} --only '{name}'", flush=True)
+        super().add(name, fault and f"{fault}\n    repeat: {self.repeat} --only '{name}'")
 
     def try_all(self, trials):
         """Tries each (name, function of no argument that answers what is wrong, or None), several at once."""

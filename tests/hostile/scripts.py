@@ -1,7 +1,7 @@
 """Scripts drawn at random: by the grammar, with numbers that mostly fit, and then with words and bytes spoilt."""
 from dataclasses import dataclass, field
 
-from replies import COMMANDS, GREATEST, NAMES
+from kernel import GREATEST, ORDERS, OWN_OF_VERSION_3, answered, forms, told_of
 
 # The limits of an enclave, by what they are to do: be met soon, be met now and then, be as wide as may be, be past the range.
 LIMITS = {
@@ -11,7 +11,7 @@ LIMITS = {
     "ROOM": ([2, 4], [16, 100], [65536], [0, 65537]),
     "POSTS": ([4, 16], [100, 1000], [4294967295], [0]),
 }
-ROWS = [row[0].split() for row in COMMANDS if not row[0].startswith("enclave")]
+CPUS = ("C", "Q", "A", "B")
 ODD_WORDS = [b"", b"-", b"t", b"T0", b"t-1", b"00", b"-1", b"+1", b"1.0", b"0x1", b"ready", b"fail", b"version", b"2"]
 ODD_WORDS += [b"\xff", b"\x00", b"#", b"\t", b"1\r"]
 LENGTHS = [1, 4, 10, 10, 20, 20, 100]
@@ -34,7 +34,7 @@ class Rough:
         """A number for a word of a command on this CPU: it mostly fits."""
         if name == "ASEQ":
             return max(0, self.posts.get(cpu, 0) - (chance.random() < 0.1))
-        if name in ("C", "Q"):
+        if name in CPUS:
             return chance.randrange(self.cpus + (chance.random() < 0.02))
         if name == "MASK":
             return chance.choice([2**min(self.cpus, 64) - 1] * 3 + [chance.randrange(2**min(self.cpus, 64) + 1)])
@@ -72,8 +72,8 @@ def command(chance, rough, fields, cpu):
         if name not in GREATEST:
             words.append(name.encode())
             continue
-        fixed = name in ("C", "Q") and is_first and chance.random() < 0.98
-        is_first = is_first and name not in ("C", "Q")
+        fixed = name in CPUS and is_first and chance.random() < 0.98
+        is_first = is_first and name not in CPUS
         number = cpu if fixed else rough.number(chance, name, cpu)
         words.append((b"t%d" if name == "T" else b"%d") % number)
     rough.count(words, cpu)
@@ -82,7 +82,7 @@ def command(chance, rough, fields, cpu):
 
 def policy(chance):
     """A policy of the agents."""
-    return [b"policy", chance.choice(NAMES), *([b"exact"] * (chance.random() < 0.5))]
+    return [b"policy", chance.choice(ORDERS).encode(), *([b"exact"] * (chance.random() < 0.5))]
 
 
 def turn(chance, rough):
@@ -96,8 +96,27 @@ def turn(chance, rough):
     elif how < 0.65:
         rows = [chance.choice([["publish", "C"], ["answer", "C", "C"]]), ["deliver", "C", "K"], ["steal", "C"], ["same", "C", "C"]]
     else:
-        rows = [chance.choice(ROWS) for _ in range(3)]
+        rows = [chance.choice([form for form in forms() if form[0] not in {"enclave", *OWN_OF_VERSION_3}]) for _ in range(3)]
     return [command(chance, rough, row, cpu if row[0] != "deliver" else chance.randrange(rough.cpus)) for row in rows]
+
+
+def lines_of(chance, rough, turns, further):
+    """The lines of so many turns, behind each of which some of the lists of commands that are given for it comes."""
+    lines = []
+    for _ in range(turns):
+        words, cpu, other = turn(chance, rough), chance.randrange(rough.cpus), chance.randrange(rough.cpus)
+        words += [command(chance, rough, line.split(), cpu) for line in chance.choice(further(other))]
+        lines += [b" ".join(line).decode() for line in words]
+    return lines
+
+
+def mended(script, does=lambda: True):
+    """The script with the numbers of now in the lines that were refused as stale, or in some of them, so that they may be accepted."""
+    lines = script.splitlines()
+    for number, words, answer in answered(script, told_of(script.encode())[0]):
+        if answer.startswith("refused Stale ") and words[0] != "steal" and does():
+            lines[number - 1] = " ".join([*words[:-1], answer.split()[2]])
+    return "\n".join([*lines, ""])
 
 
 def spoilt_words(chance, words):

@@ -8,6 +8,7 @@ from fuzz import SEED
 from growths import LAST, OUT_OF_MEMORY, fault_of_ample
 from machine import SECONDS as MOST_SECONDS
 from machine import Subject, told
+from tables import Raw, drawn_steps, restart, thread
 
 # A run that may wait forever, as where a growth was refused, is ended after so many seconds. Others have as long as any run.
 SECONDS = 5
@@ -19,15 +20,6 @@ NAMES = ["NotToml", "BadField", "BadStep", "BadCpus", "TooManyThreads", "BadThre
 FAULT = re.compile(rf"pc-sim: (cannot read|settings ({'|'.join(NAMES)}))\n".encode())
 TOTALS = r"threads (\d+)\nmessages (\d+)\ncommits (\d+)\nran (\d+)\n"
 PER_CPU = r"cpu {} taken \d+ commits \d+ steals \d+ stale \d+ pending \d+ other \d+\n"
-
-
-def thread(queue, mask, *steps):
-    words = ", ".join(f'"{step}"' for step in steps)
-    return f"[[thread]]\nqueue = {queue}\nmask = {mask}\nsteps = [{words}]\n"
-
-
-def restart(cpu, turn):
-    return f"[[restart]]\ncpu = {cpu}\nturn = {turn}\n"
 
 
 def totals(threads, messages, commits, ran):
@@ -75,9 +67,9 @@ FAULTS = {
     "a table for restarts": ("cpus = 2\n[restart]\ncpu = 0\nturn = 1\n", "BadField"),
     "texts for restarts": ('cpus = 2\nrestart = ["a"]\n', "BadField"),
     "a restart without a CPU": ("cpus = 2\n[[restart]]\nturn = 1\n", "BadField"),
-    "a truth for a CPU": ("cpus = 2\n" + restart("true", 1), "BadField"),
+    "a truth for a CPU": ("cpus = 2\n" + restart(True, 1), "BadField"),
     "a restart without a turn": ("cpus = 2\n[[restart]]\ncpu = 0\n", "BadField"),
-    "a day for a turn": ("cpus = 2\n" + restart(0, "1979-05-27"), "BadField"),
+    "a day for a turn": ("cpus = 2\n" + restart(0, Raw("1979-05-27")), "BadField"),
     "a step without a number": ("cpus = 2\n" + thread(0, 3, "yield"), "BadStep"),
     "a step without a word": ("cpus = 2\n" + thread(0, 3, ""), "BadStep"),
     "a step by another word": ("cpus = 2\n" + thread(0, 3, "sleep 1"), "BadStep"),
@@ -231,11 +223,10 @@ def drawn_settings(place):
     cpus = chance.choice([1, 1, 2, 2, 3, 4, 8])
     text, counted = f"cpus = {cpus}\n", [0, 0, 0, 0]
     for _ in range(chance.choice([0, 1, 2, 3, 8])):
-        steps = [(chance.choice(["yield", "block", "preempt"]), chance.choice([0, 1, 7, 1000])) for _ in range(chance.choice([0, 1, 2, 5]))]
-        steps.append(("die", chance.choice([0, 1, 2**32 - 1])))
-        text += thread(chance.randrange(cpus), chance.randrange(1, 2**cpus), *(f"{how} {ran}" for how, ran in steps))
-        blocks = sum(how == "block" for how, _ in steps)
-        counted = [it + more for it, more in zip(counted, (1, 1 + len(steps) + blocks, len(steps), sum(ran for _, ran in steps)))]
+        steps = drawn_steps(chance, [0, 1, 2, 5], [0, 1, 7, 1000], [0, 1, 2**32 - 1])
+        text += thread(chance.randrange(cpus), chance.randrange(1, 2**cpus), *steps)
+        blocks, ran = sum(it.startswith("block") for it in steps), sum(int(it.split()[1]) for it in steps)
+        counted = [it + more for it, more in zip(counted, (1, 1 + len(steps) + blocks, len(steps), ran))]
     for _ in range(chance.choice([0, 0, 1, 2]) if cpus > 1 else 0):
         # Agent 0 stays: where every agent forgets what it knew, a thread may be known to none, and the run waits.
         text += restart(chance.randrange(1, cpus), chance.choice([1, 2, 3, 1000000]))

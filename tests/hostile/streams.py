@@ -8,7 +8,7 @@ import subprocess
 from loads import streamed
 from machine import SECONDS, Run, Subject, ended, ending_of, told
 from settings import ONE_TOTALS, ROWS, written
-from subjects import OPENING, drawn, ends_with_its_fault, examples, explained, explained_talk, talked
+from subjects import OPENING, examples, variants
 
 CANNOT_READ = b"pc-sim: cannot read\n"
 READ_ERRORS = [errno.EIO, errno.EISDIR, errno.EAGAIN]
@@ -20,9 +20,7 @@ def subjects(folder):
     """Each example by its name and on the standard input, a script whose answers fill buffers, one with a fault, and an empty one; settings, and loads."""
     for example in examples():
         yield example
-        yield explained(example)
-        yield drawn(example)
-        yield talked(example)
+        yield from (it for it in variants(example) if not it.name.startswith("explained session"))
         yield Subject(f"{example.name} as standard input", ["replay"], pathlib.Path(example.words[1]), out=example.out)
     texts = {
         "long": (OPENING + b"asleep 0\n" * LONG, b"ok\n" + b"no\n" * LONG, 0),
@@ -34,11 +32,7 @@ def subjects(folder):
         file.write_bytes(text)
         script = Subject(f"{name} script", ["replay"], file, out=out, status=status)
         yield script
-        yield explained(script)
-        yield drawn(script)
-        if ends_with_its_fault(script):
-            yield talked(script)
-            yield explained_talk(script)
+        yield from variants(script)
     yield from settings(folder)
     yield from streamed()
 

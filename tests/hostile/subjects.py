@@ -5,6 +5,7 @@ import subprocess
 import sys
 
 from machine import HERE, ROOT, Subject, ending_of
+from run_cases import Case, all_cases
 from settings import faulty
 
 GENERATED = ["first-run", "kernel-calls", "late", "late-batches", "scattered", "answer-half", "rounds", "steals", "day", "restarts"]
@@ -42,37 +43,19 @@ def examples():
         yield Subject(f"example {script.stem}", ["replay", str(script)], out=script.with_suffix(".output").read_bytes())
 
 
-def given(case, folder):
-    """The standard input of a case, as a file."""
-    script = case / "make-stdin"
-    if not script.is_file():
-        return case / "stdin" if (case / "stdin").is_file() else None
-    made = pathlib.Path(folder) / f"{case.name}.stdin"
-    if not made.is_file():
-        with open(made, "wb") as out:
-            subprocess.run(["bash", str(script)], cwd=case, stdout=out, check=True)
-    return made
-
-
-def content(path):
-    return path.read_bytes() if path.is_file() else b""
-
-
 def cases(folder):
-    """The cases of tests/cases, as tests/run_cases.py reads them, without those that are shell scripts.
+    """The cases of tests/cases without those that are shell scripts.
 
     Runs of agents have another schedule each time, and may also end as threads cannot be started: they are a part of their own (settings.py).
     """
-    for case in sorted(path for path in (ROOT / "tests/cases").iterdir() if path.is_dir()):
-        if (case / "run").is_file():
+    for case in (it for it in all_cases() if isinstance(it, Case) and not it.is_shell):
+        if case.args[:1] == ["run"] and case.status in (0, 3):
             continue
-        words = (case / "args").read_text().splitlines() if (case / "args").is_file() else ["replay"]
-        status = int((case / "status").read_text()) if (case / "status").is_file() else 0
-        if words[:1] == ["run"] and status in (0, 3):
-            continue
-        out = None if (case / "stdout-is-not-fixed").exists() else content(case / "stdout")
-        ends, whole = ending_of(content(case / "stderr")), words[:1] == ["lab"]
-        yield Subject(f"case {case.name}", words, given(case, folder), case, out, ends, status, whole=whole)
+        made = pathlib.Path(folder) / f"{case.name}.stdin"
+        if not made.is_file():
+            made.write_bytes(case.given(case.folder))
+        ends, whole = ending_of(case.err), case.args[:1] == ["lab"]
+        yield Subject(f"case {case.name}", case.args, made, case.folder, case.out, ends, case.status, whole=whole)
 
 
 def malformed(folder):
@@ -179,32 +162,19 @@ def command_lines():
         yield Subject(f"command line of {name}", words, err=NO_FILE, status=1)
 
 
-def explained(script):
-    """The same script, with comments between its answers."""
-    return dataclasses.replace(script, name=f"explained {script.name}", words=["explain", *script.words[1:]], commented=True)
+def as_words(script, front, name, **other):
+    """The same script, by other first words."""
+    return dataclasses.replace(script, name=f"{name} {script.name}", words=[*front, *script.words[1:]], **other)
 
 
-def drawn(script):
-    """A picture of the same script. At a fault it ends, and says so."""
-    words, err = ["draw", *script.words[1:]], ENDS_THERE if script.status == 1 else b""
-    return dataclasses.replace(script, name=f"drawn {script.name}", words=words, out=None, err=err, whole=True)
-
-
-def timed(script):
-    """Its picture by ticks, which are kept beside its steps."""
-    picture = drawn(script)
-    return dataclasses.replace(picture, name=f"timed {picture.name}", words=["draw", "--time", *script.words[1:]])
-
-
-def talked(script):
-    """The same script, asked line by line."""
-    return dataclasses.replace(script, name=f"session of {script.name}", words=["session", *script.words[1:]])
-
-
-def explained_talk(script):
-    """The same, with comments between its answers."""
-    words = ["session", "--explain", *script.words[1:]]
-    return dataclasses.replace(script, name=f"explained session of {script.name}", words=words, commented=True)
+def variants(script):
+    """The same script with comments between its answers, as a picture, and, where it ends with its fault, asked line by line, with comments too."""
+    yield as_words(script, ["explain"], "explained", commented=True)
+    # At a fault a picture ends, and says so.
+    yield as_words(script, ["draw"], "drawn", out=None, err=ENDS_THERE if script.status == 1 else b"", whole=True)
+    if ends_with_its_fault(script):
+        yield as_words(script, ["session"], "session of")
+        yield as_words(script, ["session", "--explain"], "explained session of", commented=True)
 
 
 def ends_with_its_fault(script):
@@ -219,12 +189,10 @@ def replayed(folder):
     """All of it; the examples and the malformed texts are explained, drawn and asked line by line too."""
     for script in [*examples(), *malformed(folder)]:
         yield script
-        yield explained(script)
-        yield drawn(script)
-        if ends_with_its_fault(script):
-            yield talked(script)
-            yield explained_talk(script)
-    yield from map(timed, examples())
+        yield from variants(script)
+    for script in examples():
+        # Ticks are kept beside its steps.
+        yield as_words(script, ["draw", "--time"], "timed drawn", out=None, whole=True)
     yield from cases(folder)
     yield from faulty(folder)
     yield from command_lines()

@@ -1,6 +1,9 @@
 """What a command may meet: a refusal, each of a class of its own; a fault; the end of the program."""
 from __future__ import annotations
 
+from collections.abc import Callable
+from typing import cast
+
 
 class NimhessianError(Exception):
     """What all errors of this package have in common."""
@@ -20,7 +23,8 @@ class Refused(NimhessianError):
 
     def argument(self) -> str:
         """What stands behind the name of the refusal."""
-        return ""
+        told = [f"{name}={value!r}" for name, value in vars(self).items() if name != "command"]
+        return f"({', '.join(told)})" if told else ""
 
 
 class BadCpu(Refused):
@@ -130,9 +134,6 @@ class Stale(Refused):
         super().__init__(command)
         self.now = now
 
-    def argument(self) -> str:
-        return f"(now={self.now})"
-
 
 class Running(Refused):
     """The thread runs on `cpu`."""
@@ -140,9 +141,6 @@ class Running(Refused):
     def __init__(self, command: str = "", cpu: int = 0) -> None:
         super().__init__(command)
         self.cpu = cpu
-
-    def argument(self) -> str:
-        return f"(cpu={self.cpu})"
 
 
 class NotYours(Refused):
@@ -152,9 +150,6 @@ class NotYours(Refused):
         super().__init__(command)
         self.queue = queue
 
-    def argument(self) -> str:
-        return f"(queue={self.queue})"
-
 
 class BadLimits(Refused):
     """`limit` is the first that is out of its range: `cpus`, `threads`, `numbers`, `room` or `posts`."""
@@ -162,9 +157,6 @@ class BadLimits(Refused):
     def __init__(self, command: str = "", limit: str = "") -> None:
         super().__init__(command)
         self.limit = limit
-
-    def argument(self) -> str:
-        return f"(limit={self.limit!r})"
 
 
 class Fault(NimhessianError, ValueError):
@@ -197,27 +189,15 @@ class Misread(NimhessianError):
     """An answer that this package does not know: the program is of another version."""
 
 
-REFUSALS: dict[str, type[Refused]] = {
-    refusal.__name__: refusal
-    for refusal in (
-        BadCpu, UnknownThread, Dead, NotBlocked, NotReady, EmptyMask, MaskTooWide, OnForbiddenCpu, BadLevel, IdleCpu,
-        NamesSpent, NumbersSpent, QueueFull, PostsSpent, Pending, Forbidden, Busy, NothingReady, NothingToSteal,
-        WireFault, NoDelta, TooMany, TooLate, NoEnclave, HaveEnclave, Stale, Running, NotYours, BadLimits,
-    )
-}
+REFUSALS: dict[str, type[Refused]] = {refusal.__name__: refusal for refusal in Refused.__subclasses__()}
 
 
 def refusal_of(command: str, words: list[str]) -> Refused:
     """The refusal that the words behind `refused` tell."""
-    if len(words) == 1 and words[0] in REFUSALS:
-        return REFUSALS[words[0]](command)
-    match words:
-        case ["Stale", now]:
-            return Stale(command, int(now))
-        case ["Running", cpu]:
-            return Running(command, int(cpu))
-        case ["NotYours", queue]:
-            return NotYours(command, int(queue))
-        case ["BadLimits", limit]:
-            return BadLimits(command, limit)
+    make = cast(Callable[..., Refused] | None, REFUSALS.get(words[0]))
+    try:
+        if make is not None:
+            return make(command, *(int(word) if word.isdigit() else word for word in words[1:]))
+    except TypeError:
+        pass  # an argument where none belongs
     raise Misread(f"refused {' '.join(words)}: {command}")

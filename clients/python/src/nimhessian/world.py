@@ -1,17 +1,21 @@
 """A world: a kernel, an agent for each of its CPUs, and what the agents sent each other."""
 from __future__ import annotations
 
+import functools
+import inspect
 import os
+from collections.abc import Callable
 from types import TracebackType
-from typing import Generic, Self, TextIO, TypeVar, cast
+from typing import Concatenate, Generic, ParamSpec, Self, TextIO, TypeVar, cast
 
 from . import commands
 from .commands import Command
 from .errors import Fault, Misread, Refused, refusal_of
 from .program import Program
-from .values import Limits, Placed, Posted, Published, Status, View
+from .values import Limits
 
 Value = TypeVar("Value")
+Given = ParamSpec("Given")
 
 MOST_POSTS = 4_294_967_295
 
@@ -26,6 +30,34 @@ def _read(command: Command[Value], answer: str) -> Value:
         return command.read(answer)
     except (ValueError, IndexError) as error:
         raise Misread(f"{answer}: {command.line}") from error
+
+
+def _like(make: Callable[..., object], method: Callable[..., object]) -> None:
+    """Gives a method the name, the words and the arguments of the function that makes its command."""
+    functools.update_wrapper(method, make)
+    own = inspect.Parameter("self", inspect.Parameter.POSITIONAL_OR_KEYWORD)
+    whole = inspect.signature(make)
+    setattr(method, "__signature__", inspect.Signature([own, *whole.parameters.values()]))
+
+
+def _asked(make: Callable[Given, Command[Value]]) -> Callable[Concatenate[World, Given], Value]:
+    """The method of a world that asks for the command."""
+
+    def method(self: World, /, *given: Given.args, **named: Given.kwargs) -> Value:
+        return self.ask(make(*given, **named))
+
+    _like(make, method)
+    return method
+
+
+def _added(make: Callable[Given, Command[Value]]) -> Callable[Concatenate[Batch, Given], Answer[Value]]:
+    """The method of a batch that adds the command."""
+
+    def method(self: Batch, /, *given: Given.args, **named: Given.kwargs) -> Answer[Value]:
+        return self.add(make(*given, **named))
+
+    _like(make, method)
+    return method
 
 
 class World:
@@ -91,121 +123,36 @@ class World:
     ) -> None:
         self.close()
 
-    def create(self, queue: int, mask: int, blocked: bool = False) -> Posted:
-        """A new thread, whose messages go to the queue, and that may run on the CPUs of the mask."""
-        return self.ask(commands.create(queue, mask, blocked))
+    create = _asked(commands.create)
+    wake = _asked(commands.wake)
+    block = _asked(commands.block)
+    yield_ = _asked(commands.yield_)
+    preempt = _asked(commands.preempt)
+    die = _asked(commands.die)
+    affinity = _asked(commands.affinity)
+    priority = _asked(commands.priority)
+    tick = _asked(commands.tick)
+    policy = _asked(commands.policy)
+    associate = _asked(commands.associate)
+    commit = _asked(commands.commit)
+    sleep = _asked(commands.sleep)
+    rouse = _asked(commands.rouse)
+    config = _asked(commands.config)
+    publish = _asked(commands.publish)
+    publish_fail = _asked(commands.publish_fail)
+    consume = _asked(commands.consume)
+    deliver = _asked(commands.deliver)
+    answer = _asked(commands.answer)
+    pick = _asked(commands.pick)
+    steal = _asked(commands.steal)
+    crash = _asked(commands.crash)
+    mend = _asked(commands.mend)
+    status = _asked(commands.status)
+    asleep = _asked(commands.asleep)
+    show = _asked(commands.show)
+    same = _asked(commands.same)
+    complete = _asked(commands.complete)
 
-    def wake(self, thread: int) -> Posted:
-        """A blocked thread is ready."""
-        return self.ask(commands.wake(thread))
-
-    def block(self, cpu: int, ran: int) -> Posted:
-        """The thread on the CPU leaves it after so many ticks, and is blocked."""
-        return self.ask(commands.block(cpu, ran))
-
-    def yield_(self, cpu: int, ran: int) -> Posted:
-        """The thread on the CPU leaves it of its own, and is ready."""
-        return self.ask(commands.yield_(cpu, ran))
-
-    def preempt(self, cpu: int, ran: int) -> Posted:
-        """The thread on the CPU is taken off it, and is ready."""
-        return self.ask(commands.preempt(cpu, ran))
-
-    def die(self, cpu: int, ran: int) -> Posted:
-        """The thread on the CPU leaves it, and is dead."""
-        return self.ask(commands.die(cpu, ran))
-
-    def affinity(self, thread: int, mask: int) -> Posted:
-        """The thread may run on the CPUs of the mask."""
-        return self.ask(commands.affinity(thread, mask))
-
-    def priority(self, thread: int, level: int) -> Posted:
-        """The thread's level, 0 to 7."""
-        return self.ask(commands.priority(thread, level))
-
-    def tick(self, cpu: int) -> Posted:
-        """The timer of the CPU goes off."""
-        return self.ask(commands.tick(cpu))
-
-    def policy(self, name: str, exact: bool = False) -> None:
-        """All agents go by this policy; before any event."""
-        return self.ask(commands.policy(name, exact))
-
-    def associate(self, thread: int, queue: int, number: int) -> Placed:
-        """The thread's messages go to the queue; `number` is that of its last message, as the caller knows it."""
-        return self.ask(commands.associate(thread, queue, number))
-
-    def commit(self, cpu: int, thread: int, aseq: int) -> Placed:
-        """The thread runs on the CPU; `aseq` is how many posts its queue had, as the caller knows it."""
-        return self.ask(commands.commit(cpu, thread, aseq))
-
-    def sleep(self, cpu: int, aseq: int) -> None:
-        """The CPU's agent sleeps until a post wakes it."""
-        return self.ask(commands.sleep(cpu, aseq))
-
-    def rouse(self, cpu: int) -> None:
-        """The CPU's agent is awake."""
-        return self.ask(commands.rouse(cpu))
-
-    def config(self, queue: int, cpu: int | None) -> None:
-        """Posts to the queue wake the agent of this CPU, or nobody."""
-        return self.ask(commands.config(queue, cpu))
-
-    def publish(self, cpu: int) -> Published:
-        """The CPU's agent takes in what its queue holds, and sends it as a delta."""
-        return self.ask(commands.publish(cpu))
-
-    def publish_fail(self, cpu: int) -> Published:
-        """The same, but the delta cannot be sent: it is refused with `WireFault`."""
-        return self.ask(commands.publish_fail(cpu))
-
-    def consume(self, cpu: int) -> int:
-        """The CPU's agent removes the items that it sent from its queue: how many."""
-        return self.ask(commands.consume(cpu))
-
-    def deliver(self, cpu: int, delta: int) -> None:
-        """The CPU's agent takes in a delta that was sent."""
-        return self.ask(commands.deliver(cpu, delta))
-
-    def answer(self, cpu: int, other: int) -> int:
-        """The CPU's agent sends what it knows and the other one does not, as a delta: its place."""
-        return self.ask(commands.answer(cpu, other))
-
-    def pick(self, cpu: int, aseq: int) -> Placed:
-        """The CPU's agent commits the first thread of its run list that may be committed."""
-        return self.ask(commands.pick(cpu, aseq))
-
-    def steal(self, cpu: int) -> Placed:
-        """The CPU's agent takes over a thread that it knows to be ready, for its own queue."""
-        return self.ask(commands.steal(cpu))
-
-    def crash(self, cpu: int) -> None:
-        """The CPU's agent starts again, and forgets what it knew."""
-        return self.ask(commands.crash(cpu))
-
-    def mend(self, cpu: int) -> Placed:
-        """Every queue is cleared; the CPU's agent takes in all that was sent, and runs a thread, stolen if need be."""
-        return self.ask(commands.mend(cpu))
-
-    def status(self, thread: int) -> Status:
-        """What the kernel says of the thread."""
-        return self.ask(commands.status(thread))
-
-    def asleep(self, cpu: int) -> bool:
-        """Whether the CPU's agent sleeps."""
-        return self.ask(commands.asleep(cpu))
-
-    def show(self, cpu: int) -> View:
-        """What the CPU's agent knows."""
-        return self.ask(commands.show(cpu))
-
-    def same(self, cpu: int, other: int) -> bool:
-        """Whether two agents know the same messages."""
-        return self.ask(commands.same(cpu, other))
-
-    def complete(self, cpu: int, thread: int) -> bool:
-        """Whether the CPU's agent knows all messages of the thread so far."""
-        return self.ask(commands.complete(cpu, thread))
 
 def _ignored(answer: str) -> None:
     """An answer that is not looked at."""
@@ -268,118 +215,32 @@ class Batch:
             for answer, told in zip(unsent, self._program.exchange(lines, [answer.command.rows for answer in unsent])):
                 answer._answer = told
 
-    def create(self, queue: int, mask: int, blocked: bool = False) -> Answer[Posted]:
-        """A new thread, whose messages go to the queue, and that may run on the CPUs of the mask."""
-        return self.add(commands.create(queue, mask, blocked))
-
-    def wake(self, thread: int) -> Answer[Posted]:
-        """A blocked thread is ready."""
-        return self.add(commands.wake(thread))
-
-    def block(self, cpu: int, ran: int) -> Answer[Posted]:
-        """The thread on the CPU leaves it after so many ticks, and is blocked."""
-        return self.add(commands.block(cpu, ran))
-
-    def yield_(self, cpu: int, ran: int) -> Answer[Posted]:
-        """The thread on the CPU leaves it of its own, and is ready."""
-        return self.add(commands.yield_(cpu, ran))
-
-    def preempt(self, cpu: int, ran: int) -> Answer[Posted]:
-        """The thread on the CPU is taken off it, and is ready."""
-        return self.add(commands.preempt(cpu, ran))
-
-    def die(self, cpu: int, ran: int) -> Answer[Posted]:
-        """The thread on the CPU leaves it, and is dead."""
-        return self.add(commands.die(cpu, ran))
-
-    def affinity(self, thread: int, mask: int) -> Answer[Posted]:
-        """The thread may run on the CPUs of the mask."""
-        return self.add(commands.affinity(thread, mask))
-
-    def priority(self, thread: int, level: int) -> Answer[Posted]:
-        """The thread's level, 0 to 7."""
-        return self.add(commands.priority(thread, level))
-
-    def tick(self, cpu: int) -> Answer[Posted]:
-        """The timer of the CPU goes off."""
-        return self.add(commands.tick(cpu))
-
-    def policy(self, name: str, exact: bool = False) -> Answer[None]:
-        """All agents go by this policy; before any event."""
-        return self.add(commands.policy(name, exact))
-
-    def associate(self, thread: int, queue: int, number: int) -> Answer[Placed]:
-        """The thread's messages go to the queue; `number` is that of its last message, as the caller knows it."""
-        return self.add(commands.associate(thread, queue, number))
-
-    def commit(self, cpu: int, thread: int, aseq: int) -> Answer[Placed]:
-        """The thread runs on the CPU; `aseq` is how many posts its queue had, as the caller knows it."""
-        return self.add(commands.commit(cpu, thread, aseq))
-
-    def sleep(self, cpu: int, aseq: int) -> Answer[None]:
-        """The CPU's agent sleeps until a post wakes it."""
-        return self.add(commands.sleep(cpu, aseq))
-
-    def rouse(self, cpu: int) -> Answer[None]:
-        """The CPU's agent is awake."""
-        return self.add(commands.rouse(cpu))
-
-    def config(self, queue: int, cpu: int | None) -> Answer[None]:
-        """Posts to the queue wake the agent of this CPU, or nobody."""
-        return self.add(commands.config(queue, cpu))
-
-    def publish(self, cpu: int) -> Answer[Published]:
-        """The CPU's agent takes in what its queue holds, and sends it as a delta."""
-        return self.add(commands.publish(cpu))
-
-    def publish_fail(self, cpu: int) -> Answer[Published]:
-        """The same, but the delta cannot be sent: it is refused with `WireFault`."""
-        return self.add(commands.publish_fail(cpu))
-
-    def consume(self, cpu: int) -> Answer[int]:
-        """The CPU's agent removes the items that it sent from its queue: how many."""
-        return self.add(commands.consume(cpu))
-
-    def deliver(self, cpu: int, delta: int) -> Answer[None]:
-        """The CPU's agent takes in a delta that was sent."""
-        return self.add(commands.deliver(cpu, delta))
-
-    def answer(self, cpu: int, other: int) -> Answer[int]:
-        """The CPU's agent sends what it knows and the other one does not, as a delta: its place."""
-        return self.add(commands.answer(cpu, other))
-
-    def pick(self, cpu: int, aseq: int) -> Answer[Placed]:
-        """The CPU's agent commits the first thread of its run list that may be committed."""
-        return self.add(commands.pick(cpu, aseq))
-
-    def steal(self, cpu: int) -> Answer[Placed]:
-        """The CPU's agent takes over a thread that it knows to be ready, for its own queue."""
-        return self.add(commands.steal(cpu))
-
-    def crash(self, cpu: int) -> Answer[None]:
-        """The CPU's agent starts again, and forgets what it knew."""
-        return self.add(commands.crash(cpu))
-
-    def mend(self, cpu: int) -> Answer[Placed]:
-        """Every queue is cleared; the CPU's agent takes in all that was sent, and runs a thread, stolen if need be."""
-        return self.add(commands.mend(cpu))
-
-    def status(self, thread: int) -> Answer[Status]:
-        """What the kernel says of the thread."""
-        return self.add(commands.status(thread))
-
-    def asleep(self, cpu: int) -> Answer[bool]:
-        """Whether the CPU's agent sleeps."""
-        return self.add(commands.asleep(cpu))
-
-    def show(self, cpu: int) -> Answer[View]:
-        """What the CPU's agent knows."""
-        return self.add(commands.show(cpu))
-
-    def same(self, cpu: int, other: int) -> Answer[bool]:
-        """Whether two agents know the same messages."""
-        return self.add(commands.same(cpu, other))
-
-    def complete(self, cpu: int, thread: int) -> Answer[bool]:
-        """Whether the CPU's agent knows all messages of the thread so far."""
-        return self.add(commands.complete(cpu, thread))
+    create = _added(commands.create)
+    wake = _added(commands.wake)
+    block = _added(commands.block)
+    yield_ = _added(commands.yield_)
+    preempt = _added(commands.preempt)
+    die = _added(commands.die)
+    affinity = _added(commands.affinity)
+    priority = _added(commands.priority)
+    tick = _added(commands.tick)
+    policy = _added(commands.policy)
+    associate = _added(commands.associate)
+    commit = _added(commands.commit)
+    sleep = _added(commands.sleep)
+    rouse = _added(commands.rouse)
+    config = _added(commands.config)
+    publish = _added(commands.publish)
+    publish_fail = _added(commands.publish_fail)
+    consume = _added(commands.consume)
+    deliver = _added(commands.deliver)
+    answer = _added(commands.answer)
+    pick = _added(commands.pick)
+    steal = _added(commands.steal)
+    crash = _added(commands.crash)
+    mend = _added(commands.mend)
+    status = _added(commands.status)
+    asleep = _added(commands.asleep)
+    show = _added(commands.show)
+    same = _added(commands.same)
+    complete = _added(commands.complete)

@@ -1,0 +1,535 @@
+"""A second model of the kernel, its agents and what they tell each other, by the words of docs/FORMATS.md: it answers each line of a script.
+
+It shares nothing with the program but the table of commands that this prints, so a new command is a line there and a method of `World` here.
+"""
+from __future__ import annotations
+
+import functools
+import itertools
+import re
+from collections import Counter
+from collections.abc import Iterable, Iterator
+from dataclasses import dataclass, field, replace
+from typing import NamedTuple
+
+import rig
+
+BYTE, WORD32, WORD64 = 2**8 - 1, 2**32 - 1, 2**64 - 1
+# The greatest number of each word of the table. A thread is `t` and a number.
+GREATEST = dict.fromkeys(("C", "Q", "A", "B", "CPUS", "LEVEL"), BYTE) | dict.fromkeys(("MASK", "K"), WORD64)
+GREATEST |= dict.fromkeys(("T", "RAN", "ASEQ", "NUMBER", "THREADS", "NUMBERS", "ROOM", "POSTS"), WORD32)
+NUMBER = re.compile(r"0|[1-9][0-9]*")
+ORDERS = ("levels", "fifo", "least-ran", "levels-then-least-ran")
+LEAVES = {"block": "blocked", "yield": "ready", "preempt": "ready", "die": "dead"}
+OWN_OF_VERSION_3 = {"policy", "mend"}
+QUESTIONS = {"status", "asleep", "show", "same", "complete"}
+# The greatest limits of the first version, and of the later ones.
+MOST = {"cpus": (64, 64), "threads": (4_096, 65_535), "numbers": (1_000_000, 16_000_000), "room": (65_536, 65_536), "posts": (WORD32, WORD32)}
+Rank = tuple[int, int]
+Item = tuple[int, int]  # a thread, and the number of its message
+
+
+# Lines and words
+
+
+@functools.cache
+def forms() -> list[list[str]]:
+    """The words of each command, one list for each way to write it, as the program's own table has them."""
+    told = rig.ask("session", given="?\n").stderr.splitlines()
+    rows = [line.split() for line in told if re.fullmatch(r"[a-z]+(?: (?:[A-Z]+|[\w|-]*\|[\w|-]*|\[\w+\]))+", line)]
+    made = []
+    for row in rows:
+        places = [["", word[1:-1]] if word.startswith("[") else word.split("|") for word in row]
+        made += [[word for word in words if word] for words in itertools.product(*places)]
+    return made
+
+
+@functools.cache
+def forms_of(verb: str, length: int) -> list[list[str]]:
+    return [form for form in forms() if form[0] == verb and len(form) == length]
+
+
+def is_word(form: str, word: str) -> bool:
+    """Whether a word may stand where the table has this one."""
+    if form not in GREATEST:
+        return word == form
+    digits = word.removeprefix("t") if form == "T" else word
+    return (form != "T" or word != digits) and bool(NUMBER.fullmatch(digits)) and int(digits) <= GREATEST[form]
+
+
+def words_of(line: bytes) -> list[str]:
+    """The words of a line, none where it is silent. Bytes that are no text stay apart from all words."""
+    if line.startswith(b"#"):
+        return []
+    return [word for word in line.removesuffix(b"\r").decode("latin-1").split(" ") if word]
+
+
+def fields_of(words: list[str], version: int) -> list[int | str] | None:
+    """The words behind the first as numbers, where they are some; nothing, where they ask for no command."""
+    if words[0] in OWN_OF_VERSION_3 and version < 3:
+        return None
+    for form in forms_of(words[0], len(words)):
+        if all(map(is_word, form, words)):
+            return [int(word.removeprefix("t")) if it in GREATEST else word for it, word in zip(form[1:], words[1:])]
+    return None
+
+
+class Answered(NamedTuple):
+    """A command of a script: the number of its line, its words, and the last line of its answer."""
+
+    number: int
+    words: list[str]
+    answer: str
+
+
+def answered(script: str, output: str) -> Iterator[Answered]:
+    """The commands that a replay answered so. A fault, and a line that names a version, is none."""
+    answers = (line for line in output.splitlines() if not re.match(r"t\d+ upto ", line))
+    for number, line in enumerate(script.split("\n"), 1):
+        words = words_of(line.encode())
+        answer = next(answers, "fault line") if words else ""
+        if answer.startswith("fault line"):
+            return
+        if words and words[0] != "version":
+            yield Answered(number, words, answer)
+
+
+# The model
+
+
+class Refused(Exception):
+    """A command is refused: its text stands behind `refused`."""
+
+
+@dataclass(frozen=True)
+class Report:
+    """What the messages of a thread say of it, up to one of them."""
+
+    phase: str
+    mask: int
+    ran: int = 0
+    level: int = 0
+
+    def rank(self, order: str, more: int = 0) -> Rank:
+        """By this order, of a thread that ran for so many ticks more: the least comes first."""
+        below, ran = 7 - self.level, self.ran + more
+        return {"levels": (below, 0), "fifo": (0, 0), "least-ran": (ran, 0)}.get(order, (below, ran))
+
+    def may_run(self, cpu: int) -> bool:
+        return self.phase == "ready" and bool(self.mask >> cpu & 1)
+
+
+@dataclass
+class Thread:
+    """A thread, as the kernel has it."""
+
+    home: int
+    reports: list[Report] = field(default_factory=list)  # behind each of its messages
+    cpu: int | None = None
+
+    @property
+    def now(self) -> Report:
+        return self.reports[-1]
+
+    @property
+    def number(self) -> int:
+        return len(self.reports)
+
+
+@dataclass
+class Queue:
+    """A queue: its items, of which a tick is none; and the agent that a post wakes."""
+
+    target: int | None
+    items: list[Item | None] = field(default_factory=list)
+    posts: int = 0
+
+
+@dataclass
+class Agent:
+    """An agent: which messages of each thread it knows, up to a number and early ones, its run list, and how much it sent of its queue."""
+
+    upto: dict[int, int] = field(default_factory=dict)
+    early: dict[int, set[int]] = field(default_factory=dict)
+    names: list[int] = field(default_factory=list)
+    sent: int = 0
+    is_asleep: bool = False
+
+    def learn(self, items: Iterable[Item]) -> None:
+        for name, number in items:
+            upto, early = self.upto.get(name, 0), self.early.setdefault(name, set())
+            if number > upto:
+                early.add(number)
+            while upto + 1 in early:
+                upto += 1
+                early.discard(upto)
+            self.upto[name] = upto
+
+    def knows(self, name: int, number: int) -> bool:
+        return number <= self.upto.get(name, 0) or number in self.early.get(name, ())
+
+    def view(self) -> dict[int, tuple[int, list[int]]]:
+        return {name: (upto, sorted(self.early[name])) for name, upto in sorted(self.upto.items())}
+
+
+@dataclass
+class World:
+    """The kernel, its agents, and the deltas that they sent. A command is a method; `ask` has its answer."""
+
+    cpus: int
+    threads_most: int = 65_535
+    numbers_most: int = 1_000_000
+    room: int = 65_536
+    posts_most: int = WORD32
+    order: str = "levels"
+    exact: bool = False
+
+    def __post_init__(self) -> None:
+        self.threads: list[Thread] = []
+        self.queues = [Queue(cpu) for cpu in range(self.cpus)]
+        self.agents = [Agent() for _ in range(self.cpus)]
+        self.running: list[int | None] = [None] * self.cpus
+        self.deltas: list[list[Item]] = []
+        self.pending: Counter[int] = Counter()  # messages of each thread that stand in a queue
+        self.had_event = False
+
+    def ask(self, verb: str, *fields: int | str) -> str:
+        """The answer to a command."""
+        self.had_event |= verb not in QUESTIONS | {"policy"}
+        try:
+            answer: str = self.leave(verb, *fields) if verb in LEAVES else getattr(self, verb)(*fields)  # type: ignore[arg-type]
+        except Refused as refusal:
+            return f"refused {refusal}"
+        return answer
+
+    def say(self, line: str) -> str:
+        """The answer to a command that is spelled without a fault."""
+        verb, *words = line.split()
+        return self.ask(verb, *(int(word.removeprefix("t")) if word[-1].isdigit() else word for word in words))
+
+    def need(self, holds: object, refusal: str) -> None:
+        if not holds:
+            raise Refused(refusal)
+
+    def need_cpus(self, *cpus: int) -> None:
+        self.need(all(cpu < self.cpus for cpu in cpus), "BadCpu")
+
+    def thread_at(self, name: int) -> Thread:
+        self.need(name < len(self.threads), "UnknownThread")
+        return self.threads[name]
+
+    def alive(self, name: int) -> Thread:
+        thread = self.thread_at(name)
+        self.need(thread.now.phase != "dead", "Dead")
+        return thread
+
+    def need_mask(self, mask: int) -> None:
+        self.need(mask, "EmptyMask")
+        self.need(mask < 1 << self.cpus, "MaskTooWide")
+
+    def policy(self, order: str, exact: str = "") -> str:
+        self.need(not self.had_event, "TooLate")
+        self.order, self.exact = order, bool(exact)
+        return "ok"
+
+    # What the kernel reports
+
+    def need_room(self, queue: int) -> None:
+        self.need(len(self.queues[queue].items) < self.room, "QueueFull")
+        self.need(self.queues[queue].posts < self.posts_most, "PostsSpent")
+
+    def post(self, queue: int, item: Item | None) -> str:
+        self.need_room(queue)
+        it = self.queues[queue]
+        it.items.append(item)
+        it.posts += 1
+        if item:
+            self.pending[item[0]] += 1
+        woken = it.target if it.target is not None and self.agents[it.target].is_asleep else None
+        if woken is not None:
+            self.agents[woken].is_asleep = False
+        subject = f"t{item[0]} n{item[1]}" if item else "-"
+        return f"ok {subject} q{queue} a{it.posts} wake {'-' if woken is None else woken}"
+
+    def message(self, name: int, report: Report) -> str:
+        thread = self.threads[name]
+        self.need(thread.number < self.numbers_most, "NumbersSpent")
+        answer = self.post(thread.home, (name, thread.number + 1))
+        thread.reports.append(report)
+        return answer
+
+    def create(self, queue: int, mask: int, phase: str) -> str:
+        self.need_cpus(queue)
+        self.need_mask(mask)
+        self.need(len(self.threads) < self.threads_most, "NamesSpent")
+        self.need_room(queue)
+        self.threads.append(Thread(queue))
+        return self.message(len(self.threads) - 1, Report(phase, mask))
+
+    def wake(self, name: int) -> str:
+        now = self.alive(name).now
+        self.need(now.phase == "blocked", "NotBlocked")
+        return self.message(name, replace(now, phase="ready"))
+
+    def leave(self, how: str, cpu: int, ran: int) -> str:
+        self.need_cpus(cpu)
+        name = self.running[cpu]
+        if name is None:
+            raise Refused("IdleCpu")
+        thread = self.threads[name]
+        answer = self.message(name, replace(thread.now, phase=LEAVES[how], ran=thread.now.ran + ran))
+        self.running[cpu] = thread.cpu = None
+        return answer
+
+    def affinity(self, name: int, mask: int) -> str:
+        thread = self.alive(name)
+        self.need_mask(mask)
+        self.need(thread.cpu is None or mask >> thread.cpu & 1, "OnForbiddenCpu")
+        return self.message(name, replace(thread.now, mask=mask))
+
+    def priority(self, name: int, level: int) -> str:
+        now = self.alive(name).now
+        self.need(level <= 7, "BadLevel")
+        return self.message(name, replace(now, level=level))
+
+    def tick(self, cpu: int) -> str:
+        self.need_cpus(cpu)
+        return self.post(cpu, None)
+
+    # What agents ask of the kernel
+
+    def need_posts(self, cpu: int, aseq: int) -> None:
+        self.need(aseq == self.queues[cpu].posts, f"Stale {self.queues[cpu].posts}")
+
+    def associate(self, name: int, queue: int, number: int) -> str:
+        self.thread_at(name)
+        self.need_cpus(queue)
+        thread = self.alive(name)
+        self.need(number == thread.number, f"Stale {thread.number}")
+        self.need(not self.pending[name], "Pending")
+        self.need(thread.cpu is None, f"Running {thread.cpu}")
+        thread.home = queue
+        return f"ok t{name} q{queue}"
+
+    def commit(self, cpu: int, name: int, aseq: int) -> str:
+        self.need_cpus(cpu)
+        thread = self.thread_at(name)
+        self.need_posts(cpu, aseq)
+        self.need(thread.now.phase == "ready", "NotReady")
+        self.need(thread.home == cpu, f"NotYours {thread.home}")
+        self.need(thread.cpu is None, f"Running {thread.cpu}")
+        self.need(thread.now.may_run(cpu), "Forbidden")
+        self.need(self.running[cpu] is None, "Busy")
+        self.running[cpu], thread.cpu = name, cpu
+        return f"ok t{name} c{cpu}"
+
+    def sleep(self, cpu: int, aseq: int) -> str:
+        self.need_cpus(cpu)
+        self.need_posts(cpu, aseq)
+        self.agents[cpu].is_asleep = True
+        return "ok"
+
+    def rouse(self, cpu: int) -> str:
+        self.need_cpus(cpu)
+        self.agents[cpu].is_asleep = False
+        return "ok"
+
+    def config(self, queue: int, target: int | str) -> str:
+        self.need_cpus(queue, *([target] if isinstance(target, int) else []))
+        self.queues[queue].target = target if isinstance(target, int) else None
+        return self.rouse(target) if isinstance(target, int) else "ok"
+
+    # What agents know, and tell each other
+
+    def reported(self, cpu: int, name: int) -> Report | None:
+        upto = self.agents[cpu].upto.get(name, 0)
+        return self.threads[name].reports[upto - 1] if upto else None
+
+    def may_run(self, cpu: int, name: int) -> bool:
+        report = self.reported(cpu, name)
+        return report is not None and report.may_run(cpu)
+
+    def rank_told(self, cpu: int, name: int) -> Rank:
+        report = self.reported(cpu, name)
+        assert report is not None
+        return report.rank(self.order)
+
+    def publish(self, cpu: int, fails: str = "") -> str:
+        self.need_cpus(cpu)
+        agent, items = self.agents[cpu], self.queues[cpu].items
+        messages = [item for item in items if item]
+        agent.learn(messages)
+        names = dict.fromkeys([*agent.names, *(name for name, _ in messages)])
+        agent.names = sorted((name for name in names if self.may_run(cpu, name)), key=lambda name: self.rank_told(cpu, name))
+        self.need(not fails, "WireFault")
+        agent.sent = len(items)
+        self.deltas.append(messages)
+        return f"ok d{len(self.deltas) - 1} items {agent.sent}"
+
+    def consume(self, cpu: int) -> str:
+        self.need_cpus(cpu)
+        count, self.agents[cpu].sent = self.agents[cpu].sent, 0
+        self.pending.subtract(item[0] for item in self.queues[cpu].items[:count] if item)
+        del self.queues[cpu].items[:count]
+        return f"ok {count}"
+
+    def deliver(self, cpu: int, delta: int) -> str:
+        self.need_cpus(cpu)
+        self.need(delta < len(self.deltas), "NoDelta")
+        self.agents[cpu].learn(self.deltas[delta])
+        return "ok"
+
+    def answer(self, cpu: int, asker: int) -> str:
+        """Of a thread of which the asker lacks a message that is known without a gap all such messages are told."""
+        self.need_cpus(cpu, asker)
+        other, told = self.agents[asker], []
+        for name, (upto, early) in self.agents[cpu].view().items():
+            if any(not other.knows(name, number) for number in range(1, upto + 1)):
+                told += [(name, number) for number in range(1, upto + 1)]
+            told += [(name, number) for number in early if not other.knows(name, number)]
+        self.deltas.append(told)
+        return f"ok d{len(self.deltas) - 1}"
+
+    # Agents that decide, and that fail
+
+    def would_commit(self, cpu: int, name: int) -> bool:
+        """Whether the kernel lets the thread run there, if the CPU is idle."""
+        thread = self.threads[name]
+        return thread.home == cpu and thread.cpu is None and thread.now.may_run(cpu)
+
+    def first(self, cpu: int) -> int | None:
+        """The first of the agent's run list that could run now."""
+        return next((name for name in self.agents[cpu].names if self.would_commit(cpu, name)), None)
+
+    def pick(self, cpu: int, aseq: int) -> str:
+        self.need_cpus(cpu)
+        self.need_posts(cpu, aseq)
+        self.need(self.running[cpu] is None, "Busy")
+        names = self.agents[cpu].names
+        while names:
+            name = names.pop(0)
+            if self.would_commit(cpu, name):
+                return self.commit(cpu, name, aseq)
+        raise Refused("NothingReady")
+
+    def candidates(self, cpu: int) -> Iterator[int]:
+        """The threads that a steal may take, in the order of names; those of which all is known, where it is exact."""
+        agent = self.agents[cpu]
+        for name, upto in sorted(agent.upto.items()):
+            thread = self.threads[name]
+            if thread.cpu is None and name not in agent.names and self.may_run(cpu, name):
+                if not self.exact or upto == thread.number:
+                    yield name
+
+    def target(self, cpu: int) -> int | None:
+        """The thread that a steal tries."""
+        if not self.exact:
+            return next(self.candidates(cpu), None)
+        ranked = [(self.rank_told(cpu, name), name) for name in self.candidates(cpu)]
+        return min(ranked)[1] if ranked else None
+
+    def steal(self, cpu: int) -> str:
+        self.need_cpus(cpu)
+        self.need(self.running[cpu] is None, "Busy")
+        name = self.target(cpu)
+        if name is None:
+            raise Refused("NothingToSteal")
+        answer = self.associate(name, cpu, self.agents[cpu].upto[name])
+        self.agents[cpu].names.append(name)
+        return answer
+
+    def crash(self, cpu: int) -> str:
+        self.need_cpus(cpu)
+        self.agents[cpu] = Agent()
+        return "ok"
+
+    def mend(self, cpu: int) -> str:
+        """All queues are cleared, the agent takes all in, and picks; where nothing is ready then, it steals and picks."""
+        self.need_cpus(cpu)
+        self.need(self.running[cpu] is None, "Busy")
+        for each in range(self.cpus):
+            self.publish(each)
+            self.consume(each)
+        for delta in range(len(self.deltas)):
+            self.deliver(cpu, delta)
+        posts = self.queues[cpu].posts
+        if not (answer := self.ask("pick", cpu, posts)).startswith("ok"):
+            self.ask("steal", cpu)
+            answer = self.pick(cpu, posts)
+        return answer
+
+    # Questions
+
+    def status(self, name: int) -> str:
+        thread = self.thread_at(name)
+        return f"t{name} n{thread.number} {thread.now.phase}" + ("" if thread.cpu is None else f" c{thread.cpu}")
+
+    def asleep(self, cpu: int) -> str:
+        self.need_cpus(cpu)
+        return "yes" if self.agents[cpu].is_asleep else "no"
+
+    def show(self, cpu: int) -> str:
+        self.need_cpus(cpu)
+        rows = []
+        for name, (upto, early) in self.agents[cpu].view().items():
+            report = self.reported(cpu, name)
+            told = "-" if report is None else f"{report.phase} mask {report.mask} ran {report.ran}"
+            told += f" level {report.level}" if report and report.level else ""
+            rows.append(f"t{name} upto {upto} {told} early {' '.join(map(str, early)) or '-'}")
+        return "\n".join([*rows, "end"])
+
+    def same(self, cpu: int, other: int) -> str:
+        self.need_cpus(cpu, other)
+        return "equal" if self.agents[cpu].view() == self.agents[other].view() else "differ"
+
+    def complete(self, cpu: int, name: int) -> str:
+        self.need_cpus(cpu)
+        is_there = name < len(self.threads)
+        return "yes" if is_there and self.agents[cpu].upto.get(name) == self.threads[name].number else "no"
+
+
+class Talk:
+    """A script that is answered line by line, as a session does: behind a fault it goes on."""
+
+    def __init__(self) -> None:
+        self.world: World | None = None
+        self.version, self.is_first, self.number, self.faults = 1, True, 0, 0
+
+    def take(self, line: bytes) -> str | None:
+        """The answer to a line; none where it is silent."""
+        self.number += 1
+        words = words_of(line)
+        if not words:
+            return None
+        is_first, self.is_first = self.is_first, False
+        if is_first and words in (["version", "2"], ["version", "3"]):
+            self.version = int(words[1])
+            return "ok"
+        fields = fields_of(words, self.version)
+        if fields is None:
+            self.faults += 1
+            return f"fault line {self.number}"
+        if words[0] == "enclave":
+            return self.open([int(it) for it in fields])
+        return "refused NoEnclave" if self.world is None else self.world.ask(words[0], *fields)
+
+    def open(self, limits: list[int]) -> str:
+        if self.world is not None:
+            return "refused HaveEnclave"
+        for (name, most), limit in zip(MOST.items(), limits):
+            if not 1 <= limit <= most[self.version > 1]:
+                return f"refused BadLimits {name}"
+        cpus, threads, numbers, room, posts = limits
+        self.world = World(cpus, threads, numbers, room, posts)
+        return "ok"
+
+
+def told_of(script: bytes, goes_on: bool = False) -> tuple[str, int]:
+    """What a replay writes of a script, and its status; or a session, which goes on behind a fault."""
+    talk, answers = Talk(), []
+    for line in script.split(b"\n"):
+        answer = talk.take(line)
+        answers += [] if answer is None else [answer + "\n"]
+        if talk.faults and not goes_on:
+            break
+    return "".join(answers), 1 if talk.faults else 0

@@ -1,0 +1,69 @@
+"""Texts of settings and of loads: tables of TOML, and threads that are drawn."""
+from __future__ import annotations
+
+import json
+import random
+from collections.abc import Sequence
+
+from kernel import ORDERS
+
+LEAVES = ("yield", "block", "preempt")
+
+
+class Raw(str):
+    """A value that is written as it stands."""
+
+
+def spelled(value: object) -> str:
+    if isinstance(value, (list, tuple)):
+        return "[" + ", ".join(map(spelled, value)) + "]"
+    return str(value) if isinstance(value, Raw) else json.dumps(value)
+
+
+def table(kind: str, /, **keys: object) -> str:
+    return f"[[{kind}]]\n" + "".join(f"{key} = {spelled(value)}\n" for key, value in keys.items())
+
+
+def thread(queue: object, mask: object, *steps: object, **more: object) -> str:
+    return table("thread", queue=queue, mask=mask, steps=steps, **more)
+
+
+def restart(cpu: object, turn: object) -> str:
+    return table("restart", cpu=cpu, turn=turn)
+
+
+def variant(name: str, **keys: object) -> str:
+    return table("variant", name=name, **keys)
+
+
+def drawn_steps(chance: random.Random, counts: Sequence[int], ticks: Sequence[int], last: Sequence[int] | None = None) -> list[str]:
+    """So many steps of so many ticks, and a `die`."""
+    steps = [f"{chance.choice(LEAVES)} {chance.choice(ticks)}" for _ in range(chance.choice(counts))]
+    return [*steps, f"die {chance.choice(last or ticks)}"]
+
+
+def drawn_threads(chance: random.Random, cpus: int, count: int) -> str:
+    """Threads of a load, most of which sleep behind each block."""
+    text, start = "", 0
+    for _ in range(count):
+        queue = chance.randrange(cpus)
+        start += chance.choice([0, 0, 1, 7])
+        steps = drawn_steps(chance, range(6), range(13), range(31))
+        sleeps = [chance.randint(0, 20) for step in steps if step.startswith("block") and chance.random() < 0.9]
+        mask, level = chance.randrange(1 << cpus) | 1 << queue, chance.choice([0, 0, 3, 7])
+        text += thread(queue, mask, *steps, start=start, level=level, sleeps=sleeps)
+    return text
+
+
+def drawn_load(chance: random.Random, most: int = 14) -> str:
+    """A load of at most so many threads, with variants."""
+    cpus = chance.choice([1, 2, 2, 3, 5, 8])
+    text = f"cpus = {cpus}\n" + (f"until = {chance.randint(1, 200)}\n" if chance.random() < 0.2 else "")
+    text += drawn_threads(chance, cpus, chance.randint(0, most))
+    every: dict[str, list[object]] = {
+        "order": [*ORDERS], "steals": ["least", "exact"], "quantum": [0, 0, 1, 5, 10], "group": [1, 2, 3, 64, 64], "delay": [0, 0, 1, 5, 12],
+        "cost": [0, 0, 1, 3], "urgent": [True, False], "keep": [True, False],
+    }
+    for place in range(chance.randint(1, 4)):
+        text += variant(f"v{place}", **{key: chance.choice(values) for key, values in every.items()})
+    return text
