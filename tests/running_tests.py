@@ -20,7 +20,7 @@ from rig import good, matches, outcome, same
 from tables import drawn_steps, restart, thread
 
 DRAWN = 40
-POLICIES = [order + rest for order in ORDERS for rest in ("", ",exact")]
+POLICIES = [order + rest for order in ORDERS for rest in ("", " exact")]
 CPU_LINE = re.compile(r"cpu (\d+)((?: [A-Za-z]+ \d+)+)")
 
 
@@ -52,9 +52,8 @@ def commits_of(lines: list[str]) -> list[str]:
 
 def picked(policy: str, lines: list[str]) -> list[str]:
     """Which threads an agent of one CPU picks by this policy, where the script of a run has it commit one."""
-    order, *exact = policy.split(",")
     picks = [re.sub(r"^commit 0 t\d+ ", "pick 0 ", line) for line in lines]
-    script = "\n".join(["version 3", picks[0], " ".join(["policy", order, *exact]), *picks[1:], ""])
+    script = "\n".join(["version 3", picks[0], f"policy {policy}", *picks[1:], ""])
     return [answer.split()[1] for _, words, answer in answered(script, rig.ask("replay", given=script).stdout) if words[0] == "pick"]
 
 
@@ -110,7 +109,7 @@ def test_runs_under_each_policy_come_to_the_same() -> None:
             reports.add("\n".join(lines[:4]))
             # An exact steal is of a thread of which all is known, so also that it is not dead.
             dead = sum(counts_of(line)["Dead"] for line in lines[4:])
-            assert not (policy.endswith(",exact") and dead), (policy, text)
+            assert not (policy.endswith(" exact") and dead), (policy, text)
         same(len(reports), 1, text)
         assert f"\ncommits {steps}\n" in reports.pop(), text
 
@@ -129,7 +128,7 @@ def test_exact_steals_take_the_fewest_ticks() -> None:
     its name, or the one that did not run yet. `fifo` has both alike, and then the name counts."""
     text = "cpus = 2\n" + thread(0, 1, "yield 5", "die 1") + thread(0, 1, "die 1") + restart(0, 2)
     by_name, by_ticks = ["t0", "t0", "t1"], ["t0", "t1", "t0"]
-    wanted = {"least-ran": by_name, "least-ran,exact": by_ticks, "fifo": by_name, "fifo,exact": by_name}
+    wanted = {"least-ran": by_name, "least-ran exact": by_ticks, "fifo": by_name, "fifo exact": by_name}
     for policy, threads in wanted.items():
         same(commits_of(script_of(policy, text)), threads, policy)
 
@@ -138,7 +137,7 @@ def test_a_run_of_one_agent_commits_what_it_picks() -> None:
     """An agent of a script, which looks where that of the run did, picks by the same policy what that one committed,
     and by another one, for some settings, something else. All threads of a run have level 0, so `fifo` is `levels`."""
     rng = random.Random(83)
-    others = dict.fromkeys(("fifo", "fifo,exact", "least-ran", "least-ran,exact"), 0)
+    others = dict.fromkeys(("fifo", "fifo exact", "least-ran", "least-ran exact"), 0)
     for _ in range(DRAWN // 4):
         text = "cpus = 1\n" + "".join(thread(0, 1, *drawn_steps(rng, range(1, 7), range(10), range(1, 2))) for _ in range(5))
         for policy in others:

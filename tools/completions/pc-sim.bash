@@ -22,7 +22,7 @@ _pc_sim_files() {
 }
 
 _pc_sim() {
-    local word=${COMP_WORDS[COMP_CWORD]} command flags name policies
+    local word=${COMP_WORDS[COMP_CWORD]} command flags name policy
     command=$(_pc_sim_command "${COMP_WORDS[@]:1:COMP_CWORD-1}")
     COMPREPLY=()
     case $command in
@@ -37,9 +37,10 @@ _pc_sim() {
     --limit | --cpus | --lines) return ;;
     --policy)
         for name in levels fifo least-ran levels-then-least-ran; do
-            policies+=" $name $name,exact"
+            for policy in "$name" "$name\\ exact"; do
+                [[ $policy != "$word"* ]] || COMPREPLY+=("$policy")
+            done
         done
-        mapfile -t COMPREPLY < <(compgen -W "$policies" -- "$word")
         return
         ;;
     --script)

@@ -2,7 +2,7 @@
 #     cp tools/completions/pc-sim.fish ~/.config/fish/completions/
 
 set -l commands replay explain draw run session lab
-set -l policies {levels,fifo,least-ran,levels-then-least-ran}{,\,exact}
+set -l policies levels fifo least-ran levels-then-least-ran
 
 complete -c pc-sim -f
 complete -c pc-sim -n "not __fish_seen_subcommand_from $commands" -a replay -d "Answers each command of a script"
