@@ -26,8 +26,15 @@ impl Known {
     /// Takes the next message, of this kind.
     fn take(&mut self, kind: Option<Kind>) {
         self.upto = self.upto.saturating_add(1);
-        if let Some(kind) = kind {
-            self.reported = reported_after(self.reported, kind);
+        let Some(kind) = kind else {
+            return;
+        };
+        let next = match &self.reported {
+            None => Reported::first(kind),
+            Some(before) => reported_after(before, kind),
+        };
+        if next.is_some() {
+            self.reported = next;
         }
     }
 
@@ -45,14 +52,11 @@ impl Known {
     }
 }
 
-/// What a thread's messages report after one more.
-fn reported_after(reported: Option<Reported>, kind: Kind) -> Option<Reported> {
-    match reported {
-        None => Reported::first(kind),
-        Some(before) => match before.ran.checked_add(kind.ran() as u64) {
-            Some(_) => Some(before.apply(kind)),
-            None => Some(before),
-        },
+/// What a thread's messages report after one more; none where its ticks are too many to count.
+fn reported_after(before: &Reported, kind: Kind) -> Option<Reported> {
+    match before.ran.checked_add(kind.ran() as u64) {
+        Some(_) => Some(before.apply(kind)),
+        None => None,
     }
 }
 

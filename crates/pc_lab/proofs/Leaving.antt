@@ -8,7 +8,7 @@ use Rattle.pc_lab.specs.Creations.{CreatesNone}
 use Rattle.pc_lab.specs.Moments.{IsPlayable}
 
 pub leaves : (leaving : Leaving) (cpu ran : ℕ) → CreatesNone (Env (call_for leaving cpu ran)) × IsPlayable (Env (call_for leaving cpu ran))
-leaves Yield cpu ran = (λ tick. refl, tt, tt)
-leaves Block cpu ran = (λ tick. refl, tt, tt)
-leaves Preempt cpu ran = (λ tick. refl, tt, tt)
-leaves Die cpu ran = (λ tick. refl, tt, tt)
+leaves Yield cpu ran = (λ tick. refl, (tt, tt))
+leaves Block cpu ran = (λ tick. refl, (tt, tt))
+leaves Preempt cpu ran = (λ tick. refl, (tt, tt))
+leaves Die cpu ran = (λ tick. refl, (tt, tt))

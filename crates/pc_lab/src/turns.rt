@@ -212,16 +212,20 @@ impl<K: Setting> Run<K> {
             return u64::MAX;
         };
         let ran = self.lane(cpu).ran;
-        let (own, later) = (
-            self.rank(cpu, thread, ran),
-            self.rank(cpu, thread, ran.saturating_add(1)),
-        );
-        match (own, later, self.rank(cpu, first, 0)) {
-            // What it runs does not bring it nearer.
-            (Some(own), Some(later), Some(other)) if own < other && later == own => u64::MAX,
-            (Some(own), _, Some(other)) => other.saturating_sub(own),
-            _ => 0,
+        let Some(own) = self.rank(cpu, thread, ran) else {
+            return 0;
+        };
+        let Some(later) = self.rank(cpu, thread, ran.saturating_add(1)) else {
+            return 0;
+        };
+        let Some(other) = self.rank(cpu, first, 0) else {
+            return 0;
+        };
+        // Where a tick changes no rank, what it runs does not bring it nearer.
+        if own < other && later == own {
+            return u64::MAX;
         }
+        other.saturating_sub(own)
     }
 
     /// The first tick at which anything may change.
