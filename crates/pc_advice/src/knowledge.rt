@@ -24,13 +24,13 @@ pub(crate) struct Known {
 
 impl Known {
     /// Takes the next message, of this kind.
-    fn take(&mut self, kind: Option<Kind>) {
+    fn take(&mut self, kind: &Option<Kind>) {
         self.upto = self.upto.saturating_add(1);
         let Some(kind) = kind else {
             return;
         };
         let next = match &self.reported {
-            None => Reported::first(kind),
+            None => Reported::first(*kind),
             Some(before) => reported_after(before, kind),
         };
         if next.is_some() {
@@ -53,9 +53,9 @@ impl Known {
 }
 
 /// What a thread's messages report after one more; none where its ticks are too many to count.
-fn reported_after(before: &Reported, kind: Kind) -> Option<Reported> {
-    match before.ran.checked_add(kind.ran() as u64) {
-        Some(_) => Some(before.apply(kind)),
+fn reported_after(before: &Reported, kind: &Kind) -> Option<Reported> {
+    match before.ran.checked_add((*kind).ran() as u64) {
+        Some(_) => Some(before.apply(*kind)),
         None => None,
     }
 }
@@ -253,7 +253,7 @@ impl Ahead<'_> {
             if !self.knows(cpu, thread, number, before) {
                 break;
             }
-            known.take(self.kind_at(thread, number));
+            known.take(&self.kind_at(thread, number));
         }
         known
     }
