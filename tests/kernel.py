@@ -112,8 +112,8 @@ class Report:
 
     def rank(self, order: str, more: int = 0) -> Rank:
         """By this order, of a thread that ran for so many ticks more: the least comes first."""
-        below, ran = 7 - self.level, self.ran + more
-        return {"levels": (below, 0), "fifo": (0, 0), "least-ran": (ran, 0)}.get(order, (below, ran))
+        by_level = 0 if order in ("fifo", "least-ran") else 7 - self.level
+        return by_level, self.ran + more if order.endswith("least-ran") else 0
 
     def may_run(self, cpu: int) -> bool:
         return self.phase == "ready" and bool(self.mask >> cpu & 1)
@@ -205,7 +205,8 @@ class World:
     def say(self, line: str) -> str:
         """The answer to a command that is spelled without a fault."""
         verb, *words = line.split()
-        return self.ask(verb, *(int(word.removeprefix("t")) if word[-1].isdigit() else word for word in words))
+        fields: list[int | str] = [int(word.removeprefix("t")) if word[-1].isdigit() else word for word in words]
+        return self.ask(verb, *fields)
 
     def need(self, holds: object, refusal: str) -> None:
         if not holds:
@@ -349,18 +350,14 @@ class World:
         report = self.reported(cpu, name)
         return report is not None and report.may_run(cpu)
 
-    def rank_told(self, cpu: int, name: int) -> Rank:
-        report = self.reported(cpu, name)
-        assert report is not None
-        return report.rank(self.order)
-
     def publish(self, cpu: int, fails: str = "") -> str:
         self.need_cpus(cpu)
         agent, items = self.agents[cpu], self.queues[cpu].items
         messages = [item for item in items if item]
         agent.learn(messages)
-        names = dict.fromkeys([*agent.names, *(name for name, _ in messages)])
-        agent.names = sorted((name for name in names if self.may_run(cpu, name)), key=lambda name: self.rank_told(cpu, name))
+        told = {name: self.reported(cpu, name) for name in [*agent.names, *(name for name, _ in messages)]}
+        able = {name: report.rank(self.order) for name, report in told.items() if report and report.may_run(cpu)}
+        agent.names = sorted(able, key=able.__getitem__)
         self.need(not fails, "WireFault")
         agent.sent = len(items)
         self.deltas.append(messages)
@@ -412,21 +409,22 @@ class World:
                 return self.commit(cpu, name, aseq)
         raise Refused("NothingReady")
 
-    def candidates(self, cpu: int) -> Iterator[int]:
-        """The threads that a steal may take, in the order of names; those of which all is known, where it is exact."""
+    def candidates(self, cpu: int) -> Iterator[tuple[Rank, int]]:
+        """The threads that a steal may take, each with what comes first where it counts; those of which all is known, where it is exact."""
         agent = self.agents[cpu]
-        for name, upto in sorted(agent.upto.items()):
+        listed = set(agent.names)
+        for name, upto in agent.upto.items():
             thread = self.threads[name]
-            if thread.cpu is None and name not in agent.names and self.may_run(cpu, name):
-                if not self.exact or upto == thread.number:
-                    yield name
+            if thread.cpu is None and name not in listed and upto and thread.reports[upto - 1].may_run(cpu):
+                if not self.exact:
+                    yield (0, 0), name
+                elif upto == thread.number:
+                    yield thread.now.rank(self.order), name
 
     def target(self, cpu: int) -> int | None:
         """The thread that a steal tries."""
-        if not self.exact:
-            return next(self.candidates(cpu), None)
-        ranked = [(self.rank_told(cpu, name), name) for name in self.candidates(cpu)]
-        return min(ranked)[1] if ranked else None
+        first = min(self.candidates(cpu), default=None)
+        return first[1] if first else None
 
     def steal(self, cpu: int) -> str:
         self.need_cpus(cpu)

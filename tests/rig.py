@@ -196,11 +196,11 @@ def given(make: Callable[[pathlib.Path], Any], test: Callable[..., object], *cel
 
 def tests_in(names: dict[str, Any], *modules: object) -> list[Test]:
     """The tests of a file, and of further modules. Where the file has a FIXTURE, each test is given what that makes of an empty folder."""
-    made, found = names.get("FIXTURE"), []
+    made, tests = names.get("FIXTURE"), list[Test]()
     for name, it in [row for table in (names, *map(vars, modules)) for row in table.items() if row[0].startswith("test_")]:
         rows = {f"{name}: {row}": cells for row, cells in it.rows.items()} if hasattr(it, "rows") else {name: ()}
-        found += [(name, partial(given, made, it, *cells) if made else partial(it, *cells)) for name, cells in rows.items()]
-    return found
+        tests += [(name, partial(given, made, it, *cells) if made else partial(it, *cells)) for name, cells in rows.items()]
+    return tests
 
 
 _tests: list[Test] = []
