@@ -1,14 +1,15 @@
 //! The command line.
 
 ghost use Rattle.std.specs.Prelude.{◌≡◌, ◌↔◌, ◌⊎◌, [], Some, Err, IfOk, IfErr, IsTrue, map, option_map};
-ghost use Rattle.std.specs.Prelude.{string_bytes, codes};
+ghost use Rattle.std.specs.Prelude.{string_bytes, codes, MatchOption};
+ghost use Rattle.pc_policy.specs.Names.{policy_text};
 ghost use Rattle.clap.specs.Walk.{first_of, one_of, rows_of};
 ghost use Rattle.clap.specs.Simple.{subcommand_of, subcommand_rows_of};
 ghost use Rattle.clap.specs.Faults.{fault_of};
 ghost use Rattle.clap.specs.Matches.{found_of};
 ghost use Rattle.pc_program.specs.CommandLine.{IsAsked, IsAxis, IsCommandMet, IsInput, IsLimit, IsNoPart, IsPart};
 ghost use Rattle.pc_program.specs.CommandLine.{IsFrom, IsNoPolicy, IsPolicy, IsRefusal, IsReportForm, IsSpelled};
-ghost use Rattle.pc_program.specs.CommandLine.{IsUnnamed, IsUnread, pc_sim};
+ghost use Rattle.pc_program.specs.CommandLine.{IsUnnamed, IsUnread, NamesNone, pc_sim};
 ghost use Rattle.pc_program.specs.Inner.FirstWord.{first_word};
 
 mod parsers;
@@ -320,6 +321,13 @@ fn limit_of(matches: &ArgMatches<'_>) -> Option<u32>
     matches.get_one::<u32>("limit")
 }
 
+/// The policy that a word of the command line names.
+fn policy_named(word: &str) -> Option<PolicyName>
+    ensures { MatchOption result (NamesNone word.now) (λ policy. word.now ≡ policy_text policy) }
+{
+    PolicyName::named(word.as_bytes())
+}
+
 /// What every agent goes by: the usual policy where none is named.
 fn policy_of(matches: &ArgMatches<'_>) -> Result<PolicyName, CommandFault>
     ensures named { IfOk result (IsPolicy (first_of (codes "policy") (rows_of (found_of matches.now)))) }
@@ -328,7 +336,7 @@ fn policy_of(matches: &ArgMatches<'_>) -> Result<PolicyName, CommandFault>
 {
     match matches.get_str("policy") {
         None => Ok(PolicyName::USUAL),
-        Some(text) => match PolicyName::named(text.as_bytes()) {
+        Some(word) => match policy_named(word) {
             Some(policy) => Ok(policy),
             None => Err(CommandFault::BadPolicy),
         },
