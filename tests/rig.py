@@ -238,6 +238,8 @@ def main(
                 ends = list(pool.map(_fault_at, range(len(_tests))))
         else:
             ends = [_fault_at(place) for place in range(len(_tests))]
+        if not _tests:
+            tally.add("tests", "none has this name")
         for (name, _), (fault, skips) in zip(_tests, ends):
             tally.add(f"{name} ({program.name})" if both else name, fault, skips)
     return tally.last_line()

@@ -520,6 +520,9 @@ def main() -> int:
         return 1
     crates = {crate.name: crate for crate in tools.crates_below(str(root))}
     for name in options.crates or crates:
+        if name not in crates:
+            wrong[name] = "there is no such crate"
+            continue
         bodies, bad = bodies_of(root, name, options.folder, rows)
         wrong |= bad
         tasks += [(name, bodies)] if bodies else []
