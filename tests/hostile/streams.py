@@ -68,9 +68,13 @@ def fault_of_write(subject, run):
     return None if subject.out.startswith(subject.plain(run.out)) else "what was written is no first part of the answers"
 
 
+# So few calls are all tried.
+FEW = 160
+
+
 def numbers(count, most):
-    """The first, some between, and the last of so many calls."""
-    step = max(1, count // most)
+    """The first, some between, and the last of so many calls; all, where they are few."""
+    step = 1 if count <= FEW else max(1, count // most)
     return sorted({*range(1, count + 1, step), *([count] if count else [])})
 
 
