@@ -1,4 +1,4 @@
-use Rattle.std.proofs.Common.{◌≡◌, ◌∙◌, subst, refl, Some, None, codes, rules}
+use Rattle.std.proofs.Common.{◌≡◌, ◌∙◌, false, subst, refl, Some, None, codes, rules}
 use Rattle.std.specs.Option.{IsSomeAnd}
 use Rattle.clap.specs.Matches.{found_of, first_value}
 use Rattle.clap.proofs.WalkLemmas.{first_value-rows}
