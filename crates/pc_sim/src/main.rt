@@ -11,10 +11,9 @@ mod words;
 
 use lab::try_on_machine;
 use met::{Met, Source, say_failure};
-use pc_policy::AgentPolicy;
 use pc_program::{
-    Command, CommandFault, Ending, Failure, Form, Manual, converse_flushed, make_flushed,
-    read_command, replay_flushed,
+    AgentPolicy, Command, CommandFault, Ending, Failure, Form, Manual, converse_flushed,
+    make_flushed, read_command, replay_flushed,
 };
 use pc_script::MOST_BYTES;
 use pc_trial::Wanted;
