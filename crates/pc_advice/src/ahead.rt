@@ -6,7 +6,7 @@ use crate::deed::Deed;
 use crate::lacks::Goal;
 use crate::plan::{Plan, PlannedStep};
 use pc_agent::Agent;
-use pc_calls::{EnvCall, Leaving};
+use pc_calls::{Effect, EnvCall};
 use pc_messages::{Cpu, Item, Phase, Tid};
 use pc_policy::PolicyName;
 use pc_world::World;
@@ -49,7 +49,7 @@ impl Standing {
 
     /// Whether it waits for a CPU, and may run on this one.
     pub(crate) fn is_runnable(&self, cpu: Cpu) -> bool {
-        self.phase == Phase::Ready && self.on.is_none() && self.may_run_on(cpu)
+        self.phase.is_ready() && self.on.is_none() && self.may_run_on(cpu)
     }
 
     /// Does a step that is about the thread.
@@ -65,26 +65,21 @@ impl Standing {
 
     /// Takes a further message.
     fn take_call(&mut self, call: &EnvCall) {
-        match *call {
-            EnvCall::Create { .. } | EnvCall::Tick { .. } => return,
-            EnvCall::SetAffinity { mask, .. } => self.mask = mask,
-            EnvCall::Wake { .. } => self.phase = Phase::Ready,
-            _ => {}
+        let effect = call.effect();
+        if is_about_queue(&effect) {
+            // A thread begins as its creation has it, and a tick is of no thread.
+            return;
         }
-        if let Some(left) = call.left() {
-            self.leave(left.leaving);
+        if let EnvCall::SetAffinity { mask, .. } = *call {
+            self.mask = mask;
+        }
+        if let Some(phase) = effect.phase {
+            self.phase = phase;
+        }
+        if effect.left.is_some() {
+            self.on = None;
         }
         self.number = self.number.saturating_add(1);
-    }
-
-    /// It leaves its CPU so.
-    fn leave(&mut self, leaving: Leaving) {
-        self.on = None;
-        match leaving {
-            Leaving::Yield | Leaving::Preempt => {}
-            Leaving::Block => self.phase = Phase::Blocked,
-            Leaving::Die => self.phase = Phase::Dead,
-        }
     }
 }
 
@@ -136,6 +131,11 @@ impl Queued {
             Queued::Unsent | Queued::Sent | Queued::Gone => {}
         }
     }
+}
+
+/// Whether a call with this effect is about a queue, not about a thread that is there.
+fn is_about_queue(effect: &Effect) -> bool {
+    effect.thread.is_none() && effect.left.is_none()
 }
 
 /// Whether a thread leaves the CPU by the call.
@@ -194,9 +194,14 @@ impl<'a> Ahead<'a> {
     /// The queue to which a deed posts.
     fn queue_of(&self, deed: &Deed, thread: &Option<Tid>) -> Option<Cpu> {
         match deed {
-            Deed::Env(EnvCall::Create { queue, .. }) => Some(*queue),
-            Deed::Env(EnvCall::Tick { cpu }) => Some(*cpu),
-            Deed::Env(_) => self.home_of(thread),
+            Deed::Env(call) => {
+                let effect = call.effect();
+                if is_about_queue(&effect) {
+                    effect.cpu
+                } else {
+                    self.home_of(thread)
+                }
+            }
             _ => None,
         }
     }
@@ -226,12 +231,12 @@ impl<'a> Ahead<'a> {
 
     /// The thread that a call is about.
     fn thread_of_call(&self, call: &EnvCall) -> Option<Tid> {
-        match *call {
-            EnvCall::Create { .. } => Some(Tid(self.threads())),
-            EnvCall::Wake { thread }
-            | EnvCall::SetAffinity { thread, .. }
-            | EnvCall::SetPriority { thread, .. } => Some(thread),
-            _ => self.running(call.left()?.cpu),
+        if let EnvCall::Create { .. } = call {
+            return Some(Tid(self.threads()));
+        }
+        match call.left() {
+            Some(left) => self.running(left.cpu),
+            None => call.effect().thread,
         }
     }
 

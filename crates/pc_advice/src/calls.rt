@@ -15,10 +15,11 @@ impl Ahead<'_> {
             EnvCall::SetAffinity { thread, mask } => self.lack_of_affinity(thread, mask),
             EnvCall::SetPriority { thread, level } => self.lack_of_priority(thread, level),
             EnvCall::Tick { cpu } if self.is_cpu(cpu) => self.lack_of_posts(cpu, 1),
-            _ => match call.left() {
-                Some(left) => self.lack_of_leaving(left.cpu),
-                None => Lack::Never,
-            },
+            EnvCall::YieldNow { cpu, .. }
+            | EnvCall::Block { cpu, .. }
+            | EnvCall::Preempt { cpu, .. }
+            | EnvCall::Die { cpu, .. } => self.lack_of_leaving(cpu),
+            EnvCall::Tick { .. } => Lack::Never,
         }
     }
 

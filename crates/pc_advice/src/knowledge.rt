@@ -9,7 +9,7 @@ use crate::lacks::{Lack, publish};
 use crate::plan::Plan;
 use pc_calls::EnvCall;
 use pc_delta::{Delta, Part};
-use pc_messages::{Cpu, Item, Kind, Level, Mask, Phase, Reported, Tid};
+use pc_messages::{Cpu, Item, Kind, Level, Mask, Reported, Tid};
 use pc_policy::{OrderName, Policy};
 
 /// The most items of a queue, deltas, parts of one, and messages of a thread that are looked through.
@@ -46,7 +46,7 @@ impl Known {
     /// Whether the thread waits or runs, and may run on the CPU.
     fn runs_on(&self, cpu: Cpu) -> bool {
         match self.reported {
-            Some(reported) => reported.phase == Phase::Ready && reported.mask.allows(cpu),
+            Some(reported) => reported.may_run_on(cpu),
             None => false,
         }
     }

@@ -1,10 +1,7 @@
--- How threads leave their CPUs, and the events by which a CPU comes to run another thread, or none.
-use Rattle.std.specs.Prelude.{ℕ, Bool, ◌||◌, bytes_eq, List, codes, Option, Some, None, option_map}
-use Rattle.pc_calls.specs.declared.call.AgentCall.TheVariants as agent_call
+-- How threads leave their CPUs.
+use Rattle.std.specs.Prelude.{ℕ, Bool, ◌||◌, bytes_eq, List, codes, Option, Some, None}
 use Rattle.pc_calls.specs.declared.call.EnvCall.{EnvCall}
 use Rattle.pc_calls.specs.declared.call.EnvCall.TheVariants as env
-use Rattle.pc_calls.specs.declared.event.Event.{Event}
-use Rattle.pc_calls.specs.declared.event.Event.TheVariants as event
 use Rattle.pc_calls.specs.declared.leaving.Leaving.{Leaving}
 use Rattle.pc_calls.specs.declared.leaving.Leaving.TheVariants.{Yield, Block, Preempt, Die}
 use Rattle.pc_calls.specs.declared.leaving.Left.{Left}
@@ -44,10 +41,3 @@ left_by (env.Block cpu ran) = Some (leaves cpu Block ran)
 left_by (env.Preempt cpu ran) = Some (leaves cpu Preempt ran)
 left_by (env.Die cpu ran) = Some (leaves cpu Die ran)
 left_by _ = None
-
--- the CPU on which another thread, or none, may run behind an event
-abbrev pub changed_cpu : Event → Option ℕ
-changed_cpu (event.Env call) = option_map (λ left. left.cpu) (left_by call)
-changed_cpu (event.Agent (agent_call.Commit cpu thread aseq)) = Some cpu
-changed_cpu (event.Pick cpu aseq) = Some cpu
-changed_cpu _ = None

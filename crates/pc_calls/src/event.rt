@@ -25,8 +25,9 @@ pub enum Event {
     /// The agent commits the first thread of its run list that the kernel accepts. `aseq` is as in
     /// [`AgentCall::Commit`].
     Pick { cpu: Cpu, aseq: u32 },
-    /// The agent takes the least thread that its view reports ready and allowed on its CPU, that is not in its run
-    /// list, and that the kernel knows and has on no CPU.
+    /// The agent takes over a thread that its view reports ready and allowed on its CPU, that is not in its run list,
+    /// and that the kernel knows and has on no CPU: the one with the least name. Where its steals are exact, it takes
+    /// the first by rank of those of which its view has every message.
     Steal { cpu: Cpu },
     /// The agent starts again, with nothing, and is awake.
     Crash { cpu: Cpu },

@@ -1,10 +1,9 @@
 //! How threads leave their CPUs.
 
 ghost use Rattle.std.specs.Prelude.{◌≡◌, is_some, MatchOption};
-ghost use Rattle.pc_calls.specs.Leavings.{call_by, changed_cpu, is_leaving, leaving_word, left_by};
+ghost use Rattle.pc_calls.specs.Leavings.{call_by, is_leaving, leaving_word, left_by};
 
-use crate::call::{AgentCall, EnvCall};
-use crate::event::Event;
+use crate::call::EnvCall;
 use pc_messages::Cpu;
 
 /// How a thread leaves its CPU (the ghOSt paper's THREAD_YIELD, THREAD_BLOCKED, THREAD_PREEMPTED and THREAD_DEAD).
@@ -98,33 +97,5 @@ impl EnvCall {
             | EnvCall::Tick { .. } => return None,
         };
         Some(Left { cpu, leaving, ran })
-    }
-}
-
-impl Event {
-    /// The CPU on which another thread, or none, may run behind the event; none where it is on no CPU. It takes no
-    /// memory.
-    pub const fn changed_cpu(&self) -> Option<Cpu>
-        ensures { result ≡ changed_cpu self.now }
-    {
-        match *self {
-            Event::Env(call) => match call.left() {
-                Some(left) => Some(left.cpu),
-                None => None,
-            },
-            Event::Agent(AgentCall::Commit { cpu, .. }) | Event::Pick { cpu, .. } => Some(cpu),
-            Event::Agent(
-                AgentCall::Associate { .. }
-                | AgentCall::Sleep { .. }
-                | AgentCall::Rouse { .. }
-                | AgentCall::Config { .. },
-            )
-            | Event::Publish { .. }
-            | Event::Consume { .. }
-            | Event::Deliver { .. }
-            | Event::Answer { .. }
-            | Event::Steal { .. }
-            | Event::Crash { .. } => None,
-        }
     }
 }

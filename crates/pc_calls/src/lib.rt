@@ -7,12 +7,14 @@
 #![tactic(auto)]
 
 mod call;
+mod effect;
 mod event;
 mod leaving;
 mod limits;
 mod refusal;
 
 pub use call::{AgentCall, Answer, Call, EnvCall, Posted, Status};
+pub use effect::Effect;
 pub use event::{Event, Reply};
 pub use leaving::{Leaving, Left};
 pub use limits::{

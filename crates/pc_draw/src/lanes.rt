@@ -1,7 +1,7 @@
 //! What goes on at each CPU, as the world tells it: who runs, who waits, what the queue holds, and whether the
 //! agent sleeps.
 
-use pc_messages::{Cpu, Phase, Tid};
+use pc_messages::{Cpu, Tid};
 use pc_world::World;
 
 /// The most lanes.
@@ -53,15 +53,6 @@ fn items_of(world: &World, cpu: Cpu) -> u32 {
             u32::try_from(front.len().saturating_add(back.len())).unwrap_or(u32::MAX)
         }
         None => 0,
-    }
-}
-
-/// Whether the thread is ready, and on no CPU.
-pub(crate) fn is_waiting(world: &World, thread: Tid) -> bool {
-    let kernel = world.kernel();
-    match (kernel.state(thread), kernel.status(thread)) {
-        (Some(state), Some(status)) => state.phase == Phase::Ready && status.running_on.is_none(),
-        _ => false,
     }
 }
 

@@ -8,8 +8,8 @@ ghost use Rattle.pc_draw.specs.Pictures.{policy_by, refuses};
 ghost use Rattle.pc_script.specs.declared.outcome.Outcome.{Outcome};
 ghost use Rattle.pc_script.specs.declared.outcome.ScriptFault.{ScriptFault};
 
-use crate::lanes::{Change, Lane, MOST_LANES, QUIET, is_waiting, lane_of};
-use crate::step::{Sent, Story, Traces, cpu_of, is_refused, named_thread, other_cpus};
+use crate::lanes::{Change, Lane, MOST_LANES, QUIET, lane_of};
+use crate::step::{Sent, Story, Traces, is_refused, other_cpus};
 use pc_calls::{Event, Reply};
 use pc_messages::{Cpu, Tid};
 use pc_script::{Command, Line, Observer, Outcome, Response, ScriptFault, Version};
@@ -104,7 +104,7 @@ impl Last {
         };
         let now = Thread {
             home,
-            waits: is_waiting(world, thread),
+            waits: world.kernel().is_waiting(thread),
         };
         let place = thread.index() as usize;
         if let Some(known) = self.threads.get(place).copied() {
@@ -154,7 +154,7 @@ impl Last {
         if let Some(thread) = thread_of(reply) {
             self.ask_thread(thread, world)?;
         }
-        if let Some(cpu) = cpu_of(event) {
+        if let Some(cpu) = event.effect().cpu {
             self.ask_cpu(cpu, world, changes)?;
         }
         if let Some(cpu) = before {
@@ -205,7 +205,7 @@ impl Recorder {
     fn send(&mut self, event: &Event) -> Result<(), AllocError>
         ensures { self.new.story ≡ self.old.story }
     {
-        let Some(cpu) = cpu_of(event) else {
+        let Some(cpu) = event.effect().cpu else {
             return Ok(());
         };
         let step = u32::try_from(self.story.steps.len()).unwrap_or(u32::MAX);
@@ -287,8 +287,11 @@ fn home_before(command: &Command, session: &Session) -> Option<Cpu> {
     let Command::Event(event) = command else {
         return None;
     };
-    let thread = named_thread(event)?;
-    session.world()?.kernel().queue_of(thread)
+    let effect = event.effect();
+    match (effect.cpu, effect.thread) {
+        (None, Some(thread)) => session.world()?.kernel().queue_of(thread),
+        (Some(_), _) | (None, None) => None,
+    }
 }
 
 impl<W: Write> Observer<Session, W> for Recorder {

@@ -6,8 +6,8 @@ ghost use Rattle.pc_script.specs.declared.outcome.Outcome.{Outcome};
 
 use crate::lanes::{Change, MOST_LANES};
 use crate::words::Summary;
-use pc_calls::{AgentCall, EnvCall, Event, Refusal, Reply};
-use pc_messages::{Cpu, Tid};
+use pc_calls::{AgentCall, Event, Refusal, Reply};
+use pc_messages::Cpu;
 use pc_policy::PolicyName;
 use pc_script::{Command, Outcome, Response};
 use std::alloc::{AllocError, Global};
@@ -150,7 +150,7 @@ impl Step {
     /// all lanes where there is neither.
     pub(crate) fn lane(&self) -> usize {
         let named = match &self.command {
-            Command::Event(event) => cpu_of(event),
+            Command::Event(event) => event.effect().cpu,
             Command::Mend { cpu } => Some(*cpu),
             _ => return MOST_LANES,
         };
@@ -161,60 +161,13 @@ impl Step {
     }
 }
 
-/// The CPU that an event names: whose agent acts, on which a thread runs, or whose queue it is about. None of those
-/// that name a thread alone.
-pub(crate) fn cpu_of(event: &Event) -> Option<Cpu> {
-    match event {
-        Event::Env(call) => cpu_of_call(call),
-        Event::Agent(call) => Some(cpu_of_agent_call(call)),
-        Event::Publish { cpu, .. }
-        | Event::Consume { cpu }
-        | Event::Deliver { cpu, .. }
-        | Event::Answer { cpu, .. }
-        | Event::Pick { cpu, .. }
-        | Event::Steal { cpu }
-        | Event::Crash { cpu } => Some(*cpu),
-    }
-}
-
-/// The CPU that a call of the environment names.
-fn cpu_of_call(call: &EnvCall) -> Option<Cpu> {
-    match call {
-        EnvCall::Create { queue, .. } => Some(*queue),
-        EnvCall::Tick { cpu } => Some(*cpu),
-        _ => Some(call.left()?.cpu),
-    }
-}
-
-/// The CPU that a call of an agent names: its own, or whose queue the call is about.
-fn cpu_of_agent_call(call: &AgentCall) -> Cpu {
-    match call {
-        AgentCall::Associate { queue, .. } | AgentCall::Config { queue, .. } => *queue,
-        AgentCall::Commit { cpu, .. } | AgentCall::Sleep { cpu, .. } | AgentCall::Rouse { cpu } => {
-            *cpu
-        }
-    }
-}
-
-/// The CPUs beside that one at which an event may change something: the queue of a post, the agent that it woke, and
+/// The CPUs beside its own at which an event may change something: the queue of a post, the agent that it woke, and
 /// the agent that a queue is set to wake.
 pub(crate) fn other_cpus(event: &Event, reply: &Reply) -> [Option<Cpu>; 2] {
     match (event, reply) {
         (_, Reply::Posted(posted)) => [Some(posted.queue), posted.woken],
         (Event::Agent(AgentCall::Config { target, .. }), _) => [*target, None],
         _ => [None, None],
-    }
-}
-
-/// The thread of an event that names no CPU.
-pub(crate) fn named_thread(event: &Event) -> Option<Tid> {
-    match event {
-        Event::Env(
-            EnvCall::Wake { thread }
-            | EnvCall::SetAffinity { thread, .. }
-            | EnvCall::SetPriority { thread, .. },
-        ) => Some(*thread),
-        _ => None,
     }
 }
 

@@ -1,9 +1,9 @@
 -- What can be read of a kernel, and what its reads answer.
 use Rattle.std.specs.Prelude.{ℕ, nat_lt, Bool, false, List, [], length, Option, Some, None, is_some, slice_get}
-use Rattle.std.specs.Prelude.{if◌then◌else◌}
+use Rattle.std.specs.Prelude.{if◌then◌else◌, not, ◌&&◌}
 use Rattle.std.specs.Option.{option_map, option_map_or, option_and_then}
 use Rattle.pc_messages.specs.Mask.{allows}
-use Rattle.pc_messages.specs.State.{phase_of, mask_of, state_of}
+use Rattle.pc_messages.specs.State.{is_ready, phase_of, mask_of, state_of}
 use Rattle.pc_messages.specs.declared.kind.Kind.{Kind}
 use Rattle.pc_messages.specs.declared.message.Item.{Item}
 use Rattle.pc_messages.specs.declared.reported.Phase.{Phase}
@@ -110,6 +110,10 @@ status_of r t = option_map (λ row. record { number = length row.kinds; running_
 -- what `reported` and `state` answer: the state that a thread's messages report
 abbrev pub reported_of : Reads → ℕ → Option Reported
 reported_of r t = option_and_then (λ row. state_of row.kinds) (r.thread t)
+
+-- what `is_waiting` answers: a thread is ready, and on no CPU
+abbrev pub is_waiting : Reads → ℕ → Bool
+is_waiting r t = option_map_or (λ state. is_ready state.phase) (reported_of r t) false && not (is_some (place r t))
 
 -- what `history` answers: the kinds of a thread's messages
 abbrev pub history_of : Reads → ℕ → Option (List Kind)

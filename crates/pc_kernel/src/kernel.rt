@@ -41,7 +41,7 @@ impl Kernel {
     ghost use Rattle.pc_calls.specs.declared.limits.LimitField.{LimitField};
     ghost use Rattle.pc_kernel.specs.Queued.{AreQueued};
     ghost use Rattle.pc_kernel.specs.Reads.{seen, status_of, reported_of, history_of, queue_of, aseq_of, aseq_read};
-    ghost use Rattle.pc_kernel.specs.Reads.{content_read, is_known, is_cpu, on, is_asleep};
+    ghost use Rattle.pc_kernel.specs.Reads.{content_read, is_known, is_cpu, is_waiting, on, is_asleep};
     ghost use Rattle.pc_kernel.specs.Steps.{refused};
     ghost use Rattle.pc_calls.specs.AgentCalls.{commits};
 
@@ -142,6 +142,21 @@ impl Kernel {
     {
         let entry = self.tables.thread(thread)?;
         Some(entry.state())
+    }
+
+    /// Whether the thread is ready, and on no CPU; never one that is not known. It takes no memory.
+    pub fn is_waiting(&self, thread: Tid) -> bool
+        ensures { result ≡ is_waiting (seen self.now) thread }
+    {
+        let is_ready = match self.reported(thread) {
+            Some(state) => state.phase.is_ready(),
+            None => false,
+        };
+        let runs = match self.status(thread) {
+            Some(status) => status.running_on.is_some(),
+            None => false,
+        };
+        is_ready && !runs
     }
 
     /// The thread's home queue; none of a thread that is not known.

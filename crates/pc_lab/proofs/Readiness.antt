@@ -6,7 +6,7 @@ use Rattle.std.proofs.lemmas.List.{append_assoc, append-nil, length-append}
 use Rattle.std.proofs.lemmas.Option.{slice_get-map, slice_get_read}
 use Rattle.pc_calls.specs.declared.event.Reply.{Reply}
 use Rattle.pc_calls.specs.declared.event.Reply.TheVariants as reply
-use Rattle.pc_kernel.specs.Reads.{Reads}
+use Rattle.pc_kernel.specs.Reads.{Reads, is_waiting}
 use Rattle.pc_load.specs.Loads.{Demand, need_of}
 use Rattle.pc_load.specs.declared.load.ThreadLoad.{ThreadLoad}
 use Rattle.pc_lab.specs.declared.fault.LabFault.{LabFault}
@@ -14,7 +14,7 @@ use Rattle.pc_lab.specs.declared.waits.Wait.{Wait}
 use Rattle.pc_lab.specs.declared.waits.Waiter.{Waiter}
 use Rattle.pc_lab.specs.Moments.{Moment}
 use Rattle.pc_lab.specs.Waiters.{AreBehind, AreNext, level_in, since_in, since_of, wait_in}
-use Rattle.pc_lab.specs.Waiting.{Since, at_start, ended_after, ended_by, ended_waits, is_waiting, level_of, ready_after, ready_in, ready_since, unended_waits, wait_behind, waited, waits_below}
+use Rattle.pc_lab.specs.Waiting.{Since, at_start, ended_after, ended_by, ended_waits, level_of, ready_after, ready_in, ready_since, unended_waits, wait_behind, waited, waits_below}
 
 -- one moment more is the last that may have made the thread ready
 pub ready_one_more : (t : ℕ) (before : Since) (moments : List Moment) (moment : Moment)

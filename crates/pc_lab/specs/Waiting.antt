@@ -1,17 +1,14 @@
 -- How long threads wait: from when they are ready until they run.
-use Rattle.std.specs.Prelude.{ℕ, zero, suc, nat_abs, ◌-◌, ◌==◌, ◌&&◌, Bool, true, false, not, if◌then◌else◌}
+use Rattle.std.specs.Prelude.{ℕ, zero, suc, nat_abs, ◌-◌, ◌==◌, Bool, false, not, if◌then◌else◌}
 use Rattle.std.specs.Prelude.{List, [], ◌∷◌, ◌++◌, Option, Some, None, is_some, option_map, slice_get, unwrap_or}
 use Rattle.std.specs.Option.{option_map_or}
-use Rattle.pc_calls.specs.declared.call.EnvCall.TheVariants as env
-use Rattle.pc_calls.specs.declared.event.Event.{Event}
-use Rattle.pc_calls.specs.declared.event.Event.TheVariants as event
+use Rattle.pc_calls.specs.Effects.{effect_of}
+use Rattle.pc_calls.specs.declared.effect.Effect.{Effect}
 use Rattle.pc_calls.specs.declared.event.Reply.{Reply}
 use Rattle.pc_calls.specs.declared.event.Reply.TheVariants as reply
-use Rattle.pc_kernel.specs.Reads.{Reads, place, reported_of}
+use Rattle.pc_kernel.specs.Reads.{Reads, is_waiting}
 use Rattle.pc_load.specs.Loads.{Demand}
-use Rattle.pc_messages.specs.declared.reported.Phase.{Phase}
-use Rattle.pc_messages.specs.declared.reported.Phase.TheVariants.{Ready}
-use Rattle.pc_messages.specs.declared.reported.Reported.{Reported}
+use Rattle.pc_messages.specs.State.{is_ready}
 use Rattle.pc_lab.specs.declared.waits.Wait.{Wait}
 use Rattle.pc_lab.specs.Moments.{Moment}
 
@@ -24,13 +21,10 @@ pub record Since : Type 0 where
 abbrev pub at_start : Since
 at_start = record { tick = 0; is_woken = false }
 
--- whether an accepted call makes its thread ready, and then whether by a creation or a waking
-abbrev pub made_ready_by : Event → Option Bool
-made_ready_by (event.Env (env.Create queue true mask)) = Some true
-made_ready_by (event.Env (env.Wake thread)) = Some true
-made_ready_by (event.Env (env.YieldNow cpu ran)) = Some false
-made_ready_by (event.Env (env.Preempt cpu ran)) = Some false
-made_ready_by other = None
+-- whether what an event does makes its thread ready, and then whether by a creation or a waking
+abbrev pub made_ready_by : Effect → Option Bool
+made_ready_by effect =
+    if option_map_or is_ready effect.phase false then Some (not (is_some effect.left)) else None
 
 -- the thread of which a reply tells that a message was posted
 abbrev pub posted_of : Reply → Option ℕ
@@ -45,7 +39,7 @@ is_thread t thread = option_map_or (λ other. other == t) thread false
 abbrev pub ready_in : ℕ → Moment → Option Since
 ready_in t moment =
     if is_thread t (posted_of moment.reply)
-    then option_map (λ woken. record { tick = moment.tick; is_woken = woken }) (made_ready_by moment.event)
+    then option_map (λ woken. record { tick = moment.tick; is_woken = woken }) (made_ready_by (effect_of moment.event))
     else None
 
 -- since when a thread is ready: by the last of the moments that made it so, or since before, where none did
@@ -83,16 +77,6 @@ ended_after load before (moment ∷ moments) =
 -- the waits that moments end, where they are all there were
 abbrev pub ended_waits : Demand → List Moment → List Wait
 ended_waits load moments = ended_after load [] moments
-
--- a thread is reported as ready
-abbrev pub is_ready_phase : Phase → Bool
-is_ready_phase Ready = true
-is_ready_phase other = false
-
--- it waits: the kernel has it ready, and on no CPU
-abbrev pub is_waiting : Reads → ℕ → Bool
-is_waiting kernel t =
-    option_map_or (λ state. is_ready_phase state.phase) (reported_of kernel t) false && not (is_some (place kernel t))
 
 -- the waits of those of the first so many threads that wait, in their order
 abbrev pub waits_below : (ℕ → Wait) → Reads → ℕ → List Wait

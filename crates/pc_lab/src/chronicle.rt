@@ -6,11 +6,8 @@ ghost use Rattle.pc_lab.specs.Texts.{event_line, is_told, tick_line};
 
 use crate::fault::LabFault;
 use pc_calls::Event;
-use pc_script::Command;
+use pc_script::{Command, MOST_BYTES};
 use std::io::Write;
-
-/// The most bytes of a script.
-pub const MOST_BYTES: usize = 16_777_216;
 
 /// What a run leaves of its events (own).
 #[derive(Debug, Drop)]

@@ -27,7 +27,7 @@ mod turns;
 mod waits;
 
 pub use account::check_account;
-pub use chronicle::{Chronicle, MOST_BYTES};
+pub use chronicle::Chronicle;
 pub use counted::{Counted, Tally};
 pub use fault::LabFault;
 pub use head::head_of;

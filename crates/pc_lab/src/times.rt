@@ -208,7 +208,7 @@ impl Times {
         ensures kept { All (IsKept now) self.new.accounts.items }
         ensures many { length self.new.accounts.items ≡ length self.old.accounts.items }
     {
-        if let Some(cpu) = event.changed_cpu() {
+        if let Some(cpu) = event.effect().changed_cpu() {
             self.settle(kernel, cpu, now);
         }
     }

@@ -2,17 +2,17 @@
 
 ghost use Rattle.std.specs.Prelude.{◌≡◌, ◌+◌, ◌++◌, ◌∷◌, [], ◌<◌, ◌==◌, ℕ, length, IfOk, OnOk, OnErr, Some, true};
 ghost use Rattle.std.specs.Prelude.{false, if◌then◌else◌, unwrap_or};
-ghost use Rattle.pc_kernel.specs.Reads.{seen};
+ghost use Rattle.pc_kernel.specs.Reads.{is_waiting, seen};
 ghost use Rattle.pc_lab.specs.Counting.{counted_as, is_counted};
 ghost use Rattle.pc_lab.specs.Waiters.{AreNext, since_in, wait_in};
-ghost use Rattle.pc_lab.specs.Waiting.{ended_by, is_ready_phase, is_waiting, made_ready_by, ready_in, waits_below};
+ghost use Rattle.pc_lab.specs.Waiting.{ended_by, made_ready_by, ready_in, waits_below};
 ghost use Rattle.pc_lab.specs.declared.counted.Counted.TheVariants.{Commit};
 
 use crate::awaited::AwaitedCpus;
 use crate::fault::LabFault;
-use pc_calls::{EnvCall, Event, Posted, Reply};
+use pc_calls::{Effect, Event, Posted, Reply};
 use pc_kernel::Kernel;
-use pc_messages::{Phase, Tid};
+use pc_messages::Tid;
 use std::alloc::Global;
 
 /// How long a thread was ready before it ran, in ticks (own).
@@ -49,36 +49,14 @@ pub(crate) struct Waits {
     pub wanted: AwaitedCpus,
 }
 
-/// Whether an accepted call makes its thread ready, and then whether by a creation or a waking.
-const fn made_ready_by(event: &Event) -> Option<bool>
-    ensures { result ≡ made_ready_by event.now }
+/// Whether what an event does makes its thread ready, and then whether by a creation or a waking.
+fn made_ready_by(effect: &Effect) -> Option<bool>
+    ensures { result ≡ made_ready_by effect.now }
 {
-    match *event {
-        Event::Env(EnvCall::Create { ready: true, .. } | EnvCall::Wake { .. }) => Some(true),
-        Event::Env(EnvCall::YieldNow { .. } | EnvCall::Preempt { .. }) => Some(false),
-        _ => None,
+    match effect.phase {
+        Some(phase) if phase.is_ready() => Some(effect.left.is_none()),
+        Some(_) | None => None,
     }
-}
-
-const fn is_ready_phase(phase: Phase) -> bool
-    ensures { result ≡ is_ready_phase phase }
-{
-    matches!(phase, Phase::Ready)
-}
-
-/// Whether the kernel has the thread ready, and on no CPU.
-fn is_waiting(kernel: &Kernel, thread: Tid) -> bool
-    ensures { result ≡ is_waiting (seen kernel.now) thread }
-{
-    let is_ready = match kernel.reported(thread) {
-        Some(state) => is_ready_phase(state.phase),
-        None => false,
-    };
-    let runs = match kernel.status(thread) {
-        Some(status) => status.running_on.is_some(),
-        None => false,
-    };
-    is_ready && !runs
 }
 
 impl Waits {
@@ -193,7 +171,7 @@ impl Waits {
         })) (since_in self.old.waiters.items t)) self.old.waiters.items
             self.new.waiters.items) }
     {
-        match (posted.thread, made_ready_by(event)) {
+        match (posted.thread, made_ready_by(&event.effect())) {
             (Some(thread), Some(is_woken)) => self.begin(thread, tick, is_woken),
             _ => Ok(()),
         }
@@ -245,7 +223,7 @@ impl Waits {
         let mut waits = Vec::new(self.alloc);
         for name in 0..kernel.threads() {
             let thread = Tid(name);
-            if is_waiting(kernel, thread) {
+            if kernel.is_waiting(thread) {
                 waits.push(self.wait_of(thread, tick)?)?;
             }
         }

@@ -1,12 +1,23 @@
 -- The state that a list of kinds reports: the last phase, mask and level given, and the sum of all ticks.
-use Rattle.std.specs.Prelude.{ℕ, true, false, List, Option, Some, None, sum_by, unwrap_or}
+use Rattle.std.specs.Prelude.{ℕ, ◌&&◌, Bool, true, false, List, Option, Some, None, sum_by, unwrap_or}
 use Rattle.std.specs.List.{filter_map, last_or}
+use Rattle.pc_messages.specs.Mask.{allows}
 use Rattle.pc_messages.specs.declared.kind.Kind.{Kind}
 use Rattle.pc_messages.specs.declared.kind.Kind.TheVariants.{Created, Blocked, Preempted, Yield, Dead, Wakeup, Affinity}
 use Rattle.pc_messages.specs.declared.kind.Kind.TheVariants.{Priority}
 use Rattle.pc_messages.specs.declared.reported.Phase.{Phase}
 use Rattle.pc_messages.specs.declared.reported.Phase.TheVariants as phase
 use Rattle.pc_messages.specs.declared.reported.Reported.{Reported}
+
+-- the phase is Ready
+abbrev pub is_ready : Phase → Bool
+is_ready phase.Ready = true
+is_ready phase.Blocked = false
+is_ready phase.Dead = false
+
+-- a thread of this state may run on the CPU: it is ready, and its mask has the CPU
+abbrev pub may_run_on : Reported → ℕ → Bool
+may_run_on r cpu = is_ready r.phase && allows r.mask cpu
 
 -- the phase that a kind gives
 abbrev pub phase_given : Kind → Option Phase

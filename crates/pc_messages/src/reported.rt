@@ -2,11 +2,12 @@
 
 ghost use Rattle.std.specs.Prelude.{◌≡◌, ◌+◌, ◌<◌, ◌^◌, List, [], ◌∷◌, ◌++◌};
 ghost use Rattle.pc_messages.specs.declared.kind.Kind.{Kind};
-ghost use Rattle.pc_messages.specs.State.{state_of, ran_given};
+ghost use Rattle.pc_messages.specs.State.{is_ready, may_run_on, state_of, ran_given};
 
 use crate::kind::Kind;
 use crate::level::Level;
 use crate::mask::Mask;
+use crate::names::Cpu;
 
 /// Whether a thread is ready to run or runs, waits, or is gone. No message tells that a thread was put on a CPU,
 /// so `Ready` covers both.
@@ -26,7 +27,26 @@ pub struct Reported {
     pub level: Level,
 }
 
+impl Phase {
+    /// Whether it is `Ready`.
+    pub const fn is_ready(self) -> bool
+        ensures { result ≡ is_ready self }
+    {
+        match self {
+            Phase::Ready => true,
+            Phase::Blocked | Phase::Dead => false,
+        }
+    }
+}
+
 impl Reported {
+    /// Whether the thread is ready to run or runs, and its mask has the CPU.
+    pub const fn may_run_on(&self, cpu: Cpu) -> bool
+        ensures { result ≡ may_run_on self.now cpu }
+    {
+        self.phase.is_ready() && self.mask.allows(cpu)
+    }
+
     /// The state after a first message; none where the kind is not that of a first message.
     pub const fn first(kind: Kind) -> Option<Self>
         ensures { result ≡ state_of (kind ∷ []) }

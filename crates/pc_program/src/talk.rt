@@ -8,43 +8,10 @@ ghost use Rattle.pc_program.specs.Talks.{plain_by};
 use crate::ending::{Ending, Failure};
 use crate::forms::flushed;
 use pc_explain::explain_session;
-use pc_script::{Helper, run_session};
+use pc_script::{COMMANDS, Helper, run_session};
 use pc_session::Session;
 use std::alloc::Global;
 use std::io::{BufWriter, Read, Write};
-
-/// The commands that a line may ask for, and what may stand in the place of their words.
-const TABLE: &str = "\
-enclave CPUS THREADS NUMBERS ROOM POSTS
-create Q MASK ready|blocked
-wake T
-block C RAN
-yield C RAN
-preempt C RAN
-die C RAN
-affinity T MASK
-priority T LEVEL
-tick C
-associate T Q NUMBER
-commit C T ASEQ
-sleep C ASEQ
-rouse C
-config Q C|-
-publish C [fail]
-consume C
-deliver C K
-answer A B
-pick C ASEQ
-steal C
-crash C
-status T
-asleep C
-show C
-same A B
-complete C T
-policy levels|fifo|least-ran|levels-then-least-ran [exact]
-mend C
-";
 
 /// What is said of the table.
 const LEGEND: &str = "\
@@ -71,7 +38,7 @@ impl<S: Write + Drop> Manual<S> {
 impl<S: Write + Drop> Helper for Manual<S> {
     fn help(&mut self) {
         // Nothing can be said of an error where it would be said.
-        let _ = self.screen.write_all(TABLE.as_bytes());
+        let _ = self.screen.write_all(COMMANDS.as_bytes());
         let _ = self.screen.write_all(LEGEND.as_bytes());
         let _ = self.screen.flush();
     }

@@ -1,10 +1,8 @@
 -- Which threads may run and how they are ranked, as a view tells, and the run list after a refresh.
-use Rattle.std.specs.Prelude.{ℕ, ◌≤◌, ◌≡◌, ◌==◌, ◌&&◌, Bool, true, false, List, [], ◌∷◌, filter, Option, Some, None}
+use Rattle.std.specs.Prelude.{ℕ, ◌≤◌, ◌≡◌, ◌==◌, Bool, true, false, List, [], ◌∷◌, filter, Option, Some, None}
 use Rattle.std.specs.Prelude.{is_some}
 use Rattle.std.specs.Prelude.{if◌then◌else◌, unwrap_or}
-use Rattle.pc_messages.specs.Mask.{allows}
-use Rattle.pc_messages.specs.declared.reported.Phase.{Phase}
-use Rattle.pc_messages.specs.declared.reported.Phase.TheVariants as phase
+use Rattle.pc_messages.specs.State.{may_run_on}
 use Rattle.pc_messages.specs.declared.reported.Reported.{Reported}
 use Rattle.pc_view.specs.declared.view.View.{View}
 use Rattle.pc_view.specs.Prefixes.{reported_in}
@@ -12,16 +10,10 @@ use Rattle.pc_policy.specs.Rankings.{Ranking}
 use Rattle.pc_policy.specs.Ranks.{by_rank}
 use Rattle.pc_run_queue.specs.Names.{with_new, by_level}
 
--- the phase is Ready
-abbrev pub is_ready : Phase → Bool
-is_ready phase.Ready = true
-is_ready phase.Blocked = false
-is_ready phase.Dead = false
-
 -- a thread of this state may run on the CPU
 abbrev pub may_run : Option Reported → ℕ → Bool
 may_run None cpu = false
-may_run (Some r) cpu = is_ready r.phase && allows r.mask cpu
+may_run (Some r) cpu = may_run_on r cpu
 
 -- the rank on the CPU of a thread of this state: none, where it may not run there, or the ranking leaves it out
 abbrev pub rank_told : Ranking → ℕ → ℕ → Option Reported → Option ℕ

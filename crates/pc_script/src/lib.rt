@@ -12,6 +12,7 @@
 #![tactic(auto)]
 
 mod command;
+mod commands;
 mod digits;
 mod display;
 mod fields;
@@ -39,6 +40,7 @@ mod walker;
 mod words;
 
 pub use command::{Command, Read};
+pub use commands::COMMANDS;
 pub use digits::{count, number};
 pub use grammar::Verb;
 pub use input::{MOST_BYTES, read_bytes, read_text};

@@ -6,8 +6,9 @@ ghost use Rattle.std.specs.List.{Contains, list_any};
 ghost use Rattle.pc_trial.specs.Comparing.{IsScript, IsScriptOf, is_named};
 
 use crate::fault::{CompareFault, fault_of};
-use pc_lab::{Chronicle, LabFault, MOST_BYTES, head_of, play};
+use pc_lab::{Chronicle, LabFault, head_of, play};
 use pc_load::{Load, Variant, Variants};
+use pc_script::MOST_BYTES;
 use std::alloc::Global;
 
 /// The text, if it may be a script.

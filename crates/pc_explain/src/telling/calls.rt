@@ -56,7 +56,10 @@ fn changed(text: &mut Sentences, call: &EnvCall, posted: &Posted) -> fmt::Result
             let cpu = cpu.index();
             writeln!(text, "The timer of CPU {cpu} went off.")
         }
-        _ => match call.left() {
+        EnvCall::YieldNow { .. }
+        | EnvCall::Block { .. }
+        | EnvCall::Preempt { .. }
+        | EnvCall::Die { .. } => match call.left() {
             Some(how) => left(text, thread, &how),
             None => Ok(()),
         },

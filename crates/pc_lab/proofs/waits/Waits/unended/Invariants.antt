@@ -1,7 +1,7 @@
 use Rattle.std.proofs.Common.{◌≡◌, ◌<◌, ℕ, true, length}
-use Rattle.pc_kernel.specs.Reads.{seen}
+use Rattle.pc_kernel.specs.Reads.{is_waiting, seen}
 use Rattle.pc_lab.specs.Waiters.{wait_in}
-use Rattle.pc_lab.specs.Waiting.{is_waiting, waits_below}
+use Rattle.pc_lab.specs.Waiting.{waits_below}
 use Rattle.pc_lab.proofs.waits.Waits.unended.Given as goal
 
 abbrev pub invariant-loop-name : goal.invariant-loop-name
