@@ -59,8 +59,8 @@ const THREAD: Tid = Tid(0);
 
 const WAKE: EnvCall = EnvCall::Wake { thread: THREAD };
 
-/// How many posts there were before t0 is put on its CPU, where it is, and a post.
-type Step = (Option<u32>, EnvCall);
+/// How many posts there were before t0 is put on its CPU, where it is, a post, and whether t0 waits behind it.
+type Step = (Option<u32>, EnvCall, bool);
 
 /// Each call of the environment.
 const LIFE: [Step; 10] = [
@@ -71,14 +71,16 @@ const LIFE: [Step; 10] = [
             mask: 3,
             ready: false,
         },
+        false,
     ),
-    (None, WAKE),
+    (None, WAKE, true),
     (
         None,
         EnvCall::SetAffinity {
             thread: THREAD,
             mask: 1,
         },
+        true,
     ),
     (
         None,
@@ -86,21 +88,22 @@ const LIFE: [Step; 10] = [
             thread: THREAD,
             level: 7,
         },
+        true,
     ),
-    (None, EnvCall::Tick { cpu: CPU }),
-    (Some(5), EnvCall::YieldNow { cpu: CPU, ran: 2 }),
-    (Some(6), EnvCall::Preempt { cpu: CPU, ran: 4 }),
-    (Some(7), EnvCall::Block { cpu: CPU, ran: 8 }),
-    (None, WAKE),
-    (Some(9), EnvCall::Die { cpu: CPU, ran: 5 }),
+    (None, EnvCall::Tick { cpu: CPU }, true),
+    (Some(5), EnvCall::YieldNow { cpu: CPU, ran: 2 }, true),
+    (Some(6), EnvCall::Preempt { cpu: CPU, ran: 4 }, true),
+    (Some(7), EnvCall::Block { cpu: CPU, ran: 8 }, false),
+    (None, WAKE, true),
+    (Some(9), EnvCall::Die { cpu: CPU, ran: 5 }, false),
 ];
 
 fn does(kernel: &mut Kernel, way: Way, step: &Step) -> bool {
     let is_ready = match step.0 {
-        Some(aseq) => commits(kernel, aseq),
+        Some(aseq) => commits(kernel, aseq) && !kernel.is_waiting(THREAD),
         None => true,
     };
-    is_ready && posts(kernel, way, step.1)
+    is_ready && posts(kernel, way, step.1) && kernel.is_waiting(THREAD) == step.2
 }
 
 fn lives(kernel: &mut Kernel, way: Way) -> bool {
@@ -136,6 +139,7 @@ fn is_unknown(kernel: &Kernel) -> bool {
     kernel.reported(Tid(1)).is_none()
         && kernel.state(Tid(1)).is_none()
         && kernel.history(Tid(1)).is_none()
+        && !kernel.is_waiting(Tid(1))
 }
 
 fn content(kernel: &Kernel) -> Result<(u32, usize), CallFault> {

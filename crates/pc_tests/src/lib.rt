@@ -5,6 +5,8 @@
 #[cfg(test)]
 mod delta;
 #[cfg(test)]
+mod effects;
+#[cfg(test)]
 mod examples;
 #[cfg(test)]
 mod join;

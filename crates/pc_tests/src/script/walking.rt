@@ -241,53 +241,54 @@ const FAULT_AT_3: Result<Outcome, ScriptFault> = Ok(Outcome::FaultLine(3));
 
 // A line is told of after its command was expected and answered, with its number and its text as it stands. Nothing is
 // told after a fault, or want of memory.
+static IN_ORDER: [Walked; 9] = [
+    (b"\n# none\n  \n#tick 0\n\r\n", b"", FINISHED),
+    (
+        b"# a\ntick 0\n\n  tick   1 \r\n#\nstatus t0",
+        b"expect 0 0 one\nanswered 2 1 tick 0\nexpect 0 1 one\n\
+answered 4 2   tick   1 \nexpect 0 2 one\nanswered 6 3 status t0\n",
+        FINISHED,
+    ),
+    (
+        b"# one\n\n tick 18446744073709551615\r\n",
+        b"fault 3 0  tick 18446744073709551615\n",
+        FAULT_AT_3,
+    ),
+    (
+        b"tick 0\n\nwalk\ntick 1\nwalk\n",
+        b"expect 0 0 one\nanswered 1 1 tick 0\nfault 3 0 walk\n",
+        FAULT_AT_3,
+    ),
+    (
+        b"tick 0\ncrash 9\ntick 1",
+        b"expect 0 0 one\nanswered 1 1 tick 0\nexpect 0 1 one\n",
+        NO_MEMORY,
+    ),
+    (
+        b"version 2\ncrash 9\nwalk",
+        b"version 1 2 version 2\nexpect 0 0 two\n",
+        NO_MEMORY,
+    ),
+    (
+        b"#x\n\n version  3 \r\npolicy fifo",
+        b"version 3 3  version  3 \nexpect 0 0 two\nanswered 4 1 policy fifo\n",
+        FINISHED,
+    ),
+    (
+        b"version 2\n\nversion 2\ntick 0",
+        b"version 1 2 version 2\nfault 3 0 version 2\n",
+        FAULT_AT_3,
+    ),
+    (
+        b"version 2 2\ntick 0",
+        b"fault 1 0 version 2 2\n",
+        FAULT_AT_1,
+    ),
+];
+
 #[test]
 fn each_line_that_has_a_reply_is_told_of_in_its_order(rt: HostRuntime) {
-    static ROWS: [Walked; 9] = [
-        (b"\n# none\n  \n#tick 0\n\r\n", b"", FINISHED),
-        (
-            b"# a\ntick 0\n\n  tick   1 \r\n#\nstatus t0",
-            b"expect 0 0 one\nanswered 2 1 tick 0\nexpect 0 1 one\n\
-answered 4 2   tick   1 \nexpect 0 2 one\nanswered 6 3 status t0\n",
-            FINISHED,
-        ),
-        (
-            b"# one\n\n tick 18446744073709551615\r\n",
-            b"fault 3 0  tick 18446744073709551615\n",
-            FAULT_AT_3,
-        ),
-        (
-            b"tick 0\n\nwalk\ntick 1\nwalk\n",
-            b"expect 0 0 one\nanswered 1 1 tick 0\nfault 3 0 walk\n",
-            FAULT_AT_3,
-        ),
-        (
-            b"tick 0\ncrash 9\ntick 1",
-            b"expect 0 0 one\nanswered 1 1 tick 0\nexpect 0 1 one\n",
-            NO_MEMORY,
-        ),
-        (
-            b"version 2\ncrash 9\nwalk",
-            b"version 1 2 version 2\nexpect 0 0 two\n",
-            NO_MEMORY,
-        ),
-        (
-            b"#x\n\n version  3 \r\npolicy fifo",
-            b"version 3 3  version  3 \nexpect 0 0 two\nanswered 4 1 policy fifo\n",
-            FINISHED,
-        ),
-        (
-            b"version 2\n\nversion 2\ntick 0",
-            b"version 1 2 version 2\nfault 3 0 version 2\n",
-            FAULT_AT_3,
-        ),
-        (
-            b"version 2 2\ntick 0",
-            b"fault 1 0 version 2 2\n",
-            FAULT_AT_1,
-        ),
-    ];
-    each_holds(&rt, rt.alloc(), &ROWS);
+    each_holds(&rt, rt.alloc(), &IN_ORDER);
 }
 
 #[test]
