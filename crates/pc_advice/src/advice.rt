@@ -10,7 +10,6 @@ use crate::ahead::Ahead;
 use crate::deed::Deed;
 use crate::lacks::{Goal, Lack};
 use crate::plan::Plan;
-use pc_messages::{Cpu, Tid};
 use pc_policy::PolicyName;
 use pc_world::World;
 
@@ -97,12 +96,4 @@ pub fn advise(world: &World, policy: PolicyName, line: &Deed) -> Advice
     } else {
         Advice::Unsought
     }
-}
-
-/// The thread that a steal of the CPU's agent tries by the policy, which is the one that a refused steal tried; none
-/// where it tries none, where it is not among the first 1024 threads, and where the agent's run list is long.
-///
-/// It takes no memory, and leaves the world as it is. Which thread it is, is tested, not proved.
-pub fn tried_by_steal(world: &World, policy: PolicyName, cpu: Cpu) -> Option<Tid> {
-    Ahead::new(world, policy, &Plan::new()).tried(cpu)
 }

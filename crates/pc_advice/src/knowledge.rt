@@ -336,15 +336,6 @@ impl Ahead<'_> {
         known.rank(self.policy.order, cpu, thread)
     }
 
-    /// The thread that a refused steal of the CPU's agent tried; none where it is not among the first, or the run list
-    /// is long.
-    pub(crate) fn tried(&self, cpu: Cpu) -> Option<Tid> {
-        match self.world.agent(cpu) {
-            Some(agent) if agent.run_list().len() <= MOST_LISTED => self.candidate(cpu),
-            _ => None,
-        }
-    }
-
     /// By which deed the agent learns a message that it does not know, or what leads there.
     pub(crate) fn lack_of_message_at(&self, cpu: Cpu, thread: Tid, number: u32) -> Lack {
         let Some(standing) = self.standing(thread) else {
@@ -422,9 +413,6 @@ impl Ahead<'_> {
 
 /// The most threads among which the one is looked for that a steal tries.
 const MOST_TRIED: u32 = 1_024;
-
-/// The most names of a run list among which the others are looked for.
-const MOST_LISTED: usize = 1_024;
 
 /// Whether the name is among the others.
 fn has(names: &[Tid], name: Tid) -> bool {

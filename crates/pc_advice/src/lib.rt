@@ -27,6 +27,6 @@ mod knowledge;
 mod lacks;
 mod plan;
 
-pub use advice::{Advice, advise, tried_by_steal};
+pub use advice::{Advice, advise};
 pub use deed::Deed;
 pub use plan::{Plan, PlannedStep};

@@ -1,9 +1,9 @@
 //! Tests: advice in a small world, written down by hand. What advice makes accepted, a script's test acts on.
 
-use pc_advice::{Advice, Deed, Plan, PlannedStep, advise, tried_by_steal};
-use pc_calls::{EnvCall, Limits};
+use pc_advice::{Advice, Deed, Plan, PlannedStep, advise};
+use pc_calls::{EnvCall, Limits, Profile};
 use pc_messages::{Cpu, Tid};
-use pc_policy::PolicyName;
+use pc_policy::{AgentPolicy, PolicyName};
 use pc_world::{Event, World};
 use std::alloc::Global;
 
@@ -69,12 +69,15 @@ const EXACT: PolicyName = PolicyName {
     ..PolicyName::USUAL
 };
 
-fn tries_exactly(world: &World, cpu: u8) -> Option<Tid> {
-    tried_by_steal(world, EXACT, Cpu(cpu))
+/// A world in which all steal exactly.
+fn new_exact_world(alloc: Global) -> Option<World> {
+    let policies = AgentPolicy::for_each(alloc, EXACT, SMALL.cpus).ok()?;
+    World::new_by(alloc, Profile::One, SMALL, &policies).ok()
 }
 
+/// The thread that a steal of the CPU's agent would try.
 fn tries(world: &World, cpu: u8) -> Option<Tid> {
-    tried_by_steal(world, PolicyName::USUAL, Cpu(cpu))
+    world.agent(Cpu(cpu))?.candidate(world.kernel())
 }
 
 const WAKE: Event = Event::Env(EnvCall::Wake { thread: Tid(0) });
@@ -104,14 +107,15 @@ const RAISE: Event = Event::Env(EnvCall::SetPriority {
 
 /// Whether an exact steal tries only a thread of which its agent knows every message.
 fn is_exact(alloc: Global) -> bool {
-    let Some(mut world) = new_world(alloc) else {
+    let (Some(mut world), Some(mut exact)) = (new_world(alloc), new_exact_world(alloc)) else {
         return false;
     };
-    let is_known = does_all(&mut world, &[CREATE, PUBLISH, DELIVER]);
-    let is_tried = tries_exactly(&world, 1) == Some(Tid(0));
-    let is_raised = does(&mut world, &RAISE);
-    let is_old = tries(&world, 1) == Some(Tid(0)) && tries_exactly(&world, 1).is_none();
-    is_known && is_tried && is_raised && is_old
+    let are_known = does_all(&mut world, &[CREATE, PUBLISH, DELIVER])
+        && does_all(&mut exact, &[CREATE, PUBLISH, DELIVER]);
+    let is_tried = tries(&exact, 1) == Some(Tid(0));
+    let are_raised = does(&mut world, &RAISE) && does(&mut exact, &RAISE);
+    let is_old = tries(&world, 1) == Some(Tid(0)) && tries(&exact, 1).is_none();
+    are_known && is_tried && are_raised && is_old
 }
 
 #[test]
