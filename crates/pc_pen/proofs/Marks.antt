@@ -1,9 +1,8 @@
 -- Marks, one after another, and pictures of them.
-use Rattle.std.proofs.Common.{◌≡◌, ℕ, zero, suc, subst, sym, map, get_or, ◌+◌, ◌<◌, ◌≤◌, length, take, arith, List, [], ◌∷◌, ◌++◌, true, false, not, ◌&&◌, refl, ap, ◌∙◌, Option, Some, None, append_assoc, codes, Result, Ok, Err, OnOk}
+use Rattle.std.proofs.Common.{◌≡◌, ℕ, subst, sym, map, get_or, ◌+◌, ◌<◌, ◌≤◌, length, take, List, [], ◌∷◌, ◌++◌, true, false, refl, ap, ◌∙◌, Option, Some, None, append_assoc, codes, Result, Ok, Err, OnOk}
 use Rattle.std.specs.Io.KnownBytes.{Appends}
 use Rattle.std.proofs.KnownBytes.{Appends-nil, Appends-trans}
 use Rattle.std.proofs.lemmas.List.{map-append, take_all, take_more}
-use Rattle.std.specs.List.{AllWithin, list_all}
 use Rattle.pc_pen.specs.Drawn.{Marks, MarksOf, Pictures}
 use Rattle.pc_pen.specs.Pictures.{AreMarks, none, shape, words, AreMarksOf, no_marks, shape_first, words_first, IsPlain, is_markup, shape_text, shape_name, words_text, head_text, opening_text, end_text}
 use Rattle.pc_pen.specs.declared.shape.Shape.{Shape}
@@ -15,14 +14,6 @@ IsMarkup b = is_markup b ≡ true
 
 abbrev pub IsNoMarkup : ℕ → Type 0
 IsNoMarkup b = is_markup b ≡ false
-
--- the front of a text up to which no markup stands
-pub front_plain : (text : List ℕ) (end : ℕ) → AllWithin (λ b. is_markup b ≡ false) text 0 end → end ≤ length text → IsPlain (take end text)
-front_plain text zero h within = refl
-front_plain [] (suc end) h within = absurd (omega (arith, within))
-front_plain (x ∷ xs) (suc end) h within =
-    ap (λ b. not b && list_all (λ y. not (is_markup y)) (take end xs)) (h 0 0 (omega arith) (omega arith))
-    ∙ front_plain xs end (λ k d low high. h (suc k) d (omega arith) (omega (arith, high))) (omega (arith, within))
 
 -- ---- marks
 

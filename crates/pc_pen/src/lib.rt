@@ -1,4 +1,5 @@
-//! What pictures are made of, as SVG: marks, canvases on which they are composed, and the frame around them.
+//! What pictures are made of, as SVG: marks, canvases on which they are composed, and the frame around them; and
+//! phrases that pictures and explanations have.
 //!
 //! What is proved: what a canvas writes is whole elements, as many and of the kinds that were put on it, whatever
 //! their texts.
@@ -14,8 +15,8 @@ mod shape;
 pub use canvas::Canvas;
 pub use frame::{write_end, write_opening, write_opening_bytes};
 pub use pen::{
-    HEADING, SMALL, arrow, background, bar, bold_cross, hollow_cross, outline, stroke, thread_bar,
-    words,
+    HEADING, LANE_EDGE, LANE_NAME, SMALL, arrow, background, bar, bold_cross, hollow_cross,
+    outline, stroke, thread_bar, words,
 };
-pub use phrases::{Count, Quoted};
+pub use phrases::{Count, Quoted, QuotedWord};
 pub use shape::Shape;

@@ -12,6 +12,12 @@ use crate::shape::Shape;
 /// The style of a picture's words on top.
 pub const HEADING: &str = "font-size=\"14\" font-weight=\"bold\" fill=\"#000\"";
 
+/// The style of the line above a CPU's lane.
+pub const LANE_EDGE: &str = "stroke=\"#bbb\"";
+
+/// The style of a CPU's name at its lane.
+pub const LANE_NAME: &str = "font-size=\"13\" font-weight=\"bold\" fill=\"#000\"";
+
 /// The style of small words.
 pub const SMALL: &str = "font-size=\"11\" fill=\"#222\"";
 

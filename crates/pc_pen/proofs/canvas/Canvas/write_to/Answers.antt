@@ -1,4 +1,3 @@
-use Rattle.pc_pen.specs.Drawn.{MarksOf}
 use Rattle.pc_pen.proofs.Marks.{Marks-from, MarksOf-none, MarksOf-next, MarksOf-all}
 use Rattle.pc_pen.proofs.canvas.Canvas.write_to.Goals as goal
 
