@@ -3,10 +3,10 @@
 use crate::layout::{LEFT, Layout};
 use crate::step::{Step, Story};
 use crate::ticks::Scale;
-use crate::words::{FaultLine, Of};
-use pc_pen::{Canvas, HEADING, SMALL, background, stroke, words};
+use crate::words::{FaultLine, Of, Stretch};
+use pc_pen::{Canvas, HEADING, LANE_EDGE, LANE_NAME, SMALL, background, stroke, words};
 use pc_script::Outcome;
-use std::fmt::Write;
+use std::fmt::{Display, Write};
 
 /// The room that a number on the axis needs, where it has up to seven digits.
 const LABEL: u32 = 56;
@@ -22,6 +22,51 @@ const DISTANCES: [u32; 22] = [
     1, 2, 5, 10, 20, 50, 100, 200, 500, 1_000, 2_000, 5_000, 10_000, 20_000, 50_000, 100_000,
     200_000, 500_000, 1_000_000, 2_000_000, 5_000_000, 10_000_000,
 ];
+
+/// A line, and where words stand beside it.
+#[derive(Clone, Copy)]
+struct NamedLine {
+    x: u32,
+    y: u32,
+    to_x: u32,
+    to_y: u32,
+    style: &'static str,
+    name_x: u32,
+    name_y: u32,
+    name_style: &'static str,
+}
+
+/// A line that begins so far above the lanes and goes down through all of them, with its name above them.
+fn line_down(
+    layout: &Layout<'_>,
+    x: u32,
+    above: u32,
+    style: &'static str,
+    name_x: u32,
+    name_style: &'static str,
+) -> NamedLine {
+    let top = layout.top();
+    NamedLine {
+        x,
+        y: top.saturating_sub(above),
+        to_x: x,
+        to_y: layout.bottom(),
+        style,
+        name_x,
+        name_y: top.saturating_sub(8),
+        name_style,
+    }
+}
+
+/// Draws a line that tells this where the pointer rests on it, and its name.
+fn draw_named<T: Display, N: Display>(canvas: &mut Canvas, line: &NamedLine, told: &T, name: &N) {
+    stroke(canvas, line.x, line.y, line.to_x, line.to_y, line.style);
+    let _ = write!(canvas, "{told}");
+    canvas.done();
+    words(canvas, line.name_x, line.name_y, line.name_style);
+    let _ = write!(canvas, "{name}");
+    canvas.done();
+}
 
 /// Draws the ground of a script's picture, of which these steps are drawn: its words, its lanes, and its axis.
 pub(crate) fn draw_ground(canvas: &mut Canvas, layout: &Layout<'_>, story: &Story, steps: &[Step]) {
@@ -78,18 +123,18 @@ fn part_words(canvas: &mut Canvas, layout: &Layout<'_>) {
 /// The name of a CPU's lane, and of its rows.
 fn lane_ground(canvas: &mut Canvas, layout: &Layout<'_>, cpu: u32) {
     let y = layout.lane_top(cpu);
-    let end = layout.x(layout.columns);
-    stroke(canvas, 4, y, end, y, "stroke=\"#bbb\"");
-    let _ = write!(canvas, "CPU {cpu}");
-    canvas.done();
-    words(
-        canvas,
-        4,
-        y.saturating_add(21),
-        "font-size=\"13\" font-weight=\"bold\" fill=\"#000\"",
-    );
-    let _ = write!(canvas, "CPU {cpu}");
-    canvas.done();
+    let edge = NamedLine {
+        x: 4,
+        y,
+        to_x: layout.x(layout.columns),
+        to_y: y,
+        style: LANE_EDGE,
+        name_x: 4,
+        name_y: y.saturating_add(21),
+        name_style: LANE_NAME,
+    };
+    let name = Stretch::of_cpu(cpu);
+    draw_named(canvas, &edge, &name, &name);
     row_name(canvas, y.saturating_add(39), "ready");
     row_name(canvas, y.saturating_add(50), "queue");
     row_name(canvas, y.saturating_add(61), "posts");
@@ -126,32 +171,17 @@ fn axis(canvas: &mut Canvas, layout: &Layout<'_>, steps: &[Step]) {
         let Some(step) = steps.get(index as usize) else {
             return;
         };
-        let number = u64::from(step.number);
-        label_at(canvas, layout, layout.middle(index), "line", number);
+        let line = Stretch::lines(step.number, step.number);
+        label_at(canvas, layout, layout.middle(index), line);
     }
 }
 
-/// A number of the axis, and a thin line under it whose title tells what it counts.
-fn label_at(canvas: &mut Canvas, layout: &Layout<'_>, x: u32, unit: &str, number: u64) {
-    let top = layout.top();
-    stroke(
-        canvas,
-        x,
-        top.saturating_sub(4),
-        x,
-        layout.bottom(),
-        "stroke=\"#ddd\"",
-    );
-    let _ = write!(canvas, "{unit} {number}");
-    canvas.done();
-    words(
-        canvas,
-        x.saturating_sub(3),
-        top.saturating_sub(8),
-        "font-size=\"10\" fill=\"#444\"",
-    );
-    let _ = write!(canvas, "{number}");
-    canvas.done();
+/// The number of a line or a tick on the axis, and a thin line under it whose title tells which it is.
+fn label_at(canvas: &mut Canvas, layout: &Layout<'_>, x: u32, counted: Stretch) {
+    let name_x = x.saturating_sub(3);
+    let name_style = "font-size=\"10\" fill=\"#444\"";
+    let line = line_down(layout, x, 4, "stroke=\"#ddd\"", name_x, name_style);
+    draw_named(canvas, &line, &counted, &counted.first);
 }
 
 /// How many digits a number has in decimal.
@@ -219,7 +249,7 @@ fn tick_axis(canvas: &mut Canvas, layout: &Layout<'_>) {
     for _ in 0..MOST_LABELS {
         let x = layout.middle_at(layout.column_behind(behind));
         let tick = layout.first_tick.saturating_add(behind);
-        label_at(canvas, layout, x, "tick", tick);
+        label_at(canvas, layout, x, Stretch::ticks(tick, tick));
         behind = match behind.checked_add(distance) {
             Some(next) if next <= layout.span => next,
             _ => return,
@@ -237,25 +267,11 @@ fn fault(canvas: &mut Canvas, layout: &Layout<'_>, outcome: Outcome) {
     if !layout.part.has_line(line) {
         return;
     }
-    let top = layout.top();
     let x = layout.x(layout.columns).saturating_add(3);
+    let name_x = x.saturating_add(4);
+    let style = "stroke=\"#000\" stroke-width=\"2\" stroke-dasharray=\"6 3\"";
+    let name_style = "font-size=\"12\" font-weight=\"bold\" fill=\"#000\"";
+    let edge = line_down(layout, x, 16, style, name_x, name_style);
     let fault = FaultLine(number);
-    stroke(
-        canvas,
-        x,
-        top.saturating_sub(16),
-        x,
-        layout.bottom(),
-        "stroke=\"#000\" stroke-width=\"2\" stroke-dasharray=\"6 3\"",
-    );
-    let _ = write!(canvas, "{fault}");
-    canvas.done();
-    words(
-        canvas,
-        x.saturating_add(4),
-        top.saturating_sub(8),
-        "font-size=\"12\" font-weight=\"bold\" fill=\"#000\"",
-    );
-    let _ = write!(canvas, "{fault}");
-    canvas.done();
+    draw_named(canvas, &edge, &fault, &fault);
 }

@@ -2,9 +2,9 @@
 
 use crate::layout::Layout;
 use crate::ticks::Scale;
-use crate::words::{Extent, Lines, Ticks, Waiting};
+use crate::words::{Extent, Stretch, Waiting};
 use pc_pen::{Canvas, Count, bar, stroke, thread_bar, words};
-use std::fmt::Write;
+use std::fmt::{Display, Write};
 
 /// The rows of a lane, from top to bottom but for [`Row::Idle`], which lies where who runs would.
 #[derive(Clone, Copy)]
@@ -164,14 +164,14 @@ fn columns_of(since: &Edge, end: &Edge) -> u32 {
 /// Over what a strip goes.
 fn extent_of(layout: &Layout<'_>, since: &Edge, end: &Edge) -> Extent {
     let ticks = match layout.scale {
-        Scale::Ticks(_) => Some(Ticks(
+        Scale::Ticks(_) => Some(Stretch::ticks(
             layout.first_tick.saturating_add(since.behind),
             layout.first_tick.saturating_add(end.behind),
         )),
         _ => None,
     };
     Extent {
-        lines: Lines(since.line, end.line),
+        lines: Stretch::lines(since.line, end.line),
         ticks,
     }
 }
@@ -296,65 +296,58 @@ fn draw_idle(canvas: &mut Canvas, span: &Span, strip: &Strip) {
 fn draw_waits(canvas: &mut Canvas, span: &Span, strip: &Strip) {
     count_bar(canvas, span, 40, strip.most, WAITS);
     let waiting = Waiting(strip.most);
-    let cpu = span.cpu;
-    let extent = span.extent;
-    let before = up_to(strip);
-    let _ = write!(canvas, "{before}{waiting} for CPU {cpu}, {extent}");
-    canvas.done();
+    tell_count(canvas, span, up_to(strip), &waiting, "for CPU");
 }
 
 fn draw_queue(canvas: &mut Canvas, span: &Span, strip: &Strip) {
     count_bar(canvas, span, 51, strip.most, "fill=\"#999\"");
     let items = Count(u64::from(strip.most), "item");
-    let before = up_to(strip);
-    let cpu = span.cpu;
-    let extent = span.extent;
-    let _ = write!(canvas, "{before}{items} in queue {cpu}, {extent}");
-    canvas.done();
+    tell_count(canvas, span, up_to(strip), &items, "in queue");
 }
 
 fn draw_posts(canvas: &mut Canvas, span: &Span, strip: &Strip) {
     count_bar(canvas, span, 62, strip.most, "fill=\"#000\"");
-    let posts = Count(u64::from(strip.least_or_sum), "post");
-    let cpu = span.cpu;
-    let extent = span.extent;
-    let _ = write!(canvas, "{posts} to queue {cpu}, {extent}");
-    canvas.done();
+    tell_sum(canvas, span, strip, "post", "to queue");
 }
 
 fn draw_deltas(canvas: &mut Canvas, span: &Span, strip: &Strip) {
-    let y = span.y.saturating_add(27);
-    bar(canvas, span.x, y, span.width, 2, "fill=\"#777\"");
-    let deltas = Count(u64::from(strip.least_or_sum), "delta");
-    let cpu = span.cpu;
-    let extent = span.extent;
-    let _ = write!(canvas, "{deltas} taken in by agent {cpu}, {extent}");
-    canvas.done();
+    thin_bar(canvas, span, 27, "fill=\"#777\"");
+    tell_sum(canvas, span, strip, "delta", "taken in by agent");
 }
 
 fn draw_moves(canvas: &mut Canvas, span: &Span, strip: &Strip) {
-    let y = span.y.saturating_add(30);
-    bar(canvas, span.x, y, span.width, 2, "fill=\"#0072B2\"");
-    let moves = Count(u64::from(strip.least_or_sum), "move");
-    let cpu = span.cpu;
-    let extent = span.extent;
-    let _ = write!(canvas, "{moves} of threads to queue {cpu}, {extent}");
-    canvas.done();
+    thin_bar(canvas, span, 30, "fill=\"#0072B2\"");
+    tell_sum(canvas, span, strip, "move", "of threads to queue");
 }
 
 fn draw_refusals(canvas: &mut Canvas, span: &Span, strip: &Strip) {
-    let y = span.y.saturating_add(5);
-    bar(
-        canvas,
-        span.x,
-        y,
-        span.width,
-        2,
-        "fill=\"#fff\" stroke=\"#000\" stroke-width=\".5\"",
-    );
-    let refused = Count(u64::from(strip.least_or_sum), "command");
+    let style = "fill=\"#fff\" stroke=\"#000\" stroke-width=\".5\"";
+    thin_bar(canvas, span, 5, style);
+    tell_sum(canvas, span, strip, "command", "refused at CPU");
+}
+
+/// A bar of two pixels at this height in the lane.
+fn thin_bar(canvas: &mut Canvas, span: &Span, height: u32, style: &str) {
+    let y = span.y.saturating_add(height);
+    bar(canvas, span.x, y, span.width, 2, style);
+}
+
+/// Tells how many there were of something, and where: `up to 3 items in queue 0, lines 12 to 20`.
+fn tell_count<C: Display>(
+    canvas: &mut Canvas,
+    span: &Span,
+    before: &str,
+    counted: &C,
+    place: &str,
+) {
     let cpu = span.cpu;
     let extent = span.extent;
-    let _ = write!(canvas, "{refused} refused at CPU {cpu}, {extent}");
+    let _ = write!(canvas, "{before}{counted} {place} {cpu}, {extent}");
     canvas.done();
+}
+
+/// Tells how many of something the columns of a strip have together.
+fn tell_sum(canvas: &mut Canvas, span: &Span, strip: &Strip, noun: &'static str, place: &str) {
+    let sum = Count(u64::from(strip.least_or_sum), noun);
+    tell_count(canvas, span, "", &sum, place);
 }

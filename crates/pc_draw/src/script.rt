@@ -1,9 +1,11 @@
 //! Drawing a script.
 
-ghost use Rattle.std.specs.Prelude.{◌≡◌, ◌⊎◌, ◌+◌, ℕ, List, ◌<◌, ◌≤◌, length, IfOk, IfSome, OnOk, Err};
+ghost use Rattle.std.specs.Prelude.{◌≡◌, ◌⊎◌, ◌+◌, ℕ, List, ◌<◌, ◌≤◌, length, vec_len, IfOk, IfSome, OnOk, Err};
 ghost use Rattle.std.specs.Io.KnownBytes.{Appends, Consumes};
-ghost use Rattle.pc_draw.specs.Pictures.{IsPictureOf};
+ghost use Rattle.pc_draw.specs.Pictures.{IsPictureOf, script_title};
+ghost use Rattle.pc_pen.specs.Drawn.{Pictures};
 ghost use Rattle.pc_script.specs.declared.input.TheConstants.{MOST_BYTES};
+ghost use Rattle.pc_script.specs.declared.outcome.ScriptFault.{ScriptFault};
 ghost use Rattle.pc_session.specs.Session.{IsSession};
 
 use crate::part::DrawnPart;
@@ -52,19 +54,34 @@ pub fn draw_script<R: Read, W: Write>(
         &mut recorder,
         &mut sink(),
     )?;
-    let ticks = match ticks_along(alloc, axis, text.as_slice(), &recorder.story.steps) {
+    draw_recorded(alloc, text.as_slice(), &recorder, part, axis, writer)?;
+    Ok(outcome)
+}
+
+/// Writes the picture of this part of what was recorded of a text, along this axis. All memory is taken before the
+/// first byte is written.
+fn draw_recorded<W: Write>(
+    alloc: Global,
+    text: &[u8],
+    recorder: &Recorder,
+    part: DrawnPart,
+    axis: Axis,
+    writer: &mut W,
+) -> Result<(), ScriptFault>
+    ensures ok { OnOk result (Pictures
+        (script_title (vec_len recorder.now.story.steps) recorder.now.story.refused recorder.now.story.policy
+        recorder.now.story.outcome) (W.contents writer.old) (W.contents writer.new)) }
+    ensures no_memory { result ≡ Err ScriptFault.OutOfMemory → writer.new ≡ writer.old }
+    ensures err { (fault : ScriptFault) → result ≡ Err fault
+        → (fault ≡ ScriptFault.OutOfMemory) ⊎ (fault ≡ ScriptFault.Write) }
+{
+    let ticks = match ticks_along(alloc, axis, text, &recorder.story.steps) {
         Ok(ticks) => ticks,
         Err(_) => return Err(ScriptFault::OutOfMemory),
     };
-    match write_picture(
-        text.as_slice(),
-        &recorder.story,
-        &recorder.traces,
-        part,
-        Scale::of(axis, ticks.as_slice()),
-        writer,
-    ) {
-        Ok(()) => Ok(outcome),
+    let scale = Scale::of(axis, ticks.as_slice());
+    match write_picture(text, &recorder.story, &recorder.traces, part, scale, writer) {
+        Ok(()) => Ok(()),
         Err(_) => Err(ScriptFault::Write),
     }
 }

@@ -3,7 +3,7 @@
 ghost use Rattle.std.specs.Prelude.{◌++◌, Some, codes, decimal};
 ghost use Rattle.pc_draw.specs.Pictures.{fault_text, given_text, script_title};
 
-use crate::part::{DrawnPart, Interval};
+use crate::part::DrawnPart;
 use pc_pen::Count;
 use pc_policy::PolicyName;
 use pc_script::Outcome;
@@ -76,34 +76,57 @@ impl fmt::Display for Summary {
     }
 }
 
-/// The lines from one to another: `line 12`, `lines 12 to 20`.
+/// The numbers from one to another of what has this unit: `line 12`, `ticks 100 to 300`, `CPUs 3 to 7`.
 #[derive(Clone, Copy)]
-pub(crate) struct Lines(pub(crate) u32, pub(crate) u32);
+pub(crate) struct Stretch {
+    unit: &'static str,
+    pub(crate) first: u64,
+    last: u64,
+}
 
-impl fmt::Display for Lines {
-    fn fmt<W: fmt::Write>(&self, f: &mut fmt::Formatter<W>) -> fmt::Result {
-        let from = self.0;
-        let to = self.1;
-        if from == to {
-            write!(f, "line {from}")
-        } else {
-            write!(f, "lines {from} to {to}")
+impl Stretch {
+    /// Lines of the script.
+    pub(crate) fn lines(first: u32, last: u32) -> Stretch {
+        Stretch {
+            unit: "line",
+            first: u64::from(first),
+            last: u64::from(last),
         }
+    }
+
+    /// Ticks.
+    pub(crate) fn ticks(first: u64, last: u64) -> Stretch {
+        Stretch {
+            unit: "tick",
+            first,
+            last,
+        }
+    }
+
+    /// CPUs.
+    fn cpus(first: u32, last: u32) -> Stretch {
+        Stretch {
+            unit: "CPU",
+            first: u64::from(first),
+            last: u64::from(last),
+        }
+    }
+
+    /// A CPU alone.
+    pub(crate) fn of_cpu(cpu: u32) -> Stretch {
+        Stretch::cpus(cpu, cpu)
     }
 }
 
-/// The ticks from one to another: `tick 12`, `ticks 12 to 20`.
-#[derive(Clone, Copy)]
-pub(crate) struct Ticks(pub(crate) u64, pub(crate) u64);
-
-impl fmt::Display for Ticks {
+impl fmt::Display for Stretch {
     fn fmt<W: fmt::Write>(&self, f: &mut fmt::Formatter<W>) -> fmt::Result {
-        let from = self.0;
-        let to = self.1;
-        if from == to {
-            write!(f, "tick {from}")
+        let unit = self.unit;
+        let first = self.first;
+        let last = self.last;
+        if first == last {
+            write!(f, "{unit} {first}")
         } else {
-            write!(f, "ticks {from} to {to}")
+            write!(f, "{unit}s {first} to {last}")
         }
     }
 }
@@ -111,8 +134,8 @@ impl fmt::Display for Ticks {
 /// Over what a bar goes: lines, and on an axis of ticks these too, as `lines 12 to 20, ticks 100 to 300`.
 #[derive(Clone, Copy)]
 pub(crate) struct Extent {
-    pub(crate) lines: Lines,
-    pub(crate) ticks: Option<Ticks>,
+    pub(crate) lines: Stretch,
+    pub(crate) ticks: Option<Stretch>,
 }
 
 impl fmt::Display for Extent {
@@ -125,22 +148,6 @@ impl fmt::Display for Extent {
     }
 }
 
-/// CPUs: `CPU 3`, `CPUs 3 to 7`.
-#[derive(Clone, Copy)]
-struct Cpus(Interval);
-
-impl fmt::Display for Cpus {
-    fn fmt<W: fmt::Write>(&self, f: &mut fmt::Formatter<W>) -> fmt::Result {
-        let first = self.0.first;
-        let last = self.0.last;
-        if first == last {
-            write!(f, "CPU {first}")
-        } else {
-            write!(f, "CPUs {first} to {last}")
-        }
-    }
-}
-
 /// Which part is drawn, where it is not all: `CPUs 3 to 7, lines 12 to 20`.
 #[derive(Clone, Copy)]
 pub(crate) struct Of(pub(crate) DrawnPart);
@@ -149,12 +156,12 @@ impl fmt::Display for Of {
     fn fmt<W: fmt::Write>(&self, f: &mut fmt::Formatter<W>) -> fmt::Result {
         let mut before = "";
         if let Some(numbers) = self.0.cpus {
-            let cpus = Cpus(numbers);
+            let cpus = Stretch::cpus(numbers.first, numbers.last);
             write!(f, "{cpus}")?;
             before = ", ";
         }
         if let Some(numbers) = self.0.lines {
-            let lines = Lines(numbers.first, numbers.last);
+            let lines = Stretch::lines(numbers.first, numbers.last);
             write!(f, "{before}{lines}")?;
         }
         Ok(())

@@ -1,7 +1,7 @@
 //! What a report's picture shows: the totals in words, and a group of bars for each agent.
 
 use crate::totals::Totals;
-use pc_pen::{Canvas, HEADING, SMALL, background, bar, stroke, words};
+use pc_pen::{Canvas, HEADING, LANE_EDGE, LANE_NAME, SMALL, background, bar, stroke, words};
 use pc_threads::{LoadReport, Row};
 use std::fmt::Write;
 
@@ -155,15 +155,10 @@ impl Chart {
     pub(crate) fn draw_group(&self, canvas: &mut Canvas, index: u32, row: &Row) {
         let y = TOP.saturating_add(index.saturating_mul(GROUP));
         let cpu = row.cpu.index();
-        stroke(canvas, 4, y, WIDTH - 4, y, "stroke=\"#bbb\"");
+        stroke(canvas, 4, y, WIDTH - 4, y, LANE_EDGE);
         let _ = write!(canvas, "CPU {cpu}");
         canvas.done();
-        words(
-            canvas,
-            8,
-            y.saturating_add(18),
-            "font-size=\"13\" font-weight=\"bold\" fill=\"#000\"",
-        );
+        words(canvas, 8, y.saturating_add(18), LANE_NAME);
         let _ = write!(canvas, "CPU {cpu}");
         canvas.done();
         let mut top = y.saturating_add(7);
