@@ -30,14 +30,6 @@ all_other line h =
 lines_from : (line rest : List ℕ) → HasNoLineFeed line → slice_split (λ b. eqb b 10) (line ++ 10 ∷ rest) ≡ line ∷ slice_split (λ b. eqb b 10) rest
 lines_from line rest h = slice_split_at (λ b. eqb b 10) line 10 rest (all_other line h) refl
 
--- the front of a text up to which no line feed stands
-pub front_without : (text : List ℕ) (end : ℕ) → AllWithin (λ b. eqb b 10 ≡ false) text 0 end → end ≤ length text → HasNoLineFeed (take end text)
-front_without text zero h within = refl
-front_without [] (suc end) h within = absurd (omega (arith, within))
-front_without (x ∷ xs) (suc end) h within =
-    ap (λ b. not b && list_all (λ y. not (eqb y 10)) (take end xs)) (h 0 0 (omega arith) (omega arith))
-    ∙ front_without xs end (λ k d low high. h (suc k) d (omega arith) (omega (arith, high))) (omega (arith, within))
-
 -- ---- comments
 
 -- the lines of the text are those with comments between, but for these

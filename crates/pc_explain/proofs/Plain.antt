@@ -1,8 +1,6 @@
 -- What is answered is lines, none of which is a comment.
 use Rattle.std.proofs.Common.{◌≡◌, ℕ, zero, suc, ◌+◌, ◌/◌, ◌%◌, List, [], ◌∷◌, ◌++◌, Bool, true, false, not, ◌&&◌, eqb, if◌then◌else◌, refl, sym, ap, ◌∙◌, Option, Some, None, codes, decimal, flat_map, arith, append_assoc}
-use Rattle.std.specs.Fmt.{digits, digits_onto, digit_glyph}
 use Rattle.std.specs.List.{list_all}
-use Rattle.std.proofs.lemmas.Bool.{ne_eqb}
 use Rattle.pc_calls.specs.declared.call.Posted.{Posted}
 use Rattle.pc_calls.specs.declared.call.Status.{Status}
 use Rattle.pc_calls.specs.declared.event.Reply.{Reply}
@@ -14,6 +12,7 @@ use Rattle.pc_calls.specs.declared.refusal.Refusal.TheVariants as refusal
 use Rattle.pc_messages.specs.declared.reported.Phase.{Phase}
 use Rattle.pc_messages.specs.declared.reported.Phase.TheVariants as phase
 use Rattle.pc_messages.specs.declared.reported.Reported.{Reported}
+use Rattle.pc_pen.proofs.Decimals.{decimal_without as without_byte}
 use Rattle.pc_script.specs.Grammar.{thread_name}
 use Rattle.pc_script.specs.Responses.{text_line, limit_text, refusal_text, phase_text, number_or_dash, subject_text, posted_text, running_text, status_text, truth_text, sameness_text, level_text, reported_text, numbers_text, shown_text, shown_lines, reply_text, response_text}
 use Rattle.pc_script.specs.Scripts.{outcome_text}
@@ -30,24 +29,8 @@ use Rattle.pc_explain.proofs.Annotations.{without-append}
 
 -- ---- numbers
 
-glyph_without : (d : ℕ) (is_digit : Bool) → not (eqb (if is_digit then 48 + d else 87 + d) 10) ≡ true
-glyph_without d true = ap not (ne_eqb (48 + d) 10 (λ e. omega (arith, e)))
-glyph_without d false = ap not (ne_eqb (87 + d) 10 (λ e. omega (arith, e)))
-
-either_without : (b : Bool) (one other : List ℕ) → HasNoLineFeed one → HasNoLineFeed other → HasNoLineFeed (if b then one else other)
-either_without true one other h k = h
-either_without false one other h k = k
-
-onto_without : (k n : ℕ) (acc : List ℕ) → HasNoLineFeed acc → HasNoLineFeed (digits_onto k 10 false n acc)
-onto_without zero n acc h = h
-onto_without (suc k) n acc h =
-    let here : HasNoLineFeed (digit_glyph false (n % 10) ∷ acc) =
-    ap (λ b. b && list_all (λ x. not (eqb x 10)) acc) (glyph_without (n % 10) _) ∙ h in
-    either_without (eqb (n / 10) 0) _ _ here (onto_without k (n / 10) (digit_glyph false (n % 10) ∷ acc) here)
-
 pub decimal_without : (n : ℕ) → HasNoLineFeed (decimal n)
-unfolding digits
-decimal_without n = onto_without 64 n [] refl
+decimal_without n = without_byte 10 (omega arith) n
 
 then_more : (n : ℕ) (rest : List ℕ) → HasNoLineFeed rest → HasNoLineFeed (decimal n ++ rest)
 then_more n rest h = without-append (decimal n) rest (decimal_without n) h

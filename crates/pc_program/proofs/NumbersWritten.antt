@@ -1,10 +1,10 @@
 -- Words that spell numbers: there is one way to part them at a dash, since numbers have none.
 use Rattle.std.proofs.Common.{◌≡◌, ◌∙◌, ap, ap₂, sym, subst, refl, ℕ, zero, suc, ◌+◌, ◌/◌, ◌%◌, ◌≤◌, List, [], ◌∷◌, ◌++◌, length, take, Bool, true, false, not, ◌&&◌, eqb, if◌then◌else◌, Option, Some, None, MatchOption, inl, inr, decimal, arith}
-use Rattle.std.specs.Fmt.{digits, digits_onto, digit_glyph}
 use Rattle.std.specs.List.{list_all, AllWithin}
 use Rattle.std.proofs.lemmas.Bool.{ne_eqb, true≢false}
 use Rattle.std.proofs.lemmas.List.Folds.{list_all-append}
 use Rattle.pc_messages.proofs.Bools.{second_true}
+use Rattle.pc_pen.proofs.Decimals.{decimal_without as without_byte}
 use Rattle.pc_draw.specs.declared.part.Interval.{Interval}
 use Rattle.pc_program.specs.Numbers.{IsBetween, IsWritten, SpellsNone}
 
@@ -21,24 +21,8 @@ HasNoDash word = list_all (λ b. not (eqb b 45)) word ≡ true
 
 -- ---- numbers have no dash
 
-glyph_without : (d : ℕ) (is_digit : Bool) → not (eqb (if is_digit then 48 + d else 87 + d) 45) ≡ true
-glyph_without d true = ap not (ne_eqb (48 + d) 45 (λ e. omega (arith, e)))
-glyph_without d false = ap not (ne_eqb (87 + d) 45 (λ e. omega (arith, e)))
-
-either_without : (b : Bool) (one other : List ℕ) → HasNoDash one → HasNoDash other → HasNoDash (if b then one else other)
-either_without true one other h k = h
-either_without false one other h k = k
-
-onto_without : (k n : ℕ) (acc : List ℕ) → HasNoDash acc → HasNoDash (digits_onto k 10 false n acc)
-onto_without zero n acc h = h
-onto_without (suc k) n acc h =
-    let here : HasNoDash (digit_glyph false (n % 10) ∷ acc) =
-    ap (λ b. b && list_all (λ x. not (eqb x 45)) acc) (glyph_without (n % 10) _) ∙ h in
-    either_without (eqb (n / 10) 0) _ _ here (onto_without k (n / 10) (digit_glyph false (n % 10) ∷ acc) here)
-
 decimal_without : (n : ℕ) → HasNoDash (decimal n)
-unfolding digits
-decimal_without n = onto_without 64 n [] refl
+decimal_without n = without_byte 45 (omega arith) n
 
 -- ---- words with a dash
 
@@ -62,14 +46,6 @@ parted (f ∷ front) rest (o ∷ other) more h k e =
     let behind : front ++ 45 ∷ rest ≡ other ++ 45 ∷ more = cc in
     let same = parted front rest other more (second_true (not (eqb f 45)) _ h) (second_true (not (eqb o 45)) _ k) behind in
     (ap₂ (λ x xs. x ∷ xs) here same.0, same.1)
-
--- the front of a word up to which no dash stands
-pub front_without : (word : List ℕ) (end : ℕ) → AllWithin IsNoDash word 0 end → end ≤ length word → HasNoDash (take end word)
-front_without word zero h within = refl
-front_without [] (suc end) h within = absurd (omega (arith, within))
-front_without (x ∷ xs) (suc end) h within =
-    ap (λ b. not b && list_all (λ y. not (eqb y 45)) (take end xs)) (h 0 0 (omega arith) (omega arith))
-    ∙ front_without xs end (λ k d low high. h (suc k) d (omega arith) (omega (arith, high))) (omega (arith, within))
 
 -- ---- what a word spells
 
