@@ -1,8 +1,10 @@
 //! The sentences on a line that is no command: which word is wrong, what was wanted there, and how the command
 //! is written.
 
+use crate::forms::InWords;
+use crate::orders::Orders;
 use crate::sentences::Sentences;
-use crate::words::Quoted;
+use crate::words::QuotedWord;
 use pc_script::{Trouble, Verb, Version, Wanted, first_word, trouble_in};
 use std::fmt::{self, Write};
 
@@ -34,7 +36,7 @@ fn fault(text: &mut Sentences, version: Version, line: &[u8]) -> fmt::Result {
                 wanted,
             },
         ) => {
-            let words = words_of(wanted);
+            let words = WantedWord(wanted);
             writeln!(text, "Word {place} is missing: {words} was wanted.")?;
             form(text, verb)
         }
@@ -46,13 +48,13 @@ fn fault(text: &mut Sentences, version: Version, line: &[u8]) -> fmt::Result {
                 wanted,
             },
         ) => {
-            let quoted = Quoted(word);
-            let words = words_of(wanted);
+            let quoted = QuotedWord(word);
+            let words = WantedWord(wanted);
             writeln!(text, "Word {place}, `{quoted}`: {words} was wanted.")?;
             form(text, verb)
         }
         Some(Trouble::TooMany { verb, place, word }) => {
-            let quoted = Quoted(word);
+            let quoted = QuotedWord(word);
             writeln!(text, "Word {place}, `{quoted}`, is one too many.")?;
             form(text, verb)
         }
@@ -70,7 +72,7 @@ fn begins_with_mark(line: &[u8]) -> bool {
 
 /// The first word of a line is no command's.
 fn no_command(text: &mut Sentences, version: Version, word: &[u8]) -> fmt::Result {
-    let quoted = Quoted(word);
+    let quoted = QuotedWord(word);
     if word == b"version".as_slice() {
         let named = match version {
             Version::One | Version::Two => "`version 2`",
@@ -89,60 +91,31 @@ fn no_command(text: &mut Sentences, version: Version, word: &[u8]) -> fmt::Resul
 
 /// How a command is written.
 fn form(text: &mut Sentences, verb: Verb) -> fmt::Result {
-    let form = form_of(verb);
+    let form = InWords(verb);
     writeln!(text, "It is written: {form}.")
 }
 
 /// What may stand at a word's place, in words.
-fn words_of(wanted: Wanted) -> &'static str {
-    match wanted {
-        Wanted::Cpus => "a count of CPUs, a decimal number up to 255,",
-        Wanted::Cpu => "a CPU, a decimal number up to 255,",
-        Wanted::Queue => "a queue, a decimal number up to 255,",
-        Wanted::Level => "a level, a decimal number up to 255,",
-        Wanted::Count => "a count, a decimal number up to 4294967295,",
-        Wanted::Mask => "a mask, a decimal number up to 18446744073709551615,",
-        Wanted::Index => "a delta, a decimal number up to 18446744073709551615,",
-        Wanted::Thread => "a thread, t and a decimal number up to 4294967295,",
-        Wanted::State => "ready or blocked",
-        Wanted::Target => "a CPU, a decimal number up to 255, or -,",
-        Wanted::Failure => "fail or nothing",
-        Wanted::Order => "levels, fifo, least-ran or levels-then-least-ran",
-        Wanted::Exactness => "exact or nothing",
-    }
-}
+#[derive(Clone, Copy)]
+struct WantedWord(Wanted);
 
-/// The words of a command.
-fn form_of(verb: Verb) -> &'static str {
-    match verb {
-        Verb::Enclave => "enclave CPUS THREADS NUMBERS ROOM POSTS",
-        Verb::Create => "create Q MASK ready, or create Q MASK blocked",
-        Verb::Wake => "wake T",
-        Verb::Block => "block C RAN",
-        Verb::Yield => "yield C RAN",
-        Verb::Preempt => "preempt C RAN",
-        Verb::Die => "die C RAN",
-        Verb::Affinity => "affinity T MASK",
-        Verb::Priority => "priority T LEVEL",
-        Verb::Tick => "tick C",
-        Verb::Associate => "associate T Q NUMBER",
-        Verb::Commit => "commit C T ASEQ",
-        Verb::Sleep => "sleep C ASEQ",
-        Verb::Rouse => "rouse C",
-        Verb::Config => "config Q C, or config Q -",
-        Verb::Publish => "publish C, or publish C fail",
-        Verb::Consume => "consume C",
-        Verb::Deliver => "deliver C K",
-        Verb::Answer => "answer A B",
-        Verb::Pick => "pick C ASEQ",
-        Verb::Steal => "steal C",
-        Verb::Crash => "crash C",
-        Verb::Status => "status T",
-        Verb::Asleep => "asleep C",
-        Verb::Show => "show C",
-        Verb::Same => "same A B",
-        Verb::Complete => "complete C T",
-        Verb::Policy => "policy NAME, or policy NAME exact",
-        Verb::Mend => "mend C",
+impl fmt::Display for WantedWord {
+    fn fmt<W: fmt::Write>(&self, f: &mut fmt::Formatter<W>) -> fmt::Result {
+        let orders = Orders::in_words();
+        match self.0 {
+            Wanted::Cpus => f.write_str("a count of CPUs, a decimal number up to 255,"),
+            Wanted::Cpu => f.write_str("a CPU, a decimal number up to 255,"),
+            Wanted::Queue => f.write_str("a queue, a decimal number up to 255,"),
+            Wanted::Level => f.write_str("a level, a decimal number up to 255,"),
+            Wanted::Count => f.write_str("a count, a decimal number up to 4294967295,"),
+            Wanted::Mask => f.write_str("a mask, a decimal number up to 18446744073709551615,"),
+            Wanted::Index => f.write_str("a delta, a decimal number up to 18446744073709551615,"),
+            Wanted::Thread => f.write_str("a thread, t and a decimal number up to 4294967295,"),
+            Wanted::State => f.write_str("ready or blocked"),
+            Wanted::Target => f.write_str("a CPU, a decimal number up to 255, or -,"),
+            Wanted::Failure => f.write_str("fail or nothing"),
+            Wanted::Order => write!(f, "{orders}"),
+            Wanted::Exactness => f.write_str("exact or nothing"),
+        }
     }
 }

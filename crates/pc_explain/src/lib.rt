@@ -18,10 +18,13 @@ mod before;
 mod comment;
 mod explain;
 mod faults;
+mod forms;
 mod news;
+mod orders;
 mod reasons;
 mod sentences;
 mod telling;
 mod words;
 
 pub use explain::{explain_script, explain_session};
+pub use forms::write_command_table;

@@ -7,8 +7,8 @@ ghost use Rattle.pc_program.specs.Talks.{plain_by};
 
 use crate::ending::{Ending, Failure};
 use crate::forms::flushed;
-use pc_explain::explain_session;
-use pc_script::{COMMANDS, Helper, run_session};
+use pc_explain::{explain_session, write_command_table};
+use pc_script::{Helper, run_session};
 use pc_session::Session;
 use std::alloc::Global;
 use std::io::{BufWriter, Read, Write};
@@ -38,7 +38,7 @@ impl<S: Write + Drop> Manual<S> {
 impl<S: Write + Drop> Helper for Manual<S> {
     fn help(&mut self) {
         // Nothing can be said of an error where it would be said.
-        let _ = self.screen.write_all(COMMANDS.as_bytes());
+        let _ = write_command_table(&mut self.screen);
         let _ = self.screen.write_all(LEGEND.as_bytes());
         let _ = self.screen.flush();
     }
