@@ -2,7 +2,7 @@
 
 use crate::looks::{line_of, mark};
 use crate::scale::{BOTTOM, LEFT, RIGHT, Scale, y_of, y_of_percent};
-use crate::told::{Ticks, Told};
+use crate::told::{FiguresText, Ticks};
 use pc_lab::Wait;
 use pc_pen::{Canvas, outline};
 use pc_table::{Column, Figures};
@@ -76,7 +76,7 @@ pub(crate) fn draw_curve(
     count_waits(&mut counts, scale, column.summary.waits.as_slice());
     count_waits(&mut counts, scale, column.summary.unended.as_slice());
     let steps = steps_of(alloc, &counts)?;
-    let told = Told(figures);
+    let told = FiguresText(figures);
     outline(canvas, LEFT, BOTTOM, steps.as_str(), line_of(place));
     canvas.add(column.name);
     let _ = write!(canvas, ": {told}");

@@ -25,9 +25,9 @@ impl Display for Ticks {
 
 /// The figures of waits: `waits 3, p50 1, p90 2, p99 2`.
 #[derive(Clone, Copy)]
-pub(crate) struct Told<'a>(pub(crate) &'a Figures);
+pub(crate) struct FiguresText<'a>(pub(crate) &'a Figures);
 
-impl Display for Told<'_> {
+impl Display for FiguresText<'_> {
     ghost output = { λ told. Some (figures_text told.0.now) };
 
     fn fmt<W: fmt::Write>(&self, f: &mut fmt::Formatter<W>) -> fmt::Result {
@@ -55,7 +55,7 @@ fn push_titled(text: &mut Vec<u8>, name: &[u8], figures: &Figures) -> Result<(),
 {
     text.extend_from_slice(name)?;
     text.extend_from_slice(b": ")?;
-    push_spelled(text, &Told(figures))
+    push_spelled(text, &FiguresText(figures))
 }
 
 /// A full list gets room for the figures of so many runs more at least: most pictures are of few.

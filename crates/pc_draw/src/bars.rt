@@ -5,7 +5,7 @@
 
 use crate::lanes::{Lane, MOST_LANES, Scene};
 use crate::layout::Layout;
-use crate::rows::{Edge, FIFTHS, ROWS, Row, Strip, draw_strip, height_of};
+use crate::rows::{Edge, FIFTHS, LaneRow, ROWS, Strip, draw_strip, height_of};
 use crate::step::{Answer, Step};
 use pc_calls::{Event, Reply};
 use pc_messages::Cpu;
@@ -165,20 +165,20 @@ impl Tally {
     }
 
     /// What a row shows of a column of so many steps, or ticks.
-    fn shown(&self, row: Row, length: u64, is_dense: bool) -> Shown {
+    fn shown(&self, row: LaneRow, length: u64, is_dense: bool) -> Shown {
         match row {
-            Row::Asleep => shown_if(self.is_asleep, 0),
-            Row::Runs => self.runs(length),
-            Row::Idle => shown_if(
+            LaneRow::Asleep => shown_if(self.is_asleep, 0),
+            LaneRow::Runs => self.runs(length),
+            LaneRow::Idle => shown_if(
                 self.idle > 0 && self.idle.saturating_mul(2) >= length,
                 self.elsewhere,
             ),
-            Row::Waits => counted(self.waits, is_dense),
-            Row::Queue => counted(self.items, is_dense),
-            Row::Posts => counted_if(self.posts, is_dense),
-            Row::Deltas => counted_if(self.deltas, is_dense),
-            Row::Moves => counted_if(self.moves, is_dense),
-            Row::Refusals => counted_if(self.refusals, is_dense),
+            LaneRow::Waits => counted(self.waits, is_dense),
+            LaneRow::Queue => counted(self.items, is_dense),
+            LaneRow::Posts => counted_if(self.posts, is_dense),
+            LaneRow::Deltas => counted_if(self.deltas, is_dense),
+            LaneRow::Moves => counted_if(self.moves, is_dense),
+            LaneRow::Refusals => counted_if(self.refusals, is_dense),
         }
     }
 }
@@ -389,7 +389,7 @@ impl<'t> Bars<'t> {
         &mut self,
         place: usize,
         cpu: u32,
-        row: Row,
+        row: LaneRow,
         shown: Shown,
         edge: &Edge,
         canvas: &mut Canvas,

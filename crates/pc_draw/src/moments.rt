@@ -23,15 +23,15 @@ pub(crate) const POST: &str = "stroke=\"#000\" stroke-width=\"2\"";
 
 /// How many there are of something, and how many there were so far.
 #[derive(Clone, Copy)]
-struct Sample {
+struct EvenSample {
     all: u32,
     so_far: u32,
 }
 
-impl Sample {
+impl EvenSample {
     /// None was there so far.
-    const fn of(all: u32) -> Sample {
-        Sample { all, so_far: 0 }
+    const fn of(all: u32) -> EvenSample {
+        EvenSample { all, so_far: 0 }
     }
 
     /// Takes the next one, and answers whether it is drawn: all are, or as many as may be, evenly among all.
@@ -54,8 +54,8 @@ impl Sample {
 #[derive(Drop)]
 pub(crate) struct Moments<'t> {
     layout: Layout<'t>,
-    crashes: Sample,
-    moves: Sample,
+    crashes: EvenSample,
+    moves: EvenSample,
     /// How many refused commands were of no lane, where a column is of several steps.
     unplaced: u32,
 }
@@ -154,8 +154,8 @@ impl<'t> Moments<'t> {
         }
         Moments {
             layout,
-            crashes: Sample::of(crashes),
-            moves: Sample::of(moves),
+            crashes: EvenSample::of(crashes),
+            moves: EvenSample::of(moves),
             unplaced: 0,
         }
     }

@@ -6,9 +6,9 @@ use crate::words::{Extent, Stretch, Waiting};
 use pc_pen::{Canvas, Count, bar, stroke, thread_bar, words};
 use std::fmt::{Display, Write};
 
-/// The rows of a lane, from top to bottom but for [`Row::Idle`], which lies where who runs would.
+/// The rows of a lane, from top to bottom but for [`LaneRow::Idle`], which lies where who runs would.
 #[derive(Clone, Copy)]
-pub(crate) enum Row {
+pub(crate) enum LaneRow {
     /// Whether the agent sleeps.
     Asleep,
     /// Who runs.
@@ -29,33 +29,37 @@ pub(crate) enum Row {
     Refusals,
 }
 
-impl Row {
+impl LaneRow {
     /// Whether a strip of it tells the counts of its columns together, and not the greatest one.
     pub(crate) fn adds_up(self) -> bool {
-        matches!(self, Row::Posts | Row::Deltas | Row::Moves | Row::Refusals)
+        matches!(
+            self,
+            LaneRow::Posts | LaneRow::Deltas | LaneRow::Moves | LaneRow::Refusals
+        )
     }
 }
 
 /// All rows.
-pub(crate) const ROWS: [Row; 9] = [
-    Row::Asleep,
-    Row::Runs,
-    Row::Idle,
-    Row::Waits,
-    Row::Queue,
-    Row::Posts,
-    Row::Deltas,
-    Row::Moves,
-    Row::Refusals,
+pub(crate) const ROWS: [LaneRow; 9] = [
+    LaneRow::Asleep,
+    LaneRow::Runs,
+    LaneRow::Idle,
+    LaneRow::Waits,
+    LaneRow::Queue,
+    LaneRow::Posts,
+    LaneRow::Deltas,
+    LaneRow::Moves,
+    LaneRow::Refusals,
 ];
 
-/// The values of [`Row::Runs`] up to this one are the busy fifths of columns; those above are threads, from `t0` up.
+/// The values of [`LaneRow::Runs`] up to this one are the busy fifths of columns; those above are threads, from `t0`
+/// up.
 pub(crate) const FIFTHS: u32 = 5;
 
-/// The style of [`Row::Idle`].
+/// The style of [`LaneRow::Idle`].
 pub(crate) const IDLE: &str = "stroke=\"#8B2A1A\" stroke-width=\"3\" stroke-dasharray=\"3 2\"";
 
-/// The style of [`Row::Waits`].
+/// The style of [`LaneRow::Waits`].
 pub(crate) const WAITS: &str = "fill=\"#fff\" stroke=\"#000\" stroke-dasharray=\"2 1\"";
 
 /// The greatest height of a bar that shows a count.
@@ -181,7 +185,7 @@ pub(crate) fn draw_strip(
     canvas: &mut Canvas,
     layout: &Layout<'_>,
     cpu: u32,
-    row: Row,
+    row: LaneRow,
     strip: &Strip,
     end: &Edge,
 ) {
@@ -203,15 +207,15 @@ pub(crate) fn draw_strip(
         extent: extent_of(layout, &since, end),
     };
     match row {
-        Row::Asleep => draw_asleep(canvas, &span),
-        Row::Runs => draw_runs(canvas, &span, strip),
-        Row::Idle => draw_idle(canvas, &span, strip),
-        Row::Waits => draw_waits(canvas, &span, strip),
-        Row::Queue => draw_queue(canvas, &span, strip),
-        Row::Posts => draw_posts(canvas, &span, strip),
-        Row::Deltas => draw_deltas(canvas, &span, strip),
-        Row::Moves => draw_moves(canvas, &span, strip),
-        Row::Refusals => draw_refusals(canvas, &span, strip),
+        LaneRow::Asleep => draw_asleep(canvas, &span),
+        LaneRow::Runs => draw_runs(canvas, &span, strip),
+        LaneRow::Idle => draw_idle(canvas, &span, strip),
+        LaneRow::Waits => draw_waits(canvas, &span, strip),
+        LaneRow::Queue => draw_queue(canvas, &span, strip),
+        LaneRow::Posts => draw_posts(canvas, &span, strip),
+        LaneRow::Deltas => draw_deltas(canvas, &span, strip),
+        LaneRow::Moves => draw_moves(canvas, &span, strip),
+        LaneRow::Refusals => draw_refusals(canvas, &span, strip),
     }
 }
 

@@ -24,9 +24,9 @@ impl fmt::Display for FaultLine {
 
 /// What is said of how a script ended, behind the counts: nothing, or the line that is a fault.
 #[derive(Clone, Copy)]
-struct Ending(Outcome);
+struct EndingWords(Outcome);
 
-impl fmt::Display for Ending {
+impl fmt::Display for EndingWords {
     ghost output = { λ ending. Some (fault_text ending.0) };
 
     fn fmt<W: fmt::Write>(&self, f: &mut fmt::Formatter<W>) -> fmt::Result {
@@ -71,7 +71,7 @@ impl fmt::Display for Summary {
         let commands = self.commands;
         let refused = self.refused;
         let given = Given(self.policy);
-        let ending = Ending(self.outcome);
+        let ending = EndingWords(self.outcome);
         write!(f, "commands {commands}, refused {refused}{given}{ending}")
     }
 }

@@ -18,7 +18,7 @@ use crate::before::Before;
 use crate::comment::{write_heading, write_response, write_sentences};
 use crate::faults::tell_fault;
 use crate::sentences::Sentences;
-use crate::telling::{Scene, tell};
+use crate::telling::{CommandContext, tell};
 use pc_policy::PolicyName;
 use pc_script::{
     Command, Conversed, Helper, Line, Observer, Outcome, Response, ScriptFault, Version, converse,
@@ -79,7 +79,7 @@ fn on_command(
     policy: PolicyName,
 ) -> Sentences {
     let mut sentences = Sentences::new();
-    let scene = Scene {
+    let scene = CommandContext {
         world: session.world(),
         before,
         policy,

@@ -20,7 +20,7 @@ use std::fmt::{self, Write};
 
 /// What is known when a command was answered.
 #[derive(Clone, Copy)]
-pub(crate) struct Scene<'a> {
+pub(crate) struct CommandContext<'a> {
     /// The world behind it.
     pub(crate) world: Option<&'a World>,
     /// What is remembered of the world before it.
@@ -34,7 +34,7 @@ pub(crate) fn tell(
     text: &mut Sentences,
     command: &Command,
     response: &Response,
-    scene: &Scene<'_>,
+    scene: &CommandContext<'_>,
 ) {
     // Sentences take any text: what goes past their room is left out.
     let _ = told(text, command, response, scene);
@@ -44,7 +44,7 @@ fn told(
     text: &mut Sentences,
     command: &Command,
     response: &Response,
-    scene: &Scene<'_>,
+    scene: &CommandContext<'_>,
 ) -> fmt::Result {
     let world = scene.world;
     match (command, response) {

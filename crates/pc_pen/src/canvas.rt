@@ -19,7 +19,7 @@ const MOST_MARKS: usize = 1_024;
 
 /// Where the texts of a mark stand: its attributes first, then its title or its words.
 #[derive(Clone, Copy)]
-struct Place {
+struct MarkTexts {
     /// None of words.
     shape: Option<Shape>,
     start: usize,
@@ -32,10 +32,10 @@ struct Place {
 pub struct Canvas {
     bytes: [u8; ROOM],
     end: usize,
-    places: [Place; MOST_MARKS],
+    places: [MarkTexts; MOST_MARKS],
     count: usize,
     /// The mark that is being composed.
-    begun: Place,
+    begun: MarkTexts,
 }
 
 impl Model for Canvas {
@@ -55,7 +55,7 @@ fn part(text: &[u8], start: usize, end: usize) -> &[u8] {
 }
 
 /// Writes the mark whose texts stand there.
-fn write_mark<W: Write>(place: Place, text: &[u8], writer: &mut W) -> io::Result<()>
+fn write_mark<W: Write>(place: MarkTexts, text: &[u8], writer: &mut W) -> io::Result<()>
     ensures { OnOk result (MarksOf (place.shape ∷ []) (W.contents writer.old) (W.contents writer.new)) }
 {
     let attributes = part(text, place.start, place.middle);
@@ -71,7 +71,7 @@ impl Canvas {
     pub fn new() -> Canvas
         ensures { result ≡ blank }
     {
-        let nowhere = Place {
+        let nowhere = MarkTexts {
             shape: None,
             start: 0,
             middle: 0,
@@ -98,7 +98,7 @@ impl Canvas {
     pub(crate) fn begin(&mut self, shape: Option<Shape>)
         ensures { self.new ≡ drawing self.old.kinds shape self.old.used }
     {
-        self.begun = Place {
+        self.begun = MarkTexts {
             shape,
             start: self.end,
             middle: self.end,
@@ -118,7 +118,7 @@ impl Canvas {
         ensures { self.new ≡ finished self.old }
     {
         if self.end < ROOM && self.count < MOST_MARKS {
-            self.places[self.count] = Place {
+            self.places[self.count] = MarkTexts {
                 end: self.end,
                 ..self.begun
             };

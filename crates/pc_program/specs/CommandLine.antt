@@ -17,8 +17,8 @@ use Rattle.pc_draw.specs.declared.part.DrawnPart.{DrawnPart}
 use Rattle.pc_policy.specs.Names.{is_usual, policy_text}
 use Rattle.pc_policy.specs.declared.named.PolicyName.{PolicyName}
 use Rattle.pc_program.specs.Numbers.{IsWritten, SpellsNone}
-use Rattle.pc_program.specs.declared.command_line.Command.{Command}
-use Rattle.pc_program.specs.declared.command_line.Command.TheVariants.{Replay, Explain, Draw, Run, Session, Lab}
+use Rattle.pc_program.specs.declared.command_line.ProgramCommand.{ProgramCommand}
+use Rattle.pc_program.specs.declared.command_line.ProgramCommand.TheVariants.{Replay, Explain, Draw, Run, Session, Lab}
 use Rattle.pc_program.specs.declared.command_line.VariantsFrom.{VariantsFrom}
 use Rattle.pc_program.specs.declared.command_line.VariantsFrom.TheVariants as from
 use Rattle.pc_program.specs.declared.command_line.CommandFault.{CommandFault}
@@ -189,7 +189,7 @@ IsFrom word from.Input = word ≡ Some (codes "-")
 IsFrom word (from.File name) = (word ≡ Some (string_bytes name)) × (string_bytes name ≢ codes "-")
 
 -- the command with this name and these values is asked for
-abbrev pub IsAsked : Option (Text × List Row) → Command → Type 0
+abbrev pub IsAsked : Option (Text × List Row) → ProgramCommand → Type 0
 IsAsked None command = ⊥
 IsAsked (Some met) (Replay given) = IsOf (codes "replay") (option_map string_bytes given) met
 IsAsked (Some met) (Explain given) = IsOf (codes "explain") (option_map string_bytes given) met

@@ -46,7 +46,7 @@ use Rattle.pc_program.specs.Programs as program
 use Rattle.pc_program.specs.ReportText as report_text
 use Rattle.pc_program.specs.Runs as runs
 use Rattle.pc_program.specs.declared.ending.Ending.{Ending}
-use Rattle.pc_program.specs.declared.forms.Form.{Form}
+use Rattle.pc_program.specs.declared.forms.ScriptForm.{ScriptForm}
 use Rattle.pc_program.specs.declared.report.ReportForm.{ReportForm}
 
 -- ---- 1. A script's text
@@ -189,7 +189,7 @@ MessageOf end' = ending.message_of end'
 -- there is one, is what it had, and behind that the output of the script by a session; or that with comments between;
 -- or the script's picture; or, where memory ran out, nothing, or the replies to the lines before one, whole, and of a
 -- picture nothing. After a read or a write that failed nothing is said
-abbrev pub AfterScript : Form → List ℕ → Option (List ℕ) → Option (List ℕ) → Ending → Type 0
+abbrev pub AfterScript : ScriptForm → List ℕ → Option (List ℕ) → Option (List ℕ) → Ending → Type 0
 AfterScript form bytes old new end' = program.IsMade form bytes old new end'
 
 -- `pc-sim run`, by how it ended: behind what the writer had stands the report of a run that did what the settings ask

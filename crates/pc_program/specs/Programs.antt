@@ -20,8 +20,8 @@ use Rattle.pc_program.specs.declared.ending.Ending.{Ending}
 use Rattle.pc_program.specs.declared.ending.Ending.TheVariants.{Finished, FaultLine, DrawnToFault, CannotRead}
 use Rattle.pc_program.specs.declared.ending.Ending.TheVariants.{BadCommandLine, OutOfMemory, Settings, Run, CannotStart}
 use Rattle.pc_program.specs.declared.ending.Failure.TheVariants as failure
-use Rattle.pc_program.specs.declared.forms.Form.{Form}
-use Rattle.pc_program.specs.declared.forms.Form.TheVariants.{Replies, Explained, Picture}
+use Rattle.pc_program.specs.declared.forms.ScriptForm.{ScriptForm}
+use Rattle.pc_program.specs.declared.forms.ScriptForm.TheVariants.{Replies, Explained, Picture}
 use Rattle.pc_program.specs.declared.report.ReportForm.{ReportForm}
 use Rattle.pc_settings.specs.declared.runs.SettingsFault.{SettingsFault}
 
@@ -64,7 +64,7 @@ IsDrawn text old new (Run why) = ⊥
 IsDrawn text old new CannotStart = ⊥
 
 -- after this was made of the text
-abbrev pub IsMade : Form → (text : List ℕ) (old new : Option (List ℕ)) → Ending → Type 0
+abbrev pub IsMade : ScriptForm → (text : List ℕ) (old new : Option (List ℕ)) → Ending → Type 0
 IsMade Replies text old new ending = IsAnswered (λ written. written) text old new ending
 IsMade Explained text old new ending = IsAnswered without_comments text old new ending
 IsMade (Picture part axis) text old new ending = IsDrawn text old new ending

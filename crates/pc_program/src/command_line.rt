@@ -27,7 +27,7 @@ use thiserror::Error as Fault;
 
 /// What the program is asked to do. Where there is no file the standard input is read.
 #[derive(Debug, Drop)]
-pub enum Command {
+pub enum ProgramCommand {
     /// Replay a script.
     Replay {
         file: Option<String>,
@@ -125,7 +125,10 @@ const VERSION: &str = "1.0.0";
 /// The fault is `Clap` where the words are no command, and where they ask for help or the version; `BadNumbers` where
 /// they are one but for a word that is to spell numbers, and `BadPolicy` but for one that is to name a policy; or
 /// `OutOfMemory`.
-pub fn read_command<'a, S: AsStr>(alloc: Global, words: &'a [S]) -> Result<Command, CommandFault>
+pub fn read_command<'a, S: AsStr>(
+    alloc: Global,
+    words: &'a [S],
+) -> Result<ProgramCommand, CommandFault>
     ensures asked { IfOk result (IsAsked (subcommand_of pc_sim (map S.text words.entry.now))) }
     ensures taken { IfOk result (λ _. fault_of pc_sim (map S.text words.entry.now) ≡ []) }
     ensures refused { IfErr result (IsRefusal (fault_of pc_sim (map S.text words.entry.now))) }
@@ -153,7 +156,7 @@ fn first_word<S: AsStr>(words: &[S]) -> &str
 }
 
 /// What the matches of a command ask for.
-fn command_of(alloc: Global, matches: &ArgMatches<'_>) -> Result<Command, CommandFault>
+fn command_of(alloc: Global, matches: &ArgMatches<'_>) -> Result<ProgramCommand, CommandFault>
     requires { IsCommandMet (subcommand_rows_of matches.now) }
     ensures asked { IfOk result (IsAsked (subcommand_rows_of matches.now)) }
     ensures fault { IfErr result (λ fault. (fault ≡ CommandFault.OutOfMemory) ⊎ (fault ≡ CommandFault.BadNumbers)
@@ -168,9 +171,9 @@ fn command_of(alloc: Global, matches: &ArgMatches<'_>) -> Result<Command, Comman
     if name == "run" {
         run_of(alloc, file, met)
     } else if name == "explain" {
-        Ok(Command::Explain { file })
+        Ok(ProgramCommand::Explain { file })
     } else if name == "session" {
-        Ok(Command::Session {
+        Ok(ProgramCommand::Session {
             file,
             explains: is_set(met, "explain"),
         })
@@ -179,7 +182,7 @@ fn command_of(alloc: Global, matches: &ArgMatches<'_>) -> Result<Command, Comman
     } else if name == "lab" {
         Ok(lab_of(alloc, file, met)?)
     } else {
-        Ok(Command::Replay { file })
+        Ok(ProgramCommand::Replay { file })
     }
 }
 
@@ -188,7 +191,7 @@ fn run_of(
     alloc: Global,
     file: Option<String>,
     met: &ArgMatches<'_>,
-) -> Result<Command, CommandFault>
+) -> Result<ProgramCommand, CommandFault>
     requires { IsInput (first_of (codes "FILE") (rows_of (found_of met.now))) (option_map string_bytes file) }
     ensures asked { IfOk result (IsAsked (Some (codes "run", rows_of (found_of met.now)))) }
     ensures fault { IfErr result (λ fault. (fault ≡ CommandFault.OutOfMemory) ⊎ (fault ≡ CommandFault.BadPolicy)) }
@@ -196,7 +199,7 @@ fn run_of(
 {
     let policy = policy_of(met)?;
     let script = script_of(alloc, met)?;
-    Ok(Command::Run {
+    Ok(ProgramCommand::Run {
         file,
         form: form_of(met),
         limit: limit_of(met),
@@ -206,7 +209,7 @@ fn run_of(
 }
 
 /// The picture of this file that the matches of `draw` ask for.
-fn drawing_of(file: Option<String>, met: &ArgMatches<'_>) -> Result<Command, CommandFault>
+fn drawing_of(file: Option<String>, met: &ArgMatches<'_>) -> Result<ProgramCommand, CommandFault>
     requires { IsInput (first_of (codes "FILE") (rows_of (found_of met.now))) (option_map string_bytes file) }
     ensures asked { IfOk result (IsAsked (Some (codes "draw", rows_of (found_of met.now)))) }
     ensures fault { IfErr result (λ fault. (fault ≡ CommandFault.BadNumbers)
@@ -214,7 +217,7 @@ fn drawing_of(file: Option<String>, met: &ArgMatches<'_>) -> Result<Command, Com
         ⊎ IsUnread (codes "lines") (rows_of (found_of met.now)))) }
 {
     let part = part_of(met)?;
-    Ok(Command::Draw {
+    Ok(ProgramCommand::Draw {
         file,
         part,
         axis: axis_of(met),
@@ -222,13 +225,17 @@ fn drawing_of(file: Option<String>, met: &ArgMatches<'_>) -> Result<Command, Com
 }
 
 /// What the matches of `lab` ask for, of the load in this file.
-fn lab_of(alloc: Global, file: Option<String>, met: &ArgMatches<'_>) -> Result<Command, AllocError>
+fn lab_of(
+    alloc: Global,
+    file: Option<String>,
+    met: &ArgMatches<'_>,
+) -> Result<ProgramCommand, AllocError>
     requires { IsInput (first_of (codes "FILE") (rows_of (found_of met.now))) (option_map string_bytes file) }
     ensures { IfOk result (IsAsked (Some (codes "lab", rows_of (found_of met.now)))) }
 {
     let variants = variants_of(alloc, met)?;
     let script = script_of(alloc, met)?;
-    Ok(Command::Lab {
+    Ok(ProgramCommand::Lab {
         file,
         variants,
         per_cpu: is_set(met, "per-cpu"),

@@ -28,7 +28,7 @@ use std::time::Clock;
 
 /// What is made of a script.
 #[derive(Clone, Copy, Debug, PartialEq, Eq)]
-pub enum Form {
+pub enum ScriptForm {
     /// The replies of a script.
     Replies,
     /// These, with comments between that explain them.
@@ -93,16 +93,21 @@ fn picture<R: Read, W: Write>(
 ///
 /// A text that cannot be read, or is too long, and a write that fails are `CannotRead`, which says which; want of
 /// memory is `OutOfMemory`, behind what was made so far, and of a picture nothing was written.
-pub fn make<R: Read, W: Write>(alloc: Global, form: Form, reader: &mut R, writer: &mut W) -> Ending
+pub fn make<R: Read, W: Write>(
+    alloc: Global,
+    form: ScriptForm,
+    reader: &mut R,
+    writer: &mut W,
+) -> Ending
     ensures { IfSome (R.remaining reader.old)
         (λ text. IsMade form text (W.contents writer.old) (W.contents writer.new) result) }
 {
     match form {
         // The code of each stands in the program in this order. A replay and a picture drop their sessions by the same
         // code, which stands with the picture's, and so near the replay's: less of the program is read in.
-        Form::Replies => replies(alloc, reader, writer),
-        Form::Picture(part, axis) => picture(alloc, part, axis, reader, writer),
-        Form::Explained => explained(alloc, reader, writer),
+        ScriptForm::Replies => replies(alloc, reader, writer),
+        ScriptForm::Picture(part, axis) => picture(alloc, part, axis, reader, writer),
+        ScriptForm::Explained => explained(alloc, reader, writer),
     }
 }
 
@@ -124,7 +129,7 @@ pub(crate) fn flushed<W: Write + Drop>(writer: &mut BufWriter<W>, ending: Ending
 /// Endings are those of [`make`]; where the flush fails it is `CannotRead`, by a write, whatever else there was.
 pub fn replay_flushed<R: Read, W: Write>(alloc: Global, reader: &mut R, writer: &mut W) -> Ending
     ensures told { IfSome (R.remaining reader.old)
-        (λ text. IsMade Form.Replies text (W.contents writer.old) (W.contents writer.new) result) }
+        (λ text. IsMade ScriptForm.Replies text (W.contents writer.old) (W.contents writer.new) result) }
 {
     let ending = replies(alloc, reader, writer);
     if writer.flush().is_ok() {
@@ -139,7 +144,7 @@ pub fn replay_flushed<R: Read, W: Write>(alloc: Global, reader: &mut R, writer: 
 /// Endings are those of [`make`]; where the flush fails it is `CannotRead`, by a write, whatever else there was.
 pub fn make_flushed<R: Read, W: Write + Drop>(
     alloc: Global,
-    form: Form,
+    form: ScriptForm,
     reader: &mut R,
     writer: &mut BufWriter<W>,
 ) -> Ending

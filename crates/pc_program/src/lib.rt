@@ -24,9 +24,9 @@ mod run_text;
 mod scripted;
 mod talk;
 
-pub use command_line::{Command, CommandFault, VariantsFrom, read_command};
+pub use command_line::{CommandFault, ProgramCommand, VariantsFrom, read_command};
 pub use ending::{BadSettings, Ending, Failure, Unsettled};
-pub use forms::{Form, make, make_flushed, replay_flushed, run_flushed, run_script};
+pub use forms::{ScriptForm, make, make_flushed, replay_flushed, run_flushed, run_script};
 pub use input::{MOST_SETTINGS, read_settings};
 pub use pc_draw::{Axis, DrawnPart, Interval};
 pub use pc_policy::{AgentPolicy, Order, OrderName, PolicyName, Stealing};

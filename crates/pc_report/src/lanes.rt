@@ -7,15 +7,15 @@ use std::collections::VecDeque;
 
 /// What the queue of a CPU holds, and how much of it its agent removes each time from now on.
 #[derive(Drop)]
-struct Lane {
+struct HeldQueue {
     held: u32,
     removals: VecDeque<u32>,
 }
 
-impl Lane {
+impl HeldQueue {
     /// An empty queue, from which nothing is removed.
-    fn new(alloc: Global) -> Lane {
-        Lane {
+    fn new(alloc: Global) -> HeldQueue {
+        HeldQueue {
             held: 0,
             removals: VecDeque::new(alloc),
         }
@@ -29,22 +29,22 @@ impl Lane {
 
 /// The queues of all CPUs.
 #[derive(Drop)]
-pub(crate) struct Lanes {
-    lanes: Vec<Lane>,
+pub(crate) struct HeldQueues {
+    lanes: Vec<HeldQueue>,
 }
 
-impl Lanes {
+impl HeldQueues {
     /// The queues before the first of these calls.
     pub(crate) fn before(
         alloc: Global,
         cpus: u8,
         calls: &[(Call, Answer)],
-    ) -> Result<Lanes, AllocError> {
+    ) -> Result<HeldQueues, AllocError> {
         let mut lanes = Vec::with_capacity(alloc, cpus as usize)?;
         for _ in 0..cpus {
-            lanes.push(Lane::new(alloc))?;
+            lanes.push(HeldQueue::new(alloc))?;
         }
-        let mut lanes = Lanes { lanes };
+        let mut lanes = HeldQueues { lanes };
         for (call, _) in calls {
             lanes.note(call)?;
         }
@@ -52,7 +52,7 @@ impl Lanes {
     }
 
     /// The queue of this CPU.
-    fn of(&mut self, cpu: Cpu) -> Option<&mut Lane> {
+    fn of(&mut self, cpu: Cpu) -> Option<&mut HeldQueue> {
         self.lanes.get_mut(cpu.index() as usize)
     }
 

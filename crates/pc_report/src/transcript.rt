@@ -5,7 +5,7 @@ ghost use Rattle.std.specs.Io.KnownBytes.{Appends};
 ghost use Rattle.pc_threads.specs.Pages.{calls_of};
 ghost use Rattle.pc_report.specs.Transcripts.{WritesCalls, command_of, lines_text, script_of};
 
-use crate::lanes::Lanes;
+use crate::lanes::HeldQueues;
 use pc_calls::{Answer, Call, Event, Limits};
 use pc_messages::Cpu;
 use pc_script::Command;
@@ -79,7 +79,7 @@ fn write_call<W: Write>(writer: &mut W, call: &Call) -> io::Result<()>
 fn write_calls<W: Write>(
     writer: &mut W,
     calls: &[(Call, Answer)],
-    lanes: &mut Lanes,
+    lanes: &mut HeldQueues,
 ) -> io::Result<()>
     ensures { OnOk result
         (WritesCalls (map command_of (calls_of calls.now)) (W.contents writer.old) (W.contents writer.new)) }
@@ -92,7 +92,7 @@ fn write_calls<W: Write>(
 }
 
 /// Writes the whole script.
-fn write_all<W: Write>(writer: &mut W, book: &Book, lanes: &mut Lanes) -> io::Result<()>
+fn write_all<W: Write>(writer: &mut W, book: &Book, lanes: &mut HeldQueues) -> io::Result<()>
     ensures { OnOk result
         (WritesCalls (script_of book.now) (W.contents writer.old) (W.contents writer.new)) }
 {
@@ -118,7 +118,7 @@ pub fn write_transcript<W: Write>(
     ensures no_memory { result ≡ Err TranscriptFault.OutOfMemory → writer.new ≡ writer.old }
 {
     let cpus = book.kernel().limits().cpus;
-    let Ok(mut lanes) = Lanes::before(alloc, cpus, book.calls()) else {
+    let Ok(mut lanes) = HeldQueues::before(alloc, cpus, book.calls()) else {
         return Err(TranscriptFault::OutOfMemory);
     };
     match write_all(writer, book, &mut lanes) {

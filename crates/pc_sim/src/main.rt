@@ -12,7 +12,7 @@ mod words;
 use lab::try_on_machine;
 use met::{Met, Source, say_failure};
 use pc_program::{
-    AgentPolicy, Command, CommandFault, Ending, Failure, Form, Manual, converse_flushed,
+    AgentPolicy, ProgramCommand, CommandFault, Ending, Failure, ScriptForm, Manual, converse_flushed,
     make_flushed, read_command, replay_flushed,
 };
 use pc_script::MOST_BYTES;
@@ -46,7 +46,7 @@ fn replay<R: Read + Drop, W: Write + Drop>(alloc: Global, reader: R, writer: W) 
 /// Makes what is asked for of the text that a stream gives, through a buffer of its own.
 fn make_buffered<R: Read + Drop, W: Write + Drop>(
     alloc: Global,
-    form: Form,
+    form: ScriptForm,
     reader: R,
     writer: W,
 ) -> Met {
@@ -59,15 +59,15 @@ fn make_buffered<R: Read + Drop, W: Write + Drop>(
 }
 
 /// Makes what is asked for of the text that a stream gives.
-fn make_of<R: Read + Drop>(rt: &HostRuntime, form: Form, reader: R) -> Met {
+fn make_of<R: Read + Drop>(rt: &HostRuntime, form: ScriptForm, reader: R) -> Met {
     match form {
-        Form::Replies => replay(rt.alloc(), reader, rt.stdout()),
+        ScriptForm::Replies => replay(rt.alloc(), reader, rt.stdout()),
         _ => make_buffered(rt.alloc(), form, reader, rt.stdout()),
     }
 }
 
 /// What the command line asks for.
-fn command_of(rt: &HostRuntime) -> Result<Command, Met> {
+fn command_of(rt: &HostRuntime) -> Result<ProgramCommand, Met> {
     let words = match words_of(rt) {
         Ok(words) => words,
         Err(error) => return Err(Met::unworded(error)),
@@ -89,7 +89,7 @@ fn command_of(rt: &HostRuntime) -> Result<Command, Met> {
 }
 
 /// Makes what is asked for of the text of the file, or else of the standard input, and says how that ended.
-fn make_of_file(rt: &HostRuntime, form: Form, source: &Source) -> Met {
+fn make_of_file(rt: &HostRuntime, form: ScriptForm, source: &Source) -> Met {
     match &source.0 {
         Some(name) => match File::open(rt, name.as_str()) {
             Ok(file) => make_of(rt, form, file),
@@ -168,7 +168,7 @@ pub(crate) fn end(rt: &HostRuntime, met: &Met, source: &Source, most: usize) -> 
 }
 
 /// Makes what is asked for of a script.
-fn make_script(rt: &HostRuntime, form: Form, file: Option<String>) -> ExitCode {
+fn make_script(rt: &HostRuntime, form: ScriptForm, file: Option<String>) -> ExitCode {
     let source = Source(file);
     let met = make_of_file(rt, form, &source);
     end(rt, &met, &source, MOST_BYTES)
@@ -191,12 +191,12 @@ fn settle_heap(alloc: Global) {
 fn main(rt: HostRuntime) -> ExitCode {
     settle_heap(rt.alloc());
     match command_of(&rt) {
-        Ok(Command::Replay { file }) => make_script(&rt, Form::Replies, file),
-        Ok(Command::Explain { file }) => make_script(&rt, Form::Explained, file),
-        Ok(Command::Draw { file, part, axis }) => make_script(&rt, Form::Picture(part, axis), file),
-        Ok(Command::Session { file, explains }) => talk(&rt, explains, file),
+        Ok(ProgramCommand::Replay { file }) => make_script(&rt, ScriptForm::Replies, file),
+        Ok(ProgramCommand::Explain { file }) => make_script(&rt, ScriptForm::Explained, file),
+        Ok(ProgramCommand::Draw { file, part, axis }) => make_script(&rt, ScriptForm::Picture(part, axis), file),
+        Ok(ProgramCommand::Session { file, explains }) => talk(&rt, explains, file),
         Ok(
-            Command::Lab {
+            ProgramCommand::Lab {
                 file,
                 variants,
                 per_cpu,
@@ -211,7 +211,7 @@ fn main(rt: HostRuntime) -> ExitCode {
             &Wanted::of(per_cpu, csv, picture, script),
         ),
         Ok(
-            Command::Run {
+            ProgramCommand::Run {
                 file,
                 form,
                 limit,

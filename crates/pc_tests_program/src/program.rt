@@ -1,7 +1,7 @@
 //! What no script of tests/cases can say: a script over memory, the words of a command line, and how the program ends.
 
 use pc_program::{
-    Axis, Command, CommandFault, DrawnPart, Ending, Failure, Form, Helper, Interval, ReportForm,
+    Axis, ProgramCommand, CommandFault, DrawnPart, Ending, Failure, ScriptForm, Helper, Interval, ReportForm,
     VariantsFrom, converse_flushed, make, read_command, replay_flushed, run_script,
 };
 use pc_script::Outcome;
@@ -73,7 +73,7 @@ const ONE: DrawnPart = DrawnPart {
 fn is_drawn(alloc: Global, part: DrawnPart, axis: Axis) -> bool {
     let mut reader = b"enclave 2 8 100 16 1000\n# at 7\ntick 1\ntick 0\n".as_slice();
     let mut writer = Vec::new(alloc);
-    make(alloc, Form::Picture(part, axis), &mut reader, &mut writer) == Ending::Finished
+    make(alloc, ScriptForm::Picture(part, axis), &mut reader, &mut writer) == Ending::Finished
         && writer.as_slice().ends_with(b"</svg>\n")
 }
 
@@ -102,17 +102,17 @@ fn read_off(
     words: &'static [&'static str],
 ) -> Result<(Asked, Option<String>), CommandFault> {
     match read_command(alloc, words)? {
-        Command::Replay { file } => Ok((Asked::Replay, file)),
-        Command::Explain { file } => Ok((Asked::Explain, file)),
-        Command::Draw { file, part, axis } => Ok((Asked::Draw(part, axis), file)),
-        Command::Run {
+        ProgramCommand::Replay { file } => Ok((Asked::Replay, file)),
+        ProgramCommand::Explain { file } => Ok((Asked::Explain, file)),
+        ProgramCommand::Draw { file, part, axis } => Ok((Asked::Draw(part, axis), file)),
+        ProgramCommand::Run {
             file,
             form,
             limit,
             ..
         } => Ok((Asked::Run(form, limit), file)),
-        Command::Session { file, explains } => Ok((Asked::Session(explains), file)),
-        Command::Lab {
+        ProgramCommand::Session { file, explains } => Ok((Asked::Session(explains), file)),
+        ProgramCommand::Lab {
             file,
             variants,
             per_cpu,

@@ -3,7 +3,7 @@
 use crate::before::{Before, steals_of};
 use crate::reasons::reason;
 use crate::sentences::Sentences;
-use crate::telling::Scene;
+use crate::telling::CommandContext;
 use crate::words::Count;
 use pc_calls::{Refusal, Reply};
 use pc_messages::{Cpu, Tid};
@@ -15,7 +15,7 @@ pub(super) fn told(
     text: &mut Sentences,
     cpu: Cpu,
     reply: &Reply,
-    scene: &Scene<'_>,
+    scene: &CommandContext<'_>,
 ) -> fmt::Result {
     match (reply, scene.world) {
         (Reply::Committed { thread, .. }, Some(world)) => {

@@ -2,7 +2,7 @@
 
 use crate::reasons::reason;
 use crate::sentences::Sentences;
-use crate::telling::Scene;
+use crate::telling::CommandContext;
 use crate::words::Count;
 use pc_calls::{Event, Refusal, Reply};
 use pc_messages::{Cpu, Reported, Tid};
@@ -47,7 +47,7 @@ pub(super) fn chosen(
     text: &mut Sentences,
     event: &Event,
     reply: &Reply,
-    scene: &Scene<'_>,
+    scene: &CommandContext<'_>,
 ) -> fmt::Result {
     let policy = scene.policy;
     if policy == PolicyName::USUAL {
@@ -68,7 +68,7 @@ fn rank(
     policy: PolicyName,
     cpu: Cpu,
     thread: Tid,
-    scene: &Scene<'_>,
+    scene: &CommandContext<'_>,
 ) -> fmt::Result {
     match reported(cpu, thread, scene) {
         Some(reported) => rank_of(text, policy.order, cpu, &reported),
@@ -77,7 +77,7 @@ fn rank(
 }
 
 /// What the CPU's agent knows of the thread.
-fn reported(cpu: Cpu, thread: Tid, scene: &Scene<'_>) -> Option<Reported> {
+fn reported(cpu: Cpu, thread: Tid, scene: &CommandContext<'_>) -> Option<Reported> {
     scene.world?.view(cpu)?.reported(thread)
 }
 

@@ -1,7 +1,7 @@
 //! The sentences on questions.
 
 use crate::sentences::Sentences;
-use crate::telling::{Scene, refusals};
+use crate::telling::{CommandContext, refusals};
 use crate::words::Count;
 use pc_advice::Deed;
 use pc_calls::Status;
@@ -17,7 +17,7 @@ pub(super) fn answered(
     text: &mut Sentences,
     question: &Read,
     response: &Response,
-    scene: &Scene<'_>,
+    scene: &CommandContext<'_>,
 ) -> fmt::Result {
     match (question, response) {
         (_, Response::Refused(refusal)) => {

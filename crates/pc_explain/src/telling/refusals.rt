@@ -2,7 +2,7 @@
 
 use crate::reasons::{Closed, reason};
 use crate::sentences::Sentences;
-use crate::telling::Scene;
+use crate::telling::CommandContext;
 use crate::telling::steps::advised;
 use crate::words::Count;
 use pc_advice::{Deed, tried_by_steal};
@@ -17,7 +17,7 @@ pub(super) fn refused(
     text: &mut Sentences,
     deed: &Deed,
     refusal: &Refusal,
-    scene: &Scene<'_>,
+    scene: &CommandContext<'_>,
 ) -> fmt::Result {
     why(text, deed, refusal)?;
     match scene.world {
