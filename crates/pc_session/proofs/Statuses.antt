@@ -1,5 +1,5 @@
 -- A thread that is known has a state.
-use Rattle.std.proofs.Common.{◌≡◌, ℕ, ◌≤◌, true, false, List, [], ◌∷◌, length, Option, Some, None, is_some, slice_get, refl, sym, ◌∙◌, ap, arith}
+use Rattle.std.proofs.Common.{◌≡◌, ℕ, ◌≤◌, Bool, true, false, List, [], ◌∷◌, length, Option, Some, None, is_some, slice_get, refl, sym, ◌∙◌, ap, subst, arith}
 use Rattle.std.specs.List.{last_or, filter_map}
 use Rattle.std.specs.Option.{option_map, option_and_then}
 use Rattle.pc_messages.specs.Run.{IsBegun}
@@ -25,31 +25,35 @@ some_report None m ran level e f = cc
 some_report (Some p) None ran level e f = cc
 some_report (Some p) (Some m) ran level e f = refl
 
+-- kinds that are begun are a Created, and others behind it
+begins : (ks : List Kind) → IsBegun ks → 1 ≤ length ks → (ready : Bool) × (mask : ℕ) × (others : List Kind) × (ks ≡ Created ready mask ∷ others)
+begins [] h low = absurd (omega arith)
+begins (Created ready mask ∷ ks) h low = (ready, mask, ks, refl)
+begins (Blocked ran ∷ ks) h low = let bad : false ≡ true = h.0 in absurd (true≢false (sym bad))
+begins (Preempted ran ∷ ks) h low = let bad : false ≡ true = h.0 in absurd (true≢false (sym bad))
+begins (Yield ran ∷ ks) h low = let bad : false ≡ true = h.0 in absurd (true≢false (sym bad))
+begins (Dead ran ∷ ks) h low = let bad : false ≡ true = h.0 in absurd (true≢false (sym bad))
+begins (Wakeup ∷ ks) h low = let bad : false ≡ true = h.0 in absurd (true≢false (sym bad))
+begins (Affinity mask ∷ ks) h low = let bad : false ≡ true = h.0 in absurd (true≢false (sym bad))
+begins (Priority level ∷ ks) h low = let bad : false ≡ true = h.0 in absurd (true≢false (sym bad))
+
+first_phase : (ready : Bool) (mask : ℕ) (others : List Kind) → is_some (phase_of (Created ready mask ∷ others)) ≡ true
+first_phase true mask others = last_some _ (filter_map phase_given others)
+first_phase false mask others = last_some _ (filter_map phase_given others)
+
+first_mask : (ready : Bool) (mask : ℕ) (others : List Kind) → is_some (mask_of (Created ready mask ∷ others)) ≡ true
+first_mask ready mask others = last_some mask (filter_map mask_given others)
+
 pub phase_some : (ks : List Kind) → IsBegun ks → 1 ≤ length ks → is_some (phase_of ks) ≡ true
-phase_some [] h low = absurd (omega arith)
-phase_some (Created true mask ∷ ks) h low = last_some _ (filter_map phase_given ks)
-phase_some (Created false mask ∷ ks) h low = last_some _ (filter_map phase_given ks)
-phase_some (Blocked ran ∷ ks) h low = let bad : false ≡ true = h.0 in cc
-phase_some (Preempted ran ∷ ks) h low = let bad : false ≡ true = h.0 in cc
-phase_some (Yield ran ∷ ks) h low = let bad : false ≡ true = h.0 in cc
-phase_some (Dead ran ∷ ks) h low = let bad : false ≡ true = h.0 in cc
-phase_some (Wakeup ∷ ks) h low = let bad : false ≡ true = h.0 in cc
-phase_some (Affinity mask ∷ ks) h low = let bad : false ≡ true = h.0 in cc
-phase_some (Priority level ∷ ks) h low = let bad : false ≡ true = h.0 in cc
+phase_some ks h low =
+    let begun = begins ks h low in subst (λ kinds. is_some (phase_of kinds) ≡ true) (sym begun.3) (first_phase begun.0 begun.1 begun.2)
+
+mask_some : (ks : List Kind) → IsBegun ks → 1 ≤ length ks → is_some (mask_of ks) ≡ true
+mask_some ks h low =
+    let begun = begins ks h low in subst (λ kinds. is_some (mask_of kinds) ≡ true) (sym begun.3) (first_mask begun.0 begun.1 begun.2)
 
 state_some : (ks : List Kind) → IsBegun ks → 1 ≤ length ks → is_some (state_of ks) ≡ true
-state_some [] h low = absurd (omega arith)
-state_some (Created true mask ∷ ks) h low =
-    some_report (phase_of (Created true mask ∷ ks)) (mask_of (Created true mask ∷ ks)) _ _ (last_some _ (filter_map phase_given ks)) (last_some mask (filter_map mask_given ks))
-state_some (Created false mask ∷ ks) h low =
-    some_report (phase_of (Created false mask ∷ ks)) (mask_of (Created false mask ∷ ks)) _ _ (last_some _ (filter_map phase_given ks)) (last_some mask (filter_map mask_given ks))
-state_some (Blocked ran ∷ ks) h low = let bad : false ≡ true = h.0 in cc
-state_some (Preempted ran ∷ ks) h low = let bad : false ≡ true = h.0 in cc
-state_some (Yield ran ∷ ks) h low = let bad : false ≡ true = h.0 in cc
-state_some (Dead ran ∷ ks) h low = let bad : false ≡ true = h.0 in cc
-state_some (Wakeup ∷ ks) h low = let bad : false ≡ true = h.0 in cc
-state_some (Affinity mask ∷ ks) h low = let bad : false ≡ true = h.0 in cc
-state_some (Priority level ∷ ks) h low = let bad : false ≡ true = h.0 in cc
+state_some ks h low = some_report (phase_of ks) (mask_of ks) _ _ (phase_some ks h low) (mask_some ks h low)
 
 -- where no status or no state is read, the thread is not known
 abbrev status_row : ThreadRow → Status
