@@ -318,8 +318,9 @@ impl<'t> Bars<'t> {
 
     /// Counts what the step itself did.
     fn count_step(&mut self, step: &Step) {
-        if !matches!(step.command, Command::Event(_) | Command::Mend { .. }) {
-            return;
+        match step.command {
+            Command::Event(_) | Command::Mend { .. } => {}
+            Command::Enclave(_) | Command::Read(_) | Command::Policy(_) => return,
         }
         match step.answer {
             Answer::Event(Reply::Posted(posted)) => {
@@ -349,7 +350,14 @@ impl<'t> Bars<'t> {
                     tally.refusals = tally.refusals.saturating_add(1);
                 }
             }
-            _ => {}
+            Answer::Event(
+                Reply::Published { .. }
+                | Reply::Consumed { .. }
+                | Reply::Answered { .. }
+                | Reply::Refused(_),
+            )
+            | Answer::Opened
+            | Answer::Told => {}
         }
     }
 

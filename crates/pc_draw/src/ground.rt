@@ -79,7 +79,7 @@ pub(crate) fn draw_ground(canvas: &mut Canvas, layout: &Layout<'_>, story: &Stor
     }
     match layout.scale {
         Scale::Ticks(_) => tick_axis(canvas, layout),
-        _ => axis(canvas, layout, steps),
+        Scale::Lines | Scale::NoTick => axis(canvas, layout, steps),
     }
     fault(canvas, layout, story.outcome);
 }

@@ -78,11 +78,11 @@ impl<'t> Layout<'t> {
         let (first_tick, span) = ticks_drawn(scale);
         let units = match scale {
             Scale::Ticks(_) => count_of_ticks(steps, span),
-            _ => steps,
+            Scale::Lines | Scale::NoTick => steps,
         };
         let columns = match scale {
             Scale::Ticks(_) => units.min(most_columns(steps, lanes)),
-            _ => columns_of(steps, lanes),
+            Scale::Lines | Scale::NoTick => columns_of(steps, lanes),
         };
         Layout {
             part,
@@ -120,7 +120,7 @@ impl<'t> Layout<'t> {
                 let tick = ticks.get(step as usize).copied().unwrap_or(0);
                 tick.saturating_sub(self.first_tick)
             }
-            _ => 0,
+            Scale::Lines | Scale::NoTick => 0,
         }
     }
 
@@ -151,7 +151,7 @@ impl<'t> Layout<'t> {
     pub(crate) fn most_in_column(&self) -> Option<u64> {
         let (count, is_single) = match self.scale {
             Scale::Ticks(_) => (self.ticks(), self.ticks() <= u128::from(self.columns)),
-            _ => (u128::from(self.steps), !self.is_dense),
+            Scale::Lines | Scale::NoTick => (u128::from(self.steps), !self.is_dense),
         };
         if is_single || self.steps == 0 {
             return None;
@@ -286,7 +286,7 @@ fn ticks_drawn(scale: Scale<'_>) -> (u64, u64) {
     match scale {
         Scale::Ticks([first, .., last]) => (*first, last.saturating_sub(*first)),
         Scale::Ticks([only]) => (*only, 0),
-        _ => (0, 0),
+        Scale::Ticks([]) | Scale::Lines | Scale::NoTick => (0, 0),
     }
 }
 

@@ -90,7 +90,30 @@ fn say_refusal(canvas: &mut Canvas, refusal: Refusal) {
             let queue = queue.index();
             write!(canvas, " NotYours {queue}")
         }
-        _ => write!(canvas, " {refusal:?}"),
+        // A refusal without an argument is named as its variant is.
+        Refusal::BadCpu
+        | Refusal::UnknownThread
+        | Refusal::Dead
+        | Refusal::NotBlocked
+        | Refusal::NotReady
+        | Refusal::EmptyMask
+        | Refusal::MaskTooWide
+        | Refusal::OnForbiddenCpu
+        | Refusal::BadLevel
+        | Refusal::IdleCpu
+        | Refusal::NamesSpent
+        | Refusal::NumbersSpent
+        | Refusal::QueueFull
+        | Refusal::PostsSpent
+        | Refusal::Pending
+        | Refusal::Forbidden
+        | Refusal::Busy
+        | Refusal::TooMany
+        | Refusal::NothingReady
+        | Refusal::NothingToSteal
+        | Refusal::NoDelta
+        | Refusal::WireFault
+        | Refusal::TooLate => write!(canvas, " {refusal:?}"),
     };
 }
 
@@ -136,7 +159,16 @@ fn tells_move(layout: &Layout<'_>, reply: &Reply, home: Option<Cpu>) -> bool {
         (Reply::Committed { cpu, .. }, Some(home)) => {
             home.index() != cpu.index() && (has_lane(layout, *cpu) || has_lane(layout, home))
         }
-        _ => false,
+        (Reply::Associated { .. } | Reply::Committed { .. }, None) => false,
+        (
+            Reply::Done
+            | Reply::Posted(_)
+            | Reply::Published { .. }
+            | Reply::Consumed { .. }
+            | Reply::Answered { .. }
+            | Reply::Refused(_),
+            _,
+        ) => false,
     }
 }
 
@@ -182,7 +214,8 @@ impl<'t> Moments<'t> {
             (Answer::Event(reply), Command::Mend { .. }) => {
                 self.mended(index, line, &reply, step.home, canvas);
             }
-            _ => {}
+            (Answer::Event(_), Command::Enclave(_) | Command::Read(_) | Command::Policy(_))
+            | (Answer::Opened | Answer::Told, _) => {}
         }
     }
 
@@ -226,7 +259,17 @@ impl<'t> Moments<'t> {
                 self.change_home(index, line, thread.index(), home, *queue, is_steal, canvas);
             }
             (_, Reply::Posted(posted), _) => self.post(index, line, posted, canvas),
-            _ => {}
+            (_, Reply::Associated { .. }, None)
+            | (
+                _,
+                Reply::Done
+                | Reply::Committed { .. }
+                | Reply::Published { .. }
+                | Reply::Consumed { .. }
+                | Reply::Answered { .. }
+                | Reply::Refused(_),
+                _,
+            ) => {}
         }
     }
 

@@ -78,7 +78,7 @@ impl Edge {
     pub(crate) fn place(&self, layout: &Layout<'_>) -> u64 {
         match layout.scale {
             Scale::Ticks(_) => self.behind,
-            _ => u64::from(self.column),
+            Scale::Lines | Scale::NoTick => u64::from(self.column),
         }
     }
 
@@ -86,7 +86,7 @@ impl Edge {
     fn of(layout: &Layout<'_>, strip: &Strip) -> Edge {
         let (column, behind) = match layout.scale {
             Scale::Ticks(_) => (layout.column_behind(strip.place), strip.place),
-            _ => (u32::try_from(strip.place).unwrap_or(u32::MAX), 0),
+            Scale::Lines | Scale::NoTick => (u32::try_from(strip.place).unwrap_or(u32::MAX), 0),
         };
         Edge {
             column,
@@ -172,7 +172,7 @@ fn extent_of(layout: &Layout<'_>, since: &Edge, end: &Edge) -> Extent {
             layout.first_tick.saturating_add(since.behind),
             layout.first_tick.saturating_add(end.behind),
         )),
-        _ => None,
+        Scale::Lines | Scale::NoTick => None,
     };
     Extent {
         lines: Stretch::lines(since.line, end.line),

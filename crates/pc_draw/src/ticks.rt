@@ -46,7 +46,7 @@ impl<'t> Scale<'t> {
     pub(crate) fn of_steps(self, first: usize, end: usize) -> Scale<'t> {
         match self {
             Scale::Ticks(ticks) => Scale::Ticks(ticks.get(first..end).unwrap_or(&[])),
-            _ => self,
+            Scale::Lines | Scale::NoTick => self,
         }
     }
 }

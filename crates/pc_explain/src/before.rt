@@ -25,13 +25,16 @@ pub(crate) enum Before {
 impl Before {
     /// What the sentences on this command need.
     pub(crate) fn of(world: Option<&World>, command: &Command) -> Before {
-        match (world, command) {
-            (Some(world), Command::Event(event)) => Before::of_event(world, event),
-            (Some(world), Command::Mend { cpu }) => Before::Held {
+        let Some(world) = world else {
+            return Before::Nothing;
+        };
+        match command {
+            Command::Event(event) => Before::of_event(world, event),
+            Command::Mend { cpu } => Before::Held {
                 items: items_in(world),
                 steals: steals_of(world, *cpu),
             },
-            _ => Before::Nothing,
+            Command::Enclave(_) | Command::Read(_) | Command::Policy(_) => Before::Nothing,
         }
     }
 
@@ -46,7 +49,18 @@ impl Before {
                 Some(view) => Before::Known(threads_of(view)),
                 None => Before::Nothing,
             },
-            _ => Before::Nothing,
+            Event::Env(_)
+            | Event::Agent(
+                AgentCall::Commit { .. }
+                | AgentCall::Sleep { .. }
+                | AgentCall::Rouse { .. }
+                | AgentCall::Config { .. },
+            )
+            | Event::Publish { .. }
+            | Event::Consume { .. }
+            | Event::Answer { .. }
+            | Event::Pick { .. }
+            | Event::Steal { .. } => Before::Nothing,
         }
     }
 }

@@ -47,6 +47,17 @@ struct Comments {
     policy: PolicyName,
 }
 
+impl Comments {
+    /// Before the first line.
+    fn new() -> Comments {
+        Comments {
+            before: Before::Nothing,
+            version: Version::One,
+            policy: PolicyName::USUAL,
+        }
+    }
+}
+
 /// The sentences on the line that names the version.
 fn on_version(version: Version) -> Sentences {
     let mut sentences = Sentences::new();
@@ -92,7 +103,16 @@ fn on_command(
 fn policy_after(policy: PolicyName, response: &Response) -> PolicyName {
     match response {
         Response::Ruled(policy) => *policy,
-        _ => policy,
+        Response::Opened
+        | Response::NoEnclave
+        | Response::HaveEnclave
+        | Response::BadLimits(_)
+        | Response::Event(_)
+        | Response::Status { .. }
+        | Response::Truth(_)
+        | Response::Sameness(_)
+        | Response::View(_)
+        | Response::Refused(_) => policy,
     }
 }
 
@@ -242,11 +262,7 @@ pub fn explain_script<R: Read, W: Write>(
         × Consumes (R.remaining reader.old) (R.remaining reader.new) bytes }
 {
     let text = read_text(alloc, reader)?;
-    let mut comments = Comments {
-        before: Before::Nothing,
-        version: Version::One,
-        policy: PolicyName::USUAL,
-    };
+    let mut comments = Comments::new();
     walk::<Session, Comments, W>(alloc, text.as_slice(), &mut comments, writer)
 }
 
@@ -276,10 +292,6 @@ pub fn explain_session<R: Read, W: Write + Drop, H: Helper>(
     ensures err { (fault : ScriptFault) → result ≡ Err fault → (fault ≡ ScriptFault.OutOfMemory)
         ⊎ (fault ≡ ScriptFault.Write) ⊎ (fault ≡ ScriptFault.TooLong) }
 {
-    let mut comments = Comments {
-        before: Before::Nothing,
-        version: Version::One,
-        policy: PolicyName::USUAL,
-    };
+    let mut comments = Comments::new();
     converse::<Session, Comments, R, W, H>(alloc, reader, &mut comments, helper, writer)
 }

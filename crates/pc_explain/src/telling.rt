@@ -63,7 +63,15 @@ fn told(
         (_, Response::NoEnclave) => refusals::no_enclave(text),
         (_, Response::HaveEnclave) => refusals::have_enclave(text),
         (_, Response::BadLimits(limit)) => refusals::bad_limits(text, limit),
-        _ => Ok(()),
+        (
+            _,
+            Response::Opened
+            | Response::Event(_)
+            | Response::Status { .. }
+            | Response::Truth(_)
+            | Response::Sameness(_)
+            | Response::View(_),
+        ) => Ok(()),
     }
 }
 
@@ -107,6 +115,14 @@ fn done(
         }
         (_, Reply::Committed { thread, cpu }) => agents::committed(text, event, *thread, *cpu),
         (Event::Consume { cpu }, Reply::Consumed { items }) => agents::consumed(text, *cpu, *items),
-        _ => agents::marked(text, event),
+        (
+            _,
+            Reply::Done
+            | Reply::Posted(_)
+            | Reply::Published { .. }
+            | Reply::Consumed { .. }
+            | Reply::Answered { .. }
+            | Reply::Refused(_),
+        ) => agents::marked(text, event),
     }
 }

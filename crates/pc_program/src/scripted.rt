@@ -28,7 +28,7 @@ fn ending_of_both(script: Result<(), TranscriptFault>, report: io::Result<()>) -
     match (script, report) {
         (Ok(()), Ok(())) => Ending::Finished,
         (Err(TranscriptFault::OutOfMemory), Ok(())) => Ending::OutOfMemory,
-        _ => Ending::CannotRead(Failure::Write),
+        (Err(TranscriptFault::Write), Ok(())) | (_, Err(_)) => Ending::CannotRead(Failure::Write),
     }
 }
 

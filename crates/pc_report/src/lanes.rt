@@ -71,7 +71,7 @@ impl HeldQueues {
         match (call, answer) {
             (_, Answer::Posted(posted)) => self.posted_to(posted.queue),
             (Call::Consume { cpu, count }, _) => self.removed(*cpu, *count),
-            _ => None,
+            (Call::Env(_) | Call::Agent(_), Answer::Done) => None,
         }
     }
 

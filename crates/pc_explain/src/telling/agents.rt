@@ -193,6 +193,14 @@ pub(super) fn marked(text: &mut Sentences, event: &Event) -> fmt::Result {
             let queue = queue.index();
             writeln!(text, "Posts to queue {queue} wake nobody from now on.")
         }
-        _ => writeln!(text, "It is done."),
+        Event::Env(_)
+        | Event::Agent(AgentCall::Associate { .. } | AgentCall::Commit { .. })
+        | Event::Publish { .. }
+        | Event::Consume { .. }
+        | Event::Deliver { .. }
+        | Event::Answer { .. }
+        | Event::Pick { .. }
+        | Event::Steal { .. }
+        | Event::Crash { .. } => writeln!(text, "It is done."),
     }
 }

@@ -3,7 +3,7 @@
 use crate::before::{Before, steals_of};
 use crate::reasons::reason;
 use crate::sentences::Sentences;
-use crate::telling::CommandContext;
+use crate::telling::{CommandContext, refusals};
 use crate::words::Count;
 use pc_calls::{Refusal, Reply};
 use pc_messages::{Cpu, Tid};
@@ -27,7 +27,16 @@ pub(super) fn told(
             idles(text, cpu)
         }
         (Reply::Refused(refusal), Some(world)) => refused(text, cpu, refusal, world),
-        _ => Ok(()),
+        (_, None)
+        | (
+            Reply::Done
+            | Reply::Posted(_)
+            | Reply::Associated { .. }
+            | Reply::Published { .. }
+            | Reply::Consumed { .. }
+            | Reply::Answered { .. },
+            Some(_),
+        ) => Ok(()),
     }
 }
 
@@ -83,12 +92,10 @@ fn idles(text: &mut Sentences, cpu: Cpu) -> fmt::Result {
 
 /// Nothing was done.
 fn refused(text: &mut Sentences, cpu: Cpu, refusal: &Refusal, world: &World) -> fmt::Result {
-    let why = reason(*refusal);
-    writeln!(text, "Refused: {why}.")?;
+    refusals::because(text, reason(*refusal))?;
     match refusal {
         Refusal::Busy => busy(text, cpu, world),
-        Refusal::BadCpu => few(text, world),
-        _ => Ok(()),
+        _ => refusals::there_is(text, refusal, world),
     }
 }
 
@@ -103,10 +110,4 @@ fn busy(text: &mut Sentences, cpu: Cpu, world: &World) -> fmt::Result {
         text,
         "Thread t{thread} runs on CPU {cpu}: there is nothing to mend until it leaves."
     )
-}
-
-/// There are fewer CPUs.
-fn few(text: &mut Sentences, world: &World) -> fmt::Result {
-    let cpus = Count(u64::from(world.kernel().cpus()), "CPU");
-    writeln!(text, "The enclave has {cpus}, counted from 0.")
 }

@@ -2,7 +2,7 @@
 
 use crate::reasons::reason;
 use crate::sentences::Sentences;
-use crate::telling::CommandContext;
+use crate::telling::{CommandContext, refusals};
 use crate::words::Count;
 use pc_calls::{Event, Refusal, Reply};
 use pc_messages::{Cpu, Reported, Tid};
@@ -37,8 +37,7 @@ pub(super) fn ruled(text: &mut Sentences, policy: PolicyName) -> fmt::Result {
 
 /// A policy is refused: no call and no deed takes an event back.
 pub(super) fn refused(text: &mut Sentences, refusal: &Refusal) -> fmt::Result {
-    let reason = reason(*refusal);
-    writeln!(text, "Refused: {reason}.")?;
+    refusals::because(text, reason(*refusal))?;
     writeln!(text, "Nothing makes it accepted.")
 }
 
@@ -58,7 +57,18 @@ pub(super) fn chosen(
             rank(text, policy, *cpu, *thread, scene)
         }
         (Event::Steal { cpu }, Reply::Associated { .. }) => stolen(text, policy, *cpu),
-        _ => Ok(()),
+        (
+            Event::Env(_)
+            | Event::Agent(_)
+            | Event::Publish { .. }
+            | Event::Consume { .. }
+            | Event::Deliver { .. }
+            | Event::Answer { .. }
+            | Event::Pick { .. }
+            | Event::Steal { .. }
+            | Event::Crash { .. },
+            _,
+        ) => Ok(()),
     }
 }
 

@@ -44,7 +44,14 @@ pub(super) fn answered(
         (Read::Complete { cpu, thread }, Response::Truth(complete)) => {
             completed(text, *cpu, *thread, *complete)
         }
-        _ => Ok(()),
+        (
+            Read::Status { .. }
+            | Read::Asleep { .. }
+            | Read::Show { .. }
+            | Read::Same { .. }
+            | Read::Complete { .. },
+            _,
+        ) => Ok(()),
     }
 }
 

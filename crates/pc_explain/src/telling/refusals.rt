@@ -44,11 +44,13 @@ fn why(text: &mut Sentences, deed: &Deed, refusal: &Refusal) -> fmt::Result {
                 "The number is wrong: the thread's last message is {now}, as status t{thread} tells."
             )
         }
-        _ => {
-            let reason = reason(*refusal);
-            writeln!(text, "Refused: {reason}.")
-        }
+        _ => because(text, reason(*refusal)),
     }
+}
+
+/// That it is refused, and why.
+pub(super) fn because(text: &mut Sentences, reason: &str) -> fmt::Result {
+    writeln!(text, "Refused: {reason}.")
 }
 
 /// A count of posts that is old.
@@ -104,7 +106,7 @@ fn tried_thread(text: &mut Sentences, cpu: Cpu, thread: Tid, world: &World) -> f
 }
 
 /// How much there is of what was asked for, or where it is.
-fn there_is(text: &mut Sentences, refusal: &Refusal, world: &World) -> fmt::Result {
+pub(super) fn there_is(text: &mut Sentences, refusal: &Refusal, world: &World) -> fmt::Result {
     match refusal {
         Refusal::Running(cpu) => {
             let cpu = cpu.index();
@@ -126,14 +128,31 @@ fn there_is(text: &mut Sentences, refusal: &Refusal, world: &World) -> fmt::Resu
             let deltas = Count(world.sent().len() as u64, "delta");
             writeln!(text, "So far there are {deltas}, counted from 0.")
         }
-        _ => Ok(()),
+        Refusal::Dead
+        | Refusal::NotBlocked
+        | Refusal::NotReady
+        | Refusal::EmptyMask
+        | Refusal::OnForbiddenCpu
+        | Refusal::BadLevel
+        | Refusal::IdleCpu
+        | Refusal::NumbersSpent
+        | Refusal::QueueFull
+        | Refusal::PostsSpent
+        | Refusal::Stale(_)
+        | Refusal::Pending
+        | Refusal::Forbidden
+        | Refusal::Busy
+        | Refusal::TooMany
+        | Refusal::NothingReady
+        | Refusal::NothingToSteal
+        | Refusal::WireFault
+        | Refusal::TooLate => Ok(()),
     }
 }
 
 /// Why a session answers no command, or not this one.
 fn closed(text: &mut Sentences, why: Closed) -> fmt::Result {
-    let reason = why.reason();
-    writeln!(text, "Refused: {reason}.")
+    because(text, why.reason())
 }
 
 /// There is no kernel yet.
