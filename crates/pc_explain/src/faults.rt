@@ -1,11 +1,9 @@
 //! The sentences on a line that is no command: which word is wrong, what was wanted there, and how the command
 //! is written.
 
-use crate::forms::InWords;
-use crate::orders::Orders;
 use crate::sentences::Sentences;
 use crate::words::QuotedWord;
-use pc_script::{Trouble, Verb, Version, Wanted, first_word, trouble_in};
+use pc_script::{CommandInWords, Orders, Trouble, Verb, Version, Wanted, first_word, trouble_in};
 use std::fmt::{self, Write};
 
 /// Tells why a line of a script of the version is no command.
@@ -91,7 +89,7 @@ fn no_command(text: &mut Sentences, version: Version, word: &[u8]) -> fmt::Resul
 
 /// How a command is written.
 fn form(text: &mut Sentences, verb: Verb) -> fmt::Result {
-    let form = InWords(verb);
+    let form = CommandInWords(verb);
     writeln!(text, "It is written: {form}.")
 }
 

@@ -20,7 +20,6 @@ mod explain;
 mod faults;
 mod forms;
 mod news;
-mod orders;
 mod reasons;
 mod sentences;
 mod telling;

@@ -32,6 +32,14 @@ pub struct PolicyName {
 }
 
 impl OrderName {
+    /// All of them, as they are listed.
+    pub const ALL: [OrderName; 4] = [
+        OrderName::Levels,
+        OrderName::Fifo,
+        OrderName::LeastRan,
+        OrderName::LevelsThenLeastRan,
+    ];
+
     /// The order that a word names. It takes no memory.
     pub fn named(word: &[u8]) -> Option<OrderName>
         ensures order { MatchOption result ((any : OrderName) → word.now ≡ order_word any → ⊥)

@@ -12,10 +12,10 @@
 #![tactic(auto)]
 
 mod command;
-mod commands;
 mod digits;
 mod display;
 mod fields;
+mod forms;
 mod grammar;
 mod input;
 pub mod laws;
@@ -40,8 +40,8 @@ mod walker;
 mod words;
 
 pub use command::{Command, Read};
-pub use commands::COMMANDS;
 pub use digits::{count, number};
+pub use forms::{CommandInWords, CommandTable, Orders};
 pub use grammar::Verb;
 pub use input::{MOST_BYTES, read_bytes, read_text};
 pub use line::{Wish, asked};

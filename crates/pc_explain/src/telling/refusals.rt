@@ -5,10 +5,9 @@ use crate::sentences::Sentences;
 use crate::telling::CommandContext;
 use crate::telling::steps::advised;
 use crate::words::Count;
-use pc_advice::{Deed, tried_by_steal};
+use pc_advice::Deed;
 use pc_calls::{LimitField, Refusal};
 use pc_messages::{Cpu, Tid};
-use pc_policy::PolicyName;
 use pc_world::World;
 use std::fmt::{self, Write};
 
@@ -22,7 +21,7 @@ pub(super) fn refused(
     why(text, deed, refusal)?;
     match scene.world {
         Some(world) => {
-            tried(text, deed, refusal, world, scene.policy)?;
+            tried(text, deed, refusal, world)?;
             there_is(text, refusal, world)?;
             advised(text, world, scene.policy, deed)
         }
@@ -73,19 +72,16 @@ fn old_posts(text: &mut Sentences, cpu: Cpu, now: u32) -> fmt::Result {
 }
 
 /// Which thread a steal tried.
-fn tried(
-    text: &mut Sentences,
-    deed: &Deed,
-    refusal: &Refusal,
-    world: &World,
-    policy: PolicyName,
-) -> fmt::Result {
+fn tried(text: &mut Sentences, deed: &Deed, refusal: &Refusal, world: &World) -> fmt::Result {
     let (Refusal::Stale(_) | Refusal::Pending | Refusal::Dead, Deed::Steal { cpu }) = (
         refusal, deed,
     ) else {
         return Ok(());
     };
-    match tried_by_steal(world, policy, *cpu) {
+    let Some(agent) = world.agent(*cpu) else {
+        return Ok(());
+    };
+    match agent.candidate(world.kernel()) {
         Some(thread) => tried_thread(text, *cpu, thread, world),
         None => Ok(()),
     }
