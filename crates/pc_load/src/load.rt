@@ -11,7 +11,7 @@ mod threads;
 use numbers::{count_of_cpus, tick_of};
 use pc_calls::{Leaving, MOST_THREADS};
 use pc_messages::Cpu;
-use std::alloc::{AllocError, AllocFailed, Global};
+use std::alloc::{AllocError, Global};
 use std::marker::Model;
 use thiserror::Error;
 use threads::threads_of;
@@ -90,24 +90,14 @@ pub enum LoadFault {
     OutOfMemory,
 }
 
-impl From<AllocError> for LoadFault {
+/// Want of memory comes in by this alone: std has two types for it.
+impl<E: Into<AllocError> + Drop> From<E> for LoadFault {
     ghost use Rattle.std.specs.Prelude.{◌≡◌};
     ghost use Rattle.pc_load.specs.declared.load.LoadFault.TheVariants.{OutOfMemory};
 
     ghost from_gives = { λ _ fault. fault ≡ OutOfMemory };
 
-    fn from(_error: AllocError) -> LoadFault {
-        LoadFault::OutOfMemory
-    }
-}
-
-impl<T: Drop> From<AllocFailed<T>> for LoadFault {
-    ghost use Rattle.std.specs.Prelude.{◌≡◌};
-    ghost use Rattle.pc_load.specs.declared.load.LoadFault.TheVariants.{OutOfMemory};
-
-    ghost from_gives = { λ _ fault. fault ≡ OutOfMemory };
-
-    fn from(_error: AllocFailed<T>) -> LoadFault {
+    fn from(_error: E) -> LoadFault {
         LoadFault::OutOfMemory
     }
 }

@@ -9,7 +9,7 @@ mod words;
 
 use drafts::{plain, variants_of};
 use pc_policy::PolicyName;
-use std::alloc::{AllocError, AllocFailed, Global};
+use std::alloc::{AllocError, Global};
 use std::marker::Model;
 use thiserror::Error;
 
@@ -80,24 +80,14 @@ pub enum VariantFault {
     OutOfMemory,
 }
 
-impl From<AllocError> for VariantFault {
+/// Want of memory comes in by this alone: std has two types for it.
+impl<E: Into<AllocError> + Drop> From<E> for VariantFault {
     ghost use Rattle.std.specs.Prelude.{◌≡◌};
     ghost use Rattle.pc_load.specs.declared.variant.VariantFault.TheVariants.{OutOfMemory};
 
     ghost from_gives = { λ _ fault. fault ≡ OutOfMemory };
 
-    fn from(_error: AllocError) -> VariantFault {
-        VariantFault::OutOfMemory
-    }
-}
-
-impl<T: Drop> From<AllocFailed<T>> for VariantFault {
-    ghost use Rattle.std.specs.Prelude.{◌≡◌};
-    ghost use Rattle.pc_load.specs.declared.variant.VariantFault.TheVariants.{OutOfMemory};
-
-    ghost from_gives = { λ _ fault. fault ≡ OutOfMemory };
-
-    fn from(_error: AllocFailed<T>) -> VariantFault {
+    fn from(_error: E) -> VariantFault {
         VariantFault::OutOfMemory
     }
 }

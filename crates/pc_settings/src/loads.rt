@@ -20,7 +20,7 @@ use crate::keys::{integer_or, tables_at};
 use crate::shared_keys::{SharedKey, cpus_of, threads_of};
 use draft::Draft;
 use pc_load::{Load, LoadFault, ThreadDraft, VariantDraft, VariantFault, Variants};
-use std::alloc::{AllocError, AllocFailed, Global};
+use std::alloc::{AllocError, Global};
 use threads::{drafts_of, plans_of};
 use toml::Table;
 use variants::choices_of;
@@ -102,24 +102,14 @@ impl From<SharedKey> for LoadTextFault {
     }
 }
 
-impl From<AllocError> for LoadTextFault {
+/// Want of memory comes in by this alone: std has two types for it.
+impl<E: Into<AllocError> + Drop> From<E> for LoadTextFault {
     ghost use Rattle.std.specs.Prelude.{◌≡◌};
     ghost use Rattle.pc_settings.specs.declared.loads.LoadTextFault.TheVariants.{OutOfMemory};
 
     ghost from_gives = { λ _ fault. fault ≡ OutOfMemory };
 
-    fn from(_error: AllocError) -> LoadTextFault {
-        LoadTextFault::OutOfMemory
-    }
-}
-
-impl<T: Drop> From<AllocFailed<T>> for LoadTextFault {
-    ghost use Rattle.std.specs.Prelude.{◌≡◌};
-    ghost use Rattle.pc_settings.specs.declared.loads.LoadTextFault.TheVariants.{OutOfMemory};
-
-    ghost from_gives = { λ _ fault. fault ≡ OutOfMemory };
-
-    fn from(_error: AllocFailed<T>) -> LoadTextFault {
+    fn from(_error: E) -> LoadTextFault {
         LoadTextFault::OutOfMemory
     }
 }

@@ -17,7 +17,7 @@ use crate::keys::tables_at;
 use crate::shared_keys::{SharedKey, ThreadKeys, cpus_of, threads_of};
 use crate::steps::run_step_in;
 use pc_threads::{Config, ConfigFault, Restart, Step, ThreadPlan};
-use std::alloc::{AllocError, AllocFailed, Global};
+use std::alloc::{AllocError, Global};
 use std::fmt::{self, Display, Formatter, Write};
 use tables::{draft_of, restart_of};
 use thiserror::Error;
@@ -102,24 +102,14 @@ impl From<SharedKey> for SettingsFault {
     }
 }
 
-impl From<AllocError> for SettingsFault {
+/// Want of memory comes in by this alone: std has two types for it.
+impl<E: Into<AllocError> + Drop> From<E> for SettingsFault {
     ghost use Rattle.std.specs.Prelude.{◌≡◌};
     ghost use Rattle.pc_settings.specs.declared.runs.SettingsFault.TheVariants.{OutOfMemory};
 
     ghost from_gives = { λ _ fault. fault ≡ OutOfMemory };
 
-    fn from(_error: AllocError) -> SettingsFault {
-        SettingsFault::OutOfMemory
-    }
-}
-
-impl<T: Drop> From<AllocFailed<T>> for SettingsFault {
-    ghost use Rattle.std.specs.Prelude.{◌≡◌};
-    ghost use Rattle.pc_settings.specs.declared.runs.SettingsFault.TheVariants.{OutOfMemory};
-
-    ghost from_gives = { λ _ fault. fault ≡ OutOfMemory };
-
-    fn from(_error: AllocFailed<T>) -> SettingsFault {
+    fn from(_error: E) -> SettingsFault {
         SettingsFault::OutOfMemory
     }
 }

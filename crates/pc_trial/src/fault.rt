@@ -4,7 +4,7 @@ ghost use Rattle.std.specs.Prelude.{◌≡◌};
 ghost use Rattle.pc_trial.specs.Comparing.{IsOfRuns, fault_of};
 
 use pc_lab::LabFault;
-use std::alloc::{AllocError, AllocFailed};
+use std::alloc::AllocError;
 use thiserror::Error;
 
 /// Why a load was not compared, or its script not written (own).
@@ -50,35 +50,14 @@ pub(crate) const fn untold_fault_of(fault: LabFault) -> CompareFault
     }
 }
 
-impl From<LabFault> for CompareFault {
-    ghost use Rattle.std.specs.Prelude.{◌≡◌};
-    ghost use Rattle.pc_trial.specs.Comparing.{fault_of};
-
-    ghost from_gives = { λ fault given. given ≡ fault_of fault };
-
-    fn from(fault: LabFault) -> CompareFault {
-        fault_of(fault)
-    }
-}
-
-impl From<AllocError> for CompareFault {
+/// Want of memory comes in by this alone: std has two types for it.
+impl<E: Into<AllocError> + Drop> From<E> for CompareFault {
     ghost use Rattle.std.specs.Prelude.{◌≡◌};
     ghost use Rattle.pc_trial.specs.declared.fault.CompareFault.TheVariants.{OutOfMemory};
 
     ghost from_gives = { λ _ fault. fault ≡ OutOfMemory };
 
-    fn from(_error: AllocError) -> CompareFault {
-        CompareFault::OutOfMemory
-    }
-}
-
-impl<T: Drop> From<AllocFailed<T>> for CompareFault {
-    ghost use Rattle.std.specs.Prelude.{◌≡◌};
-    ghost use Rattle.pc_trial.specs.declared.fault.CompareFault.TheVariants.{OutOfMemory};
-
-    ghost from_gives = { λ _ fault. fault ≡ OutOfMemory };
-
-    fn from(_error: AllocFailed<T>) -> CompareFault {
+    fn from(_error: E) -> CompareFault {
         CompareFault::OutOfMemory
     }
 }

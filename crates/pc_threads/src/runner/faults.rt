@@ -16,20 +16,17 @@ pub(crate) enum Quit {
     GaveUp,
 }
 
-impl<T: Drop> From<AllocFailed<T>> for Quit {
-    fn from(_: AllocFailed<T>) -> Quit {
-        Quit::OutOfMemory
-    }
-}
+/// What says that memory was wanting, in std and in the crates below: it comes into a fault by this alone.
+pub(crate) trait WantOfMemory: Drop {}
 
-impl From<AllocError> for Quit {
-    fn from(_: AllocError) -> Quit {
-        Quit::OutOfMemory
-    }
-}
+impl WantOfMemory for AllocError {}
 
-impl From<OutOfMemory> for Quit {
-    fn from(_: OutOfMemory) -> Quit {
+impl<T: Drop> WantOfMemory for AllocFailed<T> {}
+
+impl WantOfMemory for OutOfMemory {}
+
+impl<E: WantOfMemory> From<E> for Quit {
+    fn from(_: E) -> Quit {
         Quit::OutOfMemory
     }
 }
@@ -52,14 +49,8 @@ impl From<SendFault> for Quit {
     }
 }
 
-impl<T: Drop> From<AllocFailed<T>> for RunFault {
-    fn from(_: AllocFailed<T>) -> RunFault {
-        RunFault::OutOfMemory
-    }
-}
-
-impl From<AllocError> for RunFault {
-    fn from(_: AllocError) -> RunFault {
+impl<E: WantOfMemory> From<E> for RunFault {
+    fn from(_: E) -> RunFault {
         RunFault::OutOfMemory
     }
 }
