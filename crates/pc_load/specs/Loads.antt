@@ -91,11 +91,14 @@ abbrev pub blocks : Leaving → Bool
 blocks Block = true
 blocks _ = false
 
+-- of so many steps the first die is the last one, and there are no more than these
+abbrev pub dies_last : (most steps : ℕ) → Option ℕ → Bool
+dies_last most steps first_die =
+    nat_le steps most && option_map_or (λ first. first + 1 == steps) first_die false
+
 -- there are 1 to MOST_STEPS steps, the last is a die, and no other is: the first die is the last step
 abbrev pub is_life : List LoadStep → Bool
-is_life steps =
-    nat_le (length steps) MOST_STEPS
-    && option_map_or (λ first. first + 1 == length steps) (position (λ step. dies step.leaving) steps) false
+is_life steps = dies_last MOST_STEPS (length steps) (position (λ step. dies step.leaving) steps)
 
 -- a thread can be created so on so many CPUs, and lives
 abbrev pub is_thread : ℕ → Need → Bool

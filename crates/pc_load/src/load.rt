@@ -8,7 +8,9 @@ mod lives;
 pub(crate) mod numbers;
 mod threads;
 
-use numbers::{count_of_cpus, tick_of};
+pub use lives::dies_last;
+use numbers::tick_of;
+pub use numbers::{count_of_cpus, is_cpu, is_mask};
 use pc_calls::{Leaving, MOST_THREADS};
 use pc_messages::Cpu;
 use std::alloc::{AllocError, Global};

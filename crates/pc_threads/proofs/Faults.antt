@@ -8,7 +8,8 @@ use Rattle.pc_threads.specs.declared.settings.plans.ThreadPlan.{ThreadPlan}
 use Rattle.pc_threads.specs.declared.settings.restarts.Restart.{Restart}
 use Rattle.pc_threads.specs.declared.settings.faults.ConfigFault.{ConfigFault}
 use Rattle.pc_threads.specs.declared.settings.faults.ConfigFault.TheVariants.{BadCpus, TooManyThreads, BadThread, BadRestart}
-use Rattle.pc_threads.specs.Settings.{Settings, plan_of, is_thread, is_restart, faults_of, faults_on, first_fault, fault_if, is_between}
+use Rattle.pc_load.specs.Loads.{is_between}
+use Rattle.pc_threads.specs.Settings.{Settings, plan_of, is_thread, is_restart, faults_of, faults_on, first_fault, fault_if}
 
 -- nothing is told by what is not there
 pub first_more : {F : Type 0} (fault : Option F) (rest : List (Option F)) → fault ≡ None → first_fault (fault ∷ rest) ≡ first_fault rest

@@ -10,7 +10,8 @@ use Rattle.pc_calls.specs.declared.limits.TheConstants.{MOST_CPUS, MOST_THREADS}
 use Rattle.pc_threads.specs.declared.settings.restarts.TheConstants.{MOST_RESTARTS, MOST_TURN}
 use Rattle.pc_threads.specs.declared.settings.restarts.Restart.{Restart}
 use Rattle.pc_threads.specs.declared.settings.faults.ConfigFault.TheVariants.{BadCpus, TooManyThreads, BadThread, BadRestart}
-use Rattle.pc_threads.specs.Settings.{Settings, Plan, first_fault, fault_if, is_between, is_cpu, is_mask, is_life, is_thread, is_restart, faults_of, faults_on, IsPlan, IsReturn, IsSound, SoundSettingsHaveNoFault}
+use Rattle.pc_load.specs.Loads.{is_between, is_cpu, is_mask}
+use Rattle.pc_threads.specs.Settings.{Settings, Plan, first_fault, fault_if, is_life, is_thread, is_restart, faults_of, faults_on, IsPlan, IsReturn, IsSound, SoundSettingsHaveNoFault}
 use Rattle.pc_threads.proofs.Faults.{first_more, not_too_many, with_cpus}
 use Rattle.pc_threads.proofs.Lives.{lives_end}
 

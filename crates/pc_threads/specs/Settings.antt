@@ -1,9 +1,9 @@
 -- What is asked of a run, what is wrong with it, and what it adds up to.
-use Rattle.std.specs.Prelude.{ℕ, ℤ, pos, nat_abs, ◌≡◌, ◌+◌, ◌^◌, ◌==◌, ◌≤◌, ◌<◌, ◌↔◌, Bool, true, false, not, ◌&&◌}
-use Rattle.std.specs.Prelude.{nat_le, nat_lt, int_le, int_lt, if◌then◌else◌, List, [], ◌∷◌, ◌++◌, length, map, take}
+use Rattle.std.specs.Prelude.{ℕ, ℤ, pos, nat_abs, ◌≡◌, ◌+◌, ◌^◌, ◌≤◌, ◌<◌, ◌↔◌, Bool, true, false, not, ◌&&◌}
+use Rattle.std.specs.Prelude.{nat_le, nat_lt, if◌then◌else◌, List, [], ◌∷◌, ◌++◌, length, map, take}
 use Rattle.std.specs.Prelude.{position, All, sum_by, count_by, Option, Some, None, option_map}
-use Rattle.std.specs.Option.{option_map_or}
 use Rattle.pc_calls.specs.declared.limits.TheConstants.{MOST_CPUS, MOST_THREADS}
+use Rattle.pc_load.specs.Loads.{dies_last, is_between, is_cpu, is_mask}
 use Rattle.pc_threads.specs.declared.settings.plans.TheConstants.{MOST_STEPS}
 use Rattle.pc_threads.specs.declared.settings.restarts.TheConstants.{MOST_RESTARTS, MOST_TURN}
 use Rattle.pc_threads.specs.declared.settings.plans.Step.{Step}
@@ -46,18 +46,6 @@ first_fault (Some fault ∷ rest) = Some fault
 abbrev pub fault_if : {F : Type 0} → Bool → F → Option F
 fault_if test fault = if test then Some fault else None
 
--- z is low to high
-abbrev pub is_between : ℕ → ℕ → ℤ → Bool
-is_between low high z = int_le (pos low) z && int_le z (pos high)
-
--- z names one of so many CPUs
-abbrev pub is_cpu : ℕ → ℤ → Bool
-is_cpu cpus z = int_le (pos 0) z && int_lt z (pos cpus)
-
--- some bit of z is set, and all that are stand for one of so many CPUs
-abbrev pub is_mask : ℕ → ℤ → Bool
-is_mask cpus z = int_lt (pos 0) z && int_lt z (pos (2 ^ cpus))
-
 -- the thread dies by the step
 abbrev pub is_die : Step → Bool
 is_die (Die ticks) = true
@@ -65,8 +53,7 @@ is_die _ = false
 
 -- there are 1 to MOST_STEPS steps, the last is a die, and no other is: the first die is the last step
 abbrev pub is_life : List Step → Bool
-is_life steps =
-    nat_le (length steps) MOST_STEPS && option_map_or (λ first. first + 1 == length steps) (position is_die steps) false
+is_life steps = dies_last MOST_STEPS (length steps) (position is_die steps)
 
 -- the plan is one for so many CPUs
 abbrev pub is_thread : ℕ → Plan → Bool

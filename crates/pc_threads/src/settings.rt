@@ -1,7 +1,6 @@
 //! What is asked of a run.
 
 mod config;
-mod cpus;
 mod faults;
 mod plans;
 mod restarts;

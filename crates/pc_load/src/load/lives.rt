@@ -2,7 +2,7 @@
 
 ghost use Rattle.std.specs.Prelude.{◌≡◌, ◌≤◌, length, position, count_by};
 ghost use Rattle.std.specs.List.{list_all};
-ghost use Rattle.pc_load.specs.Loads.{are_sleeps, blocks, dies, is_life, is_u32};
+ghost use Rattle.pc_load.specs.Loads.{are_sleeps, blocks, dies, dies_last, is_life, is_u32};
 
 use crate::load::numbers::is_u32;
 use crate::load::{LoadStep, MOST_STEPS};
@@ -29,15 +29,23 @@ fn first_die(steps: &[LoadStep]) -> Option<usize>
     steps.iter().position(|step| step.dies())
 }
 
+/// Whether a thread of so many steps, the first die of which has this place, dies in the last one: no other may be a
+/// die, and there are no more than `most`. It takes no memory.
+pub const fn dies_last(most: usize, steps: usize, first_die: Option<usize>) -> bool
+    ensures { result ≡ dies_last most steps first_die }
+{
+    steps <= most
+        && match first_die {
+            Some(first) => first < steps && first + 1 == steps,
+            None => false,
+        }
+}
+
 /// Whether there are 1 to [`MOST_STEPS`] steps, of which the last is a die and no other is.
 pub(crate) fn is_life(steps: &[LoadStep]) -> bool
     ensures { result ≡ is_life steps.now }
 {
-    steps.len() <= MOST_STEPS
-        && match first_die(steps) {
-            Some(first) => first + 1 == steps.len(),
-            None => false,
-        }
+    dies_last(MOST_STEPS, steps.len(), first_die(steps))
 }
 
 /// How many steps are blocks.

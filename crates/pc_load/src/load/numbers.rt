@@ -1,4 +1,4 @@
-//! Numbers of a text that are in range.
+//! Numbers of a text that are in range: of a load, and of the settings of a run.
 
 ghost use Rattle.std.specs.Prelude.{pos, ◌≡◌, ◌≤◌, ◌^◌, ◌-◌, nat_abs, MatchOption, true, false};
 ghost use Rattle.pc_calls.specs.declared.limits.TheConstants.{MOST_CPUS};
@@ -10,8 +10,8 @@ use crate::load::{LAST_TICK, MOST_LEVEL};
 use pc_calls::MOST_CPUS;
 use pc_messages::{Cpu, Mask};
 
-/// The count, where there may be so many CPUs.
-pub(crate) fn count_of_cpus(cpus: i64) -> Option<u8>
+/// The count, where there may be so many CPUs. It takes no memory.
+pub fn count_of_cpus(cpus: i64) -> Option<u8>
     ensures { MatchOption result (is_between 1 MOST_CPUS cpus ≡ false)
         (λ count. (is_between 1 MOST_CPUS cpus ≡ true) × (cpus ≡ pos count)) }
 {
@@ -36,15 +36,15 @@ pub(crate) fn tick_of(until: i64) -> Option<u64>
     }
 }
 
-/// Whether the number names one of so many CPUs.
-pub(crate) fn is_cpu(cpus: u8, number: i64) -> bool
+/// Whether the number names one of so many CPUs. It takes no memory.
+pub fn is_cpu(cpus: u8, number: i64) -> bool
     ensures { result ≡ is_cpu cpus number }
 {
     0 <= number && number < cpus as i64
 }
 
-/// Whether the number is a mask of some of so many CPUs.
-pub(crate) fn is_mask(cpus: u8, number: i64) -> bool
+/// Whether the number is a mask of some of so many CPUs. It takes no memory.
+pub fn is_mask(cpus: u8, number: i64) -> bool
     requires some { 1 ≤ cpus }
     requires few { cpus ≤ MOST_CPUS }
     ensures { result ≡ is_mask cpus number }

@@ -7,6 +7,7 @@ ghost use Rattle.pc_settings.specs.SettingsText.{SpellsSettings};
 use super::{Field, SettingsFault, read_config};
 use crate::keys::integer_at;
 use pc_calls::{MOST_CPUS, MOST_THREADS};
+use pc_load::{count_of_cpus, is_cpu, is_mask};
 use pc_threads::{ConfigFault, MOST_RESTARTS, MOST_STEPS, MOST_TURN};
 use std::alloc::Global;
 use std::io::{self, Write};
@@ -223,13 +224,15 @@ fn write_thread<W: Write>(table: &Table, place: usize, writer: &mut W) -> io::Re
     let Some(thread) = table_at(table, "thread", place) else {
         return Ok(());
     };
-    let cpus = cpus_of(table);
+    let Some(cpus) = count_of_cpus(cpus_of(table)) else {
+        return Ok(());
+    };
     let queue = integer_at(thread, "queue").unwrap_or(0);
-    if queue < 0 || cpus <= queue {
+    if !is_cpu(cpus, queue) {
+        let last = cpus - 1;
         return writeln!(
             writer,
-            "thread {place}: queue {queue}: there are CPUs 0 to {}",
-            cpus.saturating_sub(1)
+            "thread {place}: queue {queue}: there are CPUs 0 to {last}"
         );
     }
     let mask = integer_at(thread, "mask").unwrap_or(0);
@@ -239,18 +242,13 @@ fn write_thread<W: Write>(table: &Table, place: usize, writer: &mut W) -> io::Re
             "thread {place}: mask {mask}: the sum of CPUs is wanted, of which CPU 0 is 1, CPU 1 is 2, CPU 2 is 4"
         );
     }
-    if is_past(mask, cpus) {
+    if !is_mask(cpus, mask) {
         return writeln!(
             writer,
             "thread {place}: mask {mask}: it has a CPU past the {cpus} that there are"
         );
     }
     write_life(place, items_at(thread, "steps"), writer)
-}
-
-/// Whether the mask has a CPU that is none of so many.
-fn is_past(mask: i64, cpus: i64) -> bool {
-    0 <= cpus && cpus < 64 && mask.unsigned_abs() >> cpus != 0
 }
 
 /// Whether a text is a thread's last step.
@@ -288,13 +286,15 @@ fn write_restart<W: Write>(table: &Table, place: usize, writer: &mut W) -> io::R
     let Some(restart) = table_at(table, "restart", place) else {
         return Ok(());
     };
-    let cpus = cpus_of(table);
+    let Some(cpus) = count_of_cpus(cpus_of(table)) else {
+        return Ok(());
+    };
     let cpu = integer_at(restart, "cpu").unwrap_or(0);
-    if cpu < 0 || cpus <= cpu {
+    if !is_cpu(cpus, cpu) {
+        let last = cpus - 1;
         return writeln!(
             writer,
-            "restart {place}: cpu {cpu}: there are CPUs 0 to {}",
-            cpus.saturating_sub(1)
+            "restart {place}: cpu {cpu}: there are CPUs 0 to {last}"
         );
     }
     if cpus < 2 {

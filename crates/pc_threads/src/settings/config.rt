@@ -3,10 +3,10 @@
 ghost use Rattle.std.specs.Prelude.{pos, ◌≡◌, Some, None, IfOk, IfErr, map};
 ghost use Rattle.pc_threads.specs.Settings.{IsSound, SoundSettingsHaveNoFault, asked, faults_of, first_fault, plan_of};
 
-use crate::settings::cpus::count_of_cpus;
 use crate::settings::faults::{ConfigFault, fault_on};
 use crate::settings::plans::ThreadPlan;
 use crate::settings::restarts::Restart;
+use pc_load::count_of_cpus;
 use std::marker::Model;
 
 /// What is asked of a run, and can be done (own).

@@ -4,7 +4,7 @@ ghost use Rattle.std.specs.Prelude.{◌≡◌, ◌≤◌, not, position};
 ghost use Rattle.pc_calls.specs.declared.limits.TheConstants.{MOST_CPUS};
 ghost use Rattle.pc_threads.specs.Settings.{LivesEndInDeath, is_die, is_life, is_thread, plan_of};
 
-use crate::settings::cpus::{is_cpu, is_mask};
+use pc_load::{dies_last, is_cpu, is_mask};
 
 /// The most steps of a thread.
 pub const MOST_STEPS: usize = 1_000;
@@ -50,11 +50,7 @@ fn first_die(steps: &[Step]) -> Option<usize>
 fn is_life(steps: &[Step]) -> bool
     ensures { result ≡ is_life steps.now }
 {
-    steps.len() <= MOST_STEPS
-        && match first_die(steps) {
-            Some(first) => first + 1 == steps.len(),
-            None => false,
-        }
+    dies_last(MOST_STEPS, steps.len(), first_die(steps))
 }
 
 fn is_thread(cpus: u8, plan: &ThreadPlan) -> bool

@@ -3,7 +3,7 @@
 ghost use Rattle.std.specs.Prelude.{◌≡◌, not, position};
 ghost use Rattle.pc_threads.specs.Settings.{is_restart};
 
-use crate::settings::cpus::is_cpu;
+use pc_load::is_cpu;
 
 /// The most restarts.
 pub const MOST_RESTARTS: usize = 64;

@@ -1,6 +1,7 @@
 use Rattle.std.proofs.Common.{◌≡◌, ◌∙◌, refl, rules, pos, true, None, map, subst}
 use Rattle.pc_calls.specs.declared.limits.TheConstants.{MOST_CPUS}
-use Rattle.pc_threads.specs.Settings.{asked, faults_on, first_fault, is_between, plan_of}
+use Rattle.pc_load.specs.Loads.{is_between}
+use Rattle.pc_threads.specs.Settings.{asked, faults_on, first_fault, plan_of}
 use Rattle.pc_threads.proofs.settings.config.Config.new.Goals as goal
 use Rattle.pc_threads.proofs.Faults.{with_cpus}
 
