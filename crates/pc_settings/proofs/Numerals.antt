@@ -1,5 +1,5 @@
 -- Texts of steps.
-use Rattle.std.proofs.Common.{ℕ, ◌≡◌, ◌^◌, ◌<◌, Bool, true, false, cond, ltb, ◌&&◌, List, Option, Some, None, MatchOption, decimal, refl, sym, ap, ◌∙◌, subst, arith, rules, tests}
+use Rattle.std.proofs.Common.{ℕ, ◌≡◌, ◌^◌, ◌<◌, Bool, true, false, cond, ltb, ◌&&◌, List, Some, None, decimal, refl, ap, ◌∙◌, subst, arith, rules, tests}
 use Rattle.std.specs.Prelude.{bytes_eq}
 use Rattle.std.specs.Str.Parse.{digits_value}
 use Rattle.std.proofs.lemmas.Fmt.{digits_value-decimal}
@@ -27,12 +27,3 @@ number_test text m n false e h = cc
 
 pub number_means : (text : List ℕ) (n : ℕ) → read_number text ≡ Some n → (text ≡ decimal n) × (n < 2 ^ 32)
 number_means text n h = number_test text (digits_value 10 text) n _ refl h
-
-none_read : (text : List ℕ) (read : Option ℕ) → read_number text ≡ read → ((n : ℕ) → n < 2 ^ 32 → text ≡ decimal n → ⊥) → None ≡ read
-none_read text None e none = refl
-none_read text (Some n) e none = let means = number_means text n e in absurd (none n means.1 means.0)
-
--- what a reading by the relation is
-pub number_is : (text : List ℕ) (read : Option ℕ) → MatchOption read ((n : ℕ) → n < 2 ^ 32 → text ≡ decimal n → ⊥) (λ n. (n < 2 ^ 32) × (text ≡ decimal n)) → read ≡ read_number text
-number_is text None h = none_read text (read_number text) refl h
-number_is text (Some n) h = sym (number_read text n h.0 h.1)

@@ -1,11 +1,16 @@
 -- Texts of steps.
-use Rattle.std.proofs.Common.{ℕ, ◌≡◌, ◌^◌, ◌<◌, Bool, true, false, cond, List, [], ◌∷◌, ◌++◌, length, take, drop, option_map, Option, Some, None, decimal, refl, sym, ap, ◌∙◌, subst}
+use Rattle.std.proofs.Common.{ℕ, ◌≡◌, ◌≢◌, ◌^◌, ◌<◌, Bool, true, false, cond, not, eqb, List, [], ◌∷◌, ◌++◌, length, take, drop, get_or, append_assoc, option_map, Option, Some, None, MatchOption, Bor, codes, decimal, refl, sym, ap, ◌∙◌, subst, arith}
 use Rattle.std.specs.Prelude.{bytes_eq}
 use Rattle.std.proofs.lemmas.List.{take-append-drop}
 use Rattle.std.proofs.Math.Seq.{take-append_seam, drop-append_seam}
+use Rattle.std.specs.List.{list_all}
+use Rattle.std.proofs.lemmas.Bool.{false≢true}
+use Rattle.std.proofs.lemmas.List.Folds.{list_all_at}
 use Rattle.std.proofs.lemmas.Slice.Eq.{bytes_eq-Decides}
+use Rattle.std.proofs.lemmas.Str.Pattern.{IsSplitOnceResult, split_after, split_parts}
 use Rattle.pc_calls.specs.declared.leaving.Leaving.{Leaving}
 use Rattle.pc_calls.specs.declared.leaving.Leaving.TheVariants.{Yield, Block, Preempt, Die}
+use Rattle.pc_calls.specs.Leavings as leavings
 use Rattle.pc_load.specs.declared.load.LoadStep.{LoadStep}
 use Rattle.pc_threads.specs.Settings.{ticks}
 use Rattle.pc_threads.specs.declared.settings.plans.Step as run
@@ -72,6 +77,59 @@ as_written text step = (
       (leaving_means text Yield) (leaving_means text Block) (leaving_means text Preempt) (leaving_means text Die)),
   (λ h. ap read_step h.0 ∙ step_written step.leaving step.ticks h.1),
 )
+
+-- A text is split where its first space stands, which is behind the word for how a thread leaves.
+
+abbrev Parts : Type 0
+Parts = Option (Bor (List ℕ) × Bor (List ℕ))
+
+not_in : (xs : List ℕ) → list_all (λ b. not (eqb b 32)) xs ≡ true → (i : ℕ) → i < length xs → get_or xs i 0 ≢ 32
+not_in xs h i below is = false≢true (sym (list_all_at (λ b. not (eqb b 32)) xs i 0 below (ap (λ b. not (eqb b 32)) is)) ∙ h)
+
+no_space : (leaving : Leaving) (i : ℕ) → i < length (leavings.leaving_word leaving) → get_or (leavings.leaving_word leaving) i 0 ≢ 32
+no_space Yield = not_in (codes "yield") refl
+no_space Block = not_in (codes "block") refl
+no_space Preempt = not_in (codes "preempt") refl
+no_space Die = not_in (codes "die") refl
+
+abbrev ArePartsOf : LoadStep → Parts → Type 0
+ArePartsOf step split = MatchOption split ⊥ (λ parts. (parts.0.now ≡ leavings.leaving_word step.leaving) × (parts.1.now ≡ decimal step.ticks))
+
+parts_of : (text : List ℕ) (split : Parts) (step : LoadStep) → IsSplitOnceResult 32 text split → IsText text step → ArePartsOf step split
+parts_of text split step h is =
+    let word = leavings.leaving_word step.leaving in
+    split_after 32 text word (decimal step.ticks) split h (omega arith) (is.0 ∙ append_assoc word (32 ∷ []) (decimal step.ticks)) (no_space step.leaving)
+
+none_read : (text : List ℕ) (read : Option LoadStep) → read_step text ≡ read → ((step : LoadStep) → IsText text step → ⊥) → None ≡ read
+none_read text None e none = refl
+none_read text (Some step) e none = absurd (none step ((as_written text step).0 e))
+
+-- a text that is not split is no step
+pub not_split : (text : List ℕ) (split : Parts) → IsSplitOnceResult 32 text split → split ≡ None → None ≡ read_step text
+not_split text None h e = none_read text (read_step text) refl (λ step is. parts_of text None step h is)
+not_split text (Some parts) h e = cc
+
+-- nor is one whose word is none of these
+pub not_named : (text : List ℕ) (split : Parts) (word number : Bor (List ℕ)) → IsSplitOnceResult 32 text split → split ≡ Some (word, number)
+    → ((any : Leaving) → word.now ≡ leavings.leaving_word any → ⊥) → None ≡ read_step text
+not_named text split word number h e none =
+    none_read text (read_step text) refl (λ step is. none step.leaving (subst (ArePartsOf step) e (parts_of text split step h is)).0)
+
+-- nor is one with no number behind it
+pub not_counted : (text : List ℕ) (split : Parts) (word number : Bor (List ℕ)) → IsSplitOnceResult 32 text split → split ≡ Some (word, number)
+    → ((n : ℕ) → n < 2 ^ 32 → number.now ≡ decimal n → ⊥) → None ≡ read_step text
+not_counted text split word number h e none =
+    none_read text (read_step text) refl (λ step is. none step.ticks is.1 (subst (ArePartsOf step) e (parts_of text split step h is)).1)
+
+-- a word and a number are a step
+pub step_is : (text : List ℕ) (split : Parts) (word number : Bor (List ℕ)) (leaving : Leaving) (ticks : ℕ) → IsSplitOnceResult 32 text split
+    → split ≡ Some (word, number) → word.now ≡ leavings.leaving_word leaving → number.now ≡ decimal ticks → ticks < 2 ^ 32 → Some (so leaving ticks) ≡ read_step text
+step_is text split word number leaving ticks h e named counted small =
+    let whole = (subst (λ s. MatchOption s ((i : ℕ) → i < length text → get_or text i 0 ≢ 32) (λ parts. (text ≡ parts.0.now ++ 32 ∷ parts.1.now) × ((i : ℕ) → i < length parts.0.now → get_or parts.0.now i 0 ≢ 32)))
+        e (split_parts 32 text split h (omega arith))).0 in
+    let written = whole ∙ ap (λ xs. xs ++ 32 ∷ number.now) named ∙ ap (λ xs. leavings.leaving_word leaving ++ 32 ∷ xs) counted
+        ∙ sym (append_assoc (leavings.leaving_word leaving) (32 ∷ []) (decimal ticks)) in
+    sym ((as_written text (so leaving ticks)).1 (written, small))
 
 -- the steps of a run
 abbrev run_of : LoadStep → run.Step

@@ -5,7 +5,7 @@ ghost use Rattle.toml.specs.Data.{as_str};
 ghost use Rattle.toml.specs.View.{view};
 ghost use Rattle.pc_settings.specs.Inner.Values.{text_in};
 ghost use Rattle.pc_settings.specs.Steps.{RunStepsAreReadAsWritten, StepsAreReadAsWritten};
-ghost use Rattle.pc_settings.specs.Steps.{read_after, read_leaving, read_run_step, read_step, run_leaving};
+ghost use Rattle.pc_settings.specs.Steps.{read_run_step, read_step, run_leaving};
 
 use pc_calls::Leaving;
 use pc_load::LoadStep;
@@ -13,44 +13,14 @@ use pc_script::count;
 use pc_threads::Step as RunStep;
 use toml::Value;
 
-/// The number that follows the word.
-fn number_after(word: &[u8], text: &[u8]) -> Option<u32>
-    ensures { result ≡ read_after word.now text.now }
-{
-    match text.strip_prefix(word) {
-        Some(number) => count(number),
-        None => None,
-    }
-}
-
 /// The step that a text is.
-fn step_of(text: &str) -> Option<LoadStep>
+pub(crate) fn step_of(text: &str) -> Option<LoadStep>
     ensures { result ≡ read_step text.now }
 {
-    let text = text.as_bytes();
-    if let Some(ticks) = number_after(b"yield ", text) {
-        Some(LoadStep {
-            leaving: Leaving::Yield,
-            ticks,
-        })
-    } else if let Some(ticks) = number_after(b"block ", text) {
-        Some(LoadStep {
-            leaving: Leaving::Block,
-            ticks,
-        })
-    } else if let Some(ticks) = number_after(b"preempt ", text) {
-        Some(LoadStep {
-            leaving: Leaving::Preempt,
-            ticks,
-        })
-    } else if let Some(ticks) = number_after(b"die ", text) {
-        Some(LoadStep {
-            leaving: Leaving::Die,
-            ticks,
-        })
-    } else {
-        None
-    }
+    let (word, number) = text.split_once(' ')?;
+    let leaving = Leaving::named(word.as_bytes())?;
+    let ticks = count(number.as_bytes())?;
+    Some(LoadStep { leaving, ticks })
 }
 
 /// The step that a value is, which is a text.

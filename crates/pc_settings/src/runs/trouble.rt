@@ -6,7 +6,8 @@ ghost use Rattle.pc_settings.specs.SettingsText.{SpellsSettings};
 
 use super::{Field, SettingsFault, read_config};
 use crate::keys::integer_at;
-use pc_calls::{MOST_CPUS, MOST_THREADS};
+use crate::steps::step_of;
+use pc_calls::{Leaving, MOST_CPUS, MOST_THREADS};
 use pc_load::{count_of_cpus, is_cpu, is_mask};
 use pc_threads::{ConfigFault, MOST_RESTARTS, MOST_STEPS, MOST_TURN};
 use std::alloc::Global;
@@ -200,7 +201,11 @@ fn write_step<W: Write>(
     let text = text.as_str().unwrap_or("");
     writeln!(
         writer,
-        "thread {thread}: step {step}: {text:?}: yield, block, preempt or die is wanted, a space, and 0 to {}",
+        "thread {thread}: step {step}: {text:?}: {}, {}, {} or {} is wanted, a space, and 0 to {}",
+        Leaving::Yield.word(),
+        Leaving::Block.word(),
+        Leaving::Preempt.word(),
+        Leaving::Die.word(),
         u32::MAX
     )
 }
@@ -251,9 +256,15 @@ fn write_thread<W: Write>(table: &Table, place: usize, writer: &mut W) -> io::Re
     write_life(place, items_at(thread, "steps"), writer)
 }
 
-/// Whether a text is a thread's last step.
+/// Whether a text is a step in which a thread dies.
 fn is_die(step: &Value) -> bool {
-    step.as_str().unwrap_or("").starts_with("die ")
+    match step.as_str() {
+        Some(text) => match step_of(text) {
+            Some(step) => step.leaving == Leaving::Die,
+            None => false,
+        },
+        None => false,
+    }
 }
 
 /// What is wrong with the steps of a thread.
