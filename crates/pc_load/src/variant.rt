@@ -7,7 +7,7 @@ ghost use Rattle.pc_load.specs.declared.variant.VariantFault.TheVariants.{OutOfM
 mod drafts;
 mod words;
 
-use drafts::{plain, variants_of};
+use drafts::variants_of;
 use pc_policy::PolicyName;
 use std::alloc::{AllocError, Global};
 use std::marker::Model;
@@ -66,6 +66,21 @@ pub struct VariantDraft<'a> {
     pub keep: bool,
 }
 
+impl VariantDraft<'_> {
+    /// What is asked for where nothing is said: the variant of all defaults.
+    pub const PLAIN: VariantDraft<'static> = VariantDraft {
+        name: "plain",
+        order: "levels",
+        steals: "least",
+        quantum: 0,
+        group: MOST_GROUP as i64,
+        delay: 0,
+        cost: 0,
+        urgent: false,
+        keep: false,
+    };
+}
+
 /// Why variants cannot be tried.
 #[derive(Clone, Copy, Debug, PartialEq, Eq, Error)]
 pub enum VariantFault {
@@ -120,11 +135,11 @@ impl Variants {
         if drafts.len() > MOST_VARIANTS {
             return Err(VariantFault::TooMany);
         }
-        if drafts.is_empty() {
-            let variants = plain(alloc)?;
-            return Ok(Variants { variants });
-        }
-        let variants = variants_of(alloc, drafts)?;
+        let variants = if drafts.is_empty() {
+            variants_of(alloc, &[VariantDraft::PLAIN])?
+        } else {
+            variants_of(alloc, drafts)?
+        };
         Ok(Variants { variants })
     }
 

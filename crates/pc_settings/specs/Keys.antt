@@ -1,5 +1,5 @@
 -- What stands at the keys of a table, and the first of faults.
-use Rattle.std.specs.Prelude.{ℕ, ℤ, ◌+◌, Bool, false, List, [], ◌∷◌, ◌++◌, map, Option, Some, None, option_map}
+use Rattle.std.specs.Prelude.{ℕ, ℤ, ◌+◌, Bool, List, [], ◌∷◌, ◌++◌, map, Option, Some, None, option_map}
 use Rattle.std.specs.Prelude.{option_and_then}
 use Rattle.std.specs.Option.{option_map_or}
 use Rattle.toml.specs.Data.{Data, Items, no_items, item, Members, get_member, as_integer, as_bool, as_str, as_array}
@@ -55,9 +55,9 @@ text_at key table = kind_at as_str key table
 abbrev pub text_or : List ℕ → List ℕ → Members → Option (List ℕ)
 text_or absent key table = kind_or as_str absent key table
 
--- whether a setting is on, which is off where the key is absent
-abbrev pub switch_at : List ℕ → Members → Option Bool
-switch_at key table = kind_or as_bool false key table
+-- whether the setting at a key is on, or this where it is absent
+abbrev pub switch_or : Bool → List ℕ → Members → Option Bool
+switch_or absent key table = kind_or as_bool absent key table
 
 -- the list of texts at a key
 abbrev pub texts_at : List ℕ → Members → Option (List (List ℕ))

@@ -6,7 +6,7 @@ use Rattle.pc_load.specs.Loads.{Need, Demand, demand, end_of, fault_of}
 use Rattle.pc_load.specs.Variants.{Choice, or_plain, plain, variant_fault}
 use Rattle.pc_load.specs.declared.load.Load.{Load}
 use Rattle.pc_load.specs.declared.variant.Variants.{Variants}
-use Rattle.pc_settings.specs.Keys.{first_some, of_each, unless, integer_at, integer_or, integers_at, switch_at}
+use Rattle.pc_settings.specs.Keys.{first_some, of_each, unless, integer_at, integer_or, integers_at, switch_or}
 use Rattle.pc_settings.specs.Keys.{tables_at, text_at, text_or, texts_at}
 use Rattle.pc_settings.specs.Steps.{read_step}
 use Rattle.pc_settings.specs.declared.loads.LoadField.{LoadField}
@@ -58,8 +58,8 @@ choice_told variant = record {
   group = unwrap_or (integer_or plain.group (codes "group") variant) (pos 0);
   delay = unwrap_or (integer_or plain.delay (codes "delay") variant) (pos 0);
   cost = unwrap_or (integer_or plain.cost (codes "cost") variant) (pos 0);
-  urgent = unwrap_or (switch_at (codes "urgent") variant) false;
-  keep = unwrap_or (switch_at (codes "keep") variant) false;
+  urgent = unwrap_or (switch_or plain.urgent (codes "urgent") variant) false;
+  keep = unwrap_or (switch_or plain.keep (codes "keep") variant) false;
 }
 
 -- the tables of threads
@@ -104,8 +104,8 @@ choice_faults variant =
     ∷ unless (integer_or plain.group (codes "group") variant) (BadField field.Group)
     ∷ unless (integer_or plain.delay (codes "delay") variant) (BadField field.Delay)
     ∷ unless (integer_or plain.cost (codes "cost") variant) (BadField field.Cost)
-    ∷ unless (switch_at (codes "urgent") variant) (BadField field.Urgent)
-    ∷ unless (switch_at (codes "keep") variant) (BadField field.Keep)
+    ∷ unless (switch_or plain.urgent (codes "urgent") variant) (BadField field.Urgent)
+    ∷ unless (switch_or plain.keep (codes "keep") variant) (BadField field.Keep)
     ∷ []
 
 -- a text that is no step, with the places of its thread and of the text

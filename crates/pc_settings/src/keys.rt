@@ -3,7 +3,7 @@
 ghost use Rattle.std.specs.Prelude.{◌≡◌, ℤ, Some, None, MatchOption, true, map, option_map, codes};
 ghost use Rattle.toml.specs.Data.{get_member, as_table, as_str, as_integer};
 ghost use Rattle.toml.specs.View.{table_view, view};
-ghost use Rattle.pc_settings.specs.Keys.{integer_at, integer_or, integers_at, list_of, switch_at, tables_at};
+ghost use Rattle.pc_settings.specs.Keys.{integer_at, integer_or, integers_at, list_of, switch_or, tables_at};
 ghost use Rattle.pc_settings.specs.Keys.{text_at, text_or, texts_at};
 ghost use Rattle.pc_settings.specs.Inner.Values.{are_integers, are_tables, are_texts, integer_in, table_in, text_in};
 
@@ -36,13 +36,13 @@ pub(crate) fn integer_or(absent: i64, table: &Table, key: &str) -> Option<i64>
     }
 }
 
-/// Whether the setting at a key is on; it is off where it is absent.
-pub(crate) fn switch_at(table: &Table, key: &str) -> Option<bool>
-    ensures { result ≡ switch_at key.now (table_view table.now) }
+/// Whether the setting at a key is on, or this where it is absent.
+pub(crate) fn switch_or(absent: bool, table: &Table, key: &str) -> Option<bool>
+    ensures { result ≡ switch_or absent key.now (table_view table.now) }
 {
     match value_at(table, key) {
         Some(value) => value.as_bool(),
-        None => Some(false),
+        None => Some(absent),
     }
 }
 

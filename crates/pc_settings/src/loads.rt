@@ -102,6 +102,17 @@ impl From<SharedKey> for LoadTextFault {
     }
 }
 
+impl From<LoadField> for LoadTextFault {
+    ghost use Rattle.std.specs.Prelude.{◌≡◌};
+    ghost use Rattle.pc_settings.specs.declared.loads.LoadTextFault.TheVariants.{BadField};
+
+    ghost from_gives = { λ key fault. fault ≡ BadField key };
+
+    fn from(key: LoadField) -> LoadTextFault {
+        LoadTextFault::BadField(key)
+    }
+}
+
 /// Want of memory comes in by this alone: std has two types for it.
 impl<E: Into<AllocError> + Drop> From<E> for LoadTextFault {
     ghost use Rattle.std.specs.Prelude.{◌≡◌};

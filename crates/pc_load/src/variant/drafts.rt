@@ -5,7 +5,7 @@ ghost use Rattle.std.specs.Prelude.{true, false};
 ghost use Rattle.std.specs.Prelude.{bytes_eq, length, not};
 ghost use Rattle.std.specs.List.{list_all};
 ghost use Rattle.pc_calls.specs.Conditions.{first_of};
-ghost use Rattle.pc_load.specs.Variants.{are_numbers, bad_variants, choice_in, choice_of, is_new, is_variant, plain};
+ghost use Rattle.pc_load.specs.Variants.{are_numbers, bad_variants, choice_in, choice_of, is_new, is_variant};
 ghost use Rattle.pc_load.specs.Loads.{is_between, is_u32};
 ghost use Rattle.pc_load.specs.declared.variant.TheConstants.{MOST_GROUP};
 ghost use Rattle.pc_load.specs.declared.variant.VariantFault.TheVariants.{Bad, OutOfMemory};
@@ -15,25 +15,6 @@ use crate::variant::words::is_name;
 use crate::variant::{MOST_GROUP, Variant, VariantDraft, VariantFault};
 use pc_policy::{OrderName, PolicyName, Stealing};
 use std::alloc::{AllocError, Global};
-
-/// The variant of all defaults.
-pub(crate) fn plain(alloc: Global) -> Result<Vec<Variant>, VariantFault>
-    ensures is { IfOk result (λ variants. map choice_of variants.items ≡ plain ∷ []) }
-    ensures answers { IfErr result (λ fault. fault ≡ OutOfMemory) }
-{
-    let mut variants = Vec::new(alloc);
-    variants.push(Variant {
-        name: Vec::from_slice(alloc, b"plain")?,
-        policy: PolicyName::USUAL,
-        quantum: 0,
-        group: MOST_GROUP,
-        delay: 0,
-        cost: 0,
-        urgent: false,
-        keep: false,
-    })?;
-    Ok(variants)
-}
 
 fn are_numbers(draft: &VariantDraft<'_>) -> bool
     ensures { result ≡ are_numbers (choice_in draft.now) }

@@ -28,15 +28,9 @@ fn draft_of(item: &Value) -> Result<Draft<'_>, LoadTextFault>
         unreachable!()
     };
     let keys = ThreadKeys::of(table)?;
-    let Some(start) = integer_or(0, table, "start") else {
-        return Err(LoadTextFault::BadField(LoadField::Start));
-    };
-    let Some(level) = integer_or(0, table, "level") else {
-        return Err(LoadTextFault::BadField(LoadField::Level));
-    };
-    let Some(sleeps) = integers_at(table, "sleeps") else {
-        return Err(LoadTextFault::BadField(LoadField::Sleeps));
-    };
+    let start = integer_or(0, table, "start").ok_or(LoadField::Start)?;
+    let level = integer_or(0, table, "level").ok_or(LoadField::Level)?;
+    let sleeps = integers_at(table, "sleeps").ok_or(LoadField::Sleeps)?;
     Ok(Draft {
         keys,
         start,

@@ -8,7 +8,7 @@ ghost use Rattle.pc_settings.specs.Keys.{of_each};
 ghost use Rattle.pc_settings.specs.LoadTexts.{IsRead, choice_faults, choice_told};
 ghost use Rattle.pc_settings.specs.Inner.Values.{are_tables, table_in};
 
-use crate::keys::{integer_or, switch_at, text_at, text_or};
+use crate::keys::{integer_or, switch_or, text_at, text_or};
 use crate::loads::{LoadField, LoadTextFault};
 use pc_load::VariantDraft;
 use std::alloc::Global;
@@ -22,33 +22,16 @@ fn choice_of(item: &Value) -> Result<VariantDraft<'_>, LoadTextFault>
     let Some(table) = item.as_table() else {
         unreachable!()
     };
-    let Some(name) = text_at(table, "name") else {
-        return Err(LoadTextFault::BadField(LoadField::Name));
-    };
-    let Some(order) = text_or("levels", table, "order") else {
-        return Err(LoadTextFault::BadField(LoadField::Order));
-    };
-    let Some(steals) = text_or("least", table, "steals") else {
-        return Err(LoadTextFault::BadField(LoadField::Steals));
-    };
-    let Some(quantum) = integer_or(0, table, "quantum") else {
-        return Err(LoadTextFault::BadField(LoadField::Quantum));
-    };
-    let Some(group) = integer_or(64, table, "group") else {
-        return Err(LoadTextFault::BadField(LoadField::Group));
-    };
-    let Some(delay) = integer_or(0, table, "delay") else {
-        return Err(LoadTextFault::BadField(LoadField::Delay));
-    };
-    let Some(cost) = integer_or(0, table, "cost") else {
-        return Err(LoadTextFault::BadField(LoadField::Cost));
-    };
-    let Some(urgent) = switch_at(table, "urgent") else {
-        return Err(LoadTextFault::BadField(LoadField::Urgent));
-    };
-    let Some(keep) = switch_at(table, "keep") else {
-        return Err(LoadTextFault::BadField(LoadField::Keep));
-    };
+    let plain = VariantDraft::PLAIN;
+    let name = text_at(table, "name").ok_or(LoadField::Name)?;
+    let order = text_or(plain.order, table, "order").ok_or(LoadField::Order)?;
+    let steals = text_or(plain.steals, table, "steals").ok_or(LoadField::Steals)?;
+    let quantum = integer_or(plain.quantum, table, "quantum").ok_or(LoadField::Quantum)?;
+    let group = integer_or(plain.group, table, "group").ok_or(LoadField::Group)?;
+    let delay = integer_or(plain.delay, table, "delay").ok_or(LoadField::Delay)?;
+    let cost = integer_or(plain.cost, table, "cost").ok_or(LoadField::Cost)?;
+    let urgent = switch_or(plain.urgent, table, "urgent").ok_or(LoadField::Urgent)?;
+    let keep = switch_or(plain.keep, table, "keep").ok_or(LoadField::Keep)?;
     Ok(VariantDraft {
         name,
         order,
