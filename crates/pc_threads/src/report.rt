@@ -63,7 +63,13 @@ fn count_one(call: &Call) -> Counted
             commits: 1,
             ran: 0,
         },
-        _ => Counted {
+        Call::Agent(
+            AgentCall::Associate { .. }
+            | AgentCall::Sleep { .. }
+            | AgentCall::Rouse { .. }
+            | AgentCall::Config { .. },
+        )
+        | Call::Consume { .. } => Counted {
             messages: 0,
             commits: 0,
             ran: 0,

@@ -38,8 +38,15 @@ impl LabEnding {
     {
         match self {
             LabEnding::Finished => 0,
+            LabEnding::LoadUnread(_)
+            | LabEnding::BadLoad(_)
+            | LabEnding::VariantsUnread(_)
+            | LabEnding::BadVariants(_)
+            | LabEnding::NoVariant
+            | LabEnding::ScriptTooLong
+            | LabEnding::Unaccounted
+            | LabEnding::Unwritten => 1,
             LabEnding::OutOfMemory => 4,
-            _ => 1,
         }
     }
 }

@@ -244,7 +244,7 @@ fn next_notice<N: Names, R: Wait + Clock>(
     // A receiver gives what waits, however late it is.
     match Instant::now(rt) {
         Ok(now) if now >= deadline => Err(RunFault::TimeUp),
-        _ => match desk.channels.at_driver.recv_deadline(rt, deadline) {
+        Ok(_) | Err(_) => match desk.channels.at_driver.recv_deadline(rt, deadline) {
             Ok(notice) => Ok(notice),
             Err(RecvTimeoutError::Timeout) => Err(RunFault::TimeUp),
             Err(RecvTimeoutError::Disconnected) => Err(RunFault::Driver(Refusal::IdleCpu)),
