@@ -4,7 +4,7 @@ use crate::end;
 use crate::met::{Met, Source};
 use crate::streams::{Noted, Opening, screen_of};
 use pc_program::{Ending, Failure, VariantsFrom};
-use pc_trial::{LabEnding, MOST_LOAD, Progress, Unread, Wanted, try_load, try_variants};
+use pc_trial::{LabEnding, MOST_LOAD, Progress, Unread, LabOutput, try_load, try_variants};
 use std::io::{self, BufWriter, ErrorKind};
 use std::process::ExitCode;
 
@@ -77,7 +77,7 @@ pub(crate) fn try_on_machine(
     rt: &HostRuntime,
     file: Option<String>,
     variants: VariantsFrom,
-    wanted: &Wanted,
+    wanted: &LabOutput,
 ) -> ExitCode {
     let source = Source(file);
     if are_one_text(&source, &variants) {

@@ -16,7 +16,7 @@ use pc_program::{
     make_flushed, read_command, replay_flushed,
 };
 use pc_script::MOST_BYTES;
-use pc_trial::Wanted;
+use pc_trial::LabOutput;
 use run::run_on_machine;
 use std::alloc::Global;
 use std::fs::File;
@@ -208,7 +208,7 @@ fn main(rt: HostRuntime) -> ExitCode {
             &rt,
             file,
             variants,
-            &Wanted::of(per_cpu, csv, picture, script),
+            &LabOutput::of(per_cpu, csv, picture, script),
         ),
         Ok(
             ProgramCommand::Run {

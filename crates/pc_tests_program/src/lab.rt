@@ -1,6 +1,6 @@
 //! The lab over memory, with ample memory: it tells a table, a picture and a script.
 
-use pc_trial::{LabEnding, Progress, Wanted, try_load, try_variants};
+use pc_trial::{LabEnding, Progress, LabOutput, try_load, try_variants};
 use std::alloc::Global;
 use std::io::{BufWriter, Stderr};
 use std::test::Fail;
@@ -21,7 +21,7 @@ const VARIANTS: &str = "[[variant]]\nname = \"plain\"";
 fn tells(
     alloc: Global,
     with_variants: bool,
-    wanted: &Wanted,
+    wanted: &LabOutput,
     front: &'static str,
 ) -> Result<bool, Fail> {
     let mut load = LOAD.as_bytes();
@@ -47,9 +47,9 @@ fn tells(
 #[test]
 fn the_lab_tells_what_is_asked_for(rt: HostRuntime) -> Result<(), Fail> {
     let alloc = rt.alloc();
-    let table = Wanted::of(true, false, false, None);
-    let picture = Wanted::of(false, false, true, None);
-    let script = Wanted::of(true, true, true, Some(String::from_str(alloc, "plain")?));
+    let table = LabOutput::of(true, false, false, None);
+    let picture = LabOutput::of(false, false, true, None);
+    let script = LabOutput::of(true, true, true, Some(String::from_str(alloc, "plain")?));
     for with_variants in [false, true] {
         assert!(rt; tells(alloc, with_variants, &table, "variant ")?);
         assert!(rt; tells(alloc, with_variants, &picture, "<svg ")?);

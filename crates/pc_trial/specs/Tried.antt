@@ -18,8 +18,8 @@ use Rattle.pc_trial.specs.declared.ending.LabEnding.{LabEnding}
 use Rattle.pc_trial.specs.declared.ending.LabEnding.TheVariants.{Finished, LoadUnread, BadLoad, VariantsUnread}
 use Rattle.pc_trial.specs.declared.ending.LabEnding.TheVariants.{BadVariants, NoVariant, ScriptTooLong, Unaccounted}
 use Rattle.pc_trial.specs.declared.ending.LabEnding.TheVariants.{OutOfMemory, Unwritten}
-use Rattle.pc_trial.specs.declared.wanted.Wanted.{Wanted}
-use Rattle.pc_trial.specs.declared.wanted.Wanted.TheVariants.{Table, Picture, Script}
+use Rattle.pc_trial.specs.declared.output.LabOutput.{LabOutput}
+use Rattle.pc_trial.specs.declared.output.LabOutput.TheVariants.{Table, Picture, Script}
 
 -- how a table is written, as `--csv` stands there or not
 abbrev pub layout_by : Bool → Layout
@@ -28,7 +28,7 @@ layout_by false = layout.Table
 
 -- what is wanted by flags and the name behind `--script`: where a script is named they change nothing, and where a
 -- picture is asked for those of the table change nothing
-abbrev pub IsAskedBy : (per_cpu csv picture : Bool) → Option (List ℕ) → Wanted → Type 0
+abbrev pub IsAskedBy : (per_cpu csv picture : Bool) → Option (List ℕ) → LabOutput → Type 0
 IsAskedBy per_cpu csv false None (Table form) = form ≡ record { layout = layout_by csv; per_cpu = per_cpu }
 IsAskedBy per_cpu csv true None Picture = Unit {0}
 IsAskedBy per_cpu csv picture (Some name) (Script given) = string_bytes given ≡ name
@@ -40,19 +40,19 @@ IsAskedBy per_cpu csv picture (Some name) Picture = ⊥
 
 -- the text that is wanted of a load under variants: the table that compares them, a picture of their waits, or the
 -- script of the named one
-abbrev pub IsTold : Wanted → Load → Variants → List ℕ → Type 0
+abbrev pub IsTold : LabOutput → Load → Variants → List ℕ → Type 0
 IsTold (Table form) load variants text = Compares load variants form text
 IsTold Picture load variants text = Draws load variants text
 IsTold (Script name) load variants text = IsScriptOf load variants (string_bytes name) text
 
 -- a script is wanted of a variant that is there
-abbrev pub IsOfOne : Wanted → Variants → Type 0
+abbrev pub IsOfOne : LabOutput → Variants → Type 0
 IsOfOne (Table form) variants = ⊥
 IsOfOne Picture variants = ⊥
 IsOfOne (Script name) variants = list_any (is_named (string_bytes name)) variants ≡ true
 
 -- a script is wanted of a variant that is not there
-abbrev pub IsOfNone : Wanted → Variants → Type 0
+abbrev pub IsOfNone : LabOutput → Variants → Type 0
 IsOfNone (Table form) variants = ⊥
 IsOfNone Picture variants = ⊥
 IsOfNone (Script name) variants = list_any (is_named (string_bytes name)) variants ≡ false
@@ -109,7 +109,7 @@ EndsAtVariants text Unaccounted = ⊥
 EndsAtVariants text Unwritten = ⊥
 
 -- the lab ends before anything is written of a load and variants that are spelled
-abbrev pub EndsAtTelling : Wanted → Variants → LabEnding → Type 0
+abbrev pub EndsAtTelling : LabOutput → Variants → LabEnding → Type 0
 EndsAtTelling wanted variants NoVariant = IsOfNone wanted variants
 EndsAtTelling wanted variants ScriptTooLong = IsOfOne wanted variants
 EndsAtTelling wanted variants Unaccounted = IsOfNone wanted variants → ⊥
@@ -122,7 +122,7 @@ EndsAtTelling wanted variants (BadVariants first) = ⊥
 EndsAtTelling wanted variants Unwritten = ⊥
 
 -- after what is wanted of a load and variants was to be written: it was, whole; or a write failed; or it ends before
-abbrev pub IsWrittenOf : Wanted → Load → Variants → (old new : Option (List ℕ)) → LabEnding → Type 0
+abbrev pub IsWrittenOf : LabOutput → Load → Variants → (old new : Option (List ℕ)) → LabEnding → Type 0
 IsWrittenOf wanted load variants old new Finished =
     (text : List ℕ) × IsTold wanted load variants text × Appends old new text
 IsWrittenOf wanted load variants old new Unwritten = Unit {0}
@@ -136,7 +136,7 @@ IsWrittenOf wanted load variants old new (VariantsUnread why) = ⊥
 IsWrittenOf wanted load variants old new (BadVariants first) = ⊥
 
 -- after the lab was given these texts, that of the load, and that of the variants where they are not its own
-abbrev pub IsTried : Wanted → List ℕ → Option (List ℕ) → (old new : Option (List ℕ)) → LabEnding → Type 0
+abbrev pub IsTried : LabOutput → List ℕ → Option (List ℕ) → (old new : Option (List ℕ)) → LabEnding → Type 0
 IsTried wanted text other old new Finished =
     (load : Load) × (variants : Variants) × AreSpelled text other load variants
     × IsWrittenOf wanted load variants old new Finished

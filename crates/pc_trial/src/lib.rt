@@ -11,21 +11,21 @@
 mod comparison;
 mod ending;
 mod fault;
+mod output;
 mod progress;
 mod script;
 mod stages;
 mod tried;
-mod wanted;
 mod watcher;
 
 pub use comparison::{compare, compare_watched, picture_of, picture_watched};
 pub use ending::LabEnding;
 pub use fault::CompareFault;
+pub use output::LabOutput;
 pub use pc_settings::Unread;
 pub use pc_table::{Form, Layout};
 pub use progress::Progress;
 pub use script::script_of;
 pub use stages::MOST_LOAD;
 pub use tried::{try_load, try_variants};
-pub use wanted::Wanted;
 pub use watcher::{SoFar, Watcher};

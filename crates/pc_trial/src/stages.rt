@@ -9,8 +9,8 @@ ghost use Rattle.pc_trial.specs.Inner.Stages.{IsLoadOf, IsVariantsOf};
 use crate::comparison::{compare_watched, picture_watched};
 use crate::ending::LabEnding;
 use crate::fault::CompareFault;
+use crate::output::LabOutput;
 use crate::script::script_of;
-use crate::wanted::Wanted;
 use crate::watcher::Watcher;
 use pc_load::{Load, Variants};
 use pc_settings::{LoadTextFault, TextFault, read_load, read_utf8, read_variants};
@@ -87,13 +87,14 @@ fn table_of<W: Watcher>(
     form: Form,
     watcher: &mut W,
 ) -> Result<Vec<u8>, LabEnding>
-    ensures ok { IfOk result (λ text. IsTold (Wanted.Table form) load.now variants.now text.items) }
-    ensures err { IfErr result (EndsAtTelling (Wanted.Table form) variants.now) }
+    ensures ok { IfOk result (λ text. IsTold (LabOutput.Table form) load.now variants.now text.items) }
+    ensures err { IfErr result (EndsAtTelling (LabOutput.Table form) variants.now) }
 {
     match compare_watched(alloc, load, variants, form, watcher) {
         Ok(text) => Ok(text),
         Err(CompareFault::Unaccounted) => Err(LabEnding::Unaccounted),
-        Err(_) => Err(LabEnding::OutOfMemory),
+        Err(CompareFault::TooLong | CompareFault::OutOfMemory) => Err(LabEnding::OutOfMemory),
+        Err(CompareFault::NoVariant | CompareFault::ScriptTooLong) => unreachable!(),
     }
 }
 
@@ -104,13 +105,14 @@ fn picture_drawn<W: Watcher>(
     variants: &Variants,
     watcher: &mut W,
 ) -> Result<Vec<u8>, LabEnding>
-    ensures ok { IfOk result (λ text. IsTold Wanted.Picture load.now variants.now text.items) }
-    ensures err { IfErr result (EndsAtTelling Wanted.Picture variants.now) }
+    ensures ok { IfOk result (λ text. IsTold LabOutput.Picture load.now variants.now text.items) }
+    ensures err { IfErr result (EndsAtTelling LabOutput.Picture variants.now) }
 {
     match picture_watched(alloc, load, variants, watcher) {
         Ok(text) => Ok(text),
         Err(CompareFault::Unaccounted) => Err(LabEnding::Unaccounted),
-        Err(_) => Err(LabEnding::OutOfMemory),
+        Err(CompareFault::TooLong | CompareFault::OutOfMemory) => Err(LabEnding::OutOfMemory),
+        Err(CompareFault::NoVariant | CompareFault::ScriptTooLong) => unreachable!(),
     }
 }
 
@@ -121,8 +123,8 @@ fn script_named(
     variants: &Variants,
     name: &String,
 ) -> Result<Vec<u8>, LabEnding>
-    ensures ok { IfOk result (λ text. IsTold (Wanted.Script name.now) load.now variants.now text.items) }
-    ensures err { IfErr result (EndsAtTelling (Wanted.Script name.now) variants.now) }
+    ensures ok { IfOk result (λ text. IsTold (LabOutput.Script name.now) load.now variants.now text.items) }
+    ensures err { IfErr result (EndsAtTelling (LabOutput.Script name.now) variants.now) }
 {
     match script_of(alloc, load, variants, name.as_str()) {
         Ok(text) => Ok(text),
@@ -138,16 +140,16 @@ pub(crate) fn told<W: Watcher>(
     alloc: Global,
     load: &Load,
     variants: &Variants,
-    wanted: &Wanted,
+    wanted: &LabOutput,
     watcher: &mut W,
 ) -> Result<Vec<u8>, LabEnding>
     ensures ok { IfOk result (λ text. IsTold wanted.now load.now variants.now text.items) }
     ensures err { IfErr result (EndsAtTelling wanted.now variants.now) }
 {
     match wanted {
-        Wanted::Table(form) => table_of(alloc, load, variants, *form, watcher),
-        Wanted::Picture => picture_drawn(alloc, load, variants, watcher),
-        Wanted::Script(name) => script_named(alloc, load, variants, name),
+        LabOutput::Table(form) => table_of(alloc, load, variants, *form, watcher),
+        LabOutput::Picture => picture_drawn(alloc, load, variants, watcher),
+        LabOutput::Script(name) => script_named(alloc, load, variants, name),
     }
 }
 

@@ -6,9 +6,9 @@ ghost use Rattle.std.specs.Io.KnownBytes.{Consumes};
 ghost use Rattle.pc_trial.specs.Tried.{IsOfLoad, IsTried, IsWrittenOf};
 
 use crate::ending::LabEnding;
+use crate::output::LabOutput;
 use crate::progress::Progress;
 use crate::stages::{load_in, put, told, variants_in};
-use crate::wanted::Wanted;
 use pc_load::{Load, Variants};
 use std::alloc::Global;
 use std::io::{BufWriter, Read, Write};
@@ -18,7 +18,7 @@ fn tell<S: Write + Drop, W: Write + Drop>(
     alloc: Global,
     load: &Load,
     variants: &Variants,
-    wanted: &Wanted,
+    wanted: &LabOutput,
     progress: &mut Progress<S>,
     writer: &mut BufWriter<W>,
 ) -> LabEnding
@@ -45,7 +45,7 @@ fn tell<S: Write + Drop, W: Write + Drop>(
 pub fn try_load<R: Read, S: Write + Drop, W: Write + Drop>(
     alloc: Global,
     load: &mut R,
-    wanted: &Wanted,
+    wanted: &LabOutput,
     progress: &mut Progress<S>,
     writer: &mut BufWriter<W>,
 ) -> LabEnding
@@ -69,7 +69,7 @@ pub fn try_variants<R: Read, V: Read, S: Write + Drop, W: Write + Drop>(
     alloc: Global,
     load: &mut R,
     variants: &mut V,
-    wanted: &Wanted,
+    wanted: &LabOutput,
     progress: &mut Progress<S>,
     writer: &mut BufWriter<W>,
 ) -> LabEnding

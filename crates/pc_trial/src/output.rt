@@ -7,7 +7,7 @@ use pc_table::{Form, Layout};
 
 /// What is told of a load that is tried (own).
 #[derive(Debug, Drop)]
-pub enum Wanted {
+pub enum LabOutput {
     /// A table that compares all variants.
     Table(Form),
     /// A picture of how long threads waited under each variant.
@@ -16,17 +16,17 @@ pub enum Wanted {
     Script(String),
 }
 
-impl Wanted {
+impl LabOutput {
     /// What is wanted where these flags stand. Where a script is named they change nothing, and where a picture is
     /// asked for the flags of the table change nothing.
-    pub fn of(per_cpu: bool, csv: bool, picture: bool, script: Option<String>) -> Wanted
+    pub fn of(per_cpu: bool, csv: bool, picture: bool, script: Option<String>) -> LabOutput
         ensures { IsAskedBy per_cpu csv picture (option_map string_bytes script) result }
     {
         let layout = if csv { Layout::Csv } else { Layout::Table };
         match script {
-            Some(name) => Wanted::Script(name),
-            None if picture => Wanted::Picture,
-            None => Wanted::Table(Form { layout, per_cpu }),
+            Some(name) => LabOutput::Script(name),
+            None if picture => LabOutput::Picture,
+            None => LabOutput::Table(Form { layout, per_cpu }),
         }
     }
 }
