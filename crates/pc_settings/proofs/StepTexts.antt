@@ -126,9 +126,9 @@ pub step_is : (text : List ℕ) (split : Parts) (word number : Bor (List ℕ)) (
     → split ≡ Some (word, number) → word.now ≡ leavings.leaving_word leaving → number.now ≡ decimal ticks → ticks < 2 ^ 32 → Some (so leaving ticks) ≡ read_step text
 step_is text split word number leaving ticks h e named counted small =
     let whole = (subst (λ s. MatchOption s ((i : ℕ) → i < length text → get_or text i 0 ≢ 32) (λ parts. (text ≡ parts.0.now ++ 32 ∷ parts.1.now) × ((i : ℕ) → i < length parts.0.now → get_or parts.0.now i 0 ≢ 32)))
-        e (split_parts 32 text split h (omega arith))).0 in
+    e (split_parts 32 text split h (omega arith))).0 in
     let written = whole ∙ ap (λ xs. xs ++ 32 ∷ number.now) named ∙ ap (λ xs. leavings.leaving_word leaving ++ 32 ∷ xs) counted
-        ∙ sym (append_assoc (leavings.leaving_word leaving) (32 ∷ []) (decimal ticks)) in
+    ∙ sym (append_assoc (leavings.leaving_word leaving) (32 ∷ []) (decimal ticks)) in
     sym ((as_written text (so leaving ticks)).1 (written, small))
 
 -- the steps of a run

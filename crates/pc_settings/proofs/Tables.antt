@@ -6,7 +6,7 @@ use Rattle.pc_load.specs.Variants.{Choice, or_plain, variant_fault}
 use Rattle.pc_load.specs.declared.load.Load.{Load}
 use Rattle.pc_load.specs.declared.variant.Variants.{Variants}
 use Rattle.pc_settings.specs.Keys.{first_some, integer_at, integer_or, of_each, tables_at, unless}
-use Rattle.pc_settings.specs.declared.loads.LoadField.TheVariants as field
+use Rattle.pc_settings.specs.declared.field.Field.TheVariants as field
 use Rattle.pc_settings.specs.declared.loads.LoadTextFault.{LoadTextFault}
 use Rattle.pc_settings.specs.declared.loads.LoadTextFault.TheVariants.{BadField, BadVariants}
 use Rattle.pc_settings.specs.LoadTexts.{AreAsked, Finds, IsFault, IsRead, Told, asked_faults, choice_faults, choice_told, choices_faults, choices_in, demand_in, load_faults, need_told, step_faults, thread_faults, threads_faults, threads_in, told_in, variants_faults}

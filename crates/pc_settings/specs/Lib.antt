@@ -1,4 +1,5 @@
 -- What the TOML texts of the program spell, and what is wrong with a text.
+pub mod Fields
 pub mod Inner
 pub mod Keys
 pub mod LoadTexts

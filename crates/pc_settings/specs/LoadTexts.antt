@@ -9,8 +9,7 @@ use Rattle.pc_load.specs.declared.variant.Variants.{Variants}
 use Rattle.pc_settings.specs.Keys.{first_some, of_each, unless, integer_at, integer_or, integers_at, switch_or}
 use Rattle.pc_settings.specs.Keys.{tables_at, text_at, text_or, texts_at}
 use Rattle.pc_settings.specs.Steps.{read_step}
-use Rattle.pc_settings.specs.declared.loads.LoadField.{LoadField}
-use Rattle.pc_settings.specs.declared.loads.LoadField.TheVariants as field
+use Rattle.pc_settings.specs.declared.field.Field.TheVariants as field
 use Rattle.pc_settings.specs.declared.loads.LoadTextFault.{LoadTextFault}
 use Rattle.pc_settings.specs.declared.loads.LoadTextFault.TheVariants.{NotToml, BadField, BadStep, BadLoad, BadVariants}
 use Rattle.pc_settings.specs.declared.loads.LoadTextFault.TheVariants.{OutOfMemory}

@@ -7,22 +7,10 @@ use Rattle.pc_threads.specs.declared.settings.config.Config.{Config}
 use Rattle.pc_threads.specs.declared.settings.restarts.Restart.{Restart}
 use Rattle.pc_settings.specs.Keys.{integer_at, tables_at, texts_at, unless}
 use Rattle.pc_settings.specs.Steps.{read_run_step}
-use Rattle.pc_settings.specs.declared.runs.Field.{Field}
-use Rattle.pc_settings.specs.declared.runs.Field.TheVariants as field
+use Rattle.pc_settings.specs.declared.field.Field.TheVariants as field
 use Rattle.pc_settings.specs.declared.runs.SettingsFault.{SettingsFault}
 use Rattle.pc_settings.specs.declared.runs.SettingsFault.TheVariants.{NotToml, BadField, BadStep, BadConfig}
 use Rattle.pc_settings.specs.declared.runs.SettingsFault.TheVariants.{OutOfMemory}
-
--- how a key is written in what the program says
-abbrev pub key_text : Field → List ℕ
-key_text field.Cpus = codes "cpus"
-key_text field.Threads = codes "thread"
-key_text field.Queue = codes "thread.queue"
-key_text field.Mask = codes "thread.mask"
-key_text field.Steps = codes "thread.steps"
-key_text field.Restarts = codes "restart"
-key_text field.Cpu = codes "restart.cpu"
-key_text field.Turn = codes "restart.turn"
 
 -- What the keys of a text tell; what is said of a key that tells nothing plays no part, since it is a fault.
 

@@ -4,32 +4,9 @@ use Rattle.pc_load.specs.declared.load.LoadFault.{LoadFault}
 use Rattle.pc_load.specs.declared.load.LoadFault.TheVariants as load
 use Rattle.pc_load.specs.declared.variant.VariantFault.{VariantFault}
 use Rattle.pc_load.specs.declared.variant.VariantFault.TheVariants as variant
-use Rattle.pc_settings.specs.declared.loads.LoadField.{LoadField}
-use Rattle.pc_settings.specs.declared.loads.LoadField.TheVariants as field
+use Rattle.pc_settings.specs.Fields.{key_text}
 use Rattle.pc_settings.specs.declared.loads.LoadTextFault.{LoadTextFault}
 use Rattle.pc_settings.specs.declared.loads.LoadTextFault.TheVariants as fault
-
--- how a key is written in what the program says
-abbrev pub key_text : LoadField → List ℕ
-key_text field.Cpus = codes "cpus"
-key_text field.Until = codes "until"
-key_text field.Threads = codes "thread"
-key_text field.Queue = codes "thread.queue"
-key_text field.Mask = codes "thread.mask"
-key_text field.Steps = codes "thread.steps"
-key_text field.Start = codes "thread.start"
-key_text field.Level = codes "thread.level"
-key_text field.Sleeps = codes "thread.sleeps"
-key_text field.Variants = codes "variant"
-key_text field.Name = codes "variant.name"
-key_text field.Order = codes "variant.order"
-key_text field.Steals = codes "variant.steals"
-key_text field.Quantum = codes "variant.quantum"
-key_text field.Group = codes "variant.group"
-key_text field.Delay = codes "variant.delay"
-key_text field.Cost = codes "variant.cost"
-key_text field.Urgent = codes "variant.urgent"
-key_text field.Keep = codes "variant.keep"
 
 -- why a load cannot be asked for, with the place of its thread
 abbrev pub load_text : LoadFault → List ℕ

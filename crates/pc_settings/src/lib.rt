@@ -1,6 +1,7 @@
 //! Settings of runs, and loads and variants of the lab, as TOML texts.
 #![tactic(auto)]
 
+mod field;
 mod input;
 mod keys;
 mod loads;
@@ -8,7 +9,8 @@ mod runs;
 mod shared_keys;
 mod steps;
 
+pub use field::Field;
 pub use input::{TextFault, Unread, read_utf8};
-pub use loads::{LoadField, LoadTextFault, read_load, read_variants};
-pub use runs::{Field, SettingsFault, read_config, write_trouble};
+pub use loads::{LoadTextFault, read_load, read_variants};
+pub use runs::{SettingsFault, read_config, write_trouble};
 pub use steps::steps_are_read_as_written;

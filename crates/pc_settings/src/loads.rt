@@ -16,8 +16,9 @@ mod threads;
 mod variants;
 mod words;
 
+use crate::field::Field;
 use crate::keys::{integer_or, tables_at};
-use crate::shared_keys::{SharedKey, cpus_of, threads_of};
+use crate::shared_keys::{cpus_of, threads_of};
 use draft::Draft;
 use pc_load::{Load, LoadFault, ThreadDraft, VariantDraft, VariantFault, Variants};
 use std::alloc::{AllocError, Global};
@@ -25,56 +26,13 @@ use threads::{drafts_of, plans_of};
 use toml::Table;
 use variants::choices_of;
 
-/// A key of a load.
-#[derive(Clone, Copy, Debug, PartialEq, Eq)]
-pub enum LoadField {
-    /// How many CPUs there are.
-    Cpus,
-    /// The tick in front of whose things a run stops.
-    Until,
-    /// The list of threads.
-    Threads,
-    /// The CPU on whose queue a thread begins.
-    Queue,
-    /// The CPUs on which a thread may run.
-    Mask,
-    /// The list of a thread's steps.
-    Steps,
-    /// The tick of a thread's creation.
-    Start,
-    /// A thread's level.
-    Level,
-    /// For how many ticks a thread is blocked.
-    Sleeps,
-    /// The list of variants.
-    Variants,
-    /// A variant's title.
-    Name,
-    /// The order of run lists.
-    Order,
-    /// What a steal takes.
-    Steals,
-    /// After how many ticks a thread may be preempted.
-    Quantum,
-    /// How many CPUs hear of each other.
-    Group,
-    /// After how many ticks others can take a delta in.
-    Delay,
-    /// How many ticks an agent's turn takes.
-    Cost,
-    /// Whether who runs is preempted for one that stands before it.
-    Urgent,
-    /// Whether recorded preempts are kept.
-    Keep,
-}
-
 /// Why a text spells no load, or no variants.
 #[derive(Clone, Copy, Debug, PartialEq, Eq)]
 pub enum LoadTextFault {
     /// The text is no TOML.
     NotToml,
     /// This key is absent, or has another type: the first one such.
-    BadField(LoadField),
+    BadField(Field),
     /// A text that is no step: the first one such, by the places of its thread and of the text.
     BadStep { thread: usize, step: usize },
     /// The load is spelled and cannot be asked for.
@@ -85,30 +43,13 @@ pub enum LoadTextFault {
     OutOfMemory,
 }
 
-impl From<SharedKey> for LoadTextFault {
-    ghost use Rattle.std.specs.Prelude.{◌≡◌};
-    ghost use Rattle.pc_settings.specs.Inner.SharedKeys.{load_fault};
-
-    ghost from_gives = { λ key fault. fault ≡ load_fault key };
-
-    fn from(key: SharedKey) -> LoadTextFault {
-        match key {
-            SharedKey::Cpus => LoadTextFault::BadField(LoadField::Cpus),
-            SharedKey::Threads => LoadTextFault::BadField(LoadField::Threads),
-            SharedKey::Queue => LoadTextFault::BadField(LoadField::Queue),
-            SharedKey::Mask => LoadTextFault::BadField(LoadField::Mask),
-            SharedKey::Steps => LoadTextFault::BadField(LoadField::Steps),
-        }
-    }
-}
-
-impl From<LoadField> for LoadTextFault {
+impl From<Field> for LoadTextFault {
     ghost use Rattle.std.specs.Prelude.{◌≡◌};
     ghost use Rattle.pc_settings.specs.declared.loads.LoadTextFault.TheVariants.{BadField};
 
     ghost from_gives = { λ key fault. fault ≡ BadField key };
 
-    fn from(key: LoadField) -> LoadTextFault {
+    fn from(key: Field) -> LoadTextFault {
         LoadTextFault::BadField(key)
     }
 }
@@ -140,7 +81,7 @@ fn choices_in<'a>(alloc: Global, table: &'a Table) -> Result<Vec<VariantDraft<'a
 {
     match tables_at(table, "variant") {
         Some(items) => choices_of(alloc, items),
-        None => Err(LoadTextFault::BadField(LoadField::Variants)),
+        None => Err(LoadTextFault::BadField(Field::Variants)),
     }
 }
 
@@ -183,7 +124,7 @@ fn load_of(alloc: Global, table: &Table) -> Result<(Load, Variants), LoadTextFau
 {
     let cpus = cpus_of(table)?;
     let Some(until) = integer_or(0, table, "until") else {
-        return Err(LoadTextFault::BadField(LoadField::Until));
+        return Err(LoadTextFault::BadField(Field::Until));
     };
     let threads = threads_in(alloc, table)?;
     let choices = choices_in(alloc, table)?;

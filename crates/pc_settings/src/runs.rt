@@ -13,57 +13,16 @@ ghost use Rattle.pc_settings.specs.Inner.Values.{are_tables, are_texts, table_in
 mod tables;
 mod trouble;
 
+use crate::field::Field;
 use crate::keys::tables_at;
-use crate::shared_keys::{SharedKey, ThreadKeys, cpus_of, threads_of};
+use crate::shared_keys::{ThreadKeys, cpus_of, threads_of};
 use crate::steps::run_step_in;
 use pc_threads::{Config, ConfigFault, Restart, Step, ThreadPlan};
 use std::alloc::{AllocError, Global};
-use std::fmt::{self, Display, Formatter, Write};
 use tables::{draft_of, restart_of};
 use thiserror::Error;
 use toml::{Table, Value};
 pub use trouble::write_trouble;
-
-/// A key of the settings.
-#[derive(Clone, Copy, Debug, PartialEq, Eq)]
-pub enum Field {
-    /// How many CPUs there are.
-    Cpus,
-    /// The list of threads.
-    Threads,
-    /// The CPU on whose queue a thread begins.
-    Queue,
-    /// The CPUs on which a thread may run.
-    Mask,
-    /// The list of a thread's steps.
-    Steps,
-    /// The list of restarts.
-    Restarts,
-    /// The CPU whose agent restarts.
-    Cpu,
-    /// The turn before which it does.
-    Turn,
-}
-
-impl Display for Field {
-    ghost use Rattle.std.specs.Prelude.{Some};
-    ghost use Rattle.pc_settings.specs.SettingsText.{key_text};
-
-    ghost output = { λ field. Some (key_text field) };
-
-    fn fmt<W: Write>(&self, f: &mut Formatter<W>) -> Result<(), fmt::Error> {
-        f.write_str(match self {
-            Field::Cpus => "cpus",
-            Field::Threads => "thread",
-            Field::Queue => "thread.queue",
-            Field::Mask => "thread.mask",
-            Field::Steps => "thread.steps",
-            Field::Restarts => "restart",
-            Field::Cpu => "restart.cpu",
-            Field::Turn => "restart.turn",
-        })
-    }
-}
 
 /// Why a text spells no settings.
 #[derive(Clone, Copy, Debug, PartialEq, Eq, Error)]
@@ -85,20 +44,14 @@ pub enum SettingsFault {
     OutOfMemory,
 }
 
-impl From<SharedKey> for SettingsFault {
+impl From<Field> for SettingsFault {
     ghost use Rattle.std.specs.Prelude.{◌≡◌};
-    ghost use Rattle.pc_settings.specs.Inner.SharedKeys.{settings_fault};
+    ghost use Rattle.pc_settings.specs.declared.runs.SettingsFault.TheVariants.{BadField};
 
-    ghost from_gives = { λ key fault. fault ≡ settings_fault key };
+    ghost from_gives = { λ key fault. fault ≡ BadField key };
 
-    fn from(key: SharedKey) -> SettingsFault {
-        match key {
-            SharedKey::Cpus => SettingsFault::BadField(Field::Cpus),
-            SharedKey::Threads => SettingsFault::BadField(Field::Threads),
-            SharedKey::Queue => SettingsFault::BadField(Field::Queue),
-            SharedKey::Mask => SettingsFault::BadField(Field::Mask),
-            SharedKey::Steps => SettingsFault::BadField(Field::Steps),
-        }
+    fn from(key: Field) -> SettingsFault {
+        SettingsFault::BadField(key)
     }
 }
 

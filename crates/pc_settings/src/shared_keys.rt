@@ -4,39 +4,25 @@ ghost use Rattle.std.specs.Prelude.{◌≡◌, true, Some, None, map, codes, Mat
 ghost use Rattle.toml.specs.View.{table_view};
 ghost use Rattle.pc_settings.specs.Keys.{integer_at, tables_at};
 ghost use Rattle.pc_settings.specs.Inner.Values.{are_tables, are_texts, table_in};
-ghost use Rattle.pc_settings.specs.declared.shared_keys.SharedKey.TheVariants.{Cpus, Threads};
+ghost use Rattle.pc_settings.specs.declared.field.Field.TheVariants.{Cpus, Threads};
 
+use crate::field::Field;
 use crate::keys::{integer_at, tables_at, texts_at};
 use toml::{Table, Value};
 
-/// A key that both have.
-#[derive(Clone, Copy)]
-pub(crate) enum SharedKey {
-    /// How many CPUs there are.
-    Cpus,
-    /// The list of threads.
-    Threads,
-    /// The CPU on whose queue a thread begins.
-    Queue,
-    /// The CPUs on which a thread may run.
-    Mask,
-    /// The list of a thread's steps.
-    Steps,
-}
-
 /// How many CPUs a table tells of.
-pub(crate) fn cpus_of(table: &Table) -> Result<i64, SharedKey>
+pub(crate) fn cpus_of(table: &Table) -> Result<i64, Field>
     ensures { MatchResult result (λ cpus. integer_at (codes "cpus") (table_view table.now) ≡ Some cpus)
         (λ key. (integer_at (codes "cpus") (table_view table.now) ≡ None) × (key ≡ Cpus)) }
 {
     match integer_at(table, "cpus") {
         Some(cpus) => Ok(cpus),
-        None => Err(SharedKey::Cpus),
+        None => Err(Field::Cpus),
     }
 }
 
 /// The tables of the threads that a table tells of.
-pub(crate) fn threads_of(table: &Table) -> Result<&[Value], SharedKey>
+pub(crate) fn threads_of(table: &Table) -> Result<&[Value], Field>
     ensures { MatchResult result
         (λ threads. (are_tables threads.now ≡ true)
         × (tables_at (codes "thread") (table_view table.now) ≡ Some (map table_in threads.now)))
@@ -44,7 +30,7 @@ pub(crate) fn threads_of(table: &Table) -> Result<&[Value], SharedKey>
 {
     match tables_at(table, "thread") {
         Some(threads) => Ok(threads),
-        None => Err(SharedKey::Threads),
+        None => Err(Field::Threads),
     }
 }
 
@@ -62,17 +48,17 @@ impl<'a> ThreadKeys<'a> {
     ghost use Rattle.pc_settings.specs.Inner.SharedKeys.{AreKeysOf};
 
     /// What the table of a thread tells.
-    pub(crate) fn of(table: &'a Table) -> Result<ThreadKeys<'a>, SharedKey>
+    pub(crate) fn of(table: &'a Table) -> Result<ThreadKeys<'a>, Field>
         ensures { AreKeysOf (table_view table.now) result }
     {
         let Some(queue) = integer_at(table, "queue") else {
-            return Err(SharedKey::Queue);
+            return Err(Field::Queue);
         };
         let Some(mask) = integer_at(table, "mask") else {
-            return Err(SharedKey::Mask);
+            return Err(Field::Mask);
         };
         let Some(texts) = texts_at(table, "steps") else {
-            return Err(SharedKey::Steps);
+            return Err(Field::Steps);
         };
         Ok(ThreadKeys { queue, mask, texts })
     }

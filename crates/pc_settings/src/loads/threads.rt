@@ -10,9 +10,10 @@ ghost use Rattle.pc_settings.specs.LoadTexts.{IsRead, need_told, step_faults, te
 ghost use Rattle.pc_settings.specs.Inner.Drafts.{told};
 ghost use Rattle.pc_settings.specs.Inner.Values.{are_integers, are_tables, are_texts, integer_in, table_in, text_in};
 
+use crate::field::Field;
 use crate::keys::{integer_or, integers_at};
+use crate::loads::LoadTextFault;
 use crate::loads::draft::Draft;
-use crate::loads::{LoadField, LoadTextFault};
 use crate::shared_keys::ThreadKeys;
 use crate::steps::step_in;
 use pc_load::{LoadStep, ThreadDraft};
@@ -28,9 +29,9 @@ fn draft_of(item: &Value) -> Result<Draft<'_>, LoadTextFault>
         unreachable!()
     };
     let keys = ThreadKeys::of(table)?;
-    let start = integer_or(0, table, "start").ok_or(LoadField::Start)?;
-    let level = integer_or(0, table, "level").ok_or(LoadField::Level)?;
-    let sleeps = integers_at(table, "sleeps").ok_or(LoadField::Sleeps)?;
+    let start = integer_or(0, table, "start").ok_or(Field::Start)?;
+    let level = integer_or(0, table, "level").ok_or(Field::Level)?;
+    let sleeps = integers_at(table, "sleeps").ok_or(Field::Sleeps)?;
     Ok(Draft {
         keys,
         start,

@@ -8,8 +8,9 @@ ghost use Rattle.pc_settings.specs.Keys.{of_each};
 ghost use Rattle.pc_settings.specs.LoadTexts.{IsRead, choice_faults, choice_told};
 ghost use Rattle.pc_settings.specs.Inner.Values.{are_tables, table_in};
 
+use crate::field::Field;
 use crate::keys::{integer_or, switch_or, text_at, text_or};
-use crate::loads::{LoadField, LoadTextFault};
+use crate::loads::LoadTextFault;
 use pc_load::VariantDraft;
 use std::alloc::Global;
 use toml::Value;
@@ -23,15 +24,15 @@ fn choice_of(item: &Value) -> Result<VariantDraft<'_>, LoadTextFault>
         unreachable!()
     };
     let plain = VariantDraft::PLAIN;
-    let name = text_at(table, "name").ok_or(LoadField::Name)?;
-    let order = text_or(plain.order, table, "order").ok_or(LoadField::Order)?;
-    let steals = text_or(plain.steals, table, "steals").ok_or(LoadField::Steals)?;
-    let quantum = integer_or(plain.quantum, table, "quantum").ok_or(LoadField::Quantum)?;
-    let group = integer_or(plain.group, table, "group").ok_or(LoadField::Group)?;
-    let delay = integer_or(plain.delay, table, "delay").ok_or(LoadField::Delay)?;
-    let cost = integer_or(plain.cost, table, "cost").ok_or(LoadField::Cost)?;
-    let urgent = switch_or(plain.urgent, table, "urgent").ok_or(LoadField::Urgent)?;
-    let keep = switch_or(plain.keep, table, "keep").ok_or(LoadField::Keep)?;
+    let name = text_at(table, "name").ok_or(Field::Name)?;
+    let order = text_or(plain.order, table, "order").ok_or(Field::Order)?;
+    let steals = text_or(plain.steals, table, "steals").ok_or(Field::Steals)?;
+    let quantum = integer_or(plain.quantum, table, "quantum").ok_or(Field::Quantum)?;
+    let group = integer_or(plain.group, table, "group").ok_or(Field::Group)?;
+    let delay = integer_or(plain.delay, table, "delay").ok_or(Field::Delay)?;
+    let cost = integer_or(plain.cost, table, "cost").ok_or(Field::Cost)?;
+    let urgent = switch_or(plain.urgent, table, "urgent").ok_or(Field::Urgent)?;
+    let keep = switch_or(plain.keep, table, "keep").ok_or(Field::Keep)?;
     Ok(VariantDraft {
         name,
         order,

@@ -1,39 +1,8 @@
 //! What is said of a text that spells no load.
 
-use crate::loads::{LoadField, LoadTextFault};
+use crate::loads::LoadTextFault;
 use pc_load::{LoadFault, VariantFault};
 use std::fmt::{self, Display, Formatter, Write};
-
-impl Display for LoadField {
-    ghost use Rattle.std.specs.Prelude.{Some};
-    ghost use Rattle.pc_settings.specs.Words.{key_text};
-
-    ghost output = { λ field. Some (key_text field) };
-
-    fn fmt<W: Write>(&self, f: &mut Formatter<W>) -> Result<(), fmt::Error> {
-        f.write_str(match self {
-            LoadField::Cpus => "cpus",
-            LoadField::Until => "until",
-            LoadField::Threads => "thread",
-            LoadField::Queue => "thread.queue",
-            LoadField::Mask => "thread.mask",
-            LoadField::Steps => "thread.steps",
-            LoadField::Start => "thread.start",
-            LoadField::Level => "thread.level",
-            LoadField::Sleeps => "thread.sleeps",
-            LoadField::Variants => "variant",
-            LoadField::Name => "variant.name",
-            LoadField::Order => "variant.order",
-            LoadField::Steals => "variant.steals",
-            LoadField::Quantum => "variant.quantum",
-            LoadField::Group => "variant.group",
-            LoadField::Delay => "variant.delay",
-            LoadField::Cost => "variant.cost",
-            LoadField::Urgent => "variant.urgent",
-            LoadField::Keep => "variant.keep",
-        })
-    }
-}
 
 /// Why a load cannot be asked for, in words.
 #[derive(Clone, Copy)]

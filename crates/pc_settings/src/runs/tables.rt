@@ -7,7 +7,8 @@ ghost use Rattle.pc_settings.specs.Inner.Readings.{Follows, read_draft, read_res
 ghost use Rattle.pc_settings.specs.Inner.SharedKeys.{told};
 ghost use Rattle.pc_settings.specs.Inner.Values.{table_in};
 
-use super::{Field, SettingsFault};
+use super::SettingsFault;
+use crate::field::Field;
 use crate::keys::integer_at;
 use crate::shared_keys::ThreadKeys;
 use pc_threads::Restart;

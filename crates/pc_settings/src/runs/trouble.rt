@@ -4,7 +4,8 @@ ghost use Rattle.std.specs.Prelude.{◌≡◌};
 ghost use Rattle.toml.specs.Parse.{parse_document};
 ghost use Rattle.pc_settings.specs.SettingsText.{SpellsSettings};
 
-use super::{Field, SettingsFault, read_config};
+use super::{SettingsFault, read_config};
+use crate::field::Field;
 use crate::keys::integer_at;
 use crate::steps::step_of;
 use pc_calls::{Leaving, MOST_CPUS, MOST_THREADS};
@@ -123,6 +124,20 @@ fn write_field<W: Write>(table: &Table, field: Field, writer: &mut W) -> io::Res
         Field::Steps => write_steps(table, writer),
         Field::Cpu => write_key(table, "restart", "cpu", writer),
         Field::Turn => write_key(table, "restart", "turn", writer),
+        Field::Until
+        | Field::Start
+        | Field::Level
+        | Field::Sleeps
+        | Field::Variants
+        | Field::Name
+        | Field::Order
+        | Field::Steals
+        | Field::Quantum
+        | Field::Group
+        | Field::Delay
+        | Field::Cost
+        | Field::Urgent
+        | Field::Keep => Ok(()),
     }
 }
 
