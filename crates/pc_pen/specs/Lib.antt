@@ -4,3 +4,4 @@ pub mod Canvases
 pub mod Drawn
 pub mod Phrases
 pub mod Pictures
+pub mod TerminalLines

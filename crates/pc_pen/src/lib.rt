@@ -1,5 +1,5 @@
 //! What pictures are made of, as SVG: marks, canvases on which they are composed, and the frame around them; and
-//! phrases that pictures and explanations have.
+//! phrases that pictures and explanations have, and the line by which a terminal shows that something goes on.
 //!
 //! What is proved: what a canvas writes is whole elements, as many and of the kinds that were put on it, whatever
 //! their texts.
@@ -11,6 +11,7 @@ mod mark;
 mod pen;
 mod phrases;
 mod shape;
+mod terminal_line;
 
 pub use canvas::Canvas;
 pub use frame::{write_end, write_opening, write_opening_bytes};
@@ -20,3 +21,4 @@ pub use pen::{
 };
 pub use phrases::{Count, Quoted, QuotedWord};
 pub use shape::Shape;
+pub use terminal_line::{erase_line, write_in_place};

@@ -1,5 +1,5 @@
 -- The line by which a person at a terminal sees that a run goes on.
-use Rattle.std.specs.Prelude.{ℕ, List, ◌∷◌, ◌++◌, ◌+◌, ◌≤◌, codes, decimal}
+use Rattle.std.specs.Prelude.{ℕ, List, ◌++◌, ◌+◌, ◌≤◌, codes, decimal}
 use Rattle.pc_threads.specs.declared.runner.gate.Driven.{Driven}
 use Rattle.pc_program.specs.declared.progress.TheConstants.{MESSAGES_BETWEEN}
 
@@ -9,11 +9,6 @@ progress_text all so_far =
     decimal so_far.threads
     ++ (codes " of " ++ (decimal all
     ++ (codes " threads dead, " ++ (decimal so_far.messages ++ codes " messages"))))
-
--- a text in the place of what a terminal's line has: back to the line's start, the text, and what is left of the
--- line erased
-abbrev pub in_place : List ℕ → List ℕ
-in_place text = 13 ∷ (text ++ 27 ∷ codes "[K")
 
 -- the next line is due as many messages after the last one as there are to be between two
 abbrev pub IsDue : ℕ → Driven → Type 0

@@ -1,13 +1,13 @@
 //! How far a run is, the line by which a person at a terminal sees that, and when it is given up.
 
-ghost use Rattle.std.specs.Prelude.{Some, [], ◌↔◌, IsTrue, OnOk};
-ghost use Rattle.std.specs.Io.KnownBytes.{Appends};
-ghost use Rattle.pc_program.specs.Progress.{IsDue, in_place, progress_text};
+ghost use Rattle.std.specs.Prelude.{Some, ◌↔◌, IsTrue};
+ghost use Rattle.pc_program.specs.Progress.{IsDue, progress_text};
 
 use pc_messages::Cpu;
+use pc_pen::{erase_line, write_in_place};
 use pc_threads::{Driven, Gate, Point};
 use std::fmt;
-use std::io::{self, Write};
+use std::io::Write;
 use std::sync::atomic::{AtomicU64, Ordering};
 use std::time::Instant;
 
@@ -39,22 +39,6 @@ fn is_due(told: u64, so_far: &Driven) -> bool
     ensures { IsTrue result ↔ IsDue told so_far.now }
 {
     so_far.messages >= MESSAGES_BETWEEN && so_far.messages - MESSAGES_BETWEEN >= told
-}
-
-/// Writes how far the run is in the place of what the line has.
-fn write_so_far<W: Write>(screen: &mut W, so_far: &SoFar) -> io::Result<()>
-    ensures { OnOk result
-        (Appends (W.contents screen.old) (W.contents screen.new)
-        (in_place (progress_text so_far.now.all so_far.now.driven))) }
-{
-    write!(screen, "\r{so_far}\x1b[K")
-}
-
-/// Leaves the line empty.
-fn write_nothing<W: Write>(screen: &mut W) -> io::Result<()>
-    ensures { OnOk result (Appends (W.contents screen.old) (W.contents screen.new) (in_place [])) }
-{
-    write!(screen, "\r\x1b[K")
 }
 
 /// How far a run is, for those who watch it, and until when it may go on (own).
@@ -108,7 +92,7 @@ impl<S: Write + Copy> Progress<S> {
     pub(crate) fn end(&self) {
         if let Some(mut screen) = self.screen {
             if self.told.load(Ordering::SeqCst) > 0 {
-                let _ = write_nothing(&mut screen);
+                let _ = erase_line(&mut screen);
             }
         }
     }
@@ -126,7 +110,7 @@ impl<S: Write + Copy> Gate for Progress<S> {
             if is_due(self.told.load(Ordering::SeqCst), &so_far) {
                 self.told.store(so_far.messages, Ordering::SeqCst);
                 let so_far = self.so_far();
-                let _ = write_so_far(&mut screen, &so_far);
+                let _ = write_in_place(&so_far, &mut screen);
             }
         }
     }
