@@ -17,6 +17,7 @@ ghost use Rattle.pc_session.specs.Session.{IsSession, RanOut};
 use crate::before::Before;
 use crate::comment::{write_heading, write_response, write_sentences};
 use crate::faults::tell_fault;
+use crate::openings::{on_long_line, on_version};
 use crate::sentences::Sentences;
 use crate::telling::{CommandContext, tell};
 use pc_policy::PolicyName;
@@ -27,14 +28,6 @@ use pc_script::{
 use pc_session::{Session, let_view_go};
 use std::alloc::Global;
 use std::io::{BufWriter, Read, Write};
-
-/// What is told of the line `version 2`.
-const VERSION_TWO: &[u8] =
-    b"The script is of version 2: an enclave may have up to 65535 threads, and each 16000000 messages.";
-
-/// What is told of the line `version 3`.
-const VERSION_THREE: &[u8] =
-    b"The script is of version 3: an enclave may have up to 65535 threads, and each 16000000 messages, its agents may be given a policy, and a CPU may be mended.";
 
 /// Writes, for each line that has a reply, the line, the reply, and sentences on it.
 #[derive(Drop)]
@@ -56,17 +49,6 @@ impl Comments {
             policy: PolicyName::USUAL,
         }
     }
-}
-
-/// The sentences on the line that names the version.
-fn on_version(version: Version) -> Sentences {
-    let mut sentences = Sentences::new();
-    match version {
-        Version::One => {}
-        Version::Two => sentences.add(VERSION_TWO),
-        Version::Three => sentences.add(VERSION_THREE),
-    }
-    sentences
 }
 
 /// The sentences on a line that is a fault.
@@ -158,16 +140,6 @@ fn write_fault<W: Write>(
     write_heading(line.number, line.text, writer)?;
     write_fault_line(line.number, writer)?;
     write_sentences(sentences, writer)
-}
-
-/// What is told of a line that a session passed over.
-const TOO_LONG: &[u8] = b"The line is longer than 65536 bytes, and was passed over.";
-
-/// The sentences on a line that was passed over.
-fn on_long_line() -> Sentences {
-    let mut sentences = Sentences::new();
-    sentences.add(TOO_LONG);
-    sentences
 }
 
 /// Writes that a line that was passed over is a fault, and why.

@@ -20,6 +20,7 @@ mod explain;
 mod faults;
 mod forms;
 mod news;
+mod openings;
 mod reasons;
 mod sentences;
 mod telling;

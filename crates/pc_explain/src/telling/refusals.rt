@@ -6,8 +6,11 @@ use crate::telling::CommandContext;
 use crate::telling::steps::advised;
 use crate::words::Count;
 use pc_advice::Deed;
-use pc_calls::{LimitField, Refusal};
-use pc_messages::{Cpu, Tid};
+use pc_calls::{
+    LimitField, MOST_CPUS, MOST_NUMBERS, MOST_POSTS, MOST_ROOM, MOST_THREADS, MOST_THREADS_TWO,
+    Refusal,
+};
+use pc_messages::{Cpu, GREATEST_NUMBER, Tid};
 use pc_world::World;
 use std::fmt::{self, Write};
 
@@ -165,17 +168,16 @@ pub(super) fn have_enclave(text: &mut Sentences) -> fmt::Result {
 pub(super) fn bad_limits(text: &mut Sentences, limit: &LimitField) -> fmt::Result {
     closed(text, Closed::BadLimits)?;
     match limit {
-        LimitField::Cpus => writeln!(text, "CPUS is 1 to 64."),
-        LimitField::Threads => {
-            writeln!(text, "THREADS is 1 to 4096, and with version 2 to 65535.")
-        }
-        LimitField::Numbers => {
-            writeln!(
-                text,
-                "NUMBERS is 1 to 1000000, and with version 2 to 16000000."
-            )
-        }
-        LimitField::Room => writeln!(text, "ROOM is 1 to 65536."),
-        LimitField::Posts => writeln!(text, "POSTS is 1 to 4294967295."),
+        LimitField::Cpus => writeln!(text, "CPUS is 1 to {MOST_CPUS}."),
+        LimitField::Threads => writeln!(
+            text,
+            "THREADS is 1 to {MOST_THREADS}, and with version 2 to {MOST_THREADS_TWO}."
+        ),
+        LimitField::Numbers => writeln!(
+            text,
+            "NUMBERS is 1 to {MOST_NUMBERS}, and with version 2 to {GREATEST_NUMBER}."
+        ),
+        LimitField::Room => writeln!(text, "ROOM is 1 to {MOST_ROOM}."),
+        LimitField::Posts => writeln!(text, "POSTS is 1 to {MOST_POSTS}."),
     }
 }
