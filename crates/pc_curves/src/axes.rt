@@ -1,6 +1,6 @@
 //! The ground of a picture of waits: what it says on top, and its axes.
 
-use crate::scale::{BOTTOM, FIRST, LEFT, RIGHT, Scale, TOP, y_of_percent};
+use crate::scale::{BOTTOM, DecadeScale, FIRST, LEFT, RIGHT, TOP, y_of_percent};
 use pc_pen::{Canvas, Count, HEADING, SMALL, background, bar, stroke, words};
 use std::fmt::Write;
 
@@ -67,7 +67,7 @@ fn draw_percents(canvas: &mut Canvas, percents: &[u32]) {
 }
 
 /// Draws a small line at the bottom edge where so many ticks stand.
-fn draw_between(canvas: &mut Canvas, scale: Scale, ticks: u64) {
+fn draw_between(canvas: &mut Canvas, scale: DecadeScale, ticks: u64) {
     let x = scale.x_of(ticks);
     stroke(canvas, x, BOTTOM, x, BOTTOM + 4, MARKED);
     let _ = write!(canvas, "{ticks}");
@@ -75,7 +75,7 @@ fn draw_between(canvas: &mut Canvas, scale: Scale, ticks: u64) {
 }
 
 /// Draws where a decade begins, with so many ticks.
-fn draw_decade(canvas: &mut Canvas, scale: Scale, decade: u32, ticks: u64) {
+fn draw_decade(canvas: &mut Canvas, scale: DecadeScale, decade: u32, ticks: u64) {
     let x = scale.x_of_decade(decade);
     let is_in_digits = scale.decades <= MOST_IN_DIGITS;
     stroke(canvas, x, TOP, x, BOTTOM + 6, GUIDE);
@@ -95,7 +95,7 @@ fn draw_decade(canvas: &mut Canvas, scale: Scale, decade: u32, ticks: u64) {
 }
 
 /// Draws the axis of ticks.
-fn draw_ticks(canvas: &mut Canvas, scale: Scale) {
+fn draw_ticks(canvas: &mut Canvas, scale: DecadeScale) {
     words(canvas, LEFT, BOTTOM + 18, CENTERED);
     canvas.add(b"0");
     canvas.done();
@@ -110,7 +110,7 @@ fn draw_ticks(canvas: &mut Canvas, scale: Scale) {
 }
 
 /// Draws the ground of a picture of this height of so many runs, which stand on this scale.
-pub(crate) fn draw_ground(canvas: &mut Canvas, scale: Scale, height: u32, runs: u64) {
+pub(crate) fn draw_ground(canvas: &mut Canvas, scale: DecadeScale, height: u32, runs: u64) {
     let runs = Count(runs, "variant");
     background(canvas, WIDTH, height);
     canvas.done();

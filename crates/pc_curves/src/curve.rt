@@ -1,7 +1,7 @@
 //! The curve of a run: which share of its waits lasted at most so long.
 
 use crate::looks::{line_of, mark};
-use crate::scale::{BOTTOM, LEFT, RIGHT, Scale, y_of, y_of_percent};
+use crate::scale::{BOTTOM, DecadeScale, LEFT, RIGHT, y_of, y_of_percent};
 use crate::told::{FiguresText, Ticks};
 use pc_lab::Wait;
 use pc_pen::{Canvas, outline};
@@ -13,7 +13,7 @@ use std::fmt::Write;
 const PLACES: usize = 725;
 
 /// Counts waits in the columns of pixels in which they stand.
-fn count_waits(counts: &mut [u64], scale: Scale, waits: &[Wait]) {
+fn count_waits(counts: &mut [u64], scale: DecadeScale, waits: &[Wait]) {
     for wait in waits {
         let place = scale.x_of(wait.ticks).saturating_sub(LEFT) as usize;
         if let Some(count) = counts.get_mut(place) {
@@ -64,7 +64,7 @@ fn steps_of(alloc: Global, counts: &[u64]) -> Result<String, AllocError> {
 pub(crate) fn draw_curve(
     canvas: &mut Canvas,
     alloc: Global,
-    scale: Scale,
+    scale: DecadeScale,
     place: u32,
     column: &Column<'_>,
     figures: &Figures,
@@ -87,7 +87,7 @@ pub(crate) fn draw_curve(
 /// Draws the mark of a percentile on the curve of the run at a place.
 fn draw_percentile(
     canvas: &mut Canvas,
-    scale: Scale,
+    scale: DecadeScale,
     place: u32,
     name: &[u8],
     percent: u32,
@@ -105,7 +105,7 @@ fn draw_percentile(
 /// Draws the marks on the curve of the run at a place.
 pub(crate) fn draw_percentiles(
     canvas: &mut Canvas,
-    scale: Scale,
+    scale: DecadeScale,
     place: u32,
     name: &[u8],
     figures: &Figures,

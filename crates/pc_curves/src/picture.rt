@@ -9,7 +9,7 @@ ghost use Rattle.pc_curves.specs.Waits.{IsPictureOfWaits};
 use crate::axes::{WIDTH, draw_ground};
 use crate::curve::{draw_curve, draw_percentiles};
 use crate::legend::{draw_head, draw_line, height_of};
-use crate::scale::Scale;
+use crate::scale::DecadeScale;
 use crate::told::title_of;
 use pc_pen::{Canvas, write_end, write_opening_bytes};
 use pc_table::{Column, Figures};
@@ -49,7 +49,7 @@ fn push_end(text: &mut Vec<u8>) -> Result<(), AllocError>
 fn draw_run(
     canvas: &mut Canvas,
     alloc: Global,
-    scale: Scale,
+    scale: DecadeScale,
     place: u32,
     column: &Column<'_>,
     all: &[Figures],
@@ -65,7 +65,7 @@ fn push_curves(
     text: &mut Vec<u8>,
     canvas: &mut Canvas,
     alloc: Global,
-    scale: Scale,
+    scale: DecadeScale,
     columns: &[Column<'_>],
     all: &[Figures],
 ) -> Result<(), AllocError>
@@ -82,7 +82,7 @@ fn push_curves(
 }
 
 /// Draws the marks on the curves, and the lines of the legend.
-fn draw_figures(canvas: &mut Canvas, scale: Scale, columns: &[Column<'_>], all: &[Figures]) {
+fn draw_figures(canvas: &mut Canvas, scale: DecadeScale, columns: &[Column<'_>], all: &[Figures]) {
     let mut place = 0u32;
     for column in columns {
         if let Some(figures) = all.get(place as usize) {
@@ -103,7 +103,7 @@ fn push_all(
 ) -> Result<(), AllocError>
     ensures { OnOk result (Marks (Some text.old.items) (Some text.new.items)) }
 {
-    let scale = Scale::of(columns);
+    let scale = DecadeScale::of(columns);
     let mut canvas = Canvas::new();
     draw_ground(&mut canvas, scale, height, columns.len() as u64);
     push_marks(text, &canvas)?;

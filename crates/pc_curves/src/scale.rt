@@ -78,19 +78,19 @@ fn decades_to(ticks: u64) -> u32 {
 
 /// How many decades the axis of ticks has.
 #[derive(Clone, Copy)]
-pub(crate) struct Scale {
+pub(crate) struct DecadeScale {
     pub decades: u32,
 }
 
-impl Scale {
+impl DecadeScale {
     /// The scale on which all waits of these runs stand.
-    pub(crate) fn of(columns: &[Column<'_>]) -> Scale {
+    pub(crate) fn of(columns: &[Column<'_>]) -> DecadeScale {
         let mut longest = 0;
         for column in columns {
             longest = longest_of(column.summary.waits.as_slice()).max(longest);
             longest = longest_of(column.summary.unended.as_slice()).max(longest);
         }
-        Scale {
+        DecadeScale {
             decades: decades_to(longest),
         }
     }

@@ -4,8 +4,8 @@
 //! is not shown. Of more steps a column is counted, by its steps or, on an axis of ticks, by its ticks.
 
 use crate::lanes::{Lane, MOST_LANES, Scene};
-use crate::layout::Layout;
-use crate::rows::{Edge, FIFTHS, LaneRow, ROWS, Strip, draw_strip, height_of};
+use crate::layout::PictureLayout;
+use crate::rows::{Edge, FIFTHS, LaneRow, ROWS, RowStrip, draw_strip, height_of};
 use crate::step::{Answer, Step};
 use pc_calls::{Event, Reply};
 use pc_messages::Cpu;
@@ -57,7 +57,7 @@ const NOTHING: Tally = Tally {
 };
 
 /// A row that shows nothing yet.
-const BLANK: Strip = Strip {
+const BLANK: RowStrip = RowStrip {
     value: 0,
     line: 0,
     place: 0,
@@ -75,8 +75,8 @@ struct Shown {
 /// The bars so far.
 #[derive(Drop)]
 pub(crate) struct Bars<'t> {
-    layout: Layout<'t>,
-    strips: [Strip; MOST_STRIPS],
+    layout: PictureLayout<'t>,
+    strips: [RowStrip; MOST_STRIPS],
     tallies: [Tally; MOST_LANES],
     /// The column that is being counted, its steps so far, and its first and last line.
     column: u32,
@@ -185,7 +185,7 @@ impl Tally {
 
 impl<'t> Bars<'t> {
     /// Before the first step.
-    pub(crate) fn new(layout: Layout<'t>) -> Bars<'t> {
+    pub(crate) fn new(layout: PictureLayout<'t>) -> Bars<'t> {
         Bars {
             layout,
             strips: [BLANK; MOST_STRIPS],
@@ -415,7 +415,7 @@ impl<'t> Bars<'t> {
             return;
         }
         let old = *strip;
-        *strip = Strip {
+        *strip = RowStrip {
             value: shown.value,
             line: edge.line,
             place: edge.place(&self.layout),

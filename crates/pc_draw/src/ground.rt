@@ -1,6 +1,6 @@
 //! What a script's picture shows of no step: its ground, its words and its axis.
 
-use crate::layout::{LEFT, Layout};
+use crate::layout::{LEFT, PictureLayout};
 use crate::step::{Step, Story};
 use crate::ticks::Scale;
 use crate::words::{FaultLine, Of, Stretch};
@@ -38,7 +38,7 @@ struct NamedLine {
 
 /// A line that begins so far above the lanes and goes down through all of them, with its name above them.
 fn line_down(
-    layout: &Layout<'_>,
+    layout: &PictureLayout<'_>,
     x: u32,
     above: u32,
     style: &'static str,
@@ -69,7 +69,12 @@ fn draw_named<T: Display, N: Display>(canvas: &mut Canvas, line: &NamedLine, tol
 }
 
 /// Draws the ground of a script's picture, of which these steps are drawn: its words, its lanes, and its axis.
-pub(crate) fn draw_ground(canvas: &mut Canvas, layout: &Layout<'_>, story: &Story, steps: &[Step]) {
+pub(crate) fn draw_ground(
+    canvas: &mut Canvas,
+    layout: &PictureLayout<'_>,
+    story: &Story,
+    steps: &[Step],
+) {
     background(canvas, layout.width(), layout.height());
     canvas.done();
     head_words(canvas, layout, story);
@@ -85,7 +90,7 @@ pub(crate) fn draw_ground(canvas: &mut Canvas, layout: &Layout<'_>, story: &Stor
 }
 
 /// The words on top.
-fn head_words(canvas: &mut Canvas, layout: &Layout<'_>, story: &Story) {
+fn head_words(canvas: &mut Canvas, layout: &PictureLayout<'_>, story: &Story) {
     words(canvas, 8, 20, HEADING);
     let summary = story.summary();
     let _ = write!(canvas, "{summary}");
@@ -110,7 +115,7 @@ fn head_words(canvas: &mut Canvas, layout: &Layout<'_>, story: &Story) {
 }
 
 /// The words that tell which part is drawn, where it is not all.
-fn part_words(canvas: &mut Canvas, layout: &Layout<'_>) {
+fn part_words(canvas: &mut Canvas, layout: &PictureLayout<'_>) {
     if layout.part.is_all() {
         return;
     }
@@ -121,7 +126,7 @@ fn part_words(canvas: &mut Canvas, layout: &Layout<'_>) {
 }
 
 /// The name of a CPU's lane, and of its rows.
-fn lane_ground(canvas: &mut Canvas, layout: &Layout<'_>, cpu: u32) {
+fn lane_ground(canvas: &mut Canvas, layout: &PictureLayout<'_>, cpu: u32) {
     let y = layout.lane_top(cpu);
     let edge = NamedLine {
         x: 4,
@@ -153,7 +158,7 @@ fn row_name(canvas: &mut Canvas, y: u32, name: &str) {
 }
 
 /// How many steps lie between two numbers of the axis.
-fn distance(layout: &Layout<'_>) -> u32 {
+fn distance(layout: &PictureLayout<'_>) -> u32 {
     for steps in DISTANCES {
         let room = layout.x(layout.column_of(steps)).saturating_sub(LEFT);
         if room >= LABEL {
@@ -164,7 +169,7 @@ fn distance(layout: &Layout<'_>) -> u32 {
 }
 
 /// The numbers of the lines, and thin lines at their steps.
-fn axis(canvas: &mut Canvas, layout: &Layout<'_>, steps: &[Step]) {
+fn axis(canvas: &mut Canvas, layout: &PictureLayout<'_>, steps: &[Step]) {
     let distance = distance(layout);
     for label in 0..MOST_LABELS {
         let index = label.saturating_mul(distance);
@@ -177,7 +182,7 @@ fn axis(canvas: &mut Canvas, layout: &Layout<'_>, steps: &[Step]) {
 }
 
 /// The number of a line or a tick on the axis, and a thin line under it whose title tells which it is.
-fn label_at(canvas: &mut Canvas, layout: &Layout<'_>, x: u32, counted: Stretch) {
+fn label_at(canvas: &mut Canvas, layout: &PictureLayout<'_>, x: u32, counted: Stretch) {
     let name_x = x.saturating_sub(3);
     let name_style = "font-size=\"10\" fill=\"#444\"";
     let line = line_down(layout, x, 4, "stroke=\"#ddd\"", name_x, name_style);
@@ -198,7 +203,7 @@ fn digits(number: u64) -> u32 {
 }
 
 /// The room that a number of an axis of ticks needs.
-fn room_of_ticks(layout: &Layout<'_>) -> u32 {
+fn room_of_ticks(layout: &PictureLayout<'_>) -> u32 {
     let last = layout.first_tick.saturating_add(layout.span);
     let room = digits(last)
         .saturating_mul(DIGIT)
@@ -212,7 +217,7 @@ fn room_of_ticks(layout: &Layout<'_>) -> u32 {
 }
 
 /// How many ticks lie between two numbers of the axis: 1, 2 or 5 times a power of ten.
-fn tick_distance(layout: &Layout<'_>) -> u64 {
+fn tick_distance(layout: &PictureLayout<'_>) -> u64 {
     let wanted = room_of_ticks(layout);
     let mut power = 1u64;
     for _ in 0..19 {
@@ -229,7 +234,7 @@ fn tick_distance(layout: &Layout<'_>) -> u64 {
 }
 
 /// How many ticks the first round number is behind the first tick; none where that is past the last tick.
-fn first_label(layout: &Layout<'_>, distance: u64) -> u64 {
+fn first_label(layout: &PictureLayout<'_>, distance: u64) -> u64 {
     let rest = layout.first_tick.checked_rem(distance).unwrap_or(0);
     if rest == 0 {
         return 0;
@@ -239,7 +244,7 @@ fn first_label(layout: &Layout<'_>, distance: u64) -> u64 {
 }
 
 /// The ticks at round numbers, and thin lines at their columns; where there is no round number, the first tick.
-fn tick_axis(canvas: &mut Canvas, layout: &Layout<'_>) {
+fn tick_axis(canvas: &mut Canvas, layout: &PictureLayout<'_>) {
     if layout.steps == 0 {
         return;
     }
@@ -258,7 +263,7 @@ fn tick_axis(canvas: &mut Canvas, layout: &Layout<'_>) {
 }
 
 /// The line that is a fault, where it is of the part that is drawn.
-fn fault(canvas: &mut Canvas, layout: &Layout<'_>, outcome: Outcome) {
+fn fault(canvas: &mut Canvas, layout: &PictureLayout<'_>, outcome: Outcome) {
     let Outcome::FaultLine(number) = outcome else {
         return;
     };

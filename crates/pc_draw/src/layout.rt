@@ -40,7 +40,7 @@ const LEAST_WIDTH: u32 = 720;
 
 /// The sizes of a script's picture.
 #[derive(Clone, Copy)]
-pub(crate) struct Layout<'t> {
+pub(crate) struct PictureLayout<'t> {
     pub(crate) part: DrawnPart,
     pub(crate) scale: Scale<'t>,
     /// On an axis of ticks the first tick that is drawn, and how many ticks the last is behind it.
@@ -63,7 +63,7 @@ pub(crate) struct Layout<'t> {
     pub(crate) is_dense: bool,
 }
 
-impl<'t> Layout<'t> {
+impl<'t> PictureLayout<'t> {
     /// The sizes for a part that has so many steps, behind so many others, where there are so many CPUs. They stand by
     /// this.
     pub(crate) fn of(
@@ -72,7 +72,7 @@ impl<'t> Layout<'t> {
         first_step: u32,
         steps: u32,
         cpus: u32,
-    ) -> Layout<'t> {
+    ) -> PictureLayout<'t> {
         let first_cpu = part.cpus.map_or(0, |numbers| numbers.first);
         let lanes = lanes_of(part.cpus, cpus);
         let (first_tick, span) = ticks_drawn(scale);
@@ -84,7 +84,7 @@ impl<'t> Layout<'t> {
             Scale::Ticks(_) => units.min(most_columns(steps, lanes)),
             Scale::Lines | Scale::NoTick => columns_of(steps, lanes),
         };
-        Layout {
+        PictureLayout {
             part,
             scale,
             first_tick,

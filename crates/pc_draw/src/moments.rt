@@ -4,7 +4,7 @@
 //! [`MOST_MOMENTS`], which lie over the whole width: words tell how many there are, and how many refused commands are
 //! of no CPU. Moves and the others are counted in rows.
 
-use crate::layout::Layout;
+use crate::layout::PictureLayout;
 use crate::step::{Answer, Reason, Sent, Step};
 use pc_calls::{Event, Posted, Refusal, Reply};
 use pc_messages::Cpu;
@@ -53,7 +53,7 @@ impl EvenSample {
 /// What was shown so far.
 #[derive(Drop)]
 pub(crate) struct Moments<'t> {
-    layout: Layout<'t>,
+    layout: PictureLayout<'t>,
     crashes: EvenSample,
     moves: EvenSample,
     /// How many refused commands were of no lane, where a column is of several steps.
@@ -129,7 +129,7 @@ fn crash_of(step: &Step) -> Option<u8> {
 }
 
 /// Whether a step is a crash in a lane.
-fn is_crash(layout: &Layout<'_>, step: &Step) -> bool {
+fn is_crash(layout: &PictureLayout<'_>, step: &Step) -> bool {
     match crash_of(step) {
         Some(cpu) => layout.has_lane(u32::from(cpu)),
         None => false,
@@ -137,12 +137,12 @@ fn is_crash(layout: &Layout<'_>, step: &Step) -> bool {
 }
 
 /// Whether a CPU has a lane.
-fn has_lane(layout: &Layout<'_>, cpu: Cpu) -> bool {
+fn has_lane(layout: &PictureLayout<'_>, cpu: Cpu) -> bool {
     layout.has_lane(u32::from(cpu.index()))
 }
 
 /// Whether a step gives a thread another home, and one of the two homes has a lane.
-fn is_move(layout: &Layout<'_>, step: &Step) -> bool {
+fn is_move(layout: &PictureLayout<'_>, step: &Step) -> bool {
     match step.answer {
         Answer::Event(reply) => tells_move(layout, &reply, step.home),
         _ => false,
@@ -150,7 +150,7 @@ fn is_move(layout: &Layout<'_>, step: &Step) -> bool {
 }
 
 /// Whether a thread of this home is told to have another one, and one of the two has a lane.
-fn tells_move(layout: &Layout<'_>, reply: &Reply, home: Option<Cpu>) -> bool {
+fn tells_move(layout: &PictureLayout<'_>, reply: &Reply, home: Option<Cpu>) -> bool {
     match (reply, home) {
         (Reply::Associated { queue, .. }, Some(home)) => {
             has_lane(layout, *queue) || has_lane(layout, home)
@@ -174,7 +174,7 @@ fn tells_move(layout: &Layout<'_>, reply: &Reply, home: Option<Cpu>) -> bool {
 
 impl<'t> Moments<'t> {
     /// Before the first of these steps, which are drawn.
-    pub(crate) fn new(layout: Layout<'t>, steps: &[Step]) -> Moments<'t> {
+    pub(crate) fn new(layout: PictureLayout<'t>, steps: &[Step]) -> Moments<'t> {
         let mut crashes = 0u32;
         let mut moves = 0u32;
         for step in steps {

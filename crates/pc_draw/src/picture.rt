@@ -7,7 +7,7 @@ ghost use Rattle.pc_draw.specs.Pictures.{script_title};
 use crate::bars::Bars;
 use crate::ground::draw_ground;
 use crate::lanes::Scene;
-use crate::layout::Layout;
+use crate::layout::PictureLayout;
 use crate::legend::draw_legend;
 use crate::moments::Moments;
 use crate::part::{DrawnPart, Interval};
@@ -19,7 +19,7 @@ use std::io::{self, Write};
 
 /// Writes the bars of the steps that are drawn.
 fn write_bars<W: Write>(
-    layout: &Layout<'_>,
+    layout: &PictureLayout<'_>,
     steps: &[Step],
     traces: &Traces,
     canvas: &mut Canvas,
@@ -50,7 +50,7 @@ fn write_bars<W: Write>(
 
 /// Writes what is shown of single steps of those that are drawn, whose lines are those of the text.
 fn write_moments<W: Write>(
-    layout: &Layout<'_>,
+    layout: &PictureLayout<'_>,
     text: &[u8],
     steps: &[Step],
     traces: &Traces,
@@ -111,7 +111,7 @@ fn write_crashes<W: Write>(
 
 /// Writes the marks of the steps that are drawn.
 fn write_marks<W: Write>(
-    layout: &Layout<'_>,
+    layout: &PictureLayout<'_>,
     text: &[u8],
     story: &Story,
     steps: &[Step],
@@ -183,7 +183,7 @@ pub(crate) fn write_picture<W: Write>(
     let (first, end) = places_in(all, part.lines);
     let steps = all.get(first..end).unwrap_or(&[]);
     let scale = scale.of_steps(first, end);
-    let layout = Layout::of(
+    let layout = PictureLayout::of(
         part,
         scale,
         narrow(first),

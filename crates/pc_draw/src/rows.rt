@@ -1,6 +1,6 @@
 //! The rows of a lane: what a strip of one looks like.
 
-use crate::layout::Layout;
+use crate::layout::PictureLayout;
 use crate::ticks::Scale;
 use crate::words::{Extent, Stretch, Waiting};
 use pc_pen::{Canvas, Count, bar, stroke, thread_bar, words};
@@ -75,7 +75,7 @@ pub(crate) struct Edge {
 
 impl Edge {
     /// What tells the edge beside its line: the column, or on an axis of ticks how many it is behind the first.
-    pub(crate) fn place(&self, layout: &Layout<'_>) -> u64 {
+    pub(crate) fn place(&self, layout: &PictureLayout<'_>) -> u64 {
         match layout.scale {
             Scale::Ticks(_) => self.behind,
             Scale::Lines | Scale::NoTick => u64::from(self.column),
@@ -83,7 +83,7 @@ impl Edge {
     }
 
     /// The edge at which a strip begins.
-    fn of(layout: &Layout<'_>, strip: &Strip) -> Edge {
+    fn of(layout: &PictureLayout<'_>, strip: &RowStrip) -> Edge {
         let (column, behind) = match layout.scale {
             Scale::Ticks(_) => (layout.column_behind(strip.place), strip.place),
             Scale::Lines | Scale::NoTick => (u32::try_from(strip.place).unwrap_or(u32::MAX), 0),
@@ -98,7 +98,7 @@ impl Edge {
 
 /// What a row shows over some columns. There are hundreds of these on the stack, so it is as small as may be.
 #[derive(Clone, Copy)]
-pub(crate) struct Strip {
+pub(crate) struct RowStrip {
     /// What is shown; 0 where nothing is.
     pub(crate) value: u32,
     /// The line and the place of the edge at which it begins.
@@ -111,7 +111,7 @@ pub(crate) struct Strip {
 }
 
 /// What stands before the greatest count of a strip, where it is not that of each column.
-fn up_to(strip: &Strip) -> &'static str {
+fn up_to(strip: &RowStrip) -> &'static str {
     if strip.least_or_sum < strip.most {
         "up to "
     } else {
@@ -166,7 +166,7 @@ fn columns_of(since: &Edge, end: &Edge) -> u32 {
 }
 
 /// Over what a strip goes.
-fn extent_of(layout: &Layout<'_>, since: &Edge, end: &Edge) -> Extent {
+fn extent_of(layout: &PictureLayout<'_>, since: &Edge, end: &Edge) -> Extent {
     let ticks = match layout.scale {
         Scale::Ticks(_) => Some(Stretch::ticks(
             layout.first_tick.saturating_add(since.behind),
@@ -183,10 +183,10 @@ fn extent_of(layout: &Layout<'_>, since: &Edge, end: &Edge) -> Extent {
 /// Draws a strip of a CPU's row that ends there.
 pub(crate) fn draw_strip(
     canvas: &mut Canvas,
-    layout: &Layout<'_>,
+    layout: &PictureLayout<'_>,
     cpu: u32,
     row: LaneRow,
-    strip: &Strip,
+    strip: &RowStrip,
     end: &Edge,
 ) {
     if strip.value == 0 {
@@ -235,7 +235,7 @@ fn draw_asleep(canvas: &mut Canvas, span: &Span) {
     canvas.done();
 }
 
-fn draw_runs(canvas: &mut Canvas, span: &Span, strip: &Strip) {
+fn draw_runs(canvas: &mut Canvas, span: &Span, strip: &RowStrip) {
     match strip.value.checked_sub(FIFTHS + 1) {
         Some(thread) => draw_thread(canvas, span, thread),
         None => draw_share(canvas, span, strip.value),
@@ -286,7 +286,7 @@ fn draw_share(canvas: &mut Canvas, span: &Span, fifths: u32) {
     canvas.done();
 }
 
-fn draw_idle(canvas: &mut Canvas, span: &Span, strip: &Strip) {
+fn draw_idle(canvas: &mut Canvas, span: &Span, strip: &RowStrip) {
     let y = span.y.saturating_add(17);
     let to = span.x.saturating_add(span.width);
     stroke(canvas, span.x, y, to, y, IDLE);
@@ -297,34 +297,34 @@ fn draw_idle(canvas: &mut Canvas, span: &Span, strip: &Strip) {
     canvas.done();
 }
 
-fn draw_waits(canvas: &mut Canvas, span: &Span, strip: &Strip) {
+fn draw_waits(canvas: &mut Canvas, span: &Span, strip: &RowStrip) {
     count_bar(canvas, span, 40, strip.most, WAITS);
     let waiting = Waiting(strip.most);
     tell_count(canvas, span, up_to(strip), &waiting, "for CPU");
 }
 
-fn draw_queue(canvas: &mut Canvas, span: &Span, strip: &Strip) {
+fn draw_queue(canvas: &mut Canvas, span: &Span, strip: &RowStrip) {
     count_bar(canvas, span, 51, strip.most, "fill=\"#999\"");
     let items = Count(u64::from(strip.most), "item");
     tell_count(canvas, span, up_to(strip), &items, "in queue");
 }
 
-fn draw_posts(canvas: &mut Canvas, span: &Span, strip: &Strip) {
+fn draw_posts(canvas: &mut Canvas, span: &Span, strip: &RowStrip) {
     count_bar(canvas, span, 62, strip.most, "fill=\"#000\"");
     tell_sum(canvas, span, strip, "post", "to queue");
 }
 
-fn draw_deltas(canvas: &mut Canvas, span: &Span, strip: &Strip) {
+fn draw_deltas(canvas: &mut Canvas, span: &Span, strip: &RowStrip) {
     thin_bar(canvas, span, 27, "fill=\"#777\"");
     tell_sum(canvas, span, strip, "delta", "taken in by agent");
 }
 
-fn draw_moves(canvas: &mut Canvas, span: &Span, strip: &Strip) {
+fn draw_moves(canvas: &mut Canvas, span: &Span, strip: &RowStrip) {
     thin_bar(canvas, span, 30, "fill=\"#0072B2\"");
     tell_sum(canvas, span, strip, "move", "of threads to queue");
 }
 
-fn draw_refusals(canvas: &mut Canvas, span: &Span, strip: &Strip) {
+fn draw_refusals(canvas: &mut Canvas, span: &Span, strip: &RowStrip) {
     let style = "fill=\"#fff\" stroke=\"#000\" stroke-width=\".5\"";
     thin_bar(canvas, span, 5, style);
     tell_sum(canvas, span, strip, "command", "refused at CPU");
@@ -351,7 +351,7 @@ fn tell_count<C: Display>(
 }
 
 /// Tells how many of something the columns of a strip have together.
-fn tell_sum(canvas: &mut Canvas, span: &Span, strip: &Strip, noun: &'static str, place: &str) {
+fn tell_sum(canvas: &mut Canvas, span: &Span, strip: &RowStrip, noun: &'static str, place: &str) {
     let sum = Count(u64::from(strip.least_or_sum), noun);
     tell_count(canvas, span, "", &sum, place);
 }

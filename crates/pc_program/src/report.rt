@@ -24,9 +24,9 @@ pub enum ReportForm {
 
 /// What a whole run came to, a line for each number.
 #[derive(Clone, Copy)]
-struct Totals<'a>(&'a LoadReport);
+struct TotalLines<'a>(&'a LoadReport);
 
-impl fmt::Display for Totals<'_> {
+impl fmt::Display for TotalLines<'_> {
     ghost output = { λ totals. Some (totals_text totals.0.now) };
 
     fn fmt<W: fmt::Write>(&self, f: &mut fmt::Formatter<W>) -> fmt::Result {
@@ -123,7 +123,7 @@ pub(crate) fn write_report<W: Write>(
 ) -> io::Result<()>
     ensures { OnOk result (IsReport form report.now (W.contents writer.old) (W.contents writer.new)) }
 {
-    let totals = Totals(report);
+    let totals = TotalLines(report);
     let rows = CpuRows(report.rows.as_slice());
     let refusals = RefusalsRows(report.rows.as_slice());
     match form {
