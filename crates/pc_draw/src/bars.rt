@@ -328,13 +328,7 @@ impl<'t> Bars<'t> {
                     tally.posts = tally.posts.saturating_add(1);
                 }
             }
-            Answer::Event(Reply::Done) => {
-                if let Command::Event(Event::Deliver { cpu, .. }) = step.command
-                    && let Some(tally) = self.tallies.get_mut(cpu.index() as usize)
-                {
-                    tally.deltas = tally.deltas.saturating_add(1);
-                }
-            }
+            Answer::Event(Reply::Done) => self.count_delta(&step.command),
             Answer::Event(Reply::Associated { queue, .. }) => self.count_move(queue),
             Answer::Event(Reply::Committed { cpu, .. }) => {
                 // A thread is committed where its home is, but where it was stolen to mend the CPU.
@@ -358,6 +352,15 @@ impl<'t> Bars<'t> {
             )
             | Answer::Opened
             | Answer::Told => {}
+        }
+    }
+
+    /// An agent took in a delta, if that was the command.
+    fn count_delta(&mut self, command: &Command) {
+        if let Command::Event(Event::Deliver { cpu, .. }) = command
+            && let Some(tally) = self.tallies.get_mut(cpu.index() as usize)
+        {
+            tally.deltas = tally.deltas.saturating_add(1);
         }
     }
 

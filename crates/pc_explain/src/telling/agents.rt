@@ -171,28 +171,7 @@ pub(super) fn marked(text: &mut Sentences, event: &Event) -> fmt::Result {
             let agent = cpu.index();
             writeln!(text, "Agent {agent} is awake.")
         }
-        Event::Agent(
-            AgentCall::Config {
-                queue,
-                target: Some(cpu),
-            },
-        ) => {
-            let queue = queue.index();
-            let agent = cpu.index();
-            writeln!(
-                text,
-                "Posts to queue {queue} wake agent {agent} from now on, which is awake."
-            )
-        }
-        Event::Agent(
-            AgentCall::Config {
-                queue,
-                target: None,
-            },
-        ) => {
-            let queue = queue.index();
-            writeln!(text, "Posts to queue {queue} wake nobody from now on.")
-        }
+        Event::Agent(AgentCall::Config { queue, target }) => configured(text, *queue, *target),
         Event::Env(_)
         | Event::Agent(AgentCall::Associate { .. } | AgentCall::Commit { .. })
         | Event::Publish { .. }
@@ -202,5 +181,20 @@ pub(super) fn marked(text: &mut Sentences, event: &Event) -> fmt::Result {
         | Event::Pick { .. }
         | Event::Steal { .. }
         | Event::Crash { .. } => writeln!(text, "It is done."),
+    }
+}
+
+/// An agent is chosen for a queue, or none is.
+fn configured(text: &mut Sentences, queue: Cpu, target: Option<Cpu>) -> fmt::Result {
+    let queue = queue.index();
+    match target {
+        Some(cpu) => {
+            let agent = cpu.index();
+            writeln!(
+                text,
+                "Posts to queue {queue} wake agent {agent} from now on, which is awake."
+            )
+        }
+        None => writeln!(text, "Posts to queue {queue} wake nobody from now on."),
     }
 }

@@ -33,11 +33,7 @@ pub(super) fn answered(
             },
         ) => told_status(text, *thread, status, *phase),
         (Read::Show { cpu }, Response::View(threads)) => shown(text, *cpu, threads),
-        (Read::Asleep { cpu }, Response::Truth(sleeps)) => {
-            let agent = cpu.index();
-            let how = if *sleeps { "sleeps" } else { "is awake" };
-            writeln!(text, "Agent {agent} {how}.")
-        }
+        (Read::Asleep { cpu }, Response::Truth(sleeps)) => slept(text, *cpu, *sleeps),
         (Read::Same { cpu, other }, Response::Sameness(same)) => compared(
             text, *cpu, *other, *same,
         ),
@@ -53,6 +49,13 @@ pub(super) fn answered(
             _,
         ) => Ok(()),
     }
+}
+
+/// Whether an agent sleeps.
+fn slept(text: &mut Sentences, cpu: Cpu, sleeps: bool) -> fmt::Result {
+    let agent = cpu.index();
+    let how = if sleeps { "sleeps" } else { "is awake" };
+    writeln!(text, "Agent {agent} {how}.")
 }
 
 /// A thread's status word, and its phase.

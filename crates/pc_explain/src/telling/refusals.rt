@@ -107,21 +107,15 @@ fn tried_thread(text: &mut Sentences, cpu: Cpu, thread: Tid, world: &World) -> f
 /// How much there is of what was asked for, or where it is.
 pub(super) fn there_is(text: &mut Sentences, refusal: &Refusal, world: &World) -> fmt::Result {
     match refusal {
-        Refusal::Running(cpu) => {
-            let cpu = cpu.index();
-            writeln!(text, "It runs on CPU {cpu}.")
-        }
-        Refusal::NotYours(queue) => {
-            let queue = queue.index();
-            writeln!(text, "Its messages go to queue {queue}.")
-        }
+        Refusal::Running(cpu) => runs_on(text, *cpu),
+        Refusal::NotYours(queue) => is_at_home(text, *queue),
         Refusal::BadCpu | Refusal::MaskTooWide => {
             let cpus = Count(u64::from(world.kernel().cpus()), "CPU");
-            writeln!(text, "The enclave has {cpus}, counted from 0.")
+            enclave_has(text, cpus, "0")
         }
         Refusal::UnknownThread | Refusal::NamesSpent => {
             let threads = Count(u64::from(world.kernel().threads()), "thread");
-            writeln!(text, "The enclave has {threads}, counted from t0.")
+            enclave_has(text, threads, "t0")
         }
         Refusal::NoDelta => {
             let deltas = Count(world.sent().len() as u64, "delta");
@@ -147,6 +141,23 @@ pub(super) fn there_is(text: &mut Sentences, refusal: &Refusal, world: &World) -
         | Refusal::WireFault
         | Refusal::TooLate => Ok(()),
     }
+}
+
+/// On which CPU the thread runs.
+fn runs_on(text: &mut Sentences, cpu: Cpu) -> fmt::Result {
+    let cpu = cpu.index();
+    writeln!(text, "It runs on CPU {cpu}.")
+}
+
+/// Which queue is the thread's home.
+fn is_at_home(text: &mut Sentences, queue: Cpu) -> fmt::Result {
+    let queue = queue.index();
+    writeln!(text, "Its messages go to queue {queue}.")
+}
+
+/// How many there are, and what the first is called.
+fn enclave_has(text: &mut Sentences, counted: Count, first: &str) -> fmt::Result {
+    writeln!(text, "The enclave has {counted}, counted from {first}.")
 }
 
 /// Why a session answers no command, or not this one.
