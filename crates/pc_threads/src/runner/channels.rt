@@ -7,7 +7,7 @@ use crate::settings::Config;
 use crossbeam_channel::{Receiver, SendError, Sender};
 use pc_delta::{Delta, Digest, take_in};
 use pc_join::OutOfMemory;
-use pc_messages::{Cpu, Phase};
+use pc_messages::Cpu;
 use pc_view::View;
 use std::alloc::{AllocError, Global};
 use std::sync::atomic::{AtomicBool, Ordering};
@@ -27,7 +27,7 @@ pub(crate) enum Notice {
 fn offers(delta: &Delta, view: &View, cpu: Cpu) -> bool {
     delta.parts().iter().any(|part| match view.thread(part.thread()) {
         Some(known) => match known.reported() {
-            Some(state) => state.phase == Phase::Ready && state.mask.allows(cpu),
+            Some(state) => state.may_run_on(cpu),
             None => true,
         },
         None => true,
