@@ -140,6 +140,7 @@ fn an_event_tells_what_it_is_about(rt: HostRuntime) {
 }
 
 /// How a thread leaves its CPU, and the phase in which it is then.
+#[derive(Drop)]
 struct Behind(Leaving, Phase);
 
 impl Row for Behind {
@@ -160,6 +161,7 @@ fn a_thread_that_left_is_in_a_phase(rt: HostRuntime) {
 }
 
 /// A phase, the bits of a mask for four CPUs, and whether the thread may run on CPU 1.
+#[derive(Drop)]
 struct Allowed(Phase, u64, bool);
 
 impl Row for Allowed {
