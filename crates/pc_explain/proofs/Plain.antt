@@ -32,6 +32,10 @@ use Rattle.pc_explain.proofs.Annotations.{without-append}
 pub decimal_without : (n : ℕ) → HasNoLineFeed (decimal n)
 decimal_without n = without_byte 10 (omega arith) n
 
+either_without : (b : Bool) (one other : List ℕ) → HasNoLineFeed one → HasNoLineFeed other → HasNoLineFeed (if b then one else other)
+either_without true one other h k = h
+either_without false one other h k = k
+
 then_more : (n : ℕ) (rest : List ℕ) → HasNoLineFeed rest → HasNoLineFeed (decimal n ++ rest)
 then_more n rest h = without-append (decimal n) rest (decimal_without n) h
 
