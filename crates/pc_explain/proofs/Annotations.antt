@@ -1,8 +1,8 @@
 -- Texts with comments between their lines.
-use Rattle.std.proofs.Common.{◌≡◌, ℕ, zero, suc, subst, append-nil, Result, Ok, Err, OnOk, ◌≤◌, length, take, arith, List, [], ◌∷◌, ◌++◌, Bool, true, false, not, ◌&&◌, eqb, cond, filter, refl, sym, ap, ◌∙◌, Option, append_assoc}
+use Rattle.std.proofs.Common.{◌≡◌, ℕ, subst, append-nil, Result, Ok, Err, OnOk, List, [], ◌∷◌, ◌++◌, Bool, true, false, not, ◌&&◌, eqb, cond, filter, refl, sym, ap, ◌∙◌, Option, append_assoc}
 use Rattle.std.specs.Io.KnownBytes.{Appends}
 use Rattle.std.proofs.KnownBytes.{Appends-nil, Appends-trans}
-use Rattle.std.specs.List.{All, AllWithin, list_all, slice_split, join_with_byte}
+use Rattle.std.specs.List.{All, list_all, slice_split, join_with_byte}
 use Rattle.std.proofs.lemmas.List.Elements.{All-weaker}
 use Rattle.std.proofs.lemmas.List.Folds.{list_all-append}
 use Rattle.std.proofs.lemmas.List.Splits.{slice_split_at, join_with_byte-slice_split}

@@ -1,6 +1,5 @@
 -- What is answered is lines, none of which is a comment.
-use Rattle.std.proofs.Common.{◌≡◌, ℕ, zero, suc, ◌+◌, ◌/◌, ◌%◌, List, [], ◌∷◌, ◌++◌, Bool, true, false, not, ◌&&◌, eqb, if◌then◌else◌, refl, sym, ap, ◌∙◌, Option, Some, None, codes, decimal, flat_map, arith, append_assoc}
-use Rattle.std.specs.List.{list_all}
+use Rattle.std.proofs.Common.{◌≡◌, ℕ, ◌+◌, List, [], ◌∷◌, ◌++◌, Bool, true, false, eqb, if◌then◌else◌, refl, sym, ◌∙◌, Option, Some, None, codes, decimal, flat_map, arith, append_assoc}
 use Rattle.pc_calls.specs.declared.call.Posted.{Posted}
 use Rattle.pc_calls.specs.declared.call.Status.{Status}
 use Rattle.pc_calls.specs.declared.event.Reply.{Reply}

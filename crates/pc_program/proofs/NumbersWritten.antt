@@ -1,7 +1,7 @@
 -- Words that spell numbers: there is one way to part them at a dash, since numbers have none.
-use Rattle.std.proofs.Common.{◌≡◌, ◌∙◌, ap, ap₂, sym, subst, refl, ℕ, zero, suc, ◌+◌, ◌/◌, ◌%◌, ◌≤◌, List, [], ◌∷◌, ◌++◌, length, take, Bool, true, false, not, ◌&&◌, eqb, if◌then◌else◌, Option, Some, None, MatchOption, inl, inr, decimal, arith}
-use Rattle.std.specs.List.{list_all, AllWithin}
-use Rattle.std.proofs.lemmas.Bool.{ne_eqb, true≢false}
+use Rattle.std.proofs.Common.{◌≡◌, ◌∙◌, ap₂, sym, subst, refl, ℕ, ◌+◌, List, [], ◌∷◌, ◌++◌, true, false, not, eqb, Option, Some, None, MatchOption, inl, inr, decimal, arith}
+use Rattle.std.specs.List.{list_all}
+use Rattle.std.proofs.lemmas.Bool.{true≢false}
 use Rattle.std.proofs.lemmas.List.Folds.{list_all-append}
 use Rattle.pc_messages.proofs.Bools.{second_true}
 use Rattle.pc_pen.proofs.Decimals.{decimal_without as without_byte}
