@@ -24,7 +24,7 @@ import pathlib
 import random
 import sys
 
-sys.path.insert(0, str(pathlib.Path(__file__).resolve().parent.parent / "tests"))
+sys.path.insert(0, str(pathlib.Path(__file__).resolve().parent.parent / "tools"))
 from kernel import World  # noqa: E402
 
 CPUS, THREADS = 64, 4096

@@ -19,7 +19,7 @@ from collections.abc import Iterator
 from dataclasses import dataclass
 
 import rig
-from kernel import LEAVES, Talk, World
+from kernel import LEAVES, Talk, World, last_lines
 from rig import ROOT, good
 
 sys.path.insert(0, str(ROOT / "tests/hostile"))
@@ -171,9 +171,8 @@ def run_all(word: str, scripts: list[str]) -> list[str]:
 
 
 def answers_to(scripts: list[list[str]]) -> list[list[str]]:
-    """The last line of each answer to each script: those of a view end with `end`."""
-    return [[line for line in output.splitlines() if not re.match(r"t\d+ upto ", line)]
-            for output in run_all("replay", ["\n".join([*lines, ""]) for lines in scripts])]
+    """The last line of each answer to each script."""
+    return [last_lines(output) for output in run_all("replay", ["\n".join([*lines, ""]) for lines in scripts])]
 
 
 def all_told() -> list[Told | str]:

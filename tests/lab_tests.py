@@ -24,7 +24,7 @@ from dataclasses import dataclass, field
 
 import lab_pictures
 import rig
-from kernel import ORDERS, WORD32, answered
+from kernel import ORDERS, WORD32, answered, ticks_of
 from reference.lab import STEALS, Run, Variant, csv_of, load_of, replies_of, runs_of, script_of, table_of
 from rig import ROOT, good, outcome, same
 from tables import drawn_load, drawn_threads, thread, variant
@@ -312,17 +312,6 @@ class Life:
     stays: list[tuple[int, int]] = field(default_factory=list)
 
 
-def ticks_of(script: str) -> list[int]:
-    """The tick of each command of a script."""
-    tick, ticks = 0, []
-    for line in filter(None, script.splitlines()):
-        if line.startswith("# at "):
-            tick = int(line.removeprefix("# at "))
-        elif not line.startswith(("#", "version")):
-            ticks.append(tick)
-    return ticks
-
-
 def lives_of(tried: Tried) -> dict[str, Life]:
     """The life of each thread that came."""
     lives: dict[str, Life] = {}
@@ -356,7 +345,7 @@ def runs_tried(chance: random.Random) -> list[Tried]:
     one = chance.choice(every)
     script = told(text, "--script", one.variant.name)
     one.answered = [(" ".join(words), answer) for _, words, answer in answered(script, replay(script))]
-    one.ticks = ticks_of(script)
+    one.ticks = [*ticks_of(script).values()]
     return every
 
 

@@ -1,4 +1,4 @@
-"""Pictures of scripts, taken apart, and what they have to show: by what tests/kernel.py tells of the script, and nothing of the picture's own."""
+"""Pictures of scripts, taken apart, and what they have to show: by what tools/kernel.py tells of the script, and nothing of the picture's own."""
 from __future__ import annotations
 
 import random
@@ -11,7 +11,7 @@ from dataclasses import dataclass, field
 from typing import NamedTuple
 
 import rig
-from kernel import LEAVES, Talk, World, answered, told_of, words_of
+from kernel import LEAVES, Talk, World, answered, is_asked, told_of
 from rig import ROOT, outcome, same
 
 sys.path.insert(0, str(ROOT / "tests/hostile"))
@@ -178,11 +178,6 @@ def story_of(script: str) -> Story:
     return told
 
 
-def is_asked(line: str) -> bool:
-    """Whether the line is a command, or a fault."""
-    return words_of(line.encode())[:1] not in ([], ["version"])
-
-
 def drawn_script(place: int) -> str:
     """A short script by the grammar, most of whose commands are accepted. Threads run, agents sleep and homes change more often than by chance."""
     chance = random.Random(f"bars {place}")
@@ -251,7 +246,7 @@ def shown_in(world: World | None) -> Shown:
         "runs": list(world.running),
         "ready": [waits[cpu] or None for cpu in cpus],
         "queue": [len(world.queues[cpu].items) or None for cpu in cpus],
-        "asleep": [1 if world.agents[cpu].is_asleep else None for cpu in cpus],
+        "asleep": [1 if world.sleeps[cpu] else None for cpu in cpus],
         "idle": [waits.total() or None if world.running[cpu] is None else None for cpu in cpus],
     }
 

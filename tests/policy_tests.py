@@ -1,5 +1,5 @@
 #!/usr/bin/env python3
-"""Tests picks and steals under each policy against the model of tests/kernel.py.
+"""Tests picks and steals under each policy against the model of tools/kernel.py.
 
     tests/policy_tests.py [--program PROGRAM] [--scripts NUMBER | --all]
 

@@ -28,6 +28,8 @@ ROOT = pathlib.Path(__file__).resolve().parent.parent
 # The program as both compilers leave it.
 BUILT = [ROOT / "crates/pc_sim/out/pc_sim", ROOT / "crates/pc_sim/out/pc_sim.by-rattle"]
 SECONDS = 120
+# The model of the kernel and other modules that tools and tests share.
+sys.path.append(str(ROOT / "tools"))
 Test = tuple[str, Callable[[], object]]
 
 program = BUILT[0]

@@ -4,7 +4,7 @@
     tests/session_tests.py [--program PROGRAM] [--scripts NUMBER | --all]
 
 Scripts are drawn: 300, or NUMBER, and 10,000 with --all. Each goes through `session` in pieces that are cut at random, and has to be
-answered as the model of tests/kernel.py tells. Then come conversations over a pipe, each answer waited for before the next command is
+answered as the model of tools/kernel.py tells. Then come conversations over a pipe, each answer waited for before the next command is
 sent; the line `?`; what a terminal is told first; lines that are too long; and how sessions end.
 """
 from __future__ import annotations

@@ -11,17 +11,15 @@ from collections import Counter
 from typing import NamedTuple
 
 import rig
-from kernel import answered
+from kernel import WORD64, answered, ticks_of
 from pictures import (
     ENCLAVE, LEFT, MOST_SINGLE, ROWS, SCRIPTS, SINGLE_WORDS, SVG, WHOLE, Element, Part, Picture, Steps, answers_to, are_one, bars_of, bars_told,
-    draw, drawn_script, edges_of, front_of, is_asked, many, refused_words, shown_often, steps_of, story_of, x_of,
+    draw, drawn_script, edges_of, front_of, many, refused_words, shown_often, steps_of, story_of, x_of,
 )
 from rig import ROOT, good, outcome, same
 
-MOST_TICK = 2**64 - 1
 DRAWN = 100
 TICKS = r"ticks? (\d+)(?: to (\d+))?"
-TOLD = re.compile(r"# at (0|[1-9][0-9]*)")
 # What looks like a line that tells a tick, and tells none.
 NO_TICKS = [
     "# at x", "#at 5", "# at 5 6", "# at 05", "# at", "# at ", "#  at 5", "# at  5", "# at 5 ", "# at +5", "# at -5", "# at 5.0", "# at 5us", "# At 5", "## at 5",
@@ -31,18 +29,6 @@ GAPS = {"few": [0, 0, 1, 1, 2, 3], "many": [0, 1, 5, 40, 700], "far": [0, 1, 100
 TICK_WORDS = "Axis: ticks, from left to right, a column for each tick. A lane for each CPU."
 # How far left of its column's middle a mark begins.
 BEFORE = {"crash": 7, "stolen": 3, "moved": 1, "refused": 1}
-
-
-def ticks_of(script: str) -> dict[int, int]:
-    """The tick of each command, by the number of its line; none where no line tells one above a command."""
-    ticks, tick, is_told, is_any = {}, 0, False, False
-    for number, line in enumerate(script.split("\n"), 1):
-        told = TOLD.fullmatch(line.removesuffix("\r"))
-        if told and int(told[1]) <= MOST_TICK:
-            tick, is_told = max(tick, int(told[1])), True
-        elif is_asked(line):
-            ticks[number], is_any = tick, is_told
-    return ticks if is_any else {}
 
 
 class Axis:
@@ -204,7 +190,7 @@ def test_by_lines_a_line_that_tells_a_tick_is_a_comment() -> None:
 
 def test_lines_that_tell_a_tick() -> None:
     """A carriage return at the end is none of the line's; a zero, and the greatest number, are ticks."""
-    for told, tick in (("# at 5\r", 5), ("# at 0", 0), (f"# at {MOST_TICK}", MOST_TICK), (f"# at 3\n# at {MOST_TICK}0", 3)):
+    for told, tick in (("# at 5\r", 5), ("# at 0", 0), (f"# at {WORD64}", WORD64), (f"# at 3\n# at {WORD64}0", 3)):
         picture = timed(f"{told}\n{ENCLAVE}tick 0\n")
         same((picture.texts[1], labels(picture)), (TICK_WORDS, [tick]), told)
         same(picture.edges(f"1 item in queue 0, line {told.count(chr(10)) + 3}, tick {tick}"), [(72, 96)])
@@ -226,11 +212,11 @@ def test_all_steps_in_one_tick() -> None:
 
 
 def test_the_greatest_tick() -> None:
-    picture = timed(f"# at 0\n{ENCLAVE}create 0 3 ready\n# at {2**63}\npublish 0\n# at {MOST_TICK}\nconsume 0\ntick 1\n")
+    picture = timed(f"# at 0\n{ENCLAVE}create 0 3 ready\n# at {2**63}\npublish 0\n# at {WORD64}\nconsume 0\ntick 1\n")
     same(picture.width, 72 + 1200 + 120)
-    stand(picture, {f"1 item in queue 0, lines 3 to 7, ticks 0 to {MOST_TICK}": [(72, 1271)], f"1 item in queue 1, line 8, tick {MOST_TICK}": [(1271, 1272)]},
+    stand(picture, {f"1 item in queue 0, lines 3 to 7, ticks 0 to {WORD64}": [(72, 1271)], f"1 item in queue 1, line 8, tick {WORD64}": [(1271, 1272)]},
           {"line 8: tick 1": [(1271, 1271)]})
-    axis_is_told_by_ticks(picture, Axis([0, MOST_TICK], 2))
+    axis_is_told_by_ticks(picture, Axis([0, WORD64], 2))
     same(labels(picture), [0, 5 * 10**18, 10**19, 15 * 10**18])
 
 
@@ -449,7 +435,7 @@ def counts_in(picture: Picture, axis: Axis) -> Counter[tuple[int, int]]:
 
 
 def test_many_steps_in_one_tick() -> None:
-    for tick in (0, 77, MOST_TICK):
+    for tick in (0, 77, WORD64):
         picture = timed(f"# at {tick}\n{many(2, 3_000)}tick 0\n")
         same(len(picture.edges(rf".* in queue 0, .*tick {tick}")), 1)
         same((labels(picture), set(picture.edges(r".*, tick \d+"))), ([tick], {(72, 96)}))

@@ -90,8 +90,13 @@ def test_slices_of_examples_are_the_commits_that_ended():
         same(sum(map(len, by_cpu.values())), commits, path.name)
 
 
+def test_a_blocked_thread_does_not_wait_whatever_is_told_of_it():
+    rows = traced("enclave 1 4 9 9 9\ncreate 0 1 blocked\npriority t0 3\naffinity t0 1\nwake t0\n")
+    same([(time, args["value"]) for name, time, args in told(rows, "C", "name", "ts", "args") if name == "threads that wait"], [(5, 1)])
+
+
 def test_answers_of_another_script_are_refused():
-    for answers, fault in (("ok\n", "has no answer"), ("ok\n" * 40, "more answers")):
+    for answers, fault in (("ok\n", "has no answer"), ("ok\n" * 40, "more answers"), ("ok\nrefused BadCpu\n", "no answer of a kernel")):
         with rig.file(answers, "replies") as replies, rig.file("enclave 1 1 1 1 1\nrouse 0\n") as script:
             ended = rig.run(TO_TRACE, script, "--replies", replies)
         same((ended.returncode, ended.stdout), (1, ""))

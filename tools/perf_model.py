@@ -4,51 +4,28 @@ from __future__ import annotations
 from collections import Counter
 from dataclasses import dataclass, field
 
+from kernel import MOST, Kernel, Thread
 from perf_load import Timed
 from perf_text import plain
 
-# The limits of a script, and of settings (docs/FORMATS.md)
-MOST_CPUS = 64
-MOST_THREADS, MOST_THREADS_BY_DEFAULT = 65_535, 4_096
-NUMBERS, NUMBERS_BY_DEFAULT = 16_000_000, 1_000_000
-ROOM = 65_536
-POSTS = 4_294_967_295
+MOST_CPUS, ROOM, POSTS = (MOST[name][1] for name in ("cpus", "room", "posts"))
+(MOST_THREADS_BY_DEFAULT, MOST_THREADS), (NUMBERS_BY_DEFAULT, NUMBERS) = MOST["threads"], MOST["numbers"]
+# The limits of settings (docs/FORMATS.md)
 LONGEST_SETTINGS = 1_048_576
 MOST_STEPS = 1_000
 SETTINGS_THREADS = 4_096
 SETTINGS_MASK = (1 << 63) - 1  # TOML has no number for bit 63
 
-READY, BLOCKED, DEAD = "ready", "blocked", "dead"
-
-
-@dataclass(slots=True)
-class Thread:
-    name: int
-    pid: int
-    home: int
-    phase: str
-    number: int = 1  # of its last message
-    cpu: int = -1  # where it runs, or -1
-    last_post: int = 0  # the place of its last message among the posts to its home queue
-
-
-@dataclass(slots=True)
-class Cpu:
-    """A CPU, its queue and its agent."""
-
-    posts: int = 0
-    consumed: int = 0
-    thread: Thread | None = None
-    since: int = 0  # the nanosecond at which the thread came on
+READY, BLOCKED = "ready", "blocked"
 
 
 class Model:
-    """Writes commands, and knows which of them the model will refuse."""
+    """Writes commands, and tells which of them will be refused."""
 
     def __init__(self, cpus: int, tells_times: bool = False):
-        self.cpus = [Cpu() for _ in range(cpus)]
+        self.kernel = Kernel(cpus, numbers_most=NUMBERS)
         self.mask = (1 << cpus) - 1
-        self.threads = 0
+        self.pids: list[int] = []  # of the threads, by their names
         self.lines: list[str] = []
         self.length = 0
         self.tick = 0  # of what is written next, in microseconds since the first event
@@ -71,96 +48,72 @@ class Model:
     def comment(self, text: str) -> None:
         self.write("# " + plain(text))
 
-    def ask(self, word: str, line: str, refusal: str = "") -> bool:
+    def ask(self, line: str) -> bool:
         """Writes a command. True where it will be accepted."""
         self.write(line)
+        word, answer = line.partition(" ")[0], self.kernel.say(line)
         self.asked[word] += 1
-        if refusal:
-            self.refused[word, refusal] += 1
-        return not refusal
+        if answer.startswith("refused "):
+            self.refused[word, answer.split()[1]] += 1
+        return answer.startswith("ok")
 
-    def post(self, queue: int, thread: Thread) -> None:
-        self.cpus[queue].posts += 1
-        thread.last_post = self.cpus[queue].posts
+    def on(self, cpu: int) -> Thread | None:
+        """The thread on the CPU."""
+        name = self.kernel.running[cpu]
+        return None if name is None else self.kernel.threads[name]
 
     def make_room(self, queue: int) -> None:
         """An agent looks at its queue before it is full, so that nothing is refused for want of room."""
-        if self.cpus[queue].posts - self.cpus[queue].consumed >= ROOM:
+        if len(self.kernel.queues[queue].items) >= ROOM:
             self.look(queue)
 
     def create(self, pid: int, comm: str, queue: int, phase: str) -> Thread:
         self.make_room(queue)
-        thread = Thread(self.threads, pid, queue, phase)
-        self.threads += 1
-        self.comment(f"t{thread.name} is {comm}, {pid}")
-        self.ask("create", f"create {queue} {self.mask} {phase}")
-        self.post(queue, thread)
-        self.timed.created(thread.name, comm, queue, phase == READY, self.tick)
-        return thread
+        name = len(self.pids)
+        self.pids.append(pid)
+        self.comment(f"t{name} is {comm}, {pid}")
+        self.ask(f"create {queue} {self.mask} {phase}")
+        self.timed.created(name, comm, queue, phase == READY, self.tick)
+        return self.kernel.threads[name]
 
     def wake(self, thread: Thread) -> None:
         """Of a thread that is blocked."""
         self.make_room(thread.home)
-        self.ask("wake", f"wake t{thread.name}")
-        thread.phase = READY
+        self.ask(f"wake t{thread.name}")
         self.timed.woke(thread.name, self.tick)
-        self.message(thread)
-
-    def message(self, thread: Thread) -> None:
-        thread.number += 1
-        self.post(thread.home, thread)
 
     def leave(self, word: str, cpu: int, ticks: int) -> None:
         """The thread on the CPU, of which there is one, leaves it."""
-        thread = self.cpus[cpu].thread
-        assert thread is not None
+        name = self.kernel.running[cpu]
+        assert name is not None
         self.make_room(cpu)
-        self.ask(word, f"{word} {cpu} {ticks}")
-        thread.phase = {"block": BLOCKED, "die": DEAD}.get(word, READY)
-        thread.cpu = -1
-        self.cpus[cpu].thread = None
-        self.timed.left(thread.name, word, ticks, self.tick)
-        self.message(thread)
+        self.ask(f"{word} {cpu} {ticks}")
+        self.timed.left(name, word, ticks, self.tick)
 
     def look(self, cpu: int) -> None:
         """The agent takes in what its queue holds, tells the others, and removes it."""
-        if self.cpus[cpu].posts > self.cpus[cpu].consumed:
-            self.ask("publish", f"publish {cpu}")
-            self.ask("consume", f"consume {cpu}")
-            self.cpus[cpu].consumed = self.cpus[cpu].posts
+        if self.kernel.queues[cpu].items:
+            self.ask(f"publish {cpu}")
+            self.ask(f"consume {cpu}")
 
-    def associate(self, thread: Thread, queue: int) -> bool:
-        if thread.last_post > self.cpus[thread.home].consumed:
+    def associate(self, thread: Thread, queue: int) -> None:
+        if self.kernel.pending[thread.name]:
             self.look(thread.home)
-        refusal = "Running" if thread.cpu >= 0 else ""
-        if self.ask("associate", f"associate t{thread.name} {queue} {thread.number}", refusal):
-            thread.home = queue
-            thread.last_post = 0
-        return not refusal
+        self.ask(f"associate t{thread.name} {queue} {thread.number}")
 
-    def commit(self, cpu: int, thread: Thread) -> str:
-        """The refusal, or nothing. The count of posts is that of now, and no mask forbids a CPU."""
-        refusal = ""
-        if thread.phase != READY:
-            refusal = "NotReady"
-        elif thread.home != cpu:
-            refusal = "NotYours"
-        elif thread.cpu >= 0:
-            refusal = "Running"
-        elif self.cpus[cpu].thread is not None:
-            refusal = "Busy"
-        if self.ask("commit", f"commit {cpu} t{thread.name} {self.cpus[cpu].posts}", refusal):
-            thread.cpu = cpu
-            self.cpus[cpu].thread = thread
+    def commit(self, cpu: int, thread: Thread) -> bool:
+        """Whether it will be accepted. The count of posts is that of now, and no mask forbids a CPU."""
+        is_accepted = self.ask(f"commit {cpu} t{thread.name} {self.kernel.queues[cpu].posts}")
+        if is_accepted:
             self.timed.came(thread.name, self.tick)
-        return refusal
+        return is_accepted
 
     def text(self) -> str:
         """The whole script. Its limits are those of the first version where the threads are few enough."""
-        wide = self.threads > MOST_THREADS_BY_DEFAULT
+        threads, wide = len(self.pids), len(self.pids) > MOST_THREADS_BY_DEFAULT
         numbers = NUMBERS if wide else NUMBERS_BY_DEFAULT
         head = ["version 2"] if wide else []
-        head.append(f"enclave {len(self.cpus)} {max(self.threads, 1)} {numbers} {ROOM} {POSTS}")
+        head.append(f"enclave {self.kernel.cpus} {max(threads, 1)} {numbers} {ROOM} {POSTS}")
         return "".join(line + "\n" for line in [*head, *self.lines])
 
 
@@ -186,10 +139,10 @@ class Lives:
         self.ticks = 0
         self.left_out: Counter[str] = Counter()
 
-    def ran(self, thread: Thread, comm: str, cpu: int, word: str, ticks: int) -> None:
-        life = self.lives.get(thread.name)
+    def ran(self, name: int, title: str, cpu: int, word: str, ticks: int) -> None:
+        life = self.lives.get(name)
         if life is None:
-            life = self.lives[thread.name] = Life(f"t{thread.name} is {plain(comm)}, {thread.pid}", cpu)
+            life = self.lives[name] = Life(f"t{name} is {plain(title)}", cpu)
         life.mask |= 1 << cpu
         life.steps.append((word, ticks))
         self.runs += 1

@@ -1,18 +1,21 @@
-"""A second model of the kernel, its agents and what they tell each other, by the words of docs/FORMATS.md: it answers each line of a script.
+"""The model of the kernel, its agents and what they tell each other for all tools and tests, by the words of docs/FORMATS.md.
 
-It shares nothing with the program but the table of commands that this prints, so a new command is a line there and a method of `World` here.
+`Kernel` is what the kernel does, and can follow a script by its answers; `World` has what agents know too, and answers each line itself.
+It shares nothing with the program but the table of commands that this prints, so a new command is a line there and a method here.
 """
 from __future__ import annotations
 
 import functools
 import itertools
+import os
+import pathlib
 import re
+import shutil
+import subprocess
 from collections import Counter
 from collections.abc import Iterable, Iterator
 from dataclasses import dataclass, field, replace
 from typing import NamedTuple
-
-import rig
 
 BYTE, WORD32, WORD64 = 2**8 - 1, 2**32 - 1, 2**64 - 1
 # The greatest number of each word of the table. A thread is `t` and a number.
@@ -23,8 +26,13 @@ ORDERS = ("levels", "fifo", "least-ran", "levels-then-least-ran")
 LEAVES = {"block": "blocked", "yield": "ready", "preempt": "ready", "die": "dead"}
 OWN_OF_VERSION_3 = {"policy", "mend"}
 QUESTIONS = {"status", "asleep", "show", "same", "complete"}
+# What the kernel does whatever agents know, and answers by itself.
+FOLLOWED = {"create", "wake", *LEAVES, "affinity", "priority", "tick", "associate", "commit", "sleep", "rouse", "config", "crash"}
 # The greatest limits of the first version, and of the later ones.
 MOST = {"cpus": (64, 64), "threads": (4_096, 65_535), "numbers": (1_000_000, 16_000_000), "room": (65_536, 65_536), "posts": (WORD32, WORD32)}
+# What tells the tick of the commands behind it.
+TOLD_TICK = re.compile(r"# at (0|[1-9][0-9]*)")
+PLACED = re.compile(r"ok t(\d+) ([cq])(\d+)")
 Rank = tuple[int, int]
 Item = tuple[int, int]  # a thread, and the number of its message
 
@@ -32,10 +40,16 @@ Item = tuple[int, int]  # a thread, and the number of its message
 # Lines and words
 
 
+def program() -> str | None:
+    """The program that PC_SIM names, or the one that is built here, or the one that is installed."""
+    built = pathlib.Path(__file__).resolve().parent.parent / "crates/pc_sim/out/pc_sim"
+    return os.environ.get("PC_SIM") or (str(built) if built.exists() else shutil.which("pc-sim"))
+
+
 @functools.cache
 def forms() -> list[list[str]]:
     """The words of each command, one list for each way to write it, as the program's own table has them."""
-    told = rig.ask("session", given="?\n").stderr.splitlines()
+    told = subprocess.run([program() or "pc-sim", "session"], input="?\n", capture_output=True, text=True).stderr.splitlines()
     rows = [line.split() for line in told if re.fullmatch(r"[a-z]+(?: (?:[A-Z]+|[\w|-]*\|[\w|-]*|\[\w+\]))+", line)]
     made = []
     for row in rows:
@@ -74,6 +88,28 @@ def fields_of(words: list[str], version: int) -> list[int | str] | None:
     return None
 
 
+def is_asked(line: str) -> bool:
+    """Whether the line is a command, or a fault."""
+    return words_of(line.encode())[:1] not in ([], ["version"])
+
+
+def ticks_of(script: str) -> dict[int, int]:
+    """The tick of each command, by the number of its line; none where no line tells one above a command."""
+    ticks, tick, is_told, is_any = {}, 0, False, False
+    for number, line in enumerate(script.split("\n"), 1):
+        told = TOLD_TICK.fullmatch(line.removesuffix("\r"))
+        if told and int(told[1]) <= WORD64:
+            tick, is_told = max(tick, int(told[1])), True
+        elif is_asked(line):
+            ticks[number], is_any = tick, is_told
+    return ticks if is_any else {}
+
+
+def last_lines(output: str) -> list[str]:
+    """The last line of each answer: a view ends with `end`."""
+    return [line for line in output.splitlines() if not re.match(r"t\d+ upto ", line)]
+
+
 class Answered(NamedTuple):
     """A command of a script: the number of its line, its words, and the last line of its answer."""
 
@@ -84,7 +120,7 @@ class Answered(NamedTuple):
 
 def answered(script: str, output: str) -> Iterator[Answered]:
     """The commands that a replay answered so. A fault, and a line that names a version, is none."""
-    answers = (line for line in output.splitlines() if not re.match(r"t\d+ upto ", line))
+    answers = iter(last_lines(output))
     for number, line in enumerate(script.split("\n"), 1):
         words = words_of(line.encode())
         answer = next(answers, "fault line") if words else ""
@@ -97,7 +133,7 @@ def answered(script: str, output: str) -> Iterator[Answered]:
 # The model
 
 
-class Refused(Exception):
+class Refused(ValueError):
     """A command is refused: its text stands behind `refused`."""
 
 
@@ -123,6 +159,7 @@ class Report:
 class Thread:
     """A thread, as the kernel has it."""
 
+    name: int
     home: int
     reports: list[Report] = field(default_factory=list)  # behind each of its messages
     cpu: int | None = None
@@ -138,22 +175,21 @@ class Thread:
 
 @dataclass
 class Queue:
-    """A queue: its items, of which a tick is none; and the agent that a post wakes."""
+    """A queue: its items, of which a tick is none; the agent that a post wakes; and how many items its own agent has sent."""
 
     target: int | None
     items: list[Item | None] = field(default_factory=list)
     posts: int = 0
+    sent: int = 0
 
 
 @dataclass
 class Agent:
-    """An agent: which messages of each thread it knows, up to a number and early ones, its run list, and how much it sent of its queue."""
+    """An agent: which messages of each thread it knows, up to a number and early ones, and its run list."""
 
     upto: dict[int, int] = field(default_factory=dict)
     early: dict[int, set[int]] = field(default_factory=dict)
     names: list[int] = field(default_factory=list)
-    sent: int = 0
-    is_asleep: bool = False
 
     def learn(self, items: Iterable[Item]) -> None:
         for name, number in items:
@@ -173,22 +209,20 @@ class Agent:
 
 
 @dataclass
-class World:
-    """The kernel, its agents, and the deltas that they sent. A command is a method; `ask` has its answer."""
+class Kernel:
+    """Threads, queues, who runs where, and which agents sleep. A command is a method; `ask` has its answer."""
 
     cpus: int
     threads_most: int = 65_535
     numbers_most: int = 1_000_000
     room: int = 65_536
     posts_most: int = WORD32
-    order: str = "levels"
-    exact: bool = False
 
     def __post_init__(self) -> None:
         self.threads: list[Thread] = []
         self.queues = [Queue(cpu) for cpu in range(self.cpus)]
-        self.agents = [Agent() for _ in range(self.cpus)]
         self.running: list[int | None] = [None] * self.cpus
+        self.sleeps = [False] * self.cpus
         self.deltas: list[list[Item]] = []
         self.pending: Counter[int] = Counter()  # messages of each thread that stand in a queue
         self.had_event = False
@@ -228,11 +262,6 @@ class World:
         self.need(mask, "EmptyMask")
         self.need(mask < 1 << self.cpus, "MaskTooWide")
 
-    def policy(self, order: str, exact: str = "") -> str:
-        self.need(not self.had_event, "TooLate")
-        self.order, self.exact = order, bool(exact)
-        return "ok"
-
     # What the kernel reports
 
     def need_room(self, queue: int) -> None:
@@ -246,9 +275,9 @@ class World:
         it.posts += 1
         if item:
             self.pending[item[0]] += 1
-        woken = it.target if it.target is not None and self.agents[it.target].is_asleep else None
+        woken = it.target if it.target is not None and self.sleeps[it.target] else None
         if woken is not None:
-            self.agents[woken].is_asleep = False
+            self.sleeps[woken] = False
         subject = f"t{item[0]} n{item[1]}" if item else "-"
         return f"ok {subject} q{queue} a{it.posts} wake {'-' if woken is None else woken}"
 
@@ -264,7 +293,7 @@ class World:
         self.need_mask(mask)
         self.need(len(self.threads) < self.threads_most, "NamesSpent")
         self.need_room(queue)
-        self.threads.append(Thread(queue))
+        self.threads.append(Thread(len(self.threads), queue))
         return self.message(len(self.threads) - 1, Report(phase, mask))
 
     def wake(self, name: int) -> str:
@@ -321,24 +350,100 @@ class World:
         self.need(thread.cpu is None, f"Running {thread.cpu}")
         self.need(thread.now.may_run(cpu), "Forbidden")
         self.need(self.running[cpu] is None, "Busy")
-        self.running[cpu], thread.cpu = name, cpu
-        return f"ok t{name} c{cpu}"
+        return self.put_on(thread, cpu)
+
+    def put_on(self, thread: Thread, cpu: int) -> str:
+        self.running[cpu], thread.cpu = thread.name, cpu
+        return f"ok t{thread.name} c{cpu}"
 
     def sleep(self, cpu: int, aseq: int) -> str:
         self.need_cpus(cpu)
         self.need_posts(cpu, aseq)
-        self.agents[cpu].is_asleep = True
+        self.sleeps[cpu] = True
         return "ok"
 
     def rouse(self, cpu: int) -> str:
         self.need_cpus(cpu)
-        self.agents[cpu].is_asleep = False
+        self.sleeps[cpu] = False
         return "ok"
 
     def config(self, queue: int, target: int | str) -> str:
         self.need_cpus(queue, *([target] if isinstance(target, int) else []))
         self.queues[queue].target = target if isinstance(target, int) else None
         return self.rouse(target) if isinstance(target, int) else "ok"
+
+    # What agents send and remove
+
+    def publish(self, cpu: int, fails: str = "") -> str:
+        self.need_cpus(cpu)
+        self.need(not fails, "WireFault")
+        queue = self.queues[cpu]
+        queue.sent = len(queue.items)
+        self.deltas.append([item for item in queue.items if item])
+        return f"ok d{len(self.deltas) - 1} items {queue.sent}"
+
+    def consume(self, cpu: int) -> str:
+        self.need_cpus(cpu)
+        return self.remove(cpu, self.queues[cpu].sent)
+
+    def remove(self, cpu: int, count: int) -> str:
+        queue = self.queues[cpu]
+        queue.sent = 0
+        self.pending.subtract(item[0] for item in queue.items[:count] if item)
+        del queue.items[:count]
+        return f"ok {count}"
+
+    def crash(self, cpu: int) -> str:
+        self.need_cpus(cpu)
+        self.sleeps[cpu], self.queues[cpu].sent = False, 0
+        return "ok"
+
+    # Questions
+
+    def status(self, name: int) -> str:
+        thread = self.thread_at(name)
+        return f"t{name} n{thread.number} {thread.now.phase}" + ("" if thread.cpu is None else f" c{thread.cpu}")
+
+    def asleep(self, cpu: int) -> str:
+        self.need_cpus(cpu)
+        return "yes" if self.sleeps[cpu] else "no"
+
+    # A script by its answers
+
+    def follow(self, words: list[str], answer: str) -> None:
+        """Does what a command did that was answered so, whatever agents know. Raises ValueError where the kernel would not answer that."""
+        verb, placed = words[0], PLACED.fullmatch(answer)
+        if verb == "mend" and (placed or answer == "refused NothingReady"):
+            for cpu in range(self.cpus):
+                self.remove(cpu, len(self.queues[cpu].items))
+        if verb in ("pick", "steal", "mend"):
+            if placed:
+                thread, place = self.thread_at(int(placed[1])), int(placed[3])
+                self.need_cpus(place)
+                thread.home = place
+                if placed[2] == "c":
+                    self.put_on(thread, place)
+        elif verb == "consume" and answer.startswith("ok "):
+            self.remove(int(words[1]), int(answer.split()[1]))
+        elif verb in FOLLOWED and self.say(" ".join(words)) != answer:
+            raise ValueError(answer)
+
+
+@dataclass
+class World(Kernel):
+    """The kernel, its agents, and what they know by the deltas that they sent."""
+
+    order: str = "levels"
+    exact: bool = False
+
+    def __post_init__(self) -> None:
+        super().__post_init__()
+        self.agents = [Agent() for _ in range(self.cpus)]
+
+    def policy(self, order: str, exact: str = "") -> str:
+        self.need(not self.had_event, "TooLate")
+        self.order, self.exact = order, bool(exact)
+        return "ok"
 
     # What agents know, and tell each other
 
@@ -352,23 +457,12 @@ class World:
 
     def publish(self, cpu: int, fails: str = "") -> str:
         self.need_cpus(cpu)
-        agent, items = self.agents[cpu], self.queues[cpu].items
-        messages = [item for item in items if item]
+        agent, messages = self.agents[cpu], [item for item in self.queues[cpu].items if item]
         agent.learn(messages)
         told = {name: self.reported(cpu, name) for name in [*agent.names, *(name for name, _ in messages)]}
         able = {name: report.rank(self.order) for name, report in told.items() if report and report.may_run(cpu)}
         agent.names = sorted(able, key=able.__getitem__)
-        self.need(not fails, "WireFault")
-        agent.sent = len(items)
-        self.deltas.append(messages)
-        return f"ok d{len(self.deltas) - 1} items {agent.sent}"
-
-    def consume(self, cpu: int) -> str:
-        self.need_cpus(cpu)
-        count, self.agents[cpu].sent = self.agents[cpu].sent, 0
-        self.pending.subtract(item[0] for item in self.queues[cpu].items[:count] if item)
-        del self.queues[cpu].items[:count]
-        return f"ok {count}"
+        return super().publish(cpu, fails)
 
     def deliver(self, cpu: int, delta: int) -> str:
         self.need_cpus(cpu)
@@ -437,9 +531,9 @@ class World:
         return answer
 
     def crash(self, cpu: int) -> str:
-        self.need_cpus(cpu)
+        answer = super().crash(cpu)
         self.agents[cpu] = Agent()
-        return "ok"
+        return answer
 
     def mend(self, cpu: int) -> str:
         """All queues are cleared, the agent takes all in, and picks; where nothing is ready then, it steals and picks."""
@@ -457,14 +551,6 @@ class World:
         return answer
 
     # Questions
-
-    def status(self, name: int) -> str:
-        thread = self.thread_at(name)
-        return f"t{name} n{thread.number} {thread.now.phase}" + ("" if thread.cpu is None else f" c{thread.cpu}")
-
-    def asleep(self, cpu: int) -> str:
-        self.need_cpus(cpu)
-        return "yes" if self.agents[cpu].is_asleep else "no"
 
     def show(self, cpu: int) -> str:
         self.need_cpus(cpu)
