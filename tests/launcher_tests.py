@@ -30,7 +30,7 @@ right: low   # beside left
 pc_sim: left right clap
 """
 TOOLS = "awk bash cat chmod cmp cp date dirname env find flock head mkdir mktemp mv python3 readlink rm seq sha256sum sleep sort tail tee touch uname xargs xz".split()
-SECONDS = 30
+SECONDS = 60
 STAND_IN, PROGRAM = ((ROOT / "tests/launcher" / name).read_text() for name in ("rt", "program"))
 IS_RELEASED = "pc-sim: the program of release/ was built and proved from exactly these sources; ./test proves them anew\n"
 Ended = tuple[int, str, str]
