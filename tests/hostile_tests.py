@@ -26,82 +26,14 @@ import subjects  # noqa: E402
 import worst  # noqa: E402
 from machine import Machine, NoCompiler, Subject, Tally, build  # noqa: E402
 
-# Reads a text, makes a growth for each of its lines, and answers each `ok`. What it does in a wrong way is chosen when it is compiled.
-STAND_IN = r"""
-#include <stdio.h>
-#include <stdlib.h>
-#include <string.h>
-#include <unistd.h>
-
-static void put(const char *text, size_t size) {
-    while (size > 0) {
-        ssize_t moved = write(1, text, size);
-#ifdef LOSES_WRITES
-        if (moved < 0) return;
-#endif
-        if (moved < 0 && errno_is_interrupted()) continue;
-        if (moved <= 0) { (void)!write(2, "pc-sim: cannot read\n", 20); _exit(1); }
-        text += moved, size -= moved;
-    }
-}
-
-int main(int count, char **words) {
-    static char text[1 << 20];
-    size_t length = 0;
-    ssize_t got;
-    if (count > 2 && freopen(words[2], "r", stdin) == NULL) return 1;
-    while ((got = read(0, text + length, sizeof text - length)) != 0) {
-        if (got < 0) {
-#ifdef LOSES_READS
-            break;
-#endif
-            (void)!write(2, "pc-sim: cannot read\n", 20);
-            return 1;
-        }
-        length += got;
-    }
-    for (char *line = text; line < text + length; line = strchr(line, '\n') + 1) {
-        char *grown = malloc(100);
-#ifdef CRASHES
-        grown[0] = 'o';
-#endif
-#ifdef HANGS
-        while (grown == NULL) pause();
-#endif
-        if (grown == NULL) {
-#ifdef IGNORES
-            continue;
-#endif
-#ifdef HALF_A_LINE
-            put("o", 1);
-#endif
-#ifdef SAYS_NOTHING
-            return 4;
-#endif
-            (void)!write(2, "pc-sim: out of memory\n", 22);
-            return 4;
-        }
-#ifdef ANSWERS_OTHERWISE
-        put("what?\n", 6);
-#else
-        put("ok\n", 3);
-#endif
-#ifdef TAKES_MUCH
-        if (malloc(200 << 20) == NULL) { (void)!write(2, "pc-sim: out of memory\n", 22); return 4; }
-#endif
-    }
-    return 0;
-}
-"""
-HEAD = "#include <errno.h>\nstatic int errno_is_interrupted(void) { return errno == EINTR; }\n"
+# Answers each line `ok`, in a right way, and in wrong ones.
+STAND_IN = ROOT / "tests/hostile/stand_in.c"
 TEXT = b"rouse 0\n" * 5
 
 
 @functools.cache
 def folder():
-    made = rig.lasting_folder()
-    (made / "stand-in.c").write_text(HEAD + STAND_IN)
-    return made
+    return rig.lasting_folder()
 
 
 def five():
@@ -113,7 +45,7 @@ def five():
 def machine(fault=None):
     program = folder() / (fault or "right")
     if not program.exists():
-        build(folder() / "stand-in.c", program, "-w", *([f"-D{fault}"] if fault else []))
+        build(STAND_IN, program, "-w", *([f"-D{fault}"] if fault else []))
     return Machine(program, folder())
 
 
@@ -223,7 +155,7 @@ def test_the_worst_loads_are_no_longer_than_they_may_be():
 def test_what_is_not_there():
     with unittest.mock.patch("machine.shutil.which", return_value=None):
         with rig.raises_text(NoCompiler, "none of cc"):
-            build(folder() / "stand-in.c", folder() / "none")
+            build(STAND_IN, folder() / "none")
     for words, said in [
         (["--program", "nowhere/pc_sim", "--part", "scripts"], "pc_sim: "),
         (["--program", str(machine().program), "--part", "scripts", "--only", "no such run"], "no run is named"),
