@@ -10,14 +10,10 @@ from kernel import ORDERS
 LEAVES = ("yield", "block", "preempt")
 
 
-class Raw(str):
-    """A value that is written as it stands."""
-
-
 def spelled(value: object) -> str:
     if isinstance(value, (list, tuple)):
         return "[" + ", ".join(map(spelled, value)) + "]"
-    return str(value) if isinstance(value, Raw) else json.dumps(value)
+    return json.dumps(value)
 
 
 def table(kind: str, /, **keys: object) -> str:

@@ -72,6 +72,7 @@ def parts_of(machine, tally, options):
 def use(program, options):
     """Uses one program, and answers what came of it."""
     rig.program = program
+    os.environ["PC_SIM"] = str(program)
     form = "--short " if options.short else ""
     repeat = f"python3 tests/hostile/hostile.py {form}--program {shlex.quote(str(program))}"
     tally = Tally(repeat, options.only, options.jobs)

@@ -1,4 +1,4 @@
-"""Settings of `pc-sim run`: rows with what they print, malformed ones, deep ones, and some drawn at random; growths refused in turn."""
+"""Settings of `pc-sim run`: rows with what they print, malformed ones (texts.toml has both), deep ones, and some drawn at random."""
 import pathlib
 import random
 import re
@@ -8,7 +8,7 @@ from fuzz import SEED
 from growths import LAST, OUT_OF_MEMORY, fault_of_ample
 from machine import SECONDS as MOST_SECONDS
 from machine import Subject, told
-from tables import Raw, drawn_steps, restart, thread
+from tables import drawn_steps, restart, thread
 
 # A run that may wait forever, as where a growth was refused, is ended after so many seconds. Others have as long as any run.
 SECONDS = 5
@@ -26,79 +26,17 @@ def totals(threads, messages, commits, ran):
     return f"threads {threads}\nmessages {messages}\ncommits {commits}\nran {ran}\n"
 
 
-ONE = thread(0, 3, "yield 2", "block 3", "die 1")
-ONE_TOTALS = totals(1, 5, 3, 6)
+TEXTS = tomllib.loads((pathlib.Path(__file__).parent / "texts.toml").read_text())
 # What runs print, whatever the schedule.
-ROWS = {
-    "one thread": ("cpus = 2\n" + ONE, ONE_TOTALS),
-    "no thread": ("cpus = 2\n", totals(0, 0, 0, 0)),
-    "one CPU": ("cpus = 1\n" + thread(0, 1, "yield 1", "die 2"), totals(1, 3, 2, 3)),
-    "three threads": (
-        "cpus = 2\n" + thread(0, 1, "yield 1", "die 1") + thread(1, 2, "block 2", "die 2") + thread(0, 3, "preempt 4", "die 5"),
-        totals(3, 10, 6, 15)),
-    "a restart": ("cpus = 2\n" + ONE + restart(0, 2), ONE_TOTALS),
-    "another restart": ("cpus = 2\n" + ONE + restart(1, 1), ONE_TOTALS),
-    "a thread taken back": ("cpus = 2\n" + thread(0, 1, "yield 2", "die 1") * 2 + restart(0, 2), totals(2, 6, 4, 6)),
-    "16 CPUs": ("cpus = 16\n" + thread(15, 2**16 - 1, "block 1", "preempt 1", "die 1") * 2, totals(2, 10, 6, 6)),
-    "64 CPUs": ("cpus = 64\n", totals(0, 0, 0, 0)),
-}
+ROWS = {name: (row["settings"], totals(*row["totals"])) for name, row in TEXTS["rows"].items()}
 # Of these the calls are written as a script, too.
 SCRIPTED = ("one thread", "a restart")
 # Each fault, alone: what is told of it, or None where the text cannot be read at all.
-FAULTS = {
-    "no TOML": ("cpus =\n", "NotToml"),
-    "a key that is there twice": ("cpus = 1\ncpus = 1\n", "NotToml"),
-    "a text without its end": ('cpus = 1\na = "b\n', "NotToml"),
-    "a byte that stands in no text": ("cpus = 1\n\0", "NotToml"),
+FAULTS = {name: (text, fault) for fault, rows in TEXTS["faults"].items() for name, text in rows.items()} | {
     "bytes that are no text": (b"cpus = 1\n# \xff\xfe\n", None),
     "a text that is too long": ("#" * (2**20 + 1), None),
-    "no key": ("", "BadField"),
-    "a text for a number": ('cpus = "2"\n', "BadField"),
-    "a fraction for a number": ("cpus = 2.0\n", "BadField"),
-    "a table for threads": ("cpus = 2\n[thread]\nqueue = 0\n", "BadField"),
-    "numbers for threads": ("cpus = 2\nthread = [1]\n", "BadField"),
-    "a thread without a queue": ('cpus = 2\n[[thread]]\nmask = 3\nsteps = ["die 1"]\n', "BadField"),
-    "a text for a queue": ('cpus = 2\n[[thread]]\nqueue = "0"\nmask = 3\nsteps = ["die 1"]\n', "BadField"),
-    "a thread without a mask": ('cpus = 2\n[[thread]]\nqueue = 0\nsteps = ["die 1"]\n', "BadField"),
-    "a list for a mask": ('cpus = 2\n[[thread]]\nqueue = 0\nmask = [3]\nsteps = ["die 1"]\n', "BadField"),
-    "a thread without steps": ("cpus = 2\n[[thread]]\nqueue = 0\nmask = 3\n", "BadField"),
-    "a text for steps": ('cpus = 2\n[[thread]]\nqueue = 0\nmask = 3\nsteps = "die 1"\n', "BadField"),
-    "steps that are no texts": ("cpus = 2\n[[thread]]\nqueue = 0\nmask = 3\nsteps = [1]\n", "BadField"),
-    "a table for restarts": ("cpus = 2\n[restart]\ncpu = 0\nturn = 1\n", "BadField"),
-    "texts for restarts": ('cpus = 2\nrestart = ["a"]\n', "BadField"),
-    "a restart without a CPU": ("cpus = 2\n[[restart]]\nturn = 1\n", "BadField"),
-    "a truth for a CPU": ("cpus = 2\n" + restart(True, 1), "BadField"),
-    "a restart without a turn": ("cpus = 2\n[[restart]]\ncpu = 0\n", "BadField"),
-    "a day for a turn": ("cpus = 2\n" + restart(0, Raw("1979-05-27")), "BadField"),
-    "a step without a number": ("cpus = 2\n" + thread(0, 3, "yield"), "BadStep"),
-    "a step without a word": ("cpus = 2\n" + thread(0, 3, ""), "BadStep"),
-    "a step by another word": ("cpus = 2\n" + thread(0, 3, "sleep 1"), "BadStep"),
-    "a step in capitals": ("cpus = 2\n" + thread(0, 3, "DIE 1"), "BadStep"),
-    "a step with two spaces": ("cpus = 2\n" + thread(0, 3, "die  1"), "BadStep"),
-    "a step with a space behind": ("cpus = 2\n" + thread(0, 3, "die 1 "), "BadStep"),
-    "a step with a number past its type": ("cpus = 2\n" + thread(0, 3, "die 4294967296"), "BadStep"),
-    "a step with a leading zero": ("cpus = 2\n" + thread(0, 3, "die 01"), "BadStep"),
-    "a step with a sign": ("cpus = 2\n" + thread(0, 3, "die +1"), "BadStep"),
-    "none of a CPU": ("cpus = 0\n", "BadCpus"),
-    "65 CPUs": ("cpus = 65\n", "BadCpus"),
-    "fewer CPUs than none": ("cpus = -1\n", "BadCpus"),
-    "as many CPUs as can be written": (f"cpus = {2**63 - 1}\n", "BadCpus"),
     "4,097 threads": ("cpus = 2\n" + thread(0, 3, "die 1") * 4097, "TooManyThreads"),
-    "steps that do not die": ("cpus = 2\n" + thread(0, 3, "yield 1"), "BadThread"),
-    "steps that die early": ("cpus = 2\n" + thread(0, 3, "die 1", "die 1"), "BadThread"),
-    "no steps": ("cpus = 2\n" + thread(0, 3), "BadThread"),
     "1,001 steps": ("cpus = 2\n" + thread(0, 3, *["yield 1"] * 1000, "die 1"), "BadThread"),
-    "a mask that is too wide": ("cpus = 2\n" + thread(0, 4, "die 1"), "BadThread"),
-    "an empty mask": ("cpus = 2\n" + thread(0, 0, "die 1"), "BadThread"),
-    "a mask below none": ("cpus = 2\n" + thread(0, -1, "die 1"), "BadThread"),
-    "a queue that is not there": ("cpus = 2\n" + thread(2, 3, "die 1"), "BadThread"),
-    "a queue below the first": ("cpus = 2\n" + thread(-1, 3, "die 1"), "BadThread"),
-    "a queue past a byte": ("cpus = 2\n" + thread(256, 3, "die 1"), "BadThread"),
-    "a restart of a CPU that is not there": ("cpus = 2\n" + ONE + restart(2, 2), "BadRestart"),
-    "a restart of a CPU past a byte": ("cpus = 2\n" + restart(256, 2), "BadRestart"),
-    "a restart of a lone agent": ("cpus = 1\n" + thread(0, 1, "die 1") + restart(0, 1), "BadRestart"),
-    "a restart before no turn": ("cpus = 2\n" + restart(0, 0), "BadRestart"),
-    "a restart before a turn past the last": ("cpus = 2\n" + restart(0, 1_000_001), "BadRestart"),
     "65 restarts": ("cpus = 2\n" + restart(0, 1) * 65, "BadRestart"),
 }
 # What nests: each reader of TOML ends somewhere. None may end by a signal, whatever it answers.

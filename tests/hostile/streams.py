@@ -7,7 +7,7 @@ import subprocess
 
 from loads import streamed
 from machine import SECONDS, Run, Subject, ended, ending_of, told
-from settings import ONE_TOTALS, ROWS, written
+from settings import ROWS, written
 from subjects import OPENING, examples, variants
 
 CANNOT_READ = b"pc-sim: cannot read\n"
@@ -39,10 +39,10 @@ def subjects(folder):
 
 def settings(folder):
     """Settings by their name and on the standard input, some that take several reads, and some with a fault."""
-    accepted = ROWS["one thread"][0]
+    accepted, totals = ROWS["one thread"]
     texts = {
-        "short": (accepted, ONE_TOTALS.encode(), b"", 0),
-        "long": ("#" * 20_000 + "\n" + accepted, ONE_TOTALS.encode(), b"", 0),
+        "short": (accepted, totals.encode(), b"", 0),
+        "long": ("#" * 20_000 + "\n" + accepted, totals.encode(), b"", 0),
         "faulty": ("cpus = 0\n", b"", b"pc-sim: settings BadCpus\n", 1),
     }
     for name, (text, out, err, status) in texts.items():

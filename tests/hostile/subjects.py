@@ -6,7 +6,7 @@ import sys
 
 from machine import HERE, ROOT, Subject, ending_of
 from run_cases import Case, all_cases
-from settings import faulty
+from settings import TEXTS, faulty
 
 GENERATED = ["first-run", "kernel-calls", "late", "late-batches", "scattered", "answer-half", "rounds", "steals", "day", "restarts"]
 NO_COMMAND = b"pc-sim: bad command line\n"
@@ -15,25 +15,11 @@ ENDS_THERE = b"pc-sim: a line of the script is no command, and the picture ends 
 # Of a script.
 MOST_BYTES = 16 * 2**20
 OPENING = b"enclave 2 8 100 16 1000\n"
-# Malformed texts of each kind, and the whole answer: a word of another type, one too many, none, a number past its type, no text at all.
-MALFORMED = {
-    "a-word-that-is-none": (b"frobnicate\n", b"fault line 1\n"),
-    "a-number-past-a-byte": (b"enclave 256 1 1 1 1\n", b"fault line 1\n"),
-    "a-leading-zero": (b"enclave 02 8 100 16 1000\n", b"fault line 1\n"),
-    "a-capital-letter": (OPENING + b"create 0 3 Ready\n", b"ok\nfault line 2\n"),
-    "a-word-too-many": (OPENING + b"tick 0 0\n", b"ok\nfault line 2\n"),
-    "a-word-too-few": (OPENING + b"tick\n", b"ok\nfault line 2\n"),
-    "a-thread-with-a-leading-zero": (OPENING + b"wake t01\n", b"ok\nfault line 2\n"),
-    "a-comment-after-a-space": (OPENING + b" # x\n", b"ok\nfault line 2\n"),
-    "a-cpu-past-a-byte": (OPENING + b"tick 255\ntick 256\n", b"ok\nrefused BadCpu\nfault line 3\n"),
-    "a-delta-past-64-bits": (
-        OPENING + b"deliver 0 18446744073709551615\ndeliver 0 18446744073709551616\n", b"ok\nrefused NoDelta\nfault line 3\n"),
-    "a-version-that-is-not-first": (OPENING + b"version 2\n", b"ok\nfault line 2\n"),
-    "bytes-that-are-no-text": (OPENING + b"\xff\xfe\x00\x80\n", b"ok\nfault line 2\n"),
-    "a-line-of-100000-bytes": (OPENING + b"x" * 100000, b"ok\nfault line 2\n"),
-    "a-line-of-50000-words": (OPENING + b"1 " * 50000, b"ok\nfault line 2\n"),
-    "a-number-of-100000-digits": (OPENING + b"tick " + b"1" * 100000 + b"\n", b"ok\nfault line 2\n"),
-    "silence": (b"\n# x\n  \r\n", b""),
+# Malformed texts, and what is answered to each: those of texts.toml, and the longest.
+MALFORMED = {name: tuple(it.encode("latin-1") for it in row) for name, row in TEXTS["malformed"].items()} | {
+    "a-line-of-100000-bytes": (OPENING + b"x" * 100_000, b"ok\nfault line 2\n"),
+    "a-line-of-50000-words": (OPENING + b"1 " * 50_000, b"ok\nfault line 2\n"),
+    "a-number-of-100000-digits": (OPENING + b"tick " + b"1" * 100_000 + b"\n", b"ok\nfault line 2\n"),
 }
 
 
@@ -92,64 +78,16 @@ def greatest(folder):
     yield Subject("the most words", ["replay", str(file)], out=b"ok\nfault line 2\n", status=1)
 
 
-# What is told on standard output, in words that are not fixed.
-TOLD = {
-    "help": ["--help"],
-    "help in short": ["-h"],
-    "help of replay": ["replay", "--help"],
-    "help of explain": ["explain", "--help"],
-    "help of draw": ["draw", "--help"],
-    "help of run": ["run", "--help"],
-    "help of session": ["session", "--help"],
-    "help of lab": ["lab", "--help"],
-    "help of run in short": ["run", "-h"],
-    "version": ["--version"],
-    "version in short": ["-V"],
-}
-# Words that are no command, and commands whose file is not there.
-WORDS = {
-    "no words": [],
-    "an unknown word": ["frobnicate"],
-    "an empty word": [""],
-    "a word of 100,000 bytes": ["x" * 100_000],
-    "a word that is no text": [b"\xff\xfe"],
-    "the command help": ["help"],
-    "an unknown flag": ["--fast"],
-    "an unknown letter": ["-x"],
-    "an unknown flag of replay": ["replay", "--fast"],
-    "an unknown flag of explain": ["explain", "--per-cpu"],
-    "an unknown flag of draw": ["draw", "--per-cpu"],
-    "an unknown flag of run": ["run", "--per-thread"],
-    "an unknown flag of session": ["session", "--per-cpu"],
-    "an unknown flag of lab": ["lab", "--check"],
-    "the version of a command": ["replay", "--version"],
-    "two files": ["replay", "a", "b"],
-    "two files of run": ["run", "a", "b"],
-    "a flag of the other command": ["replay", "--per-cpu"],
-    "a flag of the lab": ["draw", "--picture"],
-    "a flag before its command": ["--per-cpu", "run"],
-    "a flag twice": ["run", "--draw", "--draw"],
-    "a limit that is no number": ["run", "--limit", "soon"],
-    "a script without a name": ["run", "--script"],
-    "a variant without a name": ["lab", "--script"],
-    "two loads": ["lab", "a", "b"],
-    "a policy that is none": ["run", "--policy", "fastest"],
-    "numbers that are none": ["draw", "--cpus", "7-3"],
-    "a flag with a value": ["run", "--per-cpu=yes"],
-    "a file that is no text": ["replay", b"\xff\xfe"],
-}
-FILES = {
-    "a file without a name": ["replay", ""],
-    "a file without a name to explain": ["explain", ""],
-    "a file without a name to draw": ["draw", ""],
-    "settings without a name": ["run", ""],
-    "a file without a name to a session": ["session", ""],
-    "a load without a name": ["lab", ""],
-    "a name of 100,000 bytes": ["replay", "x" * 100_000],
-    "settings by a name of 100,000 bytes": ["run", "x" * 100_000],
-    "a file whose name looks like a flag": ["replay", "--", "--fast"],
-    "settings whose name looks like a flag": ["run", "--", "--per-cpu"],
-}
+def words_of(head, **more):
+    """Lists of words by their names. One that is no ASCII is meant in bytes."""
+    return {name: [it if it.isascii() else it.encode("latin-1") for it in words] for name, words in TEXTS[head].items()} | more
+
+
+TOLD = words_of("told")
+WORDS = words_of("words", **{"a word of 100,000 bytes": ["x" * 100_000]})
+FILES = words_of("files", **{
+    "a name of 100,000 bytes": ["replay", "x" * 100_000], "settings by a name of 100,000 bytes": ["run", "x" * 100_000],
+})
 
 
 def command_lines():
