@@ -11,6 +11,7 @@ import doctest
 import inspect
 import io
 import os
+import re
 import shutil
 import signal
 import sys
@@ -26,172 +27,30 @@ sys.path.insert(0, str(CLIENT / "src"))
 os.environ["PYTHONPATH"] = str(CLIENT / "src")
 
 import nimhessian  # noqa: E402
-from nimhessian import (  # noqa: E402
-    BadCpu, BadLimits, Busy, Dead, Died, EmptyMask, Fault, Known, NotBlocked, NotYours, Phase, Placed, Posted,
-    Published, Refused, Running, Stale, Status, TooLate, World, commands,
-)
+from nimhessian import Died, Posted, Refused, World, commands  # noqa: E402
 
 
-def met(error: Refused) -> tuple[object, ...]:
-    """The class of a refusal, and its argument."""
-    return (type(error), *(value for name, value in vars(error).items() if name != "command"))
-
-
-# Each command by hand: what it is answered, and each kind of refusal
-
-
-def test_a_thread_from_its_creation_to_its_death():
-    with World(cpus=2, threads=2) as world:
-        same(world.create(0, 3, blocked=True), Posted(0, 1, 0, 1, None))
-        same(world.wake(0), Posted(0, 2, 0, 2, None))
-        same(world.publish(0), Published(0, 2))
-        same(world.consume(0), 2)
-        same(world.pick(0, 2), Placed(0, 0))
-        same(world.status(0), Status(0, 2, Phase.READY, 0))
-        same(world.yield_(0, 4), Posted(0, 3, 0, 3, None))
-        same(world.commit(0, 0, 3), Placed(0, 0))
-        same(world.block(0, 1), Posted(0, 4, 0, 4, None))
-        same(world.status(0), Status(0, 4, Phase.BLOCKED, None))
-        same(world.wake(0), Posted(0, 5, 0, 5, None))
-        same(world.priority(0, 7), Posted(0, 6, 0, 6, None))
-        same(world.affinity(0, 1), Posted(0, 7, 0, 7, None))
-        same(world.commit(0, 0, 7), Placed(0, 0))
-        same(world.preempt(0, 2), Posted(0, 8, 0, 8, None))
-        same(world.commit(0, 0, 8), Placed(0, 0))
-        same(world.die(0, 3), Posted(0, 9, 0, 9, None))
-        same(world.status(0), Status(0, 9, Phase.DEAD, None))
-
-
-def test_what_agents_know():
-    with World(cpus=2) as world:
-        world.create(0, 3)
-        same(world.tick(0), Posted(None, None, 0, 2, None))
-        same((world.publish(0), world.show(1)), (Published(0, 2), {}))
-        same(world.show(0), {0: Known(1, Phase.READY, 3, 0, 0, ())})
-        same((world.same(0, 1), world.complete(0, 0), world.complete(1, 0)), (False, True, False))
-        assert world.deliver(1, 0) is None
-        same((world.same(0, 1), world.complete(1, 0)), (True, True))
-        same(world.answer(0, 1), 1)
-        world.consume(0)
-        same(world.steal(1), Placed(0, 1))
-        same(world.pick(1, 0), Placed(0, 1))
-        assert world.crash(1) is None
-        same(world.show(1), {})
-
-
-def test_messages_that_came_early_are_shown():
-    with World(cpus=2) as world:
-        world.create(0, 3)
-        world.publish(0)
-        world.consume(0)
-        world.priority(0, 3)
-        world.publish(0)
-        world.consume(0)
-        world.priority(0, 5)
-        world.publish(0)
-        world.deliver(1, 2)
-        same(world.show(1), {0: Known(0, None, None, None, None, (3,))})
-        world.deliver(1, 0)
-        same(world.show(1), {0: Known(1, Phase.READY, 3, 0, 0, (3,))})
-        world.deliver(1, 1)
-        same(world.show(1), {0: Known(3, Phase.READY, 3, 0, 5, ())})
-
-
-def test_agents_that_sleep():
-    with World(cpus=2) as world:
-        assert not world.asleep(0)
-        assert world.sleep(0, 0) is None
-        assert world.asleep(0)
-        same(world.tick(0), Posted(None, None, 0, 1, 0))
-        assert world.sleep(1, 0) is None
-        assert world.rouse(1) is None
-        assert not world.asleep(1)
-        assert world.config(0, None) is None
-        assert world.config(0, 1) is None
-
-
-def test_a_policy():
-    with World(cpus=1, policy="least-ran", exact=True) as world:
-        world.tick(0)
-        with raises(TooLate):
-            world.policy("fifo")
-
-
-def refused(world: World, command: commands.Command[object], *wanted: object) -> None:
+def refusal(world: World, command: commands.Command[object]) -> str:
+    """The refusal of a command: its class, its argument, and the command."""
     with raises(Refused, msg=command.line) as raised:
         world.ask(command)
-    same(met(raised.exception), wanted, command.line)
     same(raised.exception.command, command.line)
+    return str(raised.exception)
 
 
-def test_refusals_tell_their_argument():
-    with World(cpus=2, threads=2) as world:
-        world.create(0, 1)
-        world.create(0, 3)
-        refused(world, commands.create(2, 1), BadCpu)
-        refused(world, commands.create(0, 0), EmptyMask)
-        refused(world, commands.wake(0), NotBlocked)
-        refused(world, commands.commit(0, 0, 1), Stale, 2)
-        refused(world, commands.commit(1, 1, 0), NotYours, 0)
-        world.commit(0, 0, 2)
-        refused(world, commands.commit(0, 1, 2), Busy)
-        refused(world, commands.associate(0, 1, 1), nimhessian.Pending)
-        world.publish(0)
-        world.consume(0)
-        refused(world, commands.associate(0, 1, 1), Running, 0)
-        world.die(0, 1)
-        refused(world, commands.wake(0), Dead)
-        refused(world, commands.publish_fail(1), nimhessian.WireFault)
-        refused(world, commands.deliver(1, 9), nimhessian.NoDelta)
-        refused(world, commands.create(0, 1), nimhessian.NamesSpent)
+def sessions() -> dict[str, tuple[str]]:
+    """The parts of tests/client_session.txt, by their first lines."""
+    parts = re.split(r"^(?=\S.*\.\n\n)", (ROOT / "tests/client_session.txt").read_text(), flags=re.M)
+    return {part.partition(".\n")[0]: (part,) for part in parts if ">>>" in part}
 
 
-def test_further_refusals():
-    with World(cpus=2, threads=3, numbers=3, room=4, posts=5) as world:
-        world.create(0, 1)
-        world.create(0, 3, blocked=True)
-        refused(world, commands.create(0, 4), nimhessian.MaskTooWide)
-        refused(world, commands.wake(9), nimhessian.UnknownThread)
-        refused(world, commands.block(0, 1), nimhessian.IdleCpu)
-        refused(world, commands.priority(0, 8), nimhessian.BadLevel)
-        refused(world, commands.commit(0, 1, 2), nimhessian.NotReady)
-        refused(world, commands.steal(1), nimhessian.NothingToSteal)
-        refused(world, commands.pick(1, 0), nimhessian.NothingReady)
-        refused(world, commands.mend(2), BadCpu)
-        world.commit(0, 0, 2)
-        refused(world, commands.mend(0), Busy)
-        refused(world, commands.affinity(0, 2), nimhessian.OnForbiddenCpu)
-        refused(world, commands.mend(1), nimhessian.NothingReady)
-        world.wake(1)
-        same(world.mend(1), Placed(1, 1))
-        world.priority(1, 2)
-        refused(world, commands.priority(1, 3), nimhessian.NumbersSpent)
-        refused(world, commands.policy("fifo"), TooLate)
-    with World(cpus=2, room=1) as world:
-        world.create(0, 1)
-        refused(world, commands.tick(0), nimhessian.QueueFull)
-        world.publish(0)
-        world.consume(0)
-        same(world.associate(0, 1, 1), Placed(0, 1))
-        refused(world, commands.commit(1, 0, 0), nimhessian.Forbidden)
-        refused(world, commands.Command("enclave 1 1 1 1 1", len), nimhessian.HaveEnclave)
-    with World(cpus=1, posts=1) as world:
-        world.tick(0)
-        refused(world, commands.tick(0), nimhessian.PostsSpent)
-
-
-def test_limits_that_are_out_of_range():
-    with raises(BadLimits) as raised:
-        World(cpus=1, room=0)
-    same(raised.exception.limit, "room")
-
-
-def test_a_fault_changes_nothing():
-    with World(cpus=1) as world:
-        with raises(Fault) as raised:
-            world.create(256, 1)
-        same((raised.exception.line, raised.exception.command), (3, "create 256 1 ready"))
-        same(world.create(0, 1), Posted(0, 1, 0, 1, None))
+@rig.each(sessions())
+def test_session(text: str) -> None:
+    names = {**vars(nimhessian), "commands": commands, "refusal": refusal}
+    told = io.StringIO()
+    tried = doctest.DocTestRunner().run(
+        doctest.DocTestParser().get_doctest(text, names, "session", "client_session.txt", 0), out=told.write)
+    assert tried.attempted and not tried.failed, told.getvalue()
 
 
 def makers() -> dict[str, Any]:
@@ -226,7 +85,7 @@ def test_answers_stand_in_order():
         posts = [Posted(place, 1, 0, place + 1, None) for place in range(3000)]
         same([answer.get() for answer in made], posts)
         same(shown.get(), {})
-        same(met(wrong.either()), (nimhessian.UnknownThread,))
+        same(str(wrong.either()), "UnknownThread: wake t3000")
         same(last.get().aseq, 3001)
 
 
@@ -239,17 +98,6 @@ def test_views_in_a_batch_that_is_larger_than_a_pipe():
         with world.batch() as batch:
             shown = [batch.show(0) for _ in range(40)]
         same({len(answer.get()) for answer in shown}, {4096})
-
-
-def test_a_batch_that_is_entered_again_sends_what_is_new():
-    with World(cpus=1) as world:
-        batch = world.batch()
-        with batch:
-            first = batch.create(0, 1)
-        with batch:
-            second = batch.tick(0)
-        same((first.get().aseq, second.get().aseq), (1, 2))
-        same(world.tick(0).aseq, 3)
 
 
 def test_each_command_is_a_method_of_both():
@@ -327,26 +175,6 @@ def test_an_answer_that_was_not_waited_for_is_no_other_ones():
         for ask in (lambda: world.create(0, 1), lambda: world.tick(0)):
             with raises(nimhessian.Lost):
                 ask()
-
-
-def test_a_closed_world_says_so():
-    with World(cpus=1) as world:
-        pass
-    with raises(nimhessian.Lost):
-        world.tick(0)
-
-
-def test_a_command_is_one_line():
-    with World(cpus=1) as world:
-        with raises(ValueError):
-            world.policy("fifo\nrouse 0")
-        same(world.tick(0).aseq, 1)
-
-
-def test_an_answer_of_another_version_is_misread():
-    with World(cpus=1) as world:
-        with raises(nimhessian.Misread):
-            world.ask(commands.Command("tick 0", commands.deliver(0, 0).read))
 
 
 def test_the_program_ends_with_the_world():
