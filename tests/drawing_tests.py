@@ -13,7 +13,7 @@ from collections import Counter
 
 import rig
 import timed_drawings
-from kernel import answered
+from kernel import answered, ticks_of
 from pictures import (
     ENCLAVE, LEFT, MOST_SINGLE, ROWS, SCRIPTS, SETTINGS, SHAPES, SINGLE_WORDS, SVG, WAITING, WHOLE, Bar, Element, Part, Picture, Words,
     answers_to, are_one, bars_in, bars_of, draw, drawn_script, edges_of, front_of, look_of, many, refused_words, shown_often, steps_of, story_of,
@@ -40,7 +40,6 @@ LEGEND = [
     ("the CPU's agent crashes, and starts again with nothing", [r"crash \d+, line .*"]),
 ]
 LAST_WORDS = "Where the pointer rests on a mark, its lines are told."
-SINGLE_WORDS = "Lines of the script from left to right, a column for each command. A lane for each CPU."
 REPORT_WORDS = "What each agent counted; all bars have one scale. Where the pointer rests on a bar, its count is told."
 COUNTS = {
     "taken": "items consumed", "commits": "threads committed", "steals": "threads taken over", "stale": "picks and steals refused as stale",
@@ -48,59 +47,31 @@ COUNTS = {
 }
 
 
-V3 = "version 3\nenclave 1 8 100 16 1000\n"
-TWO = V3 + "policy fifo\npolicy least-ran exact\ncreate 0 1 ready\n"
-# Scripts by what their titles tell; where one is told to end at a fault, the status is 1.
-TITLES = {
-    "an empty script has a picture": [("", "commands 0, refused 0"), ("# nothing\n\n", "commands 0, refused 0")],
-    "a refusal before the enclave is counted": [("wake t0\nenclave 0 1 1 1 1\n", "commands 2, refused 2")],
-    "a fault in the first line has a picture": [("walk\n", "commands 0, refused 0, fault line 1")],
-    "the title tells the policy that was accepted last": [
-        (V3 + "create 0 1 ready\n", "commands 2, refused 0"),
-        (V3 + "policy levels\ncreate 0 1 ready\n", "commands 3, refused 0, policy levels"),
-        (TWO, "commands 4, refused 0, policy least-ran exact"), (TWO + "policy fifo\n", "commands 5, refused 1, policy least-ran exact"),
-        (TWO + "walk\n", "commands 4, refused 0, policy least-ran exact, fault line 6"),
-    ],
-    "version two is no command": [("version 2\nenclave 2 65535 100 16 1000\n", "commands 1, refused 0")],
-    "bytes of a script cannot become markup": [
-        (f"{ENCLAVE}wake t0\n{line}\n", "commands 2, refused 1, fault line 3")
-        for line in ("<svg>", "wake <t0>", "wake t0 &amp;", "wake \"t0'", "wake t0\x1b", "wake t0]]>", "\x7f")
-    ],
-}
-NEW = ENCLAVE + "create 0 3 ready\n"
-TAKEN = "publish 0\nconsume 0\n"
-# A script, and of the titles of its picture those of a pattern.
-TOLD = {
-    "a run is a bar from its commit to what it left by": (
-        NEW + TAKEN + "commit 0 t0 1\ntick 0\nblock 0 5\n", {r"t\d+ on CPU .*": ["t0 on CPU 0, lines 5 to 7"]}),
-    "a thread that waits elsewhere is told where a cpu idles": (NEW + "create 0 3 ready\n" + TAKEN + "commit 0 t0 2\ntick 0\n", {
-        r"\d+ ready .*": ["1 ready thread waits for CPU 0, lines 2 to 3", "2 ready threads wait for CPU 0, lines 3 to 6",
-                          "1 ready thread waits for CPU 0, lines 6 to 7"],
-        r"CPU \d+ idle .*": ["CPU 0 idle while up to 2 ready threads wait, lines 2 to 6",
-                             "CPU 1 idle while up to 2 ready threads wait, lines 2 to 7"]}),
-    "a busy cpu is not told idle": (
-        "enclave 1 8 100 16 1000\ncreate 0 1 ready\n" + TAKEN + "commit 0 t0 1\ncreate 0 1 ready\ntick 0\n",
-        {r"CPU \d+ idle .*": ["CPU 0 idle while up to 1 ready thread waits, lines 2 to 5"]}),
-    "a refusal is told where it was": (
-        NEW + TAKEN + "commit 0 t0 2\nwake t0\n",
-        {r".*: refused .*": ["line 5: commit 0 t0 2: refused Stale 1", "line 6: wake t0: refused NotBlocked"]}),
-    "what agents send and take over is told": (NEW + TAKEN + "deliver 1 0\nsteal 1\ncrash 0\nsleep 0 1\n", {
-        r"t0 stolen .*": ["t0 stolen from queue 0 to queue 1, line 6: steal 1"], r"line 5: .*": ["line 5: deliver 1 0"] * 2,
-        r"crash .*": ["crash 0, line 7"], r"1 item in queue 0, .*": ["1 item in queue 0, lines 2 to 4"]}),
-}
+def shown_as(picture: Picture, part: str, lines: list[str]) -> list[str]:
+    """What a picture has in place of these lines of a part of a case: `bars` are from where to where, `marks` where, the titles of a pattern."""
+    kind, _, pattern = part.partition(" ")
+    if kind in ("bars", "marks"):
+        places = picture.edges if kind == "bars" else picture.places
+        patterns = [re.match(r"\d+ \d+ (.*)" if kind == "bars" else r"(?:\d+ )+(.*)", line)[1] for line in lines]
+        return [" ".join([*(f"{at:g}" for at in place), it]) for it in dict.fromkeys(patterns) for place in places(it)]
+    return {
+        "title": lambda: [picture.title], "words": lambda: [it for it in lines if it in [*picture.texts, f"width {picture.width}"]],
+        "ticks": lambda: [" ".join(map(str, timed_drawings.labels(picture)))],
+        "told": lambda: lines if picture.told(pattern) == Counter(lines) else sorted(picture.told(pattern).elements()),
+    }[kind]()
 
 
-@rig.each({name: (rows,) for name, rows in TITLES.items()})
-def test_title(rows: list[tuple[str, str]]) -> None:
-    for script, title in rows:
-        same(draw(script, int("fault" in title)).title, title, script)
+@rig.each(rig.cases("drawings.txt"))
+def test_drawing(script: str, flags: list[str], wanted: dict[str, list[str]]) -> None:
+    picture = draw(script, int("fault" in "".join(wanted.get("title", []))), tuple(flags))
+    same({part: shown_as(picture, part, lines) for part, lines in wanted.items()}, wanted)
+    if flags == ["--time"] and "fault" not in picture.title:
+        timed_drawings.axis_is_told_by_ticks(picture, timed_drawings.Axis(list(ticks_of(script).values()), 2))
 
 
-@rig.each(TOLD)
-def test_told(script: str, wanted: dict[str, list[str]]) -> None:
-    picture = draw(script)
-    for pattern, titles in wanted.items():
-        same(picture.told(pattern), Counter(titles))
+def test_bytes_of_a_script_cannot_become_markup() -> None:
+    for line in ("wake t0\x1b", "\x7f"):
+        same(draw(f"{ENCLAVE}wake t0\n{line}\n", 1).title, "commands 2, refused 1, fault line 3")
 
 
 def test_a_fault_ends_the_picture() -> None:
@@ -166,7 +137,7 @@ def test_a_part_has_the_lanes_that_are_asked_for() -> None:
 
 
 def test_what_leads_to_another_lane_ends_at_the_edge_of_a_part() -> None:
-    script = "enclave 3 8 100 16 1000\ncreate 0 7 ready\n" + TAKEN + "deliver 2 0\nsteal 2\ncrash 0\n"
+    script = "enclave 3 8 100 16 1000\ncreate 0 7 ready\n" + "publish 0\nconsume 0\ndeliver 2 0\nsteal 2\ncrash 0\n"
     stolen, taken_in = "t0 stolen from queue 0 to queue 2, line 6: steal 2", "line 5: deliver 2 0"
 
     def line_of(*flags: str) -> Element:

@@ -132,21 +132,8 @@ def run_settings(made: Made) -> None:
     same(good(rig.ask("run", given=settings)), told)
 
 
-def recordings() -> dict[str, tuple[str, list[str], dict[str, list[str]]]]:
-    """The cases of tests/recordings.txt: a recording, words for the tool, and all lines of what it has to make of it.
-
-    A line of a recording that begins with the name of a function above is what that makes of the words behind it."""
-    cases = {}
-    for title, text in re.findall(r"^### (.*)\n((?:(?!### ).*\n)*)", (ROOT / "tests/recordings.txt").read_text(), re.M):
-        name, _, words = title.partition(" | ")
-        given, *parts = re.split(r"^=== ", text.rstrip("\n") + "\n", flags=re.M)
-        wanted = {head: lines for head, *lines in map(str.splitlines, parts)}
-        cases[name] = "".join(map(line_of, given.splitlines())), words.split(), wanted
-    return cases
-
-
 def line_of(line: str) -> str:
-    """A line as perf writes it."""
+    """A line as perf writes it: what begins with the name of a function above is what that makes of the words behind it."""
     word, *words = line.split() or [""]
     if word == "head":
         us, cpu, pid, event = line.split(" ", 4)[1:]
@@ -154,9 +141,9 @@ def line_of(line: str) -> str:
     return EVENTS[word](*(int(it) if it.lstrip("-").isdigit() else it for it in words)) if word in EVENTS else line + "\n"
 
 
-@rig.each(recordings())
-def test_made(text: str, words: list[str], wanted: dict[str, list[str]]) -> None:
-    made = make(text, *words)
+@rig.each(rig.cases("recordings.txt"))
+def test_made(given: str, words: list[str], wanted: dict[str, list[str]]) -> None:
+    made = make("".join(map(line_of, given.splitlines())), *words)
     same({name: getattr(made, name) for name in wanted}, wanted)
 
 

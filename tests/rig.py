@@ -13,6 +13,7 @@ import lzma
 import multiprocessing
 import os
 import pathlib
+import re
 import reprlib
 import subprocess
 import sys
@@ -184,6 +185,17 @@ def each(rows: dict[str, Any]) -> Callable[[Any], Any]:
         return test
 
     return marked
+
+
+def cases(name: str) -> dict[str, tuple[str, list[str], dict[str, list[str]]]]:
+    """The cases of a text of tests/: `### NAME | WORDS` stands above what is given, and `=== PART` above the lines that are wanted of a part."""
+    found = {}
+    for title, text in re.findall(r"^### (.*)\n((?:(?!### ).*\n)*)", (ROOT / "tests" / name).read_text(), re.M):
+        case, _, words = title.partition(" | ")
+        given, *parts = re.split(r"^=== ", text.rstrip("\n") + "\n", flags=re.M)
+        found[case] = given, words.split(), {head: lines for head, *lines in map(str.splitlines, parts)}
+    assert found, f"no case in {name}"
+    return found
 
 
 def given(make: Callable[[pathlib.Path], Any], test: Callable[..., object], *cells: object) -> None:

@@ -118,55 +118,6 @@ def axis_is_told_by_ticks(picture: Picture, axis: Axis) -> None:
     same(told, list(rounds) or [axis.first])
 
 
-def stand(picture: Picture, edges: dict[str, list[tuple[float, float]]], places: dict[str, list[tuple[int, ...]]]) -> None:
-    """From where to where the bars with such titles go, and where marks stand."""
-    same({title: picture.edges(title) for title in edges}, edges)
-    same({title: picture.places(title) for title in places}, places)
-
-
-def test_a_script_by_hand_stands_by_its_ticks() -> None:
-    """41 ticks have 24 pixels each, from x 72 on; marks stand in the middle of their column, 12 pixels on."""
-    picture = timed(
-        "enclave 2 8 100 16 1000\n# at 0\ncreate 0 3 ready\npublish 0\nconsume 0\ncommit 0 t0 1\n# at 10\ncreate 1 3 ready\n# at 15\npublish 1\nconsume 1\n"
-        "deliver 0 1\ncommit 1 t1 1\n# at 17\ncrash 0\nblock 0 5\nwake t1\n# at 30\ndeliver 1 0\n# at 40\nblock 1 5\n")
-    same((picture.title, picture.width, picture.texts[1]), ("commands 15, refused 1", 72 + 41 * 24 + 120, TICK_WORDS))
-    stand(picture, {
-        "t0 on CPU 0, lines 6 to 16, ticks 0 to 17": [(72, 480)], "t1 on CPU 1, lines 13 to 21, ticks 15 to 40": [(432, 1032)],
-        "1 item in queue 1, lines 8 to 11, ticks 10 to 15": [(312, 432)], ".* queue 0, .*ticks .*": [(480, 1056)],
-        "1 ready thread waits for CPU 1, lines 8 to 13, ticks 10 to 15": [(312, 432)],
-        "CPU 1 idle while up to 1 ready thread waits, lines 8 to 13, ticks 10 to 15": [(312, 432)],
-    }, {
-        "crash 0, line 15": [(492 - 7,)], "line 17: wake t1: refused NotBlocked": [(492 - 1,)], "line 3: create 0 3 ready": [(84, 84)],
-        "line 8: create 1 3 ready": [(324, 324)], "line 12: deliver 0 1": [(444, 444), (444,)], "line 19: deliver 1 0": [(84, 804), (804,)],
-    })
-    same(labels(picture), [0, 5, 10, 15, 20, 25, 30, 35, 40])
-    same([x for x, _ in picture.places(r"tick \d+")], [84 + 120 * place for place in range(9)])
-
-
-def test_what_lasts_less_than_a_column_is_as_wide_as_one() -> None:
-    """12,000 ticks stand in 1,200 columns of a pixel, ten in each."""
-    picture = timed(
-        "enclave 1 8 100 16 1000\ncreate 0 1 ready\npublish 0\nconsume 0\n# at 105\ncommit 0 t0 1\n# at 109\nyield 0 4\npublish 0\nconsume 0\ncommit 0 t0 2\n"
-        "# at 5000\nyield 0 4891\npublish 0\nconsume 0\ncommit 0 t0 3\nblock 0 0\n# at 11999\ntick 0\n")
-    same(picture.width, 72 + 1200 + 120)
-    same(picture.texts[1], "Axis: ticks, from left to right; a column is of up to 10 ticks. A lane for each CPU.")
-    stand(picture, {
-        "t0 on CPU 0, lines 6 to 8, ticks 105 to 109": [(82, 83)], "t0 on CPU 0, lines 11 to 13, ticks 109 to 5000": [(82, 572)],
-        "2 items in queue 0, line 19, tick 11999": [(1271, 1272)], "1 item in queue 0, lines 17 to 19, ticks 5000 to 11999": [(572, 1271)],
-        "1 ready thread waits for CPU 0, lines 2 to 6, ticks 0 to 105": [(72, 82)],
-    }, {})
-    same(len(picture.edges("t0 on CPU 0.*")), 2)
-    same(labels(picture), list(range(0, 12_000, 1_000)))
-    same([x for x, _ in picture.places(r"tick \d+")], [72 + tick // 10 for tick in labels(picture)])
-
-
-def test_ticks_that_descend_stand_still() -> None:
-    lines = ["tick 0", "# at 10", "tick 0", "# at 4", "tick 0", "# at 0", "# at 9", "tick 0", "# at 20", "tick 0", "# at 12", "tick 0"]
-    picture = timed(ENCLAVE + "\n".join(lines) + "\n")
-    same([picture.places(f"line {number}: tick 0")[0][0] for number in (2, 4, 6, 9, 11, 13)], [84, 324, 324, 324, 564, 564])
-    same(picture.width, max(720, 72 + 21 * 24 + 120))
-
-
 def test_a_script_without_ticks_is_drawn_by_its_lines() -> None:
     script = ENCLAVE + "create 0 3 ready\npublish 0\nconsume 0\ncommit 0 t0 1\ncrash 0\nblock 0 5\n"
     untold = ["".join(f"{line}\n{it}\n" for it in script.splitlines()) for line in NO_TICKS]
@@ -188,36 +139,9 @@ def test_by_lines_a_line_that_tells_a_tick_is_a_comment() -> None:
         same(one.returncode, 1 if ", fault line " in title else 0)
 
 
-def test_lines_that_tell_a_tick() -> None:
-    """A carriage return at the end is none of the line's; a zero, and the greatest number, are ticks."""
-    for told, tick in (("# at 5\r", 5), ("# at 0", 0), (f"# at {WORD64}", WORD64), (f"# at 3\n# at {WORD64}0", 3)):
-        picture = timed(f"{told}\n{ENCLAVE}tick 0\n")
-        same((picture.texts[1], labels(picture)), (TICK_WORDS, [tick]), told)
-        same(picture.edges(f"1 item in queue 0, line {told.count(chr(10)) + 3}, tick {tick}"), [(72, 96)])
-
-
-def test_all_steps_in_one_tick() -> None:
-    """How things stand behind the last step is shown in the only column, and all marks stand there."""
-    script = "# at 1234\n" + ENCLAVE + "create 0 3 ready\npublish 0\nconsume 0\ncommit 0 t0 1\ncreate 0 3 ready\ndeliver 1 0\nsteal 1\ncrash 0\ntick 1\n"
-    picture = timed(script)
-    same(set(ticks_of(script).values()), {1234})
-    bars = [title for title in picture.titles if title.endswith(", tick 1234")]
-    same(sorted(bars), sorted([
-        "t0 on CPU 0, lines 6 to 11, tick 1234", "1 item in queue 0, lines 7 to 11, tick 1234", "1 item in queue 1, line 11, tick 1234",
-        "1 ready thread waits for CPU 0, lines 7 to 11, tick 1234", "CPU 1 idle while up to 1 ready thread waits, lines 7 to 11, tick 1234",
-    ]))
-    same({edges for bar in bars for edges in picture.edges(re.escape(bar))}, {(72, 96)})
-    same(picture.places("crash 0, line 10"), [(84 - 7,)])
-    same(labels(picture), [1234])
-
-
-def test_the_greatest_tick() -> None:
-    picture = timed(f"# at 0\n{ENCLAVE}create 0 3 ready\n# at {2**63}\npublish 0\n# at {WORD64}\nconsume 0\ntick 1\n")
-    same(picture.width, 72 + 1200 + 120)
-    stand(picture, {f"1 item in queue 0, lines 3 to 7, ticks 0 to {WORD64}": [(72, 1271)], f"1 item in queue 1, line 8, tick {WORD64}": [(1271, 1272)]},
-          {"line 8: tick 1": [(1271, 1271)]})
-    axis_is_told_by_ticks(picture, Axis([0, WORD64], 2))
-    same(labels(picture), [0, 5 * 10**18, 10**19, 15 * 10**18])
+def test_a_carriage_return_at_the_end_is_none_of_the_lines() -> None:
+    picture = timed(f"# at 5\r\n{ENCLAVE}tick 0\n")
+    same((picture.texts[1], labels(picture)), (TICK_WORDS, [5]))
 
 
 def shown_by_ticks(script: str, part: Part = WHOLE) -> Counter[str]:
@@ -278,15 +202,6 @@ def test_what_drawn_scripts_show_stands_by_its_ticks() -> None:
 
 def test_parts_of_drawn_scripts_go_from_their_first_tick_to_their_last() -> None:
     shown_often(shown_by_ticks, with_ticks, DRAWN, 10, ROWS, True)
-
-
-def test_a_part_by_hand_goes_from_its_first_tick_to_its_last() -> None:
-    script = "enclave 3 8 100 16 1000\n# at 100\ncreate 0 7 ready\npublish 0\nconsume 0\n# at 110\ntick 1\n# at 112\ndeliver 2 0\nsteal 2\n# at 130\ntick 2\n"
-    picture = timed(script, flags=("--lines", "7-10", "--cpus", "1-2"))
-    same(labels(picture), [110])
-    stand(picture, {"1 item in queue 1, lines 7 to 10, ticks 110 to 112": [(72, 144)]},
-          {"t0 stolen from queue 0 to queue 2, line 10: steal 2": [(132 - 3,)], "line 9: deliver 2 0": [(72, 132), (132,)]})
-    assert "Only a part of it: CPUs 1 to 2, lines 7 to 10." in picture.texts
 
 
 def test_examples_and_loads_of_the_lab_stand_by_their_ticks() -> None:
@@ -463,10 +378,3 @@ def test_time_goes_with_the_other_flags() -> None:
         same(good(rig.ask("draw", *words, given=script)), wanted.stdout, words)
     for line in ("draw --time --time", "draw --time=1", "replay --time", "draw --times"):
         refused_words(*line.split())
-
-
-def test_a_fault_stands_behind_the_last_tick() -> None:
-    status, text, errors = outcome(rig.ask("draw", "--time", given=ENCLAVE + "# at 9\ntick 0\n# at 50\nwalk\n# at 99\n"))
-    same((status, errors), (1, "pc-sim: a line of the script is no command, and the picture ends there\n"))
-    picture = Picture(text)
-    same((picture.title, picture.places("fault line 5")), ("commands 2, refused 0, fault line 5", [(72 + 10 * 24 + 3,) * 2]))
