@@ -1,28 +1,12 @@
 #!/usr/bin/env python3
 """Writes a script of so many lines on standard output, the same each time (the seed is fixed).
 
-    generate.py first-run LINES     creates, wakes, reads of status words, and now and then a queue published and a view shown
-    generate.py kernel-calls LINES  all calls of the kernel: threads that are committed, leave their CPU and are woken, and queues consumed
-    generate.py kernel-only LINES   the same without publish and consume, so that no view grows
-    generate.py late LINES          one thread's messages, a delta each, delivered to another agent in descending order: four lines for each
-    generate.py late-batches LINES  the same, eight messages to a delta: eleven lines for each delta
-    generate.py scattered LINES     as late, in an order drawn at random
-    generate.py answer-empty LINES  4,096 threads, and then answers to an agent that knows none of them
-    generate.py answer-half LINES   the same to an agent that knows half of them
-    generate.py answer-equal LINES  the same to an agent that knows all of them
-    generate.py big-delta LINES     a queue of 65,536 messages, published again and again
-    generate.py rounds LINES        64 agents that pick, have the thread yield, publish and consume, over 4,096 threads
-    generate.py steals LINES        one agent steals all threads of another (half as many as lines, 4,096 at most), then finds none, again and again
-    generate.py day LINES           64 agents in groups of four that exchange all they see: threads picked, blocked, woken, stolen, and now and then a crash
-    generate.py restarts LINES      agents that crash, learn all of 4,096 threads from an answer, and take threads back
-    generate.py shortest LINES      the shortest command, `tick 0`, which is refused but the first time
-    generate.py shows LINES         20,000 threads that an agent knows, shown again and again (30 times with 20,034 lines)
-    generate.py levels LINES        2,000 times another level of one thread, published and consumed, in a run list of as many names as LINES
-                                    leaves (6,004 lines are for the rest: 7,004 for 1,000 names)
+    generate.py NAME LINES
 """
 import pathlib
 import random
 import sys
+from functools import partial
 
 sys.path.insert(0, str(pathlib.Path(__file__).resolve().parent.parent / "tools"))
 from kernel import World  # noqa: E402
@@ -89,7 +73,8 @@ def cpu_call(chance, world, cpu):
 
 
 def kernel_calls(lines, learns=True):
-    """All calls of the kernel on 64 CPUs and 4,096 threads. Each queue is published and consumed in its turn."""
+    """All calls of the kernel on 64 CPUs and 4,096 threads. Each queue is published and consumed in its turn; or, where no view is to
+    grow, is not: then queues only grow and each move of a thread is refused."""
     chance = random.Random(20261122)
     world = World(CPUS)
     yield f"enclave {CPUS} {THREADS} 1000000 65536 4294967295"
@@ -106,11 +91,6 @@ def kernel_calls(lines, learns=True):
         yield said(world, call)
 
 
-def kernel_only(lines):
-    """The same without those calls by which agents learn, so that queues only grow and each move of a thread is refused."""
-    return kernel_calls(lines, learns=False)
-
-
 def deliveries(lines, arrange, batch=1):
     """One thread's messages in deltas of so many, delivered to another agent in an order of their own."""
     yield "enclave 2 8 1000000 65536 4294967295"
@@ -124,21 +104,6 @@ def deliveries(lines, arrange, batch=1):
     arrange(numbers)
     for number in numbers:
         yield f"deliver 1 {number}"
-
-
-def late(lines):
-    """Early messages that arrive in descending order, the first message last."""
-    return deliveries(lines, list.reverse)
-
-
-def late_batches(lines):
-    """The same, eight to a delta."""
-    return deliveries(lines, list.reverse, 8)
-
-
-def scattered(lines):
-    """Early messages that arrive in any order."""
-    return deliveries(lines, random.Random(20261122).shuffle)
 
 
 def answers(known):
@@ -297,31 +262,33 @@ def look(cpu):
     yield f"consume {cpu}"
 
 
+# The scripts by their names, and what each is.
 SCRIPTS = {
-    "first-run": first_run,
-    "kernel-calls": kernel_calls,
-    "kernel-only": kernel_only,
-    "late": late,
-    "late-batches": late_batches,
-    "scattered": scattered,
-    "answer-empty": answers(0),
-    "answer-half": answers(1),
-    "answer-equal": answers(2),
-    "big-delta": big_delta,
-    "rounds": rounds,
-    "steals": steals,
-    "day": day,
-    "restarts": restarts,
-    "shortest": shortest,
-    "shows": shows,
-    "levels": levels,
+    "first-run": (first_run, "creates, wakes, reads of status words, and now and then a queue published and a view shown"),
+    "kernel-calls": (kernel_calls, "all calls of the kernel: threads that are committed, leave their CPU and are woken, and queues consumed"),
+    "kernel-only": (partial(kernel_calls, learns=False), "the same without publish and consume, so that no view grows"),
+    "late": (partial(deliveries, arrange=list.reverse), "one thread's messages, a delta each, delivered to another agent in descending order: four lines for each"),
+    "late-batches": (partial(deliveries, arrange=list.reverse, batch=8), "the same, eight messages to a delta: eleven lines for each delta"),
+    "scattered": (partial(deliveries, arrange=random.Random(20261122).shuffle), "as late, in an order drawn at random"),
+    "answer-empty": (answers(0), "4,096 threads, and then answers to an agent that knows none of them"),
+    "answer-half": (answers(1), "the same to an agent that knows half of them"),
+    "answer-equal": (answers(2), "the same to an agent that knows all of them"),
+    "big-delta": (big_delta, "a queue of 65,536 messages, published again and again"),
+    "rounds": (rounds, "64 agents that pick, have the thread yield, publish and consume, over 4,096 threads"),
+    "steals": (steals, "one agent steals all threads of another (half as many as lines, 4,096 at most), then finds none, again and again"),
+    "day": (day, "64 agents in groups of four that exchange all they see: threads picked, blocked, woken, stolen, and now and then a crash"),
+    "restarts": (restarts, "agents that crash, learn all of 4,096 threads from an answer, and take threads back"),
+    "shortest": (shortest, "the shortest command, `tick 0`, which is refused but the first time"),
+    "shows": (shows, "20,000 threads that an agent knows, shown again and again (30 times with 20,034 lines)"),
+    "levels": (levels, "2,000 times another level of one thread, published and consumed, in a run list of as many names as "
+               "LINES leaves (6,004 lines are for the rest: 7,004 for 1,000 names)"),
 }
 
 
 def main():
     if len(sys.argv) != 3 or sys.argv[1] not in SCRIPTS or not sys.argv[2].isdecimal():
-        sys.exit(__doc__)
-    sys.stdout.writelines(line + "\n" for line in SCRIPTS[sys.argv[1]](int(sys.argv[2])))
+        sys.exit(__doc__ + "".join(f"\n    {name:<12}  {told}" for name, (_, told) in SCRIPTS.items()))
+    sys.stdout.writelines(line + "\n" for line in SCRIPTS[sys.argv[1]][0](int(sys.argv[2])))
 
 
 if __name__ == "__main__":

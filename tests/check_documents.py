@@ -23,7 +23,7 @@
   twins        two places that share six lines or more, names aside, are told of in tests/twins.txt, with why they stay
 
 A line for each finding, how much was looked at, and then `N passed, M failed`, of these checks. The exit status is 0 only where
-none failed. The last six are those of tests/tidy.py.
+none failed. The last seven are those of tests/tidy.py.
 """
 import fnmatch
 import pathlib
@@ -32,6 +32,7 @@ import shutil
 import subprocess
 import sys
 from dataclasses import dataclass, field
+from functools import partial
 
 import tidy
 
@@ -45,6 +46,8 @@ FILE_NAME = re.compile(r"[\w./*-]+\.(?:rt|antt|edit|md|py|txt|script|output)|[\w
 CALLS = "tests/hostile/calls.txt"
 # The name of a single call, in the files that have some: the public call, and which one of several behind it.
 SINGLE_CALL, NO_CALLS = re.compile(r'(?<!b)"(\w+(?:::\w+)?(?: [^"]*)?)"'), {"main.rt.in", "scene.rt.in"}
+# The checks of tests/tidy.py.
+TIDY = ("widths", "words", "sentences", "files", "numbers", "titles", "twins")
 # Names that are std's, and words of the language.
 FOREIGN = {"Err", "Ok", "IsStrictlyIncreasing"}
 
@@ -99,6 +102,8 @@ def all_below(below, name):
 
 
 class Checker:
+    """Its methods `check_..` are the checks."""
+
     def __init__(self):
         self.checked, self.findings = 0, []
         self.sources = Sources()
@@ -138,7 +143,7 @@ class Checker:
 
     # PROMISES
 
-    def check_carriers(self, where, crate, cell):
+    def hold_carriers(self, where, crate, cell):
         """What names what carries a promise."""
         types, group, place = [], [], 0
         for span in SPAN.finditer(cell):
@@ -200,7 +205,7 @@ class Checker:
             has = (name, word) in crate.met or any(word in self.sources.clauses_of(f) for f in crate.functions if f.owner == name)
             self.expect(has, where, f"`{name}` has no clause `{word}` and meets no such trait")
 
-    def check_promised(self, where, crate, cell):
+    def hold_promised(self, where, crate, cell):
         """What says a promise: whatever it names is there."""
         for text in SPAN.findall(cell):
             path = text.split("::")
@@ -218,8 +223,8 @@ class Checker:
             carriers = item.below.get("carried by", "")
             self.expect(carriers, item.where, "no line `carried by` stands below it")
             if crate:
-                self.check_promised(item.where, crate, item.text)
-                self.check_carriers(item.where, crate, carriers)
+                self.hold_promised(item.where, crate, item.text)
+                self.hold_carriers(item.where, crate, carriers)
 
     def check_public(self):
         """The page of clauses tells each public function by its comment."""
@@ -242,9 +247,9 @@ class Checker:
                 needs = function.is_lent_to_change() and self.sources.left_by(function) == left
                 self.expect(needs, where, f"LEFT_BY has `{name}`, of which clauses tell it by their names")
                 self.expect_clauses(where, function, left if isinstance(left, list) else [])
-        self.check_met(wanting)
+        self.hold_met(wanting)
 
-    def check_met(self, wanting):
+    def hold_met(self, wanting):
         """Single calls name the public calls that they make; tests/hostile/calls.txt has a row for each other call, and no further ones."""
         single, called = set(), set()
         for path in sorted((ROOT / "tests/hostile/calls").glob("*.rt.in")):
@@ -392,57 +397,17 @@ class Checker:
             found = subprocess.run(["rt", "version"], capture_output=True, text=True, check=True).stdout.strip()
             self.expect(found == kit, "README.md", f"the kit here is {found}, not {kit}")
 
-    # tests/tidy.py
-
-    def add(self, checked, findings):
+    def tidy(self, look):
+        """What a function of tests/tidy.py looks at, and finds."""
+        checked, findings = look(ROOT)
         self.checked += checked
         self.findings += findings
 
-    def check_widths(self):
-        self.add(*tidy.widths(ROOT))
-
-    def check_words(self):
-        self.add(*tidy.words(ROOT))
-
-    def check_sentences(self):
-        self.add(*tidy.sentences(ROOT))
-
-    def check_files(self):
-        self.add(*tidy.files(ROOT))
-
-    def check_numbers(self):
-        self.add(*tidy.numbers(ROOT))
-
-    def check_titles(self):
-        self.add(*tidy.titles(ROOT))
-
-    def check_twins(self):
-        self.add(*tidy.twins(ROOT))
-
 
 def main():
-    checker = Checker()
-    checks = [
-        checker.check_promises,
-        checker.check_memory,
-        checker.check_public,
-        checker.check_definitions,
-        checker.check_names,
-        checker.check_crates,
-        checker.check_refusals,
-        checker.check_advice,
-        checker.check_examples,
-        checker.check_shown_code,
-        checker.check_versions,
-        checker.check_widths,
-        checker.check_words,
-        checker.check_sentences,
-        checker.check_files,
-        checker.check_numbers,
-        checker.check_titles,
-        checker.check_twins,
-    ]
-    failed = 0
+    checker, failed = Checker(), 0
+    checks = [getattr(checker, name) for name in vars(Checker) if name.startswith("check_")]
+    checks += [partial(checker.tidy, getattr(tidy, name)) for name in TIDY]
     for check in checks:
         before = len(checker.findings)
         check()
