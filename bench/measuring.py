@@ -1,11 +1,55 @@
-"""One run of a program, measured. It needs GNU time (/usr/bin/time)."""
+"""What the measurements share: their command lines and tables, and one run of a program, measured, which needs GNU time (/usr/bin/time)."""
+import argparse
 import os
+import pathlib
 import resource
 import signal
 import subprocess
 import threading
 import time
 from dataclasses import dataclass
+
+HERE = pathlib.Path(__file__).resolve().parent
+BUILT = HERE.parent / "crates/pc_sim/out/pc_sim"
+
+
+def parser_of(about, program=True):
+    """A parser of a command line, with `--program`, unless it is left out."""
+    parser = argparse.ArgumentParser(description=about, formatter_class=argparse.RawDescriptionHelpFormatter)
+    if program:
+        parser.add_argument("--program", type=pathlib.Path, help="the program, as it stands (without it the one that ./pc-sim builds)")
+    return parser
+
+
+def program_of(named=None):
+    """The program that is named, or the one that ./pc-sim builds."""
+    if not named:
+        subprocess.run([HERE.parent / "pc-sim", "--help"], check=True, stdout=subprocess.DEVNULL)
+    return pathlib.Path(named or BUILT).resolve()
+
+
+def print_row(cells):
+    print(f"| {' | '.join(cells)} |", flush=True)
+
+
+def print_head(heads):
+    print_row(heads)
+    print(f"|{'---|' * len(heads)}")
+
+
+def add_settings(parser, every, sizes, usual):
+    """Words for the names of some settings, and for their sizes."""
+    parser.add_argument("--sizes", type=lambda text: text.split(","), default=usual, help="of settings", metavar="SIZE,..")
+    parser.add_argument("names", nargs="*", default=list(every), metavar="NAME")
+    parser.set_defaults(there={*every, *sizes})
+
+
+def options_of(parser):
+    """The options, with settings that are there."""
+    options = parser.parse_args()
+    if unknown := [it for it in [*options.names, *options.sizes] if it not in options.there]:
+        parser.error(f"there is no {', '.join(unknown)}")
+    return options
 
 
 @dataclass

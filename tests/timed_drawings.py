@@ -8,17 +8,18 @@ from __future__ import annotations
 import random
 import re
 from collections import Counter
-from typing import NamedTuple
 
 import rig
 from kernel import WORD64, answered, ticks_of
 from pictures import (
-    ENCLAVE, LEFT, MOST_SINGLE, ROWS, SCRIPTS, SINGLE_WORDS, SVG, WHOLE, Element, Part, Picture, Steps, answers_to, are_one, bars_of, bars_told,
+    ENCLAVE, LEFT, MOST_SINGLE, ROWS, SCRIPTS, SINGLE_WORDS, SVG, WHOLE, Bar, Element, Part, Picture, Steps, answers_to, are_one, bars_of, bars_told,
     draw, drawn_script, edges_of, front_of, many, refused_words, shown_often, steps_of, story_of, x_of,
 )
 from rig import ROOT, good, outcome, same
 
 DRAWN = 100
+# A bar, from where to where it goes, and the ticks that its title tells.
+Timed = tuple[Bar, tuple[int, int]]
 TICKS = r"ticks? (\d+)(?: to (\d+))?"
 # What looks like a line that tells a tick, and tells none.
 NO_TICKS = [
@@ -55,17 +56,6 @@ class Axis:
         return LEFT + self.wide * self.columns
 
 
-class Timed(NamedTuple):
-    """A bar of a row: its CPU, what it shows, from where to where it goes, and the lines and ticks that its title tells."""
-
-    row: str
-    cpu: int
-    value: int
-    edges: tuple[float, float]
-    lines: tuple[int, int]
-    ticks: tuple[int, int]
-
-
 def timed_bars(steps: Steps, cpus: int, ticks: list[int], axis: Axis) -> Counter[Timed]:
     """The bars by which the steps, which have these ticks, are to be shown. What lasts no tick is not; what lasts less than a column is as wide as one."""
     timed: Counter[Timed] = Counter()
@@ -74,7 +64,7 @@ def timed_bars(steps: Steps, cpus: int, ticks: list[int], axis: Axis) -> Counter
         begins, ends = ticks[start], axis.last if is_last else ticks[end]
         if is_last or begins != ends:
             left, right = axis.x(begins), axis.end if is_last else axis.x(ends)
-            timed[Timed(row, cpu, value, (left, max(right, left + axis.wide)), lines, (begins, ends))] += times
+            timed[Bar(row, cpu, value, (left, max(right, left + axis.wide)), lines), (begins, ends)] += times
     return timed
 
 
@@ -154,13 +144,13 @@ def shown_by_ticks(script: str, part: Part = WHOLE) -> Counter[str]:
         same(picture.places(r"tick \d+"), [])
         return Counter()
     axis = Axis(times, cpus)
-    drawn = Counter(Timed(*bar, told) for bar, told in bars_told(picture, f", {TICKS}"))
-    are_one(drawn, Counter({bar: count for bar, count in timed_bars(steps, cpus, times, axis).items() if part.has_cpu(bar.cpu)}))
+    drawn: Counter[Timed] = Counter(bars_told(picture, f", {TICKS}"))
+    are_one(drawn, Counter({it: count for it, count in timed_bars(steps, cpus, times, axis).items() if part.has_cpu(it[0].cpu)}))
     axis_is_told_by_ticks(picture, axis)
     each = -(-axis.count // axis.columns)
     scale = "; a column is of up to " + f"{each} ticks" if axis.count > axis.columns else ", a column for each tick"
     same(picture.texts[1], f"Axis: ticks, from left to right{scale}. A lane for each CPU.")
-    return Counter(bar.row for bar in drawn.elements()) + marks_by_ticks(picture, script, axis, ticks, steps[0][0])
+    return Counter(bar.row for bar, _ in drawn.elements()) + marks_by_ticks(picture, script, axis, ticks, steps[0][0])
 
 
 def marks_by_ticks(picture: Picture, script: str, axis: Axis, ticks: dict[int, int], first: int) -> Counter[str]:
