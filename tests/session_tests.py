@@ -5,12 +5,11 @@
 
 Scripts are drawn: 300, or NUMBER, and 10,000 with --all. Each goes through `session` in pieces that are cut at random, and has to be
 answered as the model of tools/kernel.py tells. Then come conversations over a pipe, each answer waited for before the next command is
-sent; the line `?`; what a terminal is told first; lines that are too long; and how sessions end.
+sent; the line `?`; what a terminal is told first; and how a session ends whose client dies. Others are cases of tests/cases.
 """
 from __future__ import annotations
 
 import os
-import pathlib
 import pty
 import random
 import re
@@ -139,10 +138,6 @@ def test_explained() -> None:
     assert b"65536" in lines[lines.index(b"fault line 2") + 1], lines
 
 
-def test_help_is_no_command_of_scripts() -> None:
-    same(outcome(rig.ask("replay", given="?\n"))[:2], (1, "fault line 1\n"))
-
-
 def test_terminal() -> None:
     master, slave = pty.openpty()
     talk = start(stdin=slave, stderr=slave)
@@ -159,46 +154,6 @@ def test_terminal() -> None:
     os.close(master)
 
 
-def test_no_greeting_in_a_pipe() -> None:
-    same(session(text=b""), (0, b"", b""))
-
-
-def test_long_lines() -> None:
-    for length, answer in ((MOST_LINE, b"refused"), (MOST_LINE + 1, b"fault line 2")):
-        text = ENCLAVE + b"\nwake t1" + b" " * (length - 7) + b"\nwake t1\n"
-        for words in ([], ["--explain"]):
-            lines = plain(session(*words, text=text)[1]).splitlines()
-            assert len(lines) == 3 and lines[1].startswith(answer), f"a line of {length} bytes: {lines!r}"
-
-
-def test_gigabyte() -> None:
-    """A line of a gigabyte is passed over, and takes no memory."""
-    talk = start()
-    for _ in range(1 << 10):
-        talk.stdin.write(b"x" * (1 << 20))
-    talk.stdin.write(b"\nenclave 1 1 1 1 1\n")
-    same((talk.stdout.readline(), talk.stdout.readline()), (b"fault line 1\n", b"ok\n"))
-    peak = int(re.search(r"VmHWM:\s*(\d+)", pathlib.Path(f"/proc/{talk.pid}/status").read_text())[1])
-    assert peak < 32_768, f"{peak} kB were used"
-    talk.stdin.close()
-    same(talk.wait(SECONDS), 1)
-
-
-def test_reader_goes_away() -> None:
-    talk = start()
-    talk.stdout.close()
-    try:
-        for _ in range(200_000):
-            talk.stdin.write(b"wake t1\n")
-    except BrokenPipeError:
-        pass
-    finally:
-        talk.stdin = None
-    said = talk.stderr.read()
-    same(talk.wait(SECONDS), 1)
-    assert said.startswith(b"pc-sim: cannot read\npc-sim: the standard output: "), said
-
-
 def test_client_dies() -> None:
     """A client that dies within a line ends the input: that line is answered."""
     read, write = os.pipe()
@@ -212,12 +167,6 @@ def test_client_dies() -> None:
     os.waitpid(child, 0)
     same(talk.stdout.read(), b"ok\nfault line 2\n")
     same(talk.wait(SECONDS), 1)
-
-
-def test_unreadable() -> None:
-    for name, begin in (("/", b'pc-sim: cannot read\npc-sim: "/": '), ("no-such-file", b"pc-sim: cannot read\n")):
-        status, out, said = session(name, text=b"")
-        assert (status, out) == (1, b"") and said.startswith(begin), (name, said)
 
 
 def add_words(add: Callable[..., object]) -> None:

@@ -11,59 +11,8 @@ import sys
 import rig
 from rig import ROOT, same
 
-SOURCE = """\
-//! Counts.
-
-/// One more.
-pub const fn more(count: u64) -> u64
-    ensures { result }
-{
-    count + 1
-}
-
-impl Count {
-    /// None.
-    pub(crate) fn none() -> Count {
-        Count { value: 0 }
-    }
-}
-
-impl<T: Drop> From<Box<T>> for Count {
-    fn from(told: Box<T>) -> Count {
-        Count { value: told.len() }
-    }
-}
-
-/// Fewer.
-fn fewer(
-    count: u64,
-) -> u64
-    requires { 0 < count }
-{
-    if count > 9 {
-        return 9;
-    }
-    count - 1
-}
-
-const fn nine() -> u64 {
-    9
-}
-
-fn nines() -> impl Iterator {
-    nine()..nine()
-}
-
-trait Counts {
-    fn count(&self) -> u64;
-
-    fn forget(&mut self) {}
-
-    fn is_none(&self) -> bool {
-        self.count() == 0
-    }
-}
-"""
+# A crate that is made up.
+SOURCE = (ROOT / "tests/wrong_bodies.rt.in").read_text()
 # Says of the functions that it is asked for what a file tells it to say where the crate holds a text; keeps what it was asked.
 RT = """\
 #!/usr/bin/env python3
