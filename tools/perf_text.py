@@ -3,7 +3,7 @@ from __future__ import annotations
 
 import re
 from collections import Counter
-from collections.abc import Callable, Iterable
+from collections.abc import Iterable
 from dataclasses import dataclass, field
 from typing import NamedTuple
 
@@ -41,16 +41,26 @@ STAMP = re.compile(r"\[(\d+)\] +(\d+)\.(\d{6,9}): +")
 CALL_CHAIN = re.compile(r"\s+[0-9a-f]+ \S")
 LOST = re.compile(r"PERF_RECORD_LOST(?:_SAMPLES)?\s+lost (\d+)")
 
+# How the events are written, in full and in short. Their parts have the names of those of Event.
+BY = r"comm=(?P<comm>.*) pid=(?P<pid>\d+) "
 SWITCHED = re.compile(
-    r"prev_comm=(.*) prev_pid=(\d+) prev_prio=-?\d+ prev_state=([A-Za-z|+]+) ==> "
-    r"next_comm=(.*) next_pid=(\d+) next_prio=-?\d+\s*"
+    r"prev_comm=(?P<comm>.*) prev_pid=(?P<pid>\d+) prev_prio=-?\d+ prev_state=(?P<state>[A-Za-z|+]+) ==> "
+    r"next_comm=(?P<other_comm>.*) next_pid=(?P<other>\d+) next_prio=-?\d+\s*"
 )
-SWITCHED_SHORT = re.compile(r"(.*):(\d+) \[-?\d+\] ([A-Za-z|+]+) ==> (.*):(\d+) \[-?\d+\]\s*")
-WOKEN = re.compile(r"comm=(.*) pid=(\d+) prio=-?\d+(?: success=\d+)? target_cpu=(\d+)\s*")
-WOKEN_SHORT = re.compile(r"(.*):(\d+) \[-?\d+\](?: success=\d+)? CPU:(\d+)\s*")
-FORKED = re.compile(r"comm=(.*) pid=(\d+) child_comm=(.*) child_pid=(\d+)\s*")
-MOVED = re.compile(r"comm=(.*) pid=(\d+) prio=-?\d+ orig_cpu=(\d+) dest_cpu=(\d+)\s*")
-EXITED = re.compile(r"comm=(.*) pid=(\d+) prio=-?\d+(?: .*)?")
+SWITCHED_SHORT = re.compile(
+    r"(?P<comm>.*):(?P<pid>\d+) \[-?\d+\] (?P<state>[A-Za-z|+]+) ==> (?P<other_comm>.*):(?P<other>\d+) \[-?\d+\]\s*"
+)
+WOKEN = re.compile(BY + r"prio=-?\d+(?: success=\d+)? target_cpu=(?P<target>\d+)\s*")
+WOKEN_SHORT = re.compile(r"(?P<comm>.*):(?P<pid>\d+) \[-?\d+\](?: success=\d+)? CPU:(?P<target>\d+)\s*")
+FORMS: dict[str, tuple[int, tuple[re.Pattern[str], ...]]] = {
+    "sched_switch": (SWITCH, (SWITCHED, SWITCHED_SHORT)),
+    "sched_waking": (WAKE, (WOKEN, WOKEN_SHORT)),
+    "sched_wakeup": (WAKE, (WOKEN, WOKEN_SHORT)),
+    "sched_wakeup_new": (WAKE_NEW, (WOKEN, WOKEN_SHORT)),
+    "sched_process_fork": (FORK, (re.compile(BY + r"child_comm=(?P<other_comm>.*) child_pid=(?P<other>\d+)\s*"),)),
+    "sched_migrate_task": (MOVE, (re.compile(BY + r"prio=-?\d+ orig_cpu=(?P<cpu>\d+) dest_cpu=(?P<target>\d+)\s*"),)),
+    "sched_process_exit": (EXIT, (re.compile(BY + r"prio=-?\d+(?: .*)?"),)),
+}
 
 
 def head_of(line: str) -> tuple[str, int, int, int, str] | None:
@@ -73,53 +83,17 @@ def is_of_call_chain(line: str) -> bool:
     return found is not None and line.endswith(")") and "(" in line[found.end() : -1]
 
 
-def matched(text: str, *forms: re.Pattern[str]) -> tuple[str, ...]:
-    """What the first form that fits the whole text finds in it."""
+def event_of(name: str, time: int, cpu: int, text: str) -> Event | None:
+    """The event of this name by the first form that fits the whole text; none, where it is of another kind."""
+    kind, forms = FORMS.get(name, (RUNS, ()))
+    if not forms:
+        return None
     for form in forms:
         if found := form.fullmatch(text):
-            return found.groups()
+            told = found.groupdict()
+            return Event(kind, time, int(told.get("cpu", cpu)), int(told["pid"]), told["comm"], int(told.get("target", cpu)),
+                         told.get("state", ""), int(told.get("other", 0)), told.get("other_comm", ""))
     raise ValueError
-
-
-def switched(time: int, cpu: int, text: str) -> Event:
-    comm, pid, state, other_comm, other = matched(text, SWITCHED, SWITCHED_SHORT)
-    return Event(SWITCH, time, cpu, int(pid), comm, cpu, state, int(other), other_comm)
-
-
-def woken(time: int, cpu: int, text: str) -> Event:
-    comm, pid, target = matched(text, WOKEN, WOKEN_SHORT)
-    return Event(WAKE, time, cpu, int(pid), comm, int(target))
-
-
-def woken_first(time: int, cpu: int, text: str) -> Event:
-    comm, pid, target = matched(text, WOKEN, WOKEN_SHORT)
-    return Event(WAKE_NEW, time, cpu, int(pid), comm, int(target))
-
-
-def forked(time: int, cpu: int, text: str) -> Event:
-    comm, pid, child_comm, child = matched(text, FORKED)
-    return Event(FORK, time, cpu, int(pid), comm, cpu, "", int(child), child_comm)
-
-
-def moved(time: int, cpu: int, text: str) -> Event:
-    comm, pid, origin, target = matched(text, MOVED)
-    return Event(MOVE, time, int(origin), int(pid), comm, int(target))
-
-
-def exited(time: int, cpu: int, text: str) -> Event:
-    comm, pid = matched(text, EXITED)
-    return Event(EXIT, time, cpu, int(pid), comm)
-
-
-READERS: dict[str, Callable[[int, int, str], Event]] = {
-    "sched_switch": switched,
-    "sched_waking": woken,
-    "sched_wakeup": woken,
-    "sched_wakeup_new": woken_first,
-    "sched_process_fork": forked,
-    "sched_migrate_task": moved,
-    "sched_process_exit": exited,
-}
 
 
 @dataclass
@@ -154,8 +128,7 @@ class Recording:
         name = name.removeprefix("sched:") if colon else name.removeprefix("sched:").removesuffix(":")
         if not name.strip() or not colon and not text.endswith(":"):
             raise ValueError
-        read = READERS.get(name)
-        event = read(time, cpu, rest) if read else None
+        event = event_of(name, time, cpu, rest)
         if event is None:
             self.other_kinds[name] += 1
         if event is None or event.kind != SWITCH:
