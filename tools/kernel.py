@@ -14,7 +14,7 @@ import shutil
 import subprocess
 from collections import Counter
 from collections.abc import Iterable, Iterator
-from dataclasses import dataclass, field, replace
+from dataclasses import dataclass, field
 from typing import NamedTuple
 
 BYTE, WORD32, WORD64 = 2**8 - 1, 2**32 - 1, 2**64 - 1
@@ -25,7 +25,8 @@ NUMBER = re.compile(r"0|[1-9][0-9]*")
 ORDERS = ("levels", "fifo", "least-ran", "levels-then-least-ran")
 LEAVES = {"block": "blocked", "yield": "ready", "preempt": "ready", "die": "dead"}
 OWN_OF_VERSION_3 = {"policy", "mend"}
-QUESTIONS = {"status", "asleep", "show", "same", "complete"}
+# Commands that are no events: a policy may stand behind them.
+BEFORE_EVENTS = {"policy", "status", "asleep", "show", "same", "complete"}
 # What the kernel does whatever agents know, and answers by itself.
 FOLLOWED = {"create", "wake", *LEAVES, "affinity", "priority", "tick", "associate", "commit", "sleep", "rouse", "config", "crash"}
 # The greatest limits of the first version, and of the later ones.
@@ -137,8 +138,7 @@ class Refused(ValueError):
     """A command is refused: its text stands behind `refused`."""
 
 
-@dataclass(frozen=True)
-class Report:
+class Report(NamedTuple):
     """What the messages of a thread say of it, up to one of them."""
 
     phase: str
@@ -229,7 +229,7 @@ class Kernel:
 
     def ask(self, verb: str, *fields: int | str) -> str:
         """The answer to a command."""
-        self.had_event |= verb not in QUESTIONS | {"policy"}
+        self.had_event |= verb not in BEFORE_EVENTS
         try:
             answer: str = self.leave(verb, *fields) if verb in LEAVES else getattr(self, verb)(*fields)  # type: ignore[arg-type]
         except Refused as refusal:
@@ -299,7 +299,7 @@ class Kernel:
     def wake(self, name: int) -> str:
         now = self.alive(name).now
         self.need(now.phase == "blocked", "NotBlocked")
-        return self.message(name, replace(now, phase="ready"))
+        return self.message(name, now._replace(phase="ready"))
 
     def leave(self, how: str, cpu: int, ran: int) -> str:
         self.need_cpus(cpu)
@@ -307,7 +307,7 @@ class Kernel:
         if name is None:
             raise Refused("IdleCpu")
         thread = self.threads[name]
-        answer = self.message(name, replace(thread.now, phase=LEAVES[how], ran=thread.now.ran + ran))
+        answer = self.message(name, thread.now._replace(phase=LEAVES[how], ran=thread.now.ran + ran))
         self.running[cpu] = thread.cpu = None
         return answer
 
@@ -315,12 +315,12 @@ class Kernel:
         thread = self.alive(name)
         self.need_mask(mask)
         self.need(thread.cpu is None or mask >> thread.cpu & 1, "OnForbiddenCpu")
-        return self.message(name, replace(thread.now, mask=mask))
+        return self.message(name, thread.now._replace(mask=mask))
 
     def priority(self, name: int, level: int) -> str:
         now = self.alive(name).now
         self.need(level <= 7, "BadLevel")
-        return self.message(name, replace(now, level=level))
+        return self.message(name, now._replace(level=level))
 
     def tick(self, cpu: int) -> str:
         self.need_cpus(cpu)
