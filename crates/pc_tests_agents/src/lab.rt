@@ -235,7 +235,9 @@ fn is_scripted(alloc: Global, load: &Load, variants: &Variants) -> Result<bool, 
 }
 
 fn are_compared(alloc: Global) -> Result<bool, CompareFault> {
-    let (load, variants) = (two_threads(alloc)?, two_variants(alloc)?);
+    let (Ok(load), Ok(variants)) = (two_threads(alloc), two_variants(alloc)) else {
+        return Err(CompareFault::OutOfMemory);
+    };
     Ok(
         tables(alloc, &load, &variants)?
             && pictures(alloc, &load, &variants)?
@@ -279,7 +281,9 @@ fn waits(alloc: Global, columns: &[Column<'_>]) -> Result<usize, CompareFault> {
 
 /// Whether runs are told as text, as a picture and by their figures.
 fn are_told(alloc: Global) -> Result<bool, CompareFault> {
-    let (load, variants) = (two_threads(alloc)?, two_variants(alloc)?);
+    let (Ok(load), Ok(variants)) = (two_threads(alloc), two_variants(alloc)) else {
+        return Err(CompareFault::OutOfMemory);
+    };
     let columns = columns_of(alloc, &load, variants.as_slice())?;
     let text = text_of(alloc, &load, columns.as_slice(), FORM)?;
     let picture = waits_of(alloc, columns.as_slice())?;
