@@ -9,36 +9,25 @@ from __future__ import annotations
 
 import re
 import sys
+import tomllib
 from collections import Counter
 
 import rig
 import timed_drawings
 from kernel import answered, ticks_of
 from pictures import (
-    ENCLAVE, LEFT, MOST_SINGLE, ROWS, SCRIPTS, SETTINGS, SHAPES, SINGLE_WORDS, SVG, WAITING, WHOLE, Bar, Element, Part, Picture, Words,
+    ENCLAVE, LEFT, MOST_SINGLE, ROWS, SCRIPTS, SETTINGS, SHAPES, SINGLE_WORDS, SVG, WHOLE, Bar, Element, Part, Picture, Words,
     answers_to, are_one, bars_in, bars_of, draw, drawn_script, edges_of, front_of, look_of, many, refused_words, shown_often, steps_of, story_of,
     width_of,
 )
-from rig import outcome, same
+from rig import ROOT, outcome, same
 
 DRAWN = 300
 # What spells no numbers, and what does.
 NO_NUMBERS = ["", " ", "a", "-", "3-", "-3", "7-3", "+1", "1-+2", "01", "1-02", "1-2-3", "1--2", "1,2", " 1", "1 ", "0x1", "1.5", "4294967296", "1-4294967296"]
 NUMBERS = ["0", "3", "3-3", "0-63", "9-10", "4294967295", "0-4294967295"]
-# What the legend says, from top to bottom, and what the titles of such marks say in a picture where each command has a column of its own.
-LEGEND = [
-    ("a thread runs on the CPU, in one of eight colours and with its name where there is room", [r"t(?:0|8|16) on CPU .*"]),
-    ("a thread ran for a part of it, or several did, the darker the longer (where a column is of several commands)", []),
-    ("the CPU is idle while ready threads wait, there or elsewhere, whatever their masks", [r"CPU \d+ idle while .*"]),
-    ("ready: threads at home there wait for a CPU; the more, the higher", [WAITING + r" for CPU .*"]),
-    ("queue: items that the agent has not removed; the more, the higher", [r"\d+ items? in queue .*"]),
-    ("the CPU's agent sleeps", [r"agent \d+ asleep, .*"]),
-    ("an item is posted to the queue (bars by their count where a column is of several commands)", [r"line \d+: (?:create|wake|tick) .*"]),
-    ("an agent takes in what another one sent (a grey strip where a column is of several commands)", [r"line \d+: deliver .*"] * 2),
-    ("a thread's home is another queue: a steal (thick), an associate (thin), or moves of several commands (a blue strip)", [r"t[19] stolen .*", r"t[19] moved .*"]),
-    ("a command is refused (a white strip where a column is of several commands)", [r"line \d+: .*: refused .*"]),
-    ("the CPU's agent crashes, and starts again with nothing", [r"crash \d+, line .*"]),
-]
+# What the legend says, from top to bottom, and what the titles of such marks say.
+LEGEND = list(tomllib.loads((ROOT / "tests/legend.toml").read_text()).items())
 LAST_WORDS = "Where the pointer rests on a mark, its lines are told."
 REPORT_WORDS = "What each agent counted; all bars have one scale. Where the pointer rests on a bar, its count is told."
 COUNTS = {

@@ -21,26 +21,8 @@ WIDTH = 120
 COMMENT = re.compile(r"( *)-- ?(.*)")
 DEFINITION = re.compile(r"( *)(?:[a-z]+ )*?pub (?:(record|data|mod) )?([^\s:(){}]+)")
 CONSTRUCTOR = re.compile(r" +([^\s:(){}]+) :")
-HEAD = """\
-# Definitions
-
-This page is made by `tools/definitions.py` from the comments of the sources.
-
-Everything that is proved is proved against these definitions. They speak of lists, sets and "the last kind that gives
-a phase", and never of the rings, caches, folded prefixes and ranges that the code keeps. Each has its name in a file at
-the top of the `specs/` folder of the crate that owns it, and what stands there is what a reader has to trust. What
-stands below that, in `specs/Inner`, is bookkeeping of private functions: nobody has to read it to know what is
-promised. `docs/PROMISES.md` has the promises that cite these names, `docs/GLOSSARY.md` the words.
-"""
-
-CLAUSES_HEAD = """\
-# Clauses
-
-This page is made by `tools/definitions.py --clauses` from the sources: each public function that has a contract, the
-first sentence of its comment, and the names of its clauses, with the fields of those that are records. Of a call that
-may want memory it names the clauses that tell what is left then. What is given to a call is gone, and what it is only
-lent (`&`) stays as it was. `docs/PROMISES.md` tells which clauses carry which promise.
-"""
+# How the pages begin.
+HEAD, CLAUSES_HEAD = ((ROOT / "tools/pages" / name).read_text() for name in ("definitions.txt", "clauses.txt"))
 
 
 def crates():

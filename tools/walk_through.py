@@ -12,15 +12,8 @@ import subprocess
 import sys
 import textwrap
 
-HEAD = """# A walk through one script
-
-`{name}`, line by line: what is answered, and what each agent knows then.
-`tools/walk_through.py` made this page from the program's own output. What each line may say is in `docs/FORMATS.md`.
-
-Of a thread an agent knows the messages *up to* a number, by which the thread is ready, blocked or dead, and may know
-later ones *past a gap*. A cell is empty where the line changed nothing that the agent knows; `nothing` where it knows
-of no thread.
-"""
+# How the page begins.
+HEAD = (pathlib.Path(__file__).resolve().parent / "pages/walk_through.txt").read_text()
 
 
 def replies(program, script):

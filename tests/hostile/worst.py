@@ -43,8 +43,11 @@ import subprocess
 import sys
 import tempfile
 import time
+import tomllib
+from functools import partial
 
 ROOM = 65536
+TEXTS = tomllib.loads((pathlib.Path(__file__).parent / "texts.toml").read_text())
 WIDE = "version 2\nenclave 64 65535 16000000 65536 4294967295\n"
 
 
@@ -114,30 +117,22 @@ MOST_SETTINGS = 2**20
 MOST_LOAD = 2**24
 
 
-def filled(head, entries, tail="", most=MOST_SETTINGS):
-    """As many entries as there is room for between a head and a tail."""
+def filled(head, entry, tail="", most=MOST_SETTINGS):
+    """As many entries as there is room for between a head and a tail. In each a number of its own stands for `#n`."""
     room = most - len(head) - len(tail)
     yield head
-    for entry in entries:
-        room -= len(entry)
+    for number in itertools.count():
+        text = entry.replace("#n", f"{number:x}")
+        room -= len(text)
         if room < 0:
             break
-        yield entry
+        yield text
     yield tail
-
-
-def numbered(form):
-    """Entries that differ by a number."""
-    return (form.replace("#", f"{n:x}") for n in itertools.count())
-
-
-def alike(entry):
-    return itertools.repeat(entry)
 
 
 def nested():
     inner = ".".join("a" * 80)
-    yield from filled("cpus=1\n", numbered("#" + inner[1:] + "=" + f"{{{inner}=" * 79 + "1" + "}" * 79 + "\n"))
+    yield from filled("cpus=1\n", "#n" + inner[1:] + "=" + f"{{{inner}=" * 79 + "1" + "}" * 79 + "\n")
 
 
 def mask_of(home, cpus, anywhere):
@@ -205,22 +200,11 @@ SCRIPTS = {
     "early-threads": early_threads, "posts": posts,
 }
 SETTINGS = {
-    "dotted": lambda most=MOST_SETTINGS: filled("cpus=1\n", numbered("#" + ".a" * 79 + "=1\n"), most=most),
+    **{name: partial(filled, *row) for name, row in TEXTS["longest"].items()},
+    "dotted": lambda most=MOST_SETTINGS: filled("cpus=1\n", "#n" + ".a" * 79 + "=1\n", most=most),
     "nested": nested,
-    "keys": lambda most=MOST_SETTINGS: filled("cpus=1\n", numbered("#=1\n"), most=most),
-    "headers": lambda: filled("cpus=1\n", numbered("[a#]\n")),
-    "rows": lambda: filled("cpus=1\n", alike("[[a]]\n")),
-    "lines": lambda: filled("cpus=1\n", alike("\n")),
-    "comments": lambda: filled("cpus=1\n", alike("#\n")),
-    "arrays": lambda: filled("cpus=1\na=[", alike("[],"), "]\n"),
-    "lone-arrays": lambda: filled("cpus=1\na=[", alike("[1],"), "]\n"),
-    "tables": lambda most=MOST_SETTINGS: filled("cpus=1\na=[", alike("{a=1},"), "]\n", most),
-    "numbers": lambda: filled("cpus=1\na=[", alike("1,"), "]\n"),
-    "texts": lambda: filled("cpus=1\na=[", alike("'',"), "]\n"),
-    "text": lambda: filled("cpus=1\na='", alike("x"), "'\n"),
-    "key": lambda: filled("cpus=1\n", alike("x"), "=1\n"),
-    "escapes": lambda: filled('cpus=1\na="', alike("\\u00ff"), '"\n'),
-    "steps": lambda: filled("cpus=1\nthread=[{queue=0,mask=1,steps=[", alike('"die 0",'), "]}]\n"),
+    "keys": lambda most=MOST_SETTINGS: filled("cpus=1\n", "#n=1\n", most=most),
+    "tables": lambda most=MOST_SETTINGS: filled("cpus=1\na=[", "{a=1},", "]\n", most),
     "lives": living,
     "restarts": restarts,
 }
