@@ -565,13 +565,6 @@ def test_the_gate_waits_for_a_build(it: Launcher) -> None:
 # The program of release/
 
 
-def builds_instead(it: Launcher, words: str, **environment: str) -> None:
-    """A start says that much of release/, and builds."""
-    said = [line for line in it.builds(**environment).splitlines() if "release/" in line]
-    same(said, [f"pc-sim: release/pc-sim.xz {words}: the program is built instead"] if words else [])
-    same(list(it.program.parent.glob("*.[0-9]*")), [])
-
-
 def test_a_released_program_of_these_sources_is_started_at_once(it: Launcher) -> None:
     it.put_release()
     same(it.run_it("a", "b c"), (0, told("a", "b c"), IS_RELEASED))
@@ -584,42 +577,37 @@ def test_a_released_program_needs_no_kit(it: Launcher) -> None:
     same(it.run_it()[0], 0)
 
 
-def test_who_asks_for_a_build_gets_one(it: Launcher) -> None:
+def change_release(it: Launcher, name: str, change: Any) -> None:
+    before = (it.release / name).read_bytes()
+    (it.release / name).write_bytes(change(before))
+    rig.differ((it.release / name).read_bytes(), before)
+
+
+# What keeps the program of release/ from being started, and what is said of it.
+NOT_TAKEN: dict[str, tuple[Any, str]] = {
+    "who asks for a build": (lambda it: None, ""),
+    "a changed source": (lambda it: it.put_source("left/src/lib.rt"), ""),
+    "an added source": (lambda it: it.put_source("left/src/more.rt"), ""),
+    "a deleted source": (lambda it: (it.crates / EXTRA).unlink(), ""),
+    "a renamed source": (lambda it: (it.crates / "left/src/lib.rt").rename(it.crates / "left/src/a.rt"), ""),
+    "a program that was cut short": (lambda it: change_release(it, "pc-sim.xz", lambda stored: stored[:-20]), "cannot be unpacked"),
+    "a program of another sum": (
+        lambda it: change_release(it, "SUMS", lambda sums: re.sub(rb"(?m)^(\w)(\w{63})(?=.*program$)", rb"\2\1", sums)),
+        "is not the program of release/SUMS"),
+    "a program for another machine": (
+        lambda it: change_release(it, "SUMS", lambda sums: sums.replace(os.uname().machine.encode(), b"pdp11")), "is for another machine, pdp11"),
+    "no xz": (lambda it: (it.bin / "xz").unlink(), "cannot be unpacked, since there is no xz on the path"),
+}
+
+
+@rig.each({name: (name, *row) for name, row in NOT_TAKEN.items()})
+def test_the_program_is_built_in_place_of_the_released_one(it: Launcher, name: str, change: Any, words: str) -> None:
     it.put_release()
-    builds_instead(it, "", PC_SIM_BUILD="1")
-
-
-@rig.each({
-    "changed": ("src/lib.rt", lambda source: source.write_text("// left!\n")),
-    "added": ("src/more.rt", lambda source: source.write_text("")),
-    "deleted": ("specs/Extra.antt", lambda source: source.unlink()),
-    "renamed": ("src/lib.rt", lambda source: source.rename(source.with_name("a.rt"))),
-})
-def test_a_released_program_of_other_sources_is_not_started(it: Launcher, name: str, change: Any) -> None:
-    it.put_release()
-    change(it.crates / "left" / name)
-    builds_instead(it, "")
-
-
-@rig.each({
-    "cut short": ("pc-sim.xz", lambda stored: stored[:-20], "cannot be unpacked"),
-    "of another sum": (
-        "SUMS", lambda sums: re.sub(rb"(?m)^(\w)(\w{63})(?=.*program$)", rb"\2\1", sums), "is not the program of release/SUMS"),
-    "for another machine": ("SUMS", lambda sums: sums.replace(os.uname().machine.encode(), b"pdp11"), "is for another machine, pdp11"),
-})
-def test_a_released_program_that_is_not_started(it: Launcher, name: str, change: Any, words: str) -> None:
-    it.put_release()
-    stored = it.release / name
-    before = stored.read_bytes()
-    stored.write_bytes(change(before))
-    rig.differ(stored.read_bytes(), before)
-    builds_instead(it, words)
-
-
-def test_without_xz_the_program_is_built(it: Launcher) -> None:
-    it.put_release()
-    (it.bin / "xz").unlink()
-    builds_instead(it, "cannot be unpacked, since there is no xz on the path")
+    change(it)
+    errors = it.builds(**({"PC_SIM_BUILD": "1"} if name.startswith("who asks") else {}))
+    said = [line for line in errors.splitlines() if "release/" in line]
+    same(said, [f"pc-sim: release/pc-sim.xz {words}: the program is built instead"] if words else [])
+    same(list(it.program.parent.glob("*.[0-9]*")), [])
 
 
 def test_a_tree_that_cannot_be_written_takes_no_released_program(it: Launcher) -> None:

@@ -10,6 +10,7 @@ import signal
 import subprocess
 import sys
 import time
+import tomllib
 from collections.abc import Callable
 from dataclasses import dataclass
 
@@ -17,37 +18,7 @@ CPUS = os.cpu_count() or 1
 HALF = max(CPUS // 2, 1)
 SLOW = 600  # seconds until what should have ended counts as stuck
 
-PART = """
-static int part_{0}(const char *text, int left) {{
-    int sum = {0}, places[64] = {{0}};
-    for (const char *at = text; *at && left; at++, left--) {{
-        switch (*at % 7) {{ case 0: sum += *at; break; case 1: sum ^= left; break; default: places[sum & 63]++; }}
-        for (int place = 0; place < 64; place++) sum += places[place] * (left + place);
-    }}
-    return printf("%d %zu", sum, strlen(text));
-}}
-"""
-MAKEFILE = "all: $(patsubst %.c,%.o,$(wildcard *.c))\n%.o: %.c\n\tgcc -O2 -c -o $@ $<\n"
-SITE = """daemon off; worker_processes {workers}; pid {folder}/pid; error_log {folder}/errors; {user}
-events {{ worker_connections 512; }}
-http {{ access_log {folder}/log; client_body_temp_path {folder}/body; proxy_temp_path {folder}/proxy;
-fastcgi_temp_path {folder}/fastcgi; uwsgi_temp_path {folder}/uwsgi; scgi_temp_path {folder}/scgi;
-server {{ listen 127.0.0.1:{port}; root {folder}; }} }}
-"""
-POOL = """import multiprocessing, time
-def work(size):
-    return sum(range(size))
-with multiprocessing.Pool({workers}) as pool:
-    while True:
-        pool.map(work, [1_000 << place % 7 for place in range(64)], 1)
-        time.sleep(0.01)
-"""
-BUSY = "import os; os.nice({nice})\nwhile True: pass"
-SLEEPER = """import random, time
-while True:
-    time.sleep(random.uniform(0.001, 0.008))
-    sum(range(random.randrange(1_000, 20_000)))
-"""
+TEXTS = tomllib.loads((pathlib.Path(__file__).resolve().parent / "load_texts.toml").read_text())
 
 
 class Fault(Exception):
@@ -102,10 +73,10 @@ class Running:
 
 def compiler(it: Running) -> None:
     for place in range(6 * CPUS):
-        text = "#include <stdio.h>\n#include <string.h>\n" + "".join(PART.format(part) for part in range(40))
+        text = "#include <stdio.h>\n#include <string.h>\n" + "".join(TEXTS["part"].format(part) for part in range(40))
         calls = " + ".join(f"part_{part}(text, {part})" for part in range(40))
         (it.folder / f"file{place}.c").write_text(f"{text}\nint all_{place}(const char *text) {{ return {calls}; }}\n")
-    (it.folder / "Makefile").write_text(MAKEFILE)
+    (it.folder / "Makefile").write_text(TEXTS["makefile"])
     it.begin("sh", "-c", f"while make -s -B -j {2 * CPUS}; do :; done")
 
 
@@ -114,7 +85,7 @@ def web(it: Running) -> None:
     (it.folder / "large").write_bytes(b"." * 200_000)
     port = random.randrange(20_000, 30_000)
     user = "user root;" if os.geteuid() == 0 else ""
-    (it.folder / "conf").write_text(SITE.format(workers=HALF, folder=it.folder, port=port, user=user))
+    (it.folder / "conf").write_text(TEXTS["site"].format(workers=HALF, folder=it.folder, port=port, user=user))
     it.do(found("nginx"), "-t", "-p", it.folder, "-c", it.folder / "conf")
     it.begin(found("nginx"), "-p", it.folder, "-c", it.folder / "conf")
     time.sleep(0.5)
@@ -123,15 +94,15 @@ def web(it: Running) -> None:
 
 
 def pool(it: Running) -> None:
-    it.begin(sys.executable, "-c", POOL.format(workers=2 * CPUS))
+    it.begin(sys.executable, "-c", TEXTS["pool"].format(workers=2 * CPUS))
 
 
 def nice(it: Running) -> None:
     for value in (0, 5, 10, 19):
         for _ in range(HALF):
-            it.begin(sys.executable, "-c", BUSY.format(nice=value))
+            it.begin(sys.executable, "-c", TEXTS["busy"].format(nice=value))
     for _ in range(2 * CPUS):
-        it.begin(sys.executable, "-c", SLEEPER)
+        it.begin(sys.executable, "-c", TEXTS["sleeper"])
 
 
 def database(it: Running) -> None:
