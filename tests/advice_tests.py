@@ -19,7 +19,7 @@ from collections.abc import Iterator
 from dataclasses import dataclass
 
 import rig
-from kernel import LEAVES, Talk, World, last_lines
+from kernel import ENVIRONMENT, LEAVES, Talk, World, last_lines
 from rig import ROOT, good
 
 sys.path.insert(0, str(ROOT / "tests/hostile"))
@@ -34,7 +34,6 @@ FORMS = {
     "unsought": r"What would make it accepted was not looked for\.",
 }
 STEP = r"`([^`]+)`(?: (\d+) times)?"
-ENVIRONMENT = {"create", "wake", "block", "yield", "preempt", "die", "affinity", "priority", "tick"}
 # The policies of some of the scripts.
 POLICIES = ["fifo", "levels exact", "least-ran exact", "levels-then-least-ran exact"]
 # What a session refuses for itself, before it looks at the line.

@@ -5,9 +5,9 @@ import json
 import random
 from collections.abc import Sequence
 
-from kernel import ORDERS
+from kernel import LEAVES, ORDERS
 
-LEAVES = ("yield", "block", "preempt")
+STAYS_ALIVE = [leave for leave in LEAVES if leave != "die"]
 
 
 def spelled(value: object) -> str:
@@ -34,7 +34,7 @@ def variant(name: str, **keys: object) -> str:
 
 def drawn_steps(chance: random.Random, counts: Sequence[int], ticks: Sequence[int], last: Sequence[int] | None = None) -> list[str]:
     """So many steps of so many ticks, and a `die`."""
-    steps = [f"{chance.choice(LEAVES)} {chance.choice(ticks)}" for _ in range(chance.choice(counts))]
+    steps = [f"{chance.choice(STAYS_ALIVE)} {chance.choice(ticks)}" for _ in range(chance.choice(counts))]
     return [*steps, f"die {chance.choice(last or ticks)}"]
 
 

@@ -24,11 +24,13 @@ GREATEST |= dict.fromkeys(("T", "RAN", "ASEQ", "NUMBER", "THREADS", "NUMBERS", "
 NUMBER = re.compile(r"0|[1-9][0-9]*")
 ORDERS = ("levels", "fifo", "least-ran", "levels-then-least-ran")
 LEAVES = {"block": "blocked", "yield": "ready", "preempt": "ready", "die": "dead"}
+# What the environment does, and no agent.
+ENVIRONMENT = {"create", "wake", *LEAVES, "affinity", "priority", "tick"}
 OWN_OF_VERSION_3 = {"policy", "mend"}
 # Commands that are no events: a policy may stand behind them.
 BEFORE_EVENTS = {"policy", "status", "asleep", "show", "same", "complete"}
 # What the kernel does whatever agents know, and answers by itself.
-FOLLOWED = {"create", "wake", *LEAVES, "affinity", "priority", "tick", "associate", "commit", "sleep", "rouse", "config", "crash"}
+FOLLOWED = {*ENVIRONMENT, "associate", "commit", "sleep", "rouse", "config", "crash"}
 # The greatest limits of the first version, and of the later ones.
 MOST = {"cpus": (64, 64), "threads": (4_096, 65_535), "numbers": (1_000_000, 16_000_000), "room": (65_536, 65_536), "posts": (WORD32, WORD32)}
 # What tells the tick of the commands behind it.

@@ -24,6 +24,13 @@ class TimedLife:
     is_woken: bool = False
 
 
+def waits_told(head: str, waits: list[int], percents: tuple[int, ...]) -> dict[str, int | None]:
+    """The p-th percentile of n waits is the one of rank ceil(p n / 100)."""
+    waits = sorted(waits)
+    rows = {f"{head} p{percent}": waits[-(-percent * len(waits) // 100) - 1] if waits else None for percent in percents}
+    return rows | {f"{head} max": waits[-1] if waits else None, f"{head} sum": sum(waits)}
+
+
 class Timed:
     """The lives of all threads by their times."""
 
@@ -86,10 +93,7 @@ class Timed:
         """The recorded numbers, by the names that a lab's table has for them."""
         rows: dict[str, int | None] = {"makespan": makespan, "commits": len(self.waits)}
         for head, kinds in (("wait", (False, True)), ("woken", (True,))):
-            waits = sorted(ticks for ticks, is_woken in self.waits if is_woken in kinds)
-            for percent in (50, 90, 99):  # the one of rank ceil(percent n / 100)
-                rows[f"{head} p{percent}"] = waits[-(-percent * len(waits) // 100) - 1] if waits else None
-            rows |= {f"{head} max": waits[-1] if waits else None, f"{head} sum": sum(waits)}
+            rows |= waits_told(head, [ticks for ticks, is_woken in self.waits if is_woken in kinds], (50, 90, 99))
         rows["ticks ran"] = sum(ticks for life in self.lives.values() for _, ticks in life.steps)
         cells = {"variant": "recorded", **{name: "-" if value is None else str(value) for name, value in rows.items()}}
         width = max(map(len, cells.values()))

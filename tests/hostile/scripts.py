@@ -1,7 +1,7 @@
 """Scripts drawn at random: by the grammar, with numbers that mostly fit, and then with words and bytes spoilt."""
 from dataclasses import dataclass, field
 
-from kernel import GREATEST, ORDERS, OWN_OF_VERSION_3, answered, forms, told_of
+from kernel import GREATEST, LEAVES, ORDERS, OWN_OF_VERSION_3, answered, forms, told_of
 
 # The limits of an enclave, by what they are to do: be met soon, be met now and then, be as wide as may be, be past the range.
 LIMITS = {
@@ -47,11 +47,12 @@ class Rough:
         """Counts what the command does, where it is accepted."""
         self.threads += words[0] == b"create"
         self.deltas += words[0] in (b"publish", b"answer") and words[-1] != b"fail"
-        if words[0] in (b"create", b"tick") or words[0] in (b"block", b"yield", b"preempt", b"die") and cpu in self.running:
+        leaves = words[0].decode() in LEAVES
+        if words[0] in (b"create", b"tick") or leaves and cpu in self.running:
             self.post(cpu)
         if words[0] in (b"pick", b"commit"):
             self.running.add(cpu)
-        elif words[0] in (b"block", b"yield", b"preempt", b"die"):
+        elif leaves:
             self.running.discard(cpu)
 
 
@@ -88,7 +89,7 @@ def policy(chance):
 def turn(chance, rough):
     """Some commands that follow each other often, on one CPU; or one of any sort."""
     cpu, how = chance.randrange(rough.cpus), chance.random()
-    leave = chance.choice(["block C RAN", "yield C RAN", "preempt C RAN", "die C RAN"]).split()
+    leave = [chance.choice([*LEAVES]), "C", "RAN"]
     if how < 0.2 or rough.threads == 0:
         rows = [["create", "Q", "MASK", chance.choice(["ready", "ready", "blocked"])] for _ in range(chance.choice([1, 2, 4]))]
     elif how < 0.5:
