@@ -65,12 +65,20 @@ class Row:
 
 @dataclass
 class Change:
-    """A text that stands once in a file, and what stands there in its place."""
+    """A text that stands once in a file, on a line of this number, and what stands there in its place."""
 
     file: str
+    line: int
     start: int
     old: str
     new: str
+
+
+def changed(text: str, changes: list[Change]) -> str:
+    """A file's text with its changes, of which none moves another."""
+    for it in sorted(changes, key=lambda it: -it.start):
+        text = text[: it.start] + it.new + text[it.start + len(it.old):]
+    return text
 
 
 @dataclass
@@ -181,7 +189,8 @@ def changes_of(crate: pathlib.Path, edit: pathlib.Path) -> list[Change]:
             text = (crate / file).read_text()
             if not file.startswith("src/") or text.count(old) != 1:
                 raise Bad(f"{old!r} stands {text.count(old)} times in {file}, and not once")
-            changes.append(Change(file, text.find(old), old, line.removeprefix("new:").removeprefix(" ")))
+            start = text.find(old)
+            changes.append(Change(file, text.count("\n", 0, start) + 1, start, old, line.removeprefix("new:").removeprefix(" ")))
     if not changes:
         raise Bad("it changes nothing")
     return changes
@@ -190,9 +199,8 @@ def changes_of(crate: pathlib.Path, edit: pathlib.Path) -> list[Change]:
 def body_of(crate: pathlib.Path, edit: pathlib.Path, row: Row | None) -> WrongBody:
     body = WrongBody(f"{crate.name}/{edit.stem}", changes_of(crate, edit), refused_in={row.goal.split()[0]} if row else set())
     for it in body.changes:
-        text = (crate / it.file).read_text()
         try:
-            body.changed.add(function_in(it.file, text.splitlines(), text.count("\n", 0, it.start) + 1))
+            body.changed.add(function_in(it.file, (crate / it.file).read_text().splitlines(), it.line))
         except Bad:
             # A row of a table: the function that reads it is named, and why.
             if not row:
@@ -205,10 +213,9 @@ def is_within_one(crate: pathlib.Path, body: WrongBody) -> bool:
     """Whether a wrong body changes one function, of no trait, and has to be refused there."""
     spans = set()
     for it in body.changes:
-        text = (crate / it.file).read_text()
-        lines, number = text.splitlines(), text.count("\n", 0, it.start) + 1
+        lines = (crate / it.file).read_text().splitlines()
         try:
-            begin, _ = lines_at(lines, number)
+            begin, _ = lines_at(lines, it.line)
         except Bad:
             return False
         if is_of_a_trait(lines, begin):
@@ -313,19 +320,15 @@ def kit() -> ModuleType:
 def write_changes(crate: pathlib.Path, changes: list[Change]) -> None:
     for file in {it.file for it in changes}:
         text = (crate / file).read_text()
-        for it in sorted((it for it in changes if it.file == file), key=lambda it: -it.start):
-            text = text[: it.start] + it.new + text[it.start + len(it.old):]
-        (crate / file).write_text(text)
+        (crate / file).write_text(changed(text, [it for it in changes if it.file == file]))
 
 
 def copied_function(whole: pathlib.Path, body: WrongBody) -> tuple[str, int, list[str]]:
     """The file of a wrong body's function, the line behind its end, from 0, and the lines of a copy that is changed. A change is within a line."""
     first = body.changes[0]
     text = (whole / first.file).read_text()
-    begin, end = lines_at(text.splitlines(), text.count("\n", 0, first.start) + 1)
-    for it in sorted(body.changes, key=lambda it: -it.start):
-        text = text[: it.start] + it.new + text[it.start + len(it.old):]
-    lines = text.splitlines()[begin:end + 1]
+    begin, end = lines_at(text.splitlines(), first.line)
+    lines = changed(text, body.changes).splitlines()[begin:end + 1]
     lines[0] = re.sub(r"\bfn (\w+)", rf"fn \1{body.copy}", lines[0], count=1)
     return first.file, end + 1, lines
 

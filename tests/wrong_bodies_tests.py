@@ -102,11 +102,6 @@ class WrongBodies:
     def put_says(self, says: dict[str, str]) -> None:
         (self.root / "says").write_text(json.dumps(says))
 
-    def put_alone(self, text: str, other: str, said: str) -> None:
-        """What is said of a text where another is not there."""
-        says = json.loads((self.root / "says").read_text())
-        self.put_says(says | {f"{text}|{other}": said})
-
     def run_it(self, *words: str, path: str = "") -> tuple[int, list[str]]:
         path = path or f"{self.root / 'bin'}:{os.environ['PATH']}"
         ran = rig.run(sys.executable, ROOT / "tests/wrong_bodies.py", "--root", self.root, *words, env={**os.environ, "PATH": path})
@@ -174,8 +169,7 @@ def test_what_other_functions_promise_is_taken_as_proved(it: WrongBodies) -> Non
 
 def test_one_that_a_check_of_many_does_not_tell_is_tried_alone(it: WrongBodies) -> None:
     quiet = {"value: 1": "fn low::count::Count::none: no proof: it calls `low::count::more`, which is not proved"}
-    it.put_says({key: said for key, said in SAYS.items() if key != "value: 1"} | quiet)
-    it.put_alone("value: 1", "told.len() * 2", SAYS["value: 1"])
+    it.put_says({key: said for key, said in SAYS.items() if key != "value: 1"} | quiet | {"value: 1|told.len() * 2": SAYS["value: 1"]})
     same(it.run_it(), (0, ["4 passed, 0 failed"]))
     same(it.asked()[1:], ["count::Count::none"])
 
@@ -217,11 +211,10 @@ def test_a_row_of_none_fails(it: WrongBodies) -> None:
     it.fails_by("low/more-is-none: tests/wrong_bodies.txt names it, and it is not there")
 
 
-def test_one_that_cannot_be_applied_fails(it: WrongBodies) -> None:
-    for text in ("old: count + 3\nnew: count", "old: Count\nnew: Sum", "new: x"):
-        with rig.about(text):
-            it.put_edits({"more-is-two": text})
-            it.fails_by("low/more-is-two: it cannot be tried")
+@rig.each({text: (text,) for text in ("old: count + 3\nnew: count", "old: Count\nnew: Sum", "new: x")})
+def test_one_that_cannot_be_applied_fails(it: WrongBodies, text: str) -> None:
+    it.put_edits({"more-is-two": text})
+    it.fails_by("low/more-is-two: it cannot be tried")
 
 
 def test_one_that_fails_elsewhere_wants_a_reason(it: WrongBodies) -> None:
