@@ -68,16 +68,19 @@ def worked() -> list[tuple[pathlib.Path, list[Run]]]:
     return [(load, runs_of(load.read_text())) for load in files(".toml")]
 
 
-def test_reference_tables() -> None:
-    for load, runs in worked():
-        same(table_of(runs), load.with_suffix(".table").read_text(), load.name)
-    same([it.stem for it in files(".table")], [it.stem for it in files(".toml")])
+# Worked files end so, and this is what has to be as they are, of a load and its runs.
+WORKED: dict[str, tuple[str, Callable[[pathlib.Path, list[Run]], str]]] = {
+    "tables of the reference": (".table", lambda load, runs: table_of(runs)), "CSV of the reference": (".csv", lambda load, runs: csv_of(runs)),
+    "tables": (".table", lambda load, runs: good(lab(load.name))), "CSV": (".csv", lambda load, runs: good(lab(load.name, "--csv"))),
+    "tables of standard input": (".table", lambda load, runs: told(load.read_text())),
+}
 
 
-def test_reference_csv() -> None:
+@rig.each(WORKED)
+def test_worked(suffix: str, made: Callable[[pathlib.Path, list[Run]], str]) -> None:
+    same([it.stem for it in files(suffix)], [it.stem for it in files(".toml")])
     for load, runs in worked():
-        same(csv_of(runs), load.with_suffix(".csv").read_text(), load.name)
-    same([it.stem for it in files(".csv")], [it.stem for it in files(".toml")])
+        same(made(load, runs), load.with_suffix(suffix).read_text(), load.name)
 
 
 def test_reference_scripts_and_what_they_are_answered() -> None:
@@ -94,17 +97,6 @@ def test_each_cpu_is_accounted_for() -> None:
     rows = {line[:26].strip(): line[26:].split() for line in table_of(runs_of((ROWS / "2-steals.toml").read_text()), True).splitlines()}
     wanted = {"cpu 0 ran": ["80", "40"], "cpu 1 ran": ["0", "40"], "cpu 1 idle": ["80", "0"], "cpu 1 idle while one waits": ["70", "0"]}
     same({name: rows[name] for name in wanted}, wanted)
-
-
-def test_tables() -> None:
-    for load in files(".toml"):
-        table = load.with_suffix(".table").read_text()
-        same((good(lab(load.name)), told(load.read_text())), (table, table), load.name)
-
-
-def test_csv() -> None:
-    for load in files(".toml"):
-        same(good(lab(load.name, "--csv")), load.with_suffix(".csv").read_text(), load.name)
 
 
 def test_scripts() -> None:

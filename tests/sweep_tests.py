@@ -15,7 +15,6 @@ import signal
 import subprocess
 import sys
 import time
-from collections.abc import Callable
 
 import rig
 from rig import ROOT, outcome, run, same
@@ -37,6 +36,12 @@ class Sweep:
         lab = [] if "--lab" in words else ["--lab", f"'{rig.program}' lab"]
         return run(SWEEP, "--to", self.to, *lab, *words, **more)
 
+    def done(self, *words: str) -> None:
+        """Sweeps to a good end, where there is what runs the jobs."""
+        rig.needs(shutil.which("parallel"), "no GNU parallel")
+        ended = self.sweep(*words)
+        same(ended.returncode, 0, ended.stderr)
+
     def rows(self) -> list[dict[str, str]]:
         with (self.to / "sweep.csv").open(newline="") as text:
             return list(csv.DictReader(text))
@@ -52,20 +57,11 @@ class Sweep:
         return f"'{path}'"
 
 
-def needs_parallel(test: Callable[[Sweep], None]) -> Callable[[Sweep], None]:
-    def tried(sweep: Sweep) -> None:
-        rig.needs(shutil.which("parallel"), "no GNU parallel")
-        test(sweep)
-
-    return tried
-
-
 FIXTURE = Sweep
 
 
-@needs_parallel
 def test_each_row_is_that_of_the_lab(sweep: Sweep) -> None:
-    same(sweep.sweep(*LOADS, "--", "-j", "4").returncode, 0)
+    sweep.done(*LOADS, "--", "-j", "4")
     rows = sweep.rows()
     for load in LOADS:
         wanted = list(csv.DictReader(pathlib.Path(load).with_suffix(".csv").read_text().splitlines()))
@@ -76,9 +72,9 @@ def test_each_row_is_that_of_the_lab(sweep: Sweep) -> None:
             assert all(not value for key, value in row.items() if key not in (*want, "load"))
 
 
-@needs_parallel
 def test_the_usual_lab_is_the_program(sweep: Sweep) -> None:
     """That of the tree in which the tool stands, or else the one on the path."""
+    rig.needs(shutil.which("parallel"), "no GNU parallel")
     for folder in ("a tree", "bin"):
         tools = sweep.top / folder / "tools"
         tools.mkdir(parents=True)
@@ -90,24 +86,22 @@ def test_the_usual_lab_is_the_program(sweep: Sweep) -> None:
         same((sweep.top / "ran").read_text().splitlines()[-1], str(program))
 
 
-@needs_parallel
 def test_no_word_is_given_twice(sweep: Sweep) -> None:
-    same(sweep.sweep("--lab", sweep.lab(STRICT), *LOADS[:2]).returncode, 0)
-    same(sweep.sweep("--lab", sweep.lab(STRICT), *LOADS[:2], "--variants", VARIANTS).returncode, 0)
+    sweep.done("--lab", sweep.lab(STRICT), *LOADS[:2])
+    sweep.done("--lab", sweep.lab(STRICT), *LOADS[:2], "--variants", VARIANTS)
 
 
-@needs_parallel
 def test_files_of_variants_are_combined_with_loads(sweep: Sweep) -> None:
     other = sweep.top / "two + 'three'.toml"
     other.write_text('[[variant]]\nname = "a"\n[[variant]]\nname = "b"\norder = "fifo"\n')
-    same(sweep.sweep(*LOADS[:2], "--variants", VARIANTS, "--variants", str(other)).returncode, 0)
+    sweep.done(*LOADS[:2], "--variants", VARIANTS, "--variants", str(other))
     same([(row["load"], row["variant"]) for row in sweep.rows() if row["variants"] == str(other)],
          [(load, name) for load in LOADS[:2] for name in "ab"])
     same(sweep.jobs(), 4)
 
 
-@needs_parallel
 def test_what_was_interrupted_goes_on_with_what_is_left(sweep: Sweep) -> None:
+    rig.needs(shutil.which("parallel"), "no GNU parallel")
     words = [str(SWEEP), "--to", str(sweep.to), "--lab", sweep.lab(SLOW), *LOADS, "--", "-j", "1"]
     with subprocess.Popen(words, start_new_session=True, stderr=subprocess.DEVNULL) as begun:
         until = time.monotonic() + 60
@@ -116,7 +110,7 @@ def test_what_was_interrupted_goes_on_with_what_is_left(sweep: Sweep) -> None:
         os.killpg(begun.pid, signal.SIGKILL)
     done = (sweep.top / "ended").read_text().splitlines()
     assert len(done) in (2, 3)
-    same(sweep.sweep("--lab", sweep.lab(SLOW), *LOADS, "--", "-j", "4").returncode, 0)
+    sweep.done("--lab", sweep.lab(SLOW), *LOADS, "--", "-j", "4")
     ended = (sweep.top / "ended").read_text().splitlines()
     # One that ended as it was interrupted may not have left its rows: it is run again, and no other.
     same(sorted(set(ended)), LOADS)
@@ -126,20 +120,19 @@ def test_what_was_interrupted_goes_on_with_what_is_left(sweep: Sweep) -> None:
     same(len(variants), len(set(variants)))
 
 
-@needs_parallel
 def test_a_changed_load_is_another_job(sweep: Sweep) -> None:
     load = sweep.top / "load.toml"
     load.write_text(pathlib.Path(LOADS[0]).read_text())
-    same(sweep.sweep(str(load)).returncode, 0)
-    same(sweep.sweep(str(load)).returncode, 0)
+    sweep.done(str(load))
+    sweep.done(str(load))
     same(sweep.jobs(), 1)
     load.write_text(load.read_text() + "\n")
-    same(sweep.sweep(str(load)).returncode, 0)
+    sweep.done(str(load))
     same(sweep.jobs(), 2)
 
 
-@needs_parallel
 def test_a_job_that_fails_is_told_and_the_others_gathered(sweep: Sweep) -> None:
+    rig.needs(shutil.which("parallel"), "no GNU parallel")
     bad = sweep.top / "bad.toml"
     bad.write_text("cpus = 0\n")
     ran = sweep.sweep(LOADS[0], str(bad))
