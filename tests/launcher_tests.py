@@ -323,11 +323,6 @@ def test_without_rt_an_older_program_starts_with_a_warning(it: Launcher) -> None
     matches(errors, r"\Apc-sim: .*older than its sources.*rt is not on the path\n\Z")
 
 
-def test_without_rt_and_a_program_nothing_starts(it: Launcher) -> None:
-    (it.bin / "rt").unlink()
-    it.fails("not built", "rt is not on the path", lines=1)
-
-
 # The order of the crates
 
 
@@ -427,9 +422,19 @@ def test_a_failed_crate_names_itself_and_nothing_more_begins(it: Launcher) -> No
     same(pathlib.Path(errors.splitlines()[-1].split(" is ")[-1]).read_text().splitlines(), lines)
 
 
-@rig.each({"is killed": ({"RT_KILLED": "left"}, "left could not be built"), "leaves no program": ({"RT_LEAVES_NONE": "yes"}, "left no program")})
-def test_a_build_that_fails(it: Launcher, environment: dict[str, str], words: str) -> None:
-    assert ("pc_sim .." in it.fails(words, **environment)) == ("RT_KILLED" not in environment)
+# What is done to a tree, what the stand-in for rt is told, what is said of it then, and whether the last crate begins.
+FAILS: dict[str, tuple[Any, dict[str, str], list[str], bool]] = {
+    "no rt and no program": (lambda it: (it.bin / "rt").unlink(), {}, ["not built", "rt is not on the path"], False),
+    "a tree that cannot be locked": (lambda it: (it.tree / ".build.lock").mkdir(), {}, [".build.lock"], False),
+    "a crate that is killed": (lambda it: None, {"RT_KILLED": "left"}, ["left could not be built"], False),
+    "a build that leaves no program": (lambda it: None, {"RT_LEAVES_NONE": "yes"}, ["left no program"], True),
+}
+
+
+@rig.each(FAILS)
+def test_fails(it: Launcher, change: Any, environment: dict[str, str], words: list[str], has_last: bool) -> None:
+    change(it)
+    same("pc_sim .." in it.fails(*words, lines=None if environment else 1, **environment), has_last)
 
 
 def test_a_failed_crate_ends_those_beside_it(it: Launcher) -> None:
@@ -453,11 +458,6 @@ def test_a_folder_for_temporary_files_that_cannot_be_used(it: Launcher) -> None:
         same(it.calls()[0], [])
     it.put_program()
     it.starts(TMPDIR=str(it.top / "missing"))
-
-
-def test_a_tree_that_cannot_be_locked(it: Launcher) -> None:
-    (it.tree / ".build.lock").mkdir()
-    it.fails(".build.lock", lines=1)
 
 
 @rig.each({number.name: (number,) for number in (signal.SIGINT, signal.SIGTERM, signal.SIGHUP)})

@@ -1,6 +1,6 @@
 #!/usr/bin/env python3
-"""Tests tools/from-perf-sched: on the short texts of tests/recordings.txt, whose commands were worked out by hand, on others that are
-written here, and on the recordings of examples/recordings. It also tests what of tools/record-loads needs no perf.
+"""Tests tools/from-perf-sched: on the short texts of tests/recordings.txt, most of whose commands were worked out by hand, on others
+that are written here, and on the recordings of examples/recordings. It also tests what of tools/record-loads needs no perf.
 
     tests/recording_tests.py [--program PROGRAM]
 
