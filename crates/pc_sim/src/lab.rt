@@ -4,7 +4,7 @@ use crate::end;
 use crate::met::{Met, Source};
 use crate::streams::{Noted, Opening, screen_of};
 use pc_program::{Ending, Failure, VariantsFrom};
-use pc_trial::{LabEnding, MOST_LOAD, Progress, Unread, LabOutput, try_load, try_variants};
+use pc_trial::{LabEnding, LabOutput, MOST_LOAD, Progress, Unread, try_load, try_variants};
 use std::io::{self, BufWriter, ErrorKind};
 use std::process::ExitCode;
 

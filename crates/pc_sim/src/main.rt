@@ -12,8 +12,8 @@ mod words;
 use lab::try_on_machine;
 use met::{Met, Source, say_failure};
 use pc_program::{
-    AgentPolicy, ProgramCommand, CommandFault, Ending, Failure, ScriptForm, Manual, converse_flushed,
-    make_flushed, read_command, replay_flushed,
+    AgentPolicy, CommandFault, Ending, Failure, Manual, ProgramCommand, ScriptForm,
+    converse_flushed, make_flushed, read_command, replay_flushed,
 };
 use pc_script::MOST_BYTES;
 use pc_trial::LabOutput;
@@ -193,7 +193,11 @@ fn main(rt: HostRuntime) -> ExitCode {
     match command_of(&rt) {
         Ok(ProgramCommand::Replay { file }) => make_script(&rt, ScriptForm::Replies, file),
         Ok(ProgramCommand::Explain { file }) => make_script(&rt, ScriptForm::Explained, file),
-        Ok(ProgramCommand::Draw { file, part, axis }) => make_script(&rt, ScriptForm::Picture(part, axis), file),
+        Ok(ProgramCommand::Draw { file, part, axis }) => make_script(
+            &rt,
+            ScriptForm::Picture(part, axis),
+            file,
+        ),
         Ok(ProgramCommand::Session { file, explains }) => talk(&rt, explains, file),
         Ok(
             ProgramCommand::Lab {

@@ -1,6 +1,6 @@
 //! The lab over memory, with ample memory: it tells a table, a picture and a script.
 
-use pc_trial::{LabEnding, Progress, LabOutput, try_load, try_variants};
+use pc_trial::{LabEnding, LabOutput, Progress, try_load, try_variants};
 use std::alloc::Global;
 use std::io::{BufWriter, Stderr};
 use std::test::Fail;

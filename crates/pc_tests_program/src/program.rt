@@ -1,8 +1,8 @@
 //! What no script of tests/cases can say: a script over memory, the words of a command line, and how the program ends.
 
 use pc_program::{
-    Axis, ProgramCommand, CommandFault, DrawnPart, Ending, Failure, ScriptForm, Helper, Interval, ReportForm,
-    VariantsFrom, converse_flushed, make, read_command, replay_flushed, run_script,
+    Axis, CommandFault, DrawnPart, Ending, Failure, Helper, Interval, ProgramCommand, ReportForm,
+    ScriptForm, VariantsFrom, converse_flushed, make, read_command, replay_flushed, run_script,
 };
 use pc_script::Outcome;
 use std::alloc::Global;
@@ -73,7 +73,12 @@ const ONE: DrawnPart = DrawnPart {
 fn is_drawn(alloc: Global, part: DrawnPart, axis: Axis) -> bool {
     let mut reader = b"enclave 2 8 100 16 1000\n# at 7\ntick 1\ntick 0\n".as_slice();
     let mut writer = Vec::new(alloc);
-    make(alloc, ScriptForm::Picture(part, axis), &mut reader, &mut writer) == Ending::Finished
+    make(
+        alloc,
+        ScriptForm::Picture(part, axis),
+        &mut reader,
+        &mut writer,
+    ) == Ending::Finished
         && writer.as_slice().ends_with(b"</svg>\n")
 }
 
