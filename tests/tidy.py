@@ -12,14 +12,14 @@ TITLE_WIDTH = 72
 MOST_WORDS = 40
 # So many words a page has at most, as `wc -w` counts them; and all pages together.
 MOST_OF_PAGE = {
-    "README.md": 1_200,
+    "README.md": 1_150,
     "CHANGELOG.md": 1_000,
-    "CONTRIBUTING.md": 2_500,
+    "CONTRIBUTING.md": 1_750,
     "clients/python/README.md": 500,
     "docs/ARCHITECTURE.md": 1_500,
     "docs/DECISIONS.md": 3_000,
     "docs/FORMATS.md": 5_000,
-    "docs/GLOSSARY.md": 1_500,
+    "docs/GLOSSARY.md": 1_350,
     "docs/HOSTILE.md": 900,
     "docs/LAB.md": 2_500,
     "docs/PERFORMANCE.md": 1_200,
@@ -30,7 +30,7 @@ MOST_OF_PAGE = {
     "docs/TUTORIAL.md": 2_000,
     "examples/README.md": 650,
 }
-MOST_OF_ALL = 36_000
+MOST_OF_ALL = 28_000
 # A document's block of code, a table's line, a heading, or what begins an item.
 CODE, ITEM = re.compile(r"^(?:    |\t)"), re.compile(r"^ *(?:[-*]|\d+\.) +")
 NO_PROSE = re.compile(r"^(?:\||#|<!--)")
