@@ -37,7 +37,12 @@ COUNTS = {
 
 
 def shown_as(picture: Picture, part: str, lines: list[str]) -> list[str]:
-    """What a picture has in place of these lines of a part of a case: `bars` are from where to where, `marks` where, the titles of a pattern."""
+    """What a picture has in place of these lines of a part of a case.
+
+    The `title`; of `words` those that stand anywhere in it, or its width; the numbers of `ticks` on its axis; the titles `told` of a pattern;
+    `bars`, from where to where, and `marks`, where, each of the titles of a pattern. So a part of `words`, `bars` or `marks` without a line
+    holds of every picture.
+    """
     kind, _, pattern = part.partition(" ")
     if kind in ("bars", "marks"):
         places = picture.edges if kind == "bars" else picture.places

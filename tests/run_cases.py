@@ -1,7 +1,7 @@
 #!/usr/bin/env python3
 """Runs the built program on every case and on every example, as both compilers built it, and compares bytes.
 
-An example is a script or settings of examples/ beside what it prints, or a load of examples/lab beside the table that the lab makes of it;
+An example is a script or settings of examples/ beside what it prints, or a load of examples/lab beside the table that the lab makes of it.
 A case is a folder of tests/cases:
   args      the arguments, one a line (none: `replay`)
   stdin     the standard input, or make-stdin, a shell script that writes it (none: empty)
@@ -100,7 +100,7 @@ def faults_of(case, program, word=""):
 
 
 def expect(case):
-    """What is written of a case, an example or the page is the wanted."""
+    """What is written of a case or an example is the wanted."""
     found = faults_of(case, rig.program)
     if case.is_replay():
         found += [f"explained: {fault}" for fault in faults_of(case, rig.program, "explain")]

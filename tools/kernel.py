@@ -413,7 +413,8 @@ class Kernel:
     # A script by its answers
 
     def follow(self, words: list[str], answer: str) -> None:
-        """Does what a command did that was answered so, whatever agents know. Raises ValueError where the kernel would not answer that."""
+        """Does what a command did that was answered so, whatever agents know. Raises ValueError where the kernel would not answer that to a
+        call of its own; what an agent was answered to `pick`, `steal`, `consume` and `mend` is taken as it stands."""
         verb, placed = words[0], PLACED.fullmatch(answer)
         if verb == "mend" and (placed or answer == "refused NothingReady"):
             for cpu in range(self.cpus):
