@@ -57,12 +57,6 @@ DEEP = {
 }
 
 
-def has_run(machine):
-    """Whether the program knows the command."""
-    run = machine.run(Subject("", ["run", "--help"], out=None))
-    return run.status == 0 and run.out != b""
-
-
 def written(folder, name, text):
     file = pathlib.Path(folder) / (re.sub(r"\W", "-", name) + ".toml")
     file.write_bytes(text if isinstance(text, bytes) else text.encode())
@@ -136,9 +130,6 @@ def trials_of_growths(machine, waits, subject, most):
 
 def use_rows(machine, tally, most):
     """The rows, the deep texts, and the rows with some so many growths refused."""
-    if not has_run(machine):
-        tally.note(f"skipped: {machine.program.name} has no command `run`, so no settings were tried")
-        return
     every = list(accepted(machine.folder))
     tally.try_all(
         (subject.name, lambda it=subject: fault_of_ample(it, machine.run(it)))
@@ -222,5 +213,4 @@ def fault_of_drawn(machine, place):
 
 def draw_settings(machine, tally, count):
     """Runs so many drawn settings."""
-    if has_run(machine):
-        tally.try_all((f"settings {place}", lambda place=place: fault_of_drawn(machine, place)) for place in range(count))
+    tally.try_all((f"settings {place}", lambda place=place: fault_of_drawn(machine, place)) for place in range(count))
