@@ -196,8 +196,9 @@ def test_a_record_is_a_script():
 
 def test_what_documents_show():
     world = {"World": World}
-    for module in (nimhessian, nimhessian.world, nimhessian.commands):
-        same(doctest.testmod(module, extraglobs=world).failed, 0, module.__name__)
+    every = [doctest.testmod(module, extraglobs=world) for module in (nimhessian, nimhessian.world, nimhessian.commands)]
+    same([it.failed for it in every], [0, 0, 0])
+    assert sum(it.attempted for it in every) > 0, "no module shows how it is used"
     shown = doctest.testfile(str(CLIENT / "README.md"), module_relative=False)
     same((shown.failed, shown.attempted > 10), (0, True))
 

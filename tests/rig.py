@@ -193,6 +193,7 @@ def cases(name: str) -> dict[str, tuple[str, list[str], dict[str, list[str]]]]:
     for title, text in re.findall(r"^### (.*)\n((?:(?!### ).*\n)*)", (ROOT / "tests" / name).read_text(), re.M):
         case, _, words = title.partition(" | ")
         given, *parts = re.split(r"^=== ", text.rstrip("\n") + "\n", flags=re.M)
+        assert case not in found, f"{name} has two cases `{case}`"
         found[case] = given, words.split(), {head: lines for head, *lines in map(str.splitlines, parts)}
     assert found, f"no case in {name}"
     return found

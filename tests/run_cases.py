@@ -27,8 +27,6 @@ CASES = ROOT / "tests/cases"
 class Case:
     """A case, as its folder tells it."""
 
-    hint = ""
-
     def __init__(self, folder):
         self.folder, self.name = folder, folder.name
         self.is_shell = (folder / "run").is_file()
@@ -59,8 +57,6 @@ class Case:
 
 class Example:
     """A script, settings or a load of examples/, and the output that stands beside it."""
-
-    hint = ""
 
     def __init__(self, path):
         self.path, self.name, self.status, self.err = path, path.name, 0, b""
@@ -104,7 +100,7 @@ def expect(case):
     found = faults_of(case, rig.program)
     if case.is_replay():
         found += [f"explained: {fault}" for fault in faults_of(case, rig.program, "explain")]
-    assert not found, "\n    ".join(found + [case.hint])
+    assert not found, "\n    ".join(found)
 
 
 def all_cases():
