@@ -19,7 +19,7 @@ from collections.abc import Iterator
 from dataclasses import dataclass
 
 import rig
-from kernel import ENVIRONMENT, LEAVES, Talk, World, last_lines
+from kernel import ENVIRONMENT, LEAVES, ORDERS, Talk, World, last_lines
 from rig import ROOT, good
 
 sys.path.insert(0, str(ROOT / "tests/hostile"))
@@ -35,7 +35,7 @@ FORMS = {
 }
 STEP = r"`([^`]+)`(?: (\d+) times)?"
 # The policies of some of the scripts.
-POLICIES = ["fifo", "levels exact", "least-ran exact", "levels-then-least-ran exact"]
+POLICIES = ["fifo", *(f"{order} exact" for order in ORDERS if order != "fifo")]
 # What a session refuses for itself, before it looks at the line.
 SESSION = ("NoEnclave", "HaveEnclave", "BadLimits")
 # The most lines that a single step is repeated for.
