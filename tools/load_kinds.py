@@ -4,6 +4,7 @@ from __future__ import annotations
 import contextlib
 import os
 import pathlib
+import pwd
 import random
 import shutil
 import signal
@@ -41,14 +42,32 @@ def found(command: str) -> str | None:
     return shutil.which(command, path=":".join([path, "/usr/sbin", *map(str, reversed(servers))]) if path else path)
 
 
+def user_of(*keys: str | int) -> pwd.struct_passwd:
+    """The first of these users that there is, by name or number."""
+    for key in keys:
+        with contextlib.suppress(KeyError):
+            return pwd.getpwuid(key) if isinstance(key, int) else pwd.getpwnam(key)
+    raise Fault(f"there is no user {' or '.join(map(str, keys))}")
+
+
 class Running:
-    """The processes of a load in a folder of its own; they end in the opposite order of their beginning."""
+    """The processes of a load in a folder of its own; they end in the opposite order of their beginning.
 
-    def __init__(self, stack: contextlib.ExitStack, folder: pathlib.Path, user: str | None = None) -> None:
+    The folder is fresh and nobody else's: who gets into it may command a server.
+    """
+
+    def __init__(self, stack: contextlib.ExitStack, folder: pathlib.Path, user: pwd.struct_passwd | None = None) -> None:
         self.stack, self.folder = stack, folder
-        self.who = {"user": user, "group": user, "extra_groups": []} if user else {}
+        self.who = {"user": user.pw_uid, "group": user.pw_gid, "extra_groups": []} if user else {}
 
-    def by(self, user: str | None) -> Running:
+    def without_root(self, *names: str) -> Running:
+        """Has the first of these users that there is run what follows, where root would. The folder becomes that
+        user's, so from here on root writes nothing there: it might follow a link."""
+        if os.geteuid():
+            return self
+        user = user_of(*names)
+        for path in [*self.folder.iterdir(), self.folder]:
+            os.chown(path, user.pw_uid, user.pw_gid)
         return Running(self.stack, self.folder, user)
 
     def begin(self, *words: object, end: int = signal.SIGTERM) -> None:
@@ -84,8 +103,8 @@ def web(it: Running) -> None:
     (it.folder / "small").write_bytes(b"." * 1_000)
     (it.folder / "large").write_bytes(b"." * 200_000)
     port = random.randrange(20_000, 30_000)
-    user = "user root;" if os.geteuid() == 0 else ""
-    (it.folder / "conf").write_text(TEXTS["site"].format(workers=HALF, folder=it.folder, port=port, user=user))
+    (it.folder / "conf").write_text(TEXTS["site"].format(workers=HALF, folder=it.folder, port=port))
+    it = it.without_root("www-data", "nobody")
     it.do(found("nginx"), "-t", "-p", it.folder, "-c", it.folder / "conf")
     it.begin(found("nginx"), "-p", it.folder, "-c", it.folder / "conf")
     time.sleep(0.5)
@@ -106,15 +125,19 @@ def nice(it: Running) -> None:
 
 
 def database(it: Running) -> None:
-    """A server of its own, in memory where it can be, so that the disk of a machine does not decide."""
-    if os.geteuid() == 0:
-        it = it.by("postgres")
-        shutil.chown(it.folder, "postgres", "postgres")
-    data, server = it.folder / "data", ("-k", it.folder, "-h", "", "-c", "fsync=off")
-    it.do(found("initdb"), "-D", data, "-A", "trust", "-U", "postgres")
-    it.begin(found("postgres"), "-D", data, *server, end=signal.SIGINT)
+    """A server of its own, in memory where it can be, so that the disk of a machine does not decide.
+
+    Who may ask it may run programs as its user: it listens at a socket in its folder alone, and asks who calls.
+    """
+    it = it.without_root("postgres")
+    name = user_of(it.folder.stat().st_uid).pw_name
+    data, server = it.folder / "data", {
+        "unix_socket_directories": it.folder, "unix_socket_permissions": "0700", "listen_addresses": "", "fsync": "off"}
+    it.do(found("initdb"), "-D", data, "--auth-local=peer", "--auth-host=reject", "-U", name)
+    words = [word for key, value in server.items() for word in ("-c", f"{key}={value}")]
+    it.begin(found("postgres"), "-D", data, *words, end=signal.SIGINT)
     time.sleep(2)
-    client = ("pgbench", "-h", it.folder, "-U", "postgres")
+    client = ("pgbench", "-h", it.folder, "-U", name)
     it.do(*client, "-i", "-q", "-s", 10, "postgres")
     it.begin(*client, "-c", 4 * CPUS, "-j", 2, "-T", SLOW, "postgres")
 
