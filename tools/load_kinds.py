@@ -56,7 +56,8 @@ class Running:
     The folder is fresh and nobody else's: who gets into it may command a server.
     """
 
-    def __init__(self, stack: contextlib.ExitStack, folder: pathlib.Path, user: pwd.struct_passwd | None = None) -> None:
+    def __init__(
+            self, stack: contextlib.ExitStack, folder: pathlib.Path, user: pwd.struct_passwd | None = None) -> None:
         self.stack, self.folder = stack, folder
         self.who = {"user": user.pw_uid, "group": user.pw_gid, "extra_groups": []} if user else {}
 
@@ -66,7 +67,7 @@ class Running:
         if os.geteuid():
             return self
         user = user_of(*names)
-        for path in [*self.folder.iterdir(), self.folder]:
+        for path in [*self.folder.rglob("*"), self.folder]:
             os.chown(path, user.pw_uid, user.pw_gid)
         return Running(self.stack, self.folder, user)
 
@@ -100,8 +101,9 @@ def compiler(it: Running) -> None:
 
 
 def web(it: Running) -> None:
-    (it.folder / "small").write_bytes(b"." * 1_000)
-    (it.folder / "large").write_bytes(b"." * 200_000)
+    (it.folder / "site").mkdir()
+    for name, size in (("small", 1_000), ("large", 200_000)):
+        (it.folder / "site" / name).write_bytes(b"." * size)
     port = random.randrange(20_000, 30_000)
     (it.folder / "conf").write_text(TEXTS["site"].format(workers=HALF, folder=it.folder, port=port))
     it = it.without_root("www-data", "nobody")
