@@ -1,20 +1,28 @@
 #!/usr/bin/env python3
-"""Tests that tools/record-loads opens the machine to nobody. Commands that stand in for the servers of its loads tell who runs them,
-where, and with what words.
+"""Tests that tools/record-loads opens the machine to nobody. Commands that stand in for the servers of its loads tell
+who runs them, where, and with what words. Where it writes, others may have put links, or may put them yet.
 
     tests/loads_tests.py [--program PROGRAM]
 """
 from __future__ import annotations
 
 import os
+import pathlib
 import pwd
 import re
+import subprocess
 import sys
+from collections.abc import Callable
 from typing import NamedTuple
 
 import rig
-from recording_tests import record
-from rig import needs, outcome, same
+from recording_tests import record, switch
+from rig import good, needs, outcome, same
+
+NOBODY = 65_534
+RECORDING = "".join([
+    switch(0, 0, 0, "R", 7), switch(10, 0, 7, "R", 9), switch(30, 0, 9, "S", 7), switch(35, 0, 7, "S", 0)])
+WRITTEN = {"told", "load.toml", "waits", "rows.csv"}
 
 # It tells of itself: the user, the folder that it is in with its mode and owner, its words, and the settings there.
 STANDS_IN = """#!/bin/sh
@@ -78,6 +86,105 @@ def test_a_site_is_served_by_no_root(umask: int) -> None:
     in_a_folder_of_their_own(rows)
     same({listens for row in rows for listens in re.findall(r"listen (.*?):\d+;", row.settings)}, {"127.0.0.1"})
     assert not any(re.search(r"\buser\b", row.settings) for row in rows), rows
+
+
+def kept(top: pathlib.Path) -> pathlib.Path:
+    """Makes a folder with a recording."""
+    folder = top / "to/pool"
+    for path in (top / "to", folder):
+        path.mkdir()
+        path.chmod(0o755)
+    (folder / "recording.txt").write_text(RECORDING)
+    return folder
+
+
+def play(to: pathlib.Path, lab: object = None) -> subprocess.CompletedProcess[str]:
+    return record("--to", to, "--keep", "--lab", f"{lab or rig.program} lab", "pool")
+
+
+@rig.each({"symbolic": (os.symlink,), "hard": (os.link,)})
+def test_what_a_link_leads_to_stays(link: Callable[[pathlib.Path, pathlib.Path], None]) -> None:
+    with rig.folder() as top:
+        folder, other = kept(top), top / "other"
+        other.write_text("as it was")
+        for name in WRITTEN:
+            link(other, folder / name)
+        good(play(top / "to"))
+        same((other.read_text(), other.stat().st_nlink), ("as it was", 1))
+        same({path.name for path in folder.iterdir()}, WRITTEN | {"recording.txt"})
+        same([path.name for path in folder.iterdir() if path.is_symlink()], [])
+
+
+def test_links_of_ones_own_are_gone_by() -> None:
+    with rig.folder() as top:
+        folder = kept(top)
+        (folder / "recording.txt").rename(top / "recording")
+        (folder / "recording.txt").symlink_to(top / "recording")
+        (top / "link").symlink_to("to")
+        good(play(top / "link"))
+        assert WRITTEN <= {path.name for path in folder.iterdir()}
+
+
+def test_whoever_moves_its_folder_changes_nothing() -> None:
+    """While the lab runs, a link comes in the folder's place."""
+    with rig.folder() as top:
+        folder, other, lab = kept(top), top / "other", top / "lab"
+        other.mkdir()
+        move = f"[ -e {top}/moved ] || {{ mv {folder} {top}/moved; ln -s {other} {folder}; }}"
+        lab.write_text(f'{move}\nexec {rig.program} "$@"\n')
+        good(play(top / "to", f"sh {lab}"))
+        same(list(other.iterdir()), [])
+        assert (top / "moved/rows.csv").is_file()
+
+
+def given_away(path: pathlib.Path) -> None:
+    """It becomes another user's, or a link of that user's leads to it."""
+    os.chown(path, NOBODY, NOBODY, follow_symlinks=False)
+
+
+def linked_by_another(path: pathlib.Path) -> None:
+    path.rename(path.with_name("moved"))
+    path.symlink_to("moved")
+    given_away(path)
+
+
+BELONGS, LINK, OTHERS = "{} belongs to another user; ", "`{}` is a link of another user", "others may write in {}; "
+
+
+@rig.each({
+    "all may write": ("to", lambda it: it.chmod(0o777), OTHERS, False),
+    "all may write, and remove their own": ("to", lambda it: it.chmod(0o1777), OTHERS, False),
+    "a group may write": ("to", lambda it: it.chmod(0o775), OTHERS, False),
+    "all may write in a kind's": ("to/pool", lambda it: it.chmod(0o777), OTHERS, False),
+    "another's": ("to", given_away, BELONGS, True),
+    "a kind's is another's": ("to/pool", given_away, BELONGS, True),
+    "another's link": ("to", linked_by_another, LINK, True),
+    "a kind's is another's link": ("to/pool", linked_by_another, LINK, True),
+    "a recording is another's link": ("to/pool/recording.txt", linked_by_another, LINK, True),
+})
+def test_a_folder_of_others_is_refused(
+        name: str, change: Callable[[pathlib.Path], None], told: str, by_root: bool) -> None:
+    needs(not by_root or os.geteuid() == 0, "who is not root cannot give files away")
+    with rig.folder() as top:
+        kept(top)
+        change(top / name)
+        before = sorted(top.rglob("*"))
+        status, out, errors = outcome(play(top / "to"))
+        same((status, out, sorted(top.rglob("*"))), (1, "", before), errors)
+        of_it = str(top / "to") if name == "to" and told != LINK else pathlib.Path(name).name
+        assert errors.startswith(f"record-loads: pool is passed over: {told.format(of_it)}"), errors
+
+
+def test_a_link_of_another_on_the_way_is_refused() -> None:
+    needs(os.geteuid() == 0, "who is not root cannot give files away")
+    with rig.folder() as top:
+        kept(top)
+        (top / "to").rename(top / "moved")
+        (top / "way").symlink_to(top)
+        given_away(top / "way")
+        told = "record-loads: pool is passed over: `way` is a link of another user\n"
+        same(outcome(play(top / "way/new")), (1, "", told))
+        assert not (top / "new").exists()
 
 
 if __name__ == "__main__":

@@ -323,7 +323,7 @@ def test_a_kept_recording_beside_the_lab() -> None:
     """What was recorded is told as the tool has it, and the nearest variant as the lab of the tests has it."""
     with rig.folder() as name:
         folder = name / "pool"
-        folder.mkdir()
+        folder.mkdir(0o755)
         shutil.copy(KEPT / "python-pool.txt", folder / "recording.txt")
         told = good(record("--to", name, "--keep", "--lab", f"{rig.program} lab", "pool"))
         recorded, load = cells_of((folder / "waits").read_text()), (folder / "load.toml").read_text()
