@@ -22,10 +22,16 @@ from rig import ROOT, outcome, run, same
 SWEEP = ROOT / "tools/sweep"
 LOADS = [str(ROOT / f"examples/lab/worked/{name}.toml") for name in ("1-convoy", "2-steals", "3-levels", "4-delay")]
 VARIANTS = str(ROOT / "examples/lab/variants.toml")
-# Labs that stand for the program's: one notes each load that it ends, and takes its time; one takes no word twice, as the program does not.
+# Labs that stand for the program's: one notes each load that it ends, and takes its time; one takes no word twice, as the program does not;
+# one waits while it is held; one notes the words that it was given.
 SLOW = "sleep 0.4\n{lab} \"$@\" && echo \"$1\" >>'{top}/ended'\n"
 STRICT = "[ -z \"$(printf '%s\\n' \"$@\" | sort | uniq -d)\" ] && {lab} \"$@\"\n"
+HELD = "while [ -e '{top}/held' ]; do sleep 0.05; done\n{lab} \"$@\" && echo \"$1\" >>'{top}/ended'\n"
+NOTES = "printf '%s\\0' \"$1\" \"$2\" >>'{top}/seen'\nprintf 'variant\\nplain\\n'\n"
 AS_PROGRAM = "echo {program} >>'{top}/ran'\n[ $1 = lab ] && shift && {lab} \"$@\"\n"
+# Words of `parallel`, and what a shell would run or take apart.
+NAMES = ["x\t;touch PWNED;#.toml", "y\nz\tq\t;touch P2;#.toml", "{1}", "{2}", "{#}", "{}", "{= $_=1 =}.toml", "a -- b", "$(touch P3)`touch P4`",
+         "'\"\\", " \r", "\n", *map(os.fsdecode, (b"\xff", b"\xaf<1\xaf>", bytes(byte for byte in range(1, 256) if byte != ord("/"))))]
 
 
 class Sweep:
@@ -36,14 +42,14 @@ class Sweep:
         lab = [] if "--lab" in words else ["--lab", f"'{rig.program}' lab"]
         return run(SWEEP, "--to", self.to, *lab, *words, **more)
 
-    def done(self, *words: str) -> None:
+    def done(self, *words: str, **more: object) -> None:
         """Sweeps to a good end, where there is what runs the jobs."""
         rig.needs(shutil.which("parallel"), "no GNU parallel")
-        ended = self.sweep(*words)
+        ended = self.sweep(*words, **more)
         same(ended.returncode, 0, ended.stderr)
 
     def rows(self) -> list[dict[str, str]]:
-        with (self.to / "sweep.csv").open(newline="") as text:
+        with (self.to / "sweep.csv").open(newline="", errors="surrogateescape") as text:
             return list(csv.DictReader(text))
 
     def jobs(self) -> int:
@@ -100,17 +106,45 @@ def test_files_of_variants_are_combined_with_loads(sweep: Sweep) -> None:
     same(sweep.jobs(), 4)
 
 
-def test_what_was_interrupted_goes_on_with_what_is_left(sweep: Sweep) -> None:
+def test_names_are_plain_text(sweep: Sweep) -> None:
+    loads, files = NAMES[:-1], NAMES[-2:]
+    for name in NAMES:
+        (sweep.top / name).touch()
+    sweep.to = sweep.top / f"to {''.join(NAMES[:8])}"
+    lab = sweep.lab(NOTES)
+    sweep.done("--lab", lab, *loads, *(f"--variants={it}" for it in files), cwd=sweep.top)
+    seen = os.fsdecode((sweep.top / "seen").read_bytes()).split("\0")[:-1]
+    wanted = [(load, file) for load in loads for file in files]
+    same(sorted(zip(seen[::2], seen[1::2])), sorted((load, f"--variants={file}") for load, file in wanted))
+    same([(row["load"], row["variants"]) for row in sweep.rows()], wanted)
+    same({it.name for it in sweep.top.iterdir()}, {*NAMES, "a lab", "seen", sweep.to.name})
+
+
+def begun(sweep: Sweep, lab: str, rows: str, count: int) -> subprocess.Popen[bytes]:
+    """A sweep of all loads, one by one, that has left so many files of rows."""
     rig.needs(shutil.which("parallel"), "no GNU parallel")
-    words = [str(SWEEP), "--to", str(sweep.to), "--lab", sweep.lab(SLOW), *LOADS, "--", "-j", "1"]
-    with subprocess.Popen(words, start_new_session=True, stderr=subprocess.DEVNULL) as begun:
-        until = time.monotonic() + 60
-        while len(list((sweep.to / "rows").glob("*.csv"))) < 2 and time.monotonic() < until:
-            time.sleep(0.02)
-        os.killpg(begun.pid, signal.SIGKILL)
+    words = [str(SWEEP), "--to", str(sweep.to), "--lab", lab, *LOADS, "--", "-j", "1"]
+    it = subprocess.Popen(words, start_new_session=True, stderr=subprocess.DEVNULL)
+    until = time.monotonic() + 60
+    while len(list((sweep.to / "rows").glob(rows))) < count and time.monotonic() < until:
+        time.sleep(0.02)
+    return it
+
+
+def goes_on(sweep: Sweep, *words: str) -> None:
+    """Sweeps to a good end, once no job is left of what was interrupted."""
+    until = time.monotonic() + 60
+    while "another sweep" in (ended := sweep.sweep(*words)).stderr and time.monotonic() < until:
+        time.sleep(0.05)
+    same(ended.returncode, 0, ended.stderr)
+
+
+def test_what_was_interrupted_goes_on_with_what_is_left(sweep: Sweep) -> None:
+    with begun(sweep, sweep.lab(SLOW), "*.csv", 2) as first:
+        os.killpg(first.pid, signal.SIGKILL)
     done = (sweep.top / "ended").read_text().splitlines()
     assert len(done) in (2, 3)
-    sweep.done("--lab", sweep.lab(SLOW), *LOADS, "--", "-j", "4")
+    goes_on(sweep, "--lab", sweep.lab(SLOW), *LOADS, "--", "-j", "4")
     ended = (sweep.top / "ended").read_text().splitlines()
     # One that ended as it was interrupted may not have left its rows: it is run again, and no other.
     same(sorted(set(ended)), LOADS)
@@ -118,6 +152,20 @@ def test_what_was_interrupted_goes_on_with_what_is_left(sweep: Sweep) -> None:
     same({row["load"] for row in sweep.rows()}, set(LOADS))
     variants = [(row["load"], row["variant"]) for row in sweep.rows()]
     same(len(variants), len(set(variants)))
+
+
+def test_one_sweep_at_a_time_is_at_work_in_a_folder(sweep: Sweep) -> None:
+    """What a sweep that was killed left running is at work there, too."""
+    held, lab = sweep.top / "held", sweep.lab(HELD)
+    held.touch()
+    refused = (1, "", f"sweep: another sweep is at work in {sweep.to}\n")
+    with begun(sweep, lab, "*.part", 1) as first:
+        same(outcome(sweep.sweep("--lab", lab, *LOADS)), refused)
+        first.kill()
+    same(outcome(sweep.sweep("--lab", lab, *LOADS)), refused)
+    held.unlink()
+    goes_on(sweep, "--lab", lab, *LOADS)
+    same(sorted((sweep.top / "ended").read_text().splitlines()), LOADS)
 
 
 def test_a_changed_load_is_another_job(sweep: Sweep) -> None:
