@@ -95,12 +95,62 @@ def test_a_blocked_thread_does_not_wait_whatever_is_told_of_it():
     same([(time, args["value"]) for name, time, args in told(rows, "C", "name", "ts", "args") if name == "threads that wait"], [(5, 1)])
 
 
+def unfit(script: str, answers: str, fault: str) -> None:
+    """One line tells the fault, and no trace is made."""
+    with rig.file(answers, "replies") as replies, rig.file(script) as path:
+        status, out, errors = outcome(rig.run(TO_TRACE, path, "--replies", replies))
+    same((status, out, len(errors.splitlines())), (1, "", 1), errors)
+    assert errors.startswith("to-trace: ") and fault in errors and len(errors) < 300, errors
+
+
 def test_answers_of_another_script_are_refused():
     for answers, fault in (("ok\n", "has no answer"), ("ok\n" * 40, "more answers"), ("ok\nrefused BadCpu\n", "no answer of a kernel")):
-        with rig.file(answers, "replies") as replies, rig.file("enclave 1 1 1 1 1\nrouse 0\n") as script:
-            ended = rig.run(TO_TRACE, script, "--replies", replies)
-        same((ended.returncode, ended.stdout), (1, ""))
-        assert fault in ended.stderr
+        unfit("enclave 1 1 1 1 1\nrouse 0\n", answers, fault)
+
+
+# The last line and its answer, behind two threads that are ready, of which the first runs on CPU 0 where it says so.
+UNFIT = {
+    "a CPU that is not there": ("pick 9 2", "ok t0 c9", False),
+    "another CPU than the one that picks": ("pick 0 2", "ok t0 c1", False),
+    "a queue that is not there": ("steal 1", "ok t0 q7", False),
+    "a CPU that steals and is not there": ("steal 9", "ok t0 q1", False),
+    "a queue that is not there to be consumed": ("consume 9", "ok 1", False),
+    "more items than there are": ("consume 0", "ok 3", False),
+    "fewer items than none": ("consume 0", "ok -1", False),
+    "a thread that is not there": ("pick 0 2", "ok t9 c0", False),
+    "the status of a thread that is not there": ("status t5", "ok t5 n1", False),
+    "a status on a CPU that is not there": ("status t0", "t0 n1 ready c9", False),
+    "a thread of many digits": ("pick 0 2", f"ok t{'9' * 5000} c0", False),
+    "a number of many digits": (f"tick {'9' * 5000}", "refused BadCpu", False),
+    "a duration below nothing": ("block 0 -5", "ok t0 n2 q0 a3 wake -", True),
+    "a thread on two CPUs by a pick": ("pick 1 0", "ok t0 c1", True),
+    "a thread on two CPUs by a commit": ("commit 1 t0 0", "ok t0 c1", True),
+    "a thread on two CPUs by a mend": ("mend 1", "ok t0 c1", True),
+    "two threads on a CPU": ("pick 0 2", "ok t1 c0", True),
+    "a steal of who runs": ("steal 1", "ok t0 q1", True),
+    "no word of an answer": ("steal 1", "ok", False),
+    "a command with a word too few": ("tick", "refused BadCpu", False),
+    "a command that is none": ("idle t5", "ok t5 c1", False),
+    "a second enclave": ("enclave 2 4 9 9 9", "ok", False),
+}
+
+
+@rig.each(UNFIT)
+def test_answers_that_no_kernel_gives(line: str, answer: str, runs: bool) -> None:
+    script = ["version 3", "enclave 2 4 9 9 9", "create 0 3 ready", "create 0 3 ready", "consume 0", *["commit 0 t0 2"] * runs]
+    answers = ["ok", "ok", "ok t0 n1 q0 a1 wake -", "ok t1 n1 q0 a2 wake -", "ok 0", *["ok t0 c0"] * runs]
+    unfit("\n".join([*script, line, ""]), "\n".join([*answers, answer, ""]), "is no answer of a kernel")
+
+
+def test_an_enclave_that_no_kernel_has():
+    for line in ("crash 0", "enclave 2", "enclave x 1 1 1 1", "enclave 65 1 1 1 1", "enclave 1 1 1 1 1 1"):
+        unfit(line + "\n", "ok\n", "is no answer of a kernel")
+
+
+def test_comments_that_tell_no_tick():
+    """A tick that goes back, and a number past the greatest, are none, as docs/FORMATS.md has it."""
+    script = SCRIPT.replace("# at 7\n", f"# at 7\n# at 3\n# at {2 ** 64}\n# at {'9' * 5000}\n")
+    same(traced(script), traced(SCRIPT))
 
 
 def test_a_file_that_is_not_there():

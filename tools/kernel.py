@@ -22,6 +22,8 @@ BYTE, WORD32, WORD64 = 2**8 - 1, 2**32 - 1, 2**64 - 1
 GREATEST = dict.fromkeys(("C", "Q", "A", "B", "CPUS", "LEVEL"), BYTE) | dict.fromkeys(("MASK", "K"), WORD64)
 GREATEST |= dict.fromkeys(("T", "RAN", "ASEQ", "NUMBER", "THREADS", "NUMBERS", "ROOM", "POSTS"), WORD32)
 NUMBER = re.compile(r"0|[1-9][0-9]*")
+# A word that could be one of a command's.
+ANY_WORD = re.compile(r"-|[a-z]+(?:-[a-z]+)*|t?(?:0|[1-9][0-9]{0,19})")
 ORDERS = ("levels", "fifo", "least-ran", "levels-then-least-ran")
 LEAVES = {"block": "blocked", "yield": "ready", "preempt": "ready", "die": "dead"}
 # What the environment does, and no agent.
@@ -30,12 +32,15 @@ OWN_OF_VERSION_3 = {"policy", "mend"}
 # Commands that are no events: a policy may stand behind them.
 BEFORE_EVENTS = {"policy", "status", "asleep", "show", "same", "complete"}
 # What the kernel does whatever agents know, and answers by itself.
-FOLLOWED = {*ENVIRONMENT, "associate", "commit", "sleep", "rouse", "config", "crash"}
+FOLLOWED = {*ENVIRONMENT, "associate", "commit", "sleep", "rouse", "config", "crash", "status", "asleep"}
 # The greatest limits of the first version, and of the later ones.
 MOST = {"cpus": (64, 64), "threads": (4_096, 65_535), "numbers": (1_000_000, 16_000_000), "room": (65_536, 65_536), "posts": (WORD32, WORD32)}
-# What tells the tick of the commands behind it.
-TOLD_TICK = re.compile(r"# at (0|[1-9][0-9]*)")
-PLACED = re.compile(r"ok t(\d+) ([cq])(\d+)")
+# What tells the tick of the commands behind it: no number of more digits is one.
+TOLD_TICK = re.compile(r"# at (0|[1-9][0-9]{0,19})")
+PLACED = re.compile(r"ok t([0-9]+) [cq][0-9]+")
+REMOVED = re.compile(r"ok ([0-9]+)")
+# Answers that tell of no thread, and change nothing that the kernel has.
+UNHEEDED = re.compile(r"ok(?: d\d+(?: items \d+)?)?|yes|no|equal|differ|end|refused .+")
 Rank = tuple[int, int]
 Item = tuple[int, int]  # a thread, and the number of its message
 
@@ -244,7 +249,7 @@ class Kernel:
         fields: list[int | str] = [int(word.removeprefix("t")) if word[-1].isdigit() else word for word in words]
         return self.ask(verb, *fields)
 
-    def need(self, holds: object, refusal: str) -> None:
+    def need(self, holds: object, refusal: object) -> None:
         if not holds:
             raise Refused(refusal)
 
@@ -414,22 +419,39 @@ class Kernel:
 
     def follow(self, words: list[str], answer: str) -> None:
         """Does what a command did that was answered so, whatever agents know. Raises ValueError where the kernel would not answer that to a
-        call of its own; what an agent was answered to `pick`, `steal`, `consume` and `mend` is taken as it stands."""
-        verb, placed = words[0], PLACED.fullmatch(answer)
-        if verb == "mend" and (placed or answer == "refused NothingReady"):
-            for cpu in range(self.cpus):
-                self.remove(cpu, len(self.queues[cpu].items))
+        call of its own, or to the calls that an agent makes for `pick`, `steal` and `mend`. Which thread an agent chose, that it was
+        refused, and how many items it removed is taken as it stands."""
+        verb = words[0]
+        self.need(all(map(ANY_WORD.fullmatch, words)), words)
         if verb in ("pick", "steal", "mend"):
-            if placed:
-                thread, place = self.thread_at(int(placed[1])), int(placed[3])
-                self.need_cpus(place)
-                thread.home = place
-                if placed[2] == "c":
-                    self.put_on(thread, place)
-        elif verb == "consume" and answer.startswith("ok "):
+            self.follow_agent(words, answer)
+        elif verb == "consume" and not answer.startswith("refused "):
+            removed = REMOVED.fullmatch(answer)
+            self.need(removed and int(removed[1]) <= len(self.queues[int(words[1])].items), answer)
             self.remove(int(words[1]), int(answer.split()[1]))
-        elif verb in FOLLOWED and self.say(" ".join(words)) != answer:
-            raise ValueError(answer)
+        elif verb in FOLLOWED:
+            self.need(self.say(" ".join(words)) == answer, answer)
+        else:
+            self.need(UNHEEDED.fullmatch(answer), answer)
+
+    def follow_agent(self, words: list[str], answer: str) -> None:
+        """The calls behind what an agent was answered, or none where it was refused."""
+        verb, cpu, placed = words[0], int(words[1]), PLACED.fullmatch(answer)
+        self.need(placed or answer.startswith("refused "), answer)
+        if verb == "mend" and (placed or answer == "refused NothingReady"):
+            for each in range(self.cpus):
+                self.remove(each, len(self.queues[each].items))
+        if not placed:
+            return
+        self.need_cpus(cpu)
+        self.need(self.running[cpu] is None, "Busy")
+        thread = self.thread_at(int(placed[1]))
+        told = ""
+        if verb == "steal" or verb == "mend" and thread.home != cpu:
+            told = self.associate(thread.name, cpu, thread.number)
+        if verb != "steal":
+            told = self.commit(cpu, thread.name, int(words[2]) if verb == "pick" else self.queues[cpu].posts)
+        self.need(told == answer, answer)
 
 
 @dataclass
@@ -575,6 +597,12 @@ class World(Kernel):
         return "yes" if is_there and self.agents[cpu].upto.get(name) == self.threads[name].number else "no"
 
 
+def bad_limit(limits: list[int], version: int) -> str | None:
+    """The first limit of an enclave that is out of its range, if any is."""
+    ranges = zip(MOST.items(), limits, strict=True)
+    return next((name for (name, most), limit in ranges if not 1 <= limit <= most[version > 1]), None)
+
+
 class Talk:
     """A script that is answered line by line, as a session does: behind a fault it goes on."""
 
@@ -603,9 +631,8 @@ class Talk:
     def open(self, limits: list[int]) -> str:
         if self.world is not None:
             return "refused HaveEnclave"
-        for (name, most), limit in zip(MOST.items(), limits):
-            if not 1 <= limit <= most[self.version > 1]:
-                return f"refused BadLimits {name}"
+        if name := bad_limit(limits, self.version):
+            return f"refused BadLimits {name}"
         cpus, threads, numbers, room, posts = limits
         self.world = World(cpus, threads, numbers, room, posts)
         return "ok"
