@@ -20,7 +20,7 @@ from typing import Any
 
 import rig
 from kernel import GREATEST, forms
-from rig import ROOT, good, needs, raises, same
+from rig import ROOT, good, needs, raises, raises_text, same
 
 CLIENT = ROOT / "clients/python"
 sys.path.insert(0, str(CLIENT / "src"))
@@ -113,6 +113,28 @@ def test_each_command_is_a_method_of_both():
             getattr(owner, name)(it, *given)
             same((asked[0].line, asked[0].rows), (wanted.line, wanted.rows), f"{owner.__name__}.{name}")
             same(inspect.signature(getattr(owner, name)).parameters.keys() - {"self"}, inspect.signature(command).parameters.keys())
+
+
+def test_a_line_that_has_no_answer_is_not_sent():
+    """It would be waited for without end: an alarm ends that."""
+    def waits(number, frame):
+        raise AssertionError("an answer is waited for")
+
+    before = signal.signal(signal.SIGALRM, waits)
+    script = io.StringIO()
+    with World(cpus=1, record=script) as world:
+        sent = script.getvalue()
+        for line in ("", " ", "\r", "  \r", "#", "# a comment", "#\r", "?", "?\r"):
+            silent = commands.rouse(0)._replace(line=line)
+            batch = world.batch()
+            batch.rouse(0), batch.add(silent)
+            for ask in (lambda: world.ask(silent), lambda: batch.__exit__(None, None, None)):
+                signal.alarm(5)
+                with raises_text(ValueError, f"^no command, and nothing would answer: {re.escape(repr(line))}$"):
+                    ask()
+                signal.alarm(0)
+        same((script.getvalue(), world.rouse(0)), (sent, None))
+    signal.signal(signal.SIGALRM, before)
 
 
 def test_nothing_is_sent_where_the_with_fails():

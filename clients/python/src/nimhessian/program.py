@@ -30,6 +30,11 @@ def find_program(named: str | os.PathLike[str] | None) -> str:
     return found
 
 
+def is_silent(line: str) -> bool:
+    """Whether a session has no answer to the line: it has no words, is a comment, or asks for the list of commands."""
+    return line.startswith("#") or line.removesuffix("\r").strip(" ") == "" or line.removesuffix("\r") == "?"
+
+
 class Program:
     """A running session."""
 
@@ -62,6 +67,8 @@ class Program:
         for line in lines:
             if "\n" in line:
                 raise ValueError(f"a command is one line: {line!r}")
+            if is_silent(line):
+                raise ValueError(f"no command, and nothing would answer: {line!r}")
         text = "\n".join(lines) + "\n"
         if self._record is not None:
             self._record.write(text)

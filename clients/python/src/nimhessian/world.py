@@ -103,7 +103,7 @@ class World:
             raise
 
     def ask(self, command: Command[Value]) -> Value:
-        """Sends a command, and waits for its answer."""
+        """Sends a command, and waits for its answer. A line that would have none, such as a comment, is a ValueError."""
         (answer,) = self._program.exchange([command.line], [command.rows])
         return _read(command, answer)
 
