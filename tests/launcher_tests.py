@@ -77,6 +77,7 @@ class Launcher:
 
     crates = property(lambda self: self.tree / "crates")
     release = property(lambda self: self.tree / "release")
+    note = property(lambda self: self.program.parent / "sources")
     processes = property(lambda self: pathlib.Path(f"{self.record}.processes"))
 
     # What the launcher finds
@@ -93,8 +94,13 @@ class Launcher:
     def put_crates(self, text: str) -> None:
         (self.tree / "crates.txt").write_text(text)
 
-    def put_source(self, name: str) -> None:
-        (self.crates / name).write_text("// another\n")
+    def put_source(self, name: str, text: str = "// another\n") -> None:
+        (self.crates / name).write_text(text)
+
+    def put_copy(self) -> None:
+        """Puts a copy of the tree in its place, with its dates."""
+        self.tree.rename(self.top / "before")
+        rig.good(rig.run("cp", "-a", self.top / "before", self.tree))
 
     def put_command(self, name: str, text: str) -> None:
         (self.bin / name).unlink(missing_ok=True)
@@ -107,13 +113,15 @@ class Launcher:
         for it in [*self.tree.rglob("*.rt"), *self.tree.rglob("*.antt"), self.tree / "crates.txt"]:
             os.utime(it, (at, at))
 
-    def put_program(self, text: str = PROGRAM, seconds: float = -50) -> None:
-        """A program as an earlier build left it, this long from now."""
+    def put_program(self, text: str = PROGRAM, is_noted: bool = True) -> None:
+        """A program as an earlier build left it, or as one that another command built."""
         self.program.parent.mkdir(exist_ok=True)
         self.program.write_text(text)
         self.program.chmod(0o755)
-        at = time.time() + seconds
-        os.utime(self.program, (at, at))
+        if is_noted:
+            words = '. "$0/pc-sim" && . "$here/tools/released" && put_note "$(sum_of_sources)" "$(sum_of "$program")" "" "$EPOCHSECONDS"'
+            rig.good(rig.run("bash", "-uc", words, self.tree))
+            assert self.note.is_file()
 
     def put_release(self) -> None:
         """Builds, puts the program into release/, and takes it away from where it was built."""
@@ -243,17 +251,27 @@ CHANGES: dict[str, tuple[Any, Any, Any]] = {
     "nothing": (Launcher.put_program, lambda it: None, Launcher.starts),
     "the lock is held": (Launcher.put_program, Launcher.lock, Launcher.starts),
     "the kit is gone": (Launcher.put_program, lambda it: (it.bin / "rt").unlink(), Launcher.starts),
-    "a newer source": (Launcher.put_program, lambda it: os.utime(it.crates / "low/src/lib.rt"), Launcher.builds),
-    "a newer definition": (Launcher.put_program, lambda it: os.utime(it.crates / EXTRA), Launcher.builds),
-    "a newer list of crates": (Launcher.put_program, lambda it: os.utime(it.tree / "crates.txt"), Launcher.builds),
-    "a newer edit": (Launcher.put_program, lambda it: it.put_source("low/must-fail/x.rt"), Launcher.starts),
-    "a newer wrong body": (Launcher.put_program, lambda it: it.put_source("low/wrong-bodies/x.rt"), Launcher.starts),
-    "a newer file of another kind": (Launcher.put_program, lambda it: it.put_source("low/src/notes.md"), Launcher.starts),
+    "sources of another date": (Launcher.put_program, lambda it: it.set_dates(50), Launcher.starts),
+    "a copy of the tree": (Launcher.builds, Launcher.put_copy, Launcher.starts),
+    "a change that is taken back": (
+        Launcher.builds, lambda it: [it.put_source("low/src/lib.rt", text) for text in ("// other\n", "// low\n")], Launcher.starts),
+    "another source": (Launcher.put_program, lambda it: it.put_source("low/src/lib.rt"), Launcher.builds),
+    "another source of an old date": (
+        Launcher.builds, lambda it: it.put_source("low/src/lib.rt") or it.set_dates(-1000), Launcher.builds),
+    "another definition of an old date": (Launcher.builds, lambda it: it.put_source(EXTRA) or it.set_dates(-1000), Launcher.builds),
+    "another list of crates of an old date": (
+        Launcher.builds, lambda it: it.put_crates(f"# Other.\n{CRATES}") or it.set_dates(-1000), Launcher.builds),
+    "another program": (Launcher.builds, lambda it: it.put_program(PROGRAM + "# other\n", is_noted=False), Launcher.builds),
+    "a program of another command": (lambda it: it.put_program(is_noted=False), lambda it: None, Launcher.builds),
+    "a note that is a list of names": (
+        lambda it: it.put_program(is_noted=False), lambda it: it.note.write_text("crates.txt\n"), Launcher.builds),
+    "an empty note": (Launcher.put_program, lambda it: it.note.write_text(""), Launcher.builds),
+    "another edit": (Launcher.put_program, lambda it: it.put_source("low/must-fail/x.rt"), Launcher.starts),
+    "another wrong body": (Launcher.put_program, lambda it: it.put_source("low/wrong-bodies/x.rt"), Launcher.starts),
+    "another file of another kind": (Launcher.put_program, lambda it: it.put_source("low/src/notes.md"), Launcher.starts),
     "a deleted source": (Launcher.builds, lambda it: (it.crates / EXTRA).unlink(), Launcher.builds),
     "an added source of an old date": (Launcher.builds, lambda it: it.put_source(OTHER) or it.set_dates(-100), Launcher.builds),
-    # Dates alone decide then.
-    "a deleted source, and no list of them": (
-        Launcher.builds, lambda it: (it.crates / EXTRA).unlink() or (it.program.parent / "sources").unlink(), Launcher.starts),
+    "a deleted source, and no note": (Launcher.builds, lambda it: (it.crates / EXTRA).unlink() or it.note.unlink(), Launcher.builds),
 }
 
 
@@ -286,28 +304,35 @@ def test_the_crates_of_the_tests_are_not_built(it: Launcher) -> None:
     it.starts("x")
 
 
-def test_a_program_of_another_command_gets_its_list(it: Launcher) -> None:
+def test_files_that_stay_as_they_are_need_no_sums(it: Launcher) -> None:
     it.put_program()
+    # So long after a change another one cannot have its moment.
+    time.sleep(3)
     it.starts()
-    (it.crates / "left/specs/Extra.antt").unlink()
+    (it.bin / "sha256sum").unlink()
+    it.starts()
+    source = it.crates / "low/src/lib.rt"
+    was = source.stat()
+    it.put_source("low/src/lib.rt", "// l0w\n")
+    os.utime(source, ns=(was.st_atime_ns, was.st_mtime_ns))
+    same((source.stat().st_size, source.stat().st_mtime_ns), (was.st_size, was.st_mtime_ns))
+    it.fails("the sources cannot be read")
+    (it.bin / "sha256sum").symlink_to(shutil.which("sha256sum"))
     it.builds()
 
 
-def test_where_only_dates_changed_the_program_is_dated_anew(it: Launcher) -> None:
-    it.builds()
-    text, before = it.program.read_text() + "# as it was\n", it.program.stat().st_mtime
-    it.put_program(text)
-    it.set_dates(-1)
-    it.builds()
-    same(it.program.read_text(), text)
-    assert it.program.stat().st_mtime > before
+def test_a_program_of_another_command_is_that_of_release(it: Launcher) -> None:
+    it.put_release()
+    it.put_program(is_noted=False)
+    it.starts()
+    shutil.rmtree(it.release)
     it.starts()
 
 
 def test_a_source_that_changes_during_the_build_rebuilds_at_the_next_start(it: Launcher) -> None:
     first = it.begin(RT_SECONDS="0.4")
     it.wait_for_text(first, "[1/4] low ..")
-    os.utime(it.crates / "low/src/lib.rt")
+    it.put_source("low/src/lib.rt")
     same(it.ended(first)[0], 0)
     it.builds()
 
@@ -317,10 +342,10 @@ def test_a_source_that_changes_during_the_build_rebuilds_at_the_next_start(it: L
 
 def test_without_rt_an_older_program_starts_with_a_warning(it: Launcher) -> None:
     (it.bin / "rt").unlink()
-    it.put_program(seconds=-200)
+    it.put_program(is_noted=False)
     status, out, errors = it.run_it("x", PROGRAM_STATUS="3")
     same((status, out), (3, told("x")))
-    matches(errors, r"\Apc-sim: .*older than its sources.*rt is not on the path\n\Z")
+    matches(errors, r"\Apc-sim: .*not known to be of these sources.*rt is not on the path\n\Z")
 
 
 # The order of the crates
@@ -375,7 +400,7 @@ def test_each_crate_is_built_in_a_tree_of_its_own_and_brought_back(it: Launcher)
     below = lambda name: (it.crates / name / "out/below").read_text()
     same(list(map(below, ("low", "left", "right"))), ["*/out/lib\n", "low/out/lib\n", "low/out/lib\n"])
     assert not (it.tree / ".trees").exists()
-    it.set_dates(0)
+    it.put_source("low/src/lib.rt")
     it.builds()
     same(below("left"), "left/out/lib low/out/lib\n")
 
@@ -445,7 +470,7 @@ def test_a_failed_crate_ends_those_beside_it(it: Launcher) -> None:
 
 
 def test_a_failed_program_leaves_the_old_one_unstarted(it: Launcher) -> None:
-    it.put_program(seconds=-200)
+    it.put_program(is_noted=False)
     it.fails("pc_sim could not be built", RT_FAILS="pc_sim")
     shutil.rmtree(next(it.temporary.iterdir()))
     it.builds()
