@@ -683,6 +683,47 @@ def test_a_link_to_the_launcher_starts_the_same_program(it: Launcher) -> None:
     it.starts("x", command="../linked")
 
 
+# Where the launcher is
+
+
+def test_nothing_of_the_current_folder_is_taken(it: Launcher) -> None:
+    """However the launcher is called, and where the path has no readlink."""
+    (it.top / "tools").mkdir()
+    for name in ("pc-sim", "tools/released", "tools/build"):
+        (it.top / name).write_text("echo TAKEN >&2\n")
+        (it.top / name).chmod(0o755)
+    (it.top / "here/-x").mkdir(parents=True)
+    (it.top / "here/tools").symlink_to(it.top / "tools")
+    shutil.copy(it.tree / "pc-sim", it.top / "here/-x")
+    environment = {"PATH": str(it.bin)}
+
+    def ends(status: int, *words: str) -> str:
+        ended = rig.run(*words, cwd=it.top / "here", env=environment)
+        assert ended.returncode == status and "TAKEN" not in ended.stderr and ended.stderr.strip(), ended
+        return ended.stderr.splitlines()[-1]
+
+    matches(ends(5, "bash", "--", "-x/pc-sim"), r"^pc-sim: .*/here/-x/tools/released is not there$")
+    (it.bin / "readlink").unlink()
+    for words in (("bash", "--", "-x/pc-sim"), (f"{it.tree}/pc-sim",)):
+        matches(ends(5, *words), r"^pc-sim: readlink is not on the path, or cannot tell where this script is$")
+    for name in ("tools/released", "tools/build"):
+        ends(5, f"{it.tree}/{name}")
+    matches(ends(1, f"{it.tree}/test"), r"^test: readlink is not on the path")
+
+
+def test_a_tree_whose_name_ends_in_a_line_feed(it: Launcher) -> None:
+    it.put_release()
+    (it.top / "tools").mkdir()
+    it.tree = it.tree.rename(it.top / "a tree\n")
+    it.program = it.crates / "pc_sim/out/pc_sim"
+    same(it.run_it("x")[:2], (0, told("x")))
+    it.starts("y")
+    it.put_source("low/src/lib.rt")
+    it.builds()
+    same(it.run_it("--make", command="tools/released"), (0, "", ""))
+    same(it.run_it(command="tools/build"), (0, "", ""))
+
+
 if __name__ == "__main__":
     # They mostly wait, so several run at once: in processes, since a thread that starts a command lends it the files that others write.
     sys.exit(rig.main(__doc__, rig.tests_in(globals()), at_once=8))
