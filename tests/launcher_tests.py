@@ -32,7 +32,7 @@ pc_sim: left right clap
 TOOLS = "awk bash cat chmod cmp cp date dirname env find flock head mkdir mktemp mv python3 readlink rm seq sha256sum sleep sort tail tee touch uname xargs xz".split()
 SECONDS = 60
 STAND_IN, PROGRAM = ((ROOT / "tests/launcher" / name).read_text() for name in ("rt", "program"))
-IS_RELEASED = "pc-sim: the program of release/ was built and proved from exactly these sources; ./test proves them anew\n"
+IS_RELEASED = "pc-sim: this is the program of release/, whose sources these are; ./test builds it anew and compares\n"
 Ended = tuple[int, str, str]
 
 
@@ -140,7 +140,7 @@ class Launcher:
             (self.tree / "tests" / name).write_text(f"import sys\nprint('{place} passed, 0 failed', *sys.argv[1:])\n")
         (self.tree / "tests/run_cases.py").write_text("import sys\nprint('cases:', *sys.argv[1:])\n")
         also = " ".join(f"--also {place} passed, 0 failed{' --short' * ('/' in name)}" for place, name in enumerate(names, 1))
-        # Before them the program is compared with that of release/, of which there is none.
+        # Before them the program that the gate built is compared with that of release/, of which there is none.
         return f"cases: --gate-status 0 --gate-line 3 passed, 0 failed --also 0 passed, 0 failed {also}"
 
     def lock(self, how: int = fcntl.LOCK_EX) -> TextIO:
@@ -560,8 +560,8 @@ def test_the_program_does_not_hold_the_lock(it: Launcher) -> None:
 
 
 def test_no_start_builds_while_the_gate_runs(it: Launcher) -> None:
-    wanted = it.put_stand_ins_of_tests()
-    gate = it.begin(command="test", RT_SECONDS="1")
+    wanted = it.put_stand_ins_of_tests().replace("--also 0 passed, 0 failed", "--also 0 passed, 1 failed", 1)
+    gate = it.begin(command="test", RT_SECONDS="1", RT_LEAVES_NONE="yes")
     wait_until(lambda: it.calls()[0])
     start = it.begin()
     it.wait_for_text(start, "waiting")
@@ -643,27 +643,61 @@ def test_a_tree_that_cannot_be_written_takes_no_released_program(it: Launcher) -
     assert "pc-sim: release/pc-sim.xz has no place, since this tree cannot be written" in errors
 
 
-def test_the_gate_compares_the_released_program_with_the_one_that_it_built(it: Launcher) -> None:
+def test_the_released_program_is_compared_with_the_one_that_was_built(it: Launcher) -> None:
     it.put_release()
     sources, _, program, *_ = (it.release / "SUMS").read_text().split()
     none = ["released: release/ has no program of these sources", "0 passed, 0 failed"]
-    it.builds(PC_SIM_BUILD="1")
+    before = it.top / "before"
 
-    def compared(status: int, *last: str) -> tuple[bool, bool]:
-        """What is told last; whether the sum of the sources, and that of the program, are those of release/."""
-        ended, out, _ = it.run_it("--compare", command="tools/released")
+    def begin() -> None:
+        same(it.run_it("--before", str(before), command="tools/released"), (0, "", ""))
+
+    def told_by(status: int, *last: str) -> str:
+        """What is told last; and what is told first."""
+        ended, out, _ = it.run_it("--compare", str(before), command="tools/released")
         first, *others = out.splitlines()
         same((ended, others[-len(last):]), (status, [*last]), out)
-        sums = re.fullmatch(r"released: of sources with the sum (\w{64}) a program with the sum (\w{64}) was built", first)
+        return first
+
+    def compared(status: int, *last: str) -> tuple[bool, bool]:
+        """Whether the sum of the sources, and that of the program, are those of release/."""
+        sums = re.fullmatch(r"released: of sources with the sum (\w{64}) a program with the sum (\w{64}) was built", told_by(status, *last))
         return sums[1] == sources, sums[2] == program
 
+    def lacks(reason: str) -> None:
+        same(told_by(1, "0 passed, 1 failed"), f"released: {reason}")
+
+    lacks("no program was built in this run")
+    begin()
+    lacks("no program was built in this run")
+    same(it.run_it()[2], IS_RELEASED)
+    begin()
+    lacks("no program was built in this run")
+    it.put_program(is_noted=False)
     same(compared(0, "1 passed, 0 failed"), (True, True))
-    it.program.write_text(PROGRAM + "# other\n")
+    change_release(it, "pc-sim.xz", lambda stored: stored[:-20])
+    same(compared(1, "0 passed, 1 failed"), (True, True))
+    it.put_program(PROGRAM + "# other\n", is_noted=False)
     same(compared(1, "0 passed, 1 failed"), (True, False))
-    (it.crates / "left/src/lib.rt").write_text("// left!\n")
+    it.put_source("left/src/lib.rt", "// left!\n")
+    lacks("the sources are not those that this run began with")
+    begin()
+    it.put_program(PROGRAM + "# other\n", is_noted=False)
     same(compared(0, *none), (False, False))
     shutil.rmtree(it.release)
-    compared(0, *none)
+    same(compared(0, *none), (False, False))
+
+
+def test_the_gate_compares_what_it_built_and_notes_it(it: Launcher) -> None:
+    wanted = it.put_stand_ins_of_tests()
+    it.put_program()
+    status, out, errors = it.run_it(command="test", RT_LEAVES_NONE="yes")
+    same((status, errors, out.splitlines()[-1]), (0, "", wanted.replace("--also 0 passed, 0 failed", "--also 0 passed, 1 failed", 1)))
+    status, out, errors = it.run_it(command="test")
+    same((status, errors, out.splitlines()[-1]), (0, "", wanted))
+    it.forget_calls()
+    it.starts("x")
+    same(list(it.temporary.iterdir()), [])
 
 
 # What is handed through
