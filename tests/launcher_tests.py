@@ -621,6 +621,9 @@ NOT_TAKEN: dict[str, tuple[Any, str]] = {
         "is not the program of release/SUMS"),
     "a program for another machine": (
         lambda it: change_release(it, "SUMS", lambda sums: sums.replace(os.uname().machine.encode(), b"pdp11")), "is for another machine, pdp11"),
+    "a queue in place of a file": (
+        lambda it: (it.release / "pc-sim.xz").unlink() or os.mkfifo(it.release / "pc-sim.xz"), "is no file"),
+    "a queue in place of sums": (lambda it: (it.release / "SUMS").unlink() or os.mkfifo(it.release / "SUMS"), ""),
     "no xz": (lambda it: (it.bin / "xz").unlink(), "cannot be unpacked, since there is no xz on the path"),
 }
 
@@ -633,6 +636,66 @@ def test_the_program_is_built_in_place_of_the_released_one(it: Launcher, name: s
     said = [line for line in errors.splitlines() if "release/" in line]
     same(said, [f"pc-sim: release/pc-sim.xz {words}: the program is built instead"] if words else [])
     same(list(it.program.parent.glob("*.[0-9]*")), [])
+
+
+def test_what_xz_is_told_elsewhere_keeps_nothing_from_being_unpacked(it: Launcher) -> None:
+    it.put_release()
+    same(it.run_it(XZ_DEFAULTS="--memlimit=1MiB", XZ_OPT="--test")[:2], (0, told()))
+
+
+def test_what_a_start_that_was_killed_leaves_is_removed(it: Launcher) -> None:
+    it.put_release()
+    (it.bin / "xz").unlink()
+    it.put_command("xz", "#!/usr/bin/env bash\nkill -KILL $PPID\n")
+    same(it.run_it()[0], -signal.SIGKILL)
+    same(len(list(it.program.parent.iterdir())), 1)
+    (it.bin / "xz").unlink()
+    (it.bin / "xz").symlink_to(shutil.which("xz"))
+    # That of another start, which goes on.
+    other = it.program.parent / f"pc_sim.{os.getpid()}"
+    other.write_text("")
+    same(it.run_it()[:2], (0, told()))
+    same(sorted(it.program.parent.iterdir()), sorted([it.program, it.note, other]))
+    it.program.with_name("sources.999999999").write_text("")
+    it.starts()
+    same(sorted(it.program.parent.iterdir()), sorted([it.program, it.note, other]))
+
+
+def test_a_tree_in_which_nothing_can_be_started(it: Launcher) -> None:
+    """Nothing is built in vain, and nothing left."""
+    it.put_release()
+    tools = [shutil.which(name) for name in ("unshare", "mount", "bash")]
+    needs(all(tools), "no unshare, mount or bash here")
+    unshare, mount, bash = map(str, tools)
+    mounts = f'{mount} --bind "$0" "$0" && {mount} -o remount,bind,noexec "$0" || exit 77; {bash} "$0/pc-sim"'
+    environment = {"PATH": str(it.bin), "TMPDIR": str(it.temporary), "RT_RECORD": str(it.record)}
+
+    def fails() -> None:
+        ended = rig.run(unshare, "-rm", bash, "-c", mounts, it.tree, env=environment, stdin=subprocess.DEVNULL)
+        needs(ended.returncode not in (1, 77), "no mounts here")
+        same(ended.stderr, f"pc-sim: no program can be started in {it.tree}: it is mounted with noexec, or is another user's\n")
+        same((ended.returncode, ended.stdout, it.calls()[0]), (5, "", []))
+
+    fails()
+    same(list(it.program.parent.iterdir()), [])
+    it.put_program()
+    fails()
+    it.starts()
+    it.put_source("low/src/lib.rt")
+    fails()
+    same(sorted(it.program.parent.iterdir()), sorted([it.program, it.note]))
+
+
+def test_a_program_that_cannot_be_started(it: Launcher) -> None:
+    it.put_program("#!/no/such/command\n")
+    it.fails("pc_sim cannot be started")
+
+
+def test_a_folder_in_the_place_of_the_program(it: Launcher) -> None:
+    it.put_release()
+    it.program.mkdir(parents=True)
+    it.fails("is no file, and has to be removed", lines=1)
+    same(([*it.program.iterdir()], [*it.program.parent.iterdir()], it.calls()[0]), ([], [it.program], []))
 
 
 def test_a_tree_that_cannot_be_written_takes_no_released_program(it: Launcher) -> None:
