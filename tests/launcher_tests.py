@@ -640,7 +640,7 @@ def test_the_program_is_built_in_place_of_the_released_one(it: Launcher, name: s
 
 def test_what_xz_is_told_elsewhere_keeps_nothing_from_being_unpacked(it: Launcher) -> None:
     it.put_release()
-    same(it.run_it(XZ_DEFAULTS="--memlimit=1MiB", XZ_OPT="--test")[:2], (0, told()))
+    same(it.run_it(XZ_DEFAULTS="--memlimit=1MiB", XZ_OPT="--memlimit=1MiB"), (0, told(), IS_RELEASED))
 
 
 def test_what_a_start_that_was_killed_leaves_is_removed(it: Launcher) -> None:
