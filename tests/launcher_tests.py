@@ -265,6 +265,8 @@ CHANGES: dict[str, tuple[Any, Any, Any]] = {
     "a program of another command": (lambda it: it.put_program(is_noted=False), lambda it: None, Launcher.builds),
     "a note that is a list of names": (
         lambda it: it.put_program(is_noted=False), lambda it: it.note.write_text("crates.txt\n"), Launcher.builds),
+    "a folder in the place of the note": (
+        lambda it: it.put_program(is_noted=False), lambda it: (it.note / "x").mkdir(parents=True), Launcher.builds),
     "an empty note": (Launcher.put_program, lambda it: it.note.write_text(""), Launcher.builds),
     "another edit": (Launcher.put_program, lambda it: it.put_source("low/must-fail/x.rt"), Launcher.starts),
     "another wrong body": (Launcher.put_program, lambda it: it.put_source("low/wrong-bodies/x.rt"), Launcher.starts),
@@ -333,8 +335,11 @@ def test_a_source_that_changes_during_the_build_rebuilds_at_the_next_start(it: L
     first = it.begin(RT_SECONDS="0.4")
     it.wait_for_text(first, "[1/4] low ..")
     it.put_source("low/src/lib.rt")
-    same(it.ended(first)[0], 0)
+    status, _, errors = it.ended(first)
+    same(status, 0)
+    assert "pc-sim: a source changed meanwhile: the next start builds again\n" in errors
     it.builds()
+    it.starts()
 
 
 # Without rt
