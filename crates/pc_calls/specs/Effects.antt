@@ -29,7 +29,7 @@ about cpu = record { cpu = Some cpu; thread = None; posts = false; phase = None;
 abbrev pub coming : ℕ → Effect
 coming cpu = record (about cpu) { comes = true }
 
--- an item of this queue's own is posted, and a thread is in this phase from then on
+-- an item is posted to this queue, and the thread that it is of, if any, is in this phase from then on
 abbrev pub posting : ℕ → Option Phase → Effect
 posting queue phase = record (about queue) { posts = true; phase = phase }
 

@@ -1,5 +1,5 @@
 -- The state that a list of kinds reports: the last phase, mask and level given, and the sum of all ticks.
-use Rattle.std.specs.Prelude.{ℕ, ◌&&◌, Bool, true, false, List, Option, Some, None, sum_by, unwrap_or}
+use Rattle.std.specs.Prelude.{ℕ, ◌&&◌, Bool, true, false, List, codes, Option, Some, None, sum_by, unwrap_or}
 use Rattle.std.specs.List.{filter_map, last_or}
 use Rattle.pc_messages.specs.Mask.{allows}
 use Rattle.pc_messages.specs.declared.kind.Kind.{Kind}
@@ -14,6 +14,12 @@ abbrev pub is_ready : Phase → Bool
 is_ready phase.Ready = true
 is_ready phase.Blocked = false
 is_ready phase.Dead = false
+
+-- the word for a phase
+abbrev pub phase_word : Phase → List ℕ
+phase_word phase.Ready = codes "ready"
+phase_word phase.Blocked = codes "blocked"
+phase_word phase.Dead = codes "dead"
 
 -- a thread of this state may run on the CPU: it is ready, and its mask has the CPU
 abbrev pub may_run_on : Reported → ℕ → Bool

@@ -2,7 +2,7 @@
 
 ghost use Rattle.std.specs.Prelude.{◌≡◌, ◌+◌, ◌<◌, ◌^◌, List, [], ◌∷◌, ◌++◌};
 ghost use Rattle.pc_messages.specs.declared.kind.Kind.{Kind};
-ghost use Rattle.pc_messages.specs.State.{is_ready, may_run_on, state_of, ran_given};
+ghost use Rattle.pc_messages.specs.State.{is_ready, may_run_on, phase_word, state_of, ran_given};
 
 use crate::kind::Kind;
 use crate::level::Level;
@@ -35,6 +35,17 @@ impl Phase {
         match self {
             Phase::Ready => true,
             Phase::Blocked | Phase::Dead => false,
+        }
+    }
+
+    /// The word for it, in scripts and in what is told of threads. It takes no memory.
+    pub const fn word(self) -> &'static str
+        ensures { result.now ≡ phase_word self }
+    {
+        match self {
+            Phase::Ready => "ready",
+            Phase::Blocked => "blocked",
+            Phase::Dead => "dead",
         }
     }
 }
