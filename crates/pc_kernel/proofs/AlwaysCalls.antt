@@ -63,7 +63,7 @@ pub not_false : (b : Bool) → not b ≡ false → b ≡ true
 not_false true e = refl
 not_false false e = cc
 
-none_some : (o : Option ℕ) → is_none o ≡ false → o ≡ Some (unwrap_or o 0)
+pub none_some : (o : Option ℕ) → is_none o ≡ false → o ≡ Some (unwrap_or o 0)
 none_some None e = cc
 none_some (Some x) e = refl
 

@@ -44,7 +44,7 @@ commit_call P cpu t a h n =
     commit_kept P cpu t h (low_of P cpu passes.there)
     (sym (shown-home P t known) ∙ eqb-true (reads.home (shown P) t) cpu (not_false (reads.home (shown P) t == cpu) passes.at_home))
     (ready_is (phase_of (kinds P t)) (ap (λ ks. is_ready (phase_of ks)) (sym (shown-kinds P t)) ∙ not_false (is_ready (reads.phase (shown P) t)) passes.ready))
-    (ap (λ ks. option_map_or (λ mask. allows mask cpu) (mask_of ks) false) (sym (shown-kinds P t)) ∙ not_false (reads.may_run_on (shown P) t cpu) passes.allowed)
+    (ap (λ ks. option_map_or (λ mask. allows mask cpu) (mask_of ks) false) (sym (shown-kinds P t)) ∙ not_false (reads.is_allowed_on (shown P) t cpu) passes.allowed)
     (not_some (place_of P t) (ap is_some (sym (shown-place P t known)) ∙ passes.nowhere))
 
 call_kept : (P : PlainKernel) (call : Call) → IsKept P → NoneHold (refusals (shown P) call) → IsKept (changed P call)

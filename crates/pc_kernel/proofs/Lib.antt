@@ -9,6 +9,7 @@ pub mod AlwaysAgents
 pub mod AlwaysCalls
 pub mod AlwaysEvery
 pub mod AlwaysTold
+mod Effects
 pub mod Posting
 pub mod Posts
 pub mod Refusals

@@ -37,7 +37,7 @@ pub record CommitPasses (r : Reads) (c t n : ℕ) : Type 0 where
   pub ready : not (is_ready (reads.phase r t)) ≡ false
   pub at_home : not (reads.home r t == c) ≡ false
   pub nowhere : is_some (reads.place r t) ≡ false
-  pub allowed : not (reads.may_run_on r t c) ≡ false
+  pub allowed : not (reads.is_allowed_on r t c) ≡ false
   pub idle : is_some (reads.on r c) ≡ false
 
 pub commit_passes : (r : Reads) (c t n : ℕ) → NoneHold (refusals r (commits c t n)) → CommitPasses r c t n

@@ -5,6 +5,7 @@
 -- as the step does, and shows the step's result afterwards. What holds after every list of calls is said of the plain
 -- kernel, and so holds of every kernel.
 pub mod Answers
+pub mod Effects
 pub mod Exact
 pub mod Facts
 pub mod Inner

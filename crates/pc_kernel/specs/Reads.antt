@@ -76,8 +76,8 @@ abbrev pub phase : Reads → ℕ → Option Phase
 phase r t = phase_of (kinds_read r t)
 
 -- the thread's mask has the CPU
-abbrev pub may_run_on : Reads → ℕ → ℕ → Bool
-may_run_on r t c = option_map_or (λ mask. allows mask c) (mask_of (kinds_read r t)) false
+abbrev pub is_allowed_on : Reads → ℕ → ℕ → Bool
+is_allowed_on r t c = option_map_or (λ mask. allows mask c) (mask_of (kinds_read r t)) false
 
 -- the CPU is there; of one that is not, nothing is read
 abbrev pub is_cpu : Reads → ℕ → Bool

@@ -24,7 +24,7 @@ use Rattle.pc_calls.specs.declared.refusal.Refusal.TheVariants as refusal
 use Rattle.pc_calls.specs.Conditions.{first_of}
 use Rattle.pc_kernel.specs.PlainKernel.{PlainKernel, Post}
 use Rattle.pc_kernel.specs.PlainKernel as plain
-use Rattle.pc_kernel.specs.Reads.{Reads, shown, is_known, number_read, home, place, phase, may_run_on, is_cpu}
+use Rattle.pc_kernel.specs.Reads.{Reads, shown, is_known, number_read, home, place, phase, is_allowed_on, is_cpu}
 use Rattle.pc_kernel.specs.Reads.{aseq_read, content_read, on, is_pending}
 
 -- the phase is Dead
@@ -122,7 +122,7 @@ refusals r (Agent (Commit cpu t n)) =
     ∷ (not (is_ready (phase r t)), refusal.NotReady)
     ∷ (not (home r t == cpu), refusal.NotYours (home r t))
     ∷ (is_some (place r t), refusal.Running (unwrap_or (place r t) 0))
-    ∷ (not (may_run_on r t cpu), refusal.Forbidden)
+    ∷ (not (is_allowed_on r t cpu), refusal.Forbidden)
     ∷ (is_some (on r cpu), refusal.Busy)
     ∷ []
 refusals r (Agent (Sleep cpu n)) =

@@ -2,6 +2,7 @@
 
 ghost use Rattle.pc_kernel.specs.Facts.{AlwaysAtHome, AlwaysPlaced, SleepersHadNoPost, RunsAreBegun, NamesAreDense};
 ghost use Rattle.pc_kernel.specs.Facts.{CallsExtend};
+ghost use Rattle.pc_kernel.specs.Effects.{AgentCallsHaveEffects, EnvCallsHaveEffects};
 ghost use Rattle.pc_kernel.specs.Posted.{HomesAreThere, MessagesArePosted, NoMoreIsEaten, OnlyConsumesTake};
 ghost use Rattle.pc_kernel.specs.Posted.{PostsAreMessages, QueuesGoOn};
 ghost use Rattle.pc_kernel.specs.Exact.{ReadsArePlain, AcceptedAssociatesAreExact, AcceptedCommitsAreExact};
@@ -70,4 +71,12 @@ pub fn queues_lose_only_what_was_posted()
 /// The home queue of a known thread is that of a CPU that is there.
 pub fn homes_are_there()
     ensures { HomesAreThere }
+{}
+
+/// After every list of calls, a call that is accepted does what its effect says ([`pc_calls::Effect`]), and of all that
+/// an effect speaks of no more: what is posted, to which queue and of whom, whose phase changes, who leaves a CPU and
+/// who comes.
+pub fn effects_are_done()
+    ensures environment { EnvCallsHaveEffects }
+    ensures agents { AgentCallsHaveEffects }
 {}

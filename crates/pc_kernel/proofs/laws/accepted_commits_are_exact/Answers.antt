@@ -23,6 +23,6 @@ returns c P cpu t n accepted =
       idle = not_some (P.on cpu) (ap is_some (sym (shown-on P cpu there)) ∙ passes.idle);
       ready = ready_is (phase_of (kinds P t)) (ap (λ ks. is_ready (phase_of ks)) (sym (shown-kinds P t)) ∙ not_false (is_ready (reads.phase (shown P) t)) passes.ready);
       home = sym (shown-home P t known) ∙ eqb-true (reads.home (shown P) t) cpu (not_false (reads.home (shown P) t == cpu) passes.at_home);
-      allowed = ap (λ ks. option_map_or (λ mask. allows mask cpu) (mask_of ks) false) (sym (shown-kinds P t)) ∙ not_false (reads.may_run_on (shown P) t cpu) passes.allowed;
+      allowed = ap (λ ks. option_map_or (λ mask. allows mask cpu) (mask_of ks) false) (sym (shown-kinds P t)) ∙ not_false (reads.is_allowed_on (shown P) t cpu) passes.allowed;
       nowhere = not_some (place_of P t) (ap is_some (sym (shown-place P t known)) ∙ passes.nowhere);
     }
