@@ -13,7 +13,6 @@ mod kept_wire;
 mod laws;
 mod pick;
 mod queue;
-mod runnable;
 mod shortcuts;
 mod steal;
 mod watch;

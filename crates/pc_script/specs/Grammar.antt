@@ -1,6 +1,8 @@
 -- The words of commands. A line of a script asks for a command where its words are the command's.
 use Rattle.std.specs.Prelude.{◌≡◌, ℕ, ◌^◌, ◌<◌, ◌⊎◌, Bool, true, false, List, [], ◌∷◌, ◌++◌, slice_get, codes, decimal}
 use Rattle.std.specs.Prelude.{Option, Some, None, IfSome}
+use Rattle.pc_messages.specs.State.{phase_word}
+use Rattle.pc_messages.specs.declared.reported.Phase.TheVariants as phase
 use Rattle.pc_calls.specs.declared.call.AgentCall.{AgentCall}
 use Rattle.pc_calls.specs.declared.call.AgentCall.TheVariants as agent_call
 use Rattle.pc_calls.specs.declared.call.EnvCall.{EnvCall}
@@ -46,8 +48,8 @@ thread_name thread = 116 ∷ decimal thread
 
 -- how a new thread starts
 abbrev pub state_word : Bool → List ℕ
-state_word true = codes "ready"
-state_word false = codes "blocked"
+state_word true = phase_word phase.Ready
+state_word false = phase_word phase.Blocked
 
 -- whom a queue wakes: the agent of a CPU, or none
 abbrev pub target_word : Option ℕ → List ℕ

@@ -2,7 +2,7 @@
 use Rattle.std.specs.Prelude.{ℕ, Bool, true, false, List, [], ◌∷◌, ◌++◌, Option, Some, None, flat_map, codes, decimal}
 use Rattle.std.specs.Prelude.{◌==◌, if◌then◌else◌}
 use Rattle.pc_messages.specs.declared.reported.Phase.{Phase}
-use Rattle.pc_messages.specs.declared.reported.Phase.TheVariants as phase
+use Rattle.pc_messages.specs.State.{phase_word}
 use Rattle.pc_messages.specs.declared.reported.Reported.{Reported}
 use Rattle.pc_calls.specs.declared.call.Posted.{Posted}
 use Rattle.pc_calls.specs.declared.call.Status.{Status}
@@ -63,12 +63,6 @@ refusal_text refusal.NothingToSteal = codes "NothingToSteal"
 refusal_text refusal.WireFault = codes "WireFault"
 refusal_text refusal.TooLate = codes "TooLate"
 
--- the names of phases
-abbrev pub phase_text : Phase → List ℕ
-phase_text phase.Ready = codes "ready"
-phase_text phase.Blocked = codes "blocked"
-phase_text phase.Dead = codes "dead"
-
 -- whose item was posted, and its number: `tN nN`, or `-` for a tick, which has neither (no item has one of the two)
 abbrev pub subject_text : Option ℕ → Option ℕ → List ℕ
 subject_text (Some thread) (Some number) = thread_name thread ++ (codes " n" ++ decimal number)
@@ -92,7 +86,7 @@ abbrev pub status_text : ℕ → Status → Phase → List ℕ
 status_text thread status phase =
     thread_name thread
     ++ (codes " n" ++ (decimal status.number
-    ++ (codes " " ++ (phase_text phase ++ running_text status.running_on))))
+    ++ (codes " " ++ (phase_word phase ++ running_text status.running_on))))
 
 -- `yes` or `no`
 abbrev pub truth_text : Bool → List ℕ
@@ -112,7 +106,7 @@ level_text level = if level == 0 then [] else codes " level " ++ decimal level
 abbrev pub reported_text : Option Reported → List ℕ
 reported_text None = codes "-"
 reported_text (Some reported) =
-    phase_text reported.phase
+    phase_word reported.phase
     ++ (codes " mask "
     ++ (decimal reported.mask ++ (codes " ran " ++ (decimal reported.ran ++ level_text reported.level))))
 

@@ -1,11 +1,11 @@
 //! The texts of what a view shows, which are written piece by piece.
 
 ghost use Rattle.std.specs.Prelude.{Some};
-ghost use Rattle.pc_script.specs.Responses.{phase_text, level_text, reported_text, numbers_text, shown_text};
+ghost use Rattle.pc_messages.specs.State.{phase_word};
+ghost use Rattle.pc_script.specs.Responses.{level_text, reported_text, numbers_text, shown_text};
 ghost use Rattle.pc_script.specs.Responses.{shown_lines};
 
 use crate::lists::{EarlyNumbers, ShownThread, ShownThreads};
-use crate::short::phase_name;
 use pc_messages::{Phase, Reported};
 use std::fmt;
 
@@ -31,10 +31,10 @@ impl fmt::Display for LevelPart {
 struct PhaseName(Phase);
 
 impl fmt::Display for PhaseName {
-    ghost output = { λ phase. Some (phase_text phase.0) };
+    ghost output = { λ phase. Some (phase_word phase.0) };
 
     fn fmt<W: fmt::Write>(&self, f: &mut fmt::Formatter<W>) -> fmt::Result {
-        f.write_str(phase_name(self.0))
+        f.write_str(self.0.word())
     }
 }
 

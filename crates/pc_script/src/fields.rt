@@ -10,7 +10,7 @@ ghost use Rattle.pc_script.specs.Inner.Taking.{words_left};
 use crate::digits::byte;
 use crate::trouble::Wanted;
 use crate::words::Words;
-use pc_messages::{Cpu, Tid};
+use pc_messages::{Cpu, Phase, Tid};
 use pc_policy::OrderName;
 
 /// A field that is one word.
@@ -239,10 +239,10 @@ impl Argument for State {
 
     fn read(words: &mut Words<'_>) -> Option<Self> {
         let word = words.next()?;
-        if word == b"ready".as_slice() {
+        if word == Phase::Ready.word().as_bytes() {
             return Some(State(true));
         }
-        if word == b"blocked".as_slice() {
+        if word == Phase::Blocked.word().as_bytes() {
             return Some(State(false));
         }
         None

@@ -1,6 +1,7 @@
 //! How commands are written, as a person is told: in a sentence, and in the table that a session's `?` asks for.
 
 use crate::grammar::Verb;
+use pc_messages::Phase;
 use pc_policy::OrderName;
 use std::fmt;
 
@@ -116,7 +117,7 @@ const fn either(words: &'static str, one: &'static str, other: &'static str) -> 
 fn form_of(verb: Verb) -> CommandForm {
     match verb {
         Verb::Enclave => always("enclave CPUS THREADS NUMBERS ROOM POSTS"),
-        Verb::Create => either("create Q MASK", "ready", "blocked"),
+        Verb::Create => either("create Q MASK", Phase::Ready.word(), Phase::Blocked.word()),
         Verb::Wake => always("wake T"),
         Verb::Block => always("block C RAN"),
         Verb::Yield => always("yield C RAN"),

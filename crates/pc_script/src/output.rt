@@ -12,10 +12,9 @@ ghost use Rattle.pc_script.specs.declared.outcome.Outcome.{Outcome};
 ghost use Rattle.pc_script.specs.declared.response.Response.{Response};
 
 use crate::lists::{ShownThread, ShownThreads};
-use crate::place::put_line;
 use crate::response::Response;
 use crate::short::{write_line, write_row};
-use crate::text::{LineEnd, ROOM};
+use crate::text::{LineEnd, ROOM, put_line};
 use std::io::Write;
 
 /// At most so many bytes wait.

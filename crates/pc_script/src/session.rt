@@ -5,7 +5,6 @@
 
 ghost use Rattle.std.specs.Prelude.{◌≡◌, ◌≢◌, ◌⊎◌, ◌+◌, ◌<◌, ◌≤◌, ℕ, suc, true, false, List, [], ◌∷◌, ◌++◌, length};
 ghost use Rattle.std.specs.Prelude.{IfOk, IsTrue, OnOk, Err};
-ghost use Rattle.std.specs.Bool.{MatchBool};
 ghost use Rattle.std.specs.Io.Buffered.{writer_buffer, writer_contents};
 ghost use Rattle.std.specs.Io.KnownBytes.{Appends, Consumes, IsAtEnd};
 ghost use Rattle.std.specs.Str.Lines.{strip_carriage_return};
@@ -48,14 +47,6 @@ pub struct Conversed {
 pub trait Helper: Drop {
     /// A line asks for help.
     fn help(&mut self);
-}
-
-/// Whether a line asks for help.
-#[inline(always)]
-fn asks_for_help(line: &[u8]) -> bool
-    ensures { MatchBool result (AsksForHelp line.now) (AsksForHelp line.now → ⊥) }
-{
-    line == b"?".as_slice()
 }
 
 /// A session between two of its lines.
@@ -152,7 +143,7 @@ impl<M: Machine> Talk<M> {
         }
         let number = self.next_number()?;
         self.number = number;
-        if asks_for_help(text) {
+        if text == b"?".as_slice() {
             helper.help();
             return Ok(());
         }
@@ -394,9 +385,9 @@ pub fn converse<M: Machine, O: Observer<M, BufWriter<W>>, R: Read, W: Write + Dr
 
 /// Answers the lines of a text one after another, as [`converse`] does, and writes the replies.
 ///
-/// What is written is the output of [`run_script`](crate::run_script) on the same text, up to its first fault; a fault
-/// is told, and the session goes on. After want of memory the replies to the lines before are written, and not flushed.
-/// What `Write` leaves is as there.
+/// Each line is answered, a fault is told, and the session goes on behind it. Of a text without a fault, a line `?` and
+/// a line longer than [`MOST_LINE`] what is written is the output of [`run_script`](crate::run_script). After want of
+/// memory the replies to the lines before are written, and not flushed. What `Write` leaves is as there.
 pub fn run_session<M: Machine, R: Read, W: Write + Drop, H: Helper>(
     alloc: Global,
     reader: &mut R,

@@ -5,7 +5,7 @@
 
 ghost use Rattle.std.specs.Prelude.{◌≡◌, ◌++◌, ◌≤◌, ◌<◌, ◌+◌, MatchOption, [], codes, decimal, drop, length};
 ghost use Rattle.pc_script.specs.Inner.Outputs.{row_text};
-ghost use Rattle.pc_script.specs.Responses.{level_text, limit_text, number_or_dash, phase_text, posted_text};
+ghost use Rattle.pc_script.specs.Responses.{level_text, limit_text, number_or_dash, posted_text};
 ghost use Rattle.pc_script.specs.Responses.{refusal_text, reported_text};
 ghost use Rattle.pc_script.specs.Responses.{reply_text, response_text, status_text, subject_text, text_line};
 
@@ -79,17 +79,6 @@ fn write_pair(line: &mut LineEnd, before: &[u8], first: u64, between: &[u8], sec
     line.text(before);
 }
 
-/// A phase by its name.
-pub(crate) fn phase_name(phase: Phase) -> &'static str
-    ensures { result.now ≡ phase_text phase }
-{
-    match phase {
-        Phase::Ready => "ready",
-        Phase::Blocked => "blocked",
-        Phase::Dead => "dead",
-    }
-}
-
 /// A limit by its name.
 fn limit_name(limit: LimitField) -> &'static str
     ensures { (result.now ≡ limit_text limit) × (length result.now ≤ 20) }
@@ -115,7 +104,7 @@ fn write_status(line: &mut LineEnd, thread: Tid, status: Status, phase: Phase)
         line.number(u64::from(cpu.index()));
         line.text(b" c");
     }
-    line.text(phase_name(phase).as_bytes());
+    line.text(phase.word().as_bytes());
     line.text(b" ");
     line.number(u64::from(status.number));
     line.text(b" n");
@@ -153,7 +142,7 @@ fn write_reported(line: &mut LineEnd, reported: Option<Reported>)
     line.text(b" ran ");
     line.number(reported.mask.bits());
     line.text(b" mask ");
-    line.text(phase_name(reported.phase).as_bytes());
+    line.text(reported.phase.word().as_bytes());
 }
 
 /// Writes what a view knows of a thread, but for the numbers of early messages.

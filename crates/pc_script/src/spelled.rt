@@ -6,7 +6,7 @@ ghost use Rattle.pc_script.specs.Grammar.{state_word, target_word};
 
 use crate::command::{Command, Read};
 use pc_calls::{AgentCall, EnvCall, Event, Limits};
-use pc_messages::Cpu;
+use pc_messages::{Cpu, Phase};
 use std::fmt;
 
 /// How a new thread starts.
@@ -17,7 +17,8 @@ impl fmt::Display for State {
     ghost output = { λ state. Some (state_word state.0) };
 
     fn fmt<W: fmt::Write>(&self, f: &mut fmt::Formatter<W>) -> fmt::Result {
-        f.write_str(if self.0 { "ready" } else { "blocked" })
+        let phase = if self.0 { Phase::Ready } else { Phase::Blocked };
+        f.write_str(phase.word())
     }
 }
 

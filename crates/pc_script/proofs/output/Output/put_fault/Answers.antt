@@ -1,4 +1,4 @@
-use Rattle.std.proofs.Common.{◌∙◌, ◌++◌, ◌∷◌, ◌≡◌, [], ap, codes, decimal, subst}
+use Rattle.std.proofs.Common.{◌∙◌, ◌++◌, ◌∷◌, ◌≡◌, ap, codes, decimal, subst}
 use Rattle.std.specs.Io.KnownBytes.{Appends}
 use Rattle.pc_script.specs.Inner.Outputs.{output_held}
 use Rattle.pc_script.specs.Scripts.{outcome_text}

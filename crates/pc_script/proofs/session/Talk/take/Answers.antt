@@ -1,4 +1,5 @@
-use Rattle.std.proofs.Common.{refl, inr, subst, ◌∷◌, []}
+use Rattle.std.proofs.Common.{◌≡◌, ◌∙◌, ℕ, List, refl, inr, subst, sym, ap, ◌∷◌, [], true≢false}
+use Rattle.std.specs.Prelude.{bytes_eq, codes}
 use Rattle.pc_script.specs.Scripts.{faulted}
 use Rattle.pc_script.specs.Inner.Talks.{faults}
 use Rattle.pc_script.specs.Sessions.{AsksForHelp}
@@ -7,7 +8,10 @@ use Rattle.pc_script.proofs.session.Talk.take.Goals as goal
 pub returns-then-not-branch-clause-ok : goal.returns-then-not-branch-clause-ok
 returns-then-not-branch-clause-ok g c =
     let stops = rw c.if-not-branch.true at c.in_ok-take.ensures.ok in
-    let no_help : AsksForHelp c.args.text.now → ⊥ = rw c.if-asks_for_help.false at c.asks_for_help.ensures in
+    let asks : List ℕ = codes "?" in
+    let slice : c.as_slice.result.now ≡ asks = c.as_slice.ensures in
+    let no_help : AsksForHelp c.args.text.now → ⊥ = λ is.
+    true≢false (sym (c.eq.ensures ∙ ap (λ line. bytes_eq line c.as_slice.result.now) is ∙ ap (bytes_eq asks) slice) ∙ c.if-eq.false) in
     let number = c.in_ok-number.ensures.ok in
     faults (inr (no_help, stops.bad)) (λ closed short. stops.no_version closed) number refl stops.same stops.is_open stops.same_version
     (subst (λ n. g.O.Observer.Tells c.args.observer.now (g.W.Write.contents c.args.writer.now) (faulted n ∷ []) c.take.new.observer (g.W.Write.contents c.take.new.writer)) number stops.told)

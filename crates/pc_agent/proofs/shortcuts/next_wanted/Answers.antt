@@ -1,6 +1,6 @@
 use Rattle.pc_run_queue.specs.Runs.{runs_in}
 use Rattle.pc_agent.proofs.Kept.{are_short, finds_wanted}
-use Rattle.pc_agent.proofs.runnable.next_wanted.Goals as goal
+use Rattle.pc_agent.proofs.shortcuts.next_wanted.Goals as goal
 
 pub returns-in-Some-clause-finds : goal.returns-in-Some-clause-finds
 returns-in-Some-clause-finds c =

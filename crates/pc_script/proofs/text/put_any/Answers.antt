@@ -1,7 +1,7 @@
 use Rattle.std.proofs.Common.{◌≡◌, ◌+◌, ◌-◌, ◌++◌, ◌∙◌, ap, arith, length, take}
 use Rattle.std.proofs.lemmas.Slice.{take-put_mid, drop-put_mid}
 use Rattle.std.proofs.lemmas.Grind.{common_steps}
-use Rattle.pc_script.proofs.place.put_any.Goals as goal
+use Rattle.pc_script.proofs.text.put_any.Goals as goal
 
 pub returns : goal.returns
 returns c =

@@ -2,8 +2,8 @@ use Rattle.std.proofs.Common.{◌∙◌}
 use Rattle.pc_delta.specs.Parts.{tells_of}
 use Rattle.pc_run_queue.specs.Runs.{runs_in}
 use Rattle.pc_agent.proofs.Kept.{all_kept, none_kept}
-use Rattle.pc_agent.proofs.runnable.keep_runnable.Goals.{in-None, in-Some}
-use Rattle.pc_agent.proofs.runnable.keep_runnable.Goals as goal
+use Rattle.pc_agent.proofs.shortcuts.keep_runnable.Goals.{in-None, in-Some}
+use Rattle.pc_agent.proofs.shortcuts.keep_runnable.Goals as goal
 
 pub returns-else-not-kept : goal.returns-else-not-kept
 returns-else-not-kept c held =

@@ -3,7 +3,7 @@ use Rattle.pc_delta.specs.Parts.{tells_of}
 use Rattle.pc_run_queue.specs.Runs.{runs_in}
 use Rattle.pc_agent.specs.Inner.Wanted.{HasAllBut}
 use Rattle.pc_agent.proofs.Kept.{one_less}
-use Rattle.pc_agent.proofs.runnable.keep_told.Goals as goal
+use Rattle.pc_agent.proofs.shortcuts.keep_told.Goals as goal
 
 pub loop-part-preserved : goal.loop-part-preserved
 loop-part-preserved c was =

@@ -1,7 +1,7 @@
 use Rattle.std.proofs.Common.{◌-◌, rules, length}
 use Rattle.std.proofs.lemmas.List.{take_rest}
 use Rattle.pc_script.proofs.Placing.{placed_ends}
-use Rattle.pc_script.proofs.place.put_ends.Goals as goal
+use Rattle.pc_script.proofs.text.put_ends.Goals as goal
 
 pub returns : goal.returns
 returns g c =

@@ -1,7 +1,7 @@
 use Rattle.std.proofs.Common.{ℕ, ◌≡◌, ◌<◌, ◌≤◌, ◌-◌, ◌^◌, false}
 use Rattle.pc_run_queue.specs.Runs.{runs_in}
 use Rattle.pc_agent.specs.PlainAgent.{is_wanted}
-use Rattle.pc_agent.proofs.runnable.next_known.Given as goal
+use Rattle.pc_agent.proofs.shortcuts.next_known.Given as goal
 
 -- no thread is wanted that was passed
 abbrev pub invariant-loop-name : goal.invariant-loop-name

@@ -1,7 +1,7 @@
 use Rattle.std.proofs.Common.{◌≡◌, length, take, arith, length-take-le}
 use Rattle.std.proofs.lemmas.Simd.{take_more_put_chunk, length-put_chunk}
 use Rattle.pc_script.proofs.Placing.{rest_of}
-use Rattle.pc_script.proofs.place.put_front.Goals as goal
+use Rattle.pc_script.proofs.text.put_front.Goals as goal
 
 pub returns : goal.returns
 returns g c =
