@@ -21,7 +21,7 @@ use Rattle.pc_calls.specs.declared.refusal.Refusal.{Refusal}
 use Rattle.pc_calls.specs.declared.refusal.Refusal.TheVariants as refusals
 use Rattle.pc_kernel.specs.Exact.{ReadsArePlain}
 use Rattle.pc_kernel.specs.PlainKernel.{PlainKernel, aseq, content, is_known, kinds, number}
-use Rattle.pc_kernel.specs.Reads.{shown, is_cpu, is_pending, cpu_row, thread_row, may_run_on}
+use Rattle.pc_kernel.specs.Reads.{shown, is_cpu, is_pending, cpu_row, thread_row, is_allowed_on}
 use Rattle.pc_kernel.specs.Reads as reads
 use Rattle.pc_kernel.specs.Rows.{CpuRow, ThreadRow}
 use Rattle.pc_kernel.specs.Steps.{after, after_of, at, changed, is_dead, is_ready, refused, reply, reply_of}
@@ -121,7 +121,7 @@ module _ (plain : ReadsArePlain) (P : PlainKernel) (c t : ℕ) (idle : IsIdle P 
       let r = shown Q in
       let count : n ≡ reads.aseq_read r c = is ∙ sym ((plain Q).aseq c idle.there) in
       let on : reads.on r c ≡ None = (plain Q).on c idle.there ∙ idle.idle in
-      eight_none (not (is_cpu r c)) (not (reads.is_known r t)) (not (n == reads.aseq_read r c)) (not (is_ready (reads.phase r t))) (not (reads.home r t == c)) (is_some (reads.place r t)) (not (may_run_on r t c)) (is_some (reads.on r c))
+      eight_none (not (is_cpu r c)) (not (reads.is_known r t)) (not (n == reads.aseq_read r c)) (not (is_ready (reads.phase r t))) (not (reads.home r t == c)) (is_some (reads.place r t)) (not (is_allowed_on r t c)) (is_some (reads.on r c))
       refusals.BadCpu refusals.UnknownThread (refusals.Stale (reads.aseq_read r c)) refusals.NotReady (refusals.NotYours (reads.home r t)) (refusals.Running (unwrap_or (reads.place r t) 0)) refusals.Forbidden refusals.Busy
       (ap not idle.there) (ap not (read_there plain Q c t waits_there)) (ap not (equal n (reads.aseq_read r c) count)) (ap not (dead_ready (reads.phase r t) (read_phase plain Q c t waits_there)).1)
       (ap not (equal (reads.home r t) c at_home)) (ap is_some (read_place plain Q c t waits_there)) (ap not waits_there.allowed) (ap is_some on)

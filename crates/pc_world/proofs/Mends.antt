@@ -13,7 +13,7 @@ use Rattle.pc_kernel.specs.Answers.{Shows}
 use Rattle.pc_kernel.specs.Exact.{ReadsArePlain}
 use Rattle.pc_kernel.specs.PlainKernel.{PlainKernel, aseq, kinds, place_of}
 use Rattle.pc_kernel.specs.PlainKernel as plain
-use Rattle.pc_kernel.specs.Reads.{Reads, seen, shown, is_cpu, may_run_on, cpu_row, thread_row, aseq_of, on}
+use Rattle.pc_kernel.specs.Reads.{Reads, seen, shown, is_cpu, is_allowed_on, cpu_row, thread_row, aseq_of, on}
 use Rattle.pc_kernel.specs.Reads as reads
 use Rattle.pc_kernel.specs.Rows.{CpuRow, KernelRows, ThreadRow}
 use Rattle.pc_policy.specs.Rules.{Rules}
@@ -175,7 +175,7 @@ module _ (all_plain : ReadsArePlain) (P Q : PlainKernel) (same : shown P ≡ sho
   same_waits c t waits =
       record {
         ready = ap phase_of (same_kinds t) ∙ waits.ready;
-        allowed = sym (ap (λ (r : Reads). may_run_on r t c) same) ∙ waits.allowed;
+        allowed = sym (ap (λ (r : Reads). is_allowed_on r t c) same) ∙ waits.allowed;
         nowhere = here (plain.is_known Q t) (ap (λ ks. nat_lt 0 (length ks)) (same_kinds t) ∙ is_there all_plain P c t waits)
             (sym (ap (λ (r : Reads). reads.place r t) same) ∙ read_place all_plain P c t waits);
       }

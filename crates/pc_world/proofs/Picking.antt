@@ -16,7 +16,7 @@ use Rattle.pc_calls.specs.declared.limits.Limits.{Limits}
 use Rattle.pc_calls.specs.declared.refusal.Refusal.{Refusal}
 use Rattle.pc_calls.specs.declared.refusal.Refusal.TheVariants as refusals
 use Rattle.pc_kernel.specs.PlainKernel.{PlainKernel, aseq, content, is_known, kinds, number, place_of, threads}
-use Rattle.pc_kernel.specs.Reads.{Reads, shown, is_cpu, may_run_on, thread_row}
+use Rattle.pc_kernel.specs.Reads.{Reads, shown, is_cpu, is_allowed_on, thread_row}
 use Rattle.pc_kernel.specs.Reads as reads
 use Rattle.pc_kernel.specs.Rows.{ThreadRow}
 use Rattle.pc_kernel.specs.Steps.{after, after_of, changed, refused}

@@ -32,7 +32,7 @@ get_set_same [] i y a e = cc
 get_set_same (x ∷ xs) zero y a e = sym (same_Some y a e)
 get_set_same (x ∷ xs) (suc i) y a e = get_set_same xs i y a e
 
-get_set_other : (xs : List Agent) (i j : ℕ) (y : Agent) → (j ≡ i → ⊥) → slice_get (set xs i y) j ≡ slice_get xs j
+pub get_set_other : (xs : List Agent) (i j : ℕ) (y : Agent) → (j ≡ i → ⊥) → slice_get (set xs i y) j ≡ slice_get xs j
 get_set_other [] i j y o = refl
 get_set_other (x ∷ xs) zero zero y o = absurd (o refl)
 get_set_other (x ∷ xs) zero (suc j) y o = refl

@@ -10,7 +10,6 @@ use Rattle.pc_calls.specs.declared.refusal.CallFault.{CallFault}
 use Rattle.pc_calls.specs.declared.refusal.CallFault.TheVariants.{Refused, OutOfMemory}
 use Rattle.pc_join.specs.declared.join.OutOfMemory.{OutOfMemory as NoMemory}
 use Rattle.pc_kernel.specs.Answers.{AnsweredInMemory}
-use Rattle.pc_kernel.specs.Rows.{KernelRows}
 use Rattle.pc_kernel.proofs.Answered.{told}
 use Rattle.pc_world.specs.declared.parts.Parts.{Parts}
 use Rattle.pc_world.specs.Inner.Handling.{Handles, outcome_of}

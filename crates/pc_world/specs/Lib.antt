@@ -3,6 +3,7 @@
 -- it, whatever was answered to digests of long ago and whatever found no memory. So what holds of every reached world
 -- holds whatever is lost, late, repeated or refused.
 pub mod Callers
+pub mod Counting
 pub mod Facts
 pub mod Inner
 pub mod Mending

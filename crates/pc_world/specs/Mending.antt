@@ -11,7 +11,7 @@ use Rattle.pc_calls.specs.declared.event.Reply.{Reply}
 use Rattle.pc_calls.specs.declared.limits.Limits.{Limits}
 use Rattle.pc_join.specs.Sets.{has}
 use Rattle.pc_kernel.specs.PlainKernel.{PlainKernel, aseq, content, kinds, number, place_of, threads}
-use Rattle.pc_kernel.specs.Reads.{is_cpu, may_run_on, shown}
+use Rattle.pc_kernel.specs.Reads.{is_cpu, is_allowed_on, shown}
 use Rattle.pc_policy.specs.Rules.{Rules}
 use Rattle.pc_run_queue.specs.Names.{has_name}
 use Rattle.pc_run_queue.specs.Runs.{rank_told}
@@ -80,7 +80,7 @@ recovering w c = learning w c ++ robbing c (threads w.kernel)
 -- the thread waits for the CPU: it is ready, allowed there, and on no CPU
 pub record WaitsFor (P : PlainKernel) (c t : ℕ) : Type 0 where
   pub ready : phase_of (kinds P t) ≡ Some Ready
-  pub allowed : may_run_on (shown P) t c ≡ true
+  pub allowed : is_allowed_on (shown P) t c ≡ true
   pub nowhere : place_of P t ≡ None
 
 -- a CPU that is there, and on which nothing runs

@@ -1,7 +1,8 @@
 //! Mending: an idle CPU comes to run a thread that waits for it, whatever was lost before.
 
 ghost use Rattle.std.specs.Prelude.{IfOk, OnErr, OnOk, false, ◌++◌, ◌∷◌, []};
-ghost use Rattle.pc_world.specs.Inner.Mends.{DoesAll, PicksOrSteals};
+ghost use Rattle.pc_world.specs.Counting.{CountsMending};
+ghost use Rattle.pc_world.specs.Inner.Mends.{CountsAll, CountsPicks, DoesAll, PicksOrSteals};
 ghost use Rattle.pc_world.specs.Mending.{clearing, hearing};
 ghost use Rattle.pc_world.specs.Mends.{IsMended, MendsInPart, RunsTheSame, ShowsIdle};
 ghost use Rattle.pc_world.specs.Shows.{Does, KeepsSent, RunsOutAmong};
@@ -23,6 +24,7 @@ impl World {
     pub fn mend(&mut self, cpu: Cpu) -> Result<Reply, OutOfMemory>
         ensures mended { IfOk result (Does (IsMended cpu) self.old self.new) }
         ensures no_memory { OnErr result (MendsInPart cpu self.old self.new) }
+        ensures counts { IfOk result (λ told. CountsMending cpu self.old self.new told) }
         ensures idle { OnErr result (ShowsIdle cpu self.new) }
         ensures running { OnErr result (RunsTheSame self.old self.new) }
         ensures kept { KeepsSent self.old self.new }
@@ -48,6 +50,7 @@ impl World {
     fn learn(&mut self, cpu: Cpu, cpus: u8, deltas: u64) -> Result<(), OutOfMemory>
         ensures done { OnOk result (DoesAll (clearing cpus ++ hearing cpu deltas) self.old self.new) }
         ensures no_memory { OnErr result (RunsOutAmong (clearing cpus ++ hearing cpu deltas) self.old self.new) }
+        ensures counts { OnOk result (CountsAll (clearing cpus ++ hearing cpu deltas) self.old self.new) }
         ensures kept { KeepsSent self.old self.new }
     {
         self.clear_queues(cpus)?;
@@ -59,6 +62,7 @@ impl World {
     fn clear_queues(&mut self, cpus: u8) -> Result<(), OutOfMemory>
         ensures done { OnOk result (DoesAll (clearing cpus) self.old self.new) }
         ensures no_memory { OnErr result (RunsOutAmong (clearing cpus) self.old self.new) }
+        ensures counts { OnOk result (CountsAll (clearing cpus) self.old self.new) }
         ensures kept { KeepsSent self.old self.new }
     {
         for index in 0..cpus {
@@ -73,6 +77,8 @@ impl World {
             (DoesAll (Event.Publish cpu false ∷ Event.Consume cpu ∷ []) self.old self.new) }
         ensures no_memory { OnErr result
             (RunsOutAmong (Event.Publish cpu false ∷ Event.Consume cpu ∷ []) self.old self.new) }
+        ensures counts { OnOk result
+            (CountsAll (Event.Publish cpu false ∷ Event.Consume cpu ∷ []) self.old self.new) }
         ensures kept { KeepsSent self.old self.new }
     {
         self.take(Event::Publish { cpu, fails: false })?;
@@ -84,6 +90,7 @@ impl World {
     fn hear(&mut self, cpu: Cpu, deltas: u64) -> Result<(), OutOfMemory>
         ensures done { OnOk result (DoesAll (hearing cpu deltas) self.old self.new) }
         ensures no_memory { OnErr result (RunsOutAmong (hearing cpu deltas) self.old self.new) }
+        ensures counts { OnOk result (CountsAll (hearing cpu deltas) self.old self.new) }
         ensures kept { KeepsSent self.old self.new }
     {
         for delta in 0..deltas {
@@ -97,6 +104,7 @@ impl World {
         ensures done { IfOk result (Does (PicksOrSteals cpu posts) self.old self.new) }
         ensures no_memory { OnErr result (RunsOutAmong
             (Event.Pick cpu posts ∷ Event.Steal cpu ∷ Event.Pick cpu posts ∷ []) self.old self.new) }
+        ensures counts { IfOk result (λ told. CountsPicks cpu posts self.old self.new told) }
         ensures kept { KeepsSent self.old self.new }
     {
         match self.step(Event::Pick { cpu, aseq: posts })? {
@@ -113,6 +121,7 @@ impl World {
     fn take(&mut self, event: Event) -> Result<(), OutOfMemory>
         ensures done { OnOk result (DoesAll (event ∷ []) self.old self.new) }
         ensures no_memory { OnErr result (RunsOutAmong (event ∷ []) self.old self.new) }
+        ensures counts { OnOk result (CountsAll (event ∷ []) self.old self.new) }
         ensures kept { KeepsSent self.old self.new }
     {
         // The checker finds the types that a reply nests only where the function names them.

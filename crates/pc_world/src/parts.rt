@@ -45,7 +45,8 @@ fn delta_at(sent: &[Delta], index: u64) -> Option<&Delta>
 }
 
 impl Parts {
-    ghost use Rattle.pc_world.specs.Inner.Handling.{Handles, outcome_of};
+    ghost use Rattle.pc_world.specs.Counting.{CountsNothing};
+    ghost use Rattle.pc_world.specs.Inner.Handling.{CountsOutcome, Handles, outcome_of};
     ghost use Rattle.pc_world.specs.Inner.Places.{IsPlace};
 
     /// The CPU's agent; none of a CPU that is not there.
@@ -61,6 +62,7 @@ impl Parts {
     /// same function, each would save the registers and clear the room that such an event wants.
     pub(crate) fn handle(&mut self, event: &Event, reply: &mut Reply) -> Result<(), OutOfMemory>
         ensures handles { Handles event.now (outcome_of result reply.new) self.old self.new }
+        ensures counts { CountsOutcome event.now (outcome_of result reply.new) self.old self.new }
         ensures kept { OnErr result (reply.new ≡ reply.old) }
     {
         match event {
@@ -91,6 +93,7 @@ impl Parts {
     #[inline(always)]
     fn post(&mut self, call: &EnvCall, reply: &mut Reply) -> Result<(), OutOfMemory>
         ensures handles { Handles (Event.Env call.now) (outcome_of result reply.new) self.old self.new }
+        ensures counts { CountsNothing self.old self.new }
         ensures kept { OnErr result (reply.new ≡ reply.old) }
     {
         match call {
@@ -110,6 +113,7 @@ impl Parts {
     #[inline(never)]
     fn call(&mut self, call: &AgentCall, reply: &mut Reply) -> Result<(), OutOfMemory>
         ensures handles { Handles (Event.Agent call.now) (outcome_of result reply.new) self.old self.new }
+        ensures counts { CountsNothing self.old self.new }
         ensures kept { OnErr result (reply.new ≡ reply.old) }
     {
         runs_go_on();
@@ -131,6 +135,7 @@ impl Parts {
     #[inline(never)]
     fn consume(&mut self, cpu: Cpu, reply: &mut Reply) -> Result<(), OutOfMemory>
         ensures handles { Handles (Event.Consume cpu) (outcome_of result reply.new) self.old self.new }
+        ensures counts { CountsOutcome (Event.Consume cpu) (outcome_of result reply.new) self.old self.new }
         ensures kept { OnErr result (reply.new ≡ reply.old) }
     {
         runs_go_on();
@@ -154,6 +159,7 @@ impl Parts {
     #[inline(never)]
     fn publish(&mut self, cpu: Cpu, fails: bool, reply: &mut Reply) -> Result<(), OutOfMemory>
         ensures handles { Handles (Event.Publish cpu fails) (outcome_of result reply.new) self.old self.new }
+        ensures counts { CountsNothing self.old self.new }
         ensures kept { OnErr result (reply.new ≡ reply.old) }
     {
         runs_go_on();
@@ -183,6 +189,7 @@ impl Parts {
     #[inline(never)]
     fn deliver(&mut self, cpu: Cpu, index: u64, reply: &mut Reply) -> Result<(), OutOfMemory>
         ensures handles { Handles (Event.Deliver cpu index) (outcome_of result reply.new) self.old self.new }
+        ensures counts { CountsNothing self.old self.new }
         ensures kept { OnErr result (reply.new ≡ reply.old) }
     {
         runs_go_on();
@@ -209,6 +216,7 @@ impl Parts {
     #[inline(never)]
     fn answer(&mut self, cpu: Cpu, asker: Cpu, reply: &mut Reply) -> Result<(), OutOfMemory>
         ensures handles { Handles (Event.Answer cpu asker) (outcome_of result reply.new) self.old self.new }
+        ensures counts { CountsNothing self.old self.new }
         ensures kept { OnErr result (reply.new ≡ reply.old) }
     {
         sets_are_pairs();
@@ -237,6 +245,7 @@ impl Parts {
     #[inline(never)]
     fn pick(&mut self, cpu: Cpu, aseq: u32, reply: &mut Reply) -> Result<(), OutOfMemory>
         ensures handles { Handles (Event.Pick cpu aseq) (outcome_of result reply.new) self.old self.new }
+        ensures counts { CountsOutcome (Event.Pick cpu aseq) (outcome_of result reply.new) self.old self.new }
         ensures kept { OnErr result (reply.new ≡ reply.old) }
     {
         runs_go_on();
@@ -260,6 +269,7 @@ impl Parts {
     #[inline(never)]
     fn steal(&mut self, cpu: Cpu, reply: &mut Reply) -> Result<(), OutOfMemory>
         ensures handles { Handles (Event.Steal cpu) (outcome_of result reply.new) self.old self.new }
+        ensures counts { CountsOutcome (Event.Steal cpu) (outcome_of result reply.new) self.old self.new }
         ensures kept { OnErr result (reply.new ≡ reply.old) }
     {
         runs_go_on();
@@ -286,6 +296,7 @@ impl Parts {
     #[inline(never)]
     fn crash(&mut self, cpu: Cpu, reply: &mut Reply) -> Result<(), OutOfMemory>
         ensures handles { Handles (Event.Crash cpu) (outcome_of result reply.new) self.old self.new }
+        ensures counts { CountsNothing self.old self.new }
         ensures kept { OnErr result (reply.new ≡ reply.old) }
     {
         runs_go_on();

@@ -31,6 +31,7 @@ fn put_posted(outcome: Result<Posted, CallFault>, reply: &mut Reply) -> Result<(
 }
 
 impl Parts {
+    ghost use Rattle.pc_world.specs.Counting.{CountsNothing};
     ghost use Rattle.pc_world.specs.Inner.Handling.{Handles, outcome_of};
 
     /// A new thread, whose home is the queue.
@@ -44,6 +45,7 @@ impl Parts {
     ) -> Result<(), OutOfMemory>
         ensures handles { Handles (Event.Env (EnvCall.Create queue ready mask)) (outcome_of result reply.new)
             self.old self.new }
+        ensures counts { CountsNothing self.old self.new }
         ensures kept { OnErr result (reply.new ≡ reply.old) }
     {
         runs_go_on();
@@ -55,6 +57,7 @@ impl Parts {
     pub(crate) fn wake(&mut self, thread: Tid, reply: &mut Reply) -> Result<(), OutOfMemory>
         ensures handles { Handles (Event.Env (EnvCall.Wake thread)) (outcome_of result reply.new)
             self.old self.new }
+        ensures counts { CountsNothing self.old self.new }
         ensures kept { OnErr result (reply.new ≡ reply.old) }
     {
         runs_go_on();
@@ -66,6 +69,7 @@ impl Parts {
     pub(crate) fn block(&mut self, cpu: Cpu, ran: u32, reply: &mut Reply) -> Result<(), OutOfMemory>
         ensures handles { Handles (Event.Env (EnvCall.Block cpu ran)) (outcome_of result reply.new)
             self.old self.new }
+        ensures counts { CountsNothing self.old self.new }
         ensures kept { OnErr result (reply.new ≡ reply.old) }
     {
         runs_go_on();
@@ -82,6 +86,7 @@ impl Parts {
     ) -> Result<(), OutOfMemory>
         ensures handles { Handles (Event.Env (EnvCall.YieldNow cpu ran)) (outcome_of result reply.new)
             self.old self.new }
+        ensures counts { CountsNothing self.old self.new }
         ensures kept { OnErr result (reply.new ≡ reply.old) }
     {
         runs_go_on();
@@ -98,6 +103,7 @@ impl Parts {
     ) -> Result<(), OutOfMemory>
         ensures handles { Handles (Event.Env (EnvCall.Preempt cpu ran)) (outcome_of result reply.new)
             self.old self.new }
+        ensures counts { CountsNothing self.old self.new }
         ensures kept { OnErr result (reply.new ≡ reply.old) }
     {
         runs_go_on();
@@ -109,6 +115,7 @@ impl Parts {
     pub(crate) fn die(&mut self, cpu: Cpu, ran: u32, reply: &mut Reply) -> Result<(), OutOfMemory>
         ensures handles { Handles (Event.Env (EnvCall.Die cpu ran)) (outcome_of result reply.new)
             self.old self.new }
+        ensures counts { CountsNothing self.old self.new }
         ensures kept { OnErr result (reply.new ≡ reply.old) }
     {
         runs_go_on();
@@ -125,6 +132,7 @@ impl Parts {
     ) -> Result<(), OutOfMemory>
         ensures handles { Handles (Event.Env (EnvCall.SetAffinity thread mask)) (outcome_of result reply.new)
             self.old self.new }
+        ensures counts { CountsNothing self.old self.new }
         ensures kept { OnErr result (reply.new ≡ reply.old) }
     {
         runs_go_on();
@@ -141,6 +149,7 @@ impl Parts {
     ) -> Result<(), OutOfMemory>
         ensures handles { Handles (Event.Env (EnvCall.SetPriority thread level)) (outcome_of result reply.new)
             self.old self.new }
+        ensures counts { CountsNothing self.old self.new }
         ensures kept { OnErr result (reply.new ≡ reply.old) }
     {
         runs_go_on();
@@ -152,6 +161,7 @@ impl Parts {
     pub(crate) fn tick(&mut self, cpu: Cpu, reply: &mut Reply) -> Result<(), OutOfMemory>
         ensures handles { Handles (Event.Env (EnvCall.Tick cpu)) (outcome_of result reply.new)
             self.old self.new }
+        ensures counts { CountsNothing self.old self.new }
         ensures kept { OnErr result (reply.new ≡ reply.old) }
     {
         runs_go_on();

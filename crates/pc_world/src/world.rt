@@ -1,6 +1,8 @@
 //! The kernel, its agents, and what they sent.
 
-ghost use Rattle.std.specs.Prelude.{◌≡◌, Some, None, IfOk, OnOk, OnErr, ◌∷◌, [], ◌++◌, option_copied};
+ghost use Rattle.std.specs.Prelude.{◌≡◌, Some, None, IfOk, IfSome, OnOk, OnErr, ◌∷◌, [], ◌++◌};
+ghost use Rattle.std.specs.Prelude.{option_copied, option_map};
+ghost use Rattle.pc_agent.specs.Shows.{counts_of, cpu_of};
 ghost use Rattle.pc_calls.specs.Limits.{bad_field};
 ghost use Rattle.pc_kernel.specs.Answers.{Shows};
 ghost use Rattle.pc_kernel.specs.PlainKernel.{kinds};
@@ -56,7 +58,8 @@ fn add<T: Drop>(items: &mut Vec<T>, item: T) -> Result<(), OutOfMemory>
 impl World {
     ghost use Rattle.pc_world.specs.Shows.{AreSent, Does, IsAgentAt, IsReached, IsViewAt, KeepsSent, RunsInPart};
     ghost use Rattle.pc_world.specs.Shows.{RunsThrough, ShowsWorld, LeavesWhenRanOut, deltas_of};
-    ghost use Rattle.pc_world.specs.Inner.Handling.{StepsInPart, StepsInto};
+    ghost use Rattle.pc_world.specs.Counting.{CountsEvent, CountsEvents, CountsNothing, counts_at};
+    ghost use Rattle.pc_world.specs.Inner.Handling.{CountsInto, StepsInPart, StepsInto};
 
     /// The world at the start, with limits of profile One. Each agent runs the thread of the highest level first.
     pub fn new(alloc: Global, limits: Limits) -> Result<World, LimitsFault>
@@ -127,7 +130,9 @@ impl World {
 
     /// The CPU's agent; none of a CPU that is not there.
     pub fn agent(&self, cpu: Cpu) -> Option<&Agent>
-        ensures { (w : PlainWorld) → ShowsWorld self.now w → IsAgentAt w cpu (option_copied result) }
+        ensures shown { (w : PlainWorld) → ShowsWorld self.now w → IsAgentAt w cpu (option_copied result) }
+        ensures cpu { IfSome (option_copied result) (λ agent. cpu_of agent ≡ cpu) }
+        ensures counts { option_map counts_of (option_copied result) ≡ counts_at self.now cpu }
     {
         self.parts.agent(cpu)
     }
@@ -156,6 +161,8 @@ impl World {
     pub fn step(&mut self, event: Event) -> Result<Reply, OutOfMemory>
         ensures step { IfOk result (Does (λ w. Step w event) self.old self.new) }
         ensures no_memory { OnErr result (LeavesWhenRanOut event self.old self.new) }
+        ensures counts { IfOk result (λ told. CountsEvent event self.old self.new told) }
+        ensures uncounted { OnErr result (CountsNothing self.old self.new) }
         ensures kept { KeepsSent self.old self.new }
     {
         let mut reply = Reply::Done;
@@ -170,6 +177,8 @@ impl World {
     pub fn step_in_place(&mut self, event: &Event, reply: &mut Reply) -> Result<(), OutOfMemory>
         ensures step { OnOk result (Does (λ w. Step w event.now) self.old self.new reply.new) }
         ensures no_memory { OnErr result (LeavesWhenRanOut event.now self.old self.new) }
+        ensures counts { OnOk result (CountsEvent event.now self.old self.new reply.new) }
+        ensures uncounted { OnErr result (CountsNothing self.old self.new) }
         ensures kept { KeepsSent self.old self.new }
         ensures unanswered { OnErr result (reply.new ≡ reply.old) }
     {
@@ -182,6 +191,7 @@ impl World {
     pub fn run(&mut self, events: &[Event]) -> Result<Vec<Reply>, OutOfMemory>
         ensures run { IfOk result (λ replies. RunsThrough events.now replies.items self.old self.new) }
         ensures no_memory { OnErr result (RunsInPart events.now self.old self.new) }
+        ensures counts { IfOk result (λ replies. CountsEvents events.now replies.items self.old self.new) }
         ensures kept { KeepsSent self.old self.new }
     {
         let mut replies = Vec::new(self.parts.alloc);
@@ -195,6 +205,7 @@ impl World {
     fn step_into(&mut self, event: Event, replies: &mut Vec<Reply>) -> Result<(), OutOfMemory>
         ensures ok { OnOk result (StepsInto event replies.old.items replies.new.items self.old self.new) }
         ensures no_memory { OnErr result (StepsInPart event self.old self.new) }
+        ensures counts { OnOk result (CountsInto event replies.old.items replies.new.items self.old self.new) }
         ensures kept { KeepsSent self.old self.new }
     {
         // The checker finds the types that a reply nests only where the function names them.

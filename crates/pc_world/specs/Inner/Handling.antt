@@ -4,6 +4,7 @@ use Rattle.pc_calls.specs.declared.event.Event.{Event}
 use Rattle.pc_calls.specs.declared.event.Reply.{Reply}
 use Rattle.pc_join.specs.declared.join.OutOfMemory.{OutOfMemory}
 use Rattle.pc_world.specs.declared.parts.Parts.{Parts}
+use Rattle.pc_world.specs.Counting.{CountsEvent, CountsNothing}
 use Rattle.pc_world.specs.PlainWorld.{PlainWorld}
 use Rattle.pc_world.specs.Shows.{Does, KeepsSent, ShowsWorld}
 use Rattle.pc_world.specs.RanOut.{RanOut}
@@ -25,6 +26,11 @@ Handles event result old new =
     (w : PlainWorld) → ShowsWorld old w → (w' : PlainWorld) × Outcome w event result w' × ShowsWorld new w'
     × KeepsSent old new
 
+-- the event was counted, or nothing was, where memory ran out
+abbrev pub CountsOutcome : Event → Result Reply OutOfMemory → Parts → Parts → Type 0
+CountsOutcome event (Ok told) old new = CountsEvent event old new told
+CountsOutcome event (Err fault) old new = CountsNothing old new
+
 -- for every plain world that is shown before, the event was done, or left what it leaves without memory
 abbrev pub StepsInPart : Event → Parts → Parts → Type 0
 StepsInPart event old new =
@@ -35,3 +41,7 @@ StepsInPart event old new =
 abbrev pub StepsInto : Event → List Reply → List Reply → Parts → Parts → Type 0
 StepsInto event before after old new =
     (told : Reply) × (after ≡ before ++ told ∷ []) × Does (λ w. Step w event) old new told
+
+-- an event was counted by its reply, which stands at the end
+abbrev pub CountsInto : Event → List Reply → List Reply → Parts → Parts → Type 0
+CountsInto event before after old new = (told : Reply) × (after ≡ before ++ told ∷ []) × CountsEvent event old new told

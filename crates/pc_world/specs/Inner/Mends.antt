@@ -1,10 +1,11 @@
 -- The parts of mending.
-use Rattle.std.specs.Prelude.{ℕ, ◌≡◌, ◌⊎◌, List}
+use Rattle.std.specs.Prelude.{ℕ, ◌≡◌, ◌⊎◌, List, [], ◌∷◌}
 use Rattle.pc_calls.specs.declared.event.Event.{Event}
 use Rattle.pc_calls.specs.declared.event.Event.TheVariants.{Pick, Steal}
 use Rattle.pc_calls.specs.declared.event.Reply.{Reply}
 use Rattle.pc_calls.specs.declared.event.Reply.TheVariants.{Committed}
 use Rattle.pc_world.specs.declared.parts.Parts.{Parts}
+use Rattle.pc_world.specs.Counting.{CountsEvents}
 use Rattle.pc_world.specs.PlainWorld.{PlainWorld}
 use Rattle.pc_world.specs.Shows.{ShowsWorld}
 use Rattle.pc_world.specs.Steps.{Runs, Step}
@@ -14,6 +15,10 @@ abbrev pub DoesAll : List Event → Parts → Parts → Type 0
 DoesAll events old new =
     (w : PlainWorld) → ShowsWorld old w → (w' : PlainWorld) × (replies : List Reply) × Runs w events replies w'
     × ShowsWorld new w'
+
+-- the agents have counted the events, by some replies
+abbrev pub CountsAll : List Event → Parts → Parts → Type 0
+CountsAll events old new = (replies : List Reply) × CountsEvents events replies old new
 
 -- the reply is that of a commit
 pub record IsCommit (told : Reply) : Type 0 where
@@ -35,3 +40,14 @@ pub record IsPickedLate (c n : ℕ) (w : PlainWorld) (told : Reply) (new : Plain
 -- a pick that commits a thread, or else a steal and another pick
 abbrev pub PicksOrSteals : ℕ → ℕ → PlainWorld → Reply → PlainWorld → Type 0
 PicksOrSteals c n w told new = (IsCommit told × Step w (Pick c n) told new) ⊎ IsPickedLate c n w told new
+
+-- a pick, then a steal and another pick, are counted
+pub record IsPickedLateCounted (c n : ℕ) (old new : Parts) (told : Reply) : Type 0 where
+  pub first : Reply
+  pub second : Reply
+  pub counts : CountsEvents (Pick c n ∷ Steal c ∷ Pick c n ∷ []) (first ∷ second ∷ told ∷ []) old new
+
+-- a pick is counted, or also a steal and another pick
+abbrev pub CountsPicks : ℕ → ℕ → Parts → Parts → Reply → Type 0
+CountsPicks c n old new told =
+    CountsEvents (Pick c n ∷ []) (told ∷ []) old new ⊎ IsPickedLateCounted c n old new told

@@ -2,6 +2,7 @@ use Rattle.std.proofs.Common.{[], ◌∷◌, false}
 use Rattle.pc_calls.specs.declared.event.Event.TheVariants as event
 use Rattle.pc_world.proofs.Chaining.{all_then, part_first, part_then}
 use Rattle.pc_world.proofs.Running.{on_err}
+use Rattle.pc_world.proofs.Counting.{all_counted_then}
 use Rattle.pc_world.proofs.world.World.clear.Goals as goal
 
 pub returns-in_err-take-clause-no_memory : goal.returns-in_err-take-clause-no_memory
@@ -17,3 +18,7 @@ returns-in_err-take-2-clause-no_memory c =
 pub returns-clause-done : goal.returns-clause-done
 returns-clause-done c =
     all_then (event.Publish c.args.cpu false ∷ []) (event.Consume c.args.cpu ∷ []) c.args.self.now c.take.new.self c.take-2.new.self c.in_ok-take.ensures.done c.in_ok-take-2.ensures.done
+
+pub returns-clause-counts : goal.returns-clause-counts
+returns-clause-counts c =
+    all_counted_then (event.Publish c.args.cpu false ∷ []) (event.Consume c.args.cpu ∷ []) c.args.self.now c.take.new.self c.take-2.new.self c.in_ok-take.ensures.counts c.in_ok-take-2.ensures.counts

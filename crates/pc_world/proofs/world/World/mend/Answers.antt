@@ -9,6 +9,7 @@ use Rattle.pc_world.proofs.Chaining.{part_first, part_then}
 use Rattle.pc_world.proofs.Mends.{begins, busy, mended, mends_in_part, none_told, not_there}
 use Rattle.pc_world.proofs.Running.{keeps_then, on_err}
 use Rattle.pc_world.proofs.Wanting.{runs_the_same, shows_idle}
+use Rattle.pc_world.proofs.Counting.{counts_mended}
 use Rattle.pc_world.proofs.world.World.mend.Goals as goal
 
 pub returns-in_default-clause-mended : goal.returns-in_default-clause-mended
@@ -39,6 +40,7 @@ returns-in_err-learn c =
     (part_first (clearing c.cpus-cpus.result ++ hearing cpu deltas) rest old c.learn.new.self c.in_err-learn.ensures.no_memory) in
     record {
       mended = search rules;
+      counts = search rules;
       no_memory = on_err c.from_residual.result _ part;
       idle = on_err c.from_residual.result _ (shows_idle c.kernel_laws.ensures old c.learn.new.self cpu part c.is_reached.ensures);
       running = on_err c.from_residual.result _ (runs_the_same c.kernel_laws.ensures old c.learn.new.self cpu part);
@@ -62,6 +64,7 @@ returns-in_err-answer c =
     (part_then (clearing c.cpus-cpus.result ++ hearing cpu deltas) rest old c.learn.new.self c.pick_or_steal.new.self c.in_ok-learn.ensures.done c.in_err-answer.ensures.no_memory) in
     record {
       mended = search rules;
+      counts = search rules;
       no_memory = on_err c.from_residual-in_err-answer.result _ part;
       idle = on_err c.from_residual-in_err-answer.result _ (shows_idle c.kernel_laws.ensures old c.pick_or_steal.new.self cpu part c.is_reached.ensures);
       running = on_err c.from_residual-in_err-answer.result _ (runs_the_same c.kernel_laws.ensures old c.pick_or_steal.new.self cpu part);
@@ -80,3 +83,16 @@ returns-clause-mended c =
     let many : deltas ≡ length (deltas_of old) + c.cpus-cpus.result = omega arith in
     let begun = begins c.kernel_laws.ensures.reads old k cpu c.kernel-kernel.ensures c.in-Some.posts c.cpus-cpus.result deltas c.in-Some.ensures free c.cpus-cpus.ensures.count many in
     mended c.kernel_laws.ensures c.a_waiting_thread_can_be_run.ensures old cpu c.cpus-cpus.result c.in-Some.posts deltas begun c.learn.new.self c.pick_or_steal.new.self c.in_ok-answer.answer c.in_ok-learn.ensures.done c.in_ok-answer.ensures.done c.is_reached.ensures
+
+pub returns-clause-counts : goal.returns-clause-counts
+returns-clause-counts c =
+    let old = c.args.self.now in
+    let cpu = c.args.cpu in
+    let k = c.kernel-kernel.result.now in
+    let deltas = length c.sent.result.now + c.from.result in
+    let free : is_some (on (seen k) cpu) ≡ false = first_of (cc, search rules, grind (arith, common_steps)) in
+    let sent = ap length c.sent.ensures.same in
+    let from = c.from.ensures in
+    let many : deltas ≡ length (deltas_of old) + c.cpus-cpus.result = omega arith in
+    let begun = begins c.kernel_laws.ensures.reads old k cpu c.kernel-kernel.ensures c.in-Some.posts c.cpus-cpus.result deltas c.in-Some.ensures free c.cpus-cpus.ensures.count many in
+    counts_mended old cpu c.cpus-cpus.result c.in-Some.posts deltas begun c.learn.new.self c.pick_or_steal.new.self c.in_ok-answer.answer c.in_ok-learn.ensures.counts c.in_ok-answer.ensures.counts
