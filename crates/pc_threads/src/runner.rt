@@ -165,10 +165,9 @@ fn run_with<
 ///
 /// The caller's thread is the driver: it creates the threads, does each thread's next step when an agent has committed
 /// it, and wakes it behind a block. Agents send what they read before they remove it, pick and take over where nothing
-/// is ready, each by a copy of the policy, and restart where the settings say so. `StartFailed`, `GaveUp`, `TimeUp` and
-/// `Driver` end the run early; then what `settle` tells. Where a notice to the driver, or the note that a run ends,
-/// finds no memory, the run may wait without end. A policy that gives a thread no rank leaves it out, and then the run
-/// does not end.
+/// is ready, each by a copy of the policy, and restart where the settings say so. `StartFailed`, `GaveUp`, `TimeUp`,
+/// `Driver` and want of memory end the run early; then what `settle` tells. What ends it wants no memory. A policy that
+/// gives a thread no rank leaves it out, and then the run does not end before its deadline.
 pub fn run_agents_by<R: Threads + Wait + Clock + Sync, G: Gate + Sync>(
     rt: &R,
     alloc: Global,

@@ -4,7 +4,7 @@ use crate::runner::faults::Quit;
 use crate::runner::inbox::{Inbox, Note};
 use crate::runner::restarts::restarts_later;
 use crate::settings::Config;
-use crossbeam_channel::{Receiver, SendError, Sender};
+use crossbeam_channel::{Receiver, Sender, TrySendError};
 use pc_delta::{Delta, Digest, take_in};
 use pc_join::OutOfMemory;
 use pc_messages::Cpu;
@@ -54,7 +54,8 @@ impl Channels {
             let restarts = restarts_later(config, Cpu(cpu), 0);
             inboxes.push(Inbox::new(alloc, cpus, restarts)?)?;
         }
-        let (to_driver, at_driver) = crossbeam_channel::unbounded(alloc)?;
+        // Of each agent one commit at most waits, since its thread has not left the CPU yet, and that it has ended.
+        let (to_driver, at_driver) = crossbeam_channel::bounded(alloc, 2 * cpus as usize)?;
         Ok(Channels {
             inboxes,
             to_driver,
@@ -132,12 +133,12 @@ impl Channels {
         Ok(())
     }
 
-    /// Tells the driver.
+    /// Tells the driver, which wants no memory: there is room for each notice.
     pub(crate) fn report<R: Wait>(&self, rt: &R, notice: Notice) -> Result<(), Quit> {
-        match self.to_driver.send(rt, notice) {
+        match self.to_driver.try_send(rt, notice) {
             Ok(()) => Ok(()),
-            Err(SendError::OutOfMemory(_)) => Err(Quit::OutOfMemory),
-            Err(SendError::Disconnected(_)) => Err(Quit::GaveUp),
+            Err(TrySendError::OutOfMemory(_)) => Err(Quit::OutOfMemory),
+            Err(TrySendError::Full(_) | TrySendError::Disconnected(_)) => Err(Quit::GaveUp),
         }
     }
 
@@ -165,10 +166,10 @@ impl Channels {
         Ok(())
     }
 
-    /// Tells all agents to end. One for whose note there is no memory may wait on.
+    /// Has all agents end, each behind what waits for it.
     pub(crate) fn stop_all<R: Wait>(&self, rt: &R) {
         for inbox in self.inboxes.iter() {
-            let _ = inbox.tell(rt, Note::Stop);
+            inbox.close(rt);
         }
     }
 }

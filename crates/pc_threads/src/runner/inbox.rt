@@ -8,7 +8,7 @@ use pc_delta::{Delta, Digest};
 use pc_messages::Cpu;
 use std::alloc::{AllocError, Global};
 use std::sync::atomic::{AtomicBool, Ordering};
-use std::sync::{Arc, Wait};
+use std::sync::{Arc, Mutex, Wait};
 
 /// What an agent is told. What several are told is shared by them.
 #[derive(Drop)]
@@ -25,8 +25,6 @@ pub(crate) enum Note {
     Asked(u8),
     /// The same of an agent that has started again: what it told before stands in front of this, and so is answered.
     Digest(u8, Arc<Digest, Global>),
-    /// All threads are dead, or the run is given up.
-    Stop,
 }
 
 /// What one agent has for another that has not taken it yet.
@@ -47,9 +45,13 @@ struct Waiting {
 /// What others have learnt waits in a mailbox, and all of it is taken at once, ahead of each note. It wakes the owner
 /// only where it may tell of a thread to take, or where much waits: a note for each would have each agent do a turn for
 /// each message of the run. An agent that is still to restart does that: its turns have to come.
+///
+/// Where all threads are dead, or the run is given up, the inbox is closed: its owner takes what waits, and ends. That
+/// is no note, for which there may be no memory: then its owner would wait on.
 #[derive(Drop)]
 pub(crate) struct Inbox {
-    to: Sender<Note>,
+    /// None: the inbox is closed.
+    to: Mutex<Option<Sender<Note>>>,
     at: Receiver<Note>,
     /// What others have learnt.
     news: Mailbox<Arc<Delta, Global>>,
@@ -71,7 +73,7 @@ impl Inbox {
             })?;
         }
         Ok(Inbox {
-            to,
+            to: Mutex::new(Some(to)),
             at,
             news: Mailbox::new(alloc),
             restarts: AtomicBool::new(restarts),
@@ -84,9 +86,18 @@ impl Inbox {
         self.waiting.get(cpu.index() as usize).ok_or(Quit::GaveUp)
     }
 
-    /// Tells the owner.
+    /// Closes the inbox, which wants no memory: nothing comes in behind what waits.
+    pub(crate) fn close<R: Wait>(&self, rt: &R) {
+        drop(self.to.lock(rt).take());
+    }
+
+    /// Tells the owner, unless the inbox is closed.
     pub(crate) fn tell<R: Wait>(&self, rt: &R, note: Note) -> Result<(), Quit> {
-        match self.to.send(rt, note) {
+        let to = self.to.lock(rt);
+        let Some(to) = &*to else {
+            return Ok(());
+        };
+        match to.send(rt, note) {
             Ok(()) => Ok(()),
             Err(SendError::OutOfMemory(_)) => Err(Quit::OutOfMemory),
             Err(SendError::Disconnected(_)) => Err(Quit::GaveUp),
@@ -166,7 +177,7 @@ impl Inbox {
     /// Waits for the next thing that the owner is told.
     pub(crate) fn take<R: Wait>(&self, rt: &R) -> Result<Received, Quit> {
         let Ok(note) = self.at.recv(rt) else {
-            return Err(Quit::GaveUp);
+            return Ok(Received::End);
         };
         Ok(match note {
             Note::Wake | Note::News => Received::Nothing,
@@ -180,7 +191,6 @@ impl Inbox {
                 None => Received::Nothing,
             },
             Note::Digest(cpu, digest) => Received::Digest(Cpu(cpu), digest),
-            Note::Stop => Received::End,
         })
     }
 }

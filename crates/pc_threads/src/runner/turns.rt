@@ -177,7 +177,7 @@ pub(crate) fn serve<N: Names, R: Wait, G: Gate>(
     let mut worker = worker;
     let quit = turns(rt, gate, config, desk, &mut worker).err();
     if let Some(quit) = quit {
-        // Where even this notice finds no memory, the run may wait on.
+        // The driver may wait for nothing but this. One that has ended the run reads it no more.
         let _ = desk
             .channels
             .report(rt, Notice::Quitted(worker.agent.cpu().index(), quit));
