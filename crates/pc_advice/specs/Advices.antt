@@ -1,41 +1,13 @@
--- What lines ask for, and advice on them.
-use Rattle.std.specs.Prelude.{◌≡◌, ◌-◌, ℕ, Bool, true, false, IsTrue, List, [], ◌∷◌, ◌++◌, Option, Some, None, Any}
-use Rattle.std.specs.Prelude.{length, take}
-use Rattle.pc_calls.specs.declared.call.AgentCall.TheVariants as agent_call
-use Rattle.pc_calls.specs.declared.event.Event.{Event}
-use Rattle.pc_calls.specs.declared.event.Event.TheVariants as event
+-- Steps one after another, and advice on a line.
+use Rattle.std.specs.Prelude.{◌≡◌, ◌-◌, IsTrue, List, [], ◌∷◌, ◌++◌, Any, length, take}
+use Rattle.pc_kernel.specs.Reads.{Reads}
+use Rattle.pc_advice.specs.Behind.{AreNoted}
+use Rattle.pc_advice.specs.Deeds.{is_environments}
 use Rattle.pc_advice.specs.declared.advice.Advice.{Advice}
 use Rattle.pc_advice.specs.declared.advice.Advice.TheVariants as advice
 use Rattle.pc_advice.specs.declared.deed.Deed.{Deed}
-use Rattle.pc_advice.specs.declared.deed.Deed.TheVariants as deed
 use Rattle.pc_advice.specs.declared.plan.Plan.{Plan}
 use Rattle.pc_advice.specs.declared.plan.PlannedStep.{PlannedStep}
-
--- the event that a deed is, where its agent shows by this number what it knows; none of a question
-abbrev pub event_of : Deed → ℕ → Option Event
-event_of (deed.Env call) number = Some (event.Env call)
-event_of (deed.Associate thread queue) number = Some (event.Agent (agent_call.Associate thread queue number))
-event_of (deed.Commit cpu thread) number = Some (event.Agent (agent_call.Commit cpu thread number))
-event_of (deed.Sleep cpu) number = Some (event.Agent (agent_call.Sleep cpu number))
-event_of (deed.Rouse cpu) number = Some (event.Agent (agent_call.Rouse cpu))
-event_of (deed.Config queue target) number = Some (event.Agent (agent_call.Config queue target))
-event_of (deed.Publish cpu fails) number = Some (event.Publish cpu fails)
-event_of (deed.Consume cpu) number = Some (event.Consume cpu)
-event_of (deed.Deliver cpu delta) number = Some (event.Deliver cpu delta)
-event_of (deed.Answer cpu asker) number = Some (event.Answer cpu asker)
-event_of (deed.Pick cpu) number = Some (event.Pick cpu number)
-event_of (deed.Steal cpu) number = Some (event.Steal cpu)
-event_of (deed.Crash cpu) number = Some (event.Crash cpu)
-event_of (deed.Ask question) number = None
-
--- the deed is the event, but for its number
-abbrev pub IsAskedBy : Event → Deed → Type 0
-IsAskedBy asked deed = (number : ℕ) × (event_of deed number ≡ Some asked)
-
--- whether a deed is the environment's
-abbrev pub is_environments : Deed → Bool
-is_environments (deed.Env call) = true
-is_environments _ = false
 
 -- the steps of a plan, in their order
 abbrev pub steps_of : Plan → List PlannedStep
@@ -45,17 +17,19 @@ steps_of plan = take plan.count plan.steps
 abbrev pub NeedsEnvironment : List PlannedStep → Type 0
 NeedsEnvironment steps = Any (λ step. IsTrue (is_environments step.deed)) (take (length steps - 1) steps)
 
--- Steps of which the last is a deed, which is done once
-pub record EndsBy (line : Deed) (steps : List PlannedStep) : Type 0 where
+-- Steps of which the last is a deed, which is done once; each has its thread, queue and number of then, by what is read
+-- of a kernel before all of them
+pub record EndsBy (r : Reads) (line : Deed) (steps : List PlannedStep) : Type 0 where
   pub before : List PlannedStep
   pub last : PlannedStep
   pub steps_are : steps ≡ before ++ last ∷ []
   pub is_line : last.deed ≡ line
   pub once : last.times ≡ 1
+  pub noted : AreNoted r steps
 
 -- what advice for a line is: where it is steps, they end by the line
-abbrev pub IsFor : Deed → Advice → Type 0
-IsFor line (advice.Steps plan) = EndsBy line (steps_of plan)
-IsFor line advice.NoAgent = Unit {0}
-IsFor line advice.Never = Unit {0}
-IsFor line advice.Unsought = Unit {0}
+abbrev pub IsFor : Reads → Deed → Advice → Type 0
+IsFor r line (advice.Steps plan) = EndsBy r line (steps_of plan)
+IsFor r line advice.NoAgent = Unit {0}
+IsFor r line advice.Never = Unit {0}
+IsFor r line advice.Unsought = Unit {0}

@@ -5,6 +5,7 @@
 //! Nothing takes memory: a plan has room for so many steps.
 
 ghost use Rattle.pc_advice.specs.Advices.{IsFor};
+ghost use Rattle.pc_advice.specs.Behind.{kernel_of};
 
 use crate::ahead::Ahead;
 use crate::deed::Deed;
@@ -76,7 +77,7 @@ fn next_move(ahead: &Ahead<'_>, line: &Goal, chosen: &mut bool) -> Move {
 /// that the steps are accepted one after another, and that no deed of an agent, and no two, make the line accepted
 /// where it answers [`Advice::NoAgent`] or [`Advice::Never`].
 pub fn advise(world: &World, policy: PolicyName, line: &Deed) -> Advice
-    ensures { IsFor line.now result }
+    ensures { IsFor (kernel_of world.now) line.now result }
 {
     let line = Goal::once(*line);
     let mut plan = Plan::new();

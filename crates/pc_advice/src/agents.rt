@@ -1,6 +1,8 @@
 //! What agents lack for what they ask of the kernel, for a pick and for a steal.
 
-use crate::ahead::{Ahead, Queued, Standing, bit_of};
+use crate::ahead::{Ahead, Queued, bit_of};
+use crate::behind::Standing;
+use crate::choices::{MOST_MOVES, Sought};
 use crate::deed::Deed;
 use crate::lacks::{Goal, Lack, preempt, publish};
 use crate::plan::Plan;
@@ -59,7 +61,7 @@ impl Ahead<'_> {
             let wake = Deed::Env(EnvCall::Wake { thread });
             return self.lack_at_home(cpu, thread, standing, wake);
         }
-        if !standing.may_run_on(cpu) {
+        if !standing.is_allowed_on(cpu) {
             let mask = standing.mask | bit_of(cpu);
             let allow = Deed::Env(EnvCall::SetAffinity { thread, mask });
             return self.lack_at_home(cpu, thread, standing, allow);
@@ -117,13 +119,13 @@ impl Ahead<'_> {
     /// What is done first for a pick: what a steal lacks, or an associate, where that is near.
     fn nearer(&self, cpu: Cpu, stealing: &Lack) -> Lack {
         // Two deeds at the most, and what a steal lacks is one more than that.
-        if let Some(thread) = self.listed_elsewhere(cpu, 2) {
+        if let Some(thread) = self.nearest(cpu, Sought::Listed, 2) {
             return Lack::needs(Deed::Associate { thread, queue: cpu });
         }
         if let Lack::Needs(goal) = stealing {
             return Lack::Needs(*goal);
         }
-        match self.listed_elsewhere(cpu, 3) {
+        match self.nearest(cpu, Sought::Listed, MOST_MOVES) {
             Some(thread) => Lack::needs(Deed::Associate { thread, queue: cpu }),
             None => Lack::Unsought,
         }
@@ -167,28 +169,6 @@ impl Ahead<'_> {
     fn lists_runnable_after(&self, cpu: Cpu, goal: &Goal) -> bool {
         let plan = self.plan.with(self.step_of(goal));
         lists_runnable(self.world, self.policy, &plan, cpu)
-    }
-
-    /// The thread of the run list that waits for the CPU at another home, and that the fewest deeds bring here, at most
-    /// so many.
-    fn listed_elsewhere(&self, cpu: Cpu, most: u8) -> Option<Tid> {
-        let mut best = None;
-        let mut least = most.saturating_add(1);
-        for index in 0..self.threads() {
-            let thread = Tid(index);
-            let Some(standing) = self.standing(thread) else {
-                continue;
-            };
-            if !standing.is_runnable(cpu) || !self.is_listed(cpu, thread) {
-                continue;
-            }
-            let moves = self.moves(thread, &standing, cpu);
-            if moves < least {
-                least = moves;
-                best = Some(thread);
-            }
-        }
-        best
     }
 
     /// A steal lacks nothing where the CPU is idle and the agent knows all messages of the thread that it would try,

@@ -1,13 +1,33 @@
 //! A world as it will be once some steps are done: threads, CPUs and queues.
 
-ghost use Rattle.std.specs.Prelude.{◌≡◌};
+ghost use Rattle.std.specs.Prelude.{◌≡◌, ℕ, false, Some};
+ghost use Rattle.std.specs.Option.{option_and_then, option_map};
+ghost use Rattle.pc_kernel.specs.Reads.{seen};
+ghost use Rattle.pc_advice.specs.Advices.{steps_of};
+ghost use Rattle.pc_advice.specs.Behind.{
+  IsNoted,
+  creates,
+  kernel_of,
+  number_behind,
+  number_now,
+  posts_behind,
+  queue_now,
+  running_behind,
+  standing_behind,
+  steals,
+  thread_now,
+  thread_told,
+  threads_behind,
+};
 
+use crate::behind::{self, Items, Standing};
 use crate::deed::Deed;
 use crate::lacks::Goal;
 use crate::plan::{Plan, PlannedStep};
 use pc_agent::Agent;
-use pc_calls::{Effect, EnvCall};
-use pc_messages::{Cpu, Item, Phase, Tid};
+use pc_calls::EnvCall;
+use pc_kernel::Kernel;
+use pc_messages::{Cpu, Item, Tid};
 use pc_policy::PolicyName;
 use pc_world::World;
 
@@ -21,94 +41,6 @@ pub(crate) struct Ahead<'a> {
     /// The policy that all agents go by.
     pub(crate) policy: PolicyName,
     pub(crate) plan: &'a Plan,
-}
-
-/// How a thread stands.
-#[derive(Clone, Copy)]
-pub(crate) struct Standing {
-    /// The number of its last message.
-    pub(crate) number: u32,
-    pub(crate) phase: Phase,
-    /// The bits of its mask.
-    pub(crate) mask: u64,
-    pub(crate) home: Cpu,
-    /// The CPU on which it runs.
-    pub(crate) on: Option<Cpu>,
-}
-
-impl Standing {
-    /// Whether it may run on the CPU.
-    pub(crate) fn may_run_on(&self, cpu: Cpu) -> bool {
-        self.mask & bit_of(cpu) != 0
-    }
-
-    /// Whether its home is the CPU's queue.
-    pub(crate) fn is_home(&self, cpu: Cpu) -> bool {
-        self.home.index() == cpu.index()
-    }
-
-    /// Whether it waits for a CPU, and may run on this one.
-    pub(crate) fn is_runnable(&self, cpu: Cpu) -> bool {
-        self.phase.is_ready() && self.on.is_none() && self.may_run_on(cpu)
-    }
-
-    /// Does a step that is about the thread.
-    fn take(&mut self, step: &PlannedStep) {
-        match step.deed {
-            Deed::Env(call) => self.take_call(&call),
-            Deed::Associate { queue, .. } => self.home = queue,
-            Deed::Steal { cpu } => self.home = cpu,
-            Deed::Commit { cpu, .. } => self.on = Some(cpu),
-            _ => {}
-        }
-    }
-
-    /// Takes a further message.
-    fn take_call(&mut self, call: &EnvCall) {
-        let effect = call.effect();
-        if is_about_queue(&effect) {
-            // A thread begins as its creation has it, and a tick is of no thread.
-            return;
-        }
-        if let EnvCall::SetAffinity { mask, .. } = *call {
-            self.mask = mask;
-        }
-        if let Some(phase) = effect.phase {
-            self.phase = phase;
-        }
-        if effect.left.is_some() {
-            self.on = None;
-        }
-        self.number = self.number.saturating_add(1);
-    }
-}
-
-/// What a queue holds.
-#[derive(Clone, Copy)]
-pub(crate) struct Held {
-    /// How many posts it had.
-    pub(crate) posts: u32,
-    /// How many items it holds.
-    pub(crate) items: u64,
-    /// How many of the first its agent has sent.
-    pub(crate) sent: u64,
-}
-
-impl Held {
-    /// Does a step.
-    fn take(&mut self, step: &PlannedStep, queue: Cpu) {
-        if step.posts_to(queue) {
-            let posts = u32::try_from(step.times).unwrap_or(u32::MAX);
-            self.posts = self.posts.saturating_add(posts);
-            self.items = self.items.saturating_add(step.times);
-        }
-        if step.is_publish(queue) {
-            self.sent = self.items;
-        } else if step.is_consume(queue) {
-            self.items = self.items.saturating_sub(self.sent);
-            self.sent = 0;
-        }
-    }
 }
 
 /// Whether a message stands in a queue.
@@ -133,17 +65,11 @@ impl Queued {
     }
 }
 
-/// Whether a call with this effect is about a queue, not about a thread that is there.
-fn is_about_queue(effect: &Effect) -> bool {
-    effect.thread.is_none() && effect.left.is_none()
-}
-
-/// Whether a thread leaves the CPU by the call.
-fn is_left_by(call: &EnvCall, cpu: Cpu) -> bool {
-    match call.left() {
-        Some(left) => left.cpu.index() == cpu.index(),
-        None => false,
-    }
+/// Whether the call creates a thread.
+fn creates(call: &EnvCall) -> bool
+    ensures { result ≡ creates call.now }
+{
+    matches!(call, EnvCall::Create { .. })
 }
 
 /// The CPU's bit in a mask.
@@ -167,7 +93,9 @@ fn last_place(items: &[Item], thread: Tid, from: usize) -> Option<usize> {
 
 impl<'a> Ahead<'a> {
     /// The world, whose agents go by the policy, once the steps of the plan are done.
-    pub(crate) fn new(world: &'a World, policy: PolicyName, plan: &'a Plan) -> Ahead<'a> {
+    pub(crate) fn new(world: &'a World, policy: PolicyName, plan: &'a Plan) -> Ahead<'a>
+        ensures { (result.world.now ≡ world.now) × (result.plan.now ≡ plan.now) }
+    {
         Ahead {
             world,
             policy,
@@ -177,7 +105,9 @@ impl<'a> Ahead<'a> {
 
     /// The step that a deed is now.
     pub(crate) fn step_of(&self, goal: &Goal) -> PlannedStep
-        ensures { (result.deed ≡ goal.now.deed) × (result.times ≡ goal.now.times) }
+        ensures deed { result.deed ≡ goal.now.deed }
+        ensures times { result.times ≡ goal.now.times }
+        ensures noted { IsNoted (kernel_of self.now.world.now) (steps_of self.now.plan.now) result }
     {
         let thread = self.thread_of(&goal.deed);
         let queue = self.queue_of(&goal.deed, &thread);
@@ -192,11 +122,14 @@ impl<'a> Ahead<'a> {
     }
 
     /// The queue to which a deed posts.
-    fn queue_of(&self, deed: &Deed, thread: &Option<Tid>) -> Option<Cpu> {
+    fn queue_of(&self, deed: &Deed, thread: &Option<Tid>) -> Option<Cpu>
+        ensures { result
+            ≡ queue_now (kernel_of self.now.world.now) (steps_of self.now.plan.now) thread.now deed.now }
+    {
         match deed {
             Deed::Env(call) => {
                 let effect = call.effect();
-                if is_about_queue(&effect) {
+                if effect.thread.is_none() && effect.left.is_none() {
                     effect.cpu
                 } else {
                     self.home_of(thread)
@@ -207,20 +140,27 @@ impl<'a> Ahead<'a> {
     }
 
     /// The number of the message that a deed posts, or else the number that it needs.
-    fn number_in(&self, deed: &Deed, thread: &Option<Tid>) -> u32 {
+    fn number_in(&self, deed: &Deed, thread: &Option<Tid>) -> u32
+        ensures { (number : ℕ)
+            → number_now (kernel_of self.now.world.now) (steps_of self.now.plan.now) thread.now deed.now ≡ Some number
+            → result ≡ number }
+    {
         match deed {
-            Deed::Env(EnvCall::Create { .. }) => 1,
+            Deed::Env(call) if creates(call) => 1,
             Deed::Env(_) => self.number_of(thread).saturating_add(1),
-            Deed::Associate { .. } => self.number_of(thread),
+            Deed::Associate { thread, .. } => self.last_number(*thread),
             Deed::Commit { cpu, .. } | Deed::Sleep { cpu } | Deed::Pick { cpu } => {
-                self.held(*cpu).posts
+                self.posts(*cpu)
             }
             _ => 0,
         }
     }
 
     /// The thread that a deed is about.
-    fn thread_of(&self, deed: &Deed) -> Option<Tid> {
+    fn thread_of(&self, deed: &Deed) -> Option<Tid>
+        ensures { steals deed.now ≡ false
+            → result ≡ thread_now (kernel_of self.now.world.now) (steps_of self.now.plan.now) deed.now }
+    {
         match *deed {
             Deed::Env(call) => self.thread_of_call(&call),
             Deed::Associate { thread, .. } | Deed::Commit { thread, .. } => Some(thread),
@@ -230,8 +170,10 @@ impl<'a> Ahead<'a> {
     }
 
     /// The thread that a call is about.
-    fn thread_of_call(&self, call: &EnvCall) -> Option<Tid> {
-        if let EnvCall::Create { .. } = call {
+    fn thread_of_call(&self, call: &EnvCall) -> Option<Tid>
+        ensures { result ≡ thread_told (kernel_of self.now.world.now) (steps_of self.now.plan.now) call.now }
+    {
+        if creates(call) {
             return Some(Tid(self.threads()));
         }
         match call.left() {
@@ -241,15 +183,25 @@ impl<'a> Ahead<'a> {
     }
 
     /// The home of a thread; none of none.
-    fn home_of(&self, thread: &Option<Tid>) -> Option<Cpu> {
-        match thread {
-            Some(thread) => Some(self.standing(*thread)?.home),
+    fn home_of(&self, thread: &Option<Tid>) -> Option<Cpu>
+        ensures { result ≡ option_map (λ standing. standing.home) (option_and_then
+            (λ t. standing_behind (kernel_of self.now.world.now) t (steps_of self.now.plan.now)) thread.now) }
+    {
+        let standing = match thread {
+            Some(thread) => self.standing(*thread),
+            None => None,
+        };
+        match standing {
+            Some(standing) => Some(standing.home),
             None => None,
         }
     }
 
     /// The number of a thread's last message; 0 of none.
-    fn number_of(&self, thread: &Option<Tid>) -> u32 {
+    fn number_of(&self, thread: &Option<Tid>) -> u32
+        ensures { (t : ℕ) → thread.now ≡ Some t
+            → result ≡ number_behind (kernel_of self.now.world.now) t (steps_of self.now.plan.now) }
+    {
         match thread {
             Some(thread) => self.last_number(*thread),
             None => 0,
@@ -257,7 +209,9 @@ impl<'a> Ahead<'a> {
     }
 
     /// The number of the thread's last message; 0 of a thread that is not there.
-    pub(crate) fn last_number(&self, thread: Tid) -> u32 {
+    pub(crate) fn last_number(&self, thread: Tid) -> u32
+        ensures { result ≡ number_behind (kernel_of self.now.world.now) thread (steps_of self.now.plan.now) }
+    {
         match self.standing(thread) {
             Some(standing) => standing.number,
             None => 0,
@@ -269,83 +223,51 @@ impl<'a> Ahead<'a> {
         cpu.index() < self.world.kernel().cpus()
     }
 
+    /// The kernel.
+    fn kernel(&self) -> &Kernel
+        ensures { seen result.now ≡ kernel_of self.now.world.now }
+    {
+        self.world.is_reached();
+        self.world.kernel()
+    }
+
     /// How many threads there are.
-    pub(crate) fn threads(&self) -> u32 {
-        let mut count = self.world.kernel().threads();
-        for step in self.plan.steps() {
-            if let Deed::Env(EnvCall::Create { .. }) = step.deed {
-                count = count.saturating_add(u32::try_from(step.times).unwrap_or(u32::MAX));
-            }
-        }
-        count
+    pub(crate) fn threads(&self) -> u32
+        ensures { result ≡ threads_behind (kernel_of self.now.world.now) (steps_of self.now.plan.now) }
+    {
+        behind::threads(self.kernel(), self.plan.steps())
     }
 
     /// How the thread stands; none of a thread that is not there.
-    pub(crate) fn standing(&self, thread: Tid) -> Option<Standing> {
-        let mut standing = self.standing_at_first(thread)?;
-        for step in self.plan.steps() {
-            if step.is_of(thread) {
-                standing.take(step);
-            }
-        }
-        Some(standing)
-    }
-
-    /// How the thread stands before all steps, or once it is created.
-    fn standing_at_first(&self, thread: Tid) -> Option<Standing> {
-        let kernel = self.world.kernel();
-        if thread.index() >= kernel.threads() {
-            return self.created(thread);
-        }
-        let status = kernel.status(thread)?;
-        let state = kernel.state(thread)?;
-        Some(Standing {
-            number: status.number,
-            phase: state.phase,
-            mask: state.mask.bits(),
-            home: kernel.queue_of(thread)?,
-            on: status.running_on,
-        })
-    }
-
-    /// How a thread stands once one of the steps has created it.
-    fn created(&self, thread: Tid) -> Option<Standing> {
-        for step in self.plan.steps() {
-            if let Deed::Env(EnvCall::Create { queue, ready, mask }) = step.deed
-                && step.is_of(thread)
-            {
-                let phase = if ready { Phase::Ready } else { Phase::Blocked };
-                return Some(Standing {
-                    number: 1,
-                    phase,
-                    mask,
-                    home: queue,
-                    on: None,
-                });
-            }
-        }
-        None
+    pub(crate) fn standing(&self, thread: Tid) -> Option<Standing>
+        ensures { result ≡ standing_behind (kernel_of self.now.world.now) thread (steps_of self.now.plan.now) }
+    {
+        behind::stands(self.kernel(), self.plan.steps(), thread)
     }
 
     /// The thread that runs on the CPU.
-    pub(crate) fn running(&self, cpu: Cpu) -> Option<Tid> {
-        let mut running = self.world.kernel().running(cpu);
-        for step in self.plan.steps() {
-            match step.deed {
-                Deed::Commit { cpu: own, thread } if own.index() == cpu.index() => {
-                    running = Some(thread);
-                }
-                Deed::Env(call) if is_left_by(&call, cpu) => running = None,
-                _ => {}
-            }
-        }
-        running
+    pub(crate) fn running(&self, cpu: Cpu) -> Option<Tid>
+        ensures { result ≡ running_behind (kernel_of self.now.world.now) cpu (steps_of self.now.plan.now) }
+    {
+        behind::running(self.kernel(), self.plan.steps(), cpu)
+    }
+
+    /// How many posts the queue had.
+    pub(crate) fn posts(&self, queue: Cpu) -> u32
+        ensures { result ≡ posts_behind (kernel_of self.now.world.now) queue (steps_of self.now.plan.now) }
+    {
+        behind::posts(self.kernel(), self.plan.steps(), queue)
     }
 
     /// What the queue holds.
-    pub(crate) fn held(&self, queue: Cpu) -> Held {
+    pub(crate) fn held(&self, queue: Cpu) -> Items {
+        behind::holds(self.held_at_first(queue), self.plan.steps(), queue)
+    }
+
+    /// What the queue holds before all steps.
+    fn held_at_first(&self, queue: Cpu) -> Items {
         let kernel = self.world.kernel();
-        let items = match kernel.queued(queue) {
+        let all = match kernel.queued(queue) {
             Some((front, back)) => (front.len() as u64).saturating_add(back.len() as u64),
             None => 0,
         };
@@ -353,20 +275,27 @@ impl<'a> Ahead<'a> {
             Some(agent) => u64::from(agent.sent_items()),
             None => 0,
         };
-        let mut held = Held {
-            posts: kernel.aseq(queue).unwrap_or(0),
-            items,
-            sent,
-        };
-        for step in self.plan.steps() {
-            held.take(step, queue);
+        Items { all, sent }
+    }
+
+    /// The home of the thread before all steps, or once it is created.
+    fn home_at_first(&self, thread: Tid) -> Option<Cpu> {
+        if let Some(home) = self.world.kernel().queue_of(thread) {
+            return Some(home);
         }
-        held
+        for step in self.plan.steps() {
+            if let Deed::Env(EnvCall::Create { queue, .. }) = step.deed
+                && step.is_of(thread)
+            {
+                return Some(queue);
+            }
+        }
+        None
     }
 
     /// The home of the thread before some step, and whether its last message stands there.
     pub(crate) fn place_at(&self, thread: Tid, before: usize) -> Option<(Cpu, Queued)> {
-        let mut home = self.standing_at_first(thread)?.home;
+        let mut home = self.home_at_first(thread)?;
         let mut queued = self.queued_at_first(thread, home);
         for step in self.plan.before(before) {
             if !step.is_of(thread) {

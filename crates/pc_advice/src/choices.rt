@@ -1,6 +1,7 @@
 //! Which thread and which CPU an advice names, where several would do.
 
-use crate::ahead::{Ahead, Queued, Standing, bit_of};
+use crate::ahead::{Ahead, Queued, bit_of};
+use crate::behind::Standing;
 use crate::deed::Deed;
 use crate::lacks::{Lack, created, preempt};
 use pc_calls::EnvCall;
@@ -8,6 +9,18 @@ use pc_messages::{Cpu, Phase, Tid};
 
 /// The most threads among which a choice is made.
 pub(crate) const MOST_THREADS: u32 = 64;
+
+/// The most deeds that give a thread its home at another queue.
+pub(crate) const MOST_MOVES: u8 = 3;
+
+/// Which threads a search looks at.
+#[derive(Clone, Copy)]
+pub(crate) enum Sought {
+    /// Those that may have a further message, as one that leaves its CPU has.
+    Leaving,
+    /// Those of the run list of the CPU's agent.
+    Listed,
+}
 
 impl Ahead<'_> {
     /// The CPU on which a thread that waits may run and then be blocked: it has a post left for that. An idle one comes
@@ -17,7 +30,7 @@ impl Ahead<'_> {
         let mut most = 0u8;
         for index in 0..self.world.kernel().cpus() {
             let cpu = Cpu(index);
-            if !standing.may_run_on(cpu) || self.posts_left(cpu) == 0 {
+            if !standing.is_allowed_on(cpu) || self.posts_left(cpu) == 0 {
                 continue;
             }
             let worth = match (self.running(cpu).is_none(), standing.is_home(cpu)) {
@@ -43,35 +56,43 @@ impl Ahead<'_> {
         if self.threads() > MOST_THREADS {
             return Lack::Unsought;
         }
-        match self.best_runner(cpu) {
+        match self.nearest(cpu, Sought::Leaving, MOST_MOVES) {
             Some(thread) => Lack::needs(Deed::Commit { cpu, thread }),
             None => self.lack_of_runnable(cpu, true, 2),
         }
     }
 
-    /// The thread that may run here, and have a further message, for which there is least to do.
-    fn best_runner(&self, cpu: Cpu) -> Option<Tid> {
-        let numbers = self.world.kernel().limits().numbers;
+    /// Of the threads that wait for the CPU and are sought, the one that the fewest deeds bring to its queue, at most
+    /// so many.
+    pub(crate) fn nearest(&self, cpu: Cpu, sought: Sought, most: u8) -> Option<Tid> {
         let mut best = None;
-        let mut least = u8::MAX;
+        let mut least = most.saturating_add(1);
         for index in 0..self.threads() {
             let thread = Tid(index);
             let Some(standing) = self.standing(thread) else {
                 continue;
             };
-            if !standing.is_runnable(cpu) || standing.number >= numbers {
+            if !standing.is_runnable(cpu) || !self.is_sought(cpu, thread, &standing, sought) {
                 continue;
             }
-            let cost = self.moves(thread, &standing, cpu);
-            if cost < least {
-                least = cost;
+            let moves = self.moves(thread, &standing, cpu);
+            if moves < least {
+                least = moves;
                 best = Some(thread);
             }
         }
         best
     }
 
-    /// How many deeds give a thread its home at the CPU's queue.
+    /// Whether a thread is among those that are sought.
+    fn is_sought(&self, cpu: Cpu, thread: Tid, standing: &Standing, sought: Sought) -> bool {
+        match sought {
+            Sought::Leaving => standing.number < self.world.kernel().limits().numbers,
+            Sought::Listed => self.is_listed(cpu, thread),
+        }
+    }
+
+    /// How many deeds give a thread its home at the CPU's queue, at most [`MOST_MOVES`].
     pub(crate) fn moves(&self, thread: Tid, standing: &Standing, cpu: Cpu) -> u8 {
         if standing.is_home(cpu) {
             return 0;
@@ -79,7 +100,7 @@ impl Ahead<'_> {
         match self.last_message(thread) {
             Queued::Gone => 1,
             Queued::Sent => 2,
-            Queued::Unsent => 3,
+            Queued::Unsent => MOST_MOVES,
         }
     }
 
@@ -122,7 +143,7 @@ impl Ahead<'_> {
             return None;
         }
         let blocked = standing.phase == Phase::Blocked;
-        let barred = !standing.may_run_on(cpu);
+        let barred = !standing.is_allowed_on(cpu);
         let messages = u32::from(blocked) + u32::from(barred) + u32::from(standing.on.is_some());
         let limits = self.world.kernel().limits();
         // One more, since the thread may be wanted to leave the CPU again.

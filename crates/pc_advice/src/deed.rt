@@ -3,7 +3,7 @@
 ghost use Rattle.std.specs.Prelude.{◌≡◌, Some};
 ghost use Rattle.pc_calls.specs.declared.event.Event.{Event};
 ghost use Rattle.pc_script.specs.declared.command.Read.{Read};
-ghost use Rattle.pc_advice.specs.Advices.{IsAskedBy, event_of, is_environments};
+ghost use Rattle.pc_advice.specs.Deeds.{IsAskedBy, event_of, is_environments};
 
 use pc_calls::{AgentCall, EnvCall, Event};
 use pc_messages::{Cpu, Tid};

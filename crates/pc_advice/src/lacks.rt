@@ -6,7 +6,10 @@ use crate::ahead::{Ahead, Queued, bit_of};
 use crate::deed::Deed;
 use pc_calls::EnvCall;
 use pc_messages::{Cpu, Tid};
-use pc_script::Read;
+use pc_script::{MOST_BYTES, Read};
+
+/// No deed is advised to be done more often: no script has room for so many lines.
+const MOST_TIMES: u64 = MOST_BYTES as u64;
 
 /// A deed that is to be done so often.
 #[derive(Clone, Copy)]
@@ -104,7 +107,7 @@ impl Ahead<'_> {
 
     fn lack_of_consume(&self, cpu: Cpu) -> Lack {
         let held = self.held(cpu);
-        if held.items < held.sent {
+        if held.all < held.sent {
             return Lack::needs(publish(cpu));
         }
         Lack::never_unless(self.is_cpu(cpu))
@@ -116,6 +119,7 @@ impl Ahead<'_> {
         }
         match delta.checked_sub(self.deltas()) {
             None => Lack::Nothing,
+            Some(missing) if missing >= MOST_TIMES => Lack::NoAgent,
             Some(missing) => Lack::Needs(Goal {
                 deed: publish(cpu),
                 times: missing.saturating_add(1),
@@ -141,7 +145,7 @@ impl Ahead<'_> {
     /// How many posts a queue may still have.
     pub(crate) fn posts_left(&self, queue: Cpu) -> u64 {
         let limit = self.world.kernel().limits().posts;
-        u64::from(limit.saturating_sub(self.held(queue).posts))
+        u64::from(limit.saturating_sub(self.posts(queue)))
     }
 
     /// What a queue lacks for so many posts.
@@ -151,7 +155,7 @@ impl Ahead<'_> {
         }
         let held = self.held(queue);
         let room = u64::from(self.world.kernel().limits().room);
-        if held.items.saturating_add(posts) <= room {
+        if held.all.saturating_add(posts) <= room {
             return Lack::Nothing;
         }
         Lack::needs(emptying(queue, held.sent > 0))

@@ -20,6 +20,7 @@
 mod advice;
 mod agents;
 mod ahead;
+mod behind;
 mod calls;
 mod choices;
 mod deed;

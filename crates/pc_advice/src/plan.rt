@@ -23,8 +23,14 @@ pub struct PlannedStep {
 }
 
 impl PlannedStep {
+    ghost use Rattle.std.specs.Prelude.{◌≡◌};
+    ghost use Rattle.pc_kernel.specs.PlainKernel.{is_named};
+    ghost use Rattle.pc_advice.specs.Behind.{consumes, is_about, publishes};
+
     /// Whether it is about the thread.
-    pub(crate) fn is_of(&self, thread: Tid) -> bool {
+    pub(crate) fn is_of(&self, thread: Tid) -> bool
+        ensures { result ≡ is_about thread self.now }
+    {
         match self.thread {
             Some(first) => match thread.index().checked_sub(first.index()) {
                 Some(place) => u64::from(place) < self.times,
@@ -35,7 +41,9 @@ impl PlannedStep {
     }
 
     /// Whether the CPU's agent publishes.
-    pub(crate) fn is_publish(&self, cpu: Cpu) -> bool {
+    pub(crate) fn is_publish(&self, cpu: Cpu) -> bool
+        ensures { result ≡ publishes cpu self.now.deed }
+    {
         match self.deed {
             Deed::Publish { cpu: own, .. } => own.index() == cpu.index(),
             _ => false,
@@ -43,7 +51,9 @@ impl PlannedStep {
     }
 
     /// Whether the CPU's agent consumes.
-    pub(crate) fn is_consume(&self, cpu: Cpu) -> bool {
+    pub(crate) fn is_consume(&self, cpu: Cpu) -> bool
+        ensures { result ≡ consumes cpu self.now.deed }
+    {
         match self.deed {
             Deed::Consume { cpu: own } => own.index() == cpu.index(),
             _ => false,
@@ -59,7 +69,9 @@ impl PlannedStep {
     }
 
     /// Whether it posts to the queue.
-    pub(crate) fn posts_to(&self, queue: Cpu) -> bool {
+    pub(crate) fn posts_to(&self, queue: Cpu) -> bool
+        ensures { result ≡ is_named self.now.queue queue }
+    {
         match self.queue {
             Some(own) => own.index() == queue.index(),
             None => false,
