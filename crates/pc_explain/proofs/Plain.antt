@@ -13,7 +13,8 @@ use Rattle.pc_messages.specs.declared.reported.Phase.TheVariants as phase
 use Rattle.pc_messages.specs.declared.reported.Reported.{Reported}
 use Rattle.pc_pen.proofs.Decimals.{decimal_without as without_byte}
 use Rattle.pc_script.specs.Grammar.{thread_name}
-use Rattle.pc_script.specs.Responses.{text_line, limit_text, refusal_text, phase_text, number_or_dash, subject_text, posted_text, running_text, status_text, truth_text, sameness_text, level_text, reported_text, numbers_text, shown_text, shown_lines, reply_text, response_text}
+use Rattle.pc_messages.specs.State.{phase_word}
+use Rattle.pc_script.specs.Responses.{text_line, limit_text, refusal_text, number_or_dash, subject_text, posted_text, running_text, status_text, truth_text, sameness_text, level_text, reported_text, numbers_text, shown_text, shown_lines, reply_text, response_text}
 use Rattle.pc_script.specs.Scripts.{outcome_text}
 use Rattle.pc_script.specs.Versions.{opening_text}
 use Rattle.pc_script.specs.declared.version.Version.{Version}
@@ -70,7 +71,7 @@ posted_without posted =
     without-append (subject_text posted.thread posted.number) queue (subject_without posted.thread posted.number)
     (then_more posted.queue aseq (then_more posted.aseq woken (dash_without posted.woken)))
 
-phase_then : (p : Phase) (rest : List ℕ) → HasNoLineFeed rest → HasNoLineFeed (phase_text p ++ rest)
+phase_then : (p : Phase) (rest : List ℕ) → HasNoLineFeed rest → HasNoLineFeed (phase_word p ++ rest)
 phase_then phase.Ready rest h = h
 phase_then phase.Blocked rest h = h
 phase_then phase.Dead rest h = h
@@ -81,7 +82,7 @@ running_without (Some cpu) = decimal_without cpu
 
 status_without : (thread : ℕ) (status : Status) (p : Phase) → HasNoLineFeed (status_text thread status p)
 status_without thread status p =
-    let last = phase_text p ++ running_text status.running_on in
+    let last = phase_word p ++ running_text status.running_on in
     let middle = decimal status.number ++ (codes " " ++ last) in
     then_more thread (codes " n" ++ middle)
     (then_more status.number (codes " " ++ last) (phase_then p (running_text status.running_on) (running_without status.running_on)))

@@ -5,7 +5,7 @@ use crate::run::Run;
 use crate::stage::Setting;
 use crate::times::{lowest_of, word_of};
 use pc_delta::Part;
-use pc_messages::{Cpu, Phase, Tid};
+use pc_messages::{Cpu, Tid};
 
 /// The lowest CPU of a word.
 fn lowest(word: u64) -> Option<Cpu> {
@@ -29,19 +29,13 @@ impl<K: Setting> Run<K> {
 
     /// Of the agents that sleep on idle CPUs, calls the first above the thread's home for it, or the lowest.
     pub(crate) fn call(&mut self, thread: Tid) {
-        let Some(state) = self.kernel().reported(thread) else {
-            return;
-        };
-        let Some(home) = self.kernel().queue_of(thread) else {
-            return;
-        };
-        let is_free = match self.kernel().status(thread) {
-            Some(status) => status.running_on.is_none(),
-            None => false,
-        };
-        if !is_free || state.phase != Phase::Ready {
+        let kernel = self.kernel();
+        if !kernel.is_waiting(thread) {
             return;
         }
+        let (Some(state), Some(home)) = (kernel.reported(thread), kernel.queue_of(thread)) else {
+            return;
+        };
         let able = self.kin(self.sleepers & state.mask.bits(), home);
         let called = match lowest(able & above(home)) {
             Some(cpu) => Some(cpu),

@@ -3,6 +3,7 @@
 use crate::sentences::Sentences;
 use crate::words::{Count, Cpus};
 use pc_calls::{EnvCall, Leaving, Left, Posted};
+use pc_messages::Phase;
 use std::fmt::{self, Write};
 
 /// A call that posted an item.
@@ -37,7 +38,8 @@ fn changed(text: &mut Sentences, call: &EnvCall, posted: &Posted) -> fmt::Result
     };
     match call {
         EnvCall::Create { mask, ready, .. } => {
-            let state = if *ready { "ready" } else { "blocked" };
+            let phase = if *ready { Phase::Ready } else { Phase::Blocked };
+            let state = phase.word();
             let cpus = Cpus(*mask);
             writeln!(
                 text,

@@ -62,7 +62,7 @@ fn slept(text: &mut Sentences, cpu: Cpu, sleeps: bool) -> fmt::Result {
 fn told_status(text: &mut Sentences, thread: Tid, status: &Status, phase: Phase) -> fmt::Result {
     let thread = thread.index();
     let messages = Count(u64::from(status.number), "message");
-    let phase = phase_name(phase);
+    let phase = phase.word();
     match status.running_on {
         Some(cpu) => {
             let cpu = cpu.index();
@@ -75,15 +75,6 @@ fn told_status(text: &mut Sentences, thread: Tid, status: &Status, phase: Phase)
             text,
             "Thread t{thread} had {messages} so far, is {phase}, and runs nowhere."
         ),
-    }
-}
-
-/// A phase by its name.
-fn phase_name(phase: Phase) -> &'static str {
-    match phase {
-        Phase::Ready => "ready",
-        Phase::Blocked => "blocked",
-        Phase::Dead => "dead",
     }
 }
 
@@ -116,7 +107,7 @@ fn shown_thread(text: &mut Sentences, row: &ShownThread) -> fmt::Result {
     let upto = row.upto;
     match row.reported {
         Some(reported) => {
-            let phase = phase_name(reported.phase);
+            let phase = reported.phase.word();
             write!(text, " t{thread} up to {upto} ({phase})")
         }
         None => write!(text, " t{thread} without its first"),
