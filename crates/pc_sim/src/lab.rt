@@ -5,19 +5,17 @@ use crate::met::{Met, Source};
 use crate::streams::{Noted, Opening, screen_of};
 use pc_program::{Ending, Failure, VariantsFrom};
 use pc_trial::{LabEnding, LabOutput, MOST_LOAD, Progress, Unread, try_load, try_variants};
-use std::io::{self, BufWriter, ErrorKind};
+use std::io::{self, BufWriter};
 use std::process::ExitCode;
 
 /// What is met where a text cannot be read for this reason, and the system said that.
 fn unread(why: Unread, said: Option<io::Error>) -> Met {
-    match (why, said) {
-        (Unread::Failed, Some(error)) if error.kind() == ErrorKind::OutOfMemory => {
-            Met::ended(Ending::OutOfMemory)
-        }
-        (Unread::Failed, said) => Met::of(Ending::CannotRead(Failure::Read), said),
-        (Unread::TooLong, _) => Met::ended(Ending::CannotRead(Failure::TooLong)),
-        (Unread::NotUtf8, _) => Met::ended(Ending::CannotRead(Failure::NotUtf8)),
-    }
+    let failure = match why {
+        Unread::Failed => Failure::Read,
+        Unread::TooLong => Failure::TooLong,
+        Unread::NotUtf8 => Failure::NotUtf8,
+    };
+    Met::of(Ending::CannotRead(failure), said)
 }
 
 /// Says how the lab ended that read no text anew and wrote nothing anew, and answers its exit status.

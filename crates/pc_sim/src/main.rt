@@ -22,7 +22,7 @@ use std::alloc::Global;
 use std::fs::File;
 use std::io::{BufWriter, IsTerminal, Read, Write};
 use std::process::ExitCode;
-use streams::Noted;
+use streams::{Noted, fill_closed};
 use words::words_of;
 
 /// How it ended, and what the system said of the stream that failed, where one did.
@@ -189,6 +189,7 @@ fn settle_heap(alloc: Global) {
 }
 
 fn main(rt: HostRuntime) -> ExitCode {
+    fill_closed(&rt);
     settle_heap(rt.alloc());
     match command_of(&rt) {
         Ok(ProgramCommand::Replay { file }) => make_script(&rt, ScriptForm::Replies, file),

@@ -81,17 +81,11 @@ impl Met {
 
     /// The file of this name could not be made, since of this.
     pub(crate) fn unmade(error: io::Error, name: String) -> Met {
-        if error.kind() == ErrorKind::OutOfMemory {
-            return Met::ended(Ending::OutOfMemory);
-        }
         Met::of_file(Ending::CannotRead(Failure::Write), error, name)
     }
 
     /// A file could not be opened, since of this.
     pub(crate) fn unopened(error: io::Error) -> Met {
-        if error.kind() == ErrorKind::OutOfMemory {
-            return Met::ended(Ending::OutOfMemory);
-        }
         Met::of(Ending::CannotRead(Failure::Read), Some(error))
     }
 

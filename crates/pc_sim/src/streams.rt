@@ -5,6 +5,35 @@ ghost use Rattle.std.specs.Prelude.{◌≡◌, None};
 use crate::met::Source;
 use std::fs::File;
 use std::io::{self, IsTerminal, Read, Stderr, Write};
+use std::os::fd::{AsRawFd, IntoRawFd, RawFd};
+
+/// What stands in the place of a standard stream that is closed.
+const NOTHING: &str = "/dev/null";
+
+/// Leaves a file open for good whose number is at most so much, and closes any other.
+fn keep_up_to(most: RawFd, file: File) {
+    if file.as_raw_fd() <= most {
+        let _ = file.into_raw_fd();
+    }
+}
+
+/// Puts the null device in the place of each standard stream that is closed. A file takes the least number that is
+/// free, and what goes to that stream would be written into it. The device is opened for the other use alone, so that
+/// the stream fails as a closed one does; where it cannot be opened, the streams stay as they are.
+pub(crate) fn fill_closed(rt: &HostRuntime) {
+    let Ok(file) = File::options().write(true).open(rt, NOTHING) else {
+        return;
+    };
+    let errors = rt.stderr().as_raw_fd();
+    if file.as_raw_fd() <= errors {
+        keep_up_to(rt.stdin().as_raw_fd(), file);
+        for _ in 0..errors {
+            if let Ok(file) = File::open(rt, NOTHING) {
+                keep_up_to(errors, file);
+            }
+        }
+    }
+}
 
 /// Standard error, where a person reads it at a terminal.
 pub(crate) fn screen_of(rt: &HostRuntime) -> Option<Stderr> {
