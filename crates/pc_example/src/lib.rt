@@ -1,14 +1,16 @@
 //! A caller's crate, to copy: functions of the caller's own, with contracts that those of the libraries carry.
 //!
-//! Kernel, views, worlds and laws are called by their public names. What is proved of them is all that is known of them
-//! here.
+//! Kernel, views, run lists, policies, worlds and laws are called by their public names. What is proved of them is all
+//! that is known of them here.
 #![tactic(auto)]
 
-ghost use Rattle.std.specs.Prelude.{ℕ, ◌≡◌, ◌∷◌, [], IfOk, IfSome, IsTrue, OnOk, true};
+ghost use Rattle.std.specs.Prelude.{ℕ, ◌≡◌, ◌∷◌, [], IfOk, IfSome, IsTrue, OnErr, OnOk, slice_get, true};
 ghost use Rattle.pc_calls.specs.declared.event.Reply.TheVariants.{Associated};
 ghost use Rattle.pc_kernel.specs.Answers.{Replays};
 ghost use Rattle.pc_kernel.specs.Reads.{is_cpu, is_known, reported_of, seen, shown};
+ghost use Rattle.pc_example.specs.Policies.{least_ran_but_on_kept};
 ghost use Rattle.pc_messages.specs.Run.{Run};
+ghost use Rattle.pc_run_queue.specs.Runs.{refreshed};
 ghost use Rattle.pc_view.specs.Views.{IsOfRun};
 ghost use Rattle.pc_world.specs.Facts.{HasAll};
 ghost use Rattle.pc_world.specs.PlainWorld.{PlainWorld};
@@ -18,6 +20,8 @@ ghost use Rattle.pc_world.specs.Shows.{ShowsWorld};
 use pc_join::{Join, OutOfMemory};
 use pc_kernel::{Call, CallFault, EnvCall, Kernel, Limits, Posted, Refusal};
 use pc_messages::{Cpu, Reported, Tid};
+use pc_policy::Policy;
+use pc_run_queue::RunQueue;
 use pc_view::{View, complete, views_of_the_same_messages_are_equal};
 use pc_world::laws::{what_a_steal_took_is_reported, who_has_all_is_complete};
 use pc_world::{Event, Reply, World};
@@ -97,4 +101,42 @@ pub fn take_over(
         Some(thread) => Ok(Some((thread, before.reported(thread)))),
         None => Ok(None),
     }
+}
+
+/// A policy of the caller's own: the first so many CPUs are kept free of threads of the lowest level, and elsewhere and
+/// of all others the one of the fewest ticks comes first.
+#[derive(Clone, Copy, Debug, Drop)]
+pub struct KeptFree {
+    pub cpus: u8,
+}
+
+impl Policy for KeptFree {
+    ghost ranking = { λ policy. least_ran_but_on_kept policy.cpus };
+
+    fn rank(&self, cpu: Cpu, _thread: Tid, reported: &Reported) -> Option<u64> {
+        if cpu.index() < self.cpus && reported.level.get() == 0 {
+            None
+        } else {
+            Some(reported.ran)
+        }
+    }
+}
+
+/// Refreshes a CPU's run list by that policy, behind messages of the touched threads, and answers who is first then.
+///
+/// Where memory runs out, the run list is as it was.
+pub fn first_by(
+    policy: &KeptFree,
+    list: &mut RunQueue,
+    view: &View,
+    cpu: Cpu,
+    touched: &[Tid],
+) -> Result<Option<Tid>, OutOfMemory>
+    ensures refreshed { OnOk result
+        (list.new ≡ refreshed (least_ran_but_on_kept policy.now.cpus) view.now cpu list.old touched.now) }
+    ensures first { IfOk result (λ first. first ≡ slice_get list.new 0) }
+    ensures no_memory { OnErr result (list.new ≡ list.old) }
+{
+    list.refresh(policy, view, touched, cpu)?;
+    Ok(list.first())
 }

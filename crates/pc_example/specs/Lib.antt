@@ -1,0 +1,2 @@
+-- What the caller's own functions speak of.
+pub mod Policies
