@@ -160,6 +160,26 @@ fn a_thread_that_left_is_in_a_phase(rt: HostRuntime) {
     each_holds(&rt, rt.alloc(), &rows);
 }
 
+/// A phase, and the word for it.
+#[derive(Drop)]
+struct Told(Phase, &'static str);
+
+impl Row for Told {
+    fn holds(&self, _alloc: Global) -> bool {
+        self.0.word() == self.1
+    }
+}
+
+#[test]
+fn phases_have_words(rt: HostRuntime) {
+    let rows = [
+        Told(Phase::Ready, "ready"),
+        Told(Phase::Blocked, "blocked"),
+        Told(Phase::Dead, "dead"),
+    ];
+    each_holds(&rt, rt.alloc(), &rows);
+}
+
 /// A phase, the bits of a mask for four CPUs, and whether the thread may run on CPU 1.
 #[derive(Drop)]
 struct Allowed(Phase, u64, bool);

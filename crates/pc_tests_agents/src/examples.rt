@@ -2,8 +2,10 @@
 //! what the functions of `pc_example` answer of such a world.
 
 use pc_calls::{EnvCall, Limits};
-use pc_example::{knows_all, take_over};
+use pc_example::{KeptFree, first_by, knows_all, take_over};
 use pc_messages::{Cpu, Phase, Reported, Tid};
+use pc_run_queue::RunQueue;
+use pc_view::View;
 use pc_world::{Event, Reply, World};
 use std::alloc::Global;
 use std::test::Fail;
@@ -150,4 +152,26 @@ fn takes_over_what_it_knows(alloc: Global) -> Option<bool> {
 #[test]
 fn a_thread_is_taken_over_in_the_state_that_the_view_reports(rt: HostRuntime) {
     assert_eq!(rt; takes_over_what_it_knows(rt.alloc()), Some(true));
+}
+
+/// Who is first on the CPU of a new run list, where the first CPU is kept free of threads of the lowest level.
+fn first_on(alloc: Global, view: &View, cpu: u8) -> Option<Option<Tid>> {
+    let mut list = RunQueue::new(alloc);
+    let policy = KeptFree { cpus: 1 };
+    first_by(&policy, &mut list, view, Cpu(cpu), &[Tid(0)]).ok()
+}
+
+/// Who is first on the first CPU, and on the second one.
+fn firsts(alloc: Global) -> Option<(Option<Tid>, Option<Tid>)> {
+    let mut world = sent(alloc)?;
+    if !delivered(&mut world) {
+        return None;
+    }
+    let view = world.view(Cpu(1))?;
+    Some((first_on(alloc, view, 0)?, first_on(alloc, view, 1)?))
+}
+
+#[test]
+fn a_policy_of_a_callers_own_leaves_a_thread_out(rt: HostRuntime) {
+    assert_eq!(rt; firsts(rt.alloc()), Some((None, Some(Tid(0)))));
 }
