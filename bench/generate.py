@@ -96,42 +96,26 @@ def deliveries(lines, arrange, batch=1):
     yield "enclave 2 8 1000000 65536 4294967295"
     count = lines // (batch + 3)
     for number in range(count):
-        for message in range(batch):
-            yield "create 0 3 ready" if number == message == 0 else "affinity t0 3"
-        yield "publish 0"
-        yield "consume 0"
+        messages = ["affinity t0 3"] * batch
+        yield from (*(messages if number else ["create 0 3 ready", *messages[1:]]), *look(0))
     numbers = list(range(count))
     arrange(numbers)
-    for number in numbers:
-        yield f"deliver 1 {number}"
+    yield from (f"deliver 1 {number}" for number in numbers)
 
 
-def answers(known):
+def answers(lines, known):
     """Answers of an agent that knows 4,096 threads to one that knows so many of them."""
-
-    def script(lines):
-        yield f"enclave 2 {THREADS} 1000000 65536 4294967295"
-        for thread in range(THREADS):
-            yield "create 0 3 ready"
-            if thread + 1 in (THREADS // 2, THREADS):
-                yield "publish 0"
-        if known:
-            yield f"deliver 1 {known - 1}"
-        for _ in range(THREADS + 4, lines):
-            yield "answer 0 1"
-
-    return script
+    half = ["create 0 3 ready"] * (THREADS // 2)
+    yield from (f"enclave 2 {THREADS} 1000000 65536 4294967295", *half, "publish 0", *half, "publish 0")
+    yield from [f"deliver 1 {known - 1}"] * bool(known)
+    yield from ["answer 0 1"] * (lines - THREADS - 4)
 
 
 def big_delta(lines):
     """One queue as full as may be, of four threads, published as often as lines are left."""
-    yield "enclave 2 8 1000000 65536 4294967295"
-    for thread in range(4):
-        yield "create 0 3 ready"
-    for number in range(4, 65536):
-        yield f"affinity t{number % 4} 3"
-    for _ in range(65537, lines):
-        yield "publish 0"
+    yield from ("enclave 2 8 1000000 65536 4294967295", *["create 0 3 ready"] * 4)
+    yield from (f"affinity t{number % 4} 3" for number in range(4, 65536))
+    yield from ["publish 0"] * (lines - 65537)
 
 
 def rounds(lines):
@@ -141,26 +125,19 @@ def rounds(lines):
     for thread in range(THREADS):
         yield f"create {thread % CPUS} {2**CPUS - 1} ready"
     for cpu in range(CPUS):
-        yield f"publish {cpu}"
-        yield f"consume {cpu}"
+        yield from look(cpu)
     for turn in range((lines - 1 - THREADS - 2 * CPUS) // 4):
         cpu = turn % CPUS
-        yield f"pick {cpu} {posts[cpu]}"
-        yield f"yield {cpu} 1"
+        yield from (f"pick {cpu} {posts[cpu]}", f"yield {cpu} 1", *look(cpu))
         posts[cpu] += 1
-        yield f"publish {cpu}"
-        yield f"consume {cpu}"
 
 
 def steals(lines):
     """Agent 1 steals the threads of agent 0, whose run list it finds ever longer in its own; then there is none left."""
     threads = min(THREADS, lines // 2)
     yield f"enclave {CPUS} {THREADS} 1000000 65536 4294967295"
-    for _ in range(threads):
-        yield f"create 0 {2**CPUS - 1} ready"
-    yield from ("publish 0", "consume 0", "deliver 1 0")
-    for _ in range(max(0, lines - 4 - threads)):
-        yield "steal 1"
+    yield from [f"create 0 {2**CPUS - 1} ready"] * threads
+    yield from (*look(0), "deliver 1 0", *["steal 1"] * (lines - 4 - threads))
 
 
 def restarts(lines):
@@ -168,23 +145,14 @@ def restarts(lines):
     yield f"enclave {CPUS} {THREADS} 1000000 65536 4294967295"
     for thread in range(THREADS):
         yield f"create {thread % CPUS} {2**CPUS - 1} ready"
-    sent = 0
     for cpu in range(CPUS):
-        yield f"publish {cpu}"
-        yield f"consume {cpu}"
-        sent += 1
+        yield from look(cpu)
     for cpu in range(CPUS):
-        for delta in range(CPUS):
-            yield f"deliver {cpu} {delta}"
+        yield from (f"deliver {cpu} {delta}" for delta in range(CPUS))
     for turn in range((lines - 1 - THREADS - 2 * CPUS - CPUS * CPUS) // 6):
         cpu = turn % CPUS
-        yield f"crash {cpu}"
-        yield f"answer {(cpu + 1) % CPUS} {cpu}"
-        yield f"deliver {cpu} {sent}"
-        yield f"steal {cpu}"
-        yield f"steal {cpu}"
-        yield f"publish {cpu}"
-        sent += 2
+        yield from (f"crash {cpu}", f"answer {(cpu + 1) % CPUS} {cpu}", f"deliver {cpu} {CPUS + 2 * turn}")
+        yield from (f"steal {cpu}", f"steal {cpu}", f"publish {cpu}")
 
 
 def turn_of(chance, world, cpu, blocked):
@@ -227,20 +195,14 @@ def day(lines):
 
 def shortest(lines):
     """A queue that is full behind the first line, so that a line costs little more than to read it and to answer."""
-    yield "enclave 1 1 1 1 1"
-    for _ in range(1, lines):
-        yield "tick 0"
+    yield from ("enclave 1 1 1 1 1", *["tick 0"] * (lines - 1))
 
 
 def shows(lines):
     """A view that is answered in 20,000 lines."""
     threads = 20_000
-    yield from ("version 2", f"enclave 1 {threads} 1000000 65536 4294967295")
-    for _ in range(threads):
-        yield "create 0 1 ready"
-    yield from look(0)
-    for _ in range(threads + 4, lines):
-        yield "show 0"
+    yield from ("version 2", f"enclave 1 {threads} 1000000 65536 4294967295", *["create 0 1 ready"] * threads, *look(0))
+    yield from ["show 0"] * (lines - threads - 4)
 
 
 def levels(lines):
@@ -248,18 +210,14 @@ def levels(lines):
     changes = 2_000
     threads = max(1, lines - 4 - 3 * changes)
     yield from ("version 2", f"enclave 1 {min(threads, 65_535)} 1000000 65536 4294967295")
-    for _ in range(threads):
-        yield "create 0 1 ready"
-    yield from look(0)
+    yield from (*["create 0 1 ready"] * threads, *look(0))
     for change in range(changes):
-        yield f"priority t{threads // 2} {1 + change % 7}"
-        yield from look(0)
+        yield from (f"priority t{threads // 2} {1 + change % 7}", *look(0))
 
 
 def look(cpu):
     """An agent sends what its queue holds, and removes it."""
-    yield f"publish {cpu}"
-    yield f"consume {cpu}"
+    return f"publish {cpu}", f"consume {cpu}"
 
 
 # The scripts by their names, and what each is.
@@ -270,9 +228,9 @@ SCRIPTS = {
     "late": (partial(deliveries, arrange=list.reverse), "one thread's messages, a delta each, delivered to another agent in descending order: four lines for each"),
     "late-batches": (partial(deliveries, arrange=list.reverse, batch=8), "the same, eight messages to a delta: eleven lines for each delta"),
     "scattered": (partial(deliveries, arrange=random.Random(20261122).shuffle), "as late, in an order drawn at random"),
-    "answer-empty": (answers(0), "4,096 threads, and then answers to an agent that knows none of them"),
-    "answer-half": (answers(1), "the same to an agent that knows half of them"),
-    "answer-equal": (answers(2), "the same to an agent that knows all of them"),
+    "answer-empty": (partial(answers, known=0), "4,096 threads, and then answers to an agent that knows none of them"),
+    "answer-half": (partial(answers, known=1), "the same to an agent that knows half of them"),
+    "answer-equal": (partial(answers, known=2), "the same to an agent that knows all of them"),
     "big-delta": (big_delta, "a queue of 65,536 messages, published again and again"),
     "rounds": (rounds, "64 agents that pick, have the thread yield, publish and consume, over 4,096 threads"),
     "steals": (steals, "one agent steals all threads of another (half as many as lines, 4,096 at most), then finds none, again and again"),

@@ -1,5 +1,6 @@
 """What the measurements share: their command lines and tables, and one run of a program, measured, which needs GNU time (/usr/bin/time)."""
 import argparse
+import functools
 import os
 import pathlib
 import resource
@@ -66,34 +67,30 @@ def measured(words, output, seconds=None, address_space=None):
     """Runs a command whose output goes into a file, for so many seconds and in so many bytes of address space at most.
 
     Standard error goes nowhere, so that no terminal is told how far a run is."""
-    def bounded():
-        if address_space:
-            resource.setrlimit(resource.RLIMIT_AS, (address_space, address_space))
-
+    bounds = (address_space or resource.RLIM_INFINITY,) * 2
+    bound = functools.partial(resource.setrlimit, resource.RLIMIT_AS, bounds) if address_space else None
     # A child's greatest memory counts what it was before it became the program: GNU time is small, this interpreter is not.
     memory = output.with_suffix(".memory")
     with open(output, "wb") as out:
         timed = ["/usr/bin/time", "-q", "-f", "%M", "-o", str(memory), *map(str, words)]
         began = time.perf_counter()
         none = subprocess.DEVNULL
-        child = subprocess.Popen(timed, stdin=none, stdout=out, stderr=none, start_new_session=True, preexec_fn=bounded)
+        child = subprocess.Popen(timed, stdin=none, stdout=out, stderr=none, start_new_session=True, preexec_fn=bound)
         late = threading.Event()
 
         def end():
             late.set()
             os.killpg(child.pid, signal.SIGKILL)
 
-        watch = threading.Timer(seconds, end) if seconds else None
+        watch = threading.Timer(seconds or threading.TIMEOUT_MAX, end)
         try:
-            if watch:
-                watch.start()
+            watch.start()
             _, status, usage = os.wait4(child.pid, 0)
         except BaseException:
             os.killpg(child.pid, signal.SIGKILL)
             raise
         finally:
-            if watch:
-                watch.cancel()
+            watch.cancel()
         wall = time.perf_counter() - began
     child.returncode = os.waitstatus_to_exitcode(status)
     if late.is_set():
@@ -107,11 +104,9 @@ def usual(runs):
     """The first quartile of seconds, and the median of memory, of runs that all ended well.
 
     Of scripts that take some milliseconds the least run is luck, and the system counts memory in batches of pages."""
-    def at(share, figures):
-        return sorted(figures)[int(share * (len(runs) - 1))]
-
-    return Run(
-        at(0.25, [run.wall for run in runs]), at(0.25, [run.processor for run in runs]), at(0.5, [run.memory for run in runs]))
+    last = len(runs) - 1
+    wall, processor, memory = (sorted(getattr(run, name) for run in runs) for name in ("wall", "processor", "memory"))
+    return Run(wall[int(0.25 * last)], processor[int(0.25 * last)], memory[int(0.5 * last)])
 
 
 def best(runs):

@@ -41,21 +41,17 @@ NAMES = {
 }
 
 
-def life(chance, shape):
-    """What one thread does each time that it runs, and for how long."""
-    words = ["block"] * shape.blocks + ["preempt"] * shape.preempts
-    words += ["yield"] * (shape.steps - 1 - len(words))
-    chance.shuffle(words)
-    return [(word, chance.randrange(10)) for word in [*words, "die"]]
-
-
 def settings(name, size="whole"):
     """A settings text, and the report that it asks for."""
     shape, chance = NAMES[name], random.Random(20261123)
     threads, ran, text = shape.threads // SIZES[size], 0, [f"cpus = {shape.cpus}\n"]
     for thread in range(threads):
         home = thread % min(shape.cpus, LAST + 1)
-        steps = life(chance, shape)
+        # What the thread does each time that it runs, and for how long.
+        words = ["block"] * shape.blocks + ["preempt"] * shape.preempts
+        words += ["yield"] * (shape.steps - 1 - len(words))
+        chance.shuffle(words)
+        steps = [(word, chance.randrange(10)) for word in [*words, "die"]]
         ran += sum(ticks for _, ticks in steps)
         told = ",".join(f'"{word} {ticks}"' for word, ticks in steps)
         text.append(f"[[thread]]\nqueue = {home}\nmask = {shape.mask(home)}\nsteps = [{told}]\n")

@@ -19,15 +19,10 @@ def _project() -> dict[str, str]:
 
 
 def _metadata(project: dict[str, str]) -> str:
-    head = [
-        "Metadata-Version: 2.1",
-        f"Name: {project['name']}",
-        f"Version: {project['version']}",
-        f"Summary: {project['description']}",
-        f"Requires-Python: {project['requires-python']}",
-        "Description-Content-Type: text/markdown",
-    ]
-    return "\n".join(head) + "\n\n" + (HERE / project["readme"]).read_text()
+    head = {"Name": "name", "Version": "version", "Summary": "description", "Requires-Python": "requires-python"}
+    rows = "".join(f"{title}: {project[key]}\n" for title, key in head.items())
+    text = (HERE / project["readme"]).read_text()
+    return f"Metadata-Version: 2.1\n{rows}Description-Content-Type: text/markdown\n\n{text}"
 
 
 def _row(name: str, data: bytes) -> str:

@@ -40,12 +40,9 @@ def _published(answer: str) -> Published:
     return Published(int(words[1][1:]), int(words[3]))
 
 
-def _count(answer: str) -> int:
-    return int(answer.split(" ")[1])
-
-
-def _delta(answer: str) -> int:
-    return int(answer.split(" ")[1][1:])
+def _number(answer: str) -> int:
+    """How many items there are, or which delta it is."""
+    return int(answer.split(" ")[1].removeprefix("d"))
 
 
 def _nothing(answer: str) -> None:
@@ -174,7 +171,7 @@ def publish_fail(cpu: int) -> Command[Published]:
 
 def consume(cpu: int) -> Command[int]:
     """The CPU's agent removes the items that it sent from its queue: how many."""
-    return Command(f"consume {cpu}", _count)
+    return Command(f"consume {cpu}", _number)
 
 
 def deliver(cpu: int, delta: int) -> Command[None]:
@@ -184,7 +181,7 @@ def deliver(cpu: int, delta: int) -> Command[None]:
 
 def answer(cpu: int, other: int) -> Command[int]:
     """The CPU's agent sends what it knows and the other one does not, as a delta: its place."""
-    return Command(f"answer {cpu} {other}", _delta)
+    return Command(f"answer {cpu} {other}", _number)
 
 
 def pick(cpu: int, aseq: int) -> Command[Placed]:

@@ -18,13 +18,9 @@ class Refused(NimhessianError):
         """The command, as it was sent."""
 
     def __str__(self) -> str:
-        told = f"{type(self).__name__}{self.argument()}"
+        arguments = [f"{name}={value!r}" for name, value in vars(self).items() if name != "command"]
+        told = type(self).__name__ + (f"({', '.join(arguments)})" if arguments else "")
         return f"{told}: {self.command}" if self.command else told
-
-    def argument(self) -> str:
-        """What stands behind the name of the refusal."""
-        told = [f"{name}={value!r}" for name, value in vars(self).items() if name != "command"]
-        return f"({', '.join(told)})" if told else ""
 
 
 class BadCpu(Refused):
