@@ -107,6 +107,11 @@ class Launcher:
         (self.bin / name).write_text(text)
         (self.bin / name).chmod(0o755)
 
+    def put_bounded(self) -> None:
+        """A command of the tree that starts the launcher where no file may grow."""
+        (self.tree / "bounded").write_text('#!/usr/bin/env bash\nulimit -f 0\nexec "${0%/*}/pc-sim"\n')
+        (self.tree / "bounded").chmod(0o755)
+
     def set_dates(self, seconds: float) -> None:
         """Dates each source this long from now."""
         at = time.time() + seconds
@@ -456,6 +461,7 @@ def test_a_failed_crate_names_itself_and_nothing_more_begins(it: Launcher) -> No
 FAILS: dict[str, tuple[Any, dict[str, str], list[str], bool]] = {
     "no rt and no program": (lambda it: (it.bin / "rt").unlink(), {}, ["not built", "rt is not on the path"], False),
     "a tree that cannot be locked": (lambda it: (it.tree / ".build.lock").mkdir(), {}, [".build.lock"], False),
+    "a queue in place of the lock": (lambda it: os.mkfifo(it.tree / ".build.lock"), {}, [".build.lock is no file"], False),
     "a crate that is killed": (lambda it: None, {"RT_KILLED": "left"}, ["left could not be built"], False),
     "a build that leaves no program": (lambda it: None, {"RT_LEAVES_NONE": "yes"}, ["left no program"], True),
 }
@@ -578,6 +584,11 @@ def test_no_start_builds_while_the_gate_runs(it: Launcher) -> None:
     assert ended["gate"] <= began["low"]
 
 
+def test_the_gate_waits_for_no_queue_in_place_of_the_lock(it: Launcher) -> None:
+    os.mkfifo(it.tree / ".build.lock")
+    same(it.run_it(command="test"), (1, "0 passed, 1 failed\n", "test: .build.lock is no file, and has to be removed\n"))
+
+
 def test_the_gate_waits_for_a_build(it: Launcher) -> None:
     it.put_stand_ins_of_tests()
     start = it.begin(RT_SECONDS="0.3")
@@ -691,6 +702,16 @@ def test_a_tree_in_which_nothing_can_be_started(it: Launcher) -> None:
     same(sorted(it.program.parent.iterdir()), sorted([it.program, it.note]))
 
 
+def test_a_file_that_may_not_grow_is_a_write_that_failed(it: Launcher) -> None:
+    """No signal ends the program that is started, nor the launcher, which leaves nothing."""
+    it.put_program('#!/usr/bin/env bash\nulimit -f 0\necho told >"$TMPDIR/file" 2>&- || echo failed\nrm "$TMPDIR/file"\n')
+    same(it.run_it(), (0, "failed\n", ""))
+    it.program.unlink()
+    it.put_bounded()
+    it.fails(str(it.temporary), "TMPDIR", command="bounded")
+    same(([*it.temporary.iterdir()], it.calls()[0]), ([], []))
+
+
 def test_a_program_that_cannot_be_started(it: Launcher) -> None:
     it.put_program("#!/no/such/command\n")
     it.fails("pc_sim cannot be started")
@@ -720,16 +741,16 @@ def test_the_released_program_is_compared_with_the_one_that_was_built(it: Launch
     def begin() -> None:
         same(it.run_it("--before", str(before), command="tools/released"), (0, "", ""))
 
-    def told_by(status: int, *last: str) -> str:
+    def told_by(status: int, *last: str, **more: str) -> str:
         """What is told last; and what is told first."""
-        ended, out, _ = it.run_it("--compare", str(before), command="tools/released")
+        ended, out, _ = it.run_it("--compare", str(before), command="tools/released", **more)
         first, *others = out.splitlines()
         same((ended, others[-len(last):]), (status, [*last]), out)
         return first
 
-    def compared(status: int, *last: str) -> tuple[bool, bool]:
+    def compared(status: int, *last: str, **more: str) -> tuple[bool, bool]:
         """Whether the sum of the sources, and that of the program, are those of release/."""
-        sums = re.fullmatch(r"released: of sources with the sum (\w{64}) a program with the sum (\w{64}) was built", told_by(status, *last))
+        sums = re.fullmatch(r"released: of sources with the sum (\w{64}) a program with the sum (\w{64}) was built", told_by(status, *last, **more))
         return sums[1] == sources, sums[2] == program
 
     def lacks(reason: str) -> None:
@@ -747,6 +768,8 @@ def test_the_released_program_is_compared_with_the_one_that_was_built(it: Launch
     same(compared(1, "0 passed, 1 failed"), (True, True))
     it.put_program(PROGRAM + "# other\n", is_noted=False)
     same(compared(1, "0 passed, 1 failed"), (True, False))
+    other_kit = ["released: release/ has the program that another kit makes, kit-one", "0 passed, 0 failed"]
+    same(compared(0, *other_kit, RT_VERSION="kit-two"), (True, False))
     it.put_source("left/src/lib.rt", "// left!\n")
     lacks("the sources are not those that this run began with")
     begin()
