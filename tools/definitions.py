@@ -11,6 +11,7 @@ the file. A comment directly above a public definition is that definition's; one
 where it is, as prose, and one that begins with `----` as a heading. A comment above or behind a field or a constructor
 is told below its record or type. specs/Inner is left out.
 """
+import collections
 import re
 import sys
 import textwrap
@@ -21,8 +22,9 @@ WIDTH = 120
 COMMENT = re.compile(r"( *)-- ?(.*)")
 DEFINITION = re.compile(r"( *)(?:[a-z]+ )*?pub (?:(record|data|mod) )?([^\s:(){}]+)")
 CONSTRUCTOR = re.compile(r" +([^\s:(){}]+) :")
-# How the pages begin.
-HEAD, CLAUSES_HEAD = ((ROOT / "tools/pages" / name).read_text() for name in ("definitions.txt", "clauses.txt"))
+# How the pages begin, and the table at the end of the first.
+PAGES = ("definitions.txt", "clauses.txt", "how_much.txt")
+HEAD, CLAUSES_HEAD, TABLE_HEAD = ((ROOT / "tools/pages" / name).read_text() for name in PAGES)
 
 
 def crates():
@@ -42,16 +44,12 @@ def files_of(crate):
         used = re.findall(rf"^use Rattle\.{crate}\.specs\.(\w+)", (folder / f"{name}.antt").read_text(), re.M)
         uses[name] = {other for other in used if other in names and other != name}
     ordered = []
-    while len(ordered) < len(names):
-        ready = [name for name in names if name not in ordered and uses[name] <= set(ordered)]
-        left = [name for name in names if name not in ordered]
-        ordered.append((ready or left)[0])
+    while left := [name for name in names if name not in ordered]:
+        ordered.append(next((name for name in left if uses[name] <= set(ordered)), left[0]))
     return [folder / f"{name}.antt" for name in ordered]
 
 
-class Definition:
-    def __init__(self, name, line, comment, is_field, kind=""):
-        self.name, self.line, self.comment, self.is_field, self.kind = name, line, comment, is_field, kind
+Definition = collections.namedtuple("Definition", "name line comment is_field kind")
 
 
 def read(path):
@@ -72,7 +70,7 @@ def read(path):
             name = defined[3] if defined else CONSTRUCTOR.match(line)[1]
             text = text or line.partition("  -- ")[2]
             if text:
-                found.append(Definition(name, number, text, True))
+                found.append(Definition(name, number, text, True, ""))
         elif defined and not line.startswith("use "):
             group, depth = defined[2] or "", len(defined[1])
             found.append(Definition(defined[3], number, text, False, group))
@@ -89,8 +87,8 @@ def sentence(text):
 
 
 def wrapped(text, first="", rest=""):
-    return textwrap.fill(
-        text, WIDTH, initial_indent=first, subsequent_indent=rest, break_long_words=False, break_on_hyphens=False)
+    indents = {"initial_indent": first, "subsequent_indent": rest}
+    return textwrap.fill(text, WIDTH, **indents, break_long_words=False, break_on_hyphens=False)
 
 
 def document():
@@ -103,17 +101,15 @@ def document():
         for path in files:
             head, found = read(path)
             piece, in_list = [f"### `{path.stem}`\n", wrapped(sentence(head)) + "\n"], False
-            for item in found:
+            for item in (it for it in found if isinstance(it, str) or it.kind != "mod"):
                 is_text = isinstance(item, str)
-                if not is_text and item.kind == "mod":
-                    continue
-                if is_text or not in_list:
-                    piece += [""] if piece[-1][-1:] != "\n" else []
+                if (is_text or not in_list) and piece[-1][-1:] != "\n":
+                    piece.append("")
                 if is_text:
                     piece.append(wrapped(item) + "\n")
                 else:
                     told = f"`{item.name}`" + (f": {item.comment}" if item.comment else "")
-                    indent = "  " if item.is_field else ""
+                    indent = "  " * item.is_field
                     piece.append(wrapped(told, indent + "- ", indent + "  "))
                 in_list = not is_text
             parts.append("\n".join(piece).rstrip("\n") + "\n")
@@ -122,34 +118,24 @@ def document():
 
 def table():
     """How many lines of specs/ each crate has."""
-    rows, sums = [], [0, 0]
-    for crate in crates():
-        folder = ROOT / "crates" / crate / "specs"
-        counts = []
-        for pattern in ("*.antt", "Inner/**/*.antt"):
-            paths = [path for path in folder.glob(pattern) if path.name not in ("Lib.antt", "Inner.antt")]
-            counts.append(sum(len(path.read_text().splitlines()) for path in paths))
-        if counts[0]:
-            rows.append(f"| `{crate}` | {counts[0]:,} | {counts[1] or '-'} |")
-            sums = [total + count for total, count in zip(sums, counts)]
-    return "\n".join([
-        "## How much there is to read", "",
-        "Lines at the top of `specs/`, which is what a reader has to trust (comments and imports counted), and of",
-        "`specs/Inner`:",
-        "", "| crate | top | inner |", "|---|---|---|", *rows, f"| all | {sums[0]:,} | {sums[1]:,} |", ""])
+    def count(crate, pattern):
+        paths = (ROOT / "crates" / crate / "specs").glob(pattern)
+        return sum(len(path.read_text().splitlines()) for path in paths if path.name not in ("Lib.antt", "Inner.antt"))
+
+    counts = {crate: (count(crate, "*.antt"), count(crate, "Inner/**/*.antt")) for crate in crates()}
+    rows = [f"| `{crate}` | {top:,} | {inner or '-'} |\n" for crate, (top, inner) in counts.items() if top]
+    top, inner = (sum(column) for column in zip(*(it for it in counts.values() if it[0])))
+    return TABLE_HEAD + "".join(rows) + f"| all | {top:,} | {inner:,} |\n"
 
 
 def bare():
     """The definitions that have no comment."""
     found = []
-    for crate in crates():
-        for path in files_of(crate):
-            head, items = read(path)
-            if not head:
-                found.append(f"{path.relative_to(ROOT)}:1: no comment at its head")
-            for item in items:
-                if not isinstance(item, str) and not item.comment and item.kind != "mod":
-                    found.append(f"{path.relative_to(ROOT)}:{item.line}: `{item.name}` has no comment")
+    for path in (path for crate in crates() for path in files_of(crate)):
+        head, items = read(path)
+        found += [] if head else [f"{path.relative_to(ROOT)}:1: no comment at its head"]
+        bare = (it for it in items if not isinstance(it, str) and not it.comment and it.kind != "mod")
+        found += [f"{path.relative_to(ROOT)}:{it.line}: `{it.name}` has no comment" for it in bare]
     return found
 
 

@@ -47,7 +47,6 @@ Item = tuple[int, int]  # a thread, and the number of its message
 
 # Lines and words
 
-
 def program() -> str | None:
     """The program that PC_SIM names, or the one that is built here, or the one that is installed."""
     built = pathlib.Path(__file__).resolve().parent.parent / "crates/pc_sim/out/pc_sim"
@@ -139,7 +138,6 @@ def answered(script: str, output: str) -> Iterator[Answered]:
 
 
 # The model
-
 
 class Refused(ValueError):
     """A command is refused: its text stands behind `refused`."""

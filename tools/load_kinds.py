@@ -154,18 +154,11 @@ class Kind:
 
 
 KINDS = {
-    "compiler": Kind(
-        f"`make -j {2 * CPUS}` of {6 * CPUS} files in C", {"make": "make", "gcc": "gcc"}, compiler),
-    "web": Kind(
-        f"nginx with {HALF} workers under wrk with 20 connections", {"nginx": "nginx", "wrk": "wrk"},
-        web),
-    "pool": Kind(
-        f"bursts of 64 tasks for {2 * CPUS} processes of Python's `multiprocessing`", {}, pool),
+    "compiler": Kind(f"`make -j {2 * CPUS}` of {6 * CPUS} files in C", {"make": "make", "gcc": "gcc"}, compiler),
+    "web": Kind(f"nginx with {HALF} workers under wrk with 20 connections", {"nginx": "nginx", "wrk": "wrk"}, web),
+    "pool": Kind(f"bursts of 64 tasks for {2 * CPUS} processes of Python's `multiprocessing`", {}, pool),
     "nice": Kind(
-        f"{4 * HALF} busy loops of niceness 0, 5, 10 and 19 beside {2 * CPUS} threads that sleep and wake", {},
-        nice),
-    "database": Kind(
-        f"PostgreSQL under pgbench with {4 * CPUS} clients",
-        {"postgres": "postgresql", "initdb": "postgresql", "pgbench": "postgresql-contrib"},
-        database),
+        f"{4 * HALF} busy loops of niceness 0, 5, 10 and 19 beside {2 * CPUS} threads that sleep and wake", {}, nice),
+    "database": Kind(f"PostgreSQL under pgbench with {4 * CPUS} clients", {
+        "postgres": "postgresql", "initdb": "postgresql", "pgbench": "postgresql-contrib"}, database),
 }

@@ -1,21 +1,14 @@
-"""What `pc-sim replay` will have answered to the commands written so far, and the settings that `pc-sim run` reads."""
+"""What `pc-sim replay` will have answered to the commands written so far."""
 from __future__ import annotations
 
 from collections import Counter
-from dataclasses import dataclass, field
 
 from kernel import MOST, Kernel, Thread
-from perf_load import Timed
+from perf_load import Lives
 from perf_text import plain
 
 MOST_CPUS, ROOM, POSTS = (MOST[name][1] for name in ("cpus", "room", "posts"))
 (MOST_THREADS_BY_DEFAULT, MOST_THREADS), (NUMBERS_BY_DEFAULT, NUMBERS) = MOST["threads"], MOST["numbers"]
-# The limits of settings (docs/FORMATS.md)
-LONGEST_SETTINGS = 1_048_576
-MOST_STEPS = 1_000
-SETTINGS_THREADS = 4_096
-SETTINGS_MASK = (1 << 63) - 1  # TOML has no number for bit 63
-
 READY, BLOCKED = "ready", "blocked"
 
 
@@ -31,7 +24,7 @@ class Model:
         self.tick = 0  # of what is written next, in microseconds since the first event
         self.tells_times = tells_times
         self.told_tick = -1
-        self.timed = Timed(cpus)
+        self.lives = Lives(cpus)
         self.asked: Counter[str] = Counter()  # by command
         self.refused: Counter[tuple[str, str]] = Counter()  # by command and refusal
 
@@ -73,14 +66,14 @@ class Model:
         self.pids.append(pid)
         self.comment(f"t{name} is {comm}, {pid}")
         self.ask(f"create {queue} {self.mask} {phase}")
-        self.timed.created(name, comm, queue, phase == READY, self.tick)
+        self.lives.created(name, comm, pid, queue, phase == READY, self.tick)
         return self.kernel.threads[name]
 
     def wake(self, thread: Thread) -> None:
         """Of a thread that is blocked."""
         self.make_room(thread.home)
         self.ask(f"wake t{thread.name}")
-        self.timed.woke(thread.name, self.tick)
+        self.lives.woke(thread.name, self.tick)
 
     def leave(self, word: str, cpu: int, ticks: int) -> None:
         """The thread on the CPU, of which there is one, leaves it."""
@@ -88,7 +81,7 @@ class Model:
         assert name is not None
         self.make_room(cpu)
         self.ask(f"{word} {cpu} {ticks}")
-        self.timed.left(name, word, ticks, self.tick)
+        self.lives.left(name, word, cpu, ticks, self.tick)
 
     def look(self, cpu: int) -> None:
         """The agent takes in what its queue holds, tells the others, and removes it."""
@@ -105,7 +98,7 @@ class Model:
         """Whether it will be accepted. The count of posts is that of now, and no mask forbids a CPU."""
         is_accepted = self.ask(f"commit {cpu} t{thread.name} {self.kernel.queues[cpu].posts}")
         if is_accepted:
-            self.timed.came(thread.name, self.tick)
+            self.lives.came(thread.name, self.tick)
         return is_accepted
 
     def text(self) -> str:
@@ -115,61 +108,3 @@ class Model:
         head = ["version 2"] if wide else []
         head.append(f"enclave {self.kernel.cpus} {max(threads, 1)} {numbers} {ROOM} {POSTS}")
         return "".join(line + "\n" for line in [*head, *self.lines])
-
-
-# The settings of a run
-
-@dataclass
-class Life:
-    """The runs of a thread: how it left its CPU each time, and after how many ticks."""
-
-    title: str
-    queue: int
-    mask: int = 0
-    steps: list[tuple[str, int]] = field(default_factory=list)
-
-
-class Lives:
-    """The lives of all threads that ran."""
-
-    def __init__(self, cpus: int):
-        self.cpus = cpus
-        self.lives: dict[int, Life] = {}
-        self.runs = 0
-        self.ticks = 0
-        self.left_out: Counter[str] = Counter()
-
-    def ran(self, name: int, title: str, cpu: int, word: str, ticks: int) -> None:
-        life = self.lives.get(name)
-        if life is None:
-            life = self.lives[name] = Life(f"t{name} is {plain(title)}", cpu)
-        life.mask |= 1 << cpu
-        life.steps.append((word, ticks))
-        self.runs += 1
-        self.ticks += ticks
-
-    def text(self, threads: int) -> str:
-        """The settings. Of so many threads, those that never ran have none; who was not seen to die dies in the last run."""
-        self.left_out["threads that never ran"] += threads - len(self.lives)
-        text = f"cpus = {self.cpus}\n"
-        written = 0
-        for _, life in sorted(self.lives.items()):
-            table = self.table(life)
-            if written == SETTINGS_THREADS or len(text) + len(table) > LONGEST_SETTINGS:
-                self.left_out["threads past the greatest count or length"] += 1
-            elif table:
-                text += table
-                written += 1
-        return text
-
-    def table(self, life: Life) -> str:
-        mask = life.mask & SETTINGS_MASK
-        if not mask:
-            self.left_out["threads that ran on CPU 63 alone"] += 1
-            return ""
-        if len(life.steps) > MOST_STEPS:
-            self.left_out[f"runs past {MOST_STEPS:,} of a thread"] += len(life.steps) - MOST_STEPS
-        words = [f'"{word} {ticks}"' for word, ticks in life.steps[: MOST_STEPS - 1] if word != "die"]
-        words = words[: min(len(life.steps), MOST_STEPS) - 1] + [f'"die {life.steps[: MOST_STEPS][-1][1]}"']
-        queue = life.queue if mask >> life.queue & 1 else (mask & -mask).bit_length() - 1
-        return f"\n# {life.title}\n[[thread]]\nqueue = {queue}\nmask = {mask}\nsteps = [{', '.join(words)}]\n"

@@ -111,26 +111,21 @@ class Crate:
             comment += [told[1]] if told else []
             if line.startswith("}"):
                 owner, of_trait, last, in_enum = "", "", None, False
-            header = re.match(r"impl(.*)\{$|impl(.*)$", line)
-            if header:
-                of_trait, owner = impl_names(header[1] or header[2] or "")
+            if header := re.match(r"impl(.*?)\{?$", line):
+                of_trait, owner = impl_names(header[1])
                 self.met.add((owner, of_trait))
-            declared = re.match(r"(?:pub(?:\(crate\))? )?(struct|enum|trait) (\w+)", line)
-            if declared:
+            if declared := re.match(r"(?:pub(?:\(crate\))? )?(struct|enum|trait) (\w+)", line):
                 self.types.add(declared[2])
                 in_enum = declared[1] == "enum"
                 if declared[1] == "trait":
                     self.traits.add(declared[2])
                     owner = of_trait = declared[2]
-            variant = re.match(r"    (\w+)(?:[,({ ]|$)", line)
-            if in_enum and variant:
+            if in_enum and (variant := re.match(r"    (\w+)(?:[,({ ]|$)", line)):
                 self.words.add(variant[1])
-            inner = INNER_NAME.search(line)
-            if inner:
+            if inner := INNER_NAME.search(line):
                 self.words |= set(filter(None, inner.groups()))
             self.words |= set(re.findall(r'b"(\w+)"', line))  # words of a script
-            function = re.match(r"\s*(pub(?:\(crate\))? )?(?:const )?fn (\w+)", line)
-            if function:
+            if function := re.match(r"\s*(pub(?:\(crate\))? )?(?:const )?fn (\w+)", line):
                 is_pub = function[1] == "pub " or owner in self.traits or bool(of_trait)
                 last = Function(self.name, owner, module, function[2], is_pub, of_trait, comment=" ".join(comment))
                 into.append(last)
@@ -146,7 +141,7 @@ class Crate:
             comment = comment if told or re.match(r"\s*(?:#\[|//)", line) else []
 
     def exported(self, function):
-        if not function.is_pub or (function.of_trait and function.owner != function.of_trait):
+        if not function.is_pub or function.of_trait not in ("", function.owner):
             return False
         if self.is_program:
             return function.module == "main" and not function.owner
@@ -161,18 +156,12 @@ class Crate:
 
 
 def impl_names(header):
-    """The trait (or none) and the type of an impl's header."""
-    text = header.strip()
-    if text.startswith("<"):
-        depth = 0
-        for place, letter in enumerate(text):
-            depth += (letter == "<") - (letter == ">" and text[place - 1] != "-")
-            if depth == 0:
-                text = text[place + 1:]
-                break
-    parts = text.split(" for ")
-    names = [(re.match(r"(?:\w+::)*(\w+)", part.strip()) or ["", ""])[1] for part in parts]
-    return (names[0], names[-1]) if len(parts) > 1 else ("", names[0])
+    """The trait (or none) and the type of an impl's header, without what stands in angle brackets."""
+    text, count = header.replace("->", ""), 1
+    while count:
+        text, count = re.subn(r"<[^<>]*>", "", text)
+    names = [(re.match(r"(?:\w+::)*(\w+)", part.strip()) or ["", ""])[1] for part in text.strip().split(" for ")]
+    return (names[0] if len(names) > 1 else "", names[-1])
 
 
 class Sources:
@@ -191,11 +180,9 @@ class Sources:
     def clauses_of(self, function):
         """Its own clauses, those of the trait's method that it meets, and the fields of the records that they are, in order."""
         clauses = [*function.clauses, *(word for name in function.records for word in self.fields_of(function.crate, name))]
-        if function.of_trait and function.of_trait != function.owner:
-            for crate in self.crates.values():
-                for other in crate.functions:
-                    if other.owner == other.of_trait == function.of_trait and other.name == function.name:
-                        clauses += other.clauses
+        if function.of_trait not in ("", function.owner):
+            every = (it for crate in self.crates.values() for it in crate.functions if it.name == function.name)
+            clauses += (word for it in every if it.owner == it.of_trait == function.of_trait for word in it.clauses)
         return list(dict.fromkeys(clauses))
 
     def public(self):

@@ -16,12 +16,6 @@ import textwrap
 HEAD = (pathlib.Path(__file__).resolve().parent / "pages/walk_through.txt").read_text()
 
 
-def replies(program, script):
-    """The program's output on a script, as lines."""
-    run = subprocess.run([program, "replay"], input=script, capture_output=True, text=True, check=True)
-    return run.stdout.splitlines()
-
-
 def blocks_of(lines):
     """The script's lines by paragraph: comments that begin it, and the commands that follow."""
     text, commands = [], []
@@ -36,62 +30,41 @@ def blocks_of(lines):
     yield text, commands
 
 
-def row_text(row):
-    """One thread of a view, in words."""
-    name, number, told = re.fullmatch(r"(t\d+) upto (\d+) (.*)", row).groups()
-    told, early = told.rsplit(" early ", 1)
-    state = "" if told == "-" else " " + told.split()[0]
-    past = "" if early == "-" else f", past a gap {early}"
-    return f"{name} up to {number}{state}{past}"
-
-
 def view_text(rows):
-    return "; ".join(row_text(row) for row in rows) or "nothing"
+    """The threads of a view, in words."""
+    told = []
+    for row in rows:
+        name, number, state, early = re.fullmatch(r"(t\d+) upto (\d+) (\S+)(?: .*)? early (.*)", row).groups()
+        told.append(f"{name} up to {number}" + f" {state}" * (state != "-") + f", past a gap {early}" * (early != "-"))
+    return "; ".join(told) or "nothing"
 
 
-class Walk:
-    """One run of the script, in which the views are shown after each command."""
-
-    def __init__(self, program, commands):
-        self.cpus = next(int(command.split()[1]) for command in commands if command.startswith("enclave"))
-        asked = []
-        for command in commands:
-            asked += [command, *(f"show {cpu}" for cpu in range(self.cpus))]
-        self.lines = iter(replies(program, "".join(f"{command}\n" for command in asked)))
-
-    def response(self, is_view):
-        """The next response: one line, or a view's rows."""
-        line = next(self.lines)
-        if not is_view:
-            return [line]
-        rows = []
-        while line != "end":
-            rows.append(line)
-            line = next(self.lines)
-        return rows
-
-    def step(self, command):
-        """The reply to the command, and the view of each agent after it."""
-        is_view = command.startswith("show ")
-        lines = self.response(is_view)
-        reply = view_text(lines) if is_view else f"`{lines[0]}`"
-        return reply, [view_text(self.response(True)) for _ in range(self.cpus)]
+def steps_of(program, commands, cpus):
+    """Of each command the reply, and the view of each agent after it: views are shown in one run of the script."""
+    asked = [line for command in commands for line in (command, *(f"show {cpu}" for cpu in range(cpus)))]
+    run = subprocess.run([program, "replay"], input="\n".join([*asked, ""]), capture_output=True, text=True, check=True)
+    lines = iter(run.stdout.splitlines())
+    told = [view_text(iter(lines.__next__, "end")) if line.startswith("show ") else f"`{next(lines)}`"
+            for line in asked]
+    for place in range(0, len(told), cpus + 1):
+        yield told[place], told[place + 1:place + 1 + cpus]
 
 
 def page(program, path):
     blocks = list(blocks_of(path.read_text().splitlines()))
-    walk = Walk(program, [command for _, commands in blocks for command in commands])
-    before = ["nothing"] * walk.cpus
+    every = [command for _, commands in blocks for command in commands]
+    cpus = next(int(command.split()[1]) for command in every if command.startswith("enclave"))
+    steps, before = steps_of(program, every, cpus), ["nothing"] * cpus
     yield HEAD.format(name=path.name)
     for text, commands in blocks:
         if text:
             yield textwrap.fill(" ".join(text), 120, break_long_words=False, break_on_hyphens=False) + "\n"
         if not commands:
             continue
-        yield "| line | reply |" + "".join(f" agent {cpu} knows |" for cpu in range(walk.cpus))
-        yield "|---|---|" + "---|" * walk.cpus
+        yield "| line | reply |" + "".join(f" agent {cpu} knows |" for cpu in range(cpus))
+        yield "|---|---|" + "---|" * cpus
         for command in commands:
-            reply, views = walk.step(command)
+            reply, views = next(steps)
             cells = ["" if view == old else view for view, old in zip(views, before)]
             yield f"| `{command}` | {reply} |" + "".join(f" {cell} |" for cell in cells)
             before = views
