@@ -69,19 +69,19 @@ def test_the_right_one_passes():
 
 
 def test_growths_that_are_met_wrongly():
-    for fault, said in [
-        ("HALF_A_LINE", "half a line"), ("IGNORES", "status 0, 12 bytes"), ("CRASHES", "signal SIGSEGV"), ("SAYS_NOTHING", "status 4"),
-    ]:
+    for fault, said in {
+        "HALF_A_LINE": "half a line", "IGNORES": "status 0, 12 bytes", "CRASHES": "signal SIGSEGV", "SAYS_NOTHING": "status 4",
+    }.items():
         tally, text = refused(fault)
         same(tally.failed, 10, fault)
-        assert said in text
-        assert "repeat: repeat --only 'growth 1 of five'" in text
+        assert said in text and "repeat: repeat --only 'growth 1 of five'" in text
 
 
 def test_a_hang_is_ended():
-    run = machine("HANGS").run(five(), seconds=0.2, growth="2")
+    ample, run = machine("HANGS").run(five()), machine("HANGS").run(five(), seconds=0.2, growth="2")
     assert run.status is None
-    assert "ended after" in growths.fault_of_refused(machine("HANGS").run(five()), run)
+    for fault_of in (growths.fault_of_refused, settings.fault_of_refused, settings.fault_of_limited):
+        assert "ended after" in fault_of(ample, run)
 
 
 def test_another_output_than_is_wanted():
@@ -134,7 +134,7 @@ def test_each_malformed_text_is_a_subject_of_growths():
 
 
 def test_the_worst_settings_are_no_longer_than_they_may_be():
-    for words in worst.MEASURED_SETTINGS:
+    for words in worst.TEXTS["measured"]["measure-settings"]:
         out = io.StringIO()
         worst.write(words.split(), out)
         # Lives have at most 1,000 steps each.
@@ -146,7 +146,7 @@ def test_the_worst_settings_are_no_longer_than_they_may_be():
 
 
 def test_the_worst_loads_are_no_longer_than_they_may_be():
-    for words in worst.MEASURED_LOADS:
+    for words in worst.TEXTS["measured"]["measure-loads"]:
         length, most = len(worst.load_text(words)), worst.MOST_LOAD
         assert length <= most, words
         assert words.startswith(("quanta", "late", "dotted 4194304")) or length > 0.98 * most, words

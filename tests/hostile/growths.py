@@ -60,9 +60,8 @@ class Sweep:
 
     def past_the_last(self):
         run = self.machine.run(self.subject, growth=f"{self.ample.growths + 1}..")
-        if run.growths_met:
-            return f"there are more growths than in the run before: {told(run)}, {run.growths} growths"
-        return fault_of_ample(self.subject, run)
+        more = f"there are more growths than in the run before: {told(run)}, {run.growths} growths"
+        return more if run.growths_met else fault_of_ample(self.subject, run)
 
     def falls_short(self):
         rows = sorted(self.written.items())

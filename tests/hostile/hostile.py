@@ -22,6 +22,7 @@ from growths import bound_stack, refuse_growths, refuse_memory
 from loads import draw_loads, use_worst
 from machine import Machine, NoCompiler, Tally
 from settings import draw_settings, use_rows
+from started import start_launcher
 from streams import disturb_streams
 from subjects import examples, generated, greatest, replayed
 
@@ -64,6 +65,7 @@ def parts_of(machine, tally, options):
         "drawn settings": lambda: draw_settings(machine, tally, scripts // 10),
         "drawn loads": lambda: draw_loads(machine, tally, scripts // 10),
         "worst loads": lambda: use_worst(machine, tally),
+        "launcher": lambda: start_launcher(tally),
     }
     left_out = set() if form.lines else {"growths of long scripts"}
     return {name: part for name, part in parts.items() if name in (options.part or parts) and name not in left_out}

@@ -58,12 +58,8 @@ class Rough:
 
 def enclave(chance):
     """An enclave, whose limits are now and then out of their range."""
-    words = [b"enclave"]
-    for name in ("CPUS", "THREADS", "NUMBERS", "ROOM", "POSTS"):
-        few, some, most, past = LIMITS[name]
-        sort = chance.choices([few, some, most, past], [1, 8, 4, 0.05])[0]
-        words.append(b"%d" % chance.choice(sort))
-    return words
+    sorts = (chance.choices(every, [1, 8, 4, 0.05])[0] for every in LIMITS.values())
+    return [b"enclave", *(b"%d" % chance.choice(sort) for sort in sorts)]
 
 
 def command(chance, rough, fields, cpu):
@@ -105,10 +101,10 @@ def lines_of(chance, rough, turns, further):
     """The lines of so many turns, behind each of which some of the lists of commands that are given for it comes."""
     lines = []
     for _ in range(turns):
-        words, cpu, other = turn(chance, rough), chance.randrange(rough.cpus), chance.randrange(rough.cpus)
-        words += [command(chance, rough, line.split(), cpu) for line in chance.choice(further(other))]
-        lines += [b" ".join(line).decode() for line in words]
-    return lines
+        lines += turn(chance, rough)
+        cpu, other = chance.randrange(rough.cpus), chance.randrange(rough.cpus)
+        lines += [command(chance, rough, line.split(), cpu) for line in chance.choice(further(other))]
+    return [b" ".join(line).decode() for line in lines]
 
 
 def mended(script, does=lambda: True):
@@ -123,24 +119,13 @@ def mended(script, does=lambda: True):
 def spoilt_words(chance, words):
     """The words with one dropped, doubled, cut, exchanged, odd, or a number past its bound."""
     words, place = list(words), chance.randrange(len(words))
-    how = chance.randrange(7)
-    if how == 0:
-        del words[place]
-    elif how == 1:
-        words.insert(place, words[place])
-    elif how == 2:
-        words[place] = words[place][:chance.randrange(len(words[place]) + 1)]
-    elif how == 3:
-        other = chance.randrange(len(words))
-        words[place], words[other] = words[other], words[place]
-    elif how == 4:
-        words[place] = chance.choice(ODD_WORDS)
-    elif how == 5:
-        bound = chance.choice([2**8, 2**32, 2**64, 2**63, 10**30])
-        words[place] = words[place][:words[place].startswith(b"t")] + b"%d" % (bound + chance.choice([-1, 0, 1]))
-    else:
-        words.insert(place, chance.choice(ODD_WORDS))
-    return words
+    word = words[place]
+    past = chance.choice([2**8, 2**32, 2**64, 2**63, 10**30]) + chance.choice([-1, 0, 1])
+    here = chance.choice([
+        [], [word, word], [word[:chance.randrange(len(word) + 1)]], [chance.choice(words)], [chance.choice(ODD_WORDS)],
+        [word[:word.startswith(b"t")] + b"%d" % past], [chance.choice(ODD_WORDS), word],
+    ])
+    return [*words[:place], *here, *words[place + 1:]]
 
 
 def spoilt_bytes(chance, text):

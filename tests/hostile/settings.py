@@ -3,19 +3,23 @@ import pathlib
 import random
 import re
 import tomllib
+from functools import partial
 
 from fuzz import SEED
 from growths import LAST, OUT_OF_MEMORY, fault_of_ample
+from machine import ROOT, Subject, told
 from machine import SECONDS as MOST_SECONDS
-from machine import Subject, told
 from tables import drawn_steps, restart, thread
 
-# A run that may wait forever, as where a growth was refused, is ended after so many seconds. Others have as long as any run.
+# A run that may wait forever, or that has a limit, is ended after so many seconds. Others have as long as any run.
 SECONDS = 5
 # The address space of a run of drawn settings, whose threads share a heap and have a stack of 8 MiB each.
 MEMORY = 2**30
 ONE_HEAP = {"MALLOC_ARENA_MAX": "1"}
 CANNOT_START = b"pc-sim: cannot start\n"
+GIVEN_UP = b"pc-sim: run GaveUp\n"
+# Of a run with a limit these growths are refused, each with all later ones: threads begin, talk and end there.
+LIMITED = range(100, 201, 4)
 NAMES = ["NotToml", "BadField", "BadStep", "BadCpus", "TooManyThreads", "BadThread", "BadRestart"]
 FAULT = re.compile(rf"pc-sim: (cannot read|settings ({'|'.join(NAMES)}))\n".encode())
 TOTALS = r"threads (\d+)\nmessages (\d+)\ncommits (\d+)\nran (\d+)\n"
@@ -99,48 +103,52 @@ def fault_of_per_cpu(machine, subject):
     return told(run)
 
 
-class Waits:
-    """How many runs were ended because they still waited."""
-
-    def __init__(self):
-        self.count = self.runs = 0
-
-    def fault_of(self, ample, run):
-        """What is wrong where a growth was refused. The run may wait; else it is as the ample one, or tells that memory ran out."""
-        self.runs += 1
-        if run.status is None:
-            self.count += 1
-            return None if ample.out.startswith(run.out) else "it waits, and wrote something else"
-        if (run.status, run.out, run.err) == (ample.status, ample.out, ample.err):
-            return None
-        if run.status == 4 and run.err in (OUT_OF_MEMORY, CANNOT_START) and ample.out.startswith(run.out) and run.out[-1:] in (b"", b"\n"):
-            return None
-        return told(run)
+def fault_of_refused(ample, run):
+    """What is wrong where a growth was refused. No run waits on: it is as the ample one, or tells that memory ran out."""
+    if (run.status, run.out, run.err) == (ample.status, ample.out, ample.err):
+        return None
+    if run.status == 4 and run.err in (OUT_OF_MEMORY, CANNOT_START) and ample.out.startswith(run.out) and run.out[-1:] in (b"", b"\n"):
+        return None
+    return told(run)
 
 
-def trials_of_growths(machine, waits, subject, most):
+def fault_of_limited(ample, run):
+    """The same of a run with a limit, which may also have been over."""
+    return None if (run.status, run.out, run.err) == (3, b"", GIVEN_UP) else fault_of_refused(ample, run)
+
+
+def trials_of_growths(machine, subject, most):
     """(name, function) of the runs of one row with growths refused. Which growth has which number depends on the schedule."""
     ample = machine.run(subject)
-    step = max(1, ample.growths // most)
-    for place in sorted({*range(1, ample.growths + 1, step), *range(max(1, ample.growths - LAST), ample.growths + 1)}):
-        for setting in (f"{place}", f"{place}.."):
-            yield (f"growth {setting} of {subject.name}",
-                   lambda setting=setting: waits.fault_of(ample, machine.run(subject, seconds=SECONDS, growth=setting)))
+    last, step = ample.growths + 1, max(1, ample.growths // most)
+    for place in sorted({*range(1, last, step), *range(max(1, last - 1 - LAST), last)}):
+        for growth in (f"{place}", f"{place}.."):
+            run = partial(machine.run, subject, growth=growth)
+            yield f"growth {growth} of {subject.name}", lambda run=run: fault_of_refused(ample, run())
+
+
+def trials_of_limited(machine):
+    """(name, function) of runs with a limit of a second, of which all growths are refused from one on: each ends by itself."""
+    words = ["run", str(ROOT / "examples/steals-and-restarts.toml")]
+    ample = machine.run(Subject("", words, environment=ONE_HEAP))
+    subject = Subject("", [*words, "--limit", "1"], environment=ONE_HEAP)
+    for place in LIMITED:
+        setting = f"{place}.."
+        yield (f"growth {setting} of a run with a limit",
+               lambda setting=setting: fault_of_limited(ample, machine.run(subject, seconds=SECONDS, growth=setting)))
 
 
 def use_rows(machine, tally, most):
     """The rows, the deep texts, and the rows with some so many growths refused."""
     every = list(accepted(machine.folder))
-    tally.try_all(
-        (subject.name, lambda it=subject: fault_of_ample(it, machine.run(it)))
-        for subject in [*every, *faulty(machine.folder)])
+    ample = [*every, *faulty(machine.folder)]
+    tally.try_all((it.name, lambda it=it: fault_of_ample(it, machine.run(it))) for it in ample)
     tally.try_all((f"{it.name} --per-cpu", lambda it=it: fault_of_per_cpu(machine, it)) for it in every)
     for name, text in DEEP.items():
         subject = Subject("", ["run", str(written(machine.folder, name, text))], environment=ONE_HEAP)
         tally.try_all([(f"settings of {name}", lambda it=subject: fault_of_totals(machine.run(it)))])
-    waits = Waits()
-    tally.try_all(trial for subject in every for trial in trials_of_growths(machine, waits, subject, most))
-    tally.note(f"of {waits.runs} runs of settings with a growth refused {waits.count} still waited after {SECONDS} s, and were ended")
+    tally.try_all(trial for subject in every for trial in trials_of_growths(machine, subject, most))
+    tally.try_all(trials_of_limited(machine))
 
 
 ODD_VALUES = [0, -1, 1, 64, 65, 1001, 2**32 - 1, 2**32, 2**63 - 1, 2**63, 2**64, 10**40, "nan", "1.5", "true", "1979-05-27"]
@@ -168,17 +176,9 @@ def spoilt(chance, text):
     """The settings with words dropped, doubled or exchanged, numbers at and past bounds, or bytes drawn at random."""
     words = re.findall(r"\w+|\s+|[^\w\s]", text)
     for _ in range(chance.choice([1, 1, 2, 4])):
-        place, how = chance.randrange(len(words)), chance.randrange(5)
-        if how == 0:
-            words[place] = ""
-        elif how == 1:
-            words[place] *= 2
-        elif how == 2:
-            words[place] = words[chance.randrange(len(words))]
-        elif how == 3:
-            words[place] = str(chance.choice(ODD_VALUES))
-        else:
-            words[place] = bytes(chance.randrange(256) for _ in range(3)).decode("latin-1")
+        place, other = chance.randrange(len(words)), chance.choice(words)
+        drawn = bytes(chance.randrange(256) for _ in range(3)).decode("latin-1")
+        words[place] = chance.choice(["", 2 * words[place], other, str(chance.choice(ODD_VALUES)), drawn])
     return "".join(words).encode("latin-1" if chance.random() < 0.5 else "utf-8")
 
 
@@ -204,9 +204,7 @@ def fault_of_drawn(machine, place):
         run = machine.run(Subject("", words, environment=ONE_HEAP), seconds=SECONDS if waits else MOST_SECONDS, memory=MEMORY)
         if run.status is None and waits:
             return None
-        if wanted is not None and run.status != 0:
-            return told(run)
-        return fault_of_totals(run, wanted)
+        return told(run) if wanted is not None and run.status != 0 else fault_of_totals(run, wanted)
     finally:
         file.unlink()
 

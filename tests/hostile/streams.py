@@ -1,6 +1,7 @@
 """Reads and writes that fail, move one byte at a time, or are interrupted, and outputs that are closed, full or broken."""
 import dataclasses
 import errno
+import itertools
 import os
 import pathlib
 import subprocess
@@ -11,8 +12,8 @@ from settings import ROWS, written
 from subjects import OPENING, examples, variants
 
 CANNOT_READ = b"pc-sim: cannot read\n"
-READ_ERRORS = [errno.EIO, errno.EISDIR, errno.EAGAIN]
-WRITE_ERRORS = [errno.ENOSPC, errno.EIO, errno.EPIPE, errno.EBADF, errno.EAGAIN]
+READ_ERRORS = [errno.EIO, errno.EISDIR, errno.EAGAIN, errno.ENOMEM]
+WRITE_ERRORS = [errno.ENOSPC, errno.EIO, errno.EPIPE, errno.EBADF, errno.EAGAIN, errno.EFBIG]
 LONG = 3000
 
 
@@ -161,22 +162,24 @@ class Streams:
 
     def bad_output(self, how):
         """An output that takes nothing at all."""
-        run = run_with_output(self.machine.program, self.subject, how, self.broken)
+        run = run_by_bash(OUTPUTS[how], self.machine, self.subject, self.broken)
         if not self.subject.out:
             return fault_of_same(self.subject, run)
         return fault_of_write(self.subject, run)
 
 
-OUTPUTS = ("closed", "full", "broken")
+# By what line of bash the program is started whose standard output takes nothing, or else is a pipe that nobody reads. A file that
+# may not grow is one by status where the signal is ignored, as by the launcher.
+OUTPUTS = {
+    "closed": 'exec "$@" >&-', "full": 'exec "$@" >/dev/full', "broken": 'exec "$@"',
+    "bounded": 'trap "" XFSZ; ulimit -f 0; exec "$@" >"$0/bounded"',
+}
 
 
-def run_with_output(program, subject, how, broken):
-    """Runs the program, without the library, on a standard output that is closed, a full disk, or a pipe that nobody reads."""
-    words = [str(program), *subject.words]
-    if how == "closed":
-        words = ["bash", "-c", 'exec "$@" >&-', "bash", *words]
-    with open(subject.input or os.devnull, "rb") as given, open("/dev/full", "wb") as full:
-        out = {"closed": subprocess.DEVNULL, "full": full, "broken": broken}[how]
+def run_by_bash(line, machine, subject, out=subprocess.DEVNULL):
+    """Runs the program, without the library, by such a line."""
+    with open(subject.input or os.devnull, "rb") as given:
+        words = ["bash", "-c", line, str(machine.folder), str(machine.program), *subject.words]
         child = subprocess.Popen(words, cwd=subject.folder, stdin=given, stdout=out, stderr=subprocess.PIPE)
         status = ended(child, SECONDS)
         return Run(status, b"", ending_of(child.stderr.read()), 0, 0, 0, 0, 0, 0, 0)
@@ -192,7 +195,7 @@ def disturb_streams(machine, tally, folder, most):
         tally.try_all(trial for streams in every for trial in streams.trials())
     finally:
         os.close(broken)
-    tally.try_all(of_texts(machine))
+    tally.try_all(itertools.chain(of_texts(machine), of_closed(machine)))
 
 
 def of_texts(machine):
@@ -210,3 +213,28 @@ def of_texts(machine):
 
     yield "write 1.. ENOSPC of help", fault_of_help
     yield "write 1.. EIO to standard error", fault_of_silence
+
+
+def of_closed(machine):
+    """The script of a run has nothing of what goes to streams that are closed, and variants are not read of the load's file."""
+    settings = written(machine.folder, "closed streams", ROWS["one thread"][0])
+    load = pathlib.Path(next(streamed()).words[-1])
+
+    def fault_of_script(numbers):
+        script = machine.folder / f"closed {numbers}.script"
+        run = Subject("", ["run", "--script", str(script), str(settings)], status=1 if "1" in numbers else 0)
+        line = 'exec "$@"' + "".join(f" {it}>&-" for it in numbers)
+        made = run_by_bash(line, machine, run)
+        if made.status != run.status or made.err not in (b"", CANNOT_READ):
+            return told(made)
+        replayed = machine.run(Subject("", ["replay", str(script)]))
+        return None if replayed.status == 0 and replayed.out else told(replayed)
+
+    def fault_of_variants():
+        run = run_by_bash('exec "$@" <&-', machine, Subject("", ["lab", "--variants", "-", str(load)]))
+        return None if (run.status, run.err) == (1, CANNOT_READ) else told(run)
+
+    for count in (1, 2, 3):
+        for numbers in map("".join, itertools.combinations("012", count)):
+            yield f"script of a run without {numbers}", lambda numbers=numbers: fault_of_script(numbers)
+    yield "variants of a closed standard input", fault_of_variants

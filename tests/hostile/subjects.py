@@ -4,9 +4,10 @@ import pathlib
 import subprocess
 import sys
 
-from machine import HERE, ROOT, Subject, ending_of
+from machine import ROOT, Subject, ending_of
 from run_cases import Case, all_cases
 from settings import TEXTS, faulty
+from worst import write
 
 GENERATED = ["first-run", "kernel-calls", "late", "late-batches", "scattered", "answer-half", "rounds", "steals", "day", "restarts"]
 NO_COMMAND = b"pc-sim: bad command line\n"
@@ -63,16 +64,12 @@ def generated(folder, lines):
 
 def greatest(folder):
     """Accepted scripts of the greatest length, of the most threads, messages, and rows of one answer."""
-    texts = {
-        "posts": ["posts", "1100000"], "threads": ["threads", "2"], "answers": ["answers", "3"], "early": ["early", "2", "500000"],
-    }
-    for name, words in texts.items():
-        file = pathlib.Path(folder) / f"{name}.greatest"
-        with open(file, "wb") as out:
-            subprocess.run([sys.executable, str(HERE / "worst.py"), *words], stdout=out, check=True)
-        with open(file, "ab") as out:
-            out.write(b"show 63\nsame 0 63\n" * 2)
-        yield Subject(f"the most {name}", ["replay", str(file)], out=None)
+    for words in ("posts 1100000", "threads 2", "answers 3", "early 2 500000"):
+        file = pathlib.Path(folder) / f"{words}.greatest"
+        with open(file, "w") as out:
+            write(words.split(), out)
+            out.write("show 63\nsame 0 63\n" * 2)
+        yield Subject(f"the most {words.split()[0]}", ["replay", str(file)], out=None)
     file = pathlib.Path(folder) / "words.greatest"
     file.write_bytes(OPENING + b"1 " * (MOST_BYTES // 2 - len(OPENING)))
     yield Subject("the most words", ["replay", str(file)], out=b"ok\nfault line 2\n", status=1)

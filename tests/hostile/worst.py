@@ -2,10 +2,10 @@
 """Accepted scripts that want the most memory, of at most 16 MiB, settings of at most 1 MiB, and loads of the lab of at most 16 MiB.
 
     worst.py NAME NUMBER ..            writes the script, the settings, or the load
-    worst.py measure PROGRAM           runs PROGRAM on each of MEASURED, and prints length, greatest memory, seconds, those of a processor,
-                                       and how it ended
-    worst.py measure-settings PROGRAM  the same of MEASURED_SETTINGS, with 6 GiB of address space and a minute for each
-    worst.py measure-loads PROGRAM     the same of MEASURED_LOADS, with five minutes for each
+    worst.py measure PROGRAM           runs PROGRAM on scripts that texts.toml names, and prints length, greatest
+                                       memory, seconds, those of a processor, and how it ended
+    worst.py measure-settings PROGRAM  the same of its settings, with 6 GiB of address space and a minute for each
+    worst.py measure-loads PROGRAM     the same of its loads, with five minutes for each
 
     publishes N                  a queue of 65,536 items, published N times: each delta is kept
     answers N                    65,535 threads that one agent knows and another does not, answered N times
@@ -97,10 +97,6 @@ def early(agents, count, answered=0):
     yield "answer 63 62\n" * answered
 
 
-def early_answers(count, answered):
-    yield from early(1, count, answered)
-
-
 def early_threads(agents, each):
     yield from created()
     yield "consume 0\n"
@@ -130,19 +126,13 @@ def filled(head, entry, tail="", most=MOST_SETTINGS):
     yield tail
 
 
-def nested():
-    inner = ".".join("a" * 80)
-    yield from filled("cpus=1\n", "#n" + inner[1:] + "=" + f"{{{inner}=" * 79 + "1" + "}" * 79 + "\n")
-
-
-def mask_of(home, cpus, anywhere):
-    return min(2**cpus, 2**63) - 1 if anywhere else 2**home
+NESTED = ".".join("a" * 80)
 
 
 def living(cpus, threads, anywhere, tail=""):
     """Threads that share the steps that there is room for: blocks, and a die."""
-    homes = min(cpus, 63)
-    heads = [f"{{queue={n % homes},mask={mask_of(n % homes, cpus, anywhere)},steps=[" for n in range(threads)]
+    homes, everywhere = min(cpus, 63), min(2**cpus, 2**63) - 1
+    heads = [f"{{queue={n % homes},mask={everywhere if anywhere else 2**(n % homes)},steps=[" for n in range(threads)]
     step, ending = '"block 0",', '"die 0"]},\n'
     room = MOST_SETTINGS - len(f"cpus={cpus}\nthread=[\n]\n{tail}") - sum(map(len, heads)) - threads * len(ending)
     each = min(999, room // (threads * len(step)))
@@ -196,32 +186,19 @@ def late(names, until):
 
 
 SCRIPTS = {
-    "publishes": publishes, "answers": answers, "early-answers": early_answers, "threads": threads, "early": early,
+    "publishes": publishes, "answers": answers, "early-answers": partial(early, 1), "threads": threads, "early": early,
     "early-threads": early_threads, "posts": posts,
 }
 SETTINGS = {
     **{name: partial(filled, *row) for name, row in TEXTS["longest"].items()},
     "dotted": lambda most=MOST_SETTINGS: filled("cpus=1\n", "#n" + ".a" * 79 + "=1\n", most=most),
-    "nested": nested,
+    "nested": lambda: filled("cpus=1\n", f"#n{NESTED[1:]}=" + f"{{{NESTED}=" * 79 + "1" + "}" * 79 + "\n"),
     "keys": lambda most=MOST_SETTINGS: filled("cpus=1\n", "#n=1\n", most=most),
     "tables": lambda most=MOST_SETTINGS: filled("cpus=1\na=[", "{a=1},", "]\n", most),
     "lives": living,
     "restarts": restarts,
 }
 LOADS = {"blocks": blocks, "quanta": quanta, "late": late}
-MEASURED = [
-    "posts 1150000", "publishes 1", "publishes 100", "answers 1", "answers 100", "early-answers 1100000 1", "early-answers 1100000 5",
-    "threads 1", "threads 11", "early 1 1100000", "early 6 1100000", "early-threads 1 9", "early-threads 6 9",
-]
-MEASURED_SETTINGS = [
-    "dotted", "nested", "keys", "headers", "rows", "lines", "comments", "arrays", "lone-arrays", "tables", "numbers", "texts", "text", "key", "escapes", "steps",
-    "lives 1 105 0", "lives 8 105 0", "lives 64 105 0", "lives 1 4096 0", "lives 64 4096 0", "lives 2 1 1", "lives 4 1 1", "lives 8 1 1",
-    "lives 64 1 1", "lives 64 64 1", "restarts 2 4096 2", "restarts 64 4096 2",
-]
-MEASURED_LOADS = [
-    "dotted 4194304", "dotted 16777216", "tables 16777216", "keys 16777216", "blocks 1", "blocks 16", "quanta 2 1", "quanta 2 16", "quanta 30 1",
-    "quanta 70 1", "late 0 2000", "late 4032 2000",
-]
 # What settings and loads may take, since some runs end only after hours.
 MOST_MEMORY = 6 * 2**30
 MOST_SECONDS = 60
@@ -265,6 +242,13 @@ def taken(words, seconds, limit):
     return used.ru_maxrss, took, used.ru_utime + used.ru_stime, ended
 
 
+# By the first word what runs a text, for how many seconds at most, and what bounds it.
+MEASURED = {
+    "measure": ("replay",), "measure-settings": ("run", MOST_SECONDS, bound),
+    "measure-loads": ("lab", MOST_SECONDS_OF_LOADS, bound),
+}
+
+
 def measure(program, command, every, seconds=None, limit=None):
     """A line of the table for each script or settings."""
     print("| text | bytes | greatest memory | seconds | of a processor | ended |\n|---|---|---|---|---|---|")
@@ -279,12 +263,10 @@ def measure(program, command, every, seconds=None, limit=None):
 
 def main():
     words = sys.argv[1:]
-    if len(words) == 2 and words[0] == "measure":
-        measure(words[1], "replay", MEASURED)
-    elif len(words) >= 2 and words[0] == "measure-settings":
-        measure(words[1], "run", words[2:] or MEASURED_SETTINGS, MOST_SECONDS, bound)
-    elif len(words) >= 2 and words[0] == "measure-loads":
-        measure(words[1], "lab", words[2:] or MEASURED_LOADS, MOST_SECONDS_OF_LOADS, bound)
+    how = MEASURED.get(words[0]) if words else None
+    if how and len(words) >= 2 and (words[0] != "measure" or len(words) == 2):
+        command, *bounds = how
+        measure(words[1], command, words[2:] or TEXTS["measured"][words[0]], *bounds)
     elif words and words[0] in {**SCRIPTS, **SETTINGS, **LOADS}:
         write(words, sys.stdout)
     else:
