@@ -80,25 +80,20 @@ class Told:
         return [line for line, times in self.steps for _ in range(times)]
 
 
-def explained(output: str) -> Iterator[tuple[int, str, str, list[str]]]:
-    """The blocks of an explained script: a line's number, its text, the last line of its answer, and sentences."""
-    for number, line, block in re.findall(r"^# (\d+): (.*)\n((?:(?!# \d+: ).*\n)*)", output, re.M):
-        answer = [it for it in block.splitlines() if not it.startswith("#")]
-        yield int(number), line, answer[-1] if answer else "", re.findall(r"^#    (.*)$", block, re.M)
-
-
 def told_of(script: str, output: str) -> Iterator[Told | str]:
     """Of each refused line what is told, or a text that says that nothing is told of it in one of the forms."""
-    for number, line, answer, sentences in explained(output):
+    for number, line, block in re.findall(r"^# (\d+): (.*)\n((?:(?!# \d+: ).*\n)*)", output, re.M):
+        answer = next((it for it in reversed(block.splitlines()) if not it.startswith("#")), "")
         if not answer.startswith("refused ") or answer.split()[1] in SESSION:
             continue
+        sentences = re.findall(r"^#    (.*)$", block, re.M)
         found = [(form, match) for form, pattern in FORMS.items() for text in sentences if (match := re.fullmatch(pattern, text))]
         if len(found) != 1:
             yield f"{' '.join(line.split())}: {answer}: {sentences}"
             continue
         form, match = found[0]
         steps = tuple((text, int(times or 1)) for text, times in re.findall(STEP, match[1])) if match.groups() else ()
-        yield Told(script, number, line, answer.split()[1], form, steps)
+        yield Told(script, int(number), line, answer.split()[1], form, steps)
 
 
 def drawn_script(place: int) -> str:
@@ -123,14 +118,6 @@ def drawn_script(place: int) -> str:
     if given:
         lines[:1] = ["version 3", lines[0], f"policy {given}"]
     return "\n".join(lines) + "\n"
-
-
-def world_behind(lines: list[str]) -> World:
-    talk = Talk()
-    for line in lines:
-        talk.take(line.encode())
-    assert talk.world is not None
-    return talk.world
 
 
 def deeds_in(world: World) -> list[str]:
@@ -174,15 +161,6 @@ def answers_to(scripts: list[list[str]]) -> list[list[str]]:
     return [last_lines(output) for output in run_all("replay", ["\n".join([*lines, ""]) for lines in scripts])]
 
 
-def all_told() -> list[Told | str]:
-    """What is told of each refused line of the drawn scripts, most of whose lines have the numbers of now."""
-    scripts = [drawn_script(place) for place in range(DRAWN)]
-    chance = random.Random("mended")
-    for _ in range(2):
-        scripts = [mended(script, lambda: chance.random() < 0.8) for script in scripts]
-    return [told for script, output in zip(scripts, run_all("explain", scripts)) for told in told_of(script, output)]
-
-
 def hold(what: str, wrong: list[str], count: int) -> None:
     """There are some, and none of them is wrong."""
     assert not wrong, f"{len(wrong)} of {count}: {what}; the first:\n" + "\n".join(wrong[:3])
@@ -191,8 +169,11 @@ def hold(what: str, wrong: list[str], count: int) -> None:
 
 def test_what_is_told_is_accepted() -> None:
     """All of it in one test, since what is told is looked for once."""
-    every, chance = all_told(), random.Random("searched")
-    told = [it for it in every if isinstance(it, Told)]
+    scripts, chance = [drawn_script(place) for place in range(DRAWN)], random.Random("mended")
+    for _ in range(2):  # most lines have the numbers of now
+        scripts = [mended(script, lambda: chance.random() < 0.8) for script in scripts]
+    every = [told for script, output in zip(scripts, run_all("explain", scripts)) for told in told_of(script, output)]
+    told, chance = [it for it in every if isinstance(it, Told)], random.Random("searched")
 
     def some(of: list[Told]) -> list[Told]:
         return chance.sample(of, min(SEARCHED, len(of)))
@@ -238,7 +219,10 @@ def helped(told: list[Told], many: int, is_environments: bool = False) -> tuple[
     """Which of the lines are accepted behind so many deeds of agents, or calls of the environment, and how many lists of them were tried."""
     tried, wrong = [], []
     for it in told:
-        world = world_behind(it.begin())
+        talk = Talk()
+        for line in it.begin():
+            talk.take(line.encode())
+        world = talk.world
         for deeds in itertools.product(calls_in(world) if is_environments else deeds_in(world), repeat=many):
             tried += [(it, [*it.begin(), *deeds, numbered(world, it.line, more)]) for more in range(is_environments + 1)]
     for (it, lines), answers in zip(tried, answers_to([lines for _, lines in tried])):

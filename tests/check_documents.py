@@ -37,7 +37,8 @@ from functools import partial
 import tidy
 
 sys.path.insert(0, str(pathlib.Path(__file__).resolve().parent.parent / "tools"))
-from sources import IDENTIFIER, LEFT_BY, ROOT, Sources  # noqa: E402  # it stands beside the tools that share it
+import definitions  # noqa: E402  # it stands beside the tools
+from sources import IDENTIFIER, LEFT_BY, ROOT, Sources  # noqa: E402
 
 SPAN = re.compile(r"`([^`]+)`")
 FILE_NAME = re.compile(r"[\w./*-]+\.(?:rt|antt|edit|md|py|txt|script|output)|[\w.*-]+/[\w./*-]*")
@@ -119,20 +120,15 @@ class Checker:
     def functions_at(self, crates, path):
         """The functions that a path of names stands for: `name`, `Type::name`, `module::name`, `tests::module::name`."""
         *above, name = path
-        found = []
-        for crate in crates:
-            for function in crate.tests if above[:1] == ["tests"] else crate.functions:
-                if function.name != name:
-                    continue
-                if not above or function.owner == above[-1] or (not function.owner and function.module.split("/") == above):
-                    found.append(function)
-        return found
+        every = (it for crate in crates for it in (crate.tests if above[:1] == ["tests"] else crate.functions))
+        named = (it for it in every if it.name == name)
+        return [it for it in named if not above or it.owner == above[-1] or not it.owner and it.module.split("/") == above]
 
     def is_definition(self, crates, name):
         module, word = name.rsplit(".", 1)
-        own = [crate for crate in crates if module in crate.definitions]
-        where = own or [crate for crate in self.crates.values() if module in crate.definitions]
-        return any(word in crate.definitions[module] for crate in where)
+        own, every = ([it.definitions[module] for it in some if module in it.definitions]
+                      for some in (crates, self.crates.values()))
+        return any(word in words for words in own or every)
 
     def is_file(self, crates, name):
         places = [ROOT, ROOT / "docs", ROOT / "examples", *(crate.folder for crate in crates), *(crate.folder / "src" for crate in crates)]
@@ -171,13 +167,17 @@ class Checker:
                 self.expect(found and any(f.is_pub or path[0] == "tests" for f in found), where, f"there is no public function `{head}`")
                 types = [path[-2]]
             else:
-                found = self.methods(crate, types, head)
+                named = [f for f in crate.functions if f.name == head and f.is_pub]
+                # Those of the types that were named last, or else the crate's free one.
+                found = [f for f in named if f.owner in types] or [f for f in named if not f.owner and not types]
                 if not found and head in crate.types:
                     types = types + [head] if before.strip() == "and" else [head]
-                    self.expect_of_type(where, crate, head, clauses)
+                    own = {clause for f in crate.functions if f.owner == head for clause in self.sources.clauses_of(f)}
+                    for word in clauses:
+                        has = (head, word) in crate.met or word in own
+                        self.expect(has, where, f"`{head}` has no clause `{word}` and meets no such trait")
                     continue
-                if not found and not (types and clauses):
-                    found = [f for f in crate.functions if f.name == head and f.is_pub]
+                found = found if found or types and clauses else named
                 if not found and not clauses:
                     in_tests = "`tests::" in cell and any(f.name == head for f in crate.tests)
                     self.expect(in_tests or self.is_known(head), where, f"nothing is named `{head}`")
@@ -190,28 +190,9 @@ class Checker:
                 carried = any(set(clauses) <= self.sources.clauses_of(f) for f in found)
                 self.expect(carried, where, f"no `{head}` has the clauses {', '.join(clauses)}")
 
-    def methods(self, crate, types, name):
-        """The functions of this name of the types that were named last, or else the crate's free one."""
-        own = [f for f in crate.functions if f.name == name and f.owner in types and f.is_pub]
-        return own or [f for f in crate.functions if f.name == name and not f.owner and f.is_pub and not types]
-
     def expect_clauses(self, where, function, clauses):
         for clause in clauses:
             self.expect(clause in self.sources.clauses_of(function), where, f"`{function}` has no clause `{clause}`")
-
-    def expect_of_type(self, where, crate, name, words):
-        """What stands behind a type's name: traits that it meets, or clauses of its functions."""
-        for word in words:
-            has = (name, word) in crate.met or any(word in self.sources.clauses_of(f) for f in crate.functions if f.owner == name)
-            self.expect(has, where, f"`{name}` has no clause `{word}` and meets no such trait")
-
-    def hold_promised(self, where, crate, cell):
-        """What says a promise: whatever it names is there."""
-        for text in SPAN.findall(cell):
-            path = text.split("::")
-            if all(IDENTIFIER.fullmatch(part) for part in path):
-                found = [f for f in self.functions_at([crate], path) if f.is_pub]
-                self.expect(found or self.is_known(path[-1]), where, f"nothing is named `{text}`")
 
     def check_promises(self):
         for item in items_of("docs/PROMISES.md", ["carried by"]):
@@ -223,7 +204,10 @@ class Checker:
             carriers = item.below.get("carried by", "")
             self.expect(carriers, item.where, "no line `carried by` stands below it")
             if crate:
-                self.hold_promised(item.where, crate, item.text)
+                for path in (text.split("::") for text in SPAN.findall(item.text)):
+                    if all(IDENTIFIER.fullmatch(part) for part in path):
+                        found = any(f.is_pub for f in self.functions_at([crate], path)) or self.is_known(path[-1])
+                        self.expect(found, item.where, f"nothing is named `{'::'.join(path)}`")
                 self.hold_carriers(item.where, crate, carriers)
 
     def check_public(self):
@@ -287,17 +271,13 @@ class Checker:
 
     def check_definitions(self):
         """Each definition has a comment, and the page of definitions has all of them."""
-        made = subprocess.run([sys.executable, ROOT / "tools/definitions.py"], capture_output=True, text=True, check=True).stdout
-        bare = subprocess.run([sys.executable, ROOT / "tools/definitions.py", "--bare"], capture_output=True, text=True)
-        self.checked += made.count("\n- `")
-        for line in bare.stdout.splitlines() if bare.returncode else []:
-            self.findings.append(line)
+        self.checked += definitions.document().count("\n- `")
+        self.findings += definitions.bare()
 
     def check_names(self):
         documents = [ROOT / name for name in ("README.md", "CHANGELOG.md", "CONTRIBUTING.md", "examples/README.md")]
-        for path in [*documents, *sorted((ROOT / "docs").glob("*.md"))]:
-            if not path.is_file():
-                continue
+        everywhere = list(self.crates.values())
+        for path in filter(pathlib.Path.is_file, [*documents, *sorted((ROOT / "docs").glob("*.md"))]):
             for number, paragraph in paragraphs_of(path):
                 where = f"{path.relative_to(ROOT)}:{number}"
                 if path.name == "PROMISES.md" and paragraph.lstrip().startswith("- "):
@@ -305,19 +285,15 @@ class Checker:
                 for text in SPAN.findall(paragraph):
                     parts = text.split(": ")[0].split("::")
                     if len(parts) > 1 and all(IDENTIFIER.fullmatch(part) for part in parts):
-                        self.expect(self.is_item(parts), where, f"there is no `{text}`")
+                        # A function, a variant, a field, a constant or a ghost of a type, or an item of a module.
+                        owners = [it for it in everywhere if parts[-2] in it.types or parts[-2] in self.crates]
+                        is_there = self.functions_at(everywhere, parts) or any(it.knows(parts[-1]) for it in owners)
+                        self.expect(is_there, where, f"there is no `{text}`")
                     elif re.fullmatch(r"[A-Z][a-z]\w*\.[A-Za-z_]\w*", text) and not FILE_NAME.fullmatch(text):
                         self.expect(self.is_definition([], text), where, f"there is no definition `{text}`")
                     elif re.fullmatch(r"(?:\w+/)+[\w./-]+\.(?:rt|antt|md|py|script|output)", text):
                         holds = self.is_file(self.crates.values(), text)
                         self.expect(holds, where, f"there is no file `{text}`")
-
-    def is_item(self, parts):
-        """A function, a variant, a field, a constant or a ghost of a type, or an item of a module."""
-        everywhere = list(self.crates.values())
-        if self.functions_at(everywhere, parts):
-            return True
-        return any((parts[-2] in crate.types or parts[-2] in self.crates) and crate.knows(parts[-1]) for crate in everywhere)
 
     def check_crates(self):
         below = {}
@@ -356,15 +332,12 @@ class Checker:
             self.expect(reasons.get(name) == reason, where, f"`{name}` has not the words `{reasons.get(name)}` of crates/pc_explain/src/reasons.rt")
 
     def check_examples(self):
-        inputs = {".script", ".toml"}
-        page = ROOT / "examples/README.md"
-        told = set(SPAN.findall(page.read_text())) if page.is_file() else set()
-        folder = ROOT / "examples"
-        for example in sorted(folder.glob("**/*.*")):
+        inputs, folder = {".script", ".toml"}, ROOT / "examples"
+        page = folder / "README.md"
+        told = set(SPAN.findall(page.read_text()))
+        for example in sorted(it for it in folder.glob("**/*.*") if it != page):
             name = str(example.relative_to(folder))
-            if example == page:
-                continue
-            is_told = name in told or any(fnmatch.fnmatchcase(name, it) for it in told if "*" in it)
+            is_told = any(fnmatch.fnmatchcase(name, it) for it in told)
             self.expect(is_told, "examples/README.md", f"it does not tell of `{name}`")
             if example.suffix in inputs and example.parent == folder:
                 self.expect(example.with_suffix(".output").is_file(), f"examples/{name}", "it has no output beside it")
@@ -373,12 +346,13 @@ class Checker:
                 self.expect(beside, f"examples/{name}", "it has no script or settings beside it")
 
     def check_shown_code(self):
-        tests = {path: [line.strip() for line in path.read_text().splitlines()] for path in sorted(ROOT.glob("crates/pc_*/src/**/*.rt"))}
-        tests = {path: "\n".join(lines) for path, lines in tests.items() if "#[test]" in lines}
+        sources = (path.read_text().splitlines() for path in ROOT.glob("crates/pc_*/src/**/*.rt"))
+        every = ([line.strip() for line in lines] for lines in sources)
+        tests = ["\n".join(lines) for lines in every if "#[test]" in lines]
         for root in sorted(ROOT.glob("crates/*/src/lib.rt")):
             docs = "\n".join(line[3:].strip() for line in root.read_text().splitlines() if line.startswith("//!"))
             for block in docs.split("```")[1::2]:
-                stands = any(block.strip() in text for text in tests.values())
+                stands = any(block.strip() in text for text in tests)
                 self.expect(stands, str(root.relative_to(ROOT)), "the code that it shows is in no test")
 
     def check_versions(self):
@@ -392,10 +366,11 @@ class Checker:
         page = re.search(r'^\.TH PC-SIM 1 ([\d-]+) "pc-sim ([\d.]+)" ', (ROOT / "docs/pc-sim.1").read_text(), re.M)
         is_dated = release and page and release.groups() == (page[2], page[1])
         self.expect(bool(is_dated), "docs/pc-sim.1", "its version and date are not those of CHANGELOG.md")
-        kit = re.search(r"`(rattle-kit-[^`]*)`", (ROOT / "README.md").read_text())[1]
+        words = re.findall(r"`(rattle-kit-\w+|logic \w+)`", (ROOT / "README.md").read_text())
         if shutil.which("rt"):
             found = subprocess.run(["rt", "version"], capture_output=True, text=True, check=True).stdout.strip()
-            self.expect(found == kit, "README.md", f"the kit here is {found}, not {kit}")
+            kit, _, logic = found.partition(" ")
+            self.expect({kit, logic} <= {*words}, "README.md", f"the kit here is {found}, not one of {words}")
 
     def tidy(self, look):
         """What a function of tests/tidy.py looks at, and finds."""

@@ -27,7 +27,7 @@ sys.path.insert(0, str(CLIENT / "src"))
 os.environ["PYTHONPATH"] = str(CLIENT / "src")
 
 import nimhessian  # noqa: E402
-from nimhessian import Died, Posted, Refused, World, commands  # noqa: E402
+from nimhessian import Refused, World, commands  # noqa: E402
 
 
 def refusal(world: World, command: commands.Command[object]) -> str:
@@ -38,15 +38,13 @@ def refusal(world: World, command: commands.Command[object]) -> str:
     return str(raised.exception)
 
 
-def sessions() -> dict[str, tuple[str]]:
-    """The parts of tests/client_session.txt, by their first lines."""
-    parts = re.split(r"^(?=\S.*\.\n\n)", (ROOT / "tests/client_session.txt").read_text(), flags=re.M)
-    return {part.partition(".\n")[0]: (part,) for part in parts if ">>>" in part}
+# The parts of tests/client_session.txt, by their first lines.
+SESSIONS = re.split(r"^(?=\S.*\.\n\n)", (ROOT / "tests/client_session.txt").read_text(), flags=re.M)
 
 
-@rig.each(sessions())
+@rig.each({part.partition(".\n")[0]: (part,) for part in SESSIONS if ">>>" in part})
 def test_session(text: str) -> None:
-    names = {**vars(nimhessian), "commands": commands, "refusal": refusal}
+    names = {**vars(nimhessian), "commands": commands, "refusal": refusal, "rig": rig}
     told = io.StringIO()
     tried = doctest.DocTestRunner().run(
         doctest.DocTestParser().get_doctest(text, names, "session", "client_session.txt", 0), out=told.write)
@@ -75,29 +73,6 @@ def test_every_refusal_is_a_class():
     told = (ROOT / "docs/FORMATS.md").read_text().split("## Refusals")[1].split("\n## ")[0]
     names = {line.split("`")[1].split(" ")[0] for line in told.splitlines() if line.startswith("- `")}
     same(names, set(nimhessian.errors.REFUSALS))
-
-
-def test_answers_stand_in_order():
-    with World(cpus=1) as world:
-        with world.batch() as batch:
-            made = [batch.create(0, 1) for _ in range(3000)]
-            shown, wrong, last = batch.show(0), batch.wake(3000), batch.tick(0)
-        posts = [Posted(place, 1, 0, place + 1, None) for place in range(3000)]
-        same([answer.get() for answer in made], posts)
-        same(shown.get(), {})
-        same(str(wrong.either()), "UnknownThread: wake t3000")
-        same(last.get().aseq, 3001)
-
-
-def test_views_in_a_batch_that_is_larger_than_a_pipe():
-    with World(cpus=1, threads=4096) as world:
-        with world.batch() as batch:
-            for _ in range(4096):
-                batch.create(0, 1)
-        world.publish(0)
-        with world.batch() as batch:
-            shown = [batch.show(0) for _ in range(40)]
-        same({len(answer.get()) for answer in shown}, {4096})
 
 
 def test_each_command_is_a_method_of_both():
@@ -137,17 +112,6 @@ def test_a_line_that_has_no_answer_is_not_sent():
     signal.signal(signal.SIGALRM, before)
 
 
-def test_nothing_is_sent_where_the_with_fails():
-    with World(cpus=1) as world:
-        with raises(KeyError):
-            with world.batch() as batch:
-                never = batch.create(0, 1)
-                raise KeyError
-        with raises(RuntimeError):
-            never.get()
-        same(world.create(0, 1).thread, 0)
-
-
 def test_many_are_fast():
     count = rig.options.fast or 20_000
     with World(cpus=1) as world:
@@ -162,31 +126,8 @@ def test_many_are_fast():
         assert took < count / 200_000
 
 
-def test_a_program_that_is_not_there():
-    with raises(Died) as raised:
-        World(cpus=1, program="/nowhere/pc-sim")
-    assert raised.exception.status is None
-
-
-def test_a_program_that_is_none():
-    with raises(Died) as raised:
-        World(cpus=1, program=shutil.which("false"))
-    same(raised.exception.status, 1)
-
-
-def test_a_program_that_is_killed():
-    with World(cpus=1) as world:
-        world._program._process.send_signal(signal.SIGKILL)
-        with raises(Died) as raised:
-            world.tick(0)
-        same(raised.exception.status, -signal.SIGKILL)
-
-
 def test_an_answer_that_was_not_waited_for_is_no_other_ones():
-    def interrupt(number, frame):
-        raise KeyboardInterrupt
-
-    signal.signal(signal.SIGALRM, interrupt)
+    signal.signal(signal.SIGALRM, signal.default_int_handler)
     with World(cpus=1) as world:
         process = world._program._process
         process.send_signal(signal.SIGSTOP)
@@ -197,23 +138,6 @@ def test_an_answer_that_was_not_waited_for_is_no_other_ones():
         for ask in (lambda: world.create(0, 1), lambda: world.tick(0)):
             with raises(nimhessian.Lost):
                 ask()
-
-
-def test_the_program_ends_with_the_world():
-    with World(cpus=1) as world:
-        process = world._program._process
-        assert process.poll() is None
-    same(process.returncode, 0)
-
-
-def test_a_record_is_a_script():
-    script = io.StringIO()
-    with World(cpus=2, record=script) as world:
-        posted = world.create(1, 2)
-        published = world.publish(1)
-    replayed = rig.ask("replay", given=script.getvalue()).stdout
-    same(replayed.splitlines()[-2:], ["ok t0 n1 q1 a1 wake -", "ok d0 items 1"])
-    same((posted.aseq, published.items), (1, 1))
 
 
 def test_what_documents_show():

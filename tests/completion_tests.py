@@ -18,13 +18,6 @@ from rig import ROOT, good, same
 
 PAGE = ROOT / "docs/pc-sim.1"
 BASH, FISH = (ROOT / f"tools/completions/pc-sim.{shell}" for shell in ("bash", "fish"))
-COMPLETE = """source "$1"
-shift
-COMP_WORDS=("$@")
-COMP_CWORD=$(($# - 1))
-_pc_sim
-printf '%s\\n' "${COMPREPLY[@]}"
-"""
 
 
 def help_of(*words: str) -> str:
@@ -53,7 +46,7 @@ def places() -> list[list[str]]:
 
 def bash(*words: str) -> list[str]:
     """What bash completes the last word to."""
-    told = good(rig.run("bash", "--norc", "-c", COMPLETE, "-", BASH, "pc-sim", *words, cwd=ROOT))
+    told = good(rig.run("bash", "--norc", ROOT / "tests/complete.bash", BASH, "pc-sim", *words, cwd=ROOT))
     return [word for word in told.split("\n") if word]
 
 

@@ -21,20 +21,11 @@ from collections.abc import Callable
 import rig
 from rig import ROOT, run
 
-EXAMPLES = [
-    ROOT / "examples/crash-and-steal.script",
-    ROOT / "examples/recordings/python-pool.script",
-    ROOT / "examples/steals-and-restarts.toml",
-]
+NAMES = ("crash-and-steal.script", "recordings/python-pool.script", "steals-and-restarts.toml")
+EXAMPLES = [ROOT / "examples" / name for name in NAMES]
 FLAGS = ["--headless", "--no-sandbox", "--disable-gpu", "--hide-scrollbars", "--force-device-scale-factor=1"]
 # What the browser tells of a picture that it has parsed: how many elements are shown, and how many have a title.
-PAGE = """<!DOCTYPE html><title>?</title><body style="margin:0"><script>
-const parsed = new DOMParser().parseFromString({text}, "image/svg+xml");
-const faults = parsed.getElementsByTagName("parsererror").length;
-const picture = document.body.appendChild(document.importNode(parsed.documentElement, true));
-const shown = [...picture.querySelectorAll("rect, line, path, text")].filter(e => e.getBBox && (e.getBBox().width || e.getBBox().height)).length;
-document.title = `faults ${{faults}} shown ${{shown}} titles ${{picture.querySelectorAll("* > title").length}}`;
-</script>"""
+PAGE = (ROOT / "tests/draw_in_browser.html").read_text()
 
 
 def asked(file: pathlib.Path) -> tuple[list[object], str]:
@@ -62,7 +53,7 @@ def shows(file: pathlib.Path) -> None:
     rig.options.to.mkdir(parents=True, exist_ok=True)
     svg, png = (rig.options.to / f"{name}{suffix}" for suffix in (".svg", ".png"))
     svg.write_bytes(drawn.stdout)
-    with rig.file(PAGE.format(text=repr(drawn.stdout.decode("ascii"))), "page.html") as page:
+    with rig.file(PAGE.replace("PICTURE", repr(drawn.stdout.decode("ascii"))), "page.html") as page:
         told = re.search(r"<title>faults (\d+) shown (\d+) titles (\d+)</title>", browse(page.parent, "--dump-dom", page.as_uri()))
         browse(page.parent, f"--screenshot={png}", f"--window-size={width},{height}", svg.resolve().as_uri())
     assert told, "the browser did not tell what it shows"

@@ -16,7 +16,7 @@ import rig
 import timed_drawings
 from kernel import answered, ticks_of
 from pictures import (
-    ENCLAVE, LEFT, MOST_SINGLE, ROWS, SCRIPTS, SETTINGS, SHAPES, SINGLE_WORDS, SVG, WHOLE, Bar, Element, Part, Picture, Words,
+    ENCLAVE, LEFT, MOST_SINGLE, ROWS, SCRIPTS, SETTINGS, SHAPES, SINGLE_WORDS, SVG, WHOLE, Element, Part, Picture, Words,
     answers_to, are_one, bars_in, bars_of, draw, drawn_script, edges_of, front_of, look_of, many, refused_words, shown_often, steps_of, story_of,
     width_of,
 )
@@ -39,8 +39,8 @@ COUNTS = {
 def shown_as(picture: Picture, part: str, lines: list[str]) -> list[str]:
     """What a picture has in place of these lines of a part of a case.
 
-    The `title`; of `words` those that stand anywhere in it, or its width; the numbers of `ticks` on its axis; the titles `told` of a pattern;
-    `bars`, from where to where, and `marks`, where, each of the titles of a pattern. So a part of `words`, `bars` or `marks` without a line
+    The `title`; of `words` those that stand anywhere in it, or its width; the numbers of `ticks` on its axis; `texts`
+    and titles `told` of a pattern; `bars`, from where to where, and `marks`, where, each of the titles of a pattern. So a part of `words`, `bars` or `marks` without a line
     holds of every picture.
     """
     kind, _, pattern = part.partition(" ")
@@ -50,6 +50,7 @@ def shown_as(picture: Picture, part: str, lines: list[str]) -> list[str]:
         return [" ".join([*(f"{at:g}" for at in place), it]) for it in dict.fromkeys(patterns) for place in places(it)]
     return {
         "title": lambda: [picture.title], "words": lambda: [it for it in lines if it in [*picture.texts, f"width {picture.width}"]],
+        "texts": lambda: [it for it in picture.texts if re.fullmatch(pattern, it)],
         "ticks": lambda: [" ".join(map(str, timed_drawings.labels(picture)))],
         "told": lambda: lines if picture.told(pattern) == Counter(lines) else sorted(picture.told(pattern).elements()),
     }[kind]()
@@ -107,18 +108,6 @@ def test_bars_of_parts_show_what_the_questions_answer() -> None:
     shown_often(shown_bars, drawn_script, DRAWN, DRAWN // 10, ROWS, True)
 
 
-def test_a_part_begins_with_how_things_stand_there() -> None:
-    script = ENCLAVE + "create 0 3 ready\ncreate 0 3 ready\npublish 0\ncommit 0 t0 2\nsleep 1 0\ntick 1\ntick 1\nblock 0 5\n"
-    root = draw(script, flags=("--lines", "7-8"))
-    same(root.title, "commands 9, refused 0")
-    bars = Counter({
-        Bar("runs", 0, 0, (0, 2), (7, 8)): 1, Bar("ready", 0, 1, (0, 2), (7, 8)): 1, Bar("queue", 0, 2, (0, 2), (7, 8)): 1,
-        Bar("queue", 1, 1, (0, 1), (7, 8)): 1, Bar("queue", 1, 2, (1, 2), (8, 8)): 1, Bar("idle", 1, 1, (0, 2), (7, 8)): 1,
-    })
-    same(bars_in(root, 2), bars)
-    same(root.told(r"line \d+: .*"), Counter(["line 7: tick 1", "line 8: tick 1"]))
-
-
 def test_a_part_has_the_lanes_that_are_asked_for() -> None:
     script = "enclave 4 8 100 16 1000\n" + "".join(f"create {cpu} 15 ready\n" for cpu in range(4))
     for word, lanes in (("0-3", [0, 1, 2, 3]), ("1-2", [1, 2]), ("2", [2]), ("3-9", [3]), ("4", []), ("4-4294967295", [])):
@@ -160,12 +149,6 @@ def test_a_part_tells_what_it_is_of() -> None:
         same(ends, ["fault line 32"] if not first or int(last or first) >= 32 else [])
 
 
-def test_a_part_may_have_no_step() -> None:
-    for flags in (("--lines", "9-10"), ("--lines", "0"), ("--lines", "2", "--cpus", "7")):
-        picture = draw("# one\n\n" + ENCLAVE + "tick 0\n", flags=flags)
-        same((picture.title, picture.told(r".*lines? \d+.*")), ("commands 2, refused 0", Counter()))
-
-
 def test_a_part_that_is_all_shows_all() -> None:
     for file in SCRIPTS:
         with rig.about(file.name):
@@ -185,14 +168,6 @@ def test_words_that_spell_no_numbers_are_a_bad_command_line() -> None:
         for word in NUMBERS:
             same(rig.ask("draw", flag, word, given=ENCLAVE).returncode, 0, word)
         same(rig.ask("draw", f"{flag}=1", given=ENCLAVE).stdout, rig.ask("draw", flag, "1-1", given=ENCLAVE).stdout)
-
-
-def test_a_name_that_has_no_room_is_in_the_title() -> None:
-    script = "enclave 1 16 100 32 1000\n" + "create 0 1 ready\n" * 11 + "commit 0 t10 11\n"
-    for more, names in (("block 0 5\n", []), ("tick 0\nblock 0 5\n", ["t10"])):
-        picture = draw(script + more)
-        same(picture.told(r"t10 on CPU 0, lines 13 to 1[45]").total(), 1)
-        same([text for text in picture.texts if re.fullmatch(r"t\d+", text)], names)
 
 
 def legend_in(picture: Picture) -> list[list[Element]]:

@@ -9,7 +9,7 @@ import math
 import random
 import re
 import xml.etree.ElementTree as ElementTree
-from dataclasses import dataclass
+from collections import defaultdict
 
 import rig
 import tables
@@ -32,21 +32,15 @@ PERCENTS = (50, 90, 99)
 DRAWN = 50
 
 
-@dataclass
 class Told:
     """What a run tells: the title of its curve, its percentiles, and how long each wait lasted."""
 
-    name: str
-    title: str
-    percentiles: dict[int, int]
-    waits: list[int]
-
-
-def told_of(run: Run) -> Told:
-    waits = sorted(wait.ticks for wait in run.waits)
-    cells = {percent: waits_told("", waits, PERCENTS)[f" p{percent}"] for percent in PERCENTS}
-    title = f"{run.variant.name}: waits {len(waits)}" + "".join(f", p{percent} {'-' if it is None else it}" for percent, it in cells.items())
-    return Told(run.variant.name, title, {percent: it for percent, it in cells.items() if it is not None}, waits)
+    def __init__(self, run: Run) -> None:
+        self.name, self.waits = run.variant.name, sorted(wait.ticks for wait in run.waits)
+        cells = {percent: waits_told("", self.waits, PERCENTS)[f" p{percent}"] for percent in PERCENTS}
+        told = "".join(f", p{percent} {'-' if it is None else it}" for percent, it in cells.items())
+        self.title = f"{self.name}: waits {len(self.waits)}{told}"
+        self.percentiles = {percent: it for percent, it in cells.items() if it is not None}
 
 
 class Picture(AnyPicture):
@@ -55,25 +49,21 @@ class Picture(AnyPicture):
     def __init__(self, text: str) -> None:
         super().__init__(text)
         self.curves: dict[str, list[tuple[int, int]]] = {}
-        self.marks: dict[str, list[tuple[int, int]]] = {}
-        self.looks: dict[str, list[dict[str, str]]] = {}
-        self.lines: dict[tuple[int, ...], list[tuple[str, dict[str, str]]]] = {}
+        self.marks: defaultdict[str, list[tuple[int, int]]] = defaultdict(list)
+        self.looks: defaultdict[str, list[dict[str, str]]] = defaultdict(list)
+        self.lines: defaultdict[tuple[int, ...], list[tuple[str, dict[str, str]]]] = defaultdict(list)
         for title, element in self.shapes:
-            if element.tag == SVG + "path":
-                self.take_path(title, element)
-            elif element.tag == SVG + "line":
-                place = tuple(int(element.get(name)) for name in ("x1", "y1", "x2", "y2"))
-                self.lines.setdefault(place, []).append((title, look_of(element)))
-
-    def take_path(self, title: str, path: Element) -> None:
-        steps, look = path.get("d"), look_of(path)
-        x, y = map(int, re.match(r"M(\d+),(\d+) ", steps).groups())
-        if " waits " in title:
-            self.curves[title] = [(x, y), *((int(to), int(up)) for to, up in re.findall(r"H(\d+)V(\d+)", steps))]
-        else:
-            self.marks.setdefault(title, []).append((x, y))
-            look["shape"] = steps[steps.index(" "):]
-        self.looks.setdefault(title, []).append(look)
+            steps, look = element.get("d"), look_of(element)
+            if element.tag == SVG + "line":
+                self.lines[tuple(int(element.get(name)) for name in ("x1", "y1", "x2", "y2"))].append((title, look))
+            elif element.tag == SVG + "path":
+                corners = [(int(x), int(y)) for x, y in re.findall(r"[MH](\d+)[,V](\d+)", steps)]
+                if " waits " in title:
+                    self.curves[title] = corners
+                else:
+                    self.marks[title].append(corners[0])
+                    look["shape"] = steps[steps.index(" "):]
+                self.looks[title].append(look)
 
     def said(self, x: int | None = None, y: int | None = None) -> list[tuple[int, int, str, str]]:
         """The words in this column, or at this height: where, what, and which end of them is there."""
@@ -130,7 +120,7 @@ def shows(text: str, variants: str | None = None) -> Picture:
     """A picture shows what is told of the load."""
     with rig.file(variants or "") as file, rig.about(text):
         picture = Picture(drawn(text, *(["--variants", file] if variants else [])))
-        every = [told_of(run) for run in runs_of(text, variants)]
+        every = [Told(run) for run in runs_of(text, variants)]
         same(picture.title, "; ".join(told.title for told in every))
         same((picture.width, picture.height), (820, 526 + 18 * len(every)))
         longest = max([wait for told in every for wait in told.waits], default=0)

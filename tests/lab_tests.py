@@ -15,7 +15,6 @@ import functools
 import itertools
 import pathlib
 import random
-import re
 import subprocess
 import sys
 from collections import Counter
@@ -25,7 +24,7 @@ from dataclasses import dataclass, field
 import lab_pictures
 import rig
 from kernel import ORDERS, WORD32, answered, ticks_of
-from reference.lab import STEALS, Run, Variant, csv_of, load_of, replies_of, runs_of, script_of, table_of
+from reference.lab import STEALS, TIMES, Run, Variant, csv_of, load_of, replies_of, runs_of, script_of, table_of
 from rig import ROOT, good, outcome, same
 from tables import drawn_load, drawn_threads, thread, variant
 
@@ -153,26 +152,26 @@ def test_steps_at_their_bound() -> None:
         same((status, errors, f"ticks ran{count:25}\n" in out), (*ended, not ended[0]))
 
 
-def rows_told(text: str) -> dict[str, str]:
-    """The rows of the table of a load with one variant."""
-    return dict(line.rsplit(None, 1) for line in told(text).splitlines())
+# Worked out by hand: threads of one CPU each, and rows of their table under `least-ran` with a quantum of 1.
+SHORT_QUANTA = {
+    # Two take turns of a tick. Each has 1,000,000 numbers: of its creation, and of 999,999 preempts. So at the ends of
+    # 1,999,998 ticks a preempt is told, and at that of the next there is no number.
+    "spent numbers end a run": (2 * thread(0, 1, "die 100000000"), {
+        "end": "NumbersSpent", "makespan": "1999999", "messages": "2000000", "refused preempt NumbersSpent": "1"}),
+    "quanta of which nothing comes cost no time": (thread(0, 1, "die 4294967295") + thread(1, 2, "die 4294967290"), {
+        "end": "done", "makespan": "4294967295", "commits": "2", "preempts": "0", "ticks ran": "8589934585"}),
+}
 
 
-def test_spent_numbers_end_a_run() -> None:
-    """Worked out by hand. Two threads of one CPU take turns of a tick. Each has 1,000,000 numbers: of its creation, and of
-    999,999 preempts. So at the ends of 1,999,998 ticks a preempt is told, and at that of the next there is no number."""
-    rows = rows_told("cpus = 1\n" + 2 * thread(0, 1, "die 100000000") + variant("spent", order="least-ran", quantum=1))
-    wanted = {"end": "NumbersSpent", "makespan": "1999999", "messages": "2000000", "refused preempt NumbersSpent": "1"}
+@rig.each(SHORT_QUANTA)
+def test_short_quanta(threads: str, wanted: dict[str, str]) -> None:
+    table = told("cpus = 2\n" + threads + variant("short", order="least-ran", quantum=1))
+    rows = dict(line.rsplit(None, 1) for line in table.splitlines())
     same({name: rows.get(name) for name in wanted}, wanted)
 
 
-def test_quanta_of_which_nothing_comes_cost_no_time() -> None:
-    """Worked out by hand. Two threads run alone, for some 2^32 quanta each; and one that stands before the other that
-    waits is preempted where it no longer does, at the end of its 15th quantum."""
-    alone = thread(0, 1, "die 4294967295") + thread(1, 2, "die 4294967290")
-    rows = rows_told("cpus = 2\n" + alone + variant("short", order="least-ran", quantum=1))
-    wanted = {"end": "done", "makespan": "4294967295", "commits": "2", "preempts": "0", "ticks ran": "8589934585"}
-    same({name: rows.get(name) for name in wanted}, wanted)
+def test_one_that_stands_first_no_longer_is_preempted() -> None:
+    """Worked out by hand: at the end of its 15th quantum."""
     before = thread(0, 1, "block 100", "die 50", sleeps=[1]) + thread(0, 1, "die 300", start=100)
     lines = told("cpus = 1\n" + before + variant("short", order="least-ran", quantum=7), "--script", "short").splitlines()
     first = next(place for place, line in enumerate(lines) if line.startswith("preempt"))
@@ -213,30 +212,21 @@ def test_the_program_answers_as_runs_expect() -> None:
         runs = runs_of(text)
         for run in runs:
             same(replay(script_of(run)), replies_of(run), run.variant, text)
-        for table in (table_of(runs, True), told(text, "--per-cpu")):
-            balances(table, text)
+        for rows in (csv_of(runs, True), told(text, "--per-cpu", "--csv")):
+            balances(rows, text)
 
 
-def balances(table: str, text: str) -> None:
+def balances(told: str, text: str) -> None:
     """The time of each CPU is that of the run; where it is done, the ticks that were run are those of the steps."""
-    names = max(len(line) for line in table.splitlines())
-    rows = {}
-    for line in table.splitlines():
-        name, *cells = [cell for cell in line[:names].split("  ") if cell.strip()]
-        rows[name.strip()] = [cell.strip() for cell in cells]
-    cpus = int(re.match(r"cpus = (\d+)\n", text)[1])
-    kinds = ("ran", "in turns", "idle", "idle while one waits")
-    spent = [f"cpu {cpu} {kind}" for cpu in range(cpus) for kind in kinds]
-    same([name for name in rows if name.startswith("cpu ")], spent, text)
-    same({len(rows[name]) for name in ("end", "makespan", *spent)}, {text.count("[[variant]]")}, text)
-    for place, end in enumerate(rows["end"]):
-        for cpu in range(cpus):
-            spent = sum(int(rows[f"cpu {cpu} {what}"][place]) for what in ("ran", "in turns", "idle"))
-            same(spent, int(rows["makespan"][place]), text)
-        if end == "done":
-            demand = sum(int(word.rstrip('",]')) for line in text.splitlines() if line.startswith("steps")
-                         for word in line.split() if word.rstrip('",]').isdigit())
-            same(int(rows["ticks ran"][place]), demand, text)
+    load, rows = load_of(text), list(csv.DictReader(told.splitlines()))
+    same(len(rows), len(load.variants), text)
+    for row in rows:
+        spent = [name for name in row if name.startswith("cpu_")]
+        same(spent, [f"cpu_{cpu}_{kind.replace(' ', '_')}" for cpu in range(load.cpus) for kind in TIMES], text)
+        for cpu in range(load.cpus):
+            same(sum(int(row[f"cpu_{cpu}_{what}"]) for what in ("ran", "in_turns", "idle")), int(row["makespan"]), text)
+        if row["end"] == "done":
+            same(int(row["ticks_ran"]), sum(ticks for plan in load.plans for _, ticks in plan.steps), text)
 
 
 def wide_load(chance: random.Random) -> str:
@@ -284,11 +274,6 @@ class Tried:
         """How often each command was refused so, by the CSV: `steal_Stale`."""
         return Counter({name.removeprefix("refused_"): int(cell) for name, cell in self.row.items()
                         if name.startswith("refused_") and cell})
-
-    def answered_refused(self) -> Counter[str]:
-        """The same of the replies."""
-        return Counter(f"{command.split()[0]}_{reply.split()[1]}" for command, reply in self.answered
-                       if reply.startswith("refused "))
 
 
 @dataclass
@@ -344,8 +329,10 @@ def runs_tried(chance: random.Random) -> list[Tried]:
 def refused(runs: list[Tried]) -> Counter[str]:
     """How often each command was refused so in these runs. The replies tell what the CSV tells, and nothing else."""
     for tried in runs:
+        told = (f"{command.split()[0]}_{reply.split()[1]}" for command, reply in tried.answered
+                if reply.startswith("refused "))
         if tried.answered:
-            same(+tried.answered_refused(), +tried.refused(), f"{tried.variant}\n{tried.text}")
+            same(Counter(told), +tried.refused(), f"{tried.variant}\n{tried.text}")
     return sum((tried.refused() for tried in runs), Counter())
 
 

@@ -22,21 +22,14 @@ from rig import ROOT, good, needs, outcome, run, same
 DATE = 1_700_000_000
 NOBODY = 65_534
 # Of an installed root: the example, what it is told to do, and what it prints.
-EXAMPLES = [
-    ("replay", "first-run.script", "first-run.output"),
-    ("run", "steals-and-restarts.toml", "steals-and-restarts.output"),
-]
+EXAMPLES = [("replay", "first-run.script", "first-run.output"),
+            ("run", "steals-and-restarts.toml", "steals-and-restarts.output")]
 # Of both packages, below usr or the archive's folder.
-FILES = [
-    "bin/pc-sim-record-loads", "bin/pc-sim-sweep", "share/pc-sim/load_kinds.py",
-    "share/doc/pc-sim/docs/pictures/crash-and-steal.png",
-]
+FILES = ["bin/pc-sim-record-loads", "bin/pc-sim-sweep", "share/pc-sim/load_kinds.py",
+         "share/doc/pc-sim/docs/pictures/crash-and-steal.png"]
 # Pages that are made, and a line of each.
-MADE = {
-    "DEFINITIONS.md": "## `pc_kernel`",
-    "CLAUSES.md": "- `World::mend`:",
-    "WALK_THROUGH.md": "| `steal 1` | `ok t0 q1` |  |  |",
-}
+MADE = {"DEFINITIONS.md": "## `pc_kernel`", "CLAUSES.md": "- `World::mend`:",
+        "WALK_THROUGH.md": "| `steal 1` | `ok t0 q1` |  |  |"}
 IMAGE_OR_PAGE = re.compile(r"\]\(([\w./-]+)\)")
 TYPED_TOOL = re.compile(r"^    (?:\$ )?tools/([\w-]+)", re.MULTILINE)
 
@@ -68,10 +61,7 @@ def unpacked(is_package: bool) -> tuple[pathlib.Path, pathlib.Path]:
     return root, root / archive.name.removesuffix(".tar.xz")
 
 
-def first_examples() -> list[str]:
-    """The first three commands of README.md, without the one that folds their lines."""
-    typed = re.findall(r"^    \./(pc-sim .*)$", (ROOT / "README.md").read_text(), re.MULTILINE)
-    return [line.partition(" |")[0] for line in typed[:3]]
+BOTH = rig.each({"package": (True,), "archive": (False,)})
 
 
 def test_two_runs_give_the_same_bytes() -> None:
@@ -86,7 +76,7 @@ def test_the_sums_are_right() -> None:
     same((ended.returncode, len(ended.stdout.splitlines())), (0, 2), ended.stdout)
 
 
-@rig.each({"package": (True,), "archive": (False,)})
+@BOTH
 def test_a_root_with_nothing_but_it_runs_the_examples(is_package: bool) -> None:
     """Runs them as a user, where there is nothing else but bash and the libraries of both."""
     root, installed = unpacked(is_package)
@@ -119,7 +109,9 @@ def test_a_root_with_nothing_but_it_runs_the_examples(is_package: bool) -> None:
 
     for command, given, wanted in EXAMPLES:
         same(typed(f"pc-sim {command} examples/{given}"), (installed / "share/doc/pc-sim/examples" / wanted).read_text(), given)
-    lines = first_examples()
+    # The first three commands of README.md, without the one that folds their lines.
+    examples = re.findall(r"^    \./(pc-sim .*)$", (ROOT / "README.md").read_text(), re.MULTILINE)
+    lines = [line.partition(" |")[0] for line in examples[:3]]
     same([line.split()[1] for line in lines], ["explain", "draw", "run"])
     for line in lines:
         own = run(bash, "-c", line, cwd=here, env={"PATH": str(here)})
@@ -128,23 +120,18 @@ def test_a_root_with_nothing_but_it_runs_the_examples(is_package: bool) -> None:
     same((picture[:4], picture), ("<svg", (here / "picture.svg").read_text()))
 
 
-def test_what_documents_name_is_there() -> None:
-    for is_package in (True, False):
-        _, installed = unpacked(is_package)
-        for page in (installed / "share/doc/pc-sim").rglob("*.md"):
-            text = page.read_text()
-            named = [page.parent / it for it in IMAGE_OR_PAGE.findall(text)]
-            named += [installed / f"bin/pc-sim-{it}" for it in TYPED_TOOL.findall(text)]
-            same([it for it in named if not it.exists()], [], page)
-        same([it for it in FILES if not (installed / it).exists()], [])
-
-
-def test_pages_that_no_clone_keeps_are_made() -> None:
-    for is_package in (True, False):
-        _, installed = unpacked(is_package)
-        for page, line in MADE.items():
-            lines = (installed / "share/doc/pc-sim/docs" / page).read_text().splitlines()
-            same(any(it.startswith(line) for it in lines), True, page)
+@BOTH
+def test_what_documents_name_is_there(is_package: bool) -> None:
+    """So are pages that no clone keeps, which are made."""
+    _, installed = unpacked(is_package)
+    for page in (installed / "share/doc/pc-sim").rglob("*.md"):
+        text = page.read_text()
+        named = [page.parent / it for it in IMAGE_OR_PAGE.findall(text)]
+        named += [installed / f"bin/pc-sim-{it}" for it in TYPED_TOOL.findall(text)]
+        same([it for it in named if not it.exists()], [], page)
+    same([it for it in FILES if not (installed / it).exists()], [])
+    for name, line in MADE.items():
+        assert f"\n{line}" in (installed / "share/doc/pc-sim/docs" / name).read_text(), name
 
 
 def test_a_walk_tells_what_each_agent_knows() -> None:

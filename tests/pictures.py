@@ -46,7 +46,6 @@ Steps = list[tuple[int, Shown]]
 
 # A picture
 
-
 class Words(NamedTuple):
     """Visible words of a picture, and where they begin (or, of the names of rows, end)."""
 
@@ -124,7 +123,6 @@ def look_of(element: Element) -> tuple[object, ...]:
 
 
 # What a script comes to
-
 
 def answers_to(script: str) -> str:
     return rig.ask("replay", given=script).stdout
@@ -289,8 +287,8 @@ WHOLE = Part()
 def drawn_part(place: int, script: str) -> Part:
     """A part by chance of a script's picture, or of a few more CPUs and lines."""
     chance, cpus, lines = random.Random(f"part {place}"), int(re.search(r"(?m)^enclave (\d+)", script)[1]), script.count("\n")
-    some = [tuple(sorted((chance.randrange(cpus + 1), chance.randrange(cpus + 1)))), tuple(sorted((chance.randint(1, lines + 2), chance.randint(1, lines + 2))))]
-    return Part(*chance.choice([some, some, [some[0], None], [None, some[1]]]))
+    some, more = (tuple(sorted(chance.randint(*ends) for _ in range(2))) for ends in ((0, cpus), (1, lines + 2)))
+    return Part(*chance.choice([(some, more), (some, more), (some, None), (None, more)]))
 
 
 class Bar(NamedTuple):

@@ -18,7 +18,6 @@ import rig
 from kernel import LEAVES, ORDERS, Talk, World
 from rig import same
 
-SCRIPTS, ALL = 300, 10_000
 MOST_THREADS = 10
 TICKS = [0, 1, 2, 3, 5, 8, 13, 4_294_967_295]
 Deed = Callable[[int, int], None]
@@ -34,11 +33,12 @@ class Drawn:
         self.answers: list[str | None] = []
         cpus = self.chance.choice([1, 2, 2, 3])
         self.say("version 3")
-        # So many items and posts are never met.
-        self.say(f"enclave {cpus} {MOST_THREADS} 1000000 65536 1000000")
+        # So many items and posts are never met. The wider limits of version 3 are a world's that a policy opens anew, too.
+        threads, numbers = self.chance.choice([(MOST_THREADS, 1_000_000), (65_535, 16_000_000)])
+        self.say(f"enclave {cpus} {threads} {numbers} 65536 1000000")
         self.begin(policy)
         for _ in range(self.chance.choice([1, 3, 6])):
-            self.new(self.chance.randrange(cpus), 0)
+            self.say(f"create {self.chance.randrange(cpus)} {2 ** cpus - 1} ready")
         for _ in range(self.chance.choice([40, 80, 120])):
             self.turn()
 
@@ -66,41 +66,35 @@ class Drawn:
             self.say("same 0 0")
 
     def turn(self) -> None:
-        """A few lines of one of these, the common ones more often."""
-        cpu, other = (self.chance.randrange(self.world.cpus) for _ in range(2))
-        deeds: dict[Deed, int] = {
-            self.new: 6, self.leaves: 8, self.raises: 6, self.wakes: 3, self.masks: 2, self.takes_in: 10, self.picks: 14, self.steals: 10,
-            self.tells: 8, self.answers_other: 3, self.crashes: 2, self.moves: 2, self.ticks: 2, self.late: 1, self.mends: 1,
+        """A line of one of these sorts, or a few that follow each other; the common ones more often."""
+        chance, world = self.chance, self.world
+        cpu, other = (chance.randrange(world.cpus) for _ in range(2))
+        every = 2 ** world.cpus - 1
+        mask = chance.choice([every, every, chance.randint(1, every)])
+        some, alive = self.thread("ready", "blocked", "dead"), self.thread("ready", "blocked")
+        blocked, phase = self.thread("blocked"), chance.choice(["ready", "ready", "blocked"])
+        lines: dict[str | Deed, float] = {
+            f"create {cpu} {mask} {phase}": 6 * (len(world.threads) < MOST_THREADS), f"mend {cpu}": 1,
+            f"priority t{alive} {chance.choice([0, 3, 3, 7])}": 6 * (alive is not None), f"crash {cpu}": 2,
+            f"affinity t{alive} {mask}": 2 * (alive is not None), f"wake t{blocked}": 3 * (blocked is not None),
+            f"tick {cpu}": 2, self.leaves: 8, self.takes_in: 10, self.picks: 14, self.steals: 10, self.tells: 8,
+            self.answers_other: 3, self.late: 1,
         }
-        self.chance.choices(list(deeds), list(deeds.values()))[0](cpu, other)
+        if some is not None:
+            lines[f"associate t{some} {cpu} {world.threads[some].number - (chance.random() < 0.1)}"] = 2
+        deed = chance.choices(list(lines), list(lines.values()))[0]
+        if callable(deed):
+            deed(cpu, other)
+        else:
+            self.say(deed)
 
     def thread(self, *phases: str) -> int | None:
-        """A thread in one of these phases, or of any."""
-        names = [name for name, thread in enumerate(self.world.threads) if not phases or thread.now.phase in phases]
+        """A thread in one of these phases."""
+        names = [name for name, thread in enumerate(self.world.threads) if thread.now.phase in phases]
         return self.chance.choice(names) if names else None
-
-    def mask(self) -> int:
-        every = 2 ** self.world.cpus - 1
-        return self.chance.choice([every, every, self.chance.randint(1, every)])
-
-    def new(self, cpu: int, other: int) -> None:
-        if len(self.world.threads) < MOST_THREADS:
-            self.say(f"create {cpu} {self.mask()} {self.chance.choice(['ready', 'ready', 'blocked'])}")
 
     def leaves(self, cpu: int, other: int) -> None:
         self.say(f"{self.chance.choice([*LEAVES, 'yield'])} {cpu} {self.chance.choice(TICKS)}")
-
-    def raises(self, cpu: int, other: int) -> None:
-        if (name := self.thread("ready", "blocked")) is not None:
-            self.say(f"priority t{name} {self.chance.choice([0, 3, 3, 7])}")
-
-    def wakes(self, cpu: int, other: int) -> None:
-        if (name := self.thread("blocked")) is not None:
-            self.say(f"wake t{name}")
-
-    def masks(self, cpu: int, other: int) -> None:
-        if (name := self.thread("ready", "blocked")) is not None:
-            self.say(f"affinity t{name} {self.mask()}")
 
     def publishes(self, cpu: int, more: str = "") -> None:
         """Counts where the order puts another thread in front than levels would."""
@@ -114,9 +108,6 @@ class Drawn:
         self.publishes(cpu, " fail" if self.chance.random() < 0.1 else "")
         if self.chance.random() < 0.7:
             self.say(f"consume {cpu}")
-
-    def mends(self, cpu: int, other: int) -> None:
-        self.say(f"mend {cpu}")
 
     def idles(self, cpu: int) -> None:
         """Mostly on an idle CPU."""
@@ -150,19 +141,9 @@ class Drawn:
         self.say(f"answer {other} {cpu}")
         self.say(f"deliver {cpu} {len(self.world.deltas) - 1}")
 
-    def crashes(self, cpu: int, other: int) -> None:
-        self.say(f"crash {cpu}")
-
-    def moves(self, cpu: int, other: int) -> None:
-        if (name := self.thread()) is not None:
-            self.say(f"associate t{name} {cpu} {self.world.threads[name].number - (self.chance.random() < 0.1)}")
-
-    def ticks(self, cpu: int, other: int) -> None:
-        self.say(f"tick {cpu}")
-
     def late(self, cpu: int, other: int) -> None:
         """A tick, and a policy behind it."""
-        self.ticks(cpu, other)
+        self.say(f"tick {cpu}")
         assert not self.say(f"policy {self.chance.choice(ORDERS)}")
 
 
@@ -176,18 +157,14 @@ def counts_of(policy: str, place: int) -> Counter[str]:
 
 
 def answers_are_the_models(policy: str) -> None:
-    scripts = ALL if rig.options.all else rig.options.scripts
+    scripts = rig.options.scripts
     counts = sum(rig.in_threads(partial(counts_of, policy), range(scripts)), Counter())
     wanted = ["pick", "steal", "mend", *(["order"] if not policy.startswith("levels") or "-" in policy else [])]
     rare = [what for what in [*wanted, *(["other steals"] if "exact" in policy else [])] if counts[what] * 4 < scripts]
     assert not rare, f"too few of {rare}: {counts}"
 
 
-def add_words(add: Callable[..., object]) -> None:
-    add("--scripts", type=int, default=SCRIPTS)
-    add("--all", action="store_true")
-
-
 if __name__ == "__main__":
     every = [order + exact for order in ORDERS for exact in ("", " exact")]
-    sys.exit(rig.main(__doc__, [(policy, partial(answers_are_the_models, policy)) for policy in every], add_words))
+    tests = [(policy, partial(answers_are_the_models, policy)) for policy in every]
+    sys.exit(rig.main(__doc__, tests, rig.add_scripts))

@@ -9,6 +9,7 @@ tool told.
 """
 from __future__ import annotations
 
+import functools
 import importlib.machinery
 import pathlib
 import re
@@ -18,7 +19,7 @@ import sys
 import time
 import types
 from collections import Counter
-from typing import NamedTuple
+from typing import Any, NamedTuple
 
 import rig
 from kernel import answered
@@ -41,29 +42,27 @@ def name(pid: int) -> str:
     return f"swapper/{pid}" if pid == 0 else {-1: ":-1", 2: "kthreadd"}.get(pid, f"p{pid}")
 
 
-def switch(us: int, cpu: int, pid: int, state: str, other: int) -> str:
-    told = f"prev_comm={name(pid)} prev_pid={pid} prev_prio=120 prev_state={state} ==> "
-    return head(us, cpu, pid, f"sched:sched_switch: {told}next_comm={name(other)} next_pid={other} next_prio=120")
+# By the name of an event: what is told of it, and how perf writes that.
+EVENTS = {
+    "switch": ("us cpu pid state other", "sched_switch: prev_comm={pid_name} prev_pid={pid} prev_prio=120 "
+               "prev_state={state} ==> next_comm={other_name} next_pid={other} next_prio=120"),
+    "wake": ("us cpu by pid target event", "{event}: comm={pid_name} pid={pid} prio=120 target_cpu={target:03d}"),
+    "move": ("us cpu by pid origin target", "sched_migrate_task: comm={pid_name} pid={pid} prio=120 "
+             "orig_cpu={origin} dest_cpu={target}"),
+    "fork": ("us cpu pid other", "sched_process_fork: comm={pid_name} pid={pid} "
+             "child_comm={other_name} child_pid={other}"),
+    "exit": ("us cpu pid", "sched_process_exit: comm={pid_name} pid={pid} prio=120"),
+}
 
 
-def wake(us: int, cpu: int, by: int, pid: int, target: int, event: str = "sched_waking") -> str:
-    return head(us, cpu, by, f"sched:{event}: comm={name(pid)} pid={pid} prio=120 target_cpu={target:03d}")
+def event(kind: str, *cells: Any) -> str:
+    keys, form = EVENTS[kind]
+    told: dict[str, Any] = {"event": "sched_waking"} | dict(zip(keys.split(), cells))
+    names = {f"{key}_name": name(told[key]) for key in ("pid", "other") if key in told}
+    return head(told["us"], told["cpu"], told.get("by", told["pid"]), "sched:" + form.format(**told, **names))
 
 
-def move(us: int, cpu: int, by: int, pid: int, origin: int, target: int) -> str:
-    return head(us, cpu, by, f"sched:sched_migrate_task: comm={name(pid)} pid={pid} prio=120 orig_cpu={origin} dest_cpu={target}")
-
-
-def fork(us: int, cpu: int, pid: int, child: int) -> str:
-    told = f"comm={name(pid)} pid={pid} child_comm={name(child)} child_pid={child}"
-    return head(us, cpu, pid, f"sched:sched_process_fork: {told}")
-
-
-def leave_exit(us: int, cpu: int, pid: int) -> str:
-    return head(us, cpu, pid, f"sched:sched_process_exit: comm={name(pid)} pid={pid} prio=120")
-
-
-EVENTS = {"switch": switch, "wake": wake, "move": move, "fork": fork, "exit": leave_exit}
+switch, wake, fork = (functools.partial(event, kind) for kind in ("switch", "wake", "fork"))
 
 
 class Made(NamedTuple):
@@ -84,10 +83,6 @@ class Made(NamedTuple):
         """How often each refusal is to be answered, as the tool told."""
         found = re.findall(r"^to be refused: (\d+) (\w+ \w+)$", "\n".join(self.told), re.M)
         return Counter({what: int(count) for count, what in found})
-
-
-def text_of(lines: list[str]) -> str:
-    return "".join(line + "\n" for line in lines)
 
 
 def refusals(script: str, replies: str) -> Counter[str]:
@@ -114,7 +109,7 @@ def make(text: str | bytes, *words: str, status: int = 0) -> Made:
 
 def replay(made: Made) -> str:
     """No line is a fault, and what the model refuses is what the tool told."""
-    script = text_of(made.script)
+    script = "\n".join([*made.script, ""])
     replies: str = good(rig.ask("replay", given=script))
     assert "fault line" not in replies
     same(refusals(script, replies), made.refused)
@@ -123,7 +118,7 @@ def replay(made: Made) -> str:
 
 def run_settings(made: Made) -> None:
     """The run's totals are those that the steps of the settings add up to."""
-    settings = text_of(made.settings)
+    settings = "\n".join([*made.settings, ""])
     steps = re.findall(r'"(\w+) (\d+)"', settings)
     threads = settings.count("[[thread]]")
     messages = threads + len(steps) + sum(word == "block" for word, _ in steps)
@@ -136,9 +131,10 @@ def line_of(line: str) -> str:
     """A line as perf writes it: what begins with the name of a function above is what that makes of the words behind it."""
     word, *words = line.split() or [""]
     if word == "head":
-        us, cpu, pid, event = line.split(" ", 4)[1:]
-        return head(int(us), int(cpu), int(pid), event)
-    return EVENTS[word](*(int(it) if it.lstrip("-").isdigit() else it for it in words)) if word in EVENTS else line + "\n"
+        us, cpu, pid, told = line.split(" ", 4)[1:]
+        return head(int(us), int(cpu), int(pid), told)
+    cells = (int(it) if it.lstrip("-").isdigit() else it for it in words)
+    return event(word, *cells) if word in EVENTS else line + "\n"
 
 
 @rig.each(rig.cases("recordings.txt"))
@@ -185,7 +181,6 @@ def test_names_in_bytes_that_are_no_text() -> None:
 
 
 # Bad input
-
 
 def test_a_text_that_is_no_recording_and_has_no_end() -> None:
     made = make("hello", status=1)
@@ -247,7 +242,6 @@ def test_a_file_and_help() -> None:
 
 # Settings
 
-
 def test_a_life_of_too_many_runs() -> None:
     text = switch(0, 0, 0, "R", 7)
     for us in range(10, 10 + 2 * 1_002, 2):
@@ -273,8 +267,8 @@ def test_the_kept_recordings() -> None:
     for path in texts:
         assert path.stat().st_size < 200 * 1024
         made = make(path.read_bytes())
-        same(text_of(made.script), path.with_suffix(".script").read_text(), path.name)
-        same(text_of(made.settings), path.with_suffix(".toml").read_text(), path.name)
+        same("\n".join([*made.script, ""]), path.with_suffix(".script").read_text(), path.name)
+        same("\n".join([*made.settings, ""]), path.with_suffix(".toml").read_text(), path.name)
         same(replay(made), path.with_suffix(".output").read_text(), path.name)
 
 
@@ -286,7 +280,7 @@ def test_the_document_tells_what_is_refused() -> None:
         cells = [cell.strip() for cell in row.strip("|").split("|")]
         same(cells[1:], row_of(made), path.name)
         replies = path.with_suffix(".output").read_text()
-        same(refusals(text_of(made.script), replies), made.refused, path.name)
+        same(refusals("\n".join([*made.script, ""]), replies), made.refused, path.name)
 
 
 @rig.each({"TUTORIAL": ("TUTORIAL", 10), "LAB": ("LAB", 0)})

@@ -82,7 +82,6 @@ def found() -> pathlib.Path:
 
 # Runs
 
-
 def run(*words: object, given: str | None = None, **more: Any) -> subprocess.CompletedProcess[str]:
     """What a command comes to that is given a text as its standard input; `text=False` has it in bytes."""
     how: dict[str, Any] = {"capture_output": True, "text": True, "timeout": SECONDS, "input": given} | more
@@ -139,7 +138,6 @@ def in_threads(do: Callable[[Any], Any], every: Iterable[Any], at_once: int = 4)
 
 
 # Counting
-
 
 @dataclass
 class Tally:
@@ -216,6 +214,12 @@ def tests_in(names: dict[str, Any], *modules: object) -> list[Test]:
         rows = {f"{name}: {row}": cells for row, cells in it.rows.items()} if hasattr(it, "rows") else {name: ()}
         tests += [(name, partial(given, made, it, *cells) if made else partial(it, *cells)) for name, cells in rows.items()]
     return tests
+
+
+def add_scripts(add: Callable[..., object]) -> None:
+    """The words that tell how many scripts are drawn."""
+    add("--scripts", type=int, default=300, metavar="NUMBER")
+    add("--all", dest="scripts", action="store_const", const=10_000)
 
 
 _tests: list[Test] = []

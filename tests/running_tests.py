@@ -41,7 +41,6 @@ def run_with_script(text: str, *words: str) -> tuple[str, str]:
 
 
 def script_of(policy: str, text: str) -> list[str]:
-    """The lines of the script of a run by this policy."""
     return run_with_script(text, "--policy", policy)[1].splitlines()
 
 

@@ -17,7 +17,7 @@ import select
 import subprocess
 import sys
 import time
-from collections.abc import Callable, Iterator
+from collections.abc import Iterator
 from functools import partial
 from typing import Any
 
@@ -25,7 +25,6 @@ import rig
 from kernel import forms, told_of
 from rig import ROOT, SECONDS, outcome, same
 
-SCRIPTS, ALL = 300, 10_000
 MOST_LINE = 65_536
 ENCLAVE = b"enclave 4 16 1000 64 100000"
 FAULTS = [b"walk", b"tick", b"tick 0 0", b"version 2", b"policy fifo", b"\xff\xfe", b"wake t\x00", b" #", b"commit 0 t0", b"? "]
@@ -34,23 +33,17 @@ SILENT = [b"", b"   ", b"# a comment", b"#", b"\r"]
 BELOW = dict.fromkeys("CQAB", 5) | dict.fromkeys(("RAN", "ASEQ", "NUMBER", "K"), 6) | {"T": 8, "MASK": 16, "LEVEL": 9}
 
 
-def drawn_command(chance: random.Random) -> bytes:
-    """A command of version 1."""
-    form = chance.choice([it for it in forms() if it[0] not in ("enclave", "policy", "mend")])
-    numbers = {word: chance.randrange(BELOW[word]) for word in form if word in BELOW}
-    return " ".join(f"{'t' * (word == 'T')}{numbers[word]}" if word in BELOW else word for word in form).encode()
-
-
 def drawn_lines(chance: random.Random) -> list[bytes]:
-    """The lines of a script: its enclave, commands, silent lines, and in some scripts faults."""
+    """The lines of a script: its enclave, commands of version 1, silent lines, and in some scripts faults."""
     faulty = chance.random() < 0.5
     lines = [chance.choice(SILENT) for _ in range(chance.randrange(3))]
-    if chance.random() < 0.3:
-        lines.append(b"version 2")
-    lines.append(ENCLAVE)
+    lines += [*([b"version 2"] * (chance.random() < 0.3)), ENCLAVE]
+    every = [form for form in forms() if form[0] not in ("enclave", "policy", "mend")]
     for _ in range(chance.randrange(120)):
-        kind = chance.random()
-        lines.append(chance.choice(SILENT) if kind < 0.1 else chance.choice(FAULTS) if kind < 0.2 and faulty else drawn_command(chance))
+        kind, form = chance.random(), chance.choice(every)
+        words = (f"{'t' * (word == 'T')}{chance.randrange(BELOW[word])}" if word in BELOW else word for word in form)
+        command = [" ".join(words).encode()]
+        lines.append(chance.choice(SILENT if kind < 0.1 else FAULTS if kind < 0.2 and faulty else command))
     return lines
 
 
@@ -102,11 +95,11 @@ def drawn_script_in_pieces(seed: int) -> None:
 
 def test_conversation() -> None:
     talk = start()
-    for command, answer in (
-        (b"enclave 2 8 100 16 1000", b"ok"), (b"create 0 3 ready", b"ok t0 n1 q0 a1 wake -"), (b"walk", b"fault line 3"),
-        (b"wake t7", b"refused UnknownThread"), (b"commit 0 t0 0", b"refused Stale 1"), (b"commit 0 t0 1", b"ok t0 c0"),
-        (b"version 2", b"fault line 7"),
-    ):
+    for command, answer in {
+        b"enclave 2 8 100 16 1000": b"ok", b"create 0 3 ready": b"ok t0 n1 q0 a1 wake -", b"walk": b"fault line 3",
+        b"wake t7": b"refused UnknownThread", b"commit 0 t0 0": b"refused Stale 1", b"commit 0 t0 1": b"ok t0 c0",
+        b"version 2": b"fault line 7",
+    }.items():
         talk.stdin.write(command + b"\n")
         assert select.select([talk.stdout], [], [], SECONDS)[0], f"no answer to {command!r}"
         same(talk.stdout.readline(), answer + b"\n", command)
@@ -156,28 +149,18 @@ def test_terminal() -> None:
 
 def test_client_dies() -> None:
     """A client that dies within a line ends the input: that line is answered."""
-    read, write = os.pipe()
-    talk = start(stdin=read)
-    os.close(read)
-    child = os.fork()
-    if child == 0:
-        os.write(write, ENCLAVE + b"\nwake t")
-        os.kill(os.getpid(), 9)
-    os.close(write)
-    os.waitpid(child, 0)
+    talk = start()
+    client = subprocess.Popen(["bash", "-c", f"printf '{ENCLAVE.decode()}\\nwake t'; kill -9 $$"], stdout=talk.stdin)
+    talk.stdin.close()
+    same(client.wait(SECONDS), -9)
     same(talk.stdout.read(), b"ok\nfault line 2\n")
     same(talk.wait(SECONDS), 1)
 
 
-def add_words(add: Callable[..., object]) -> None:
-    add("--scripts", type=int, default=SCRIPTS)
-    add("--all", action="store_true")
-
-
 def tests() -> list[rig.Test]:
-    count = ALL if rig.options.all else rig.options.scripts
-    return rig.tests_in(globals()) + [(f"script {seed}", partial(drawn_script_in_pieces, seed)) for seed in range(count)]
+    seeds = range(rig.options.scripts)
+    return rig.tests_in(globals()) + [(f"script {seed}", partial(drawn_script_in_pieces, seed)) for seed in seeds]
 
 
 if __name__ == "__main__":
-    sys.exit(rig.main(__doc__, tests, add_words, at_once=os.cpu_count() or 1))
+    sys.exit(rig.main(__doc__, tests, rig.add_scripts, at_once=os.cpu_count() or 1))

@@ -72,10 +72,8 @@ def test_each_row_is_that_of_the_lab(sweep: Sweep) -> None:
     for load in LOADS:
         wanted = list(csv.DictReader(pathlib.Path(load).with_suffix(".csv").read_text().splitlines()))
         found = [row for row in rows if row["load"] == load]
-        same(len(found), len(wanted))
-        for row, want in zip(found, wanted):
-            same({key: row[key] for key in want}, want)
-            assert all(not value for key, value in row.items() if key not in (*want, "load"))
+        for row, want in zip(found, wanted, strict=True):
+            same(row, dict.fromkeys(row, "") | want | {"load": load})
 
 
 def test_the_usual_lab_is_the_program(sweep: Sweep) -> None:

@@ -88,11 +88,8 @@ def come_to(text: str, *words: str, **streams: Any) -> tuple[int, bytes | None]:
 
 def at_a_terminal(text: str, *words: str, on: tuple[str, ...] = ("stderr",), **streams: Any) -> tuple[int, bytes | None, bytes]:
     """The status, standard output, and what the terminal got, on which these streams are."""
-    terminal = Terminal()
-    try:
+    with contextlib.closing(Terminal()) as terminal:
         status, out = come_to(text, *words, **streams, **dict.fromkeys(on, terminal.line))
-    finally:
-        terminal.close()
     return status, out, terminal.written
 
 
@@ -142,12 +139,19 @@ def test_the_report_stands_on_a_clean_line() -> None:
     expect_lines(written.removesuffix(shown(REPORT)))
 
 
-def test_a_short_run_tells_nothing() -> None:
-    same(at_a_terminal("cpus = 1\n" + thread(0, 1, "yield 1", "die 2")), (0, b"threads 1\nmessages 3\ncommits 2\nran 3\n", b""))
+# What is given, by which command, and what it comes to at a terminal.
+TOLD = {
+    "a short run tells nothing": (
+        "cpus = 1\n" + thread(0, 1, "yield 1", "die 2"), "run", (0, b"threads 1\nmessages 3\ncommits 2\nran 3\n", b"")),
+    "what else is said of a run stays": (
+        FAULTY, "run", (1, b"", b"pc-sim: settings BadCpus\r\npc-sim: cpus 0: 1 to 64 are wanted\r\n")),
+    "what else the lab says stays": (FAULTY, "lab", (1, b"", b"pc-sim: lab BadCpus\r\n")),
+}
 
 
-def test_what_else_is_said_at_a_terminal_stays() -> None:
-    same(at_a_terminal(FAULTY), (1, b"", b"pc-sim: settings BadCpus\r\npc-sim: cpus 0: 1 to 64 are wanted\r\n"))
+@rig.each(TOLD)
+def test_told(text: str, command: str, wanted: tuple[int, bytes, bytes]) -> None:
+    same(at_a_terminal(text, command), wanted)
 
 
 def test_a_terminal_that_goes_away_is_passed_over() -> None:
@@ -184,10 +188,6 @@ def test_a_script_of_the_lab_is_one_run_of_which_nothing_is_told() -> None:
     told = at_a_terminal(load_of(2), "lab", "--script", "v0")
     same((told[0], told[2]), (0, b""))
     same(elsewhere(load_of(2), "lab", "--script", "v0"), told)
-
-
-def test_what_else_the_lab_says_at_a_terminal_stays() -> None:
-    same(at_a_terminal(FAULTY, "lab"), (1, b"", b"pc-sim: lab BadCpus\r\n"))
 
 
 def test_what_cannot_be_written_is_told_on_a_clean_line() -> None:

@@ -1,36 +1,17 @@
-"""Checks of the repository's files and commits, for tests/check_documents.py.
-
-Each answers how much was looked at, and its findings.
-"""
+"""Checks of files and commits, for tests/check_documents.py: each answers how much was looked at, and its findings."""
 import collections
 import itertools
+import pathlib
 import re
 import subprocess
+import tomllib
 
 WIDTH = 120
 TITLE_WIDTH = 72
 MOST_WORDS = 40
-# So many words a page has at most, as `wc -w` counts them; and all pages together.
-MOST_OF_PAGE = {
-    "README.md": 1_150,
-    "CHANGELOG.md": 1_000,
-    "CONTRIBUTING.md": 1_750,
-    "clients/python/README.md": 500,
-    "docs/ARCHITECTURE.md": 1_500,
-    "docs/DECISIONS.md": 3_000,
-    "docs/FORMATS.md": 5_000,
-    "docs/GLOSSARY.md": 1_350,
-    "docs/HOSTILE.md": 900,
-    "docs/LAB.md": 2_500,
-    "docs/PERFORMANCE.md": 1_200,
-    "docs/PROMISES.md": 1_500,
-    "docs/RECIPES.md": 750,
-    "docs/RECORDINGS.md": 2_000,
-    "docs/SESSIONS.md": 750,
-    "docs/TUTORIAL.md": 2_000,
-    "examples/README.md": 650,
-}
-MOST_OF_ALL = 28_000
+# So many words a page has at most, and all together.
+PAGES = tomllib.loads((pathlib.Path(__file__).parent / "pages.toml").read_text())
+MOST_OF_PAGE, MOST_OF_ALL = PAGES["page"], PAGES["all"]
 # A document's block of code, a table's line, a heading, or what begins an item.
 CODE, ITEM = re.compile(r"^(?:    |\t)"), re.compile(r"^ *(?:[-*]|\d+\.) +")
 NO_PROSE = re.compile(r"^(?:\||#|<!--)")
@@ -41,9 +22,7 @@ SENTENCE_END = re.compile(r"(?<=[.!?])[)\"*_]*\s+(?=[A-Z`*(\"0-9]|ghOSt\b)")
 TITLES_SINCE = "2026-11-27T00:00:00+00:00"
 UNDER_WAY = re.compile(r"\b(?:wip|merge[sd]?)\b", re.I)
 # What cites by a number: a theorem or definition, a request, a row of a table, an issue.
-NUMBERED = re.compile(
-    r"\bT\d\.\d+|\b[DRW]\d+\b|\brows? \d+\b|\b[Ii]ssue #?\d+"
-    r"|\b(?:paper|theorem|request)s? 0?\d+\b")
+NUMBERED = re.compile(r"\bT\d\.\d+|\b[DRW]\d+\b|\brows? \d+\b|\b[Ii]ssue #?\d+|\b(?:paper|theorem|request)s? 0?\d+\b")
 SOURCES = {".rt", ".antt", ".edit", ".md", ".txt", ".py", ".sh", ".script", ".output", ".toml", ""}
 # A comment, a string, or a character.
 STRING = re.compile(r"//[^\n]*|b?r(#*)\".*?\"\1|b?\"(?:[^\"\\]|\\.)*\"|b?'(?:[^'\\\n]|\\[^'\n]*.)'", re.S)
@@ -90,15 +69,13 @@ def in_strings(text):
 def widths(root):
     """Lines of documents, sources and definitions that are too wide; proofs aside."""
     kinds = ("*.md", "docs/**/*.md", "examples/*.md", "crates/*/src/**/*.rt", "crates/*/specs/**/*.antt")
-    paths = [path for kind in kinds for path in root.glob(kind)]
     checked, findings = 0, []
-    for path in sorted(paths):
+    for path in sorted(path for kind in kinds for path in root.glob(kind)):
         text = path.read_text()
-        literal = in_strings(text) if path.suffix == ".rt" else set()
-        for number, line in enumerate(text.splitlines(), 1):
-            checked += 1
-            if len(line) > WIDTH and number not in literal:
-                findings.append(f"{path.relative_to(root)}:{number}: {len(line)} columns")
+        lines, literal = text.splitlines(), in_strings(text) if path.suffix == ".rt" else set()
+        checked += len(lines)
+        wide = (it for it in enumerate(lines, 1) if len(it[1]) > WIDTH and it[0] not in literal)
+        findings += [f"{path.relative_to(root)}:{number}: {len(line)} columns" for number, line in wide]
     return checked, findings
 
 
@@ -128,28 +105,20 @@ def words(root):
 
 
 def sentences(root):
-    """Sentences of documents that have too many words.
-
-    What stands in backquotes is one word.
-    """
+    """Sentences of documents that have too many words; what stands in backquotes is one."""
     checked, findings = 0, []
     for path in sorted({*root.glob("*.md"), *root.glob("docs/*.md"), *root.glob("examples/*.md")}):
         for number, paragraph in paragraphs(path.read_text()):
-            if NAMES_ALONE.match(paragraph):
-                continue
-            for sentence in SENTENCE_END.split(paragraph):
+            for sentence in [] if NAMES_ALONE.match(paragraph) else SENTENCE_END.split(paragraph):
                 checked += 1
-                words = len(re.sub(r"`[^`]*`", "x", sentence).split())
-                if words > MOST_WORDS:
-                    findings.append(f"{path.relative_to(root)}:{number}: {words} words: {sentence[:60]}")
+                if (count := len(re.sub(r"`[^`]*`", "x", sentence).split())) > MOST_WORDS:
+                    findings.append(f"{path.relative_to(root)}:{number}: {count} words: {sentence[:60]}")
     return checked, findings
 
 
 def files(root):
-    """Files of docs/, examples/, tools/, tests/ and bench/ whose name stands in no other file.
-
-    A case of tests/cases is found by the tool that runs it. A module is named where it is imported, or by `mod NAME;`.
-    """
+    """Files of docs/, examples/, tools/, tests/ and bench/ whose name stands in no other file. A case of tests/cases is
+    found by the tool that runs it. A module is named where it is imported, or by `mod NAME;`."""
     kinds = SOURCES | {".in", ".c", ".1"}
     texts = {path: path.read_text(errors="replace") for path in all_files(root) if path.suffix in kinds}
     checked, findings = 0, []
@@ -169,35 +138,26 @@ def files(root):
 
 def numbers(root):
     """What is cited by a number, in sources, documents and tests; the cases' own texts aside."""
-    checked, findings = 0, []
-    for path in all_files(root):
-        name = str(path.relative_to(root))
-        if path.suffix not in SOURCES or name.startswith("tests/cases/") or name == "tests/tidy.py":
-            continue
-        checked += 1
-        text = path.read_text(errors="replace")
-        cited = NUMBERED.search(text)
-        if cited:
+    paths = {str(path.relative_to(root)): path for path in all_files(root) if path.suffix in SOURCES}
+    looked_at = [name for name in paths if not name.startswith("tests/cases/") and name != "tests/tidy.py"]
+    findings = []
+    for name in looked_at:
+        text = paths[name].read_text(errors="replace")
+        if cited := NUMBERED.search(text):
             findings.append(f"{name}:{text.count(chr(10), 0, cited.start()) + 1}: it cites `{cited[0]}`")
-    return checked, findings
+    return len(looked_at), findings
 
 
 def titles(root):
     """Titles of commits; none where there is no history."""
     if not (root / ".git").exists():
         return 0, []
-
-    def git(*words):
-        return subprocess.run(["git", "-C", str(root), *words], capture_output=True, text=True)
-
-    told = git("log", "--format=%h %s", f"--since={TITLES_SINCE}").stdout.splitlines()
-    findings = []
-    for line in told:
-        commit, _, title = line.partition(" ")
-        if len(title) > TITLE_WIDTH:
-            findings.append(f"commit {commit}: its title has {len(title)} columns")
-        if UNDER_WAY.search(title):
-            findings.append(f"commit {commit}: `{UNDER_WAY.search(title)[0]}` is no word of a title")
+    log = ["git", "-C", str(root), "log", "--format=%h %s", f"--since={TITLES_SINCE}"]
+    told = [line.partition(" ") for line in subprocess.run(log, capture_output=True, text=True).stdout.splitlines()]
+    wide = [(commit, len(title)) for commit, _, title in told if len(title) > TITLE_WIDTH]
+    findings = [f"commit {commit}: its title has {length} columns" for commit, length in wide]
+    words = ((commit, UNDER_WAY.search(title)) for commit, _, title in told)
+    findings += [f"commit {commit}: `{word[0]}` is no word of a title" for commit, word in words if word]
     return len(told), findings
 
 
@@ -222,10 +182,10 @@ def shapes(path, kind):
 
 def kind_of(path, name):
     """Which kind of source a file is whose twins are looked for: no tests' crate in Rattle; scripts in Python have no suffix."""
-    if path.suffix in (".rt", ".antt"):
-        return None if path.suffix == ".rt" and name.startswith("crates/pc_tests") else path.suffix
-    is_python = path.suffix == ".py" or not path.suffix and path.read_bytes()[:40].startswith(b"#!/usr/bin/env python")
-    return ".py" if is_python else None
+    if path.suffix == ".rt" and name.startswith("crates/pc_tests"):
+        return None
+    is_script = not path.suffix and path.read_bytes()[:40].startswith(b"#!/usr/bin/env python")
+    return ".py" if is_script else path.suffix if path.suffix in TWIN_KINDS else None
 
 
 def pairs(root):

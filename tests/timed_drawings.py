@@ -7,12 +7,12 @@ from __future__ import annotations
 
 import random
 import re
-from collections import Counter
+from collections import Counter, defaultdict
 
 import rig
 from kernel import WORD64, answered, ticks_of
 from pictures import (
-    ENCLAVE, LEFT, MOST_SINGLE, ROWS, SCRIPTS, SINGLE_WORDS, SVG, WHOLE, Bar, Element, Part, Picture, Steps, answers_to, are_one, bars_of, bars_told,
+    ENCLAVE, LEFT, MOST_SINGLE, ROWS, SCRIPTS, SINGLE_WORDS, SVG, WHOLE, Bar, Part, Picture, Steps, answers_to, are_one, bars_of, bars_told,
     draw, drawn_script, edges_of, front_of, many, refused_words, shown_often, steps_of, story_of, x_of,
 )
 from rig import ROOT, good, outcome, same
@@ -165,20 +165,16 @@ def marks_by_ticks(picture: Picture, script: str, axis: Axis, ticks: dict[int, i
             marks["crash"] += 1
             same(x_of(element), (axis.middle(ticks[int(crash[1])]) - 7,), text)
         elif line and line[3].startswith("deliver ") and ": refused" not in text:
-            delta_by_ticks(element, axis, ticks, int(line[2]), sent.get(int(line[3].split()[2])), first)
+            sender = sent.get(int(line[3].split()[2]))
+            same(x_of(element)[-1], axis.middle(ticks[int(line[2])]))
+            if element.tag == SVG + "line" and sender is not None:
+                same(x_of(element)[0], axis.middle(ticks[sender]) if sender >= first else LEFT)
             marks["delta"] += 1
         elif line:
             kind = line[1] or ("refused" if ": refused " in text else "post")
             marks[kind] += 1
             same({place + BEFORE.get(kind, 0) for place in x_of(element)}, {axis.middle(ticks[int(line[2])])}, text)
     return marks
-
-
-def delta_by_ticks(element: Element, axis: Axis, ticks: dict[int, int], line: int, sender: int | None, first: int) -> None:
-    at = axis.middle(ticks[line])
-    same(x_of(element)[-1], at)
-    if element.tag == SVG + "line" and sender is not None:
-        same(x_of(element)[0], axis.middle(ticks[sender]) if sender >= first else LEFT)
 
 
 def with_ticks(place: int) -> str:
@@ -256,35 +252,28 @@ def spread(script: str, gap: int) -> str:
 def runs_by_column(script: str, axis: Axis, ticks: dict[int, int], cpus: int) -> dict[tuple[int, int], str]:
     """Who ran at each CPU in each column: a thread that did in each of its ticks, or the share of them in fifths. What came before the commands that
     have a tick was before the first tick, and what comes behind them is left out."""
-    begins = [-(-column * axis.count // axis.columns) for column in range(axis.columns + 1)]
-    busy: dict[tuple[int, int], Counter[int]] = {}
+    spans: list[tuple[int, int, int, int]] = []
     on: dict[int, tuple[int, int]] = {}
-
-    def left(cpu: int, until: int) -> None:
-        thread, since = on.pop(cpu)
-        column = axis.column(since)
-        while column < axis.columns and begins[column] < until - axis.first:
-            there = min(until - axis.first, begins[column + 1]) - max(since - axis.first, begins[column])
-            if there:
-                busy.setdefault((cpu, column), Counter())[thread] += there
-            column += 1
-
     for number, words, answer in answered(script, answers_to(script)):
-        if number > max(ticks):
-            break
-        if words[0] == "commit" and answer.startswith("ok"):
-            on[int(words[1])] = (int(words[2][1:]), ticks.get(number, axis.first))
-        elif words[0] == "block" and answer.startswith("ok"):
-            left(int(words[1]), ticks.get(number, axis.first))
-    for cpu in list(on):
-        left(cpu, axis.last + 1)
+        if number <= max(ticks) and words[0] in ("commit", "block") and answer.startswith("ok"):
+            cpu, tick = int(words[1]), ticks.get(number, axis.first)
+            if words[0] == "commit":
+                on[cpu] = (int(words[2][1:]), tick)
+            else:
+                spans.append((cpu, *on.pop(cpu), tick))
+    spans += [(cpu, *came, axis.last + 1) for cpu, came in on.items()]
+    begins = [axis.first - (-column * axis.count // axis.columns) for column in range(axis.columns + 1)]
+    busy: defaultdict[tuple[int, int], Counter[int]] = defaultdict(Counter)
+    for cpu, thread, begin, end in spans:
+        for column in range(axis.column(begin), axis.column(end - 1) + 1):
+            busy[cpu, column][thread] += max(0, min(end, begins[column + 1]) - max(begin, begins[column]))
     shown = {}
     for (cpu, column), threads in busy.items():
-        length = begins[column + 1] - begins[column]
-        if len(threads) == 1 and threads.total() == length:
-            shown[cpu, column] = f"t{next(iter(threads))}"
-        else:
-            shown[cpu, column] = f"{20 * max(1, min(5, (10 * threads.total() + length) // (2 * length)))} %"
+        length, ran = begins[column + 1] - begins[column], threads.total()
+        if len(+threads) == 1 and ran == length:
+            shown[cpu, column] = f"t{next(iter(+threads))}"
+        elif ran:
+            shown[cpu, column] = f"{20 * max(1, min(5, (10 * ran + length) // (2 * length)))} %"
     return shown
 
 
@@ -310,33 +299,28 @@ def posts_by_column(script: str, axis: Axis, ticks: dict[int, int]) -> Counter[t
         posted = re.fullmatch(r"ok (?:t\d+ n\d+|-) q(\d+) a\d+ wake .*", answer)
         if posted:
             posts[int(posted[1]), axis.column(ticks[number])] += 1
-    return in_runs(posts)
+    return in_runs(posts, set(posts))
 
 
-def in_runs(counts: Counter[tuple[int, int]]) -> Counter[tuple[int, int]]:
-    """Counts of columns that stand side by side, all of which have some, together at the first of them."""
+def in_runs(counts: Counter[tuple[int, int]], there: set[tuple[int, int]]) -> Counter[tuple[int, int]]:
+    """Counts of columns that stand side by side, all of which are there, together at the first of them."""
     runs: Counter[tuple[int, int]] = Counter()
-    for queue, column in counts:
-        first = column
-        while counts[queue, first - 1]:
-            first -= 1
-        runs[queue, first] += counts[queue, column]
+    for (queue, column), count in counts.items():
+        while (queue, column - 1) in there:
+            column -= 1
+        runs[queue, column] += count
     return runs
 
 
 def counts_in(picture: Picture, axis: Axis) -> Counter[tuple[int, int]]:
     """The posts that the picture's strips tell, those of strips side by side together at the first column."""
-    strips: dict[tuple[int, int], tuple[int, int]] = {}
+    counts: Counter[tuple[int, int]] = Counter()
+    there: set[tuple[int, int]] = set()
     for told, element in picture.found(r"(\d+) posts? to queue (\d+), .*"):
         left, right = (round((edge - LEFT) / axis.wide) for edge in edges_of(element))
-        strips[int(told[2]), left] = (right, int(told[1]))
-    ends = {(queue, right): (queue, left) for (queue, left), (right, _) in strips.items()}
-    runs: Counter[tuple[int, int]] = Counter()
-    for place, (_, count) in strips.items():
-        while place in ends:
-            place = ends[place]
-        runs[place] += count
-    return runs
+        counts[int(told[2]), left] = int(told[1])
+        there |= {(int(told[2]), column) for column in range(left, right)}
+    return in_runs(counts, there)
 
 
 def test_many_steps_in_one_tick() -> None:

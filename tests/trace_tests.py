@@ -8,6 +8,7 @@ from __future__ import annotations
 import json
 import re
 import sys
+import tomllib
 from collections import Counter
 from typing import Any
 
@@ -15,25 +16,8 @@ import rig
 from rig import ROOT, good, outcome, same
 
 TO_TRACE = ROOT / "tools/to-trace"
-SCRIPT = """\
-# a head
-enclave 2 4 9 9 9
-# at 5
-create 0 3 ready
-create 0 3 blocked
-publish 0
-consume 0
-# at 7
-pick 0 2
-steal 1
-# at 17
-block 0 10
-crash 1
-"""
-# Worked out by hand.
-RUNS = [(0, "t0", 7, 10)]
-MARKS = [(1, "steal: NothingToSteal", 7), (1, "crash", 17)]
-COUNTS = {"queue 0": [(0, 0), (5, 1), (5, 2), (5, 0), (17, 1)], "queue 1": [(0, 0)], "threads that wait": [(5, 1), (7, 0)]}
+WORKED = tomllib.loads((ROOT / "tests/traces.toml").read_text())
+SCRIPT, DIGITS = WORKED["script"], "9" * 5000
 Rows = list[dict[str, Any]]
 
 
@@ -50,12 +34,12 @@ def told(rows: Rows, kind: str, *names: str) -> list[tuple[Any, ...]]:
 
 def test_what_happened_stands_at_its_time():
     rows = traced(SCRIPT)
-    same(told(rows, "X", "tid", "name", "ts", "dur"), RUNS)
-    same(told(rows, "i", "tid", "name", "ts"), MARKS)
-    counts: dict[str, list[tuple[int, int]]] = {}
+    same([*map(list, told(rows, "X", "tid", "name", "ts", "dur"))], WORKED["runs"])
+    same([*map(list, told(rows, "i", "tid", "name", "ts"))], WORKED["marks"])
+    counts: dict[str, list[list[int]]] = {}
     for name, time, args in told(rows, "C", "name", "ts", "args"):
-        counts.setdefault(name, []).append((time, args["value"]))
-    same(counts, COUNTS)
+        counts.setdefault(name, []).append([time, args["value"]])
+    same(counts, WORKED["counts"])
     same({cpu: args["name"] for cpu, args in told(rows, "M", "tid", "args")}, {0: "CPU 0", 1: "CPU 1"})
 
 
@@ -108,35 +92,10 @@ def test_answers_of_another_script_are_refused():
         unfit("enclave 1 1 1 1 1\nrouse 0\n", answers, fault)
 
 
-# The last line and its answer, behind two threads that are ready, of which the first runs on CPU 0 where it says so.
-UNFIT = {
-    "a CPU that is not there": ("pick 9 2", "ok t0 c9", False),
-    "another CPU than the one that picks": ("pick 0 2", "ok t0 c1", False),
-    "a queue that is not there": ("steal 1", "ok t0 q7", False),
-    "a CPU that steals and is not there": ("steal 9", "ok t0 q1", False),
-    "a queue that is not there to be consumed": ("consume 9", "ok 1", False),
-    "more items than there are": ("consume 0", "ok 3", False),
-    "fewer items than none": ("consume 0", "ok -1", False),
-    "a thread that is not there": ("pick 0 2", "ok t9 c0", False),
-    "the status of a thread that is not there": ("status t5", "ok t5 n1", False),
-    "a status on a CPU that is not there": ("status t0", "t0 n1 ready c9", False),
-    "a thread of many digits": ("pick 0 2", f"ok t{'9' * 5000} c0", False),
-    "a number of many digits": (f"tick {'9' * 5000}", "refused BadCpu", False),
-    "a duration below nothing": ("block 0 -5", "ok t0 n2 q0 a3 wake -", True),
-    "a thread on two CPUs by a pick": ("pick 1 0", "ok t0 c1", True),
-    "a thread on two CPUs by a commit": ("commit 1 t0 0", "ok t0 c1", True),
-    "a thread on two CPUs by a mend": ("mend 1", "ok t0 c1", True),
-    "two threads on a CPU": ("pick 0 2", "ok t1 c0", True),
-    "a steal of who runs": ("steal 1", "ok t0 q1", True),
-    "no word of an answer": ("steal 1", "ok", False),
-    "a command with a word too few": ("tick", "refused BadCpu", False),
-    "a command that is none": ("idle t5", "ok t5 c1", False),
-    "a second enclave": ("enclave 2 4 9 9 9", "ok", False),
-}
-
-
-@rig.each(UNFIT)
-def test_answers_that_no_kernel_gives(line: str, answer: str, runs: bool) -> None:
+@rig.each({name: (row,) for name, row in WORKED["unfit"].items()})
+def test_answers_that_no_kernel_gives(row: dict[str, Any]) -> None:
+    line, answer = (row[name].replace("DIGITS", DIGITS) for name in ("line", "answer"))
+    runs = row.get("runs", False)
     script = ["version 3", "enclave 2 4 9 9 9", "create 0 3 ready", "create 0 3 ready", "consume 0", *["commit 0 t0 2"] * runs]
     answers = ["ok", "ok", "ok t0 n1 q0 a1 wake -", "ok t1 n1 q0 a2 wake -", "ok 0", *["ok t0 c0"] * runs]
     unfit("\n".join([*script, line, ""]), "\n".join([*answers, answer, ""]), "is no answer of a kernel")
@@ -149,7 +108,7 @@ def test_an_enclave_that_no_kernel_has():
 
 def test_comments_that_tell_no_tick():
     """A tick that goes back, and a number past the greatest, are none, as docs/FORMATS.md has it."""
-    script = SCRIPT.replace("# at 7\n", f"# at 7\n# at 3\n# at {2 ** 64}\n# at {'9' * 5000}\n")
+    script = SCRIPT.replace("# at 7\n", f"# at 7\n# at 3\n# at {2 ** 64}\n# at {DIGITS}\n")
     same(traced(script), traced(SCRIPT))
 
 

@@ -96,17 +96,13 @@ class WrongBody:
     def has(self, function: str) -> bool:
         return any(are_one(function, it) for it in self.changed | self.refused_in)
 
+    def changes_that_of(self, row: Row) -> bool:
+        """Whether it is refused in a function that it changes."""
+        return any(are_one(row.goal.split()[0], it) for it in self.changed)
+
     def meets(self, other: WrongBody) -> bool:
         """Whether one may fail for the other's sake, where both are tried."""
         return not self.copy and not other.copy and any(map(self.has, other.changed | other.refused_in))
-
-    def asked(self) -> set[str]:
-        """The functions that a check is asked for, by their names there."""
-        return {it + self.copy for it in self.refused_in}
-
-    def kept(self) -> set[str]:
-        """The functions that need their bodies, by their names there."""
-        return {it + self.copy for it in self.changed | self.refused_in}
 
 
 class Bad(Exception):
@@ -124,15 +120,13 @@ def are_one(function: str, other: str) -> bool:
 
 def read_table(text: str) -> dict[str, Row]:
     rows: dict[str, Row] = {}
-    last = ""
     for number, line in enumerate(text.splitlines(), 1):
-        row = ROW.fullmatch(line)
+        row, last = ROW.fullmatch(line), next(reversed(rows), "")
         if not row:
             raise Bad(f"{TABLE}, line {number}: it cannot be read: {line}")
         if row[1] <= last:
             raise Bad(f"{TABLE}, line {number}: {row[1]} stands behind {last}")
-        last = row[1]
-        rows[last] = Row(row[2], row[3] or "")
+        rows[row[1]] = Row(row[2], row[3] or "")
     return rows
 
 
@@ -160,22 +154,13 @@ def lines_at(lines: list[str], number: int) -> tuple[int, int]:
     raise Bad(f"no function has line {number}")
 
 
-def function_at(lines: list[str], number: int) -> str:
-    """The function that has the line of this number, with its owner."""
-    place, _ = lines_at(lines, number)
-    return (owner_above(lines, place) if lines[place].startswith(" ") else "") + FUNCTION.match(lines[place])[2]
-
-
-def is_of_a_trait(lines: list[str], place: int) -> bool:
-    """Whether the function that begins there is one of a trait: a copy of it would be none."""
-    outer = next((it for it in reversed(lines[:place]) if it and not it.startswith((" ", "/"))), "")
-    return lines[place].startswith(" ") and (not outer.startswith("impl") or " for " in outer)
-
-
 def function_in(file: str, lines: list[str], number: int) -> str:
-    """The same with its modules."""
+    """The function that has the line of this number, with its modules and its owner."""
+    place, _ = lines_at(lines, number)
     module = file.removeprefix("src/").removesuffix(".rt")
-    return ("" if module in ("lib", "main") else module.replace("/", "::") + "::") + function_at(lines, number)
+    modules = "" if module in ("lib", "main") else module.replace("/", "::") + "::"
+    owner = owner_above(lines, place) if lines[place].startswith(" ") else ""
+    return modules + owner + FUNCTION.match(lines[place])[2]
 
 
 def changes_of(crate: pathlib.Path, edit: pathlib.Path) -> list[Change]:
@@ -218,8 +203,9 @@ def is_within_one(crate: pathlib.Path, body: WrongBody) -> bool:
             begin, _ = lines_at(lines, it.line)
         except Bad:
             return False
-        if is_of_a_trait(lines, begin):
-            return False
+        outer = next((line for line in reversed(lines[:begin]) if line and not line.startswith((" ", "/"))), "")
+        if lines[begin].startswith(" ") and (not outer.startswith("impl") or " for " in outer):
+            return False  # It is of a trait: a copy of it would be none.
         spans.add((it.file, begin))
     return len(spans) == 1 and all(any(are_one(it, other) for other in body.changed) for it in body.refused_in)
 
@@ -231,13 +217,14 @@ def together(bodies: list[WrongBody]) -> list[list[WrongBody]]:
     for body in bodies:
         fits = (bundle for bundle in bundles if not any(map(body.meets, bundle)))
         bundle = next(fits, None)
-        if bundle is None and bundles and body.can_be_copied:
-            bundle, copies = bundles[0], copies + 1
+        if bundle is not None:
+            bundle.append(body)
+        elif bundles and body.can_be_copied:
+            copies += 1
             body.copy = f"_copied_{copies}"
-        if bundle is None:
-            bundle = []
-            bundles.append(bundle)
-        bundle.append(body)
+            bundles[0].append(body)
+        else:
+            bundles.append([body])
     return bundles
 
 
@@ -286,8 +273,7 @@ def proofs_made(crate: Any) -> list[str]:
         made = pathlib.Path(f"{crate.folder}/out/rlib/{crate.name}.rlib/toolchain/made.json").read_text().splitlines()
     except OSError:
         return []
-    found = (re.fullmatch(r"proofs/([\w/]+)/Proof", json.loads(line)[0]) for line in made)
-    return [it[1] for it in found if it]
+    return [it[1] for line in made if (it := re.fullmatch(r"proofs/([\w/]+)/Proof", json.loads(line)[0]))]
 
 
 def empty_others(copy: pathlib.Path, made: list[str], kept: set[str]) -> None:
@@ -315,12 +301,6 @@ def kit() -> ModuleType:
     sys.dont_write_bytecode = True
     sys.path.insert(0, os.path.dirname(os.path.realpath(found)))
     return importlib.import_module("rtlib")
-
-
-def write_changes(crate: pathlib.Path, changes: list[Change]) -> None:
-    for file in {it.file for it in changes}:
-        text = (crate / file).read_text()
-        (crate / file).write_text(changed(text, [it for it in changes if it.file == file]))
 
 
 def copied_function(whole: pathlib.Path, body: WrongBody) -> tuple[str, int, list[str]]:
@@ -358,14 +338,16 @@ def check(whole: pathlib.Path, made: list[str], command: list[str], bundle: list
     """What a check says of a copy of the crate with these wrong bodies, of the functions that have to be refused."""
     # The names of the table are those that a check prints. Of one that it does not name yet, all of the crate is asked.
     named = all(body.refused_in for body in bundle)
-    asked = sorted({it for body in bundle for it in body.asked()}) if named else []
+    asked = sorted({it + body.copy for body in bundle for it in body.refused_in}) if named else []
     words = [*command, *(word for it in asked for word in ("--only", it))]
     with tempfile.TemporaryDirectory(prefix="wrong-bodies-") as room:
         copy = pathlib.Path(shutil.copytree(whole, pathlib.Path(room) / whole.name))
-        write_changes(copy, [it for body in bundle for it in body.changes if not body.copy])
+        changes = [it for body in bundle for it in body.changes if not body.copy]
+        for file in {copy / it.file for it in changes}:
+            file.write_text(changed(file.read_text(), [it for it in changes if copy / it.file == file]))
         add_copies(whole, copy, [body for body in bundle if body.copy])
         if named:
-            empty_others(copy, made, {it for body in bundle for it in body.kept()})
+            empty_others(copy, made, {it + body.copy for body in bundle for it in body.changed | body.refused_in})
         ran = subprocess.run(words, cwd=copy, capture_output=True, text=True, errors="replace", timeout=SECONDS_OF_A_CHECK)
     return ran.stdout + ran.stderr
 
@@ -388,28 +370,17 @@ def failures_in(said: str, crate: str) -> dict[str, list[str]]:
     return goals
 
 
-def goals_of(body: WrongBody, goals: dict[str, list[str]]) -> dict[str, list[str]]:
-    """The goals that are not proved with this wrong body: a copy's stand in place of the function's."""
-    if body.copy:
-        return {it.removesuffix(body.copy): goals[it] for it in goals if it.endswith(body.copy)}
-    return {it: goals[it] for it in goals if not COPY.search(it)}
-
-
 def place_told(row: Row, goals: dict[str, list[str]]) -> str:
     """The function in which the goal of the row is not proved, as the check names it; nothing where it is proved."""
     function, goal = row.goal.split()
-    fits = lambda it: it.startswith(goal[:-2]) if goal.endswith("..") else it == goal
-    return next((it for it in goals if are_one(it, function) and any(map(fits, goals[it]))), "")
+    form = re.escape(goal.removesuffix("..")) + ".*" * goal.endswith("..")
+    own = (it for it in goals if are_one(it, function))
+    return next((it for it in own if any(re.fullmatch(form, told) for told in goals[it])), "")
 
 
 def told_of(body: WrongBody, goals: dict[str, list[str]]) -> list[str]:
     """The goals of its functions that are not proved."""
     return [f"{function} {goal}" for function in sorted(goals) if body.has(function) for goal in dict.fromkeys(goals[function])]
-
-
-def is_changed(body: WrongBody, row: Row) -> bool:
-    """Whether it is refused in a function that it changes."""
-    return any(are_one(row.goal.split()[0], it) for it in body.changed)
 
 
 def fault_of(body: WrongBody, goals: dict[str, list[str]], rows: dict[str, Row]) -> str:
@@ -419,7 +390,7 @@ def fault_of(body: WrongBody, goals: dict[str, list[str]], rows: dict[str, Row])
         return f"{TABLE} does not name it; refused for `{told}`"
     if not place_told(row, goals):
         return f"refused for `{told}`, wanted `{row.goal}`"
-    if not row.why and not is_changed(body, row):
+    if not row.why and not body.changes_that_of(row):
         return f"it fails in another function than it changes, and {TABLE} does not say why"
     return ""
 
@@ -431,7 +402,7 @@ def row_told(body: WrongBody, goals: dict[str, list[str]], rows: dict[str, Row])
         row = Row(f"{place_told(row, goals)} {row.goal.split()[1]}", row.why)
     else:
         row = Row((told_of(body, goals) or ["is proved"])[0], row.why if row else "")
-    asked = "" if is_changed(body, row) else "WHY"
+    asked = "" if body.changes_that_of(row) else "WHY"
     return f"{body.name}: {row.goal}" + (f" | {row.why or asked}" if row.why or asked else "")
 
 
@@ -451,7 +422,9 @@ def judge(said: str, crate: str, bundle: list[WrongBody], rows: dict[str, Row]) 
         return {body.name: none for body in bundle}
     all_goals, outcomes = failures_in(said, crate), {}
     for body in bundle:
-        goals = goals_of(body, all_goals)
+        # A copy's goals stand in place of the function's.
+        own = {it: it.removesuffix(body.copy) for it in all_goals if (COPY.search(it) or [""])[0] == body.copy}
+        goals = {function: all_goals[it] for it, function in own.items()}
         fault = fault_of(body, goals, rows)
         is_doubtful = not told_of(body, goals) or body.name in rows and bool(fault)
         outcomes[body.name] = Outcome(fault, row_told(body, goals, rows), is_doubtful)
@@ -478,16 +451,13 @@ def try_crate(tools: ModuleType, crate: Any, bodies: list[WrongBody], rows: dict
                 outcomes |= judge(check(copy, made, command, bundle), crate.name, bundle, rows)
             except (OSError, subprocess.SubprocessError) as fault:
                 outcomes |= {body.name: Outcome(f"it could not be tried: {fault}") for body in bundle}
-            tell_time(time.monotonic() - began, bundle)
+            if os.environ.get("WRONG_BODIES_TIMES"):
+                names = " ".join(body.name for body in bundle)
+                print(f"{time.monotonic() - began:.0f} s: {names}", file=sys.stderr, flush=True)
             if len(bundle) > 1:
                 alone = [body for body in bundle if outcomes[body.name].is_doubtful]
                 bundles += [[dataclasses.replace(body, copy="")] for body in alone]
     return outcomes
-
-
-def tell_time(seconds: float, bundle: list[WrongBody]) -> None:
-    if os.environ.get("WRONG_BODIES_TIMES"):
-        print(f"{seconds:.0f} s: {' '.join(body.name for body in bundle)}", file=sys.stderr, flush=True)
 
 
 def places() -> int:

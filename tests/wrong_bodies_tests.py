@@ -7,72 +7,16 @@ import json
 import os
 import pathlib
 import sys
+import tomllib
 
 import rig
 from rig import ROOT, same
 
-# A crate that is made up.
+# A crate that is made up: its source, its edits, the rows of their table, and what a check says of them.
 SOURCE = (ROOT / "tests/wrong_bodies.rt.in").read_text()
-# Says of the functions that it is asked for what a file tells it to say where the crate holds a text; keeps what it was asked.
-RT = """\
-#!/usr/bin/env python3
-import json, pathlib, sys
-asked = [word for word, before in zip(sys.argv[1:], sys.argv) if before == "--only"]
-said = json.loads(pathlib.Path(SAYS).read_text())
-text = pathlib.Path("src/count.rt").read_text()
-pathlib.Path(SAYS + ".text").write_text(text)
-proofs = {str(file): file.read_text() for file in pathlib.Path("proofs").rglob("*.antt")}
-pathlib.Path(SAYS + ".proofs").write_text(json.dumps(proofs))
-with open(SAYS + ".asked", "a") as asks:
-    asks.write(f"{' '.join(asked)}: {sorted(pathlib.Path('.').iterdir())[0]}\\n")
-for holds, lines in said.items():
-    there, _, absent = holds.partition("|")
-    if there in text and not (absent and absent in text):
-        print(lines)
-"""
-# What the kit knows of the it.
-RTLIB = """\
-import pathlib
-
-RATTLE = str(pathlib.Path(__file__).resolve().parent / "rattle")
-PARTS = ("src", "specs", "proofs")
-
-
-class Crate:
-    name = "low"
-
-    def __init__(self, top):
-        self.folder = f"{top}/crates/low"
-
-    def words(self, flags, keeps):
-        assert not keeps
-        return ["--crate-name", self.name, *flags]
-
-
-def crates_below(top):
-    return [Crate(top)]
-"""
+MADE_UP = tomllib.loads((ROOT / "tests/wrong_bodies.toml").read_text())
+EDITS, TABLE, SAYS, FAILS = (MADE_UP[name] for name in ("edits", "table", "says", "fails"))
 UNPROVED = "fn low::{}: no proof: expected answers in ./proofs/x/Answers.antt; `search` did not prove {}"
-EDITS = {
-    "more-is-two": "old: count + 1\nnew: count + 2",
-    "more-is-none": "old: count + 1\nnew: count",
-    "none-is-one": "old: value: 0\nnew: value: 1",
-    "from-counts-twice": "old: told.len()\nnew: told.len() * 2",
-}
-TABLE = {
-    "from-counts-twice": "count::CountFrom::from returns",
-    "more-is-none": "count::more returns",
-    "more-is-two": "count::more returns",
-    "none-is-one": "count::Count::none returns-clause-fresh",
-}
-SAYS = {
-    "told.len() * 2": UNPROVED.format("count::CountFrom::from", "`returns`"),
-    "fn more_copied_1": UNPROVED.format("count::more_copied_1", "`returns`"),
-    "count + 2|more_copied": UNPROVED.format("count::more", "`returns`"),
-    "    count\n": "./proofs/count/more/Answers.antt:3:4: error: `returns`: it differs\nfn low::count::more: not proved",
-    "value: 1": UNPROVED.format("count::Count::none", "`returns-clause-other`, `returns-clause-fresh`"),
-    "": "fn low::count::other: proved",
-}
 
 
 class WrongBodies:
@@ -86,10 +30,9 @@ class WrongBodies:
         self.put_table(TABLE)
         self.put_says(SAYS)
         says = repr(str(self.root / "says"))
-        (self.root / "bin/rattle").write_text(RT.replace("SAYS)", f"{says})").replace("SAYS +", f"{says} +"))
-        (self.root / "bin/rt").write_text("#!/bin/sh\n")
-        (self.root / "bin/rtlib.py").write_text(RTLIB)
-        for name in ("rattle", "rt"):
+        rattle = MADE_UP["rattle"].replace("SAYS)", f"{says})").replace("SAYS +", f"{says} +")
+        for name, text in {"rattle": rattle, "rt": "#!/bin/sh\n", "rtlib.py": MADE_UP["rtlib"]}.items():
+            (self.root / "bin" / name).write_text(text)
             (self.root / "bin" / name).chmod(0o755)
 
     def put_edits(self, edits: dict[str, str]) -> None:
@@ -183,23 +126,7 @@ def test_a_goal_in_a_note_is_of_the_function_behind_it(it: WrongBodies) -> None:
     it.fails_by("low/none-is-one: refused for")
 
 
-# What is said otherwise, and a row of the table that is gone; and what fails then.
-FAILS = {
-    "one that is proved": (
-        {"fn more_copied_1": "fn low::count::more_copied_1: proved", "count + 2|more_copied": "fn low::count::more: proved"}, "",
-        "low/more-is-two: refused for `nothing`, wanted `count::more returns`"),
-    "one that is refused for another goal": (
-        {"value: 1": UNPROVED.format("count::Count::none", "`returns-clause-other`")}, "",
-        "low/none-is-one: refused for `count::Count::none returns-clause-other`, wanted"),
-    "one whose function fails for what it calls alone": (
-        {"value: 1": "fn low::count::Count::none: no proof: it calls `low::count::more`, which is not proved"}, "",
-        "low/none-is-one: refused for `nothing`"),
-    "one that the table does not name": (
-        {}, "more-is-two", "low/more-is-two: tests/wrong_bodies.txt does not name it; refused for `count::more returns`"),
-}
-
-
-@rig.each(FAILS)
+@rig.each({name: (row["says"], row["row"], row["words"]) for name, row in FAILS.items()})
 def test_fails(it: WrongBodies, says: dict[str, str], row: str, words: str) -> None:
     it.put_says(SAYS | says)
     it.put_table({name: goal for name, goal in TABLE.items() if name != row})
