@@ -36,7 +36,7 @@ all_then a b old mid new first then' w h =
     (next.0, did.1 ++ next.1, runs_append w did.0 next.0 a b did.1 next.1 did.2 next.2, next.3)
 
 -- a list of which a part was done, and what would follow
-pub cut_first : (a b : List Event) (w new : PlainWorld) → RanOutAmong w a new → RanOutAmong w (a ++ b) new
+abbrev pub cut_first : (a b : List Event) (w new : PlainWorld) → RanOutAmong w a new → RanOutAmong w (a ++ b) new
 cut_first a b w new cut = record {
   done = cut.done;
   next = cut.next;
@@ -52,7 +52,7 @@ pub part_first : (a b : List Event) (old new : Parts) → RunsOutAmong a old new
 part_first a b old new part w h = let did = part w h in (did.0, cut_first a b w did.0 did.1, did.2)
 
 -- a list that was done, and one of which a part was
-cut_then : (a b : List Event) (w v new : PlainWorld) (told : List Reply) → Runs w a told v → RanOutAmong v b new → RanOutAmong w (a ++ b) new
+abbrev pub cut_then : (a b : List Event) (w v new : PlainWorld) (told : List Reply) → Runs w a told v → RanOutAmong v b new → RanOutAmong w (a ++ b) new
 cut_then a b w v new told ran cut = record {
   done = a ++ cut.done;
   next = cut.next;
@@ -71,7 +71,7 @@ part_then a b old mid new first part w h =
     (next.0, cut_then a b w did.0 next.0 did.1 did.2 next.1, next.2)
 
 -- lists that grow at their end: each goes on from those before it
-grows_on : (f g : ℕ → List Event) → ((n : ℕ) → f (suc n) ≡ f n ++ g n) → (i n : ℕ) → i < n → (rest : List Event) × (f n ≡ (f i ++ g i) ++ rest)
+pub grows_on : (f g : ℕ → List Event) → ((n : ℕ) → f (suc n) ≡ f n ++ g n) → (i n : ℕ) → i < n → (rest : List Event) × (f n ≡ (f i ++ g i) ++ rest)
 grows_on f g grows i zero low = absurd (omega arith)
 grows_on f g grows i (suc n) low = elim (cases_lt i n) [
   | inl below ↦ let before = grows_on f g grows i n below in (before.0 ++ g n, grows n ∙ ap (λ l. l ++ g n) before.1 ∙ append_assoc (f i ++ g i) before.0 (g n))

@@ -307,6 +307,14 @@ module _ (laws : KernelLaws) (law : AWaitingThreadCanBeRun) (old : Parts) (c cpu
             waited t (same_waits laws.reads w.kernel v.kernel same c t waits)
             (same_stolen laws.reads w.kernel v.kernel same (w.agents c).rules (v.agents c).rules c t (rules_so w v h k) stolen)
 
+    -- what the answer tells
+    pub answer_tells : IsReached old → (w : PlainWorld) → (h : ShowsWorld old w) → TellsWhatRuns w c told (ends w h).0
+    answer_tells reached w h = tells (came w h).tells
+      where
+        tells : ((t : ℕ) × (told ≡ reply.Committed c t) × ((ends w h).0.kernel.on c ≡ Some t)) ⊎ IsIdleStill w c told (ends w h).0 → TellsWhatRuns w c told (ends w h).0
+        tells (inl some) = subst (λ r. TellsWhatRuns w c r (ends w h).0) (sym some.1) (refl, some.2)
+        tells (inr still) = subst (λ r. TellsWhatRuns w c r (ends w h).0) (sym still.is) (still.idle, none_waits reached still.is w h)
+
     pub mended : IsReached old → Does (IsMended c) old new told
     mended reached w h =
         let last = (ends w h).0 in
@@ -314,13 +322,9 @@ module _ (laws : KernelLaws) (law : AWaitingThreadCanBeRun) (old : Parts) (c cpu
         let is = came w h in (
           last,
           match_true (is_cpu (shown w.kernel) c) (MatchOption (w.kernel.on c) (IsMending w c told last) (λ t. IsRefused w refusals.Busy told last)) (IsBadCpu w told last) idle.there
-              (match_none (w.kernel.on c) (IsMending w c told last) (IsRefused w refusals.Busy told last) idle.idle (record { replies = is.replies; runs = is.runs; tells = tells is.tells })),
+              (match_none (w.kernel.on c) (IsMending w c told last) (IsRefused w refusals.Busy told last) idle.idle (record { replies = is.replies; runs = is.runs; tells = answer_tells reached w h })),
           (ends w h).2,
         )
-      where
-        tells : ((t : ℕ) × (told ≡ reply.Committed c t) × ((ends w h).0.kernel.on c ≡ Some t)) ⊎ IsIdleStill w c told (ends w h).0 → TellsWhatRuns w c told (ends w h).0
-        tells (inl some) = subst (λ r. TellsWhatRuns w c r (ends w h).0) (sym some.1) (refl, some.2)
-        tells (inr still) = subst (λ r. TellsWhatRuns w c r (ends w h).0) (sym still.is) (still.idle, none_waits reached still.is w h)
 
   -- the picks and the steal
   abbrev rest : ℕ → List Event

@@ -18,7 +18,7 @@ runs_more [] (r ∷ rs) w mid new event told ran step = absurd ran
 runs_more (e ∷ es) [] w mid new event told ran step = absurd ran
 runs_more (e ∷ es) (r ∷ rs) w mid new event told ran step = (ran.0, ran.1, runs_more es rs ran.0 mid new event told ran.2 step)
 
-taken_then_left : (events : List Event) (i : ℕ) → events ≡ take i events ++ drop i events
+pub taken_then_left : (events : List Event) (i : ℕ) → events ≡ take i events ++ drop i events
 taken_then_left [] zero = refl
 taken_then_left [] (suc i) = refl
 taken_then_left (e ∷ es) zero = refl

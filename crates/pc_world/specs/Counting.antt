@@ -8,12 +8,15 @@ use Rattle.pc_calls.specs.declared.event.Reply.TheVariants as reply
 use Rattle.pc_calls.specs.declared.refusal.CallFault.TheVariants as fault
 use Rattle.pc_calls.specs.declared.refusal.Refusal.TheVariants.{BadCpu, Busy}
 use Rattle.pc_kernel.specs.PlainKernel.{is_named}
-use Rattle.pc_agent.specs.Counts.{consume_counted, pick_counted, steal_counted}
+use Rattle.pc_agent.specs.Counts.{consume_counted, none_counted, pick_counted, steal_counted}
 use Rattle.pc_agent.specs.declared.counts.Counts.{Counts}
 use Rattle.pc_agent.specs.Shows.{counts_of}
 use Rattle.pc_world.specs.Mending.{mending, mending_by_steal}
+use Rattle.pc_world.specs.Mends.{TellsWhatRuns}
 use Rattle.pc_world.specs.PlainWorld.{PlainWorld}
+use Rattle.pc_world.specs.RanOut.{IsCutShort, RanOutAmong}
 use Rattle.pc_world.specs.Shows.{ShowsWorld, World}
+use Rattle.pc_world.specs.Steps.{Runs}
 
 -- the CPU whose agent counts the event: that of a consume, a pick or a steal; no agent counts any other event
 abbrev pub counting_cpu : Event → Option ℕ
@@ -47,6 +50,10 @@ counted_at c event told counts =
 abbrev pub CountsEvent : Event → World → World → Reply → Type 0
 CountsEvent event old new told = (c : ℕ) → counts_at new c ≡ counted_at c event told (counts_at old c)
 
+-- each agent that is there has counted nothing
+abbrev pub HaveCountedNothing : World → Type 0
+HaveCountedNothing world = (c : ℕ) (counts : Counts) → counts_at world c ≡ Some counts → counts ≡ none_counted
+
 -- each agent has counted what it had counted before
 abbrev pub CountsNothing : World → World → Type 0
 CountsNothing old new = (c : ℕ) → counts_at new c ≡ counts_at old c
@@ -63,19 +70,52 @@ AreCounted c (event ∷ events) [] first last = ⊥
 abbrev pub CountsEvents : List Event → List Reply → World → World → Type 0
 CountsEvents events replies old new = (c : ℕ) → AreCounted c events replies (counts_at old c) (counts_at new c)
 
--- the events of mending were counted, without the steal or with it; the last of their replies is the answer
+-- some first events were done, and the next one as far as it goes without memory, which a plain world tells that is
+-- shown after; every agent has counted those that were done, each by its reply, and nothing else
+pub record IsCountedInPart (w : PlainWorld) (events : List Event) (old new : World) : Type 0 where
+  pub after : PlainWorld
+  pub cut : IsCutShort w events after
+  pub shows : ShowsWorld new after
+  pub counts : CountsEvents cut.done cut.replies old new
+
+-- for every plain world that is shown before, such a part of the events was done from it and counted
+abbrev pub CountsInPart : List Event → World → World → Type 0
+CountsInPart events old new = (w : PlainWorld) → ShowsWorld old w → IsCountedInPart w events old new
+
+-- some first events were done, and the next one found no memory, which a plain world tells that is shown after; every
+-- agent has counted those that were done, each by its reply, and nothing else
+pub record IsCountedAmong (w : PlainWorld) (events : List Event) (old new : World) : Type 0 where
+  pub after : PlainWorld
+  pub among : RanOutAmong w events after
+  pub shows : ShowsWorld new after
+  pub counts : CountsEvents among.done among.replies old new
+
+-- the events of mending, without the steal or with it, were done, one after another; the last of their replies is the
+-- answer, and tells what runs in a plain world that is shown after; and every agent has counted these events by these
+-- replies, and nothing else
 pub record IsCountedMending (w : PlainWorld) (c : ℕ) (old new : World) (told : Reply) : Type 0 where
-  pub replies : List Reply
-  pub counts : CountsEvents (mending w c) (replies ++ told ∷ []) old new
-      ⊎ CountsEvents (mending_by_steal w c) (replies ++ told ∷ []) old new
+  pub events : List Event
+  pub are : (events ≡ mending w c) ⊎ (events ≡ mending_by_steal w c)
+  pub replies : List Reply  -- but the last
+  pub after : PlainWorld
+  pub runs : Runs w events (replies ++ told ∷ []) after
+  pub tells : TellsWhatRuns w c told after
+  pub shows : ShowsWorld new after
+  pub counts : CountsEvents events (replies ++ told ∷ []) old new
 
 -- refused, since the CPU is not there or a thread runs on it, nothing is counted
 abbrev pub IsUncountedMending : World → World → Reply → Type 0
 IsUncountedMending old new told =
     ((told ≡ reply.Refused BadCpu) ⊎ (told ≡ reply.Refused Busy)) × CountsNothing old new
 
--- for every plain world that is shown before, the agents have counted the events of mending, and nothing else; or
--- nothing, where it is refused
+-- for every plain world that is shown before, the events of mending were done from it and counted, and nothing else was
+-- counted; or nothing was, where it is refused
 abbrev pub CountsMending : ℕ → World → World → Reply → Type 0
 CountsMending c old new told =
     (w : PlainWorld) → ShowsWorld old w → IsCountedMending w c old new told ⊎ IsUncountedMending old new told
+
+-- for every plain world that is shown before, some first events of mending by a steal were done from it and counted;
+-- the next one found no memory, and was not counted
+abbrev pub CountsMendingInPart : ℕ → World → World → Type 0
+CountsMendingInPart c old new =
+    (w : PlainWorld) → ShowsWorld old w → IsCountedAmong w (mending_by_steal w c) old new

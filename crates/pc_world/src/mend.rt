@@ -1,8 +1,8 @@
 //! Mending: an idle CPU comes to run a thread that waits for it, whatever was lost before.
 
 ghost use Rattle.std.specs.Prelude.{IfOk, OnErr, OnOk, false, ◌++◌, ◌∷◌, []};
-ghost use Rattle.pc_world.specs.Counting.{CountsMending};
-ghost use Rattle.pc_world.specs.Inner.Mends.{CountsAll, CountsPicks, DoesAll, PicksOrSteals};
+ghost use Rattle.pc_world.specs.Counting.{CountsMending, CountsMendingInPart};
+ghost use Rattle.pc_world.specs.Inner.Mends.{CountsAll, CountsAmong, CountsPicks, DoesAll, PicksOrSteals};
 ghost use Rattle.pc_world.specs.Mending.{clearing, hearing};
 ghost use Rattle.pc_world.specs.Mends.{IsMended, MendsInPart, RunsTheSame, ShowsIdle};
 ghost use Rattle.pc_world.specs.Shows.{Does, KeepsSent, RunsOutAmong};
@@ -25,6 +25,7 @@ impl World {
         ensures mended { IfOk result (Does (IsMended cpu) self.old self.new) }
         ensures no_memory { OnErr result (MendsInPart cpu self.old self.new) }
         ensures counts { IfOk result (λ told. CountsMending cpu self.old self.new told) }
+        ensures counts_in_part { OnErr result (CountsMendingInPart cpu self.old self.new) }
         ensures idle { OnErr result (ShowsIdle cpu self.new) }
         ensures running { OnErr result (RunsTheSame self.old self.new) }
         ensures kept { KeepsSent self.old self.new }
@@ -51,6 +52,7 @@ impl World {
         ensures done { OnOk result (DoesAll (clearing cpus ++ hearing cpu deltas) self.old self.new) }
         ensures no_memory { OnErr result (RunsOutAmong (clearing cpus ++ hearing cpu deltas) self.old self.new) }
         ensures counts { OnOk result (CountsAll (clearing cpus ++ hearing cpu deltas) self.old self.new) }
+        ensures counts_in_part { OnErr result (CountsAmong (clearing cpus ++ hearing cpu deltas) self.old self.new) }
         ensures kept { KeepsSent self.old self.new }
     {
         self.clear_queues(cpus)?;
@@ -63,6 +65,7 @@ impl World {
         ensures done { OnOk result (DoesAll (clearing cpus) self.old self.new) }
         ensures no_memory { OnErr result (RunsOutAmong (clearing cpus) self.old self.new) }
         ensures counts { OnOk result (CountsAll (clearing cpus) self.old self.new) }
+        ensures counts_in_part { OnErr result (CountsAmong (clearing cpus) self.old self.new) }
         ensures kept { KeepsSent self.old self.new }
     {
         for index in 0..cpus {
@@ -79,6 +82,8 @@ impl World {
             (RunsOutAmong (Event.Publish cpu false ∷ Event.Consume cpu ∷ []) self.old self.new) }
         ensures counts { OnOk result
             (CountsAll (Event.Publish cpu false ∷ Event.Consume cpu ∷ []) self.old self.new) }
+        ensures counts_in_part { OnErr result
+            (CountsAmong (Event.Publish cpu false ∷ Event.Consume cpu ∷ []) self.old self.new) }
         ensures kept { KeepsSent self.old self.new }
     {
         self.take(Event::Publish { cpu, fails: false })?;
@@ -91,6 +96,7 @@ impl World {
         ensures done { OnOk result (DoesAll (hearing cpu deltas) self.old self.new) }
         ensures no_memory { OnErr result (RunsOutAmong (hearing cpu deltas) self.old self.new) }
         ensures counts { OnOk result (CountsAll (hearing cpu deltas) self.old self.new) }
+        ensures counts_in_part { OnErr result (CountsAmong (hearing cpu deltas) self.old self.new) }
         ensures kept { KeepsSent self.old self.new }
     {
         for delta in 0..deltas {
@@ -105,6 +111,8 @@ impl World {
         ensures no_memory { OnErr result (RunsOutAmong
             (Event.Pick cpu posts ∷ Event.Steal cpu ∷ Event.Pick cpu posts ∷ []) self.old self.new) }
         ensures counts { IfOk result (λ told. CountsPicks cpu posts self.old self.new told) }
+        ensures counts_in_part { OnErr result (CountsAmong
+            (Event.Pick cpu posts ∷ Event.Steal cpu ∷ Event.Pick cpu posts ∷ []) self.old self.new) }
         ensures kept { KeepsSent self.old self.new }
     {
         match self.step(Event::Pick { cpu, aseq: posts })? {
@@ -122,6 +130,7 @@ impl World {
         ensures done { OnOk result (DoesAll (event ∷ []) self.old self.new) }
         ensures no_memory { OnErr result (RunsOutAmong (event ∷ []) self.old self.new) }
         ensures counts { OnOk result (CountsAll (event ∷ []) self.old self.new) }
+        ensures counts_in_part { OnErr result (CountsAmong (event ∷ []) self.old self.new) }
         ensures kept { KeepsSent self.old self.new }
     {
         // The checker finds the types that a reply nests only where the function names them.

@@ -58,12 +58,14 @@ fn add<T: Drop>(items: &mut Vec<T>, item: T) -> Result<(), OutOfMemory>
 impl World {
     ghost use Rattle.pc_world.specs.Shows.{AreSent, Does, IsAgentAt, IsReached, IsViewAt, KeepsSent, RunsInPart};
     ghost use Rattle.pc_world.specs.Shows.{RunsThrough, ShowsWorld, LeavesWhenRanOut, deltas_of};
-    ghost use Rattle.pc_world.specs.Counting.{CountsEvent, CountsEvents, CountsNothing, counts_at};
-    ghost use Rattle.pc_world.specs.Inner.Handling.{CountsInto, StepsInPart, StepsInto};
+    ghost use Rattle.pc_world.specs.Counting.{CountsEvent, CountsEvents, CountsInPart, CountsNothing};
+    ghost use Rattle.pc_world.specs.Counting.{HaveCountedNothing, counts_at};
+    ghost use Rattle.pc_world.specs.Inner.Handling.{CountsInto, CountsOrLeaves, StepsInPart, StepsInto};
 
     /// The world at the start, with limits of profile One. Each agent runs the thread of the highest level first.
     pub fn new(alloc: Global, limits: Limits) -> Result<World, LimitsFault>
         ensures ok { IfOk result (λ world. ShowsWorld world (opened limits)) }
+        ensures counts { IfOk result (λ world. HaveCountedNothing world) }
         ensures within { IfOk result (λ _. bad_field Profile.One limits ≡ None) }
         ensures refused { (field : LimitField) → result ≡ Err (LimitsFault.BadLimits field)
             → bad_field Profile.One limits ≡ Some field }
@@ -75,6 +77,7 @@ impl World {
     /// The world at the start, with limits of the profile. Each agent runs the thread of the highest level first.
     pub fn new_in(alloc: Global, profile: Profile, limits: Limits) -> Result<World, LimitsFault>
         ensures ok { IfOk result (λ world. ShowsWorld world (opened limits)) }
+        ensures counts { IfOk result (λ world. HaveCountedNothing world) }
         ensures within { IfOk result (λ _. bad_field profile limits ≡ None) }
         ensures refused { (field : LimitField) → result ≡ Err (LimitsFault.BadLimits field)
             → bad_field profile limits ≡ Some field }
@@ -92,6 +95,7 @@ impl World {
         policies: &[AgentPolicy],
     ) -> Result<World, LimitsFault>
         ensures ok { IfOk result (λ world. ShowsWorld world (opened_by (rules_at policies.now) limits)) }
+        ensures counts { IfOk result (λ world. HaveCountedNothing world) }
         ensures within { IfOk result (λ _. bad_field profile limits ≡ None) }
         ensures refused { (field : LimitField) → result ≡ Err (LimitsFault.BadLimits field)
             → bad_field profile limits ≡ Some field }
@@ -192,6 +196,7 @@ impl World {
         ensures run { IfOk result (λ replies. RunsThrough events.now replies.items self.old self.new) }
         ensures no_memory { OnErr result (RunsInPart events.now self.old self.new) }
         ensures counts { IfOk result (λ replies. CountsEvents events.now replies.items self.old self.new) }
+        ensures counts_in_part { OnErr result (CountsInPart events.now self.old self.new) }
         ensures kept { KeepsSent self.old self.new }
     {
         let mut replies = Vec::new(self.parts.alloc);
@@ -206,6 +211,7 @@ impl World {
         ensures ok { OnOk result (StepsInto event replies.old.items replies.new.items self.old self.new) }
         ensures no_memory { OnErr result (StepsInPart event self.old self.new) }
         ensures counts { OnOk result (CountsInto event replies.old.items replies.new.items self.old self.new) }
+        ensures counts_in_part { OnErr result (CountsOrLeaves event self.old self.new) }
         ensures kept { KeepsSent self.old self.new }
     {
         // The checker finds the types that a reply nests only where the function names them.

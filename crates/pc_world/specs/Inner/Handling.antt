@@ -6,7 +6,7 @@ use Rattle.pc_join.specs.declared.join.OutOfMemory.{OutOfMemory}
 use Rattle.pc_world.specs.declared.parts.Parts.{Parts}
 use Rattle.pc_world.specs.Counting.{CountsEvent, CountsNothing}
 use Rattle.pc_world.specs.PlainWorld.{PlainWorld}
-use Rattle.pc_world.specs.Shows.{Does, KeepsSent, ShowsWorld}
+use Rattle.pc_world.specs.Shows.{Does, KeepsSent, LeavesWhenRanOut, ShowsWorld}
 use Rattle.pc_world.specs.RanOut.{RanOut}
 use Rattle.pc_world.specs.Steps.{Step}
 
@@ -41,6 +41,13 @@ StepsInPart event old new =
 abbrev pub StepsInto : Event → List Reply → List Reply → Parts → Parts → Type 0
 StepsInto event before after old new =
     (told : Reply) × (after ≡ before ++ told ∷ []) × Does (λ w. Step w event) old new told
+
+-- an event was done, and counted by a reply for which there was no place; or it left what it leaves without memory, and
+-- nothing was counted
+abbrev pub CountsOrLeaves : Event → Parts → Parts → Type 0
+CountsOrLeaves event old new =
+    ((told : Reply) × Does (λ w. Step w event) old new told × CountsEvent event old new told)
+    ⊎ (LeavesWhenRanOut event old new × CountsNothing old new)
 
 -- an event was counted by its reply, which stands at the end
 abbrev pub CountsInto : Event → List Reply → List Reply → Parts → Parts → Type 0

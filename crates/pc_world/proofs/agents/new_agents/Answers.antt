@@ -11,4 +11,4 @@ loop-cpu-preserved c =
     let ranks = rules_at c.args.policies.now in
     subst (AreNew ranks _) (sym c.in_ok-push.ensures.items)
     (new_more ranks c.loop-cpu.cpu c.loop-cpu.agents.items c.with_policy.result c.loop-cpu.invariant c.with_policy.ensures.cpu
-    (λ run. subst (λ r. ShowsAgent run (fresh r) c.with_policy.result) c.in_ok-policy.ensures (c.with_policy.ensures.fresh run)))
+    (λ run. subst (λ r. ShowsAgent run (fresh r) c.with_policy.result) c.in_ok-policy.ensures (c.with_policy.ensures.fresh run)) c.with_policy.ensures.counts)

@@ -3,13 +3,18 @@ use Rattle.pc_world.specs.Inner.Mends.{CountsAll, DoesAll}
 use Rattle.pc_world.specs.Mending.{hearing}
 use Rattle.pc_world.proofs.Chaining.{all_next, all_none, hears_one, part_next}
 use Rattle.pc_world.proofs.Running.{keeps_none, keeps_then, on_err}
-use Rattle.pc_world.proofs.Counting.{all_counted_next, all_counted_none}
+use Rattle.pc_world.proofs.Counting.{all_counted_next, all_counted_none, among_next}
 use Rattle.pc_world.proofs.world.World.hear.Goals as goal
 
 pub returns-in_err-take-clause-no_memory : goal.returns-in_err-take-clause-no_memory
 returns-in_err-take-clause-no_memory c =
     on_err c.from_residual.result _
     (part_next (hearing c.args.cpu) (hears_one c.args.cpu) (λ n. refl) c.loop-delta.delta c.args.deltas c.loop-delta-test.true c.args.self.now c.loop-delta.self c.take.new.self c.loop-delta.invariant.done c.in_err-take.ensures.no_memory)
+
+pub returns-in_err-take-clause-counts_in_part : goal.returns-in_err-take-clause-counts_in_part
+returns-in_err-take-clause-counts_in_part c =
+    on_err c.from_residual.result _
+    (among_next (hearing c.args.cpu) (hears_one c.args.cpu) (λ n. refl) c.loop-delta.delta c.args.deltas c.loop-delta-test.true c.args.self.now c.loop-delta.self c.take.new.self c.loop-delta.invariant.counted c.in_err-take.ensures.counts_in_part)
 
 pub returns-in_err-take-clause-kept : goal.returns-in_err-take-clause-kept
 returns-in_err-take-clause-kept c = keeps_then c.args.self.now c.loop-delta.self c.take.new.self c.loop-delta.invariant.kept c.take.ensures.kept

@@ -9,7 +9,7 @@ use Rattle.pc_world.proofs.Chaining.{part_first, part_then}
 use Rattle.pc_world.proofs.Mends.{begins, busy, mended, mends_in_part, none_told, not_there}
 use Rattle.pc_world.proofs.Running.{keeps_then, on_err}
 use Rattle.pc_world.proofs.Wanting.{runs_the_same, shows_idle}
-use Rattle.pc_world.proofs.Counting.{counts_mended}
+use Rattle.pc_world.proofs.Counting.{among_first, among_then, counts_mended, counts_mended_in_part}
 use Rattle.pc_world.proofs.world.World.mend.Goals as goal
 
 pub returns-in_default-clause-mended : goal.returns-in_default-clause-mended
@@ -41,6 +41,10 @@ returns-in_err-learn c =
     record {
       mended = search rules;
       counts = search rules;
+      counts_in_part =
+          on_err c.from_residual.result _
+          (counts_mended_in_part old cpu c.cpus-cpus.result c.in-Some.posts deltas begun c.learn.new.self
+          (among_first (clearing c.cpus-cpus.result ++ hearing cpu deltas) rest old c.learn.new.self c.in_err-learn.ensures.counts_in_part));
       no_memory = on_err c.from_residual.result _ part;
       idle = on_err c.from_residual.result _ (shows_idle c.kernel_laws.ensures old c.learn.new.self cpu part c.is_reached.ensures);
       running = on_err c.from_residual.result _ (runs_the_same c.kernel_laws.ensures old c.learn.new.self cpu part);
@@ -65,6 +69,10 @@ returns-in_err-answer c =
     record {
       mended = search rules;
       counts = search rules;
+      counts_in_part =
+          on_err c.from_residual-in_err-answer.result _
+          (counts_mended_in_part old cpu c.cpus-cpus.result c.in-Some.posts deltas begun c.pick_or_steal.new.self
+          (among_then (clearing c.cpus-cpus.result ++ hearing cpu deltas) rest old c.learn.new.self c.pick_or_steal.new.self c.in_ok-learn.ensures.counts c.in_err-answer.ensures.counts_in_part));
       no_memory = on_err c.from_residual-in_err-answer.result _ part;
       idle = on_err c.from_residual-in_err-answer.result _ (shows_idle c.kernel_laws.ensures old c.pick_or_steal.new.self cpu part c.is_reached.ensures);
       running = on_err c.from_residual-in_err-answer.result _ (runs_the_same c.kernel_laws.ensures old c.pick_or_steal.new.self cpu part);
@@ -95,4 +103,5 @@ returns-clause-counts c =
     let from = c.from.ensures in
     let many : deltas ≡ length (deltas_of old) + c.cpus-cpus.result = omega arith in
     let begun = begins c.kernel_laws.ensures.reads old k cpu c.kernel-kernel.ensures c.in-Some.posts c.cpus-cpus.result deltas c.in-Some.ensures free c.cpus-cpus.ensures.count many in
-    counts_mended old cpu c.cpus-cpus.result c.in-Some.posts deltas begun c.learn.new.self c.pick_or_steal.new.self c.in_ok-answer.answer c.in_ok-learn.ensures.counts c.in_ok-answer.ensures.counts
+    counts_mended old cpu c.cpus-cpus.result c.in-Some.posts deltas begun c.kernel_laws.ensures c.a_waiting_thread_can_be_run.ensures c.learn.new.self c.pick_or_steal.new.self c.in_ok-answer.answer c.in_ok-learn.ensures.counts c.in_ok-answer.ensures.counts
+    c.is_reached.ensures
