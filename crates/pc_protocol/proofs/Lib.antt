@@ -1,0 +1,13 @@
+pub mod Boxes
+pub mod Forgetting
+pub mod Calm
+pub mod Stepping
+pub mod Reaching
+pub mod Sleeping
+pub mod Spreading
+pub mod Putting
+pub mod Acting
+pub mod Settling
+pub mod Quieting
+pub mod Resting
+pub mod Going

@@ -1,0 +1,86 @@
+//! What agents in threads do, turn by turn, as a machine, and laws that hold of each of its states.
+//!
+//! A scheduler stalls where a thread is ready, a CPU idles, and no agent will ever look again. Agents that follow this
+//! protocol do not: whatever the environment does, however their threads are scheduled, however slow a send is. Nothing
+//! is called here: the crate has laws alone.
+#![tactic(auto)]
+
+ghost use Rattle.pc_world.specs.Inner.Laws.{KernelLaws};
+ghost use Rattle.pc_protocol.specs.Resting.{AgentsGoOn, AtRestAllIsHeld, AtRestItsThreadsAreKnown};
+ghost use Rattle.pc_protocol.specs.Resting.{AtRestMailTellsTheRest, AtRestNothingWaits, AtRestQueuesAreEmpty};
+ghost use Rattle.pc_protocol.specs.Resting.{SleepersHaveNothing, StatesAreReached, WhoWaitsHasNoStep};
+
+use pc_kernel::laws::{
+    accepted_associates_are_exact, accepted_commits_are_exact, calls_extend_the_run,
+    homes_are_there, messages_are_posted, messages_stay_home, queues_go_on,
+    queues_lose_only_what_was_posted, reads_are_plain, runs_are_begun, sleepers_had_no_post,
+    threads_are_placed,
+};
+use pc_view::upto_is_the_greatest;
+use pc_world::laws::every_event_has_a_step;
+
+/// The laws of the kernel.
+fn kernel_laws()
+    ensures { KernelLaws }
+{
+    messages_stay_home();
+    threads_are_placed();
+    sleepers_had_no_post();
+    runs_are_begun();
+    calls_extend_the_run();
+    reads_are_plain();
+    accepted_associates_are_exact();
+    accepted_commits_are_exact();
+    messages_are_posted();
+    queues_go_on();
+    queues_lose_only_what_was_posted();
+    homes_are_there();
+}
+
+/// Events lead to the world of each state, so whatever `pc_world` says of worlds holds of agents in threads too: nothing
+/// is lost, and a steal that succeeds is exact.
+pub fn states_are_reached()
+    ensures { StatesAreReached }
+{
+    kernel_laws();
+}
+
+/// An agent may wait for a note without a look at its queue: where none is under way to it, its queue is empty, and the
+/// next post wakes it. What it stands on is the count of posts that it read, under which it sleeps.
+pub fn sleepers_have_nothing()
+    ensures { SleepersHaveNothing }
+{
+    kernel_laws();
+}
+
+/// Nothing stalls: where no agent has anything to do, and a CPU idles, no thread waits that the CPU's agent would take.
+pub fn at_rest_nothing_waits()
+    ensures { AtRestNothingWaits }
+{
+    kernel_laws();
+    upto_is_the_greatest();
+}
+
+/// What agents may rely on where none has anything to do, though news that was not urgent may still lie in mailboxes.
+/// What an agent knows and what its mailbox holds are together the messages of the run and no others, so once it has
+/// taken its mail in, its view is that of each other agent. Of a thread that may run on its CPU it knows all already. And
+/// the queues of all CPUs are empty.
+pub fn at_rest_all_is_known()
+    ensures held { AtRestAllIsHeld }
+    ensures threads { AtRestItsThreadsAreKnown }
+    ensures queues { AtRestQueuesAreEmpty }
+    ensures mail { AtRestMailTellsTheRest }
+{
+    kernel_laws();
+    upto_is_the_greatest();
+}
+
+/// No agent gets stuck in its turn: it has a step, unless it waits and no note is under way to it. So a state is at rest
+/// exactly where no agent has a step.
+pub fn agents_go_on()
+    ensures on { AgentsGoOn }
+    ensures waits { WhoWaitsHasNoStep }
+{
+    kernel_laws();
+    every_event_has_a_step();
+}
