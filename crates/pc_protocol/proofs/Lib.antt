@@ -11,3 +11,5 @@ pub mod Settling
 pub mod Quieting
 pub mod Resting
 pub mod Going
+pub mod Worked
+pub mod Coming

@@ -8,7 +8,8 @@
 ghost use Rattle.pc_world.specs.Inner.Laws.{KernelLaws};
 ghost use Rattle.pc_protocol.specs.Resting.{AgentsGoOn, AtRestAllIsHeld, AtRestItsThreadsAreKnown};
 ghost use Rattle.pc_protocol.specs.Resting.{AtRestMailTellsTheRest, AtRestNothingWaits, AtRestQueuesAreEmpty};
-ghost use Rattle.pc_protocol.specs.Resting.{SleepersHaveNothing, StatesAreReached, WhoWaitsHasNoStep};
+ghost use Rattle.pc_protocol.specs.Resting.{RestCanCome, SleepersHaveNothing, SomeStateRests, StatesAreReached};
+ghost use Rattle.pc_protocol.specs.Resting.{WhoWaitsHasNoStep};
 
 use pc_kernel::laws::{
     accepted_associates_are_exact, accepted_commits_are_exact, calls_extend_the_run,
@@ -82,5 +83,20 @@ pub fn agents_go_on()
     ensures waits { WhoWaitsHasNoStep }
 {
     kernel_laws();
+    every_event_has_a_step();
+}
+
+/// A state at rest may have a thread on one CPU and none on another: the laws of rest speak of something.
+pub fn some_state_rests()
+    ensures { SomeStateRests }
+{}
+
+/// Agents can always come to rest by their own steps, whatever has happened. That they do is not said: an agent whose
+/// thread never runs may leave another one to ask for ever.
+pub fn rest_can_come()
+    ensures { RestCanCome }
+{
+    kernel_laws();
+    upto_is_the_greatest();
     every_event_has_a_step();
 }
