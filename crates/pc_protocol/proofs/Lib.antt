@@ -13,3 +13,5 @@ pub mod Resting
 pub mod Going
 pub mod Worked
 pub mod Coming
+pub mod Posts
+pub mod Driving

@@ -3,3 +3,4 @@
 -- every state holds however the threads are scheduled, and however slow a send is.
 pub mod Protocol
 pub mod Resting
+pub mod Running

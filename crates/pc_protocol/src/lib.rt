@@ -10,6 +10,7 @@ ghost use Rattle.pc_protocol.specs.Resting.{AgentsGoOn, AtRestAllIsHeld, AtRestI
 ghost use Rattle.pc_protocol.specs.Resting.{AtRestMailTellsTheRest, AtRestNothingWaits, AtRestQueuesAreEmpty};
 ghost use Rattle.pc_protocol.specs.Resting.{RestCanCome, SleepersHaveNothing, SomeStateRests, StatesAreReached};
 ghost use Rattle.pc_protocol.specs.Resting.{WhoWaitsHasNoStep};
+ghost use Rattle.pc_protocol.specs.Running.{DriversGoOn, DriversWake, RestIsDone};
 
 use pc_kernel::laws::{
     accepted_associates_are_exact, accepted_commits_are_exact, calls_extend_the_run,
@@ -99,4 +100,23 @@ pub fn rest_can_come()
     kernel_laws();
     upto_is_the_greatest();
     every_event_has_a_step();
+}
+
+/// A run has no deadlock: where neither an agent nor the driver has anything to do, every thread of the plans is dead.
+/// So whoever writes another agent or another driver has to keep to these steps, and to nothing else, and may not let an
+/// agent that steals only what it knows to the end leave a thread without a rank.
+pub fn rest_is_done()
+    ensures { RestIsDone }
+{
+    kernel_laws();
+    upto_is_the_greatest();
+}
+
+/// A driver is not stuck either: on each CPU of which it was told a thread runs that has a deed left, which it does,
+/// unless the kernel refuses the call, as where a queue is full; and the same of a thread that it has to wake.
+pub fn drivers_go_on()
+    ensures deeds { DriversGoOn }
+    ensures wakes { DriversWake }
+{
+    kernel_laws();
 }
