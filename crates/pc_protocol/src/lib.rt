@@ -39,16 +39,16 @@ fn kernel_laws()
     homes_are_there();
 }
 
-/// Events lead to the world of each state, so whatever `pc_world` says of worlds holds of agents in threads too: nothing
-/// is lost, and a steal that succeeds is exact.
+/// Events lead to the world of each state, so whatever `pc_world` says of worlds holds of agents in threads too:
+/// nothing is lost, and a steal that succeeds is exact.
 pub fn states_are_reached()
     ensures { StatesAreReached }
 {
     kernel_laws();
 }
 
-/// An agent may wait for a note without a look at its queue: where none is under way to it, its queue is empty, and the
-/// next post wakes it. What it stands on is the count of posts that it read, under which it sleeps.
+/// An agent may wait for a note without another look at its queue: where none is under way to it, its queue is empty,
+/// and the next post wakes it. That stands on the count of posts that it read, under which it sleeps.
 pub fn sleepers_have_nothing()
     ensures { SleepersHaveNothing }
 {
@@ -56,6 +56,7 @@ pub fn sleepers_have_nothing()
 }
 
 /// Nothing stalls: where no agent has anything to do, and a CPU idles, no thread waits that the CPU's agent would take.
+/// The agent that knows all of such a thread would have committed or stolen it, or it asked those that know more.
 pub fn at_rest_nothing_waits()
     ensures { AtRestNothingWaits }
 {
@@ -64,9 +65,9 @@ pub fn at_rest_nothing_waits()
 }
 
 /// What agents may rely on where none has anything to do, though news that was not urgent may still lie in mailboxes.
-/// What an agent knows and what its mailbox holds are together the messages of the run and no others, so once it has
-/// taken its mail in, its view is that of each other agent. Of a thread that may run on its CPU it knows all already. And
-/// the queues of all CPUs are empty.
+/// What an agent knows and what its mailbox holds are together the messages of the run and no others: so once it has
+/// taken its mail in, its view is that of each other agent. Of a thread that may run on its CPU it knows all already.
+/// And the queues of all CPUs are empty.
 pub fn at_rest_all_is_known()
     ensures held { AtRestAllIsHeld }
     ensures threads { AtRestItsThreadsAreKnown }
@@ -77,8 +78,8 @@ pub fn at_rest_all_is_known()
     upto_is_the_greatest();
 }
 
-/// No agent gets stuck in its turn: it has a step, unless it waits and no note is under way to it. So a state is at rest
-/// exactly where no agent has a step.
+/// No agent gets stuck in its turn: it has a step, unless it waits and no note is under way to it. So a state is at
+/// rest exactly where no agent has a step.
 pub fn agents_go_on()
     ensures on { AgentsGoOn }
     ensures waits { WhoWaitsHasNoStep }
@@ -92,8 +93,8 @@ pub fn some_state_rests()
     ensures { SomeStateRests }
 {}
 
-/// Agents can always come to rest by their own steps, whatever has happened. That they do is not said: an agent whose
-/// thread never runs may leave another one to ask for ever.
+/// Agents can always come to rest by their own steps, whatever has happened. That they do is not said: where the agent
+/// whose queue holds a message never runs, one that asks for it and one that answers may go on for ever.
 pub fn rest_can_come()
     ensures { RestCanCome }
 {
@@ -103,8 +104,8 @@ pub fn rest_can_come()
 }
 
 /// A run has no deadlock: where neither an agent nor the driver has anything to do, every thread of the plans is dead.
-/// So whoever writes another agent or another driver has to keep to these steps, and to nothing else, and may not let an
-/// agent that steals only what it knows to the end leave a thread without a rank.
+/// Each agent has to take whatever waits for its CPU: it steals also what it does not know to the end, or it ranks
+/// every thread. Else a thread without a rank waits for ever.
 pub fn rest_is_done()
     ensures { RestIsDone }
 {
@@ -112,8 +113,8 @@ pub fn rest_is_done()
     upto_is_the_greatest();
 }
 
-/// A driver is not stuck either: on each CPU of which it was told a thread runs that has a deed left, which it does,
-/// unless the kernel refuses the call, as where a queue is full; and the same of a thread that it has to wake.
+/// A driver is not stuck either: on each CPU of which it was told a thread runs that has a deed left. It does that
+/// deed, unless the kernel refuses the call, as where a queue is full; and so it wakes a thread that it blocked.
 pub fn drivers_go_on()
     ensures deeds { DriversGoOn }
     ensures wakes { DriversWake }
