@@ -58,7 +58,7 @@ waits_there (item.Thread m ∷ items) t n told none = elim (eqb_tells m.thread t
       ]
 ]
 
-at_pair : (F : ℕ → ℕ → Type 0) (m : Message) (t n : ℕ) → m.thread ≡ t → m.number ≡ n → F m.thread m.number → F t n
+pub at_pair : (F : ℕ → ℕ → Type 0) (m : Message) (t n : ℕ) → m.thread ≡ t → m.number ≡ n → F m.thread m.number → F t n
 at_pair F m t n thread number here = subst (F t) number (subst (λ s. F s m.number) thread here)
 
 -- what stands behind the first so many stands behind fewer

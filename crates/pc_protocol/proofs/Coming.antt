@@ -37,8 +37,8 @@ use Rattle.pc_world.proofs.Places.{at_other, at_same}
 use Rattle.pc_world.proofs.Reaching.{reached_good}
 use Rattle.pc_protocol.specs.Protocol.{Comes, IsAct, IsLook, IsPut, IsTake, Note, OfAgent, Protocol, Stage, Takes, answer, answers, asks, begins, behind_sleep, cpus_of, goes_on, learns, news, others, puts, roused, summoned, telling, telling_others, tells_none, waits, wake}
 use Rattle.pc_protocol.specs.Resting.{AgentsLead, IsAtRest, at_once, onward}
+use Rattle.pc_protocol.proofs.Among.{IsAmong, among_rest, among_middle, not_empty}
 use Rattle.pc_protocol.proofs.Acting.{IsGreatest, acts_busy, acts_settle, never_late}
-use Rattle.pc_protocol.proofs.Boxes.{IsIn, in_middle, in_rest, not_empty}
 use Rattle.pc_protocol.proofs.Calm.{Calm, acts_calm, sleep_calm}
 use Rattle.pc_protocol.proofs.Going.{can_act, can_read, can_take, stepped}
 use Rattle.pc_protocol.proofs.Reaching.{acts_lead, reach_more, reaches, takes_asked, takes_in_lead}
@@ -53,7 +53,7 @@ abbrev Knows : Protocol → ℕ → Type 0
 Knows p c = (t n : ℕ) → IsInRun (kinds p.world.kernel) t n → has (p.world.agents c).known t n ≡ true
 
 abbrev NoAsks : Protocol → ℕ → Type 0
-NoAsks p d = (asker : ℕ) (digest : Set) → IsIn (asks asker digest) (p.boxes d) → ⊥
+NoAsks p d = (asker : ℕ) (digest : Set) → IsAmong (asks asker digest) (p.boxes d) → ⊥
 
 -- what steps of one agent keep
 record Base (p q : Protocol) (c : ℕ) : Type 0 where
@@ -110,7 +110,7 @@ keep_same p c = record { base = base_same p c; asked = λ d none. none; quiet = 
 keep_boxes : (p q : Protocol) (c : ℕ) → Base p q c → q.boxes ≡ p.boxes → Keep p q c
 keep_boxes p q c base same = record {
   base = base;
-  asked = λ d none asker digest isin. none asker digest (subst (λ (b : ℕ → List Note). IsIn (asks asker digest) (b d)) same isin);
+  asked = λ d none asker digest isin. none asker digest (subst (λ (b : ℕ → List Note). IsAmong (asks asker digest) (b d)) same isin);
   quiet = λ none d o. ap (λ (b : ℕ → List Note). b d) same;
 }
 
@@ -282,15 +282,15 @@ module _ (laws : KernelLaws) (greatest : IsGreatest) (steps : EveryEventHasAStep
         base_take : Base p new c
         base_take = base_kernel p new c begins did.kernel take.stages
 
-        was_asked : (d asker : ℕ) (digest : Set) → IsIn (asks asker digest) (new.boxes d) → IsIn (asks asker digest) (p.boxes d)
+        was_asked : (d asker : ℕ) (digest : Set) → IsAmong (asks asker digest) (new.boxes d) → IsAmong (asks asker digest) (p.boxes d)
         was_asked d asker digest isin =
             by_cpu (cases_eq d c) (takes_asked take.read c (at p.boxes c rest) take.note new.world new.boxes take.takes d asker digest isin)
           where
-            by_cpu : (d ≡ c) ⊎ (d ≡ c → ⊥) → IsIn (asks asker digest) (at p.boxes c rest d) → IsIn (asks asker digest) (p.boxes d)
-            by_cpu (inr o) h = subst (IsIn (asks asker digest)) (at_other p.boxes c d rest o) h
+            by_cpu : (d ≡ c) ⊎ (d ≡ c → ⊥) → IsAmong (asks asker digest) (at p.boxes c rest d) → IsAmong (asks asker digest) (p.boxes d)
+            by_cpu (inr o) h = subst (IsAmong (asks asker digest)) (at_other p.boxes c d rest o) h
             by_cpu (inl own) h =
-                subst (IsIn (asks asker digest)) (sym (ap p.boxes own ∙ take.in_box)) (in_rest (asks asker digest) take.note take.before take.behind
-                (subst (IsIn (asks asker digest)) (ap (at p.boxes c rest) own ∙ at_same p.boxes c rest) h))
+                subst (IsAmong (asks asker digest)) (sym (ap p.boxes own ∙ take.in_box)) (among_rest (asks asker digest) take.note take.before take.behind
+                (subst (IsAmong (asks asker digest)) (ap (at p.boxes c rest) own ∙ at_same p.boxes c rest) h))
 
         keep_take : Keep p new c
         keep_take = record {
@@ -298,7 +298,7 @@ module _ (laws : KernelLaws) (greatest : IsGreatest) (steps : EveryEventHasAStep
           asked = λ d none asker digest isin. none asker digest (was_asked d asker digest isin);
           quiet = λ none d o.
               ap (λ (b : ℕ → List Note). b d) (takes_quiet take.read c (at p.boxes c rest) take.note new.world new.boxes take.takes
-              (λ asker digest is. none asker digest (subst (IsIn (asks asker digest)) (sym take.in_box) (subst (λ n. IsIn n (take.before ++ take.note ∷ take.behind)) is (in_middle take.note take.before take.behind)))))
+              (λ asker digest is. none asker digest (subst (IsAmong (asks asker digest)) (sym take.in_box) (subst (λ n. IsAmong n (take.before ++ take.note ∷ take.behind)) is (among_middle take.note take.before take.behind)))))
               ∙ at_other p.boxes c d rest o;
         }
 

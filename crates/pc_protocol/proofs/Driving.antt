@@ -41,13 +41,13 @@ use Rattle.pc_world.proofs.Places.{at_other, at_same}
 use Rattle.pc_world.proofs.Reaching.{reached_good}
 use Rattle.pc_protocol.specs.Protocol.{Comes, IsAct, IsLook, IsPut, IsTake, Protocol, cpus_of, goes_on, opening, rousing, starts}
 use Rattle.pc_protocol.specs.Running.{AreCreated, Deed, Drive, Driven, HasDeed, IsAccepted, IsDone, IsLife, IsLost, IsRefused, IsServed, IsStill, IsWoken, Plan, TakesEach, asked, blocked_by, created, kernel_of, noticing, onward}
+use Rattle.pc_protocol.proofs.Among.{IsAmong}
 use Rattle.pc_protocol.proofs.Acting.{IsGreatest}
 use Rattle.pc_protocol.proofs.Posts.{Adds, HasCreated, IsAllowed, accepts, allowed_on, kind_by, leaving_adds, leaving_limits, leaving_on, level_left, mask_left, none_created, one_created, phase_left, wake_adds}
 use Rattle.pc_protocol.proofs.Reaching.{reaches}
 use Rattle.pc_protocol.proofs.Resting.{nothing_waits}
 use Rattle.pc_protocol.proofs.Settling.{above_test}
 use Rattle.pc_protocol.proofs.Sleeping.{act_calm, kept, take_does}
-use Rattle.pc_protocol.proofs.Spreading.{IsAmong}
 use Rattle.pc_protocol.proofs.Stepping.{looks}
 
 -- how often a CPU is among others

@@ -21,7 +21,7 @@ use Rattle.pc_world.specs.Steps.{IsBadCpu, IsStolen, IsTakenOver, IsTried, Step}
 use Rattle.pc_protocol.specs.Protocol.{Acts, IsAct, IsLook, IsPut, IsTake, Note, OfAgent, Protocol, Stage, Takes, answers, asks, begins, behind_sleep, TakesIn, answer, cpus_of, learns, news, others, picked, puts, roused, stole, summoned, telling, telling_others, tells_none, waits, wake}
 use Rattle.pc_protocol.specs.Protocol.{refused as steal_refused}
 use Rattle.pc_protocol.specs.Resting.{IsWaiting}
-use Rattle.pc_protocol.proofs.Boxes.{IsIn, in_middle, not_empty}
+use Rattle.pc_protocol.proofs.Among.{IsAmong, among_middle, not_empty}
 use Rattle.pc_protocol.proofs.Stepping.{begins_not_waits, puts_not_waits}
 use Rattle.pc_protocol.proofs.Reaching.{acts_lead, one_leads, reach_more, takes_in_lead}
 use Rattle.std.proofs.lemmas.Bool.{false≢true}
@@ -237,4 +237,4 @@ pub no_step : (p new : Protocol) (c : ℕ) → IsWaiting p c → IsLook p c new 
 no_step p new c h (inl look) = begins_not_waits (sym look.at_begin ∙ h.waiting)
 no_step p new c h (inr (inl put)) = puts_not_waits put.n put.k (put.before ++ put.to ∷ put.behind) (sym put.at_put ∙ h.waiting)
 no_step p new c h (inr (inr (inl act))) = puts_not_waits act.n act.k [] (sym act.has_read ∙ h.waiting)
-no_step p new c h (inr (inr (inr take))) = not_empty take.note (p.boxes c) (subst (IsIn take.note) (sym take.in_box) (in_middle take.note take.before take.behind)) h.empty
+no_step p new c h (inr (inr (inr take))) = not_empty take.note (p.boxes c) (subst (IsAmong take.note) (sym take.in_box) (among_middle take.note take.before take.behind)) h.empty

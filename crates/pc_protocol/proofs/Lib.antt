@@ -1,3 +1,4 @@
+pub mod Among
 pub mod Boxes
 pub mod Forgetting
 pub mod Calm

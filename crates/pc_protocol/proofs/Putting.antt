@@ -20,9 +20,10 @@ use Rattle.pc_world.proofs.Good.{IsGood}
 use Rattle.pc_world.proofs.Places.{at_other, at_same}
 use Rattle.pc_world.proofs.Reaching.{reached_good}
 use Rattle.pc_protocol.specs.Protocol.{Comes, Goes, IsAct, IsCalledByEnv, IsLook, IsPut, IsTake, Protocol, Stage, begins, behind_sleep, goes_on, opening, others, puts, starts, tells_none}
+use Rattle.pc_protocol.proofs.Among.{IsAmong, among_rest, among_middle}
 use Rattle.pc_protocol.proofs.Reaching.{reaches}
 use Rattle.pc_protocol.proofs.Sleeping.{IsKept, act_calm, kept, stage_of, take_does}
-use Rattle.pc_protocol.proofs.Spreading.{IsAmong, among_middle, among_rest, get_last, items_after, others_not, pairs_append}
+use Rattle.pc_protocol.proofs.Spreading.{get_last, items_after, others_not, pairs_append}
 use Rattle.pc_protocol.proofs.Stepping.{EnvDoes, begins_not_puts, behind_not_puts, env_does, has_more, is_before, looks, same_index, same_left, sent_more}
 
 -- what was sent with this index stands in the queue

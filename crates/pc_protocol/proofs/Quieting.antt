@@ -32,16 +32,17 @@ use Rattle.pc_world.proofs.Pairs.{has_first}
 use Rattle.pc_world.proofs.Places.{at_other, at_same}
 use Rattle.pc_world.proofs.Reaching.{reached_good}
 use Rattle.pc_protocol.specs.Protocol.{Comes, Goes, IsAct, IsCalledByEnv, IsForgotten, IsLook, IsPut, IsTake, IsUrgent, Note, Protocol, Stage, begins, behind_sleep, goes_on, news, opening, others, puts, starts, telling, tells_none}
+use Rattle.pc_protocol.proofs.Among.{IsAmong, among_middle, was_last, not_empty, empty_at}
 use Rattle.pc_protocol.proofs.Acting.{IsGreatest, reports_all, whole_or_behind}
-use Rattle.pc_protocol.proofs.Boxes.{Grows, empty_at, empty_before, not_empty, rousing_grows, telling_has}
-use Rattle.pc_protocol.proofs.Calm.{Calm, Took, waits_there}
+use Rattle.pc_protocol.proofs.Boxes.{Grows, empty_before, rousing_grows, telling_has}
+use Rattle.pc_protocol.proofs.Calm.{Calm, Took, waits_there, has_behind}
 use Rattle.pc_protocol.proofs.Forgetting.{forgets_back}
 use Rattle.pc_protocol.proofs.Putting.{IsPutting}
 use Rattle.pc_protocol.proofs.Putting as Putting
 use Rattle.pc_protocol.proofs.Reaching.{reaches}
 use Rattle.pc_protocol.proofs.Settling.{queue_is_there, some_number}
 use Rattle.pc_protocol.proofs.Sleeping.{IsKept, act_calm, act_grows, kept, put_grows, take_does, take_grows}
-use Rattle.pc_protocol.proofs.Spreading.{IsAmong, IsToBePut, IsUnsent, Tells, among_middle, get_last, has_behind, others_all, tells_some, items_after, kinds_after, pairs_append, put_now_or_there, put_same, put_stays, run_post, unsent, was_last}
+use Rattle.pc_protocol.proofs.Spreading.{IsToBePut, IsUnsent, Tells, get_last, others_all, tells_some, items_after, kinds_after, pairs_append, put_now_or_there, put_same, put_stays, run_post, unsent}
 use Rattle.pc_protocol.proofs.Stepping.{EnvDoes, IsPost, Taken, begins_not_puts, env_does, has_added, has_more, is_before, looks, sent_more, waits_not_puts}
 
 -- the CPU's agent has a note to take, or its mailbox holds nothing of the thread

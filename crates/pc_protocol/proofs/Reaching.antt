@@ -20,7 +20,8 @@ use Rattle.pc_agent.specs.PlainAgent.{Set}
 use Rattle.pc_world.specs.Inner.Laws.{KernelLaws}
 use Rattle.pc_world.proofs.Places.{at_other, at_same}
 use Rattle.pc_protocol.specs.Protocol.{Acts, Comes, Goes, IsAct, IsCalledByEnv, IsForgotten, IsLook, IsPut, IsTake, Note, Protocol, Takes, TakesIn, answer, answers, asks, goes_on, learns, news, summoned, telling, picked, refused, roused, starts, stole, telling_others, wake}
-use Rattle.pc_protocol.proofs.Boxes.{IsIn, in_middle, in_rest, others_before, roused_before, told_before}
+use Rattle.pc_protocol.proofs.Among.{IsAmong, among_rest, among_middle}
+use Rattle.pc_protocol.proofs.Boxes.{others_before, roused_before, told_before}
 use Rattle.pc_protocol.proofs.Calm.{acts_calm, calm_on, sleep_calm}
 use Rattle.pc_protocol.proofs.Forgetting.{forgets_before}
 use Rattle.pc_protocol.proofs.Stepping.{EnvDoes, env_does, is_before, looks, taken, taken_in, there_on}
@@ -91,10 +92,10 @@ takes_in_lead w c (k ∷ rest) new h = then_leads w h.0 new (one_leads w h.0 (ev
 
 -- who asks is there
 abbrev pub AskersAreThere : Protocol → Type 0
-AskersAreThere p = (d asker : ℕ) (digest : Set) → IsIn (asks asker digest) (p.boxes d) → is_cpu (shown p.world.kernel) asker ≡ true
+AskersAreThere p = (d asker : ℕ) (digest : Set) → IsAmong (asks asker digest) (p.boxes d) → is_cpu (shown p.world.kernel) asker ≡ true
 
 pub takes_asked : (w : PlainWorld) (c : ℕ) (boxes : ℕ → List Note) (note : Note) (new : PlainWorld) (out : ℕ → List Note) → Takes w c boxes note new out
-    → (d asker : ℕ) (digest : Set) → IsIn (asks asker digest) (out d) → IsIn (asks asker digest) (boxes d)
+    → (d asker : ℕ) (digest : Set) → IsAmong (asks asker digest) (out d) → IsAmong (asks asker digest) (boxes d)
 takes_asked w c boxes note new out roused d asker digest h = h
 takes_asked w c boxes note new out summoned d asker digest h = h
 takes_asked w c boxes note new out (learns k told step) d asker digest h = h
@@ -107,17 +108,17 @@ module _ (laws : KernelLaws) (p new : Protocol) (h : AskersAreThere p) where
   abbrev w : PlainWorld
   w = p.world
 
-  asked_on : new.world.kernel.limits ≡ w.kernel.limits → ((d asker : ℕ) (digest : Set) → IsIn (asks asker digest) (new.boxes d) → IsIn (asks asker digest) (p.boxes d) ⊎ (is_cpu (shown w.kernel) asker ≡ true)) → AskersAreThere new
+  asked_on : new.world.kernel.limits ≡ w.kernel.limits → ((d asker : ℕ) (digest : Set) → IsAmong (asks asker digest) (new.boxes d) → IsAmong (asks asker digest) (p.boxes d) ⊎ (is_cpu (shown w.kernel) asker ≡ true)) → AskersAreThere new
   asked_on limits was d asker digest isin = ap (λ (l : Limits). nat_lt asker l.cpus) limits ∙ elim (was d asker digest isin) [ inl before ↦ h d asker digest before | inr there ↦ there ]
 
   asked_env : (called : IsCalledByEnv p new) → EnvDoes p called.call new → AskersAreThere new
   asked_env called (inl same) d asker digest isin =
-      asked_on (ap (λ (v : PlainWorld). v.kernel.limits) same.0) (λ d asker digest isin. inl (subst (λ (b : ℕ → List Note). IsIn (asks asker digest) (b d)) same.1 isin)) d asker digest isin
+      asked_on (ap (λ (v : PlainWorld). v.kernel.limits) same.0) (λ d asker digest isin. inl (subst (λ (b : ℕ → List Note). IsAmong (asks asker digest) (b d)) same.1 isin)) d asker digest isin
   asked_env called (inr post) d asker digest isin =
       let post_of = posting w.kernel called.call in
       let o = woken post_of.before post_of.queue in
       asked_on (ap (λ (v : PlainWorld). v.kernel.limits) post.world ∙ (is_before w.kernel called.call).limits)
-      (λ d asker digest isin. elim (roused_before o p.boxes d (asks asker digest) (subst (λ (b : ℕ → List Note). IsIn (asks asker digest) (b d)) post.boxes isin)) [
+      (λ d asker digest isin. elim (roused_before o p.boxes d (asks asker digest) (subst (λ (b : ℕ → List Note). IsAmong (asks asker digest) (b d)) post.boxes isin)) [
         | inl e ↦ absurd (wake_ask asker digest e)
         | inr was ↦ inl was
       ]) d asker digest isin
@@ -127,12 +128,12 @@ module _ (laws : KernelLaws) (p new : Protocol) (h : AskersAreThere p) where
 
   module _ (c : ℕ) (there : is_cpu (shown w.kernel) c ≡ true) where
     asked_look : IsLook p c new → AskersAreThere new
-    asked_look look = asked_on (ap (λ (v : PlainWorld). v.kernel.limits) (looks w c look.told new.world there look.step)) (λ d asker digest isin. inl (subst (λ (b : ℕ → List Note). IsIn (asks asker digest) (b d)) look.boxes isin))
+    asked_look look = asked_on (ap (λ (v : PlainWorld). v.kernel.limits) (looks w c look.told new.world there look.step)) (λ d asker digest isin. inl (subst (λ (b : ℕ → List Note). IsAmong (asks asker digest) (b d)) look.boxes isin))
 
     asked_put : IsPut p c new → AskersAreThere new
-    asked_put put = asked_on (ap (λ (v : PlainWorld). v.kernel.limits) put.world) (λ d asker digest isin. inl (by_quiet put.quiet d asker digest (subst (λ (b : ℕ → List Note). IsIn (asks asker digest) (b d)) put.boxes isin)))
+    asked_put put = asked_on (ap (λ (v : PlainWorld). v.kernel.limits) put.world) (λ d asker digest isin. inl (by_quiet put.quiet d asker digest (subst (λ (b : ℕ → List Note). IsAmong (asks asker digest) (b d)) put.boxes isin)))
       where
-        by_quiet : (b : Bool) (d asker : ℕ) (digest : Set) → IsIn (asks asker digest) ((if b then p.boxes else telling put.to news p.boxes) d) → IsIn (asks asker digest) (p.boxes d)
+        by_quiet : (b : Bool) (d asker : ℕ) (digest : Set) → IsAmong (asks asker digest) ((if b then p.boxes else telling put.to news p.boxes) d) → IsAmong (asks asker digest) (p.boxes d)
         by_quiet true d asker digest isin = isin
         by_quiet false d asker digest isin = elim (told_before put.to news p.boxes d (asks asker digest) isin) [
           | inl e ↦ absurd (news_ask asker digest e)
@@ -142,13 +143,13 @@ module _ (laws : KernelLaws) (p new : Protocol) (h : AskersAreThere p) where
     asked_act : IsAct p c new → AskersAreThere new
     asked_act act = asked_on (calm_on c w act.acted new.world (acts_calm laws w c act.n act.asking act.acted act.acts) (sleep_calm c act.n act.acted new.world act.told act.sleeps)).limits before
       where
-        before : (d asker : ℕ) (digest : Set) → IsIn (asks asker digest) (new.boxes d) → IsIn (asks asker digest) (p.boxes d) ⊎ (is_cpu (shown w.kernel) asker ≡ true)
-        before d asker digest isin = by_asking act.asking (subst (λ (b : ℕ → List Note). IsIn (asks asker digest) (b d)) act.boxes isin)
+        before : (d asker : ℕ) (digest : Set) → IsAmong (asks asker digest) (new.boxes d) → IsAmong (asks asker digest) (p.boxes d) ⊎ (is_cpu (shown w.kernel) asker ≡ true)
+        before d asker digest isin = by_asking act.asking (subst (λ (b : ℕ → List Note). IsAmong (asks asker digest) (b d)) act.boxes isin)
           where
             known : Set
             known = (act.acted.agents c).known
 
-            by_asking : (b : Bool) → IsIn (asks asker digest) ((if b then telling_others c (asks c known) p.boxes else p.boxes) d) → IsIn (asks asker digest) (p.boxes d) ⊎ (is_cpu (shown w.kernel) asker ≡ true)
+            by_asking : (b : Bool) → IsAmong (asks asker digest) ((if b then telling_others c (asks c known) p.boxes else p.boxes) d) → IsAmong (asks asker digest) (p.boxes d) ⊎ (is_cpu (shown w.kernel) asker ≡ true)
             by_asking false isin = inl isin
             by_asking true isin = elim (others_before c (asks c known) p.boxes d (asks asker digest) isin) [
               | inl e ↦ inr (ap (is_cpu (shown w.kernel)) (sym (same_asker c asker known digest e)) ∙ there)
@@ -164,12 +165,12 @@ module _ (laws : KernelLaws) (p new : Protocol) (h : AskersAreThere p) where
         asked_on (ap (λ (P : PlainKernel). P.limits) ((taken take.read c (at p.boxes c rest) take.note new.world new.boxes (there_on w take.read c (reads_kernel take) there) take.takes).kernel ∙ reads_kernel take))
         (λ d asker digest isin. inl (by_cpu d asker digest (cases_eq d c) (takes_asked take.read c (at p.boxes c rest) take.note new.world new.boxes take.takes d asker digest isin)))
       where
-        by_cpu : (d asker : ℕ) (digest : Set) → (d ≡ c) ⊎ (d ≡ c → ⊥) → IsIn (asks asker digest) (at p.boxes c (take.before ++ take.behind) d) → IsIn (asks asker digest) (p.boxes d)
-        by_cpu d asker digest (inr o) isin = subst (IsIn (asks asker digest)) (at_other p.boxes c d (take.before ++ take.behind) o) isin
+        by_cpu : (d asker : ℕ) (digest : Set) → (d ≡ c) ⊎ (d ≡ c → ⊥) → IsAmong (asks asker digest) (at p.boxes c (take.before ++ take.behind) d) → IsAmong (asks asker digest) (p.boxes d)
+        by_cpu d asker digest (inr o) isin = subst (IsAmong (asks asker digest)) (at_other p.boxes c d (take.before ++ take.behind) o) isin
         by_cpu d asker digest (inl own) isin =
             let rest = take.before ++ take.behind in
-            let here = subst (IsIn (asks asker digest)) (ap (at p.boxes c rest) own ∙ at_same p.boxes c rest) isin in
-            subst (IsIn (asks asker digest)) (sym (ap p.boxes own ∙ take.in_box)) (in_rest (asks asker digest) take.note take.before take.behind here)
+            let here = subst (IsAmong (asks asker digest)) (ap (at p.boxes c rest) own ∙ at_same p.boxes c rest) isin in
+            subst (IsAmong (asks asker digest)) (sym (ap p.boxes own ∙ take.in_box)) (among_rest (asks asker digest) take.note take.before take.behind here)
 
     asked_agent : IsLook p c new ⊎ (IsPut p c new ⊎ (IsAct p c new ⊎ IsTake p c new)) → AskersAreThere new
     asked_agent (inl look) = asked_look look
@@ -186,7 +187,7 @@ module _ (laws : KernelLaws) (p new : Protocol) (h : AskersAreThere p) where
         let kernel = reads_kernel take in
         then_leads w take.read new.world (takes_in_lead w c (p.mails c) take.read take.reads)
         (takes_lead take.read c (at p.boxes c (take.before ++ take.behind)) take.note new.world new.boxes (there_on w take.read c kernel there)
-        (λ asker digest is. there_on w take.read asker kernel (h c asker digest (subst (IsIn (asks asker digest)) (sym take.in_box) (subst (λ n. IsIn n (take.before ++ take.note ∷ take.behind)) is (in_middle take.note take.before take.behind))))) take.takes)
+        (λ asker digest is. there_on w take.read asker kernel (h c asker digest (subst (IsAmong (asks asker digest)) (sym take.in_box) (subst (λ n. IsAmong n (take.before ++ take.note ∷ take.behind)) is (among_middle take.note take.before take.behind))))) take.takes)
 
   goes_leads : Goes p new → Leads_to w new.world
   goes_leads (inl env) = one_leads w new.world (event.Env env.call) env.told env.step

@@ -21,29 +21,16 @@ use Rattle.pc_world.proofs.Mended.{below_test}
 use Rattle.pc_world.proofs.Reaching.{reached_good, reached_ranked}
 use Rattle.pc_protocol.specs.Protocol.{Comes, Note, Protocol, TakesIn, cpus_of, waits}
 use Rattle.pc_protocol.specs.Resting.{IsAtRest, IsInMail}
+use Rattle.pc_protocol.proofs.Among.{IsAmong, among_contains, not_empty}
+use Rattle.pc_protocol.proofs.Calm.{has_behind}
 use Rattle.pc_protocol.proofs.Acting.{IsGreatest, may_by}
-use Rattle.pc_protocol.proofs.Boxes.{not_empty}
 use Rattle.pc_protocol.proofs.Putting.{putting}
 use Rattle.pc_protocol.proofs.Quieting.{May, hushed, tells_run}
 use Rattle.pc_protocol.proofs.Reaching.{reach_more, reaches, takes_in_lead}
 use Rattle.pc_protocol.proofs.Settling.{IsAsked, IsSettled, above_test, queue_is_there, settled}
 use Rattle.pc_protocol.proofs.Sleeping.{kept}
-use Rattle.pc_protocol.proofs.Spreading.{IsAmong, IsToBePut, IsUnsent, Tells, has_behind, reads_known, spread}
+use Rattle.pc_protocol.proofs.Spreading.{IsToBePut, IsUnsent, Tells, reads_known, spread}
 use Rattle.pc_protocol.proofs.Stepping.{Taken, taken_in, waits_not_puts}
-
--- a number among others is contained in their list
-among_contains : (k : ℕ) (xs : List ℕ) → IsAmong k xs → Contains xs k
-among_contains k [] h = absurd h
-among_contains k (x ∷ xs) (inl e) = (0, omega arith, e)
-among_contains k (x ∷ xs) (inr h) = let r = among_contains k xs h in let low = r.1 in (suc r.0, omega arith, r.2)
-
-among_at : (k : ℕ) (xs : List ℕ) (i : ℕ) → i < length xs → slice_index_or xs i k ≡ k → IsAmong k xs
-among_at k [] i low e = absurd (omega arith)
-among_at k (x ∷ xs) zero low e = inl e
-among_at k (x ∷ xs) (suc i) low e = inr (among_at k xs i (omega arith) e)
-
-pub contains_among : (k : ℕ) (xs : List ℕ) → Contains xs k → IsAmong k xs
-contains_among k xs h = among_at k xs h.0 h.1 h.2
 
 -- where every agent waits, and every queue is empty
 module _ (laws : KernelLaws) (rules : ℕ → Rules) (limits : Limits) (p : Protocol) (comes : Comes rules limits p)

@@ -40,20 +40,21 @@ use Rattle.pc_world.proofs.Places.{at_other, at_same}
 use Rattle.pc_world.proofs.Reaching.{reached_good}
 use Rattle.pc_protocol.specs.Protocol.{Comes, Goes, IsAct, IsCalledByEnv, IsForgotten, IsLook, IsPut, IsTake, Note, Protocol, Stage, Takes, answer, answers, asks, begins, behind_sleep, goes_on, learns, news, opening, others, puts, roused, starts, summoned, telling_others, tells_none, wake, waits}
 use Rattle.pc_protocol.specs.Protocol as protocol
+use Rattle.pc_protocol.proofs.Among.{IsAmong, among_taken, not_empty, empty_at}
 use Rattle.pc_protocol.proofs.Acting.{IsBehind, IsGreatest, IsLate, IsOpen, acts_settle, never_late}
-use Rattle.pc_protocol.proofs.Boxes.{Grows, IsIn, empty_at, empty_before, in_taken, grows_same, not_empty, others_have, rousing_grows, telling_has}
-use Rattle.pc_protocol.proofs.Calm.{Calm, waits_there, acts_calm, sleep_calm}
+use Rattle.pc_protocol.proofs.Boxes.{Grows, empty_before, grows_same, others_have, rousing_grows, telling_has}
+use Rattle.pc_protocol.proofs.Calm.{Calm, waits_there, acts_calm, sleep_calm, has_behind}
 use Rattle.pc_protocol.proofs.Forgetting.{forgets_asked, forgets_back}
 use Rattle.pc_protocol.proofs.Reaching.{acts_lead, reach_more, reaches}
 use Rattle.pc_protocol.proofs.Sleeping.{IsKept, act_calm, act_grows, falls_asleep, kept, own_sleeper, put_grows, stage_of, still_there, take_does, take_grows}
-use Rattle.pc_protocol.proofs.Spreading.{Spread, has_behind, kinds_after, spread, unsent}
+use Rattle.pc_protocol.proofs.Spreading.{Spread, kinds_after, spread, unsent}
 use Rattle.pc_protocol.proofs.Stepping.{EnvDoes, IsPost, env_does, is_before, begins_not_waits, looks, puts_not_waits, sleeps}
 use Rattle.pc_protocol.proofs.Putting.{IsPutting}
 use Rattle.pc_protocol.proofs.Putting as Putting
 
 -- the agent's question is under way to some agent
 abbrev pub IsAsked : Protocol → ℕ → Type 0
-IsAsked p c = (d : ℕ) × (digest : Set) × (is_cpu (shown p.world.kernel) d ≡ true) × IsIn (asks c digest) (p.boxes d)
+IsAsked p c = (d : ℕ) × (digest : Set) × (is_cpu (shown p.world.kernel) d ≡ true) × IsAmong (asks c digest) (p.boxes d)
 
 -- some thread runs on the CPU, or the agent knows of none that it would take
 abbrev pub IsSettled : PlainWorld → ℕ → Type 0
@@ -186,7 +187,7 @@ module _ (laws : KernelLaws) (greatest : IsGreatest) (limits : Limits) (p new : 
   good : IsGood limits w
   good = reached_good laws limits w reached
 
-  asked_on : (c : ℕ) → new.world.kernel.limits ≡ K.limits → ((d : ℕ) (digest : Set) → IsIn (asks c digest) (p.boxes d) → IsIn (asks c digest) (new.boxes d)) → IsAsked p c → IsAsked new c
+  asked_on : (c : ℕ) → new.world.kernel.limits ≡ K.limits → ((d : ℕ) (digest : Set) → IsAmong (asks c digest) (p.boxes d) → IsAmong (asks c digest) (new.boxes d)) → IsAsked p c → IsAsked new c
   asked_on c limits more asked = (asked.0, asked.1, ap (λ (l : Limits). nat_lt asked.0 l.cpus) limits ∙ asked.2, more asked.0 asked.1 asked.3)
 
   -- the environment
@@ -353,11 +354,11 @@ module _ (laws : KernelLaws) (greatest : IsGreatest) (limits : Limits) (p new : 
         rest : List Note
         rest = take.before ++ take.behind
 
-        still : (e : ℕ) (digest : Set) → (e ≡ c) ⊎ (e ≡ c → ⊥) → IsIn (asks d digest) (p.boxes e) → IsIn (asks d digest) (new.boxes e)
+        still : (e : ℕ) (digest : Set) → (e ≡ c) ⊎ (e ≡ c → ⊥) → IsAmong (asks d digest) (p.boxes e) → IsAmong (asks d digest) (new.boxes e)
         still e digest (inr o) isin = take_grows laws limits p new good keeps c there take e o (asks d digest) isin
-        still e digest (inl own) isin = elim (in_taken (asks d digest) take.note take.before take.behind (subst (IsIn (asks d digest)) (ap p.boxes own ∙ take.in_box) isin)) [
+        still e digest (inl own) isin = elim (among_taken (asks d digest) take.note take.before take.behind (subst (IsAmong (asks d digest)) (ap p.boxes own ∙ take.in_box) isin)) [
           | inl this ↦ absurd (answered take.read (at p.boxes c rest) take.note new.world new.boxes d digest take.takes this empty)
-          | inr other ↦ (take_does laws limits p new good keeps c there take).grows e (asks d digest) (subst (IsIn (asks d digest)) (sym (ap (at p.boxes c rest) own ∙ at_same p.boxes c rest)) other)
+          | inr other ↦ (take_does laws limits p new good keeps c there take).grows e (asks d digest) (subst (IsAmong (asks d digest)) (sym (ap (at p.boxes c rest) own ∙ at_same p.boxes c rest)) other)
         ]
 
     -- the act
@@ -432,7 +433,7 @@ module _ (laws : KernelLaws) (greatest : IsGreatest) (limits : Limits) (p new : 
                 other.0,
                 digest,
                 ap (λ (l : Limits). nat_lt other.0 l.cpus) calm.limits ∙ above_test other.0 K.limits.cpus other.1,
-                subst (λ (b : ℕ → List Note). IsIn (asks c digest) (b other.0)) (sym sent) (others_have c (asks c digest) p.boxes other.0 other.2),
+                subst (λ (b : ℕ → List Note). IsAmong (asks c digest) (b other.0)) (sym sent) (others_have c (asks c digest) p.boxes other.0 other.2),
               )
           | inr alone ↦ absurd (not_late alone late)
         ]

@@ -25,7 +25,8 @@ use Rattle.pc_world.proofs.Good.{IsGood, passed}
 use Rattle.pc_world.proofs.Reaching.{reached_good}
 use Rattle.pc_protocol.specs.Protocol.{Comes, Goes, IsAct, IsCalledByEnv, IsForgotten, IsLook, IsPut, IsTake, Note, Protocol, Stage, asks, begins, behind_sleep, goes_on, news, opening, others, puts, rousing, starts, telling, telling_others, tells_none, waits, wake}
 use Rattle.pc_protocol.specs.Resting.{IsAsleep}
-use Rattle.pc_protocol.proofs.Boxes.{Grows, IsIn, empty_at, empty_before, if_grows, not_empty, others_grow, rousing_grows, telling_grows, telling_has}
+use Rattle.pc_protocol.proofs.Among.{IsAmong, not_empty, empty_at}
+use Rattle.pc_protocol.proofs.Boxes.{Grows, empty_before, if_grows, others_grow, rousing_grows, telling_grows, telling_has}
 use Rattle.pc_protocol.proofs.Calm.{Calm, acts_calm, acts_consume, calm_on, sleep_calm}
 use Rattle.pc_protocol.proofs.Forgetting.{forgets_back}
 use Rattle.pc_protocol.proofs.Reaching.{reaches}
@@ -232,8 +233,8 @@ module _ (laws : KernelLaws) (limits : Limits) (p new : Protocol) (good : IsGood
       let reads = taken_in w c rest (p.mails c) take.read there take.reads in
       taken_on w take.read new.world c rest new.boxes reads (taken take.read c rest take.note new.world new.boxes (there_on w take.read c reads.kernel there) take.takes)
 
-  pub take_grows : (take : IsTake p c new) (d : ℕ) → (d ≡ c → ⊥) → (note : Note) → IsIn note (p.boxes d) → IsIn note (new.boxes d)
-  take_grows take d o note h = (take_does take).grows d note (subst (IsIn note) (sym (at_other p.boxes c d (take.before ++ take.behind) o)) h)
+  pub take_grows : (take : IsTake p c new) (d : ℕ) → (d ≡ c → ⊥) → (note : Note) → IsAmong note (p.boxes d) → IsAmong note (new.boxes d)
+  take_grows take d o note h = (take_does take).grows d note (subst (IsAmong note) (sym (at_other p.boxes c d (take.before ++ take.behind) o)) h)
 
   kept_take : IsTake p c new → IsKept new
   kept_take take =

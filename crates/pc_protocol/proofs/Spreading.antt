@@ -35,6 +35,8 @@ use Rattle.pc_world.proofs.Pairs.{get_dropped, has_first, stands_at, told_at}
 use Rattle.pc_world.proofs.Places.{at_other, at_same}
 use Rattle.pc_world.proofs.Reaching.{reached_good}
 use Rattle.pc_protocol.specs.Protocol.{Comes, Goes, IsAct, IsCalledByEnv, IsLook, IsPut, IsTake, Note, Protocol, Stage, TakesIn, begins, behind_sleep, cpus_of, goes_on, opening, others, puts, starts, tells_none}
+use Rattle.pc_protocol.proofs.Among.{IsAmong, among_left, among_last, among_taken}
+use Rattle.pc_protocol.proofs.Calm.{at_pair, has_behind}
 use Rattle.pc_protocol.proofs.Reaching.{reaches}
 use Rattle.pc_protocol.proofs.Sleeping.{IsKept, act_calm, kept, take_does}
 use Rattle.pc_protocol.proofs.Stepping.{EnvDoes, IsPost, delivered, env_does, is_before, has_added, has_more, begins_not_puts, looks, same_index, same_left, sent_more, taken, taken_in, there_on, waits_not_puts}
@@ -46,41 +48,6 @@ unsent w q = drop (passed w q) (items_to w.kernel q)
 -- the message stands in some queue, unsent
 abbrev pub IsUnsent : PlainWorld → ℕ → ℕ → Type 0
 IsUnsent w t n = (q : ℕ) × (has (pairs_in (unsent w q)) t n ≡ true)
-
--- the number is among these
-abbrev pub IsAmong : ℕ → List ℕ → Type 0
-IsAmong n [] = ⊥
-IsAmong n (first ∷ rest) = (first ≡ n) ⊎ IsAmong n rest
-
-pub among_left : (n : ℕ) (xs ys : List ℕ) → IsAmong n xs → IsAmong n (xs ++ ys)
-among_left n [] ys h = absurd h
-among_left n (x ∷ xs) ys (inl e) = inl e
-among_left n (x ∷ xs) ys (inr h) = inr (among_left n xs ys h)
-
-pub among_last : (n : ℕ) (xs : List ℕ) → IsAmong n (xs ++ n ∷ [])
-among_last n [] = inl refl
-among_last n (x ∷ xs) = inr (among_last n xs)
-
-pub was_last : (n one : ℕ) (xs : List ℕ) → IsAmong n (xs ++ one ∷ []) → (one ≡ n) ⊎ IsAmong n xs
-was_last n one [] (inl e) = inl e
-was_last n one [] (inr h) = absurd h
-was_last n one (x ∷ xs) (inl e) = inr (inl e)
-was_last n one (x ∷ xs) (inr h) = elim (was_last n one xs h) [ inl e ↦ inl e | inr g ↦ inr (inr g) ]
-
-pub among_taken : (n one : ℕ) (before behind : List ℕ) → IsAmong n (before ++ one ∷ behind) → (one ≡ n) ⊎ IsAmong n (before ++ behind)
-among_taken n one [] behind (inl e) = inl e
-among_taken n one [] behind (inr h) = inr h
-among_taken n one (x ∷ before) behind (inl e) = inr (inl e)
-among_taken n one (x ∷ before) behind (inr h) = elim (among_taken n one before behind h) [ inl e ↦ inl e | inr g ↦ inr (inr g) ]
-
-pub among_rest : (n one : ℕ) (before behind : List ℕ) → IsAmong n (before ++ behind) → IsAmong n (before ++ one ∷ behind)
-among_rest n one [] behind h = inr h
-among_rest n one (x ∷ before) behind (inl e) = inl e
-among_rest n one (x ∷ before) behind (inr h) = inr (among_rest n one before behind h)
-
-pub among_middle : (one : ℕ) (before behind : List ℕ) → IsAmong one (before ++ one ∷ behind)
-among_middle one [] behind = inl refl
-among_middle one (x ∷ before) behind = inr (among_middle one before behind)
 
 -- those that pass a test, of a range
 passes_test : (test : ℕ → Bool) (d : ℕ) → test d ≡ true → (xs : List ℕ) → IsAmong d xs → IsAmong d (filter test xs)
@@ -155,18 +122,6 @@ tells_more sent more on k t n h = (h.0, on k h.0 h.1, h.2)
 
 pub pairs_append : (xs ys : List Item) → pairs_in (xs ++ ys) ≡ pairs_in xs ++ pairs_in ys
 pairs_append xs ys = filter_map-append pair_in xs ys
-
-at_pair : (F : ℕ → ℕ → Type 0) (m : Message) (t n : ℕ) → m.thread ≡ t → m.number ≡ n → F m.thread m.number → F t n
-at_pair F m t n thread number here = subst (F t) number (subst (λ s. F s m.number) thread here)
-
--- what stands behind the first so many stands behind fewer
-pub has_behind : (a b : ℕ) (items : List Item) (t n : ℕ) → has (pairs_in (drop (a + b) items)) t n ≡ true → has (pairs_in (drop a items)) t n ≡ true
-has_behind a b items t n e =
-    let s = stands_at (drop (a + b) items) t n e in
-    let same : (a + b) + s.place ≡ a + (b + s.place) = omega arith in
-    let there : slice_get (drop a items) (b + s.place) ≡ Some (item.Thread s.message) =
-    get_dropped a items (b + s.place) ∙ ap (slice_get items) (sym same) ∙ sym (get_dropped (a + b) items s.place) ∙ s.there in
-    at_pair (λ t n. has (pairs_in (drop a items)) t n ≡ true) s.message t n s.thread s.number (told_at (drop a items) (b + s.place) s.message there)
 
 pub tells_some : (set : Set) (t n : ℕ) → has set t n ≡ true → tells_none set ≡ false
 tells_some [] t n e = cc

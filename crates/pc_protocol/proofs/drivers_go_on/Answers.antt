@@ -1,5 +1,5 @@
+use Rattle.pc_protocol.proofs.Among.{contains_among}
 use Rattle.pc_protocol.proofs.Driving.{can_wake, has_deed}
-use Rattle.pc_protocol.proofs.Resting.{contains_among}
 use Rattle.pc_protocol.proofs.drivers_go_on.Goals as goal
 
 pub returns-clause-deeds : goal.returns-clause-deeds
