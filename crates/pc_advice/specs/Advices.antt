@@ -27,7 +27,7 @@ pub record EndsBy (r : Reads) (line : Deed) (steps : List PlannedStep) : Type 0 
   pub once : last.times ≡ 1
   pub noted : AreNoted r steps
 
--- what advice for a line is: where it is steps, they end by the line
+-- what advice for a line is: where it is steps, they end by the line, and each is noted as of then
 abbrev pub IsFor : Reads → Deed → Advice → Type 0
 IsFor r line (advice.Steps plan) = EndsBy r line (steps_of plan)
 IsFor r line advice.NoAgent = Unit {0}
