@@ -33,16 +33,19 @@ use Rattle.pc_kernel.proofs.AlwaysCalls.{place_has}
 use Rattle.pc_policy.specs.Rankings.{Ranking}
 use Rattle.pc_policy.specs.Rules.{Rules}
 use Rattle.pc_run_queue.specs.Runs.{rank_told}
+use Rattle.pc_world.specs.Facts.{EveryEventHasAStep}
 use Rattle.pc_world.specs.Mending.{IsStolenBy}
 use Rattle.pc_world.specs.PlainWorld.{PlainWorld}
 use Rattle.pc_world.specs.Inner.Laws.{KernelLaws}
 use Rattle.pc_world.proofs.Good.{IsGood}
 use Rattle.pc_world.proofs.Places.{at_other, at_same}
 use Rattle.pc_world.proofs.Reaching.{reached_good}
-use Rattle.pc_protocol.specs.Protocol.{Comes, IsAct, IsLook, IsPut, IsTake, Protocol, cpus_of, goes_on, opening, rousing, starts}
-use Rattle.pc_protocol.specs.Running.{AreCreated, Deed, Drive, Driven, HasDeed, IsAccepted, IsDone, IsLife, IsLost, IsRefused, IsServed, IsStill, IsWoken, Plan, TakesEach, asked, blocked_by, created, kernel_of, noticing, onward}
-use Rattle.pc_protocol.proofs.Among.{IsAmong}
+use Rattle.pc_protocol.specs.Protocol.{Comes, IsAct, IsLook, IsPut, IsTake, Protocol, cpus_of, goes_on, opening, rousing, starts, OfAgent}
+use Rattle.pc_protocol.specs.Resting.{IsAtRest, IsWaiting}
+use Rattle.pc_protocol.specs.Running.{AreCreated, at_deed, at_wake, IsHalted, Deed, Drive, Driven, HasDeed, IsAccepted, IsDone, IsLife, IsLost, IsRefused, IsServed, IsStill, IsWoken, Plan, TakesEach, asked, blocked_by, created, kernel_of, noticing, onward, Drives}
+use Rattle.pc_protocol.proofs.Among.{IsAmong, among_contains}
 use Rattle.pc_protocol.proofs.Acting.{IsGreatest}
+use Rattle.pc_protocol.proofs.Going.{goes}
 use Rattle.pc_protocol.proofs.Posts.{Adds, HasCreated, IsAllowed, accepts, allowed_on, kind_by, leaving_adds, leaving_limits, leaving_on, level_left, mask_left, none_created, one_created, phase_left, wake_adds}
 use Rattle.pc_protocol.proofs.Reaching.{reaches}
 use Rattle.pc_protocol.proofs.Resting.{nothing_waits}
@@ -598,3 +601,53 @@ module _ (laws : KernelLaws) (rules : ℕ → Rules) (limits : Limits) (plans : 
                   blocked = refl;
                 },
               )
+
+    -- a step of the run, where there is one
+    module _ (steps : EveryEventHasAStep) where
+      abbrev Someone : Type 0
+      Someone = (c : ℕ) × ((q : Protocol) × OfAgent r.protocol c q)
+
+      who_goes : (n : ℕ) → n ≤ cpus_of r.protocol → Someone ⊎ ((c : ℕ) → c < n → IsWaiting r.protocol c)
+      who_goes zero low = inr (λ c below. absurd (omega arith))
+      who_goes (suc n) low = elim (who_goes n (omega arith)) [
+        | inl some ↦ inl some
+        | inr none ↦ elim (goes steps limits r.protocol n (reaches laws rules limits r.protocol (drive_comes r driven)) (above_test n (cpus_of r.protocol) (omega arith))) [
+          | inl step ↦ inl (n, step)
+          | inr waiting ↦ inr (λ c below. elim (cases_eq c n) [
+            | inl last ↦ subst (IsWaiting r.protocol) (sym last) waiting
+            | inr other ↦ none c (omega (arith, other))
+          ])
+        ]
+      ]
+
+      abbrev Onward : Type 0
+      Onward = ((new : Drive) × Drives r new) ⊎ (IsStill r ⊎ IsHalted r)
+
+      by_deed : (c : ℕ) → IsAmong c r.told → r.blocked ≡ None → HasDeed r c → Onward
+      by_deed c among free d = elim d.goes [
+        | inl step ↦ inl (step.0, inr (inr (inl (c, step.1))))
+        | inr refuses ↦ inr (inr (at_deed c d.thread d.deed d.rest free (among_contains c r.told among) d.runs d.next refuses))
+      ]
+
+      by_told : IsAtRest r.protocol → r.blocked ≡ None → (told : List ℕ) → r.told ≡ told → Onward
+      by_told rests free [] e = inr (inl record { rests = rests; none_told = e; none_blocked = free })
+      by_told rests free (c ∷ told) e = let among = subst (IsAmong c) (sym e) (inl refl) in by_deed c among free (has_deed c among free)
+
+      by_blocked : IsAtRest r.protocol → (o : Option ℕ) → r.blocked ≡ o → Onward
+      by_blocked rests None e = by_told rests e r.told refl
+      by_blocked rests (Some t) e = elim (can_wake r t e) [
+        | inl step ↦ inl (step.0, inr (inr (inr (t, step.1))))
+        | inr refuses ↦ inr (inr (at_wake t e refuses))
+      ]
+
+      pub goes_onward : Onward
+      goes_onward = elim (who_goes (cpus_of r.protocol) (omega arith)) [
+        | inl some ↦
+            let c = some.0 in
+            let q = some.1.0 in
+            inl (
+              record { protocol = q; left = r.left; told = noticing c (P.on c) (q.world.kernel.on c) r.told; blocked = r.blocked },
+              inl (c, record { step = some.1.1; left = refl; told = refl; blocked = refl }),
+            )
+        | inr all ↦ by_blocked record { waiting = λ c low. (all c low).waiting; empty = λ c low. (all c low).empty } r.blocked refl
+      ]

@@ -16,3 +16,4 @@ pub mod Worked
 pub mod Coming
 pub mod Posts
 pub mod Driving
+pub mod Ended

@@ -31,7 +31,7 @@ use Rattle.pc_world.specs.PlainWorld.{PlainWorld, published}
 use Rattle.pc_world.specs.Steps.{IsDelivered, Step}
 use Rattle.pc_world.specs.Inner.Laws.{KernelLaws}
 use Rattle.pc_world.proofs.Good.{IsGood, passed}
-use Rattle.pc_world.proofs.Pairs.{get_dropped, has_first, stands_at, told_at}
+use Rattle.pc_world.proofs.Pairs.{has_first}
 use Rattle.pc_world.proofs.Places.{at_other, at_same}
 use Rattle.pc_world.proofs.Reaching.{reached_good}
 use Rattle.pc_protocol.specs.Protocol.{Comes, Goes, IsAct, IsCalledByEnv, IsLook, IsPut, IsTake, Note, Protocol, Stage, TakesIn, begins, behind_sleep, cpus_of, goes_on, opening, others, puts, starts, tells_none}

@@ -21,17 +21,17 @@ use Rattle.pc_protocol.specs.Resting.{IsAtRest, SomeStateRests, two}
 abbrev calling : Protocol → Protocol
 calling p = record p { world = record p.world { kernel = after p.world.kernel (call.Env (Create 0 true 3)) } }
 
-abbrev consumed : PlainWorld → ℕ → PlainWorld
+abbrev pub consumed : PlainWorld → ℕ → PlainWorld
 consumed w c =
     record (with_agent w c (record (w.agents c) { sent_items = 0 })) { kernel = after w.kernel (call.Consume c (w.agents c).sent_items) }
 
-abbrev committed : PlainWorld → ℕ → ℕ → ℕ → PlainWorld
+abbrev pub committed : PlainWorld → ℕ → ℕ → ℕ → PlainWorld
 committed w c n t = record (with_agent w c (record (w.agents c) { list = [] })) { kernel = after w.kernel (commits c t n) }
 
-abbrev emptied : PlainWorld → ℕ → PlainWorld
+abbrev pub emptied : PlainWorld → ℕ → PlainWorld
 emptied w c = with_agent w c (record (w.agents c) { list = [] })
 
-abbrev slept : PlainWorld → ℕ → ℕ → PlainWorld
+abbrev pub slept : PlainWorld → ℕ → ℕ → PlainWorld
 slept w c n = record w { kernel = after w.kernel (call.Agent (Sleep c n)) }
 
 abbrev p0 : Protocol

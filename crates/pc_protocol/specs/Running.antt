@@ -20,7 +20,7 @@ use Rattle.pc_calls.specs.Leavings.{call_for}
 use Rattle.pc_kernel.specs.PlainKernel.{PlainKernel, kinds}
 use Rattle.pc_kernel.specs.Reads.{shown}
 use Rattle.pc_kernel.specs.Steps.{at, refused}
-use Rattle.pc_policy.specs.Rules.{Rules}
+use Rattle.pc_policy.specs.Rules.{Rules, usual}
 use Rattle.pc_world.specs.Steps.{Step}
 use Rattle.pc_protocol.specs.Protocol.{IsForgotten, OfAgent, Protocol, cpus_of, opening, rousing}
 use Rattle.pc_protocol.specs.Resting.{IsAtRest}
@@ -155,6 +155,20 @@ RestIsDone =
     → ((c : ℕ) → c < cpus_of r.protocol → TakesEach (rules c) c) → Driven rules limits plans r → IsStill r → (t : ℕ)
     → t < length plans → phase_of (kinds (kernel_of r) t) ≡ Some Dead
 
+-- the kernel refuses the call that the driver would make next: it has a thread to wake, or else takes a CPU of which it
+-- was told
+pub data IsHalted (r : Drive) : Type 0 where
+  at_wake : (t : ℕ) → r.blocked ≡ Some t → IsRefused (kernel_of r) (Wake t) → IsHalted r
+  at_deed : (c t : ℕ) (deed : Deed) (rest : List Deed) → r.blocked ≡ None → Contains r.told c
+      → (kernel_of r).on c ≡ Some t → r.left t ≡ deed ∷ rest
+      → IsRefused (kernel_of r) (call_for deed.leaving c deed.ran) → IsHalted r
+
+-- a run has a step, unless it has none left, or the kernel refuses what the driver would do next
+abbrev pub RunsGoOn : Type 0
+RunsGoOn =
+    (rules : ℕ → Rules) (limits : Limits) (plans : List Plan) (r : Drive) → All (λ plan. IsLife plan.deeds) plans
+    → Driven rules limits plans r → ((new : Drive) × Drives r new) ⊎ (IsStill r ⊎ IsHalted r)
+
 -- the thread on a CPU of which the driver was told has a deed left: the driver does it, or the kernel refuses the call
 pub record HasDeed (r : Drive) (c : ℕ) : Type 0 where
   pub thread : ℕ
@@ -175,3 +189,20 @@ DriversGoOn =
 abbrev pub DriversWake : Type 0
 DriversWake =
     (r : Drive) (t : ℕ) → r.blocked ≡ Some t → ((new : Drive) × IsWoken r t new) ⊎ IsRefused (kernel_of r) (Wake t)
+
+-- one CPU, and room for a few threads
+abbrev pub alone : Limits
+alone = record { cpus = 1; threads = 8; numbers = 100; room = 16; posts = 1000 }
+
+-- a thread that runs once, for five ticks
+abbrev pub brief : Plan
+brief = record { queue = 0; mask = 1; deeds = record { leaving = Die; ran = 5 } ∷ [] }
+
+-- a run of a thread that has no step left
+pub record IsOver (r : Drive) : Type 0 where
+  pub driven : Driven (λ c. usual) alone (brief ∷ []) r
+  pub still : IsStill r
+
+-- there is such a run
+abbrev pub SomeRunIsOver : Type 0
+SomeRunIsOver = (r : Drive) × IsOver r

@@ -10,7 +10,7 @@ ghost use Rattle.pc_protocol.specs.Resting.{AgentsGoOn, AtRestAllIsHeld, AtRestI
 ghost use Rattle.pc_protocol.specs.Resting.{AtRestMailTellsTheRest, AtRestNothingWaits, AtRestQueuesAreEmpty};
 ghost use Rattle.pc_protocol.specs.Resting.{RestCanCome, SleepersHaveNothing, SomeStateRests, StatesAreReached};
 ghost use Rattle.pc_protocol.specs.Resting.{WhoWaitsHasNoStep};
-ghost use Rattle.pc_protocol.specs.Running.{DriversGoOn, DriversWake, RestIsDone};
+ghost use Rattle.pc_protocol.specs.Running.{DriversGoOn, DriversWake, RestIsDone, RunsGoOn, SomeRunIsOver};
 
 use pc_kernel::laws::{
     accepted_associates_are_exact, accepted_commits_are_exact, calls_extend_the_run,
@@ -103,14 +103,17 @@ pub fn rest_can_come()
     every_event_has_a_step();
 }
 
-/// A run has no deadlock: where neither an agent nor the driver has anything to do, every thread of the plans is dead.
-/// Each agent has to take whatever waits for its CPU: it steals also what it does not know to the end, or it ranks
-/// every thread. Else a thread without a rank waits for ever.
+/// A run has no deadlock: it has a step, unless the kernel refuses what the driver would do, or neither an agent nor
+/// the driver has anything to do; and then every thread of the plans is dead. For that each agent has to take whatever
+/// waits for its CPU: it steals also what it does not know to the end, or it ranks every thread. Else a thread without
+/// a rank waits for ever.
 pub fn rest_is_done()
-    ensures { RestIsDone }
+    ensures done { RestIsDone }
+    ensures on { RunsGoOn }
 {
     kernel_laws();
     upto_is_the_greatest();
+    every_event_has_a_step();
 }
 
 /// A driver is not stuck either: on each CPU of which it was told a thread runs that has a deed left. It does that
@@ -121,3 +124,8 @@ pub fn drivers_go_on()
 {
     kernel_laws();
 }
+
+/// Some run comes to its end: the law that then every thread is dead speaks of something.
+pub fn some_run_is_over()
+    ensures { SomeRunIsOver }
+{}
