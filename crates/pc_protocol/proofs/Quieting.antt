@@ -2,7 +2,7 @@
 use Rattle.std.proofs.Common.{◌≡◌, ◌⊎◌, ◌+◌, ◌≤◌, ℕ, zero, suc, nat_lt, Bool, true, false, List, [], ◌∷◌, ◌++◌, length, drop, Some, slice_get, if◌then◌else◌, refl, sym, ◌∙◌, ap, subst, inl, inr, arith}
 use Rattle.std.specs.List.{filter_map, cons_option}
 use Rattle.std.proofs.lemmas.Bool.{cases_eq, false≢true}
-use Rattle.std.proofs.lemmas.List.{append-nil, drop-append-le}
+use Rattle.std.proofs.lemmas.List.{append-nil}
 use Rattle.std.proofs.lemmas.Option.{same_Some}
 use Rattle.pc_messages.specs.Items.{pairs_in}
 use Rattle.pc_messages.specs.State.{state_of}
@@ -19,7 +19,7 @@ use Rattle.pc_kernel.specs.PlainKernel.{PlainKernel, Post, aseq, content, is_kno
 use Rattle.pc_kernel.specs.Facts.{IsAtHome}
 use Rattle.pc_kernel.specs.Reads.{shown, is_cpu}
 use Rattle.pc_kernel.specs.Steps.{at, changed, posting, woken}
-use Rattle.pc_kernel.proofs.Posting.{if_to, if_to_same, item_cases}
+use Rattle.pc_kernel.proofs.Posting.{item_cases}
 use Rattle.pc_agent.specs.PlainAgent.{PlainAgent, Set}
 use Rattle.pc_policy.specs.Rules.{Rules}
 use Rattle.pc_run_queue.specs.Runs.{may_run}
@@ -31,7 +31,7 @@ use Rattle.pc_world.proofs.Good.{IsGood, passed}
 use Rattle.pc_world.proofs.Pairs.{has_first}
 use Rattle.pc_world.proofs.Places.{at_other, at_same}
 use Rattle.pc_world.proofs.Reaching.{reached_good}
-use Rattle.pc_protocol.specs.Protocol.{Comes, Goes, IsAct, IsCalledByEnv, IsForgotten, IsLook, IsPut, IsTake, IsUrgent, Note, Protocol, Stage, begins, behind_sleep, goes_on, news, opening, others, puts, starts, telling, tells_none}
+use Rattle.pc_protocol.specs.Protocol.{Comes, Goes, IsAct, IsCalledByEnv, IsForgotten, IsLook, IsPut, IsTake, IsUrgent, Note, Protocol, Stage, behind_sleep, goes_on, news, opening, others, puts, starts, telling, tells_none}
 use Rattle.pc_protocol.proofs.Among.{IsAmong, among_middle, was_last, not_empty, empty_at}
 use Rattle.pc_protocol.proofs.Acting.{IsGreatest, reports_all, whole_or_behind}
 use Rattle.pc_protocol.proofs.Boxes.{Grows, empty_before, rousing_grows, telling_has}
@@ -42,8 +42,8 @@ use Rattle.pc_protocol.proofs.Putting as Putting
 use Rattle.pc_protocol.proofs.Reaching.{reaches}
 use Rattle.pc_protocol.proofs.Settling.{queue_is_there, some_number}
 use Rattle.pc_protocol.proofs.Sleeping.{IsKept, act_calm, act_grows, kept, put_grows, take_does, take_grows}
-use Rattle.pc_protocol.proofs.Spreading.{IsToBePut, IsUnsent, Tells, get_last, others_all, tells_some, items_after, kinds_after, pairs_append, put_now_or_there, put_same, put_stays, run_post, unsent}
-use Rattle.pc_protocol.proofs.Stepping.{EnvDoes, IsPost, Taken, begins_not_puts, env_does, has_added, has_more, is_before, looks, sent_more, waits_not_puts}
+use Rattle.pc_protocol.proofs.Spreading.{IsToBePut, IsUnsent, Tells, get_last, others_all, tells_some, kinds_after, look_puts, put_now_or_there, put_same, put_stays, run_post, take_puts, unsent, unsent_more, unsent_posted}
+use Rattle.pc_protocol.proofs.Stepping.{EnvDoes, IsPost, Taken, env_does, has_added, has_more, is_before, looks, sent_more}
 
 -- the CPU's agent has a note to take, or its mailbox holds nothing of the thread
 abbrev pub IsClean : Protocol → ℕ → ℕ → Type 0
@@ -217,20 +217,6 @@ module _ (laws : KernelLaws) (greatest : IsGreatest) (limits : Limits) (p new : 
     abbrev it : Item
     it = (posting w.kernel made).item
 
-    grown : (d : ℕ) → unsent new.world d ≡ unsent w d ++ if_to q d it
-    grown d =
-        ap (λ (v : PlainWorld). unsent v d) post.world
-        ∙ ap (λ (f : ℕ → ℕ). drop (f d + (w.agents d).sent_items) (items_to (changed w.kernel (call.Env made)) d)) (is_before w.kernel made).eaten
-        ∙ ap (drop (passed w d)) (items_after w.kernel made d)
-        ∙ drop-append-le (passed w d) (items_to w.kernel d) (if_to q d it) (good.few d)
-
-    unsent_more : (t n : ℕ) → IsUnsent w t n → IsUnsent new.world t n
-    unsent_more t n u = (u.0, ap (λ is. has (pairs_in is) t n) (grown u.0) ∙ ap (λ s. has s t n) (pairs_append (unsent w u.0) (if_to q u.0 it)) ∙ has_more (pairs_in (unsent w u.0)) (pairs_in (if_to q u.0 it)) t n u.1)
-
-    unsent_posted : (t n : ℕ) → has (pairs_in (it ∷ [])) t n ≡ true → IsUnsent new.world t n
-    unsent_posted t n posted =
-        (q, ap (λ is. has (pairs_in is) t n) (grown q ∙ ap (λ is. unsent w q ++ is) (if_to_same q it)) ∙ ap (λ s. has s t n) (pairs_append (unsent w q) (it ∷ [])) ∙ has_added (pairs_in (unsent w q)) (pairs_in (it ∷ [])) t n posted)
-
     sent_same : new.world.sent ≡ w.sent
     sent_same = ap (λ (v : PlainWorld). v.sent) post.world
 
@@ -246,9 +232,9 @@ module _ (laws : KernelLaws) (greatest : IsGreatest) (limits : Limits) (p new : 
       knows = λ t n told. elim (run_post w.kernel made t n (subst (λ (v : PlainWorld). IsInRun (kinds v.kernel) t n) post.world told)) [
         | inl before ↦ elim (h.knows t n before) [
           | inl k ↦ inl (ap (λ (v : PlainWorld). has (v.agents (v.kernel.home t)).known t n) post.world ∙ ap (λ m. has (w.agents m).known t n) (home_stays made t n before) ∙ k)
-          | inr u ↦ inr (unsent_more t n u)
+          | inr u ↦ inr (unsent_more limits p new good made post t n u)
         ]
-        | inr posted ↦ inr (unsent_posted t n posted)
+        | inr posted ↦ inr (unsent_posted limits p new good made post t n posted)
       ];
       homely = λ t empty k n among tells.
           let isin = subst (λ (m : ℕ → List ℕ). IsAmong k (m (new.world.kernel.home t))) mails among in
@@ -261,11 +247,11 @@ module _ (laws : KernelLaws) (greatest : IsGreatest) (limits : Limits) (p new : 
             ap (λ (v : PlainWorld). kinds v.kernel t) post.world ∙ kinds_after w.kernel made t ∙ ap (λ o. kinds w.kernel t ++ cons_option o []) quiet.kind ∙ append-nil (kinds w.kernel t) in
             elim (h.hushed d t (sym (ap (λ (v : PlainWorld). nat_lt d v.kernel.limits.cpus) post.world ∙ ap (λ (l : Limits). nat_lt d l.cpus) (is_before w.kernel made).limits) ∙ there) (ap (λ ks. may_run (state_of ks) d) (sym same) ∙ may)) [
               | inl clean ↦ inl (clean_post d t clean)
-              | inr coming ↦ inr (coming_on d t (unsent_more t) (λ k set e. ap (λ sent. slice_get sent k) sent_same ∙ e) (λ k. put_same p new stages d k) coming)
+              | inr coming ↦ inr (coming_on d t (unsent_more limits p new good made post t) (λ k set e. ap (λ sent. slice_get sent k) sent_same ∙ e) (λ k. put_same p new stages d k) coming)
             ]
         | inr tells ↦
             let m = tells.0 in
-            inr (inl (m.number, unsent_posted t m.number (ap (λ (i : Item). has (pairs_in (i ∷ [])) t m.number) tells.1.is ∙ subst (λ s. has ((m.thread, m.number) ∷ []) s m.number ≡ true) tells.1.thread (has_first m.thread m.number []))))
+            inr (inl (m.number, unsent_posted limits p new good made post t m.number (ap (λ (i : Item). has (pairs_in (i ∷ [])) t m.number) tells.1.is ∙ subst (λ s. has ((m.thread, m.number) ∷ []) s m.number ≡ true) tells.1.thread (has_first m.thread m.number []))))
       ];
     }
 
@@ -310,16 +296,6 @@ module _ (laws : KernelLaws) (greatest : IsGreatest) (limits : Limits) (p new : 
         | inr o ↦ inl (u.0, ap (λ (v : PlainWorld). has (pairs_in (unsent v u.0)) t n) is ∙ ap (λ (a : PlainAgent). has (pairs_in (drop (w.kernel.eaten u.0 + a.sent_items) (items_to w.kernel u.0))) t n) (at_other w.agents c u.0 (sent_after (kinds w.kernel) c items (w.agents c)) o) ∙ u.1)
       ]
 
-      put_look : (d k : ℕ) → IsToBePut p d k → IsToBePut new d k
-      put_look d k put = record {
-        sender = put.sender;
-        n = put.n;
-        left = put.left;
-        at_put = ap (λ (f : ℕ → Stage). f put.sender) look.stages
-            ∙ at_other p.stages c put.sender _ (λ own. begins_not_puts put.n k put.left (sym look.at_begin ∙ ap p.stages (sym own) ∙ put.at_put)) ∙ put.at_put;
-        among = put.among;
-      }
-
       goes_out : (d t n : ℕ) → is_cpu (shown w.kernel) d ≡ true → has (pairs_in items) t n ≡ true → IsClean new d t ⊎ IsComing new d t
       goes_out d t n low told = elim (cases_eq d c) [
         | inl own ↦ inl (clean_look d t (subst (λ m. IsClean p m t) (sym (own ∙ at_home laws limits w good c t n told)) (h.homely t)))
@@ -362,7 +338,7 @@ module _ (laws : KernelLaws) (greatest : IsGreatest) (limits : Limits) (p new : 
             | inl still ↦ inr (inl (u.0, still))
             | inr now ↦ goes_out d t u.0 low now
           ]
-          by_was d t low (inr (inr k)) = inr (inr (k.0, k.1, (k.2.0, sent_look k.0 k.2.0 k.2.1, k.2.2), put_look d k.0 k.3))
+          by_was d t low (inr (inr k)) = inr (inr (k.0, k.1, (k.2.0, sent_look k.0 k.2.0 k.2.1, k.2.2), look_puts p new c look d k.0 k.3))
 
     -- a note
     hushed_take : IsTake p c new → IsHushed new
@@ -375,7 +351,7 @@ module _ (laws : KernelLaws) (greatest : IsGreatest) (limits : Limits) (p new : 
       homely = λ t. subst (λ (P : PlainKernel). IsClean new (P.home t) t) (sym did.kernel) (clean_take (w.kernel.home t) t (h.homely t));
       hushed = λ d t there_d may. elim (h.hushed d t (subst (λ (P : PlainKernel). is_cpu (shown P) d ≡ true) did.kernel there_d) (subst (λ (P : PlainKernel). may_run (state_of (kinds P t)) d ≡ true) did.kernel may)) [
         | inl clean ↦ inl (clean_take d t clean)
-        | inr coming ↦ inr (coming_on d t (unsent_take t) did.sent (put_take d) coming)
+        | inr coming ↦ inr (coming_on d t (unsent_take t) did.sent (take_puts p new c take d) coming)
       ];
     }
       where
@@ -391,16 +367,6 @@ module _ (laws : KernelLaws) (greatest : IsGreatest) (limits : Limits) (p new : 
           u.0,
           ap (λ (P : PlainKernel). has (pairs_in (drop (P.eaten u.0 + (new.world.agents u.0).sent_items) (items_to P u.0))) t n) did.kernel ∙ ap (λ k. has (pairs_in (drop (w.kernel.eaten u.0 + k) (items_to w.kernel u.0))) t n) (did.items u.0) ∙ u.1,
         )
-
-        put_take : (d k : ℕ) → IsToBePut p d k → IsToBePut new d k
-        put_take d k put = record {
-          sender = put.sender;
-          n = put.n;
-          left = put.left;
-          at_put = ap (λ (f : ℕ → Stage). f put.sender) take.stages
-              ∙ at_other p.stages c put.sender begins (λ own. waits_not_puts put.n k put.left (sym take.waiting ∙ ap p.stages (sym own) ∙ put.at_put)) ∙ put.at_put;
-          among = put.among;
-        }
 
         clean_take : (d t : ℕ) → IsClean p d t → IsClean new d t
         clean_take d t was = elim (cases_eq d c) [

@@ -235,34 +235,7 @@ mail_grows p new c put d j mail = subst (λ (m : ℕ → List ℕ). IsAmong j (m
   | inr e ↦ rw e.0 mail
 ])
 
--- what was to be put still is, or was put now
-pub put_or_there : (p new : Protocol) (c : ℕ) (put : IsPut p c new) (d j : ℕ) → IsToBePut p d j → IsToBePut new d j ⊎ IsAmong j (new.mails d)
-put_or_there p new c put d j was = elim (cases_eq was.sender c) [
-  | inl own ↦
-      let left = put.before ++ put.to ∷ put.behind in
-      let rest = put.before ++ put.behind in
-      let same : puts put.n put.k left ≡ puts was.n j was.left = sym put.at_put ∙ ap p.stages (sym own) ∙ was.at_put in
-      let index : put.k ≡ j = same_index put.n was.n put.k j left was.left same in
-      elim (among_taken d put.to put.before put.behind (subst (IsAmong d) (sym (same_left put.n was.n put.k j left was.left same)) was.among)) [
-        | inl this ↦ inr (subst (λ (m : ℕ → List ℕ). IsAmong j (m d)) (sym put.mails) (subst (λ e. IsAmong j (at p.mails put.to (p.mails put.to ++ put.k ∷ []) e)) this (subst (IsAmong j) (sym (at_same p.mails put.to (p.mails put.to ++ put.k ∷ []))) (subst (λ i. IsAmong i (p.mails put.to ++ put.k ∷ [])) index (among_last put.k (p.mails put.to))))))
-        | inr other ↦ inl record {
-          sender = c;
-          n = put.n;
-          left = rest;
-          at_put = ap (λ (f : ℕ → Stage). f c) put.stages ∙ at_same p.stages c (puts put.n put.k rest) ∙ ap (λ i. puts put.n i rest) index;
-          among = other;
-        }
-      ]
-  | inr o ↦ inl record {
-    sender = was.sender;
-    n = was.n;
-    left = was.left;
-    at_put = ap (λ (f : ℕ → Stage). f was.sender) put.stages ∙ at_other p.stages c was.sender (puts put.n put.k (put.before ++ put.behind)) o ∙ was.at_put;
-    among = was.among;
-  }
-]
-
--- the same, and what it was that was put
+-- what was to be put still is, or is what was put now
 pub put_now_or_there : (p new : Protocol) (c : ℕ) (put : IsPut p c new) (d j : ℕ) → IsToBePut p d j → IsToBePut new d j ⊎ ((put.to ≡ d) × (put.k ≡ j))
 put_now_or_there p new c put d j was = elim (cases_eq was.sender c) [
   | inl own ↦
@@ -289,16 +262,34 @@ put_now_or_there p new c put d j was = elim (cases_eq was.sender c) [
   }
 ]
 
-pub look_stays : (p new : Protocol) (c : ℕ) (look : IsLook p c new) (d j : ℕ) → IsToBePut p d j ⊎ IsAmong j (p.mails d) → IsToBePut new d j ⊎ IsAmong j (new.mails d)
-look_stays p new c look d j (inr mail) = inr (subst (λ (m : ℕ → List ℕ). IsAmong j (m d)) (sym look.mails) mail)
-look_stays p new c look d j (inl put) = inl record {
+-- and that lies in the mailbox
+put_or_there : (p new : Protocol) (c : ℕ) (put : IsPut p c new) (d j : ℕ) → IsToBePut p d j → IsToBePut new d j ⊎ IsAmong j (new.mails d)
+put_or_there p new c put d j was = elim (put_now_or_there p new c put d j was) [
+  | inl still ↦ inl still
+  | inr now ↦
+      let more = p.mails put.to ++ put.k ∷ [] in
+      inr (subst (λ (m : ℕ → List ℕ). IsAmong j (m d)) (sym put.mails) (subst (λ e. IsAmong j (at p.mails put.to more e)) now.0 (subst (IsAmong j) (sym (at_same p.mails put.to more)) (subst (λ i. IsAmong i more) now.1 (among_last put.k (p.mails put.to))))))
+]
+
+-- the stage of an agent that has nothing to put is another one
+pub put_beside : (p new : Protocol) (c : ℕ) (s : Stage) → new.stages ≡ at p.stages c s → ((n k : ℕ) (l : List ℕ) → p.stages c ≡ puts n k l → ⊥) → (d j : ℕ) → IsToBePut p d j → IsToBePut new d j
+put_beside p new c s stages none d j put = record {
   sender = put.sender;
   n = put.n;
   left = put.left;
-  at_put = ap (λ (f : ℕ → Stage). f put.sender) look.stages
-      ∙ at_other p.stages c put.sender _ (λ own. begins_not_puts put.n j put.left (sym look.at_begin ∙ ap p.stages (sym own) ∙ put.at_put)) ∙ put.at_put;
+  at_put = ap (λ (f : ℕ → Stage). f put.sender) stages ∙ at_other p.stages c put.sender s (λ own. none put.n j put.left (ap p.stages (sym own) ∙ put.at_put)) ∙ put.at_put;
   among = put.among;
 }
+
+pub look_puts : (p new : Protocol) (c : ℕ) → IsLook p c new → (d j : ℕ) → IsToBePut p d j → IsToBePut new d j
+look_puts p new c look = put_beside p new c _ look.stages (λ n k l e. begins_not_puts n k l (sym look.at_begin ∙ e))
+
+pub take_puts : (p new : Protocol) (c : ℕ) → IsTake p c new → (d j : ℕ) → IsToBePut p d j → IsToBePut new d j
+take_puts p new c take = put_beside p new c begins take.stages (λ n k l e. waits_not_puts n k l (sym take.waiting ∙ e))
+
+look_stays : (p new : Protocol) (c : ℕ) (look : IsLook p c new) (d j : ℕ) → IsToBePut p d j ⊎ IsAmong j (p.mails d) → IsToBePut new d j ⊎ IsAmong j (new.mails d)
+look_stays p new c look d j (inr mail) = inr (subst (λ (m : ℕ → List ℕ). IsAmong j (m d)) (sym look.mails) mail)
+look_stays p new c look d j (inl put) = inl (look_puts p new c look d j put)
 
 -- all that waited in a mailbox is known
 delivered_known : (w : PlainWorld) (c k : ℕ) (told : Reply) (v : PlainWorld) → is_cpu (shown w.kernel) c ≡ true → Step w (event.Deliver c k) told v → (t n : ℕ) → Tells w.sent k t n → has (v.agents c).known t n ≡ true
@@ -328,6 +319,31 @@ takes_learn p new c there take k t n among tells =
     (taken take.read c rest take.note new.world new.boxes (there_on p.world take.read c reads.kernel there) take.takes).known c t n
     (reads_known p.world c (p.mails c) take.read there take.reads k t n among tells)
 
+-- what is unsent behind a post
+module _ (limits : Limits) (p new : Protocol) (good : IsGood limits p.world) (made : EnvCall) (post : IsPost p made new) where
+  abbrev before : PlainWorld
+  before = p.world
+
+  abbrev q : ℕ
+  q = (posting before.kernel made).queue
+
+  abbrev it : Item
+  it = (posting before.kernel made).item
+
+  grown : (d : ℕ) → unsent new.world d ≡ unsent before d ++ if_to q d it
+  grown d =
+      ap (λ (v : PlainWorld). unsent v d) post.world
+      ∙ ap (λ (f : ℕ → ℕ). drop (f d + (before.agents d).sent_items) (items_to (changed before.kernel (call.Env made)) d)) (is_before before.kernel made).eaten
+      ∙ ap (drop (passed before d)) (items_after before.kernel made d)
+      ∙ drop-append-le (passed before d) (items_to before.kernel d) (if_to q d it) (good.few d)
+
+  pub unsent_more : (t n : ℕ) → IsUnsent before t n → IsUnsent new.world t n
+  unsent_more t n u = (u.0, ap (λ is. has (pairs_in is) t n) (grown u.0) ∙ ap (λ s. has s t n) (pairs_append (unsent before u.0) (if_to q u.0 it)) ∙ has_more (pairs_in (unsent before u.0)) (pairs_in (if_to q u.0 it)) t n u.1)
+
+  pub unsent_posted : (t n : ℕ) → has (pairs_in (it ∷ [])) t n ≡ true → IsUnsent new.world t n
+  unsent_posted t n posted =
+      (q, ap (λ is. has (pairs_in is) t n) (grown q ∙ ap (λ is. unsent before q ++ is) (if_to_same q it)) ∙ ap (λ s. has s t n) (pairs_append (unsent before q) (it ∷ [])) ∙ has_added (pairs_in (unsent before q)) (pairs_in (it ∷ [])) t n posted)
+
 module _ (laws : KernelLaws) (limits : Limits) (p new : Protocol) (good : IsGood limits p.world) (h : Spread p) where
   abbrev w : PlainWorld
   w = p.world
@@ -338,26 +354,12 @@ module _ (laws : KernelLaws) (limits : Limits) (p new : Protocol) (good : IsGood
         | inl before ↦ elim (h c t n (sym (ap (λ (v : PlainWorld). nat_lt c v.kernel.limits.cpus) post.world ∙ ap (λ (l : Limits). nat_lt c l.cpus) (is_before w.kernel made).limits) ∙ there) before) [
           | inl k ↦ inl (ap (λ (v : PlainWorld). has (v.agents c).known t n) post.world ∙ k)
           | inr o ↦ elim o [
-            | inl u ↦ inr (inl (u.0, ap (λ is. has (pairs_in is) t n) (grown u.0) ∙ ap (λ s. has s t n) (pairs_append (unsent w u.0) (if_to q u.0 it)) ∙ has_more (pairs_in (unsent w u.0)) (pairs_in (if_to q u.0 it)) t n u.1))
+            | inl u ↦ inr (inl (unsent_more limits p new good made post t n u))
             | inr s ↦ inr (inr (way_same p new stages mails (ap (λ (v : PlainWorld). v.sent) post.world) c t n s))
           ]
         ]
-        | inr posted ↦
-            inr (inl (q, ap (λ is. has (pairs_in is) t n) (grown q ∙ ap (λ is. unsent w q ++ is) (if_to_same q it)) ∙ ap (λ s. has s t n) (pairs_append (unsent w q) (it ∷ [])) ∙ has_added (pairs_in (unsent w q)) (pairs_in (it ∷ [])) t n posted))
+        | inr posted ↦ inr (inl (unsent_posted limits p new good made post t n posted))
       ]
-    where
-      q : ℕ
-      q = (posting w.kernel made).queue
-
-      it : Item
-      it = (posting w.kernel made).item
-
-      grown : (d : ℕ) → unsent new.world d ≡ unsent w d ++ if_to q d it
-      grown d =
-          ap (λ (v : PlainWorld). unsent v d) post.world
-          ∙ ap (λ (f : ℕ → ℕ). drop (f d + (w.agents d).sent_items) (items_to (changed w.kernel (call.Env made)) d)) (is_before w.kernel made).eaten
-          ∙ ap (drop (passed w d)) (items_after w.kernel made d)
-          ∙ drop-append-le (passed w d) (items_to w.kernel d) (if_to q d it) (good.few d)
 
   spread_same : new.world ≡ w → new.stages ≡ p.stages → new.mails ≡ p.mails → Spread new
   spread_same same stages mails c t n there told =
@@ -411,14 +413,7 @@ module _ (laws : KernelLaws) (limits : Limits) (p new : Protocol) (good : IsGood
           k = s.k;
           tells = tells_more w.sent new.world.sent (take_does laws limits p new good kept c there take).sent s.k t n s.tells;
           there = elim still [
-            | inl put ↦ inl record {
-              sender = put.sender;
-              n = put.n;
-              left = put.left;
-              at_put = ap (λ (f : ℕ → Stage). f put.sender) take.stages
-                  ∙ at_other p.stages c put.sender begins (λ own. waits_not_puts put.n s.k put.left (sym take.waiting ∙ ap p.stages (sym own) ∙ put.at_put)) ∙ put.at_put;
-              among = put.among;
-            }
+            | inl put ↦ inl (take_puts p new c take e s.k put)
             | inr mail ↦ inr mail
           ];
         })
