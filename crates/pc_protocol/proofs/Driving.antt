@@ -400,11 +400,17 @@ can_call p made none =
     let posted = receipt (posting K made) in (
       record { world = record p.world { kernel = after K (call.Env made) }; stages = p.stages; mails = p.mails; boxes = rousing posted.woken p.boxes },
       record {
+        called = record {
+          call = made;
+          told = reply.Posted posted;
+          step = record { tells = sym (ap (λ o. told_of (call.Env made) (reply_of o (accepted K (call.Env made)))) none); after = refl };
+          stages = refl;
+          mails = refl;
+          boxes = refl;
+        };
+        is_made = refl;
         posted = posted;
-        step = record { tells = sym (ap (λ o. told_of (call.Env made) (reply_of o (accepted K (call.Env made)))) none); after = refl };
-        stages = refl;
-        mails = refl;
-        boxes = refl;
+        answered = refl;
       },
     )
 
@@ -421,14 +427,10 @@ can_wake r t was = by_refused (refused (shown (kernel_of r)) (call.Env (Wake t))
         )
 
 -- the start
-called : (rules : ℕ → Rules) (limits : Limits) (p : Protocol) (made : EnvCall) (new : Protocol) → Comes rules limits p → IsAccepted p made new → Comes rules limits new
-called rules limits p made new comes h =
-    goes_on comes (inl record { call = made; told = reply.Posted h.posted; step = h.step; stages = h.stages; mails = h.mails; boxes = h.boxes })
-
 created_comes : (rules : ℕ → Rules) (limits : Limits) (plans : List Plan) (p new : Protocol) → Comes rules limits p → AreCreated p plans new → Comes rules limits new
 created_comes rules limits [] p new comes h = subst (Comes rules limits) (sym h) comes
 created_comes rules limits (plan ∷ plans) p new comes h =
-    created_comes rules limits plans h.0 new (called rules limits p (Create plan.queue true plan.mask) h.0 comes h.1) h.2
+    created_comes rules limits plans h.0 new (goes_on comes (inl h.1.called)) h.2
 
 all_created : (plans : List Plan) (p new : Protocol) (n : ℕ) → HasCreated p.world.kernel n → AreCreated p plans new → HasCreated new.world.kernel (n + length plans)
 all_created [] p new n has h =
@@ -460,10 +462,8 @@ module _ (laws : KernelLaws) (rules : ℕ → Rules) (limits : Limits) (plans : 
   drive_comes r (created {p = p} made) = created_comes rules limits plans (opening rules limits) p starts made
   drive_comes r (onward {r = old} driven (inl served)) = goes_on (drive_comes old driven) (inr (inr (served.0, served.1.step)))
   drive_comes r (onward {r = old} driven (inr (inl lost))) = goes_on (drive_comes old driven) (inr (inl lost.step))
-  drive_comes r (onward {r = old} driven (inr (inr (inl done)))) =
-      called rules limits old.protocol (call_for done.1.deed.leaving done.0 done.1.deed.ran) r.protocol (drive_comes old driven) done.1.accepted
-  drive_comes r (onward {r = old} driven (inr (inr (inr woken)))) =
-      called rules limits old.protocol (Wake woken.0) r.protocol (drive_comes old driven) woken.1.accepted
+  drive_comes r (onward {r = old} driven (inr (inr (inl done)))) = goes_on (drive_comes old driven) (inl done.1.accepted.called)
+  drive_comes r (onward {r = old} driven (inr (inr (inr woken)))) = goes_on (drive_comes old driven) (inl woken.1.accepted.called)
 
   abbrev count : ℕ
   count = length plans

@@ -68,11 +68,17 @@ d1 : Driven (λ c. usual) alone (brief ∷ []) r1
 d1 = created (
   p1,
   record {
+    called = record {
+      call = Create 0 true 1;
+      told = reply.Posted record { thread = Some 0; number = Some 1; queue = 0; aseq = 1; woken = None };
+      step = record { tells = refl; after = refl };
+      stages = refl;
+      mails = refl;
+      boxes = refl;
+    };
+    is_made = refl;
     posted = record { thread = Some 0; number = Some 1; queue = 0; aseq = 1; woken = None };
-    step = record { tells = refl; after = refl };
-    stages = refl;
-    mails = refl;
-    boxes = refl;
+    answered = refl;
   },
   refl,
 )
@@ -128,11 +134,17 @@ d4 = onward d3 (inr (inr (inl (
     rest = [];
     next = refl;
     accepted = record {
+      called = record {
+        call = Die 0 5;
+        told = reply.Posted record { thread = Some 0; number = Some 2; queue = 0; aseq = 2; woken = Some 0 };
+        step = record { tells = refl; after = refl };
+        stages = refl;
+        mails = refl;
+        boxes = refl;
+      };
+      is_made = refl;
       posted = record { thread = Some 0; number = Some 2; queue = 0; aseq = 2; woken = Some 0 };
-      step = record { tells = refl; after = refl };
-      stages = refl;
-      mails = refl;
-      boxes = refl;
+      answered = refl;
     };
     left = refl;
     told = refl;

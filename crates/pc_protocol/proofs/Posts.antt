@@ -45,15 +45,15 @@ not_posted : (posted : Posted) (why : Refusal) → reply.Posted posted ≡ reply
 not_posted posted why e = cc
 
 pub accepts : (p : Protocol) (made : EnvCall) (new : Protocol) → IsAccepted p made new → Accepts p made new
-accepts p made new h = by_refused (refused (shown p.world.kernel) (call.Env made)) refl
+accepts p made new h = subst (λ c. Accepts p c new) h.is_made (by_refused (refused (shown p.world.kernel) (call.Env h.called.call)) refl)
   where
-    by_refused : (o : Option Refusal) → refused (shown p.world.kernel) (call.Env made) ≡ o → Accepts p made new
+    by_refused : (o : Option Refusal) → refused (shown p.world.kernel) (call.Env h.called.call) ≡ o → Accepts p h.called.call new
     by_refused None none = record {
       none = none;
-      world = h.step.after ∙ ap (λ o. record p.world { kernel = after_of o (changed p.world.kernel (call.Env made)) p.world.kernel }) none;
+      world = h.called.step.after ∙ ap (λ o. record p.world { kernel = after_of o (changed p.world.kernel (call.Env h.called.call)) p.world.kernel }) none;
     }
     by_refused (Some why) some =
-        absurd (not_posted h.posted why (h.step.tells ∙ ap (λ o. told_of (call.Env made) (reply_of o (accepted p.world.kernel (call.Env made)))) some))
+        absurd (not_posted h.posted why (sym h.answered ∙ h.called.step.tells ∙ ap (λ o. told_of (call.Env h.called.call) (reply_of o (accepted p.world.kernel (call.Env h.called.call)))) some))
 
 -- a message of one thread is posted
 pub record Adds (P Q : PlainKernel) (s : ℕ) (k : Kind) : Type 0 where

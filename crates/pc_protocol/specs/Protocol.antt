@@ -5,6 +5,8 @@
 -- that is not taken yet, and notes may overtake each other. A mailbox is taken as a whole, so what is still to be put
 -- there may not lie in it already: an agent puts what it sent to one other agent after another, and all may go on
 -- between.
+--
+-- No agent starts again, no send is refused, and an agent's calls of the kernel are those of its turn alone.
 use Rattle.std.specs.Prelude.{ℕ, ◌≡◌, ◌⊎◌, ◌==◌, Bool, true, false, not, if◌then◌else◌, nat_lt, List, [], ◌∷◌, ◌++◌}
 use Rattle.std.specs.Prelude.{length, filter, slice_get, Contains, Option, Some, None}
 use Rattle.std.specs.List.{range_with_len}

@@ -10,7 +10,6 @@ use Rattle.pc_calls.specs.declared.call.Call.TheVariants as call
 use Rattle.pc_calls.specs.declared.call.EnvCall.{EnvCall}
 use Rattle.pc_calls.specs.declared.call.EnvCall.TheVariants.{Create, Wake}
 use Rattle.pc_calls.specs.declared.call.Posted.{Posted}
-use Rattle.pc_calls.specs.declared.event.Event.TheVariants.{Env}
 use Rattle.pc_calls.specs.declared.event.Reply.TheVariants as reply
 use Rattle.pc_calls.specs.declared.leaving.Leaving.{Leaving}
 use Rattle.pc_calls.specs.declared.leaving.Leaving.TheVariants.{Block, Die}
@@ -21,8 +20,7 @@ use Rattle.pc_kernel.specs.PlainKernel.{PlainKernel, kinds}
 use Rattle.pc_kernel.specs.Reads.{shown}
 use Rattle.pc_kernel.specs.Steps.{at, refused}
 use Rattle.pc_policy.specs.Rules.{Rules, usual}
-use Rattle.pc_world.specs.Steps.{Step}
-use Rattle.pc_protocol.specs.Protocol.{IsForgotten, OfAgent, Protocol, cpus_of, opening, rousing}
+use Rattle.pc_protocol.specs.Protocol.{IsCalledByEnv, IsForgotten, OfAgent, Protocol, cpus_of, opening}
 use Rattle.pc_protocol.specs.Resting.{IsAtRest}
 
 -- what a thread does once it runs: it leaves its CPU so, after so many ticks
@@ -55,13 +53,12 @@ pub record Drive : Type 0 where
 abbrev pub kernel_of : Drive → PlainKernel
 kernel_of r = r.protocol.world.kernel
 
--- the kernel accepts a call of the environment, and the agent that it wakes is told
+-- the environment makes this call, and the kernel accepts it
 pub record IsAccepted (p : Protocol) (made : EnvCall) (new : Protocol) : Type 0 where
+  pub called : IsCalledByEnv p new
+  pub is_made : called.call ≡ made
   pub posted : Posted
-  pub step : Step p.world (Env made) (reply.Posted posted) new.world
-  pub stages : new.stages ≡ p.stages
-  pub mails : new.mails ≡ p.mails
-  pub boxes : new.boxes ≡ rousing posted.woken p.boxes
+  pub answered : called.told ≡ reply.Posted posted
 
 -- the kernel refuses a call of the environment
 abbrev pub IsRefused : PlainKernel → EnvCall → Type 0

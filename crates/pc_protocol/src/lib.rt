@@ -1,8 +1,11 @@
 //! What agents in threads do, turn by turn, as a machine, and laws that hold of each of its states.
 //!
 //! A scheduler stalls where a thread is ready, a CPU idles, and no agent will ever look again. Agents that follow this
-//! protocol do not: whatever the environment does, however their threads are scheduled, however slow a send is. Nothing
-//! is called here: the crate has laws alone.
+//! protocol do not: whatever the environment does, however their threads are scheduled, however slow a send is. Agents
+//! that start again are not among these, nor sends that are refused. That the threads of a program do these steps, and
+//! no others, is not proved; nor that they are scheduled, and that what they send arrives.
+//!
+//! Nothing is called here: the crate has laws alone.
 #![tactic(auto)]
 
 ghost use Rattle.pc_world.specs.Inner.Laws.{KernelLaws};
