@@ -73,9 +73,9 @@ pub fn homes_are_there()
     ensures { HomesAreThere }
 {}
 
-/// After every list of calls, a call that is accepted does what its effect says ([`pc_calls::Effect`]): whether an item is
-/// posted, whose phase changes, who leaves a CPU and who comes. Where the effect names a queue or a thread, the item goes
-/// to that queue and is of that thread.
+/// After every list of calls, a call that is accepted does what its effect says ([`pc_calls::Effect`]): whether an item
+/// is posted, whose phase changes, who leaves a CPU and who comes. Where the effect names a queue or a thread, the item
+/// goes to that queue and is of that thread.
 pub fn effects_are_done()
     ensures environment { EnvCallsHaveEffects }
     ensures agents { AgentCallsHaveEffects }
