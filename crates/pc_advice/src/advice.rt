@@ -73,10 +73,10 @@ fn next_move(ahead: &Ahead<'_>, line: &Goal, chosen: &mut bool) -> Move {
 /// the environment, of which one has to come.
 ///
 /// It answers in every world, takes no memory, and leaves the world as it is. What is proved is that the last of the
-/// steps is the line itself, once, that there are at most [`Plan::MOST`], and that each has the thread, the queue and the
-/// number of then: what the kernel shows behind the effects of the steps before it. Tested, not proved, on drawn scripts:
-/// that the steps are accepted one after another, and that no deed of an agent, and no two, make the line accepted where
-/// it answers [`Advice::NoAgent`] or [`Advice::Never`].
+/// steps is the line itself, once, that there are at most [`Plan::MOST`], and that each has the thread, the queue and
+/// the number of then: what the kernel shows behind the effects of the steps before it. Tested, not proved, on drawn
+/// scripts: that the steps are accepted one after another, and that no deed of an agent, and no two, make the line
+/// accepted where it answers [`Advice::NoAgent`] or [`Advice::Never`].
 pub fn advise(world: &World, policy: PolicyName, line: &Deed) -> Advice
     ensures { IsFor (kernel_of world.now) line.now result }
 {
