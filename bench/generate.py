@@ -157,8 +157,7 @@ def restarts(lines):
 
 def turn_of(chance, world, cpu, blocked):
     """What the threads of a CPU do before its agent looks."""
-    running = world.running[cpu]
-    if running is not None:
+    if (running := world.running[cpu]) is not None:
         how = chance.choice(["yield", "yield", "block", "preempt"])
         blocked += [running] * (how == "block")
         yield f"{how} {cpu} {chance.randrange(1000)}"

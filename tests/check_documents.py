@@ -71,8 +71,7 @@ def items_of(name, labels):
             items.append(Item(f"{name}:{number}", heading, line[2:]))
             told = ""
         elif line.startswith("  - ") and told is not None:
-            told = next((label for label in labels if line[4:].startswith(label)), None)
-            if told is not None:
+            if (told := next((label for label in labels if line[4:].startswith(label)), None)) is not None:
                 items[-1].below[told] = line[4 + len(told):].removeprefix(":").strip()
         elif line.startswith("  ") and told == "":
             items[-1].text += " " + line.strip()
@@ -196,8 +195,7 @@ class Checker:
 
     def check_promises(self):
         for item in items_of("docs/PROMISES.md", ["carried by"]):
-            heading = re.match(r"## `(\w+)`", item.heading)
-            if not heading:
+            if not (heading := re.match(r"## `(\w+)`", item.heading)):
                 continue
             crate = self.crates.get(heading[1])
             self.expect(crate, item.where, f"there is no crate `{heading[1]}`")

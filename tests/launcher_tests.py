@@ -61,15 +61,11 @@ class Launcher:
         self.put_machine(cores=4, gigabytes=100)
         self.put_crates(CRATES)
         for name in ("low", "left", "right", "pc_sim"):
-            for part in ("src", "specs", "must-fail", "wrong-bodies"):
-                (self.crates / name / part).mkdir(parents=True)
-            (self.crates / f"{name}/src/lib.rt").write_text(f"// {name}\n")
-            (self.crates / f"{name}/specs/Extra.antt").write_text(f"-- {name}\n")
+            self.put_source(f"{name}/src/lib.rt", f"// {name}\n")
+            self.put_source(f"{name}/specs/Extra.antt", f"-- {name}\n")
         self.set_dates(-100)
-        self.program = self.crates / "pc_sim/out/pc_sim"
         for tool in TOOLS:
-            needs(shutil.which(tool), f"no {tool} here")
-            (self.bin / tool).symlink_to(shutil.which(tool))
+            self.put_tool(tool)
         self.put_command("rt", STAND_IN)
 
     def end(self) -> None:
@@ -77,6 +73,7 @@ class Launcher:
 
     crates = property(lambda self: self.tree / "crates")
     release = property(lambda self: self.tree / "release")
+    program = property(lambda self: self.crates / "pc_sim/out/pc_sim")
     note = property(lambda self: self.program.parent / "sources")
     processes = property(lambda self: pathlib.Path(f"{self.record}.processes"))
 
@@ -88,29 +85,40 @@ class Launcher:
         text, facts = (ROOT / "tools/build").read_text(), self.top / "meminfo"
         facts.write_text(f"MemTotal: 999999999 kB\nMemAvailable: {gigabytes * 1024 * 1024} kB\n")
         same(text.count("/proc/meminfo"), 1)
-        (self.tree / "tools/build").write_text(text.replace("/proc/meminfo", str(facts)))
-        (self.tree / "tools/build").chmod(0o755)
+        rig.put_command(self.tree / "tools/build", text.replace("/proc/meminfo", str(facts)))
 
     def put_crates(self, text: str) -> None:
         (self.tree / "crates.txt").write_text(text)
 
     def put_source(self, name: str, text: str = "// another\n") -> None:
+        (self.crates / name).parent.mkdir(parents=True, exist_ok=True)
         (self.crates / name).write_text(text)
+
+    def put_crates_above(self, *lines: str) -> None:
+        """Further crates, by their lines."""
+        self.put_crates(CRATES + "".join(line + "\n" for line in lines))
+        for line in lines:
+            self.put_source(f"{line.partition(':')[0]}/src/lib.rt", "// a crate\n")
+        self.set_dates(-100)
 
     def put_copy(self) -> None:
         """Puts a copy of the tree in its place, with its dates."""
         self.tree.rename(self.top / "before")
         rig.good(rig.run("cp", "-a", self.top / "before", self.tree))
 
+    def put_tool(self, name: str) -> None:
+        """A command of this machine comes onto the path."""
+        needs(shutil.which(name), f"no {name} here")
+        (self.bin / name).unlink(missing_ok=True)
+        (self.bin / name).symlink_to(shutil.which(name))
+
     def put_command(self, name: str, text: str) -> None:
         (self.bin / name).unlink(missing_ok=True)
-        (self.bin / name).write_text(text)
-        (self.bin / name).chmod(0o755)
+        rig.put_command(self.bin / name, text)
 
     def put_bounded(self) -> None:
         """A command of the tree that starts the launcher where no file may grow."""
-        (self.tree / "bounded").write_text('#!/usr/bin/env bash\nulimit -f 0\nexec "${0%/*}/pc-sim"\n')
-        (self.tree / "bounded").chmod(0o755)
+        rig.put_command(self.tree / "bounded", '#!/usr/bin/env bash\nulimit -f 0\nexec "${0%/*}/pc-sim"\n')
 
     def set_dates(self, seconds: float) -> None:
         """Dates each source this long from now."""
@@ -121,8 +129,7 @@ class Launcher:
     def put_program(self, text: str = PROGRAM, is_noted: bool = True) -> None:
         """A program as an earlier build left it, or as one that another command built."""
         self.program.parent.mkdir(exist_ok=True)
-        self.program.write_text(text)
-        self.program.chmod(0o755)
+        rig.put_command(self.program, text)
         if is_noted:
             words = '. "$0/pc-sim" && . "$here/tools/released" && put_note "$(sum_of_sources)" "$(sum_of "$program")" "" "$EPOCHSECONDS"'
             rig.good(rig.run("bash", "-uc", words, self.tree))
@@ -170,21 +177,29 @@ class Launcher:
         out, errors = process.communicate(given, timeout=SECONDS)
         return process.returncode, out, errors
 
+    def ends(self, process: subprocess.Popen[str], *args: str, status: int = 0) -> str:
+        """It ends so, and has printed what the program prints of these arguments; what standard error says."""
+        ended, out, errors = self.ended(process)
+        same((ended, out), (status, told(*args)), errors)
+        return errors
+
     def run_it(self, *args: str, **more: Any) -> Ended:
         return self.ended(self.begin(*args, **more))
+
+    def called(self) -> list[tuple[str, str]]:
+        return self.calls()[0]
 
     def starts(self, *args: str, **more: Any) -> None:
         """The program starts at once and without a word, and no lock is asked for."""
         lock = self.tree / ".build.lock"
         was_there = lock.exists()
         same(self.run_it(*args, **more), (0, told(*args), ""))
-        same((self.calls()[0], lock.exists()), ([], was_there))
+        same((self.called(), lock.exists()), ([], was_there))
 
     def builds(self, *args: str, **more: Any) -> str:
         """A start builds each crate once, and then starts the program; what standard error says."""
         self.forget_calls()
-        status, out, errors = self.run_it(*args, **more)
-        same((status, out), (0, told(*args)), errors)
+        errors = self.ends(self.begin(*args, **more), *args)
         self.is_built_once(errors)
         self.forget_calls()
         return errors
@@ -199,30 +214,27 @@ class Launcher:
         return errors
 
     def is_built_once(self, errors: str) -> None:
-        same(sorted(self.calls()[0]), [("left", "lib"), ("low", "lib"), ("pc_sim", "run -- --help"), ("right", "lib")])
+        same(sorted(self.called()), [("left", "lib"), ("low", "lib"), ("pc_sim", "run -- --help"), ("right", "lib")])
         matches(errors, r"pc-sim: built in \d+ s\n\Z")
         same(list(self.temporary.iterdir()), [], "temporary files are left")
 
-    def wait_for_text(self, process: subprocess.Popen[str], wanted: str) -> str:
-        """Reads standard error until a line has the text, and returns what was read."""
-        read = ""
+    def begun(self, wanted: str, *args: str, **more: Any) -> tuple[subprocess.Popen[str], str]:
+        """A start of which a line of standard error has the text, and what was read of that so far."""
+        process, read = self.begin(*args, **more), ""
         while wanted not in read:
             line = process.stderr.readline()
             assert line, f"ended without {wanted!r}: {read}"
             read += line
-        return read
+        return process, read
 
     # What the stand-in was called for
 
     def calls(self) -> tuple[list[tuple[str, str]], dict[str, float], dict[str, float]]:
         """Its arguments by crate, in order, but for how many jobs, and when each began and ended."""
-        words, began, ended = [], {}, {}
-        for line in self.record.read_text().splitlines() if self.record.exists() else []:
-            what, name, at, *args = line.split()
-            if what == "begin":
-                words.append((name, " ".join(args).partition(" --jobs ")[0]))
-            (began if what == "begin" else ended)[name] = float(at)
-        return words, began, ended
+        text = self.record.read_text() if self.record.exists() else ""
+        rows = re.findall(r"^(begin|end) (\w+) (\S+) ?(.*?)(?: --jobs \d+)?$", text, re.M)
+        began, ended = ({name: float(at) for what, name, at, _ in rows if what == kind} for kind in ("begin", "end"))
+        return [(name, words) for what, name, _, words in rows if what == "begin"], began, ended
 
     def forget_calls(self) -> None:
         self.record.unlink(missing_ok=True)
@@ -250,7 +262,8 @@ FIXTURE = Launcher
 
 # What starts a build
 
-EXTRA, OTHER = "left/specs/Extra.antt", "left/specs/Other.antt"
+LOW, EXTRA, OTHER = "low/src/lib.rt", "left/specs/Extra.antt", "left/specs/Other.antt"
+OF_TESTS = ("pc_tests", "pc_tests_agents", "pc_example", "pc_replayed")
 # What is done to a tree whose program is as an earlier build left it, or was built here, and what a start does then.
 CHANGES: dict[str, tuple[Any, Any, Any]] = {
     "nothing": (Launcher.put_program, lambda it: None, Launcher.starts),
@@ -259,10 +272,10 @@ CHANGES: dict[str, tuple[Any, Any, Any]] = {
     "sources of another date": (Launcher.put_program, lambda it: it.set_dates(50), Launcher.starts),
     "a copy of the tree": (Launcher.builds, Launcher.put_copy, Launcher.starts),
     "a change that is taken back": (
-        Launcher.builds, lambda it: [it.put_source("low/src/lib.rt", text) for text in ("// other\n", "// low\n")], Launcher.starts),
-    "another source": (Launcher.put_program, lambda it: it.put_source("low/src/lib.rt"), Launcher.builds),
+        Launcher.builds, lambda it: [it.put_source(LOW, text) for text in ("// other\n", "// low\n")], Launcher.starts),
+    "another source": (Launcher.put_program, lambda it: it.put_source(LOW), Launcher.builds),
     "another source of an old date": (
-        Launcher.builds, lambda it: it.put_source("low/src/lib.rt") or it.set_dates(-1000), Launcher.builds),
+        Launcher.builds, lambda it: it.put_source(LOW) or it.set_dates(-1000), Launcher.builds),
     "another definition of an old date": (Launcher.builds, lambda it: it.put_source(EXTRA) or it.set_dates(-1000), Launcher.builds),
     "another list of crates of an old date": (
         Launcher.builds, lambda it: it.put_crates(f"# Other.\n{CRATES}") or it.set_dates(-1000), Launcher.builds),
@@ -279,6 +292,17 @@ CHANGES: dict[str, tuple[Any, Any, Any]] = {
     "a deleted source": (Launcher.builds, lambda it: (it.crates / EXTRA).unlink(), Launcher.builds),
     "an added source of an old date": (Launcher.builds, lambda it: it.put_source(OTHER) or it.set_dates(-100), Launcher.builds),
     "a deleted source, and no note": (Launcher.builds, lambda it: (it.crates / EXTRA).unlink() or it.note.unlink(), Launcher.builds),
+    "crates of the tests": (
+        lambda it: it.put_crates_above(*(f"{name}: low left" for name in OF_TESTS)) or it.builds(),
+        lambda it: [it.put_source(f"{name}/src/lib.rt") for name in OF_TESTS], Launcher.starts),
+    "a crate that the program does not stand on": (
+        Launcher.put_program, lambda it: it.put_crates_above("beside: low"), Launcher.builds),
+    "a program of another command, that of release/": (
+        lambda it: it.put_release() or it.put_program(is_noted=False),
+        lambda it: it.starts() or shutil.rmtree(it.release), Launcher.starts),
+    "a link to the launcher": (
+        Launcher.put_program, lambda it: (it.top / "linked").symlink_to(it.tree / "pc-sim"),
+        lambda it, *args: it.starts(*args, command="../linked")),
 }
 
 
@@ -299,18 +323,6 @@ def test_without_a_program_all_is_built(it: Launcher) -> None:
     it.starts("x")
 
 
-def test_the_crates_of_the_tests_are_not_built(it: Launcher) -> None:
-    names = ["pc_tests", "pc_tests_agents", "pc_example", "pc_replayed"]
-    it.put_crates(CRATES + "pc_tests: low left\npc_tests_agents: low left right\npc_example: low\npc_replayed: low\n")
-    for name in names:
-        (it.crates / name / "src").mkdir(parents=True)
-    it.set_dates(-100)
-    it.builds("x")
-    for name in names:
-        it.put_source(f"{name}/src/lib.rt")
-    it.starts("x")
-
-
 def test_files_that_stay_as_they_are_need_no_sums(it: Launcher) -> None:
     it.put_program()
     # So long after a change another one cannot have its moment.
@@ -318,31 +330,20 @@ def test_files_that_stay_as_they_are_need_no_sums(it: Launcher) -> None:
     it.starts()
     (it.bin / "sha256sum").unlink()
     it.starts()
-    source = it.crates / "low/src/lib.rt"
+    source = it.crates / LOW
     was = source.stat()
-    it.put_source("low/src/lib.rt", "// l0w\n")
+    it.put_source(LOW, "// l0w\n")
     os.utime(source, ns=(was.st_atime_ns, was.st_mtime_ns))
     same((source.stat().st_size, source.stat().st_mtime_ns), (was.st_size, was.st_mtime_ns))
     it.fails("the sources cannot be read")
-    (it.bin / "sha256sum").symlink_to(shutil.which("sha256sum"))
+    it.put_tool("sha256sum")
     it.builds()
 
 
-def test_a_program_of_another_command_is_that_of_release(it: Launcher) -> None:
-    it.put_release()
-    it.put_program(is_noted=False)
-    it.starts()
-    shutil.rmtree(it.release)
-    it.starts()
-
-
 def test_a_source_that_changes_during_the_build_rebuilds_at_the_next_start(it: Launcher) -> None:
-    first = it.begin(RT_SECONDS="0.4")
-    it.wait_for_text(first, "[1/4] low ..")
-    it.put_source("low/src/lib.rt")
-    status, _, errors = it.ended(first)
-    same(status, 0)
-    assert "pc-sim: a source changed meanwhile: the next start builds again\n" in errors
+    first, _ = it.begun("[1/4] low ..", RT_SECONDS="0.4")
+    it.put_source(LOW)
+    assert "pc-sim: a source changed meanwhile: the next start builds again\n" in it.ends(first)
     it.builds()
     it.starts()
 
@@ -353,25 +354,22 @@ def test_a_source_that_changes_during_the_build_rebuilds_at_the_next_start(it: L
 def test_without_rt_an_older_program_starts_with_a_warning(it: Launcher) -> None:
     (it.bin / "rt").unlink()
     it.put_program(is_noted=False)
-    status, out, errors = it.run_it("x", PROGRAM_STATUS="3")
-    same((status, out), (3, told("x")))
+    errors = it.ends(it.begin("x", PROGRAM_STATUS="3"), "x", status=3)
     matches(errors, r"\Apc-sim: .*not known to be of these sources.*rt is not on the path\n\Z")
 
 
 # The order of the crates
 
 
-@rig.each({"four cores": (4, 100), "two cores": (2, 8)})
-def test_crates_beside_each_other_are_built_side_by_side(it: Launcher, cores: int, gigabytes: int) -> None:
-    # Long enough for a busy machine to begin the second one meanwhile.
-    began, ended, _ = it.calls_on(cores, gigabytes, "2")
-    assert began["left"] < ended["right"] and began["right"] < ended["left"]
-
-
-@rig.each({"one core": (1, 100), "7 GB": (4, 7), "1 GB": (4, 1)})
-def test_one_after_the_other_where_cores_or_memory_are_short(it: Launcher, cores: int, gigabytes: int) -> None:
-    began, ended, _ = it.calls_on(cores, gigabytes)
-    assert ended["left"] <= began["right"]
+# How many cores and gigabytes there are, how long each crate takes, and whether two are built at once: the first lasts long
+# enough then for a busy machine to begin the second one meanwhile.
+@rig.each({
+    "four cores": (4, 100, "2", True), "two cores": (2, 8, "2", True),
+    "one core": (1, 100, "0.25", False), "7 GB": (4, 7, "0.25", False), "1 GB": (4, 1, "0.25", False),
+})
+def test_crates_beside_each_other(it: Launcher, cores: int, gigabytes: int, seconds: str, at_once: bool) -> None:
+    began, ended, _ = it.calls_on(cores, gigabytes, seconds)
+    same((began["left"] < ended["right"], began["right"] < ended["left"]), (True, at_once))
 
 
 def test_ends_that_bash_has_noted_by_itself_are_found(it: Launcher) -> None:
@@ -382,12 +380,6 @@ def test_ends_that_bash_has_noted_by_itself_are_found(it: Launcher) -> None:
     it.builds()
     it.program.unlink()
     it.fails("left could not be built", RT_FAILS="left")
-
-
-def test_a_crate_that_the_program_does_not_stand_on_is_not_built(it: Launcher) -> None:
-    it.put_crates(CRATES + "beside: low\n")
-    (it.crates / "beside/src").mkdir(parents=True)
-    it.builds()
 
 
 # The second is enough where more can begin than there are places.
@@ -410,24 +402,23 @@ def test_each_crate_is_built_in_a_tree_of_its_own_and_brought_back(it: Launcher)
     below = lambda name: (it.crates / name / "out/below").read_text()
     same(list(map(below, ("low", "left", "right"))), ["*/out/lib\n", "low/out/lib\n", "low/out/lib\n"])
     assert not (it.tree / ".trees").exists()
-    it.put_source("low/src/lib.rt")
+    it.put_source(LOW)
     it.builds()
     same(below("left"), "left/out/lib low/out/lib\n")
 
 
 def test_what_most_stand_on_is_built_first(it: Launcher) -> None:
     it.put_crates("right:\nlow:\nleft: low\nmiddle: left\npc_sim: right middle\n")
-    (it.crates / "middle/src").mkdir(parents=True)
-    (it.crates / "middle/src/lib.rt").write_text("// middle\n")
+    it.put_source("middle/src/lib.rt")
     it.put_machine(1, 100)
     same(it.run_it()[0], 0)
-    same([name for name, _ in it.calls()[0]], ["low", "left", "right", "middle", "pc_sim"])
+    same([name for name, _ in it.called()], ["low", "left", "right", "middle", "pc_sim"])
 
 
 def test_a_tree_that_cannot_be_made(it: Launcher) -> None:
     it.put_command("cp", "#!/usr/bin/env bash\necho 'cp: no room' >&2\nexit 1\n")
     errors = it.fails()
-    same(it.calls()[0], [])
+    same(it.called(), [])
     assert "a tree for low cannot be made" in errors and "cp: no room" in errors
     assert not (it.tree / ".trees").exists()
 
@@ -442,7 +433,7 @@ def test_as_a_command_it_builds_and_prints_nothing(it: Launcher) -> None:
 def test_crates_that_stand_on_each_other(it: Launcher) -> None:
     it.put_crates("low: left\nleft: low\nright:\npc_sim: left right\n")
     it.fails("crates.txt")
-    same(it.calls()[0], [("right", "lib")])
+    same(it.called(), [("right", "lib")])
 
 
 # Failures
@@ -450,7 +441,7 @@ def test_crates_that_stand_on_each_other(it: Launcher) -> None:
 
 def test_a_failed_crate_names_itself_and_nothing_more_begins(it: Launcher) -> None:
     errors = it.fails("low could not be built", RT_FAILS="low")
-    same(it.calls()[0], [("low", "lib")])
+    same(it.called(), [("low", "lib")])
     matches(errors, r"(?m)^pc-sim: \[1/4\] low failed after \d+ s")
     lines = [f"log line {line}" for line in range(1, 31)]
     same([line for line in errors.splitlines() if line.startswith("log line")], lines[10:])
@@ -475,7 +466,7 @@ def test_fails(it: Launcher, change: Any, environment: dict[str, str], words: li
 
 def test_a_failed_crate_ends_those_beside_it(it: Launcher) -> None:
     errors = it.fails("left could not be built", RT_FAILS="left", RT_HANGS="right", RT_SECONDS="0.5")
-    same(sorted(it.calls()[0]), [("left", "lib"), ("low", "lib"), ("right", "lib")])
+    same(sorted(it.called()), [("left", "lib"), ("low", "lib"), ("right", "lib")])
     assert "pc-sim: [3/4] right stopped\n" in errors
     it.nothing_runs()
 
@@ -491,15 +482,14 @@ def test_a_folder_for_temporary_files_that_cannot_be_used(it: Launcher) -> None:
     (it.top / "file").write_text("no folder\n")
     for unusable in (it.top / "missing", it.top / "file"):
         it.fails(str(unusable), "TMPDIR", lines=1, TMPDIR=str(unusable))
-        same(it.calls()[0], [])
+        same(it.called(), [])
     it.put_program()
     it.starts(TMPDIR=str(it.top / "missing"))
 
 
 @rig.each({number.name: (number,) for number in (signal.SIGINT, signal.SIGTERM, signal.SIGHUP)})
 def test_an_interrupt_stops_what_was_started(it: Launcher, number: signal.Signals) -> None:
-    start = it.begin(RT_HANGS="low")
-    it.wait_for_text(start, "[1/4] low ..")
+    start, _ = it.begun("[1/4] low ..", RT_HANGS="low")
     wait_until(lambda: it.processes.exists() and len(it.processes.read_text().split()) >= 2)
     start.send_signal(number)
     same(it.ended(start), (-number, "", "pc-sim: [1/4] low stopped\n"))
@@ -512,28 +502,21 @@ def test_an_interrupt_stops_what_was_started(it: Launcher, number: signal.Signal
 
 
 def test_two_starts_at_once_build_once(it: Launcher) -> None:
-    first = it.begin("first", RT_SECONDS="0.3")
-    read = it.wait_for_text(first, "[1/4] low ..")
+    first, read = it.begun("[1/4] low ..", "first", RT_SECONDS="0.3")
     second = it.begin("second")
-    status, out, errors = it.ended(first)
-    same((status, out), (0, told("first")))
-    it.is_built_once(read + errors)
-    status, out, errors = it.ended(second)
-    same((status, out), (0, told("second")))
-    matches(errors, r"\Apc-sim: waiting for another start.*\n\Z")
+    it.is_built_once(read + it.ends(first, "first"))
+    matches(it.ends(second, "second"), r"\Apc-sim: waiting for another start.*\n\Z")
 
 
 def test_a_program_is_not_started_before_its_build_has_ended(it: Launcher) -> None:
-    first = it.begin(RT_LINGERS="1")
-    read = it.wait_for_text(first, "pc_sim ..")
+    first, read = it.begun("pc_sim ..", RT_LINGERS="1")
     wait_until(lambda: os.access(it.program, os.X_OK))
     matches(it.run_it()[2], r"\Apc-sim: waiting for another start.*\n\Z")
     it.is_built_once(read + it.ended(first)[2])
 
 
 def test_after_a_build_that_was_interrupted_at_its_end_another_is_made(it: Launcher) -> None:
-    first = it.begin(RT_LINGERS="5")
-    it.wait_for_text(first, "pc_sim ..")
+    first, _ = it.begun("pc_sim ..", RT_LINGERS="5")
     wait_until(lambda: os.access(it.program, os.X_OK))
     first.terminate()
     same(it.ended(first)[0], -signal.SIGTERM)
@@ -542,20 +525,17 @@ def test_after_a_build_that_was_interrupted_at_its_end_another_is_made(it: Launc
 
 def test_a_start_waits_while_the_lock_is_held(it: Launcher) -> None:
     lock = it.lock()
-    start = it.begin("x")
-    matches(it.wait_for_text(start, "waiting"), r"\Apc-sim: .*\./test.*\n\Z")
+    start, read = it.begun("waiting", "x")
+    matches(read, r"\Apc-sim: .*\./test.*\n\Z")
     time.sleep(0.4)
-    same((start.poll(), it.calls()[0]), (None, []))
+    same((start.poll(), it.called()), (None, []))
     lock.close()
-    status, out, errors = it.ended(start)
-    same((status, out), (0, told("x")))
-    it.is_built_once(errors)
+    it.is_built_once(it.ends(start, "x"))
 
 
 def test_a_start_that_is_ended_while_it_waits_leaves_nothing(it: Launcher) -> None:
     it.lock()
-    start = it.begin()
-    it.wait_for_text(start, "waiting")
+    start, _ = it.begun("waiting")
     start.terminate()
     began = time.monotonic()
     same(it.ended(start), (-signal.SIGTERM, "", ""))
@@ -563,8 +543,7 @@ def test_a_start_that_is_ended_while_it_waits_leaves_nothing(it: Launcher) -> No
 
 
 def test_the_program_does_not_hold_the_lock(it: Launcher) -> None:
-    start = it.begin(stdin=subprocess.PIPE)
-    it.wait_for_text(start, "built in")
+    start, _ = it.begun("built in", stdin=subprocess.PIPE)
     same("".join(start.stdout.readline() for _ in range(2)), told())
     it.lock(fcntl.LOCK_EX | fcntl.LOCK_NB)
     same(it.ended(start, "told\n")[:2], (0, "told\n"))
@@ -573,9 +552,8 @@ def test_the_program_does_not_hold_the_lock(it: Launcher) -> None:
 def test_no_start_builds_while_the_gate_runs(it: Launcher) -> None:
     wanted = it.put_stand_ins_of_tests().replace("--also 0 passed, 0 failed", "--also 0 passed, 1 failed", 1)
     gate = it.begin(command="test", RT_SECONDS="1", RT_LEAVES_NONE="yes")
-    wait_until(lambda: it.calls()[0])
-    start = it.begin()
-    it.wait_for_text(start, "waiting")
+    wait_until(lambda: it.called())
+    start, _ = it.begun("waiting")
     status, out, errors = it.ended(gate)
     same((status, errors, out.splitlines()[-1]), (0, "", wanted))
     same(it.ended(start)[0], 0)
@@ -592,7 +570,7 @@ def test_the_gate_waits_for_no_queue_in_place_of_the_lock(it: Launcher) -> None:
 def test_the_gate_waits_for_a_build(it: Launcher) -> None:
     it.put_stand_ins_of_tests()
     start = it.begin(RT_SECONDS="0.3")
-    wait_until(lambda: it.calls()[0])
+    wait_until(lambda: it.called())
     gate = it.begin(command="test")
     same(it.ended(start)[0], 0)
     status, _, errors = it.ended(gate)
@@ -606,16 +584,17 @@ def test_the_gate_waits_for_a_build(it: Launcher) -> None:
 # The program of release/
 
 
-def test_a_released_program_of_these_sources_is_started_at_once(it: Launcher) -> None:
+# What is done before it is started, and what that is told elsewhere.
+@rig.each({
+    "of these sources": (lambda it: None, {}),
+    "without a kit": (lambda it: (it.bin / "rt").unlink(), {}),
+    "whatever xz is told": (lambda it: None, dict.fromkeys(("XZ_DEFAULTS", "XZ_OPT"), "--memlimit=1MiB")),
+})
+def test_a_released_program_is_started_at_once(it: Launcher, change: Any, environment: dict[str, str]) -> None:
     it.put_release()
-    same(it.run_it("a", "b c"), (0, told("a", "b c"), IS_RELEASED))
+    change(it)
+    same(it.run_it("a", "b c", **environment), (0, told("a", "b c"), IS_RELEASED))
     it.starts()
-
-
-def test_a_released_program_needs_no_kit(it: Launcher) -> None:
-    it.put_release()
-    (it.bin / "rt").unlink()
-    same(it.run_it()[0], 0)
 
 
 def change_release(it: Launcher, name: str, change: Any) -> None:
@@ -654,19 +633,12 @@ def test_the_program_is_built_in_place_of_the_released_one(it: Launcher, name: s
     same(list(it.program.parent.glob("*.[0-9]*")), [])
 
 
-def test_what_xz_is_told_elsewhere_keeps_nothing_from_being_unpacked(it: Launcher) -> None:
-    it.put_release()
-    same(it.run_it(XZ_DEFAULTS="--memlimit=1MiB", XZ_OPT="--memlimit=1MiB"), (0, told(), IS_RELEASED))
-
-
 def test_what_a_start_that_was_killed_leaves_is_removed(it: Launcher) -> None:
     it.put_release()
-    (it.bin / "xz").unlink()
     it.put_command("xz", "#!/usr/bin/env bash\nkill -KILL $PPID\n")
     same(it.run_it()[0], -signal.SIGKILL)
     same(len(list(it.program.parent.iterdir())), 1)
-    (it.bin / "xz").unlink()
-    (it.bin / "xz").symlink_to(shutil.which("xz"))
+    it.put_tool("xz")
     # That of another start, which goes on.
     other = it.program.parent / f"pc_sim.{os.getpid()}"
     other.write_text("")
@@ -690,14 +662,14 @@ def test_a_tree_in_which_nothing_can_be_started(it: Launcher) -> None:
         ended = rig.run(unshare, "-rm", bash, "-c", mounts, it.tree, env=environment, stdin=subprocess.DEVNULL)
         needs(ended.returncode not in (1, 77), "no mounts here")
         same(ended.stderr, f"pc-sim: no program can be started in {it.tree}: it is mounted with noexec, or is another user's\n")
-        same((ended.returncode, ended.stdout, it.calls()[0]), (5, "", []))
+        same((ended.returncode, ended.stdout, it.called()), (5, "", []))
 
     fails()
     same(list(it.program.parent.iterdir()), [])
     it.put_program()
     fails()
     it.starts()
-    it.put_source("low/src/lib.rt")
+    it.put_source(LOW)
     fails()
     same(sorted(it.program.parent.iterdir()), sorted([it.program, it.note]))
 
@@ -709,7 +681,7 @@ def test_a_file_that_may_not_grow_is_a_write_that_failed(it: Launcher) -> None:
     it.program.unlink()
     it.put_bounded()
     it.fails(str(it.temporary), "TMPDIR", command="bounded")
-    same(([*it.temporary.iterdir()], it.calls()[0]), ([], []))
+    same(([*it.temporary.iterdir()], it.called()), ([], []))
 
 
 def test_a_program_that_cannot_be_started(it: Launcher) -> None:
@@ -721,7 +693,7 @@ def test_a_folder_in_the_place_of_the_program(it: Launcher) -> None:
     it.put_release()
     it.program.mkdir(parents=True)
     it.fails("is no file, and has to be removed", lines=1)
-    same(([*it.program.iterdir()], [*it.program.parent.iterdir()], it.calls()[0]), ([], [it.program], []))
+    same(([*it.program.iterdir()], [*it.program.parent.iterdir()], it.called()), ([], [it.program], []))
 
 
 def test_a_tree_that_cannot_be_written_takes_no_released_program(it: Launcher) -> None:
@@ -797,15 +769,9 @@ def test_the_gate_compares_what_it_built_and_notes_it(it: Launcher) -> None:
 def test_arguments_input_and_status_are_handed_through(it: Launcher) -> None:
     args = ["replay", "", "two words", "*", "--", "-n", "a\nb", "$HOME"]
     for built in (False, True):
-        start = it.begin(*args, stdin=subprocess.PIPE, PROGRAM_STATUS="4")
-        status, out, errors = it.ended(start, "one\ntwo\n")
+        started = it.begin(*args, stdin=subprocess.PIPE, PROGRAM_STATUS="4")
+        status, out, errors = it.ended(started, "one\ntwo\n")
         same((status, out, bool(errors)), (4, told(*args) + "one\ntwo\n", not built))
-
-
-def test_a_link_to_the_launcher_starts_the_same_program(it: Launcher) -> None:
-    it.put_program()
-    (it.top / "linked").symlink_to(it.tree / "pc-sim")
-    it.starts("x", command="../linked")
 
 
 # Where the launcher is
@@ -815,8 +781,7 @@ def test_nothing_of_the_current_folder_is_taken(it: Launcher) -> None:
     """However the launcher is called, and where the path has no readlink."""
     (it.top / "tools").mkdir()
     for name in ("pc-sim", "tools/released", "tools/build"):
-        (it.top / name).write_text("echo TAKEN >&2\n")
-        (it.top / name).chmod(0o755)
+        rig.put_command(it.top / name, "echo TAKEN >&2\n")
     (it.top / "here/-x").mkdir(parents=True)
     (it.top / "here/tools").symlink_to(it.top / "tools")
     shutil.copy(it.tree / "pc-sim", it.top / "here/-x")
@@ -840,10 +805,9 @@ def test_a_tree_whose_name_ends_in_a_line_feed(it: Launcher) -> None:
     it.put_release()
     (it.top / "tools").mkdir()
     it.tree = it.tree.rename(it.top / "a tree\n")
-    it.program = it.crates / "pc_sim/out/pc_sim"
     same(it.run_it("x")[:2], (0, told("x")))
     it.starts("y")
-    it.put_source("low/src/lib.rt")
+    it.put_source(LOW)
     it.builds()
     same(it.run_it("--make", command="tools/released"), (0, "", ""))
     same(it.run_it(command="tools/build"), (0, "", ""))

@@ -131,6 +131,12 @@ def file(text: str | bytes, name: str = "text") -> Iterator[pathlib.Path]:
         yield place / name
 
 
+def put_command(path: pathlib.Path, text: str) -> None:
+    """A file that can be started."""
+    path.write_text(text)
+    path.chmod(0o755)
+
+
 def in_threads(do: Callable[[Any], Any], every: Iterable[Any], at_once: int = 4) -> list[Any]:
     """What comes of each, some of them at once."""
     with concurrent.futures.ThreadPoolExecutor(at_once) as pool:

@@ -139,8 +139,7 @@ def shown_by_ticks(script: str, part: Part = WHOLE) -> Counter[str]:
     (cpus, every), ticks = steps_of(script), ticks_of(script)
     steps = [step for step in every if part.has_line(step[0])]
     picture = Picture(rig.ask("draw", "--time", *part.flags(), given=script).stdout)
-    times = [ticks[number] for number, _ in steps]
-    if not times:
+    if not (times := [ticks[number] for number, _ in steps]):
         same(picture.places(r"tick \d+"), [])
         return Counter()
     axis = Axis(times, cpus)
@@ -296,8 +295,7 @@ def posts_by_column(script: str, axis: Axis, ticks: dict[int, int]) -> Counter[t
     """How many posts to each queue there are up to the end of each run of columns: how many in which column."""
     posts: Counter[tuple[int, int]] = Counter()
     for number, _, answer in answered(script, answers_to(script)):
-        posted = re.fullmatch(r"ok (?:t\d+ n\d+|-) q(\d+) a\d+ wake .*", answer)
-        if posted:
+        if posted := re.fullmatch(r"ok (?:t\d+ n\d+|-) q(\d+) a\d+ wake .*", answer):
             posts[int(posted[1]), axis.column(ticks[number])] += 1
     return in_runs(posts, set(posts))
 

@@ -133,8 +133,7 @@ def read_table(text: str) -> dict[str, Row]:
 def owner_above(lines: list[str], place: int) -> str:
     """The owner of a function of an impl: the type, and the trait behind it."""
     for line in reversed(lines[:place]):
-        impl = OWNER.match(line)
-        if impl:
+        if impl := OWNER.match(line):
             return f"{impl[2]}{impl[1] or ''}::"
         if line.startswith("}"):
             break
@@ -146,8 +145,7 @@ def lines_at(lines: list[str], number: int) -> tuple[int, int]:
     while number < len(lines) and lines[number - 1].lstrip().startswith("#["):
         number += 1
     for place in range(min(number, len(lines)) - 1, -1, -1):
-        begin = FUNCTION.match(lines[place])
-        if begin:
+        if begin := FUNCTION.match(lines[place]):
             end = next((it for it in range(place, len(lines)) if lines[it].startswith(f"{begin[1]}}}")), len(lines))
             if number <= end + 1:
                 return place, end
@@ -216,8 +214,7 @@ def together(bodies: list[WrongBody]) -> list[list[WrongBody]]:
     copies = 0
     for body in bodies:
         fits = (bundle for bundle in bundles if not any(map(body.meets, bundle)))
-        bundle = next(fits, None)
-        if bundle is not None:
+        if (bundle := next(fits, None)) is not None:
             bundle.append(body)
         elif bundles and body.can_be_copied:
             copies += 1
@@ -295,8 +292,7 @@ def empty_others(copy: pathlib.Path, made: list[str], kept: set[str]) -> None:
 
 def kit() -> ModuleType:
     """The kit's own module, which knows the words of a check: rt itself would build the libraries below anew, behind rt ci."""
-    found = shutil.which("rt")
-    if found is None:
+    if (found := shutil.which("rt")) is None:
         raise Bad("the kit's command rt is not on the path")
     sys.dont_write_bytecode = True
     sys.path.insert(0, os.path.dirname(os.path.realpath(found)))
@@ -416,8 +412,7 @@ class Outcome:
 
 
 def judge(said: str, crate: str, bundle: list[WrongBody], rows: dict[str, Row]) -> dict[str, Outcome]:
-    unread = next((line for line in said.splitlines() if ERROR.match(line)), "")
-    if unread or not TOLD.search(said):
+    if (unread := next((line for line in said.splitlines() if ERROR.match(line)), "")) or not TOLD.search(said):
         none = Outcome(f"the check came to no verdict: {unread or said.strip()[-300:]}", is_doubtful=True)
         return {body.name: none for body in bundle}
     all_goals, outcomes = failures_in(said, crate), {}

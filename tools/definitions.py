@@ -59,8 +59,7 @@ def read(path):
     while len(head) < len(lines) and lines[len(head)].startswith("--"):
         head.append(COMMENT.match(lines[len(head)])[2])
     for number, line in enumerate(lines[len(head):], len(head) + 1):
-        told = COMMENT.match(line)
-        if told:
+        if told := COMMENT.match(line):
             comment, column = (comment if comment and column == len(told[1]) else []) + [told[2]], len(told[1])
             continue
         defined = DEFINITION.match(line)
@@ -95,8 +94,7 @@ def document():
     parts = [HEAD]
     for crate in crates():
         introduction, _ = read(ROOT / "crates" / crate / "specs/Lib.antt")
-        files = files_of(crate)
-        if files:
+        if files := files_of(crate):
             parts.append(f"## `{crate}`\n" + (f"\n{wrapped(introduction)}\n" if introduction else ""))
         for path in files:
             head, found = read(path)

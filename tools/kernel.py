@@ -104,8 +104,7 @@ def ticks_of(script: str) -> dict[int, int]:
     """The tick of each command, by the number of its line; none where no line tells one above a command."""
     ticks, tick, is_told, is_any = {}, 0, False, False
     for number, line in enumerate(script.split("\n"), 1):
-        told = TOLD_TICK.fullmatch(line.removesuffix("\r"))
-        if told and int(told[1]) <= WORD64:
+        if (told := TOLD_TICK.fullmatch(line.removesuffix("\r"))) and int(told[1]) <= WORD64:
             tick, is_told = max(tick, int(told[1])), True
         elif is_asked(line):
             ticks[number], is_any = tick, is_told
@@ -280,8 +279,7 @@ class Kernel:
         it.posts += 1
         if item:
             self.pending[item[0]] += 1
-        woken = it.target if it.target is not None and self.sleeps[it.target] else None
-        if woken is not None:
+        if (woken := it.target if it.target is not None and self.sleeps[it.target] else None) is not None:
             self.sleeps[woken] = False
         subject = f"t{item[0]} n{item[1]}" if item else "-"
         return f"ok {subject} q{queue} a{it.posts} wake {'-' if woken is None else woken}"
@@ -308,8 +306,7 @@ class Kernel:
 
     def leave(self, how: str, cpu: int, ran: int) -> str:
         self.need_cpus(cpu)
-        name = self.running[cpu]
-        if name is None:
+        if (name := self.running[cpu]) is None:
             raise Refused("IdleCpu")
         thread = self.threads[name]
         answer = self.message(name, thread.now._replace(phase=LEAVES[how], ran=thread.now.ran + ran))
@@ -546,8 +543,7 @@ class World(Kernel):
     def steal(self, cpu: int) -> str:
         self.need_cpus(cpu)
         self.need(self.running[cpu] is None, "Busy")
-        name = self.target(cpu)
-        if name is None:
+        if (name := self.target(cpu)) is None:
             raise Refused("NothingToSteal")
         answer = self.associate(name, cpu, self.agents[cpu].upto[name])
         self.agents[cpu].names.append(name)
@@ -611,15 +607,13 @@ class Talk:
     def take(self, line: bytes) -> str | None:
         """The answer to a line; none where it is silent."""
         self.number += 1
-        words = words_of(line)
-        if not words:
+        if not (words := words_of(line)):
             return None
         is_first, self.is_first = self.is_first, False
         if is_first and words in (["version", "2"], ["version", "3"]):
             self.version = int(words[1])
             return "ok"
-        fields = fields_of(words, self.version)
-        if fields is None:
+        if (fields := fields_of(words, self.version)) is None:
             self.faults += 1
             return f"fault line {self.number}"
         if words[0] == "enclave":

@@ -86,8 +86,7 @@ class Running:
 
     def do(self, *words: object) -> None:
         """What has to end before the load goes on."""
-        told = run(*words, cwd=self.folder, **self.who)
-        if told.returncode:
+        if (told := run(*words, cwd=self.folder, **self.who)).returncode:
             raise Fault(f"{words[0]}: {last_line(told.stderr)}")
 
 

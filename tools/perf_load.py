@@ -114,8 +114,7 @@ class Lives:
         return self.text(tables, SETTINGS_THREADS, SETTINGS_BYTES, self.left_out_of_settings)
 
     def of_settings(self, life: Life) -> str:
-        mask = sum(1 << cpu for cpu in set(life.cpus)) & MASK
-        if not mask:
+        if not (mask := sum(1 << cpu for cpu in set(life.cpus)) & MASK):
             self.left_out_of_settings["threads that ran on CPU 63 alone"] += 1
             return ""
         steps = life.steps[:SETTINGS_STEPS]

@@ -96,8 +96,7 @@ class Model:
 
     def commit(self, cpu: int, thread: Thread) -> bool:
         """Whether it will be accepted. The count of posts is that of now, and no mask forbids a CPU."""
-        is_accepted = self.ask(f"commit {cpu} t{thread.name} {self.kernel.queues[cpu].posts}")
-        if is_accepted:
+        if is_accepted := self.ask(f"commit {cpu} t{thread.name} {self.kernel.queues[cpu].posts}"):
             self.lives.came(thread.name, self.tick)
         return is_accepted
 

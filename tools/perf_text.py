@@ -110,8 +110,7 @@ class Recording:
 
     def take(self, line: str) -> None:
         """Takes in a line that is not empty, or raises ValueError."""
-        head = head_of(line)
-        if not head:
+        if not (head := head_of(line)):
             if not is_of_call_chain(line):
                 raise ValueError
             self.passed["lines of call chains"] += 1
@@ -288,8 +287,7 @@ class Overlaps:
         elif event.kind == RUNS:
             self.comes(event.cpu, event.pid)
         elif event.kind == SWITCH:
-            waking = self.early.pop(event.pid, None)
-            if waking is not None and leaves_kind(event.state) == "block":
+            if (waking := self.early.pop(event.pid, None)) is not None and leaves_kind(event.state) == "block":
                 self.left[event.pid] = (waking, place)
             self.comes(event.cpu, event.other)
 

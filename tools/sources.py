@@ -133,8 +133,7 @@ class Crate:
             if in_head:
                 last.head += line
                 in_head = "{" not in line and not line.endswith(";")
-            clause = re.match(r"\s*ensures (?:(\w+) )?\{(?: (\w+))?", line)
-            if clause and last:
+            if (clause := re.match(r"\s*ensures (?:(\w+) )?\{(?: (\w+))?", line)) and last:
                 last.has_contract = True
                 last.clauses |= {clause[1]: None} if clause[1] else {}
                 last.records |= {clause[2]: None} if clause[2] else {}

@@ -18,8 +18,7 @@ SAID = re.compile(r"(\w+ \d+ (.*)): (\d+) refused of (\d+), (.*)")
 
 def kit():
     """The folder of the kit, by its command."""
-    rt = shutil.which("rt")
-    if rt is None:
+    if (rt := shutil.which("rt")) is None:
         raise NoCompiler("rt is not on the path, so the single calls cannot be built")
     return pathlib.Path(rt).resolve().parent.parent
 

@@ -51,8 +51,7 @@ class Sweep:
 
     def trial(self, place, later):
         setting = f"{place}.." if later else str(place)
-        run = self.machine.run(self.subject, growth=setting)
-        if run.growths_met == 0:
+        if (run := self.machine.run(self.subject, growth=setting)).growths_met == 0:
             return f"no growth was refused, though as many were there before: {told(run)}, {run.growths} growths"
         if later and run.status == 4:
             self.written[place] = len(run.out)
@@ -91,8 +90,7 @@ def refuse_growths(machine, tally, subjects, most):
 
 def tell_skipped(tally, sweeps, most):
     """Names what was gone through by steps."""
-    stepped = [sweep for sweep in sweeps if sweep.ample.growths > most]
-    if stepped and tally.only is None:
+    if (stepped := [sweep for sweep in sweeps if sweep.ample.growths > most]) and tally.only is None:
         tried = sum(len(places(sweep.ample.growths, most)) for sweep in stepped)
         there = sum(sweep.ample.growths for sweep in stepped)
         most_of_all = max(stepped, key=lambda sweep: sweep.ample.growths)

@@ -108,8 +108,7 @@ class Streams:
 
     def failed_read(self, count=None, **hostile):
         """A read fails, behind so many bytes; a session answers these, and nothing else answers any."""
-        run = self.machine.run(self.subject, **hostile)
-        if not run.reads_met:
+        if not (run := self.machine.run(self.subject, **hostile)).reads_met:
             return "no read was met"
         return self.fault_of_talk(run, [count]) if self.is_talk() else fault_of_read(run)
 

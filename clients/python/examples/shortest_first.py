@@ -59,8 +59,7 @@ def main() -> None:
             threads = agent.look()
             if rng.random() < 0.2:
                 world.tick(agent.cpu)  # a post that the agent has not seen
-            thread = agent.commit(threads)
-            if thread is not None:
+            if (thread := agent.commit(threads)) is not None:
                 ticks = rng.randint(1, 9)
                 ran[thread] += ticks
                 if rng.random() < 0.3:

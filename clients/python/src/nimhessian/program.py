@@ -24,8 +24,7 @@ def find_program(named: str | os.PathLike[str] | None) -> str:
     for name in (named, os.environ.get("PC_SIM")):
         if name is not None:
             return os.fspath(name)
-    found = shutil.which("pc-sim")
-    if found is None:
+    if (found := shutil.which("pc-sim")) is None:
         raise Died(None, "no pc-sim on the path, and PC_SIM is not set")
     return found
 
@@ -112,8 +111,7 @@ class Program:
         """The next line, where none is left of what was read before."""
         text = self._rest
         while b"\n" not in text:
-            more = self._from.read(MOST_AT_ONCE)
-            if not more:
+            if not (more := self._from.read(MOST_AT_ONCE)):
                 raise self._death()
             text += more
         *lines, self._rest = text.split(b"\n")
