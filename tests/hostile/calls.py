@@ -2,6 +2,7 @@
 
 Its sources end in .rt.in, since the gate lets .rt files stand in crates alone. It is built over a heap of the tests' own (calls/heap.c), for which the kit is laid out anew, by links, in a folder of its own.
 """
+import collections
 import os
 import pathlib
 import re
@@ -16,16 +17,11 @@ SECONDS = 900
 SAID = re.compile(r"(\w+ \d+ (.*)): (\d+) refused of (\d+), (.*)")
 
 
-def kit():
-    """The folder of the kit, by its command."""
-    if (rt := shutil.which("rt")) is None:
-        raise NoCompiler("rt is not on the path, so the single calls cannot be built")
-    return pathlib.Path(rt).resolve().parent.parent
-
-
 def kit_with_own_heap(folder):
     """The command of a kit that is this one, but for its heap."""
-    of_kit, own = kit(), folder / "kit"
+    if (rt := shutil.which("rt")) is None:
+        raise NoCompiler("rt is not on the path, so the single calls cannot be built")
+    of_kit, own = pathlib.Path(rt).resolve().parent.parent, folder / "kit"
     for part in ("", "bin", "c"):
         (own / part).mkdir(parents=True)
         for path in (of_kit / part).iterdir():
@@ -67,11 +63,10 @@ def refuse_in_calls(tally, folder):
     rows = [SAID.fullmatch(line) for line in run.stdout.splitlines()]
     if run.returncode != 0 or not rows or not all(rows):
         raise NoCompiler(f"`rt try` does not run the single calls to their end: {(run.stdout + run.stderr)[-3000:]}")
-    met = {}
-    for row in rows:
-        name, refused = row[2], int(row[3])
-        met[name] = met.get(name, 0) + refused
-        tally.add(f"call {row[1]}", None if row[5] == "right" else f"{row[5]} (growth {row[4]})")
+    met = collections.Counter()
+    for call, name, refused, growth, said in map(re.Match.groups, rows):
+        met[name] += int(refused)
+        tally.add(f"call {call}", None if said == "right" else f"{said} (growth {growth})")
     for name, refused in met.items():
         tally.add(f"calls of {name}", None if refused or name in TAKE_NO_MEMORY else "no growth was refused in any")
     tally.note("calls that were made again after a refused growth: " + ", ".join(f"{name} {count}" for name, count in met.items()))

@@ -1,8 +1,9 @@
 """Scripts drawn at random, with a fixed seed: no run ends by a signal, or takes more memory or time than is named, and each answer is the model's."""
 import itertools
-import pathlib
 import random
+from functools import partial
 
+import rig
 from growths import fault_of_refused
 from kernel import told_of
 from machine import Subject, told
@@ -32,10 +33,8 @@ def fault_of_answers(text, out, status):
 def fault_of_script(machine, place, peer=None):
     """What is wrong with the run of a drawn script."""
     text = drawn_script(place)
-    file = pathlib.Path(machine.folder) / f"script {place}"
-    file.write_bytes(text)
-    subject = Subject("", ["replay", str(file)]) if place % 2 else Subject("", ["replay"], file)
-    try:
+    with rig.file(text) as file:
+        subject = Subject("", ["replay", str(file)]) if place % 2 else Subject("", ["replay"], file)
         run = machine.run(subject, seconds=SECONDS, memory=MEMORY)
         if run.status not in (0, 1) or run.err:
             return told(run)
@@ -43,29 +42,23 @@ def fault_of_script(machine, place, peer=None):
             return fault
         other = peer.run(subject, seconds=SECONDS) if peer else run
         return None if (run.status, run.out) == (other.status, other.out) else f"the other program differs: {told(other)}"
-    finally:
-        file.unlink()
 
 
 def draw_scripts(machine, tally, count, peer=None):
     """Runs so many drawn scripts."""
-    tally.try_all((f"script {place}", lambda place=place: fault_of_script(machine, place, peer)) for place in range(count))
+    tally.try_all((f"script {place}", partial(fault_of_script, machine, place, peer)) for place in range(count))
 
 
 def fault_of_drawn_growth(machine, place):
     """What is wrong with the run of a drawn script of which one of the growths, drawn too, is refused, or that one and all later ones."""
-    file = pathlib.Path(machine.folder) / f"growth {place}"
-    file.write_bytes(drawn_script(place))
-    subject, chance = Subject("", ["replay"], file), random.Random(f"{SEED} growth {place}")
-    try:
+    with rig.file(drawn_script(place)) as file:
+        subject, chance = Subject("", ["replay"], file), random.Random(f"{SEED} growth {place}")
         ample = machine.run(subject, seconds=SECONDS)
         refused = chance.randrange(1, ample.growths + 1)
         run = machine.run(subject, seconds=SECONDS, growth=f"{refused}{chance.choice(['', '..'])}")
         return fault_of_refused(ample, run) if run.growths_met else "no growth was refused"
-    finally:
-        file.unlink()
 
 
 def draw_growths(machine, tally, count):
     """Runs so many drawn scripts with a growth refused."""
-    tally.try_all((f"drawn growth of script {place}", lambda place=place: fault_of_drawn_growth(machine, place)) for place in range(count))
+    tally.try_all((f"drawn growth of script {place}", partial(fault_of_drawn_growth, machine, place)) for place in range(count))

@@ -1,4 +1,7 @@
 """Each growth refused in turn: the Nth, and the Nth with all later ones."""
+import itertools
+from functools import partial
+
 from machine import told
 
 OUT_OF_MEMORY = b"pc-sim: out of memory\n"
@@ -50,8 +53,8 @@ class Sweep:
         self.written = {}
 
     def trial(self, place, later):
-        setting = f"{place}.." if later else str(place)
-        if (run := self.machine.run(self.subject, growth=setting)).growths_met == 0:
+        run = self.machine.run(self.subject, growth=f"{place}{later}")
+        if run.growths_met == 0:
             return f"no growth was refused, though as many were there before: {told(run)}, {run.growths} growths"
         if later and run.status == 4:
             self.written[place] = len(run.out)
@@ -71,9 +74,8 @@ class Sweep:
         """(name, function) of each run."""
         name = self.subject.name
         yield f"ample {name}", lambda: fault_of_ample(self.subject, self.ample)
-        for place in places(self.ample.growths, self.most):
-            yield f"growth {place} of {name}", lambda place=place: self.trial(place, False)
-            yield f"growth {place}.. of {name}", lambda place=place: self.trial(place, True)
+        for place, later in itertools.product(places(self.ample.growths, self.most), ("", "..")):
+            yield f"growth {place}{later} of {name}", partial(self.trial, place, later)
         yield f"past the last growth of {name}", self.past_the_last
 
 
@@ -85,11 +87,7 @@ def refuse_growths(machine, tally, subjects, most):
         return
     tally.try_all(trial for sweep in sweeps for trial in sweep.trials())
     tally.try_all((f"what is written before growths of {sweep.subject.name}", sweep.falls_short) for sweep in sweeps)
-    tell_skipped(tally, sweeps, most)
-
-
-def tell_skipped(tally, sweeps, most):
-    """Names what was gone through by steps."""
+    # What was gone through by steps is named.
     if (stepped := [sweep for sweep in sweeps if sweep.ample.growths > most]) and tally.only is None:
         tried = sum(len(places(sweep.ample.growths, most)) for sweep in stepped)
         there = sum(sweep.ample.growths for sweep in stepped)
@@ -101,17 +99,13 @@ def tell_skipped(tally, sweeps, most):
 
 def bound_stack(machine, tally, subjects):
     """Runs each subject with a small stack."""
-    tally.try_all(
-        (f"stack of {STACK} bytes for {subject.name}", lambda subject=subject: fault_of_ample(subject, machine.run(subject, stack=STACK)))
-        for subject in subjects)
+    fault = lambda subject: fault_of_ample(subject, machine.run(subject, stack=STACK))
+    tally.try_all((f"stack of {STACK} bytes for {subject.name}", partial(fault, subject)) for subject in subjects)
 
 
 def refuse_memory(machine, tally, subjects, step):
     """The address space of each subject grows by such a step, from none to what it needs: here it is the system that refuses."""
-    def trial(subject, memory):
-        return fault_of_refused(ample[subject.name], machine.run(subject, memory=memory))
-
     ample = {subject.name: machine.run(subject) for subject in subjects}
-    tally.try_all(
-        (f"address space of {memory} bytes for {subject.name}", lambda subject=subject, memory=memory: trial(subject, memory))
-        for subject in subjects for memory in range(0, MOST_MEMORY, step))
+    fault = lambda subject, memory: fault_of_refused(ample[subject.name], machine.run(subject, memory=memory))
+    every = itertools.product(subjects, range(0, MOST_MEMORY, step))
+    tally.try_all((f"address space of {memory} bytes for {it.name}", partial(fault, it, memory)) for it, memory in every)

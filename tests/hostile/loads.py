@@ -1,7 +1,9 @@
 """Loads of the lab: a worked one whose reads and writes are disturbed, drawn ones, half of them spoilt, and some that take long."""
 import random
 import re
+from functools import partial
 
+import rig
 import tables
 from fuzz import SEED
 from machine import ROOT, Subject, told
@@ -12,7 +14,7 @@ WORKED = ROOT / "examples/lab/worked"
 TABLE = re.compile(rb"variant( +[a-z0-9.-]+)+\nend( +(done|until|NumbersSpent))+\n([a-zA-Z0-9 -]+\n)+")
 FAULT = re.compile(rb"pc-sim: (cannot read|lab [A-Z][A-Za-z]+( [a-z0-9.]+){0,2})\n")
 # Loads of worst.py, with which a run ends after some seconds: how it ends, and when.
-WORST = {"quanta 2 1": (b"NumbersSpent", 1_999_999), "late 1000 200": (b"until", 200)}
+WORST = {"quanta 2 1": (b"NumbersSpent", b"1999999"), "late 1000 200": (b"until", b"200")}
 # What a drawn load may take: its ticks are few, unless a number was spoilt, and so many quanta may pass then.
 SECONDS = 60
 
@@ -38,21 +40,16 @@ def drawn_load(place):
 def fault_of_drawn(machine, place):
     """What is wrong with the table of a drawn load: a whole one is told, or, where it was spoilt, a fault and nothing else."""
     text, is_spoilt = drawn_load(place)
-    file = written(machine.folder, f"drawn load {place}", text)
-    try:
+    with rig.file(text) as file:
         run = machine.run(Subject("", ["lab", str(file)]), seconds=SECONDS, memory=MEMORY)
-        if run.status == 0 and not run.err and TABLE.fullmatch(run.out):
-            return None
-        if is_spoilt and run.status == 1 and not run.out and FAULT.fullmatch(run.err):
-            return None
-        return told(run)
-    finally:
-        file.unlink()
+        is_table = run.status == 0 and not run.err and TABLE.fullmatch(run.out)
+        is_fault = is_spoilt and run.status == 1 and not run.out and FAULT.fullmatch(run.err)
+        return None if is_table or is_fault else told(run)
 
 
 def draw_loads(machine, tally, count):
     """Plays so many drawn loads."""
-    tally.try_all((f"load {place}", lambda place=place: fault_of_drawn(machine, place)) for place in range(count))
+    tally.try_all((f"load {place}", partial(fault_of_drawn, machine, place)) for place in range(count))
 
 
 def fault_of_worst(machine, words):
@@ -60,12 +57,10 @@ def fault_of_worst(machine, words):
     file = written(machine.folder, words, load_text(words))
     run = machine.run(Subject("", ["lab", str(file)]), seconds=SECONDS, memory=MEMORY)
     rows = dict(line.rsplit(None, 1) for line in run.out.splitlines() if b" " in line)
-    ended, tick = WORST[words]
-    if run.status == 0 and not run.err and (rows.get(b"end"), rows.get(b"makespan")) == (ended, b"%d" % tick):
-        return None
-    return told(run)
+    is_so = (run.status, run.err, rows.get(b"end"), rows.get(b"makespan")) == (0, b"", *WORST[words])
+    return None if is_so else told(run)
 
 
 def use_worst(machine, tally):
     """Plays loads that take long."""
-    tally.try_all((f"worst load {words}", lambda words=words: fault_of_worst(machine, words)) for words in WORST)
+    tally.try_all((f"worst load {words}", partial(fault_of_worst, machine, words)) for words in WORST)

@@ -77,11 +77,8 @@ class Subject:
 
 def compiler():
     """The C compiler of the system, or else that of the kit, beside its `rt`."""
-    found = next((it for it in map(shutil.which, COMPILERS) if it), None)
-    rt = shutil.which("rt")
-    of_kit = pathlib.Path(rt).resolve().parent.parent / "toolchain/bin/clang" if rt else None
-    if found is None and of_kit is not None and of_kit.is_file():
-        found = str(of_kit)
+    rt = pathlib.Path(shutil.which("rt") or "/rt").resolve()
+    found = next(filter(None, map(shutil.which, [*COMPILERS, rt.parent.parent / "toolchain/bin/clang"])), None)
     if found is None:
         raise NoCompiler(f"none of {', '.join(COMPILERS)} is here, nor the kit's clang: the library that refuses cannot be built")
     return found

@@ -5,6 +5,7 @@ import re
 import tomllib
 from functools import partial
 
+import rig
 from fuzz import SEED
 from growths import LAST, OUT_OF_MEMORY, fault_of_ample
 from machine import ROOT, Subject, told
@@ -89,18 +90,15 @@ def fault_of_totals(run, wanted=None):
     if run.status == 0 and not run.err:
         found = re.fullmatch(TOTALS.encode() + b"(cpu .*\n)*", run.out)
         return None if found and (wanted is None or run.out.startswith(wanted)) else f"its answer is none: {run.out[:200]!r}"
-    if run.status == 1 and not run.out and FAULT.fullmatch(run.err):
-        return None
-    return told(run)
+    return None if run.status == 1 and not run.out and FAULT.fullmatch(run.err) else told(run)
 
 
 def fault_of_per_cpu(machine, subject):
     """With --per-cpu the same four lines, and one for each CPU."""
     run = machine.run(Subject("", [*subject.words, "--per-cpu"], environment=ONE_HEAP))
     lines = "".join(PER_CPU.format(cpu) for cpu in range(run.out.count(b"\ncpu ")))
-    if run.status == 0 and re.fullmatch(re.escape(subject.out.decode()) + lines, run.out.decode()) and lines:
-        return None
-    return told(run)
+    is_told = lines and re.fullmatch(re.escape(subject.out.decode()) + lines, run.out.decode())
+    return None if run.status == 0 and is_told else told(run)
 
 
 def fault_of_refused(ample, run):
@@ -121,10 +119,10 @@ def trials_of_growths(machine, subject, most):
     """(name, function) of the runs of one row with growths refused. Which growth has which number depends on the schedule."""
     ample = machine.run(subject)
     last, step = ample.growths + 1, max(1, ample.growths // most)
+    fault = lambda growth: fault_of_refused(ample, machine.run(subject, growth=growth))
     for place in sorted({*range(1, last, step), *range(max(1, last - 1 - LAST), last)}):
         for growth in (f"{place}", f"{place}.."):
-            run = partial(machine.run, subject, growth=growth)
-            yield f"growth {growth} of {subject.name}", lambda run=run: fault_of_refused(ample, run())
+            yield f"growth {growth} of {subject.name}", partial(fault, growth)
 
 
 def trials_of_limited(machine):
@@ -132,10 +130,9 @@ def trials_of_limited(machine):
     words = ["run", str(ROOT / "examples/steals-and-restarts.toml")]
     ample = machine.run(Subject("", words, environment=ONE_HEAP))
     subject = Subject("", [*words, "--limit", "1"], environment=ONE_HEAP)
+    fault = lambda growth: fault_of_limited(ample, machine.run(subject, seconds=SECONDS, growth=growth))
     for place in LIMITED:
-        setting = f"{place}.."
-        yield (f"growth {setting} of a run with a limit",
-               lambda setting=setting: fault_of_limited(ample, machine.run(subject, seconds=SECONDS, growth=setting)))
+        yield f"growth {place}.. of a run with a limit", partial(fault, f"{place}..")
 
 
 def use_rows(machine, tally, most):
@@ -167,9 +164,7 @@ def drawn_settings(place):
     for _ in range(chance.choice([0, 0, 1, 2]) if cpus > 1 else 0):
         # Agent 0 stays: where every agent forgets what it knew, a thread may be known to none, and the run waits.
         text += restart(chance.randrange(1, cpus), chance.choice([1, 2, 3, 1000000]))
-    if chance.random() < 0.5:
-        return text.encode(), totals(*counted).encode()
-    return spoilt(chance, text), None
+    return (text.encode(), totals(*counted).encode()) if chance.random() < 0.5 else (spoilt(chance, text), None)
 
 
 def spoilt(chance, text):
@@ -188,8 +183,7 @@ def may_wait(text):
         settings = tomllib.loads(text.decode())
         restarting = {row["cpu"] for row in settings["restart"]}
         mask = sum(1 << cpu for cpu in restarting if 0 <= cpu < 64)
-        bound = any(thread["mask"] & ~mask == 0 for thread in settings.get("thread", []))
-        return len(restarting) >= 2 and bound
+        return len(restarting) >= 2 and any(it["mask"] & ~mask == 0 for it in settings.get("thread", []))
     except (ValueError, KeyError, TypeError):
         return False
 
@@ -197,18 +191,14 @@ def may_wait(text):
 def fault_of_drawn(machine, place):
     """What is wrong with the run of drawn settings."""
     text, wanted = drawn_settings(place)
-    file = written(machine.folder, f"drawn settings {place}", text)
-    words = ["run", str(file), *(["--per-cpu"] if place % 3 == 0 else [])]
-    try:
-        waits = may_wait(text)
+    with rig.file(text) as file:
+        waits, words = may_wait(text), ["run", str(file), *["--per-cpu"] * (place % 3 == 0)]
         run = machine.run(Subject("", words, environment=ONE_HEAP), seconds=SECONDS if waits else MOST_SECONDS, memory=MEMORY)
         if run.status is None and waits:
             return None
         return told(run) if wanted is not None and run.status != 0 else fault_of_totals(run, wanted)
-    finally:
-        file.unlink()
 
 
 def draw_settings(machine, tally, count):
     """Runs so many drawn settings."""
-    tally.try_all((f"settings {place}", lambda place=place: fault_of_drawn(machine, place)) for place in range(count))
+    tally.try_all((f"settings {place}", partial(fault_of_drawn, machine, place)) for place in range(count))

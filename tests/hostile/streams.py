@@ -5,6 +5,7 @@ import itertools
 import os
 import pathlib
 import subprocess
+from functools import partial
 
 from loads import streamed
 from machine import SECONDS, Run, Subject, ended, ending_of, told
@@ -17,39 +18,38 @@ WRITE_ERRORS = [errno.ENOSPC, errno.EIO, errno.EPIPE, errno.EBADF, errno.EAGAIN,
 LONG = 3000
 
 
+# A script whose answers fill buffers, one with a fault, and an empty one, with what is answered and the status.
+SCRIPTS = {
+    "long": (OPENING + b"asleep 0\n" * LONG, b"ok\n" + b"no\n" * LONG, 0),
+    "fault": (OPENING + b"asleep 0\nasleep\n", b"ok\nno\nfault line 3\n", 1),
+    "empty": (b"", b"", 0),
+}
+# Settings, some of which take several reads, and some with a fault.
+ACCEPTED, TOTALS = ROWS["one thread"]
+SETTINGS = {
+    "short": (ACCEPTED, TOTALS.encode(), b"", 0),
+    "long": ("#" * 20_000 + "\n" + ACCEPTED, TOTALS.encode(), b"", 0),
+    "faulty": ("cpus = 0\n", b"", b"pc-sim: settings BadCpus\n", 1),
+}
+
+
 def subjects(folder):
-    """Each example by its name and on the standard input, a script whose answers fill buffers, one with a fault, and an empty one; settings, and loads."""
+    """Examples and settings by their names and on the standard input, scripts, and loads."""
     for example in examples():
         yield example
         yield from (it for it in variants(example) if not it.name.startswith("explained session"))
         yield Subject(f"{example.name} as standard input", ["replay"], pathlib.Path(example.words[1]), out=example.out)
-    texts = {
-        "long": (OPENING + b"asleep 0\n" * LONG, b"ok\n" + b"no\n" * LONG, 0),
-        "fault": (OPENING + b"asleep 0\nasleep\n", b"ok\nno\nfault line 3\n", 1),
-        "empty": (b"", b"", 0),
-    }
-    for name, (text, out, status) in texts.items():
+    for name, (text, out, status) in SCRIPTS.items():
         file = pathlib.Path(folder) / f"{name}.stream"
         file.write_bytes(text)
         script = Subject(f"{name} script", ["replay"], file, out=out, status=status)
         yield script
         yield from variants(script)
-    yield from settings(folder)
-    yield from streamed()
-
-
-def settings(folder):
-    """Settings by their name and on the standard input, some that take several reads, and some with a fault."""
-    accepted, totals = ROWS["one thread"]
-    texts = {
-        "short": (accepted, totals.encode(), b"", 0),
-        "long": ("#" * 20_000 + "\n" + accepted, totals.encode(), b"", 0),
-        "faulty": ("cpus = 0\n", b"", b"pc-sim: settings BadCpus\n", 1),
-    }
-    for name, (text, out, err, status) in texts.items():
+    for name, (text, out, err, status) in SETTINGS.items():
         file = written(folder, f"{name} stream", text)
         yield Subject(f"{name} settings", ["run", str(file)], out=out, err=err, status=status)
         yield Subject(f"{name} settings as standard input", ["run"], file, out=out, err=err, status=status)
+    yield from streamed()
 
 
 def fault_of_same(subject, run):
@@ -118,36 +118,33 @@ class Streams:
 
     def interrupted_reads(self, **hostile):
         """A read that is interrupted may be tried again, or count as one that failed."""
-        run = self.machine.run(self.subject, **hostile)
-        if self.is_talk():
-            return fault_of_same(self.subject, run) and self.fault_of_talk(run, [0, 1, len(self.text())])
-        return fault_of_same(self.subject, run) and fault_of_read(run)
+        run, counts = self.machine.run(self.subject, **hostile), [0, 1, len(self.text())]
+        return fault_of_same(self.subject, run) and (self.fault_of_talk(run, counts) if self.is_talk() else fault_of_read(run))
 
     def interrupted_writes(self, **hostile):
         return fault_of_same(self.subject, self.machine.run(self.subject, **hostile))
 
     def reads(self):
         name = self.subject.name
-        for error in READ_ERRORS:
-            for place in range(1, self.plain.reads + 1):
-                yield f"read {place} {errno.errorcode[error]} of {name}", lambda how=f"{place} {error}", count=len(self.text()) if place > 1 else 0: self.failed_read(count, read=how)
+        for error, place in itertools.product(READ_ERRORS, range(1, self.plain.reads + 1)):
+            count = len(self.text()) if place > 1 else 0
+            yield f"read {place} {errno.errorcode[error]} of {name}", partial(self.failed_read, count, read=f"{place} {error}")
         for place in numbers(self.by_bytes.reads, self.most):
-            yield f"byte read {place} EIO of {name}", lambda how=f"{place} {errno.EIO}", count=place - 1: self.failed_read(count, read=how, read_most=1)
-        yield f"reads EINTR of {name}", lambda: self.interrupted_reads(read=f"1/2 {errno.EINTR}")
-        yield f"byte reads EINTR of {name}", lambda: self.interrupted_reads(read=f"1/2 {errno.EINTR}", read_most=1)
+            fails = partial(self.failed_read, place - 1, read=f"{place} {errno.EIO}", read_most=1)
+            yield f"byte read {place} EIO of {name}", fails
+        for words, most in (("reads", {}), ("byte reads", {"read_most": 1})):
+            yield f"{words} EINTR of {name}", partial(self.interrupted_reads, read=f"1/2 {errno.EINTR}", **most)
 
     def writes(self):
-        name = self.subject.name
-        for error in [*WRITE_ERRORS, 0]:
-            word = errno.errorcode.get(error, "of nothing")
-            for place in range(1, self.plain.writes + 1):
-                for later in ("", ".."):
-                    yield (f"write {place}{later} {word} of {name}",
-                           lambda how=f"{place}{later} {error}": self.failed_write(write=how))
+        name, places = self.subject.name, range(1, self.plain.writes + 1)
+        for error, place, later in itertools.product([*WRITE_ERRORS, 0], places, ("", "..")):
+            fails = partial(self.failed_write, write=f"{place}{later} {error}")
+            yield f"write {place}{later} {errno.errorcode.get(error, 'of nothing')} of {name}", fails
         for place in numbers(self.by_bytes.writes, self.most):
-            yield f"byte write {place} EIO of {name}", lambda how=f"{place} {errno.EIO}": self.failed_write(write=how, write_most=1)
-        yield f"writes EINTR of {name}", lambda: self.interrupted_writes(write=f"1/2 {errno.EINTR}")
-        yield f"byte writes EINTR of {name}", lambda: self.interrupted_writes(write=f"1/2 {errno.EINTR}", write_most=1)
+            fails = partial(self.failed_write, write=f"{place} {errno.EIO}", write_most=1)
+            yield f"byte write {place} EIO of {name}", fails
+        for words, most in (("writes", {}), ("byte writes", {"write_most": 1})):
+            yield f"{words} EINTR of {name}", partial(self.interrupted_writes, write=f"1/2 {errno.EINTR}", **most)
 
     def trials(self):
         """(name, function) of each run."""
@@ -157,14 +154,12 @@ class Streams:
         yield from self.reads()
         yield from self.writes()
         for how in OUTPUTS:
-            yield f"{how} output of {name}", lambda how=how: self.bad_output(how)
+            yield f"{how} output of {name}", partial(self.bad_output, how)
 
     def bad_output(self, how):
         """An output that takes nothing at all."""
         run = run_by_bash(OUTPUTS[how], self.machine, self.subject, self.broken)
-        if not self.subject.out:
-            return fault_of_same(self.subject, run)
-        return fault_of_write(self.subject, run)
+        return (fault_of_write if self.subject.out else fault_of_same)(self.subject, run)
 
 
 # By what line of bash the program is started whose standard output takes nothing, or else is a pipe that nobody reads. A file that
@@ -180,8 +175,7 @@ def run_by_bash(line, machine, subject, out=subprocess.DEVNULL):
     with open(subject.input or os.devnull, "rb") as given:
         words = ["bash", "-c", line, str(machine.folder), str(machine.program), *subject.words]
         child = subprocess.Popen(words, cwd=subject.folder, stdin=given, stdout=out, stderr=subprocess.PIPE)
-        status = ended(child, SECONDS)
-        return Run(status, b"", ending_of(child.stderr.read()), 0, 0, 0, 0, 0, 0, 0)
+        return Run(ended(child, SECONDS), b"", ending_of(child.stderr.read()), *[0] * 7)
 
 
 def disturb_streams(machine, tally, folder, most):
@@ -199,19 +193,13 @@ def disturb_streams(machine, tally, folder, most):
 
 def of_texts(machine):
     """Help that cannot be written, and a text on standard error that cannot be."""
-    help_text = Subject("help", ["--help"], out=None)
-    no_command = Subject("no command", ["frobnicate"], status=2)
+    def fault_of(word, wanted, **hostile):
+        run = machine.run(Subject("", [word]), **hostile)
+        return None if (run.status, run.out, run.err) == wanted else told(run)
 
-    def fault_of_help():
-        run = machine.run(help_text, write=f"1.. {errno.ENOSPC}")
-        return None if (run.status, run.out, run.err) == (1, b"", CANNOT_READ) else told(run)
-
-    def fault_of_silence():
-        run = machine.run(no_command, write=f"1.. {errno.EIO}", descriptor=2)
-        return None if (run.status, run.out, run.err) == (2, b"", b"") else told(run)
-
-    yield "write 1.. ENOSPC of help", fault_of_help
-    yield "write 1.. EIO to standard error", fault_of_silence
+    full, broken = {"write": f"1.. {errno.ENOSPC}"}, {"write": f"1.. {errno.EIO}", "descriptor": 2}
+    yield "write 1.. ENOSPC of help", partial(fault_of, "--help", (1, b"", CANNOT_READ), **full)
+    yield "write 1.. EIO to standard error", partial(fault_of, "frobnicate", (2, b"", b""), **broken)
 
 
 def of_closed(machine):
@@ -235,5 +223,5 @@ def of_closed(machine):
 
     for count in (1, 2, 3):
         for numbers in map("".join, itertools.combinations("012", count)):
-            yield f"script of a run without {numbers}", lambda numbers=numbers: fault_of_script(numbers)
+            yield f"script of a run without {numbers}", partial(fault_of_script, numbers)
     yield "variants of a closed standard input", fault_of_variants

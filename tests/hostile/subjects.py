@@ -89,12 +89,9 @@ FILES = words_of("files", **{
 
 def command_lines():
     """Help, words that are no command line, and those that name no file."""
-    for name, words in TOLD.items():
-        yield Subject(name, words, out=None)
-    for name, words in WORDS.items():
-        yield Subject(f"command line of {name}", words, err=NO_COMMAND, status=2)
-    for name, words in FILES.items():
-        yield Subject(f"command line of {name}", words, err=NO_FILE, status=1)
+    yield from (Subject(name, words, out=None) for name, words in TOLD.items())
+    for every, err, status in ((WORDS, NO_COMMAND, 2), (FILES, NO_FILE, 1)):
+        yield from (Subject(f"command line of {name}", words, err=err, status=status) for name, words in every.items())
 
 
 def as_words(script, front, name, **other):
@@ -115,9 +112,8 @@ def variants(script):
 def ends_with_its_fault(script):
     """Whether no line comes behind the first fault: only then a session writes what a replay does."""
     text = (script.input or pathlib.Path(script.words[-1])).read_bytes()
-    last = script.out.splitlines()[-1:]
     number = text.removesuffix(b"\n").count(b"\n") + 1
-    return script.status == 0 or last == [b"fault line %d" % number]
+    return script.status == 0 or script.out.splitlines()[-1:] == [b"fault line %d" % number]
 
 
 def replayed(folder):

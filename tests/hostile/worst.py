@@ -71,6 +71,11 @@ def created():
     yield "publish 0\n"
 
 
+def deliveries(agents, deltas):
+    """So many agents, the last ones, take each of the deltas in."""
+    yield from (f"deliver {agent} {delta}\n" for agent in range(64 - agents, 64) for delta in deltas)
+
+
 def answers(count):
     yield from created()
     yield "answer 0 1\n" * count
@@ -78,8 +83,7 @@ def answers(count):
 
 def threads(agents):
     yield from created()
-    for agent in range(64 - agents, 64):
-        yield f"deliver {agent} 0\n"
+    yield from deliveries(agents, [0])
 
 
 def early(agents, count, answered=0):
@@ -91,9 +95,7 @@ def early(agents, count, answered=0):
     for queue in range(queues):
         yield f"priority t{queue} 0\n" * min(count - queue * (ROOM - 1), ROOM - 1)
         yield f"publish {queue}\n"
-    for agent in range(64 - agents, 64):
-        for queue in range(queues):
-            yield f"deliver {agent} {queues + queue}\n"
+    yield from deliveries(agents, range(queues, 2 * queues))
     yield "answer 63 62\n" * answered
 
 
@@ -101,12 +103,9 @@ def early_threads(agents, each):
     yield from created()
     yield "consume 0\n"
     for _ in range(each):
-        for thread in range(65535):
-            yield f"priority t{thread} 0\n"
+        yield from (f"priority t{thread} 0\n" for thread in range(65535))
         yield "publish 0\nconsume 0\n"
-    for agent in range(64 - agents, 64):
-        for delta in range(each):
-            yield f"deliver {agent} {delta + 1}\n"
+    yield from deliveries(agents, range(1, each + 1))
 
 
 MOST_SETTINGS = 2**20
@@ -226,9 +225,7 @@ def taken(words, seconds, limit):
     with tempfile.TemporaryFile() as said:
         child = subprocess.Popen(words, stdout=subprocess.DEVNULL, stderr=said, preexec_fn=limit)
         descriptor = os.pidfd_open(child.pid)
-        poll = select.poll()
-        poll.register(descriptor, select.POLLIN)
-        is_done = poll.poll(None if seconds is None else seconds * 1000)
+        is_done, _, _ = select.select([descriptor], [], [], seconds)
         os.close(descriptor)
         took = time.perf_counter() - began
         if not is_done:
@@ -243,13 +240,11 @@ def taken(words, seconds, limit):
 
 
 # By the first word what runs a text, for how many seconds at most, and what bounds it.
-MEASURED = {
-    "measure": ("replay",), "measure-settings": ("run", MOST_SECONDS, bound),
-    "measure-loads": ("lab", MOST_SECONDS_OF_LOADS, bound),
-}
+OF_SETTINGS, OF_LOADS = ("run", MOST_SECONDS, bound), ("lab", MOST_SECONDS_OF_LOADS, bound)
+MEASURED = {"measure": ("replay",), "measure-settings": OF_SETTINGS, "measure-loads": OF_LOADS}
 
 
-def measure(program, command, every, seconds=None, limit=None):
+def measure(program, every, command, seconds=None, limit=None):
     """A line of the table for each script or settings."""
     print("| text | bytes | greatest memory | seconds | of a processor | ended |\n|---|---|---|---|---|---|")
     with tempfile.TemporaryDirectory() as name:
@@ -265,8 +260,7 @@ def main():
     words = sys.argv[1:]
     how = MEASURED.get(words[0]) if words else None
     if how and len(words) >= 2 and (words[0] != "measure" or len(words) == 2):
-        command, *bounds = how
-        measure(words[1], command, words[2:] or TEXTS["measured"][words[0]], *bounds)
+        measure(words[1], words[2:] or TEXTS["measured"][words[0]], *how)
     elif words and words[0] in {**SCRIPTS, **SETTINGS, **LOADS}:
         write(words, sys.stdout)
     else:
