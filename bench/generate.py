@@ -12,12 +12,21 @@ sys.path.insert(0, str(pathlib.Path(__file__).resolve().parent.parent / "tools")
 from kernel import World  # noqa: E402
 
 CPUS, THREADS = 64, 4096
+EVERYWHERE = 2**CPUS - 1
+ENCLAVE = f"enclave {CPUS} {THREADS} 1000000 65536 4294967295"
+# Threads of all CPUs in turn.
+SPREAD = [f"create {thread % CPUS} {EVERYWHERE} ready" for thread in range(THREADS)]
+
+
+def look(*cpus):
+    """Agents send what their queues hold, and remove it."""
+    return [line for cpu in cpus for line in (f"publish {cpu}", f"consume {cpu}")]
 
 
 def first_run(lines):
     """The commands of a first run on 64 CPUs and up to 4,096 threads."""
     chance = random.Random(20261122)
-    yield f"enclave {CPUS} {THREADS} 1000000 65536 4294967295"
+    yield ENCLAVE
     created, blocked = 0, []
     for line in range(1, lines):
         pick = chance.random()
@@ -59,14 +68,13 @@ def thread_call(chance, world, name):
     if pick < 0.3:
         return f"associate t{name} {chance.randrange(CPUS)} {thread.number}"
     if pick < 0.6:
-        return f"priority t{name} {chance.randrange(8)}" if pick < 0.45 else f"affinity t{name} {2**CPUS - 1}"
+        return f"priority t{name} {chance.randrange(8)}" if pick < 0.45 else f"affinity t{name} {EVERYWHERE}"
     return f"status t{name}"
 
 
 def cpu_call(chance, world, cpu):
     """A call on a CPU, its queue or its agent."""
-    pick = chance.randrange(5)
-    if pick == 0:
+    if (pick := chance.randrange(5)) == 0:
         return f"tick {cpu}"
     target = chance.choice([*range(CPUS), "-"])
     return [f"sleep {cpu} {world.queues[cpu].posts}", f"rouse {cpu}", f"config {cpu} {target}", f"asleep {cpu}"][pick - 1]
@@ -77,10 +85,10 @@ def kernel_calls(lines, learns=True):
     grow, is not: then queues only grow and each move of a thread is refused."""
     chance = random.Random(20261122)
     world = World(CPUS)
-    yield f"enclave {CPUS} {THREADS} 1000000 65536 4294967295"
+    yield ENCLAVE
     for line in range(1, lines):
         if line <= THREADS:
-            call = f"create {chance.randrange(CPUS)} {2**CPUS - 1} ready"
+            call = f"create {chance.randrange(CPUS)} {EVERYWHERE} ready"
         elif line % 32 in (1, 2):
             call = f"{'publish' if line % 32 == 1 else 'consume'} {line // 32 % CPUS}" if learns else "status t7"
         elif chance.random() < 0.8:
@@ -120,12 +128,8 @@ def big_delta(lines):
 
 def rounds(lines):
     """Each agent in turn picks, its thread yields, and it publishes and consumes that; its run list stays as long."""
-    yield f"enclave {CPUS} {THREADS} 1000000 65536 4294967295"
+    yield from (ENCLAVE, *SPREAD, *look(*range(CPUS)))
     posts = [THREADS // CPUS] * CPUS
-    for thread in range(THREADS):
-        yield f"create {thread % CPUS} {2**CPUS - 1} ready"
-    for cpu in range(CPUS):
-        yield from look(cpu)
     for turn in range((lines - 1 - THREADS - 2 * CPUS) // 4):
         cpu = turn % CPUS
         yield from (f"pick {cpu} {posts[cpu]}", f"yield {cpu} 1", *look(cpu))
@@ -135,20 +139,14 @@ def rounds(lines):
 def steals(lines):
     """Agent 1 steals the threads of agent 0, whose run list it finds ever longer in its own; then there is none left."""
     threads = min(THREADS, lines // 2)
-    yield f"enclave {CPUS} {THREADS} 1000000 65536 4294967295"
-    yield from [f"create 0 {2**CPUS - 1} ready"] * threads
-    yield from (*look(0), "deliver 1 0", *["steal 1"] * (lines - 4 - threads))
+    yield from (ENCLAVE, *[f"create 0 {EVERYWHERE} ready"] * threads, *look(0))
+    yield from ("deliver 1 0", *["steal 1"] * (lines - 4 - threads))
 
 
 def restarts(lines):
     """In turn an agent crashes, another answers what it lacks, it takes that in, steals two threads and publishes."""
-    yield f"enclave {CPUS} {THREADS} 1000000 65536 4294967295"
-    for thread in range(THREADS):
-        yield f"create {thread % CPUS} {2**CPUS - 1} ready"
-    for cpu in range(CPUS):
-        yield from look(cpu)
-    for cpu in range(CPUS):
-        yield from (f"deliver {cpu} {delta}" for delta in range(CPUS))
+    yield from (ENCLAVE, *SPREAD, *look(*range(CPUS)))
+    yield from (f"deliver {cpu} {delta}" for cpu in range(CPUS) for delta in range(CPUS))
     for turn in range((lines - 1 - THREADS - 2 * CPUS - CPUS * CPUS) // 6):
         cpu = turn % CPUS
         yield from (f"crash {cpu}", f"answer {(cpu + 1) % CPUS} {cpu}", f"deliver {cpu} {CPUS + 2 * turn}")
@@ -182,9 +180,8 @@ def day(lines):
     """Agents of 64 CPUs in groups of four, over 4,096 threads that they run, wake, steal and tell each other of."""
     chance, world, written = random.Random(20261123), World(CPUS), 1 + THREADS
     blocked = [[] for _ in range(CPUS // 4)]
-    yield f"enclave {CPUS} {THREADS} 1000000 65536 4294967295"
-    for thread in range(THREADS):
-        yield said(world, f"create {thread % CPUS} {2**CPUS - 1} ready")
+    yield ENCLAVE
+    yield from (said(world, line) for line in SPREAD)
     while written < lines:
         cpu = chance.randrange(CPUS)
         turn = [said(world, line) for line in day_of(chance, world, cpu, blocked[cpu // 4])]
@@ -212,11 +209,6 @@ def levels(lines):
     yield from (*["create 0 1 ready"] * threads, *look(0))
     for change in range(changes):
         yield from (f"priority t{threads // 2} {1 + change % 7}", *look(0))
-
-
-def look(cpu):
-    """An agent sends what its queue holds, and removes it."""
-    return f"publish {cpu}", f"consume {cpu}"
 
 
 # The scripts by their names, and what each is.
