@@ -65,9 +65,7 @@ def items_of(name, labels):
     """The items of a document's lists. A line `  - LABEL ..` or `  - LABEL: ..` below an item is kept under its label."""
     items, heading, told = [], "", None
     for number, line in enumerate((ROOT / name).read_text().splitlines(), 1):
-        if line.startswith("#"):
-            heading, told = line, None
-        elif line.startswith("- "):
+        if line.startswith("- "):
             items.append(Item(f"{name}:{number}", heading, line[2:]))
             told = ""
         elif line.startswith("  - ") and told is not None:
@@ -78,7 +76,7 @@ def items_of(name, labels):
         elif line.startswith("    ") and told:
             items[-1].below[told] += " " + line.strip()
         else:
-            told = None
+            heading, told = line if line.startswith("#") else heading, None
     return items
 
 
@@ -119,9 +117,8 @@ class Checker:
     def functions_at(self, crates, path):
         """The functions that a path of names stands for: `name`, `Type::name`, `module::name`, `tests::module::name`."""
         *above, name = path
-        every = (it for crate in crates for it in (crate.tests if above[:1] == ["tests"] else crate.functions))
-        named = (it for it in every if it.name == name)
-        return [it for it in named if not above or it.owner == above[-1] or not it.owner and it.module.split("/") == above]
+        every = (it for crate in crates for it in (crate.tests if above[:1] == ["tests"] else crate.functions) if it.name == name)
+        return [it for it in every if not above or it.owner == above[-1] or not it.owner and it.module.split("/") == above]
 
     def is_definition(self, crates, name):
         module, word = name.rsplit(".", 1)
@@ -153,10 +150,9 @@ class Checker:
             if re.fullmatch(r"[A-Z]\w*(?:\.\w+)+", text):
                 self.expect(self.is_definition([crate], text), where, f"there is no definition `{text}`")
                 continue
-            words = text.split(", ")
             if before.strip() == ":" and group:
                 for function in group:
-                    self.expect_clauses(where, function, words)
+                    self.expect_clauses(where, function, text.split(", "))
                 continue
             path = head.split("::")
             if not all(IDENTIFIER.fullmatch(part) for part in path):
@@ -290,16 +286,12 @@ class Checker:
                     elif re.fullmatch(r"[A-Z][a-z]\w*\.[A-Za-z_]\w*", text) and not FILE_NAME.fullmatch(text):
                         self.expect(self.is_definition([], text), where, f"there is no definition `{text}`")
                     elif re.fullmatch(r"(?:\w+/)+[\w./-]+\.(?:rt|antt|md|py|script|output)", text):
-                        holds = self.is_file(self.crates.values(), text)
-                        self.expect(holds, where, f"there is no file `{text}`")
+                        self.expect(self.is_file(everywhere, text), where, f"there is no file `{text}`")
 
     def check_crates(self):
-        below = {}
-        for line in (ROOT / "crates.txt").read_text().splitlines():
-            head, _, libraries = line.partition(": ")
-            name = head.split(" ")[0]  # counts of what may wait may stand behind it
-            if name in self.crates:
-                below[name] = set(libraries.split())
+        # Counts of what may wait may stand behind a name.
+        rows = re.findall(r"^(\w+)(?: .*?)?: (.*)$", (ROOT / "crates.txt").read_text(), re.M)
+        below = {name: set(libraries.split()) for name, libraries in rows if name in self.crates}
         told = {named[1] for item in items_of("docs/ARCHITECTURE.md", []) if (named := re.match(r"`(pc_\w+)`: ", item.text))}
         self.expect(told == set(self.crates) == set(below), "docs/ARCHITECTURE.md", "its crates are not those of crates.txt")
         arrows = re.findall(r"^    (\w+) --> (\w+)$", (ROOT / "docs/ARCHITECTURE.md").read_text(), re.M)
@@ -319,8 +311,7 @@ class Checker:
 
     def check_advice(self):
         """The refusals that an explained script tells of, and those of docs/FORMATS.md: the same names and reasons."""
-        text = (ROOT / "crates/pc_explain/src/reasons.rt").read_text()
-        bodies = re.findall(r"fn reason\(.*?\n(?:    )?\}", text, re.S)
+        bodies = re.findall(r"fn reason\(.*?\n(?:    )?\}", (ROOT / "crates/pc_explain/src/reasons.rt").read_text(), re.S)
         reasons = dict(re.findall(r"::(\w+)(?:\(_\))? =>\s*(?:\{\s*)?\"([^\"]*)\"", "".join(bodies)))
         items = [item for item in items_of("docs/FORMATS.md", ["accepted"]) if item.heading == "## Refusals" and "accepted" in item.below]
         told = dict(re.match(r"`(\w+)[^`]*`: (.*)", item.text).groups() for item in items)
@@ -335,8 +326,7 @@ class Checker:
         told = set(SPAN.findall(page.read_text()))
         for example in sorted(it for it in folder.glob("**/*.*") if it != page):
             name = str(example.relative_to(folder))
-            is_told = any(fnmatch.fnmatchcase(name, it) for it in told)
-            self.expect(is_told, "examples/README.md", f"it does not tell of `{name}`")
+            self.expect(any(fnmatch.fnmatchcase(name, it) for it in told), "examples/README.md", f"it does not tell of `{name}`")
             if example.suffix in inputs and example.parent == folder:
                 self.expect(example.with_suffix(".output").is_file(), f"examples/{name}", "it has no output beside it")
             elif example.suffix == ".output":
@@ -344,8 +334,7 @@ class Checker:
                 self.expect(beside, f"examples/{name}", "it has no script or settings beside it")
 
     def check_shown_code(self):
-        sources = (path.read_text().splitlines() for path in ROOT.glob("crates/pc_*/src/**/*.rt"))
-        every = ([line.strip() for line in lines] for lines in sources)
+        every = ([*map(str.strip, path.read_text().splitlines())] for path in ROOT.glob("crates/pc_*/src/**/*.rt"))
         tests = ["\n".join(lines) for lines in every if "#[test]" in lines]
         for root in sorted(ROOT.glob("crates/*/src/lib.rt")):
             docs = "\n".join(line[3:].strip() for line in root.read_text().splitlines() if line.startswith("//!"))
@@ -385,8 +374,7 @@ def main():
         before = len(checker.findings)
         check()
         failed += len(checker.findings) > before
-    for finding in checker.findings:
-        print(f"documents, {finding}")
+    print("".join(f"documents, {finding}\n" for finding in checker.findings), end="")
     print(f"documents: {checker.checked} looked at, {len(checker.findings)} findings")
     print(f"{len(checks) - failed} passed, {failed} failed")
     return 1 if failed else 0

@@ -17,7 +17,7 @@ import timed_drawings
 from kernel import answered, ticks_of
 from pictures import (
     ENCLAVE, LEFT, MOST_SINGLE, ROWS, SCRIPTS, SETTINGS, SHAPES, SINGLE_WORDS, SVG, WHOLE, Element, Part, Picture, Words,
-    answers_to, are_one, bars_in, bars_of, draw, drawn_script, edges_of, front_of, look_of, many, refused_words, shown_often, steps_of, story_of,
+    are_one, bars_in, bars_of, draw, drawn_script, edges_of, front_of, look_of, many, refused_words, shown_often, steps_of, story_of,
     width_of,
 )
 from rig import ROOT, outcome, same
@@ -188,7 +188,7 @@ def legend_in(picture: Picture) -> list[list[Element]]:
 
 def words_are_told(script: str) -> Counter[str]:
     """Holds every visible word of a script's picture against what replay answers. Counts the looks that were held against the legend."""
-    output = answers_to(script)
+    output = rig.replay(script)
     commands, fault = list(answered(script, output)), re.search(r"^fault line (\d+)$", output, re.MULTILINE)
     picture = draw(script, int(bool(fault)))
     cpus = next((int(words[1]) for _, words, answer in commands if words[0] == "enclave" and answer == "ok"), 0)

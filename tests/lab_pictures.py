@@ -10,6 +10,7 @@ import random
 import re
 import xml.etree.ElementTree as ElementTree
 from collections import defaultdict
+from typing import Any
 
 import rig
 import tables
@@ -111,9 +112,8 @@ def height_at(points: list[tuple[int, int]], x: int) -> int:
     return BOTTOM - min((y for at, y in points if at <= x), default=BOTTOM)
 
 
-def drawn(text: str, *words: object) -> str:
-    told: str = good(rig.ask("lab", "-", "--picture", *words, given=text))
-    return told
+def drawn(text: str, *words: object) -> Any:
+    return good(rig.ask("lab", "-", "--picture", *words, given=text))
 
 
 def shows(text: str, variants: str | None = None) -> Picture:
@@ -144,8 +144,7 @@ def seen(picture: Picture) -> None:
     same((ground.tag, room_of(ground)), (f"{SVG}rect", [(0, 0), (width, height)]))
     same(look_of(ground), {"fill": "#fff"})
     for element in picture.elements[1:]:
-        told = ElementTree.tostring(element)
-        look = look_of(element)
+        told, look = ElementTree.tostring(element), look_of(element)
         assert element.tag in {SVG + kind for kind in ("rect", "line", "path", "text")}, told
         assert set(look) <= LOOKS, told
         for x, y in room_of(element):
@@ -161,12 +160,11 @@ def seen(picture: Picture) -> None:
 
 def shares(picture: Picture) -> None:
     """Each share has its line and is told at its height; percentiles are named on the right. All are framed."""
-    for share in SHARES:
-        lines = picture.lines.get((LEFT, BOTTOM - 4 * share, RIGHT, BOTTOM - 4 * share), [])
-        same([title for title, _ in lines], [f"{share} % of the waits"])
-    told = [(46, BOTTOM - 4 * share + 4, f"{share} %", "end") for share in TOLD_SHARES]
-    same(picture.said(x=46), sorted(told))
-    named = [(RIGHT + 6, BOTTOM - 4 * percent + 4, f"p{percent}", "start") for percent in PERCENTS]
+    heights = {share: BOTTOM - 4 * share for share in SHARES}
+    for share, y in heights.items():
+        same([title for title, _ in picture.lines.get((LEFT, y, RIGHT, y), [])], [f"{share} % of the waits"])
+    same(picture.said(x=46), sorted((46, heights[share] + 4, f"{share} %", "end") for share in TOLD_SHARES))
+    named = [(RIGHT + 6, heights[percent] + 4, f"p{percent}", "start") for percent in PERCENTS]
     same(picture.said(x=RIGHT + 6), sorted(named))
     frame, = [it for it in picture.elements if it.tag == SVG + "rect"][1:]
     same((frame[0].text, room_of(frame)), ("all waits", [(LEFT, TOP), (RIGHT, BOTTOM)]))
@@ -205,8 +203,7 @@ def legend(picture: Picture, told: Told, y: int) -> None:
     (title, sample), = picture.lines[LEFT, y - 4, LEFT + 64, y - 4]
     same((title, picture.marks[told.name]), (told.name, [(LEFT + 32, y - 4)]))
     mark, = picture.looks[told.name]
-    curves = picture.looks.get(told.title, [])
-    same(curves, [sample] if told.waits else [])
+    same(picture.looks.get(told.title, []), [sample] if told.waits else [])
     for percent, ticks in told.percentiles.items():
         same(picture.looks[f"{told.name}: p{percent} {ticks}"], [mark])
     same(sample["fill"], "none")
@@ -276,14 +273,12 @@ def test_one_wait():
 
 def test_a_wait_that_had_not_ended_counts():
     """At tick 7 one of two has waited since tick 0."""
-    picture = shows("cpus = 1\nuntil = 7\n" + 2 * thread("die 10"))
-    same(picture.title, "plain: waits 2, p50 0, p90 7, p99 7")
+    same(shows("cpus = 1\nuntil = 7\n" + 2 * thread("die 10")).title, "plain: waits 2, p50 0, p90 7, p99 7")
 
 
 def test_waits_of_nothing_and_of_2_to_the_40():
     """A thread of level 7 runs for 2^40 ticks in 257 steps, and six others wait for it."""
-    steps = ["yield 4294967295"] * 256 + ["die 256"]
-    picture = shows("cpus = 1\n" + thread(*steps, level=7) + 6 * thread("die 0"))
+    picture = shows("cpus = 1\n" + thread(*["yield 4294967295"] * 256, "die 256", level=7) + 6 * thread("die 0"))
     same(picture.title, f"plain: waits 263, p50 0, p90 0, p99 {2**40}")
     (x, y), = picture.marks[f"plain: p99 {2**40}"]
     near(x, FIRST + (RIGHT - FIRST) * math.log10(2**40) / 13, delta=1)
@@ -300,8 +295,8 @@ def test_decades_are_told_in_digits_where_there_is_room():
 
 def test_sixteen_variants_can_be_told_apart():
     names = [f"{place}.{'x' * place}-y" for place in range(16)]
-    variants = "".join(f'[[variant]]\nname = "{name}"\nquantum = {place}\n' for place, name in enumerate(names))
-    picture = shows("cpus = 1\n" + 3 * thread("die 20") + variants)
+    variants = (tables.variant(name, quantum=place) for place, name in enumerate(names))
+    picture = shows("cpus = 1\n" + 3 * thread("die 20") + "".join(variants))
     same(len(picture.curves), 16)
     dashes = {picture.looks[title][0].get("stroke-dasharray") for title in picture.curves}
     marks = {(look["shape"], look["fill"] == "#fff") for look in (picture.looks[name][0] for name in names)}
@@ -311,7 +306,7 @@ def test_sixteen_variants_can_be_told_apart():
 def test_many_waits_make_no_large_picture():
     """20,000 waits: the points of a curve are as few as the columns of pixels."""
     steps = [f"yield {place % 977}" for place in range(9999)] + ["die 3"]
-    shows("cpus = 1\n" + 2 * thread(*steps) + '[[variant]]\nname = "fifo"\norder = "fifo"\n')
+    shows("cpus = 1\n" + 2 * thread(*steps) + tables.variant("fifo", order="fifo"))
 
 
 def test_what_wins():

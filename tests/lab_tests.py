@@ -20,6 +20,7 @@ import sys
 from collections import Counter
 from collections.abc import Callable
 from dataclasses import dataclass, field
+from typing import Any
 
 import lab_pictures
 import rig
@@ -53,14 +54,9 @@ def lab(*words: object, folder: pathlib.Path = ROWS, given: str = "") -> subproc
     return rig.ask("lab", *words, given=given, cwd=folder, timeout=300)
 
 
-def told(text: str, *words: object) -> str:
+def told(text: str, *words: object) -> Any:
     """What the lab tells of a load."""
-    written: str = good(lab("-", *words, given=text), text)
-    return written
-
-
-def replay(script: str) -> str:
-    return rig.ask("replay", given=script).stdout
+    return good(lab("-", *words, given=text), text)
 
 
 def worked() -> list[tuple[pathlib.Path, list[Run]]]:
@@ -88,7 +84,7 @@ def test_reference_scripts_and_what_they_are_answered() -> None:
     for script in files(".script"):
         same(script_of(scripts[script.stem]), script.read_text(), script.name)
         same(replies_of(scripts[script.stem]), script.with_suffix(".replies").read_text(), script.name)
-        same(replay(script.read_text()), script.with_suffix(".replies").read_text(), script.name)
+        same(rig.replay(script.read_text()), script.with_suffix(".replies").read_text(), script.name)
 
 
 def test_each_cpu_is_accounted_for() -> None:
@@ -99,10 +95,9 @@ def test_each_cpu_is_accounted_for() -> None:
 
 
 def test_scripts() -> None:
-    for script in files(".script"):
+    for script, more in itertools.product(files(".script"), ([], ["--csv", "--per-cpu"])):
         load, _, name = script.stem.partition(".")
-        for more in ([], ["--csv", "--per-cpu"]):
-            same(good(lab(f"{load}.toml", "--script", name, *more)), script.read_text(), script.name)
+        same(good(lab(f"{load}.toml", "--script", name, *more)), script.read_text(), script.name)
 
 
 def test_the_time_of_each_cpu() -> None:
@@ -211,7 +206,7 @@ def test_the_program_answers_as_runs_expect() -> None:
         text = drawn_load(chance)
         runs = runs_of(text)
         for run in runs:
-            same(replay(script_of(run)), replies_of(run), run.variant, text)
+            same(rig.replay(script_of(run)), replies_of(run), run.variant, text)
         for rows in (csv_of(runs, True), told(text, "--per-cpu", "--csv")):
             balances(rows, text)
 
@@ -233,9 +228,7 @@ def wide_load(chance: random.Random) -> str:
     """Up to 60 threads on 1 to 8 CPUs. Each order with each steal is tried twice: where all hear of each other at once
     and a turn takes no time, and where that is drawn."""
     cpus = chance.randint(1, 8)
-    text = f"cpus = {cpus}\n"
-    if chance.random() < 0.2:
-        text += f"until = {chance.randint(1, 200)}\n"
+    text = f"cpus = {cpus}\n" + (f"until = {chance.randint(1, 200)}\n" if chance.random() < 0.2 else "")
     text += drawn_threads(chance, cpus, chance.randint(0, chance.choice([8, 60])))
     for place, (order, steals, late) in enumerate(itertools.product(ORDERS, STEALS, (False, True))):
         times = {"delay": chance.choice([0, 1, 5, 12]), "cost": chance.choice([0, 0, 1, 3])} if late else {}
@@ -272,8 +265,7 @@ class Tried:
 
     def refused(self) -> Counter[str]:
         """How often each command was refused so, by the CSV: `steal_Stale`."""
-        return Counter({name.removeprefix("refused_"): int(cell) for name, cell in self.row.items()
-                        if name.startswith("refused_") and cell})
+        return Counter({name[8:]: int(cell) for name, cell in self.row.items() if name.startswith("refused_") and cell})
 
 
 @dataclass
@@ -321,26 +313,24 @@ def runs_tried(chance: random.Random) -> list[Tried]:
     every = [Tried(text, read.cpus, *it, []) for it in zip(read.variants, rows, strict=True)]
     one = chance.choice(every)
     script = told(text, "--script", one.variant.name)
-    one.answered = [(" ".join(words), answer) for _, words, answer in answered(script, replay(script))]
+    one.answered = [(" ".join(words), answer) for _, words, answer in answered(script, rig.replay(script))]
     one.ticks = [*ticks_of(script).values()]
     return every
 
 
 def refused(runs: list[Tried]) -> Counter[str]:
     """How often each command was refused so in these runs. The replies tell what the CSV tells, and nothing else."""
-    for tried in runs:
-        told = (f"{command.split()[0]}_{reply.split()[1]}" for command, reply in tried.answered
-                if reply.startswith("refused "))
-        if tried.answered:
-            same(Counter(told), +tried.refused(), f"{tried.variant}\n{tried.text}")
+    for tried in (it for it in runs if it.answered):
+        refusals = ((command, reply) for command, reply in tried.answered if reply.startswith("refused "))
+        told = Counter(f"{command.split()[0]}_{reply.split()[1]}" for command, reply in refusals)
+        same(told, +tried.refused(), f"{tried.variant}\n{tried.text}")
     return sum((tried.refused() for tried in runs), Counter())
 
 
 def each(is_meant: Callable[[Tried], bool]) -> tuple[list[Tried], list[Tried]]:
     """The runs that are meant, and the others. Of both some were replayed."""
     meant, others = ([tried for tried in all_tried() if is_meant(tried) == wanted] for wanted in (True, False))
-    for runs in (meant, others):
-        assert sum(bool(tried.answered) for tried in runs) > 5
+    assert min(sum(bool(tried.answered) for tried in runs) for runs in (meant, others)) > 5
     return meant, others
 
 

@@ -1,6 +1,7 @@
 """Pictures of scripts, taken apart, and what they have to show: by what tools/kernel.py tells of the script, and nothing of the picture's own."""
 from __future__ import annotations
 
+import itertools
 import random
 import re
 import sys
@@ -77,9 +78,7 @@ class Picture:
 
     def found(self, pattern: str) -> Iterator[tuple[re.Match[str], Element]]:
         """The shapes with such titles."""
-        for title, element in self.shapes:
-            if match := re.fullmatch(pattern, title):
-                yield match, element
+        return ((match, element) for title, element in self.shapes if (match := re.fullmatch(pattern, title)))
 
     def told(self, pattern: str) -> Counter[str]:
         return Counter(match[0] for match, _ in self.found(pattern))
@@ -124,10 +123,6 @@ def look_of(element: Element) -> tuple[object, ...]:
 
 # What a script comes to
 
-def answers_to(script: str) -> str:
-    return rig.ask("replay", given=script).stdout
-
-
 @dataclass
 class Story:
     """What happens in a script, from its lines and their answers."""
@@ -169,7 +164,7 @@ class Story:
 def story_of(script: str) -> Story:
     """The story of a script as the program answers it."""
     told = Story()
-    for each in answered(script, answers_to(script)):
+    for each in answered(script, rig.replay(script)):
         told.take(*each)
     for cpu in list(told.on):
         told.leave(cpu, told.last)
@@ -200,24 +195,18 @@ def drawn_script(place: int) -> str:
 
 def front_of(script: str, most: int) -> str:
     """The script up to so many commands."""
-    lines, count = [], 0
-    for line in script.splitlines():
-        count += is_asked(line)
-        if count > most:
-            break
-        lines.append(line)
-    return "\n".join(lines) + "\n"
+    lines = script.splitlines()
+    counts = itertools.accumulate(map(is_asked, lines))
+    return "".join(f"{line}\n" for line, count in zip(lines, counts) if count <= most)
 
 
 def many(cpus: int, least: int) -> str:
     """A script in which each CPU in turn creates, commits and blocks threads of its own, and tells the next CPU."""
-    lines, posts, thread = [f"enclave {cpus} 4096 1000 4096 100000"], [0] * cpus, 0
-    while len(lines) < least:
-        cpu = thread % cpus
-        lines += [f"create {cpu} {1 << cpu} ready", f"publish {cpu}", f"consume {cpu}", f"commit {cpu} t{thread} {posts[cpu] + 1}"]
+    lines = [f"enclave {cpus} 4096 1000 4096 100000"]
+    for thread in range(-(-(least - 1) // 6)):
+        turn, cpu = divmod(thread, cpus)
+        lines += [f"create {cpu} {1 << cpu} ready", f"publish {cpu}", f"consume {cpu}", f"commit {cpu} t{thread} {2 * turn + 1}"]
         lines += [f"deliver {(cpu + 1) % cpus} {thread}", f"block {cpu} 5"]
-        posts[cpu] += 2
-        thread += 1
     return "\n".join(lines) + "\n"
 
 
@@ -253,14 +242,13 @@ def steps_of(script: str) -> tuple[int, Steps]:
     """How many CPUs there are, and of each command the number of its line, and what the rows show after it: by the model, whose answers to the
     script, and to questions behind each command, are the program's."""
     asked = with_questions(script)
-    same(answers_to(asked), told_of(asked.encode())[0])
+    same(rig.replay(asked), told_of(asked.encode())[0])
     talk, steps = Talk(), []
     for line in script.split("\n"):
-        if talk.take(line.encode()) is None or not is_asked(line):
-            continue
+        is_told = talk.take(line.encode()) is not None and is_asked(line)
         if talk.faults:
             break
-        steps.append((talk.number, shown_in(talk.world)))
+        steps += [(talk.number, shown_in(talk.world))] if is_told else []
     return (talk.world.cpus if talk.world else 0), steps
 
 
@@ -307,14 +295,13 @@ def bars_of(steps: Steps, cpus: int) -> Counter[Bar]:
     for row in ROWS:
         for cpu in range(cpus):
             values = [shown[row][cpu] if shown[row] else None for _, shown in steps]
-            kinds, start = [value if row != "idle" or value is None else "idle" for value in values], 0
-            for end in range(1, len(values) + 1):
-                if end < len(values) and kinds[end] == kinds[start]:
-                    continue
-                if values[start] is not None:
+            kinds = [value if row != "idle" or value is None else "idle" for value in values]
+            for kind, places in itertools.groupby(range(len(values)), kinds.__getitem__):
+                start, *others = places
+                end = start + len(others) + 1
+                if kind is not None:
                     lines = (numbers[start], numbers[min(end, len(numbers) - 1)])
                     bars[Bar(row, cpu, max(values[start:end]), (start, end), lines)] += 1
-                start = end
     return bars
 
 

@@ -30,7 +30,6 @@ from tables import table, variant
 TOOL = ROOT / "tools/from-perf-sched"
 RECORD = ROOT / "tools/record-loads"
 KEPT = ROOT / "examples/recordings"
-ENCLAVE = "enclave {} {} 1000000 65536 4294967295"
 
 
 def head(us: int, cpu: int, pid: int, event: str) -> str:
@@ -65,6 +64,10 @@ def event(kind: str, *cells: Any) -> str:
 switch, wake, fork = (functools.partial(event, kind) for kind in ("switch", "wake", "fork"))
 
 
+def text_of(lines: list[str]) -> str:
+    return "".join(line + "\n" for line in lines)
+
+
 class Made(NamedTuple):
     """What the tool made of a text: the status, and the lines of the script, of what was told, and of the settings."""
 
@@ -93,13 +96,11 @@ def refusals(script: str, replies: str) -> Counter[str]:
 
 def make(text: str | bytes, *words: str, status: int = 0) -> Made:
     """Gives the text to the tool, and what that makes of it to the program."""
-    with rig.folder() as folder:
-        settings = folder / "settings.toml"
+    with rig.file("", "settings.toml") as settings:
         data = text if isinstance(text, bytes) else text.encode()
         ended = run(TOOL, "-", "--settings", settings, *words, given=data, text=False)
         told = [it.removeprefix("from-perf-sched: ") for it in ended.stderr.decode().splitlines()]
-        made_settings = settings.read_text() if settings.exists() else ""
-        made = Made(ended.returncode, ended.stdout.decode("ascii").splitlines(), told, made_settings.splitlines())
+        made = Made(ended.returncode, ended.stdout.decode("ascii").splitlines(), told, settings.read_text().splitlines())
     same(ended.returncode, status, told)
     if status == 0:
         replay(made)
@@ -109,7 +110,7 @@ def make(text: str | bytes, *words: str, status: int = 0) -> Made:
 
 def replay(made: Made) -> str:
     """No line is a fault, and what the model refuses is what the tool told."""
-    script = "\n".join([*made.script, ""])
+    script = text_of(made.script)
     replies: str = good(rig.ask("replay", given=script))
     assert "fault line" not in replies
     same(refusals(script, replies), made.refused)
@@ -118,9 +119,8 @@ def replay(made: Made) -> str:
 
 def run_settings(made: Made) -> None:
     """The run's totals are those that the steps of the settings add up to."""
-    settings = "\n".join([*made.settings, ""])
-    steps = re.findall(r'"(\w+) (\d+)"', settings)
-    threads = settings.count("[[thread]]")
+    settings = text_of(made.settings)
+    steps, threads = re.findall(r'"(\w+) (\d+)"', settings), settings.count("[[thread]]")
     messages = threads + len(steps) + sum(word == "block" for word, _ in steps)
     ran = sum(int(ticks) for _, ticks in steps)
     told = f"threads {threads}\nmessages {messages}\ncommits {len(steps)}\nran {ran}\n"
@@ -156,9 +156,8 @@ def test_more_threads_than_a_script_has() -> None:
 
 def test_more_threads_than_a_first_version_has() -> None:
     text = "".join(fork(10, 0, 7, child) for child in range(100, 100 + 4_095))
-    same(make(text).commands[0], ENCLAVE.format(1, 4_096))
-    made = make(text + fork(20, 0, 7, 9))
-    same(made.commands[:2], ["version 2", "enclave 1 4097 16000000 65536 4294967295"])
+    same(make(text).commands[0], "enclave 1 4096 1000000 65536 4294967295")
+    same(make(text + fork(20, 0, 7, 9)).commands[:2], ["version 2", "enclave 1 4097 16000000 65536 4294967295"])
 
 
 def test_a_script_of_the_greatest_length() -> None:
@@ -183,8 +182,7 @@ def test_names_in_bytes_that_are_no_text() -> None:
 # Bad input
 
 def test_a_text_that_is_no_recording_and_has_no_end() -> None:
-    made = make("hello", status=1)
-    same(made.told, ["this is no recording: no line of it is an event of perf script"])
+    same(make("hello", status=1).told, ["this is no recording: no line of it is an event of perf script"])
 
 
 def test_a_long_line_takes_no_long_time() -> None:
@@ -253,8 +251,7 @@ def test_a_life_of_too_many_runs() -> None:
 
 
 def test_settings_of_too_many_threads() -> None:
-    text = "".join(switch(10, 0, pid, "X", pid + 1) for pid in range(100, 100 + 4_097))
-    made = make(text)
+    made = make("".join(switch(10, 0, pid, "X", pid + 1) for pid in range(100, 100 + 4_097)))
     same(made.settings.count("[[thread]]"), 4_096)
     same(made.told[-1], "left out of the settings: 2 threads past the greatest count or length")
 
@@ -267,9 +264,8 @@ def test_the_kept_recordings() -> None:
     for path in texts:
         assert path.stat().st_size < 200 * 1024
         made = make(path.read_bytes())
-        same("\n".join([*made.script, ""]), path.with_suffix(".script").read_text(), path.name)
-        same("\n".join([*made.settings, ""]), path.with_suffix(".toml").read_text(), path.name)
-        same(replay(made), path.with_suffix(".output").read_text(), path.name)
+        for text, suffix in ((text_of(made.script), ".script"), (text_of(made.settings), ".toml"), (replay(made), ".output")):
+            same(text, path.with_suffix(suffix).read_text(), path.name)
 
 
 def test_the_document_tells_what_is_refused() -> None:
@@ -277,10 +273,8 @@ def test_the_document_tells_what_is_refused() -> None:
     for path in sorted(KEPT.glob("*.txt")):
         made = make(path.read_bytes())
         row = next(line for line in page.splitlines() if line.startswith(f"| `{path.stem}` |"))
-        cells = [cell.strip() for cell in row.strip("|").split("|")]
-        same(cells[1:], row_of(made), path.name)
-        replies = path.with_suffix(".output").read_text()
-        same(refusals("\n".join([*made.script, ""]), replies), made.refused, path.name)
+        same([cell.strip() for cell in row.strip("|").split("|")][1:], row_of(made), path.name)
+        same(refusals(text_of(made.script), path.with_suffix(".output").read_text()), made.refused, path.name)
 
 
 @rig.each({"TUTORIAL": ("TUTORIAL", 10), "LAB": ("LAB", 0)})
@@ -385,12 +379,8 @@ def cells_of(table: str) -> dict[str, str]:
 
 def tutorial_steps(page: str) -> list[tuple[str, str]]:
     """The commands of the page, each with what it prints."""
-    steps: list[tuple[str, str]] = []
-    for block in re.findall(r"(?:^    .*\n)+", page, re.M):
-        for part in re.split(r"^    \$ ", block, flags=re.M)[1:]:
-            command, *lines = part.splitlines()
-            steps.append((command, "".join(line.removeprefix("    ") + "\n" for line in lines)))
-    return steps
+    parts = re.findall(r"^    \$ (.*)\n((?:    (?!\$ ).*\n)*)", page, re.M)
+    return [(command, re.sub(r"(?m)^    ", "", told)) for command, told in parts]
 
 
 def load_tool(path: pathlib.Path = TOOL) -> types.ModuleType:

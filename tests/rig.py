@@ -98,6 +98,11 @@ def ask(*words: object, given: str | None = "", **more: Any) -> subprocess.Compl
     return run(program, *words, given=given, **more)
 
 
+def replay(script: str) -> str:
+    """What the program that is tested answers to a script."""
+    return ask("replay", given=script).stdout
+
+
 def outcome(ended: subprocess.CompletedProcess[Any]) -> tuple[int, Any, Any]:
     return ended.returncode, ended.stdout, ended.stderr
 

@@ -40,13 +40,10 @@ def run_with_script(text: str, *words: str) -> tuple[str, str]:
         return report, (folder / "run.script").read_text()
 
 
-def script_of(policy: str, text: str) -> list[str]:
-    return run_with_script(text, "--policy", policy)[1].splitlines()
-
-
-def commits_of(lines: list[str]) -> list[str]:
-    """Which threads were committed, in order."""
-    return [line.split()[2] for line in lines if line.startswith("commit ")]
+def script_of(policy: str, text: str) -> tuple[list[str], list[str]]:
+    """The script of a run, and which threads it commits, in order."""
+    lines = run_with_script(text, "--policy", policy)[1].splitlines()
+    return lines, [line.split()[2] for line in lines if line.startswith("commit ")]
 
 
 def picked(policy: str, lines: list[str]) -> list[str]:
@@ -113,23 +110,21 @@ def test_runs_under_each_policy_come_to_the_same() -> None:
         assert f"\ncommits {steps}\n" in reports.pop(), text
 
 
-def test_the_fewest_ticks_come_first() -> None:
-    """One agent, and three threads that are there before it looks: each runs as soon as it has the fewest ticks."""
-    plans = (("yield 5", "die 1"), ("yield 3", "die 1"), ("yield 1", "yield 1", "die 1"))
-    text = "cpus = 1\n" + "".join(thread(0, 1, *steps) for steps in plans)
-    wanted = {"fifo": ["t0", "t1", "t2", "t0", "t1", "t2", "t2"], "least-ran": ["t0", "t1", "t2", "t2", "t2", "t1", "t0"]}
-    for policy, threads in wanted.items():
-        same(commits_of(script_of(policy, text)), threads, policy)
+BY_NAME, BY_TICKS = "t0 t0 t1", "t0 t1 t0"
 
 
-def test_exact_steals_take_the_fewest_ticks() -> None:
-    """The first agent forgets both threads behind the yield, and is told of both again: it steals the first one, by
-    its name, or the one that did not run yet. `fifo` has both alike, and then the name counts."""
-    text = "cpus = 2\n" + thread(0, 1, "yield 5", "die 1") + thread(0, 1, "die 1") + restart(0, 2)
-    by_name, by_ticks = ["t0", "t0", "t1"], ["t0", "t1", "t0"]
-    wanted = {"least-ran": by_name, "least-ran exact": by_ticks, "fifo": by_name, "fifo exact": by_name}
-    for policy, threads in wanted.items():
-        same(commits_of(script_of(policy, text)), threads, policy)
+@rig.each({
+    # One agent, and three threads that are there before it looks: each runs as soon as it has the fewest ticks.
+    "come first": ("cpus = 1\n" + thread(0, 1, "yield 5", "die 1") + thread(0, 1, "yield 3", "die 1")
+                   + thread(0, 1, "yield 1", "yield 1", "die 1"),
+                   {"fifo": "t0 t1 t2 t0 t1 t2 t2", "least-ran": "t0 t1 t2 t2 t2 t1 t0"}),
+    # The first agent forgets both threads behind the yield, and is told of both again: it steals the first one, by its name, or
+    # the one that did not run yet. `fifo` has both alike, and then the name counts.
+    "are stolen exactly": ("cpus = 2\n" + thread(0, 1, "yield 5", "die 1") + thread(0, 1, "die 1") + restart(0, 2),
+                           {"least-ran": BY_NAME, "least-ran exact": BY_TICKS, "fifo": BY_NAME, "fifo exact": BY_NAME}),
+})
+def test_the_fewest_ticks(text: str, wanted: dict[str, str]) -> None:
+    same({policy: " ".join(script_of(policy, text)[1]) for policy in wanted}, wanted)
 
 
 def test_a_run_of_one_agent_commits_what_it_picks() -> None:
@@ -140,10 +135,9 @@ def test_a_run_of_one_agent_commits_what_it_picks() -> None:
     for _ in range(DRAWN // 4):
         text = "cpus = 1\n" + "".join(thread(0, 1, *drawn_steps(rng, range(1, 7), range(10), range(1, 2))) for _ in range(5))
         for policy in others:
-            lines = script_of(policy, text)
-            same(picked(policy, lines), commits_of(lines), (policy, text))
-            other = "least-ran" if policy.startswith("fifo") else "levels"
-            others[policy] += picked(other, lines) != commits_of(lines)
+            lines, commits = script_of(policy, text)
+            same(picked(policy, lines), commits, (policy, text))
+            others[policy] += picked("least-ran" if policy.startswith("fifo") else "levels", lines) != commits
     assert all(others.values()), others
 
 
@@ -154,7 +148,7 @@ def test_who_commits_or_sleeps_has_read_all() -> None:
     for _ in range(DRAWN):
         text = drawn(rng)
         looked = []
-        for line in script_of("levels", text):
+        for line in script_of("levels", text)[0]:
             verb, *words = line.split()
             looked += [f"publish {words[0]}", line] if verb in ("commit", "sleep") else [line]
         replies = rig.ask("replay", given="\n".join([*looked, ""])).stdout.splitlines()

@@ -47,9 +47,8 @@ FOUND_BY_NAME = re.compile(r"^(?:tests/(?:cases|lab_faults)/|examples/lab/worked
 
 def all_files(root):
     """The files of the repository, without what is built."""
-    for path in sorted(root.rglob("*")):
-        if path.is_file() and not UNTRACKED & set(path.relative_to(root).parts):
-            yield path
+    paths = (path for path in sorted(root.rglob("*")) if not UNTRACKED & set(path.relative_to(root).parts))
+    return filter(pathlib.Path.is_file, paths)
 
 
 def in_strings(text):
@@ -140,11 +139,9 @@ def numbers(root):
     """What is cited by a number, in sources, documents and tests; the cases' own texts aside."""
     paths = {str(path.relative_to(root)): path for path in all_files(root) if path.suffix in SOURCES}
     looked_at = [name for name in paths if not name.startswith("tests/cases/") and name != "tests/tidy.py"]
-    findings = []
-    for name in looked_at:
-        text = paths[name].read_text(errors="replace")
-        if cited := NUMBERED.search(text):
-            findings.append(f"{name}:{text.count(chr(10), 0, cited.start()) + 1}: it cites `{cited[0]}`")
+    texts = ((name, paths[name].read_text(errors="replace")) for name in looked_at)
+    findings = [f"{name}:{text.count(chr(10), 0, cited.start()) + 1}: it cites `{cited[0]}`"
+                for name, text in texts if (cited := NUMBERED.search(text))]
     return len(looked_at), findings
 
 
@@ -154,8 +151,7 @@ def titles(root):
         return 0, []
     log = ["git", "-C", str(root), "log", "--format=%h %s", f"--since={TITLES_SINCE}"]
     told = [line.partition(" ") for line in subprocess.run(log, capture_output=True, text=True).stdout.splitlines()]
-    wide = [(commit, len(title)) for commit, _, title in told if len(title) > TITLE_WIDTH]
-    findings = [f"commit {commit}: its title has {length} columns" for commit, length in wide]
+    findings = [f"commit {commit}: its title has {len(title)} columns" for commit, _, title in told if len(title) > TITLE_WIDTH]
     words = ((commit, UNDER_WAY.search(title)) for commit, _, title in told)
     findings += [f"commit {commit}: `{word[0]}` is no word of a title" for commit, word in words if word]
     return len(told), findings
@@ -202,9 +198,8 @@ def pairs(root):
     for kind, (_, sorts) in TWIN_KINDS.items():
         for lines, stands in places[kind].items():
             if len(stands) <= TWIN_PLACES and len(set(lines)) >= sorts:
-                for (one, at), (other, there) in itertools.combinations(stands, 2):
-                    if one != other or abs(at - there) >= TWIN_LINES:
-                        found.add((min(one, other), max(one, other)))
+                found |= {(min(one, other), max(one, other)) for (one, at), (other, there) in itertools.combinations(stands, 2)
+                          if one != other or abs(at - there) >= TWIN_LINES}
     return read, found
 
 

@@ -12,7 +12,7 @@ from collections import Counter, defaultdict
 import rig
 from kernel import WORD64, answered, ticks_of
 from pictures import (
-    ENCLAVE, LEFT, MOST_SINGLE, ROWS, SCRIPTS, SINGLE_WORDS, SVG, WHOLE, Bar, Part, Picture, Steps, answers_to, are_one, bars_of, bars_told,
+    ENCLAVE, LEFT, MOST_SINGLE, ROWS, SCRIPTS, SINGLE_WORDS, SVG, WHOLE, Bar, Part, Picture, Steps, are_one, bars_of, bars_told,
     draw, drawn_script, edges_of, front_of, many, refused_words, shown_often, steps_of, story_of, x_of,
 )
 from rig import ROOT, good, outcome, same
@@ -21,6 +21,7 @@ DRAWN = 100
 # A bar, from where to where it goes, and the ticks that its title tells.
 Timed = tuple[Bar, tuple[int, int]]
 TICKS = r"ticks? (\d+)(?: to (\d+))?"
+POSTED = re.compile(r"ok (?:t\d+ n\d+|-) q(\d+) a\d+ wake .*")
 # What looks like a line that tells a tick, and tells none.
 NO_TICKS = [
     "# at x", "#at 5", "# at 5 6", "# at 05", "# at", "# at ", "#  at 5", "# at  5", "# at 5 ", "# at +5", "# at -5", "# at 5.0", "# at 5us", "# At 5", "## at 5",
@@ -155,7 +156,7 @@ def shown_by_ticks(script: str, part: Part = WHOLE) -> Counter[str]:
 def marks_by_ticks(picture: Picture, script: str, axis: Axis, ticks: dict[int, int], first: int) -> Counter[str]:
     """Holds the place of each mark of a single step against its tick, and that of each arrow against the tick at which it was sent, or where the part
     begins whose first line this is."""
-    told = ((number, re.fullmatch(r"ok d(\d+) items \d+", answer)) for number, _, answer in answered(script, answers_to(script)))
+    told = ((number, re.fullmatch(r"ok d(\d+) items \d+", answer)) for number, _, answer in answered(script, rig.replay(script)))
     sent, marks = {int(delta[1]): number for number, delta in told if delta}, Counter[str]()
     for text, element in picture.shapes:
         crash = re.fullmatch(r"crash \d+, line (\d+)", text)
@@ -212,8 +213,7 @@ def test_many_steps_over_many_ticks() -> None:
     for cpus, gap in ((2, 300_000), (2, 20), (8, 1), (64, 700)):
         with rig.about(cpus, gap):
             script = spread(many(cpus, 20_000), gap)
-            picture = timed(script)
-            ticks, story = ticks_of(script), story_of(script)
+            picture, ticks, story = timed(script), ticks_of(script), story_of(script)
             axis = Axis(list(ticks.values()), cpus)
             same(picture.title, story.heading)
             same(runs_in(picture, axis), runs_by_column(script, axis, ticks, cpus))
@@ -232,10 +232,9 @@ def test_parts_of_many_steps_over_many_ticks() -> None:
         with rig.about(first):
             part = {number: tick for number, tick in ticks.items() if first <= number <= last}
             assert len(part) > 1_000
-            axis = Axis(list(part.values()), 4)
-            shown = runs_in(timed(script, flags=("--lines", f"{first}-{last}")), axis)
+            axis, flags = Axis(list(part.values()), 4), ("--lines", f"{first}-{last}")
+            shown, some = (runs_in(timed(script, flags=(*flags, *more)), axis) for more in ([], ["--cpus", "1-2"]))
             same(shown, runs_by_column(script, axis, part, 4))
-            some = runs_in(timed(script, flags=("--lines", f"{first}-{last}", "--cpus", "1-2")), axis)
             same(some, {place: what for place, what in shown.items() if place[0] in (1, 2)})
 
 
@@ -253,7 +252,7 @@ def runs_by_column(script: str, axis: Axis, ticks: dict[int, int], cpus: int) ->
     have a tick was before the first tick, and what comes behind them is left out."""
     spans: list[tuple[int, int, int, int]] = []
     on: dict[int, tuple[int, int]] = {}
-    for number, words, answer in answered(script, answers_to(script)):
+    for number, words, answer in answered(script, rig.replay(script)):
         if number <= max(ticks) and words[0] in ("commit", "block") and answer.startswith("ok"):
             cpu, tick = int(words[1]), ticks.get(number, axis.first)
             if words[0] == "commit":
@@ -293,10 +292,8 @@ def runs_in(picture: Picture, axis: Axis) -> dict[tuple[int, int], str]:
 
 def posts_by_column(script: str, axis: Axis, ticks: dict[int, int]) -> Counter[tuple[int, int]]:
     """How many posts to each queue there are up to the end of each run of columns: how many in which column."""
-    posts: Counter[tuple[int, int]] = Counter()
-    for number, _, answer in answered(script, answers_to(script)):
-        if posted := re.fullmatch(r"ok (?:t\d+ n\d+|-) q(\d+) a\d+ wake .*", answer):
-            posts[int(posted[1]), axis.column(ticks[number])] += 1
+    told = ((number, POSTED.fullmatch(answer)) for number, _, answer in answered(script, rig.replay(script)))
+    posts = Counter((int(posted[1]), axis.column(ticks[number])) for number, posted in told if posted)
     return in_runs(posts, set(posts))
 
 
@@ -329,10 +326,8 @@ def test_many_steps_in_one_tick() -> None:
 
 
 def test_many_moves_are_drawn_over_all_ticks() -> None:
-    lines = ["enclave 2 4096 100000 4096 100000", "create 0 3 ready", "publish 0", "consume 0"]
-    for place in range(1_800):
-        lines += [f"# at {place * place}", f"associate t0 {(place + 1) % 2} 1"]
-    script = "\n".join(lines) + "\n"
+    script = "enclave 2 4096 100000 4096 100000\ncreate 0 3 ready\npublish 0\nconsume 0\n"
+    script += "".join(f"# at {place * place}\nassociate t0 {(place + 1) % 2} 1\n" for place in range(1_800))
     picture, ticks = timed(script), ticks_of(script)
     axis = Axis(list(ticks.values()), 2)
     arrows = [(x_of(it)[0], int(found[1])) for found, it in picture.found(r"t0 moved.*, line (\d+).*")]

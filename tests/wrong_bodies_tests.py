@@ -8,6 +8,7 @@ import os
 import pathlib
 import sys
 import tomllib
+from collections.abc import Callable
 
 import rig
 from rig import ROOT, same
@@ -21,9 +22,8 @@ UNPROVED = "fn low::{}: no proof: expected answers in ./proofs/x/Answers.antt; `
 
 class WrongBodies:
     def __init__(self, root: pathlib.Path) -> None:
-        self.root = root
-        self.bodies = self.root / "crates/low/wrong-bodies"
-        for it in (self.bodies, self.root / "crates/low/src", self.root / "crates/low/out", self.root / "bin", self.root / "tests"):
+        self.root, self.bodies, self.table = root, root / "crates/low/wrong-bodies", root / "tests/wrong_bodies.txt"
+        for it in (self.bodies, root / "crates/low/src", root / "crates/low/out", root / "bin", root / "tests"):
             it.mkdir(parents=True)
         (self.root / "crates/low/src/count.rt").write_text(SOURCE)
         self.put_edits(EDITS)
@@ -32,15 +32,14 @@ class WrongBodies:
         says = repr(str(self.root / "says"))
         rattle = MADE_UP["rattle"].replace("SAYS)", f"{says})").replace("SAYS +", f"{says} +")
         for name, text in {"rattle": rattle, "rt": "#!/bin/sh\n", "rtlib.py": MADE_UP["rtlib"]}.items():
-            (self.root / "bin" / name).write_text(text)
-            (self.root / "bin" / name).chmod(0o755)
+            rig.put_command(self.root / "bin" / name, text)
 
     def put_edits(self, edits: dict[str, str]) -> None:
         for name, text in edits.items():
             (self.bodies / f"{name}.edit").write_text(f"file: src/count.rt\n{text}\n")
 
     def put_table(self, rows: dict[str, str]) -> None:
-        (self.root / "tests/wrong_bodies.txt").write_text("".join(f"low/{name}: {row}\n" for name, row in rows.items()))
+        self.table.write_text("".join(f"low/{name}: {row}\n" for name, row in rows.items()))
 
     def put_says(self, says: dict[str, str]) -> None:
         (self.root / "says").write_text(json.dumps(says))
@@ -82,12 +81,11 @@ def test_those_that_change_one_function_of_a_trait_are_tried_one_after_another(i
 
 def test_other_functions_have_no_bodies(it: WrongBodies) -> None:
     it.run_it()
-    text = (it.root / "says.text").read_text()
     emptied = SOURCE.replace("    if count > 9 {\n        return 9;\n    }\n    count - 1\n", "unreachable!()\n")
     emptied = emptied.replace("        self.count() == 0\n", "unreachable!()\n")
     changed = emptied.replace("value: 0", "value: 1").replace("told.len()", "told.len() * 2").replace("count + 1", "count")
     copy = "\npub const fn more_copied_1(count: u64) -> u64\n    ensures { result }\n{\n    count + 2\n}\n"
-    same(text, changed.replace("    count\n}\n", f"    count\n}}\n{copy}"))
+    same((it.root / "says.text").read_text(), changed.replace("    count\n}\n", f"    count\n}}\n{copy}"))
 
 
 def test_what_other_functions_promise_is_taken_as_proved(it: WrongBodies) -> None:
@@ -133,15 +131,25 @@ def test_fails(it: WrongBodies, says: dict[str, str], row: str, words: str) -> N
     it.fails_by(words)
 
 
-def test_a_row_of_none_fails(it: WrongBodies) -> None:
-    (it.bodies / "more-is-none.edit").unlink()
-    it.fails_by("low/more-is-none: tests/wrong_bodies.txt names it, and it is not there")
+NOT_APPLIED, UNREAD = "low/more-is-two: it cannot be tried", "tests/wrong_bodies.txt, line"
+NO_VERDICT = "low/none-is-one: the check came to no verdict"
 
 
-@rig.each({text: (text,) for text in ("old: count + 3\nnew: count", "old: Count\nnew: Sum", "new: x")})
-def test_one_that_cannot_be_applied_fails(it: WrongBodies, text: str) -> None:
-    it.put_edits({"more-is-two": text})
-    it.fails_by("low/more-is-two: it cannot be tried")
+# What is done, and what is told then.
+@rig.each({
+    "a row of none": (lambda it: (it.bodies / "more-is-none.edit").unlink(),
+                      "low/more-is-none: tests/wrong_bodies.txt names it, and it is not there"),
+    "an old text that is not there": (lambda it: it.put_edits({"more-is-two": "old: count + 3\nnew: count"}), NOT_APPLIED),
+    "an old text that stands more often": (lambda it: it.put_edits({"more-is-two": "old: Count\nnew: Sum"}), NOT_APPLIED),
+    "no old text": (lambda it: it.put_edits({"more-is-two": "new: x"}), NOT_APPLIED),
+    "an error": (lambda it: it.put_says({"": "src/count.rt:3:1: error: this is no Rattle"}), NO_VERDICT),
+    "no verdict": (lambda it: it.put_says({"": "rattle: out of memory"}), NO_VERDICT),
+    "a table that cannot be read": (lambda it: it.table.write_text("low/x\n"), UNREAD),
+    "a table in another order": (lambda it: it.table.write_text("low/b: f g\nlow/a: f g\n"), UNREAD),
+})
+def test_change_fails(it: WrongBodies, change: Callable[[WrongBodies], object], words: str) -> None:
+    change(it)
+    it.fails_by(words)
 
 
 def test_one_that_fails_elsewhere_wants_a_reason(it: WrongBodies) -> None:
@@ -151,20 +159,6 @@ def test_one_that_fails_elsewhere_wants_a_reason(it: WrongBodies) -> None:
     it.fails_by("low/more-is-two: it fails in another function than it changes")
     it.put_table(TABLE | {"more-is-two": f"{elsewhere} | none counts by it"})
     same(it.run_it(), (0, ["4 passed, 0 failed"]))
-
-
-def test_a_check_without_verdict_fails(it: WrongBodies) -> None:
-    for said in ("src/count.rt:3:1: error: this is no Rattle", "rattle: out of memory"):
-        with rig.about(said):
-            it.put_says({"": said})
-            it.fails_by("low/none-is-one: the check came to no verdict")
-
-
-def test_a_table_that_cannot_be_read_fails(it: WrongBodies) -> None:
-    for text in ("low/x\n", "low/b: f g\nlow/a: f g\n"):
-        with rig.about(text):
-            (it.root / "tests/wrong_bodies.txt").write_text(text)
-            it.fails_by("tests/wrong_bodies.txt, line")
 
 
 def test_what_is_told_is_printed_as_a_table(it: WrongBodies) -> None:

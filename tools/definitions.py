@@ -39,10 +39,8 @@ def files_of(crate):
     folder = ROOT / "crates" / crate / "specs"
     listed = re.findall(r"^pub mod (\w+)$", (folder / "Lib.antt").read_text(), re.M)
     names = [name for name in listed if name != "Inner" and (folder / f"{name}.antt").is_file()]
-    uses = {}
-    for name in names:
-        used = re.findall(rf"^use Rattle\.{crate}\.specs\.(\w+)", (folder / f"{name}.antt").read_text(), re.M)
-        uses[name] = {other for other in used if other in names and other != name}
+    used = re.compile(rf"^use Rattle\.{crate}\.specs\.(\w+)", re.M)
+    uses = {name: {*used.findall((folder / f"{name}.antt").read_text())} & {*names} - {name} for name in names}
     ordered = []
     while left := [name for name in names if name not in ordered]:
         ordered.append(next((name for name in left if uses[name] <= set(ordered)), left[0]))
@@ -90,6 +88,11 @@ def wrapped(text, first="", rest=""):
     return textwrap.fill(text, WIDTH, **indents, break_long_words=False, break_on_hyphens=False)
 
 
+def listed(item):
+    told, indent = f"`{item.name}`" + (f": {item.comment}" if item.comment else ""), "  " * item.is_field
+    return wrapped(told, indent + "- ", indent + "  ")
+
+
 def document():
     parts = [HEAD]
     for crate in crates():
@@ -103,12 +106,7 @@ def document():
                 is_text = isinstance(item, str)
                 if (is_text or not in_list) and piece[-1][-1:] != "\n":
                     piece.append("")
-                if is_text:
-                    piece.append(wrapped(item) + "\n")
-                else:
-                    told = f"`{item.name}`" + (f": {item.comment}" if item.comment else "")
-                    indent = "  " * item.is_field
-                    piece.append(wrapped(told, indent + "- ", indent + "  "))
+                piece.append(wrapped(item) + "\n" if is_text else listed(item))
                 in_list = not is_text
             parts.append("\n".join(piece).rstrip("\n") + "\n")
     return "\n".join(parts + [table()])
@@ -130,10 +128,10 @@ def bare():
     """The definitions that have no comment."""
     found = []
     for path in (path for crate in crates() for path in files_of(crate)):
-        head, items = read(path)
-        found += [] if head else [f"{path.relative_to(ROOT)}:1: no comment at its head"]
+        (head, items), name = read(path), path.relative_to(ROOT)
         bare = (it for it in items if not isinstance(it, str) and not it.comment and it.kind != "mod")
-        found += [f"{path.relative_to(ROOT)}:{it.line}: `{it.name}` has no comment" for it in bare]
+        found += [] if head else [f"{name}:1: no comment at its head"]
+        found += [f"{name}:{it.line}: `{it.name}` has no comment" for it in bare]
     return found
 
 

@@ -58,11 +58,8 @@ def forms() -> list[list[str]]:
     """The words of each command, one list for each way to write it, as the program's own table has them."""
     told = subprocess.run([program() or "pc-sim", "session"], input="?\n", capture_output=True, text=True).stderr.splitlines()
     rows = [line.split() for line in told if re.fullmatch(r"[a-z]+(?: (?:[A-Z]+|[\w|-]*\|[\w|-]*|\[\w+\]))+", line)]
-    made = []
-    for row in rows:
-        places = [["", word[1:-1]] if word.startswith("[") else word.split("|") for word in row]
-        made += [[word for word in words if word] for words in itertools.product(*places)]
-    return made
+    places = [[["", word[1:-1]] if word.startswith("[") else word.split("|") for word in row] for row in rows]
+    return [[word for word in words if word] for row in places for words in itertools.product(*row)]
 
 
 @functools.cache
@@ -80,9 +77,7 @@ def is_word(form: str, word: str) -> bool:
 
 def words_of(line: bytes) -> list[str]:
     """The words of a line, none where it is silent. Bytes that are no text stay apart from all words."""
-    if line.startswith(b"#"):
-        return []
-    return [word for word in line.removesuffix(b"\r").decode("latin-1").split(" ") if word]
+    return [] if line.startswith(b"#") else [it for it in line.removesuffix(b"\r").decode("latin-1").split(" ") if it]
 
 
 def fields_of(words: list[str], version: int) -> list[int | str] | None:
@@ -235,16 +230,14 @@ class Kernel:
         """The answer to a command."""
         self.had_event |= verb not in BEFORE_EVENTS
         try:
-            answer: str = self.leave(verb, *fields) if verb in LEAVES else getattr(self, verb)(*fields)  # type: ignore[arg-type]
+            return self.leave(verb, *fields) if verb in LEAVES else getattr(self, verb)(*fields)  # type: ignore
         except Refused as refusal:
             return f"refused {refusal}"
-        return answer
 
     def say(self, line: str) -> str:
         """The answer to a command that is spelled without a fault."""
         verb, *words = line.split()
-        fields: list[int | str] = [int(word.removeprefix("t")) if word[-1].isdigit() else word for word in words]
-        return self.ask(verb, *fields)
+        return self.ask(verb, *(int(word.removeprefix("t")) if word[-1].isdigit() else word for word in words))
 
     def need(self, holds: object, refusal: object) -> None:
         if not holds:
@@ -279,7 +272,8 @@ class Kernel:
         it.posts += 1
         if item:
             self.pending[item[0]] += 1
-        if (woken := it.target if it.target is not None and self.sleeps[it.target] else None) is not None:
+        woken = it.target if it.target is not None and self.sleeps[it.target] else None
+        if woken is not None:
             self.sleeps[woken] = False
         subject = f"t{item[0]} n{item[1]}" if item else "-"
         return f"ok {subject} q{queue} a{it.posts} wake {'-' if woken is None else woken}"
@@ -352,11 +346,8 @@ class Kernel:
         self.need(thread.cpu is None, f"Running {thread.cpu}")
         self.need(thread.now.may_run(cpu), "Forbidden")
         self.need(self.running[cpu] is None, "Busy")
-        return self.put_on(thread, cpu)
-
-    def put_on(self, thread: Thread, cpu: int) -> str:
-        self.running[cpu], thread.cpu = thread.name, cpu
-        return f"ok t{thread.name} c{cpu}"
+        self.running[cpu], thread.cpu = name, cpu
+        return f"ok t{name} c{cpu}"
 
     def sleep(self, cpu: int, aseq: int) -> str:
         self.need_cpus(cpu)
@@ -440,8 +431,7 @@ class Kernel:
             return
         self.need_cpus(cpu)
         self.need(self.running[cpu] is None, "Busy")
-        thread = self.thread_at(int(placed[1]))
-        told = ""
+        thread, told = self.thread_at(int(placed[1])), ""
         if verb == "steal" or verb == "mend" and thread.home != cpu:
             told = self.associate(thread.name, cpu, thread.number)
         if verb != "steal":
@@ -526,10 +516,9 @@ class World(Kernel):
     def candidates(self, cpu: int) -> Iterator[tuple[Rank, int]]:
         """The threads that a steal may take, each with what comes first where it counts; those of which all is known, where it is exact."""
         agent = self.agents[cpu]
-        listed = set(agent.names)
-        for name, upto in agent.upto.items():
-            thread = self.threads[name]
-            if thread.cpu is None and name not in listed and upto and thread.reports[upto - 1].may_run(cpu):
+        for name in agent.upto.keys() - set(agent.names):
+            thread, upto = self.threads[name], agent.upto[name]
+            if thread.cpu is None and upto and thread.reports[upto - 1].may_run(cpu):
                 if not self.exact:
                     yield (0, 0), name
                 elif upto == thread.number:
@@ -537,8 +526,7 @@ class World(Kernel):
 
     def target(self, cpu: int) -> int | None:
         """The thread that a steal tries."""
-        first = min(self.candidates(cpu), default=None)
-        return first[1] if first else None
+        return min(self.candidates(cpu), default=((0, 0), None))[1]
 
     def steal(self, cpu: int) -> str:
         self.need_cpus(cpu)
@@ -616,17 +604,14 @@ class Talk:
         if (fields := fields_of(words, self.version)) is None:
             self.faults += 1
             return f"fault line {self.number}"
-        if words[0] == "enclave":
-            return self.open([int(it) for it in fields])
-        return "refused NoEnclave" if self.world is None else self.world.ask(words[0], *fields)
-
-    def open(self, limits: list[int]) -> str:
+        if words[0] != "enclave":
+            return "refused NoEnclave" if self.world is None else self.world.ask(words[0], *fields)
         if self.world is not None:
             return "refused HaveEnclave"
+        limits = [int(it) for it in fields]
         if name := bad_limit(limits, self.version):
             return f"refused BadLimits {name}"
-        cpus, threads, numbers, room, posts = limits
-        self.world = World(cpus, threads, numbers, room, posts)
+        self.world = World(*limits)
         return "ok"
 
 
@@ -634,8 +619,8 @@ def told_of(script: bytes, goes_on: bool = False) -> tuple[str, int]:
     """What a replay writes of a script, and its status; or a session, which goes on behind a fault."""
     talk, answers = Talk(), []
     for line in script.split(b"\n"):
-        answer = talk.take(line)
-        answers += [] if answer is None else [answer + "\n"]
+        if (answer := talk.take(line)) is not None:
+            answers.append(answer + "\n")
         if talk.faults and not goes_on:
             break
     return "".join(answers), 1 if talk.faults else 0

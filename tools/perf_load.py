@@ -37,8 +37,9 @@ def waits_told(head: str, waits: list[int], percents: tuple[int, ...]) -> dict[s
     return rows | {f"{head} max": waits[-1] if waits else None, f"{head} sum": sum(waits)}
 
 
-def table(title: str, *rows: str) -> str:
-    return f"\n# {title}\n[[thread]]\n" + "".join(f"{row}\n" for row in rows)
+def table(title: str, queue: int, mask: int, steps: list[tuple[str, int]], start: str = "", sleeps: str = "") -> str:
+    words = ", ".join(f'"{word} {ticks}"' for word, ticks in steps)
+    return f"\n# {title}\n[[thread]]\nqueue = {queue}\nmask = {mask}\n{start}steps = [{words}]\n{sleeps}"
 
 
 class Lives:
@@ -101,12 +102,10 @@ class Lives:
         steps = [("preempt" if word == "yield" else word, ticks) for word, ticks in life.steps[:MOST_STEPS]]
         self.left_out[f"runs past {MOST_STEPS:,} of a thread"] += len(life.steps) - len(steps)
         steps[-1] = ("die", steps[-1][1])
-        words = ", ".join(f'"{word} {ticks}"' for word, ticks in steps)
         sleeps = life.sleeps[: sum(word == "block" for word, _ in steps)]
         mask = (1 << self.cpus) - 1 & MASK
         queue = life.queue if mask >> life.queue & 1 else 0
-        rows = (f"queue = {queue}", f"mask = {mask}", f"start = {life.start}", f"steps = [{words}]", f"sleeps = {sleeps}")
-        return table(life.title, *rows)
+        return table(life.title, queue, mask, steps, f"start = {life.start}\n", f"sleeps = {sleeps}\n")
 
     def settings(self) -> str:
         """Threads by their names, on the CPUs on which they ran; who was not seen to die dies in the last run."""
@@ -119,10 +118,9 @@ class Lives:
             return ""
         steps = life.steps[:SETTINGS_STEPS]
         self.left_out_of_settings[f"runs past {SETTINGS_STEPS:,} of a thread"] += len(life.steps) - len(steps)
-        words = ", ".join(f'"{word} {ticks}"' for word, ticks in [*steps[:-1], ("die", steps[-1][1])])
         first = life.cpus[0]
         queue = first if mask >> first & 1 else (mask & -mask).bit_length() - 1
-        return table(f"{life.title}, {life.pid}", f"queue = {queue}", f"mask = {mask}", f"steps = [{words}]")
+        return table(f"{life.title}, {life.pid}", queue, mask, [*steps[:-1], ("die", steps[-1][1])])
 
     def rows(self, makespan: int) -> str:
         """The recorded numbers, by the names that a lab's table has for them."""

@@ -29,14 +29,10 @@ class Model:
         self.refused: Counter[tuple[str, str]] = Counter()  # by command and refusal
 
     def write(self, line: str) -> None:
-        if self.tells_times and self.tick != self.told_tick:
-            self.told_tick = self.tick
-            self.add(f"# at {self.tick}")
-        self.add(line)
-
-    def add(self, line: str) -> None:
-        self.lines.append(line)
-        self.length += len(line) + 1
+        told = [f"# at {self.tick}"] if self.tells_times and self.tick != self.told_tick else []
+        self.told_tick = self.tick
+        self.lines += [*told, line]
+        self.length += sum(len(it) + 1 for it in [*told, line])
 
     def comment(self, text: str) -> None:
         self.write("# " + plain(text))
@@ -102,8 +98,7 @@ class Model:
 
     def text(self) -> str:
         """The whole script. Its limits are those of the first version where the threads are few enough."""
-        threads, wide = len(self.pids), len(self.pids) > MOST_THREADS_BY_DEFAULT
-        numbers = NUMBERS if wide else NUMBERS_BY_DEFAULT
-        head = ["version 2"] if wide else []
-        head.append(f"enclave {self.kernel.cpus} {max(threads, 1)} {numbers} {ROOM} {POSTS}")
-        return "".join(line + "\n" for line in [*head, *self.lines])
+        is_wide = len(self.pids) > MOST_THREADS_BY_DEFAULT
+        numbers = NUMBERS if is_wide else NUMBERS_BY_DEFAULT
+        enclave = f"enclave {self.kernel.cpus} {max(len(self.pids), 1)} {numbers} {ROOM} {POSTS}"
+        return "".join(line + "\n" for line in [*["version 2"] * is_wide, enclave, *self.lines])

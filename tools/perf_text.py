@@ -69,11 +69,9 @@ def head_of(line: str) -> tuple[str, int, int, int, str] | None:
     for stamp in STAMP.finditer(line):
         front = line[begin : stamp.start()]
         comm, blank, pid = front.rstrip(" ").rpartition(" ")
-        found = PID.fullmatch(pid)
+        found, (cpu, seconds, fraction) = PID.fullmatch(pid), stamp.groups()
         if found and blank and front.endswith(" ") and not comm[0].isspace():
-            cpu, seconds, fraction = stamp.groups()
-            time = int(seconds + fraction.ljust(9, "0"))
-            return comm.rstrip(" "), int(found[1]), int(cpu), time, line[stamp.end() :]
+            return comm.rstrip(" "), int(found[1]), int(cpu), int(seconds + fraction.ljust(9, "0")), line[stamp.end() :]
     return None
 
 
@@ -115,11 +113,10 @@ class Recording:
                 raise ValueError
             self.passed["lines of call chains"] += 1
             return
-        comm, pid, cpu, time, text = head
-        if lost := LOST.match(text):
+        if lost := LOST.match(head[-1]):
             self.passed["events lost by perf"] += int(lost[1])
         else:
-            self.take_event(comm, pid, cpu, time, text)
+            self.take_event(*head)
         self.read += 1
 
     def take_event(self, comm: str, current: int, cpu: int, time: int, text: str) -> None:
@@ -150,9 +147,7 @@ class Recording:
 
 def plain(text: str) -> str:
     """The text with a question mark for each character that is not a plain one: it goes into comments and messages."""
-    if text.isascii() and text.isprintable():
-        return text
-    return "".join(c if " " <= c <= "~" else "?" for c in text)
+    return text if text.isascii() and text.isprintable() else "".join(c if " " <= c <= "~" else "?" for c in text)
 
 
 def read_recording(lines: Iterable[str], limit: int | None) -> Recording:
@@ -245,8 +240,7 @@ def leaves_kind(state: str) -> str:
 
 
 def facts_of(events: list[Event]) -> Facts:
-    facts = Facts()
-    overlaps = Overlaps(facts)
+    overlaps = Overlaps(facts := Facts())
     for place, event in enumerate(events):
         note_names(facts, event)
         overlaps.note(place, event)
@@ -256,10 +250,8 @@ def facts_of(events: list[Event]) -> Facts:
 
 def note_names(facts: Facts, event: Event) -> None:
     """A kernel thread has such a name, was forked by kthreadd, or left a CPU idle or parked, as no other does."""
-    told = [(event.pid, event.comm)]
-    if event.kind in (SWITCH, FORK):
-        told.append((event.other, event.other_comm))
-    for pid, comm in told:
+    others = [(event.other, event.other_comm)] if event.kind in (SWITCH, FORK) else []
+    for pid, comm in [(event.pid, event.comm), *others]:
         if facts.names.get(pid) != comm:
             facts.names[pid] = comm
             if KERNEL_NAMES.fullmatch(comm):

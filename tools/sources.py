@@ -80,10 +80,8 @@ class Crate:
     """The names of one crate's sources and definitions."""
 
     def __init__(self, folder):
-        self.name = folder.name
-        self.folder = folder
-        self.functions, self.tests, self.types, self.words = [], [], set(), set()
-        self.traits, self.met = set(), set()
+        self.name, self.folder = folder.name, folder
+        self.functions, self.tests, self.types, self.words, self.traits, self.met = [], [], set(), set(), set(), set()
         for path in sorted(folder.glob("src/**/*.rt")):
             module = str(path.relative_to(folder / "src").with_suffix(""))
             is_test = module == "tests" or module.startswith("tests/")
@@ -92,15 +90,13 @@ class Crate:
         text = (root if root.is_file() else folder / "src/main.rt").read_text()
         self.is_program = not root.is_file()
         self.open_modules = set(re.findall(r"^pub mod (\w+);", text, re.M))
-        self.exports = set()
-        for many, one in re.findall(r"^pub use [\w:]*::(?:\{([^}]*)\}|(\w+));", text, re.M):
-            self.exports |= set(IDENTIFIER.findall(many or one))
+        used = re.findall(r"^pub use [\w:]*::(?:\{([^}]*)\}|(\w+));", text, re.M)
+        self.exports = {name for many, one in used for name in IDENTIFIER.findall(many or one)}
         self.definitions, self.fields = {}, {}
         for path in folder.glob("specs/**/*.antt"):
             module = ".".join(path.relative_to(folder / "specs").with_suffix("").parts)
             found = re.findall(r"^\s*(?:[a-z]+ )*?pub (?:record |data |mod )?([^\s:(){}]+)", path.read_text(), re.M)
-            constructors = re.findall(r"^  (\w+) :", path.read_text(), re.M)
-            self.definitions[module] = set(found) | set(constructors)
+            self.definitions[module] = {*found, *re.findall(r"^  (\w+) :", path.read_text(), re.M)}
             for name, fields in RECORD.findall(path.read_text()):
                 self.fields[name] = dict.fromkeys(re.findall(r"^  pub (\w+) :", fields, re.M))
 
@@ -201,5 +197,4 @@ class Sources:
 
     def left_by(self, function):
         """The clauses that tell what the call leaves where it finds no memory, or why none does."""
-        told = [word for word in self.clauses_of(function) if word in LEAVING]
-        return told or LEFT_BY.get(str(function), [])
+        return [it for it in self.clauses_of(function) if it in LEAVING] or LEFT_BY.get(str(function), [])
