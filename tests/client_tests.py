@@ -45,9 +45,8 @@ SESSIONS = re.split(r"^(?=\S.*\.\n\n)", (ROOT / "tests/client_session.txt").read
 @rig.each({part.partition(".\n")[0]: (part,) for part in SESSIONS if ">>>" in part})
 def test_session(text: str) -> None:
     names = {**vars(nimhessian), "commands": commands, "refusal": refusal, "rig": rig}
-    told = io.StringIO()
-    tried = doctest.DocTestRunner().run(
-        doctest.DocTestParser().get_doctest(text, names, "session", "client_session.txt", 0), out=told.write)
+    told, session = io.StringIO(), doctest.DocTestParser().get_doctest(text, names, "session", "client_session.txt", 0)
+    tried = doctest.DocTestRunner().run(session, out=told.write)
     assert tried.attempted and not tried.failed, told.getvalue()
 
 

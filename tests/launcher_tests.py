@@ -707,48 +707,33 @@ def test_a_tree_that_cannot_be_written_takes_no_released_program(it: Launcher) -
 def test_the_released_program_is_compared_with_the_one_that_was_built(it: Launcher) -> None:
     it.put_release()
     sources, _, program, *_ = (it.release / "SUMS").read_text().split()
-    none = ["released: release/ has no program of these sources", "0 passed, 0 failed"]
-    before = it.top / "before"
+    passed, failed, other = "1 passed, 0 failed", "0 passed, 1 failed", PROGRAM + "# other\n"
+    unbuilt, none = "no program was built in this run", "released: release/ has no program of these sources\n0 passed, 0 failed"
+    other_kit = "released: release/ has the program that another kit makes, kit-one\n0 passed, 0 failed"
 
     def begin() -> None:
-        same(it.run_it("--before", str(before), command="tools/released"), (0, "", ""))
+        same(it.run_it("--before", str(it.top / "before"), command="tools/released"), (0, "", ""))
 
-    def told_by(status: int, *last: str, **more: str) -> str:
-        """What is told last; and what is told first."""
-        ended, out, _ = it.run_it("--compare", str(before), command="tools/released", **more)
-        first, *others = out.splitlines()
-        same((ended, others[-len(last):]), (status, [*last]), out)
-        return first
-
-    def compared(status: int, *last: str, **more: str) -> tuple[bool, bool]:
-        """Whether the sum of the sources, and that of the program, are those of release/."""
-        sums = re.fullmatch(r"released: of sources with the sum (\w{64}) a program with the sum (\w{64}) was built", told_by(status, *last, **more))
-        return sums[1] == sources, sums[2] == program
-
-    def lacks(reason: str) -> None:
-        same(told_by(1, "0 passed, 1 failed"), f"released: {reason}")
-
-    lacks("no program was built in this run")
-    begin()
-    lacks("no program was built in this run")
-    same(it.run_it()[2], IS_RELEASED)
-    begin()
-    lacks("no program was built in this run")
-    it.put_program(is_noted=False)
-    same(compared(0, "1 passed, 0 failed"), (True, True))
-    change_release(it, "pc-sim.xz", lambda stored: stored[:-20])
-    same(compared(1, "0 passed, 1 failed"), (True, True))
-    it.put_program(PROGRAM + "# other\n", is_noted=False)
-    same(compared(1, "0 passed, 1 failed"), (True, False))
-    other_kit = ["released: release/ has the program that another kit makes, kit-one", "0 passed, 0 failed"]
-    same(compared(0, *other_kit, RT_VERSION="kit-two"), (True, False))
-    it.put_source("left/src/lib.rt", "// left!\n")
-    lacks("the sources are not those that this run began with")
-    begin()
-    it.put_program(PROGRAM + "# other\n", is_noted=False)
-    same(compared(0, *none), (False, False))
-    shutil.rmtree(it.release)
-    same(compared(0, *none), (False, False))
+    # What is done; what is told then first: why nothing is compared, or whether the sources, and the program, are those of release/;
+    # and what is told last, with the status and what the stand-in for the kit is told.
+    for done, first, last, status, kit in [
+        (lambda: None, unbuilt, failed, 1, "one"),
+        (begin, unbuilt, failed, 1, "one"),
+        (lambda: same(it.run_it()[2], IS_RELEASED) or begin(), unbuilt, failed, 1, "one"),
+        (lambda: it.put_program(is_noted=False), (True, True), passed, 0, "one"),
+        (lambda: change_release(it, "pc-sim.xz", lambda stored: stored[:-20]), (True, True), failed, 1, "one"),
+        (lambda: it.put_program(other, is_noted=False), (True, False), failed, 1, "one"),
+        (lambda: None, (True, False), other_kit, 0, "two"),
+        (lambda: it.put_source("left/src/lib.rt"), "the sources are not those that this run began with", failed, 1, "one"),
+        (lambda: begin() or it.put_program(other, is_noted=False), (False, False), none, 0, "one"),
+        (lambda: shutil.rmtree(it.release), (False, False), none, 0, "one"),
+    ]:
+        done()
+        ended, out, _ = it.run_it("--compare", str(it.top / "before"), command="tools/released", RT_VERSION=f"kit-{kit}")
+        told, *others = out.removeprefix("released: ").splitlines()
+        sums = re.fullmatch(r"of sources with the sum (\w{64}) a program with the sum (\w{64}) was built", told)
+        same((sums[1] == sources, sums[2] == program) if sums else told, first)
+        same((ended, others[-1 - last.count("\n"):]), (status, last.split("\n")), out)
 
 
 def test_the_gate_compares_what_it_built_and_notes_it(it: Launcher) -> None:

@@ -51,8 +51,7 @@ def started(kind: str, *commands: str, umask: int = 0o022) -> list[Started]:
         noted.touch()
         noted.chmod(0o666)
         for name in ("perf", *commands):
-            (top / name).write_text(STANDS_IN.format(noted=noted))
-            (top / name).chmod(0o755)
+            rig.put_command(top / name, STANDS_IN.format(noted=noted))
         ended = record("--to", top / "to", kind, env={"PATH": f"{top}:/usr/bin:/bin"}, umask=umask)
         same(outcome(ended), (1, "", f"record-loads: {kind} is passed over: perf cannot record: no events\n"))
         rows = [Started(*line.split("|")) for line in noted.read_text().splitlines()]

@@ -22,14 +22,12 @@ from rig import ROOT, good, needs, outcome, run, same
 DATE = 1_700_000_000
 NOBODY = 65_534
 # Of an installed root: the example, what it is told to do, and what it prints.
-EXAMPLES = [("replay", "first-run.script", "first-run.output"),
-            ("run", "steals-and-restarts.toml", "steals-and-restarts.output")]
+EXAMPLES = [("replay", "first-run.script", "first-run.output"), ("run", "steals-and-restarts.toml", "steals-and-restarts.output")]
 # Of both packages, below usr or the archive's folder.
 FILES = ["bin/pc-sim-record-loads", "bin/pc-sim-sweep", "share/pc-sim/load_kinds.py",
          "share/doc/pc-sim/docs/pictures/crash-and-steal.png"]
 # Pages that are made, and a line of each.
-MADE = {"DEFINITIONS.md": "## `pc_kernel`", "CLAUSES.md": "- `World::mend`:",
-        "WALK_THROUGH.md": "| `steal 1` | `ok t0 q1` |  |  |"}
+MADE = {"DEFINITIONS.md": "## `pc_kernel`", "CLAUSES.md": "- `World::mend`:", "WALK_THROUGH.md": "| `steal 1` | `ok t0 q1` |  |  |"}
 IMAGE_OR_PAGE = re.compile(r"\]\(([\w./-]+)\)")
 TYPED_TOOL = re.compile(r"^    (?:\$ )?tools/([\w-]+)", re.MULTILINE)
 
@@ -187,8 +185,7 @@ def test_it_is_installed_and_removed_without_a_trace() -> None:
 
 
 def test_what_it_stands_on() -> None:
-    told = run("dpkg-deb", "-f", made()[0], "Depends").stdout
-    rig.matches(told, r"\Alibc6 \(>= 2\.\d+\)(, libgcc-s1)?\n\Z")
+    rig.matches(run("dpkg-deb", "-f", made()[0], "Depends").stdout, r"\Alibc6 \(>= 2\.\d+\)(, libgcc-s1)?\n\Z")
 
 
 def test_lintian_is_content() -> None:
@@ -212,8 +209,7 @@ def test_the_archive_has_the_same_program_and_the_client() -> None:
 
 def test_a_program_of_another_version_is_refused() -> None:
     other = top() / "other"
-    other.write_text("#!/bin/sh\necho pc-sim 9.9.9\n")
-    other.chmod(0o755)
+    rig.put_command(other, "#!/bin/sh\necho pc-sim 9.9.9\n")
     status, out, errors = outcome(pack(top() / "none", other))
     same((status, out), (1, ""))
     assert "another version than 9.9.9" in errors

@@ -58,8 +58,7 @@ class Sweep:
     def lab(self, text: str, path: pathlib.Path | None = None) -> str:
         """A command of such lines."""
         path = path or self.top / "a lab"
-        path.write_text("#!/bin/sh\n" + text.format(lab=f"'{rig.program}' lab", top=self.top, program=path))
-        path.chmod(0o755)
+        rig.put_command(path, "#!/bin/sh\n" + text.format(lab=f"'{rig.program}' lab", top=self.top, program=path))
         return f"'{path}'"
 
 

@@ -70,13 +70,11 @@ class Terminal:
 @contextlib.contextmanager
 def begun(text: str, *words: str, **streams: Any) -> Iterator[subprocess.Popen[bytes]]:
     """A run by the settings, or what the words say of them, whose standard output is a pipe where nothing else is said."""
-    with rig.file(text) as file:
+    with rig.file(text) as file, contextlib.ExitStack() as end:
         command = [str(rig.program), *(words or ["run"]), str(file)]
         run = subprocess.Popen(command, stdin=subprocess.DEVNULL, **{"stdout": subprocess.PIPE, **streams})
-        try:
-            yield run
-        finally:
-            run.kill()
+        end.callback(run.kill)
+        yield run
 
 
 def come_to(text: str, *words: str, **streams: Any) -> tuple[int, bytes | None]:

@@ -23,11 +23,9 @@ class Command(NamedTuple, Generic[Value]):
 
 
 def _posted(answer: str) -> Posted:
-    words = answer.split(" ")
-    wakes = None if words[-1] == "-" else int(words[-1])
-    if words[1] == "-":
-        return Posted(None, None, int(words[2][1:]), int(words[3][1:]), wakes)
-    return Posted(int(words[1][1:]), int(words[2][1:]), int(words[3][1:]), int(words[4][1:]), wakes)
+    _, *subject, queue, aseq, _, wakes = answer.split(" ")
+    thread, number = (None, None) if subject == ["-"] else (int(word[1:]) for word in subject)
+    return Posted(thread, number, int(queue[1:]), int(aseq[1:]), None if wakes == "-" else int(wakes))
 
 
 def _placed(answer: str) -> Placed:

@@ -1,13 +1,13 @@
 """The program `pc-sim` as a session: lines go in, and lines come out."""
 from __future__ import annotations
 
+import io
 import os
 import shutil
 import subprocess
 import tempfile
 import threading
-from collections.abc import Iterator
-from typing import IO, TextIO
+from typing import IO, TextIO, cast
 
 from .errors import Died, Lost, NimhessianError
 
@@ -49,9 +49,7 @@ class Program:
             raise Died(None, f"{name}: {error.strerror}") from error
         assert self._process.stdin is not None and self._process.stdout is not None
         self._to = self._process.stdin
-        self._from = self._process.stdout
-        self._lines: Iterator[bytes] = iter(())
-        self._rest = b""
+        self._from = io.BufferedReader(cast(io.RawIOBase, self._process.stdout), MOST_AT_ONCE)
         self._end: NimhessianError | None = None
         """Why nothing more is sent."""
 
@@ -103,39 +101,26 @@ class Program:
         return "\n".join(rows)
 
     def _line(self) -> str:
-        for line in self._lines:
-            return line.decode()
-        return self._read_on()
+        line = self._from.readline()
+        if not line.endswith(b"\n"):
+            status = self._status()
+            self._told.seek(0)
+            self._end = Died(status, self._told.read().decode(errors="replace"))
+            raise self._end
+        return line[:-1].decode()
 
-    def _read_on(self) -> str:
-        """The next line, where none is left of what was read before."""
-        text = self._rest
-        while b"\n" not in text:
-            if not (more := self._from.read(MOST_AT_ONCE)):
-                raise self._death()
-            text += more
-        *lines, self._rest = text.split(b"\n")
-        self._lines = iter(lines)
-        return next(self._lines).decode()
-
-    def _death(self) -> Died:
+    def _status(self) -> int:
+        """How the program ended, or was ended since it took too long."""
         try:
-            status = self._process.wait(WAIT_AT_CLOSE)
+            return self._process.wait(WAIT_AT_CLOSE)
         except subprocess.TimeoutExpired:
             self._process.kill()
-            status = self._process.wait()
-        self._told.seek(0)
-        death = self._end = Died(status, self._told.read().decode(errors="replace"))
-        return death
+            return self._process.wait()
 
     def close(self) -> None:
         """Ends the input, and waits for the program's end."""
         self._end = Lost("the world is closed")
         self._to.close()
         self._from.close()
-        try:
-            self._process.wait(WAIT_AT_CLOSE)
-        except subprocess.TimeoutExpired:
-            self._process.kill()
-            self._process.wait()
+        self._status()
         self._told.close()

@@ -5,7 +5,6 @@ import functools
 import inspect
 import os
 from collections.abc import Callable
-from types import TracebackType
 from typing import Concatenate, Generic, ParamSpec, Self, TextIO, TypeVar, cast
 
 from . import commands
@@ -118,9 +117,7 @@ class World:
     def __enter__(self) -> Self:
         return self
 
-    def __exit__(
-        self, kind: type[BaseException] | None, error: BaseException | None, trace: TracebackType | None
-    ) -> None:
+    def __exit__(self, *ended: object) -> None:
         self.close()
 
     create = _asked(commands.create)
@@ -206,9 +203,7 @@ class Batch:
     def __enter__(self) -> Self:
         return self
 
-    def __exit__(
-        self, kind: type[BaseException] | None, error: BaseException | None, trace: TracebackType | None
-    ) -> None:
+    def __exit__(self, kind: type[BaseException] | None, *more: object) -> None:
         unsent = [answer for answer in self.answers if answer._answer is None]
         if kind is None and unsent:
             lines = [answer.command.line for answer in unsent]
