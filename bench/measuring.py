@@ -67,8 +67,7 @@ def measured(words, output, seconds=None, address_space=None):
     """Runs a command whose output goes into a file, for so many seconds and in so many bytes of address space at most.
 
     Standard error goes nowhere, so that no terminal is told how far a run is."""
-    bounds = (address_space or resource.RLIM_INFINITY,) * 2
-    bound = functools.partial(resource.setrlimit, resource.RLIMIT_AS, bounds) if address_space else None
+    bound = functools.partial(resource.setrlimit, resource.RLIMIT_AS, (address_space,) * 2) if address_space else None
     # A child's greatest memory counts what it was before it became the program: GNU time is small, this interpreter is not.
     memory = output.with_suffix(".memory")
     with open(output, "wb") as out:

@@ -70,14 +70,10 @@ class Told:
         """The lines of the script up to the refused one, with it."""
         return self.script.splitlines()[:self.number]
 
-    def has_policy(self) -> bool:
-        return "\npolicy " in self.script
-
-    def acted(self) -> list[str] | None:
+    def acted(self) -> list[str]:
         """The lines that the steps come to; none where they are too many."""
-        if any(times > MOST_TIMES for _, times in self.steps):
-            return None
-        return [line for line, times in self.steps for _ in range(times)]
+        is_short = all(times <= MOST_TIMES for _, times in self.steps)
+        return [line for line, times in self.steps for _ in range(times)] if is_short else []
 
 
 def told_of(script: str, output: str) -> Iterator[Told | str]:
@@ -180,13 +176,13 @@ def test_what_is_told_is_accepted() -> None:
 
     hold("no advice in its form", [it for it in every if isinstance(it, str)], len(every))
     forms_are_common(told)
-    steps_are_accepted([it for it in told if it.steps and it.acted()])
+    steps_are_accepted([it for it in told if it.acted()])
     hopeless = [it for it in told if it.form in ("environment", "no agent", "never")]
     hold("an agent can", *helped(some(hopeless), 1))
     hold("the environment can", *helped(some([it for it in hopeless if it.form == "never"]), 1, True))
     idle = [it for it in hopeless if it.form != "never" and it.line.split()[0] in ("pick", "steal", "commit", "block")]
     hold("two deeds of agents can", *helped(sorted(idle, key=lambda it: it.number)[:PAIRED], 2))
-    longer = some([it for it in told if it.form == "agents" and len(it.acted() or ()) > 2])
+    longer = some([it for it in told if it.form == "agents" and len(it.acted()) > 2])
     wrong, _ = helped(longer, 1)
     assert len(wrong) * 20 < len(longer), f"a single deed would do; the first: {wrong[:1]}"
 
@@ -194,7 +190,7 @@ def test_what_is_told_is_accepted() -> None:
 def forms_are_common(told: list[Told]) -> None:
     forms, sorts = Counter(it.form for it in told), Counter(it.sort for it in told)
     for has_policy, most in ((False, 80), (True, 100)):
-        some = [it for it in told if it.has_policy() == has_policy]
+        some = [it for it in told if ("\npolicy " in it.script) == has_policy]
         assert sum(it.form == "unsought" for it in some) * most < len(some), f"unsought, with a policy: {has_policy}"
     assert forms["no agent"] * 10 < len(told), forms
     for form in ("agents", "environment", "no agent", "never"):

@@ -167,10 +167,7 @@ class Checker:
                 found = [f for f in named if f.owner in types] or [f for f in named if not f.owner and not types]
                 if not found and head in crate.types:
                     types = types + [head] if before.strip() == "and" else [head]
-                    own = {clause for f in crate.functions if f.owner == head for clause in self.sources.clauses_of(f)}
-                    for word in clauses:
-                        has = (head, word) in crate.met or word in own
-                        self.expect(has, where, f"`{head}` has no clause `{word}` and meets no such trait")
+                    self.expect_of_type(where, crate, head, clauses)
                     continue
                 found = found if found or types and clauses else named
                 if not found and not clauses:
@@ -184,6 +181,11 @@ class Checker:
             if len(found) > 1 and clauses and not types:
                 carried = any(set(clauses) <= self.sources.clauses_of(f) for f in found)
                 self.expect(carried, where, f"no `{head}` has the clauses {', '.join(clauses)}")
+
+    def expect_of_type(self, where, crate, name, words):
+        own = {clause for f in crate.functions if f.owner == name for clause in self.sources.clauses_of(f)}
+        for word in words:
+            self.expect((name, word) in crate.met or word in own, where, f"`{name}` has no clause `{word}` and meets no such trait")
 
     def expect_clauses(self, where, function, clauses):
         for clause in clauses:

@@ -11,6 +11,7 @@ from __future__ import annotations
 import re
 import shutil
 import sys
+from typing import Any
 
 import rig
 from kernel import ORDERS
@@ -20,9 +21,8 @@ PAGE = ROOT / "docs/pc-sim.1"
 BASH, FISH = (ROOT / f"tools/completions/pc-sim.{shell}" for shell in ("bash", "fish"))
 
 
-def help_of(*words: str) -> str:
-    told: str = good(rig.ask(*words, "--help"))
-    return told
+def help_of(*words: str) -> Any:
+    return good(rig.ask(*words, "--help"))
 
 
 def flags_of(*words: str) -> set[str]:
@@ -33,8 +33,7 @@ def flags_of(*words: str) -> set[str]:
 
 def commands() -> list[str]:
     """The commands of the help text, which stand in a section of their own."""
-    section = re.search(r"^Commands:\n((?:  .*\n)+)", help_of(), re.M)
-    found = re.findall(r"^  (\w[\w-]*)", section[1], re.M) if section else []
+    found = re.findall(r"^  (\w[\w-]*)", re.search(r"^Commands:\n((?:  .*\n)+)", help_of(), re.M)[1], re.M)
     assert {"replay", "run"} <= set(found), found
     return found
 

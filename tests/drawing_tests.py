@@ -7,6 +7,7 @@ tests/pictures.py takes a picture apart, and knows what it has to show. The test
 """
 from __future__ import annotations
 
+import itertools
 import re
 import sys
 import tomllib
@@ -20,7 +21,7 @@ from pictures import (
     are_one, bars_in, bars_of, draw, drawn_script, edges_of, front_of, look_of, many, refused_words, shown_often, steps_of, story_of,
     width_of,
 )
-from rig import ROOT, outcome, same
+from rig import ROOT, good, outcome, same
 
 DRAWN = 300
 # What spells no numbers, and what does.
@@ -172,17 +173,15 @@ def test_words_that_spell_no_numbers_are_a_bad_command_line() -> None:
 
 def legend_in(picture: Picture) -> list[list[Element]]:
     """Holds the legend's words against those that it has to have. The marks in front of each of its lines."""
-    begin = picture.texts.index(LEGEND[0][0])
-    same(picture.texts[begin:], [*(meaning for meaning, _ in LEGEND), LAST_WORDS])
+    begin, meanings = picture.texts.index(LEGEND[0][0]), [meaning for meaning, _ in LEGEND]
+    same(picture.texts[begin:], [*meanings, LAST_WORDS])
     heights = [words.y for words in picture.words[begin:]]
     same(heights, sorted(set(heights)))
-    marks: list[list[Element]] = []
-    for place, element in enumerate(picture.elements):
-        if element.tag == SVG + "text" and element.text in [meaning for meaning, _ in LEGEND]:
-            front = place
-            while picture.elements[front - 1].tag in SHAPES and not picture.elements[front - 1][0].text:
-                front -= 1
-            marks.append(picture.elements[front:place])
+    marks, front = list[list[Element]](), list[Element]()
+    for element in picture.elements:
+        if element.tag == SVG + "text" and element.text in meanings:
+            marks.append(front)
+        front = [*front, element] if element.tag in SHAPES and not element[0].text else []
     return marks
 
 
@@ -220,11 +219,10 @@ def axis_is_told(numbers: list[Words], lines: list[int], wide: int) -> None:
 def names_are_in_bars(picture: Picture) -> None:
     """A thread's name stands in a bar of that thread."""
     bars = [(found[1], bar) for found, bar in picture.found(r"(t\d+) on CPU.*") if bar.tag == SVG + "rect"]
-    for words in picture.words:
-        if re.fullmatch(r"t\d+", words.text):
-            inside = [name for name, bar in bars if edges_of(bar)[0] <= words.x <= edges_of(bar)[1]
-                      and 0 <= words.y - float(bar.get("y")) <= float(bar.get("height"))]
-            same(inside, [words.text])
+    for words in (words for words in picture.words if re.fullmatch(r"t\d+", words.text)):
+        inside = [name for name, bar in bars if edges_of(bar)[0] <= words.x <= edges_of(bar)[1]
+                  and 0 <= words.y - float(bar.get("y")) <= float(bar.get("height"))]
+        same(inside, [words.text])
 
 
 def test_the_words_of_a_picture_are_those_that_replay_answers() -> None:
@@ -250,8 +248,7 @@ def test_the_words_of_a_report_are_its_counts() -> None:
             same(picture.texts[:2], [totals_of(file), REPORT_WORDS])
             counts = [found.groups() for found, _ in picture.found(r"CPU (\d+): (\d+) (.*)")]
             wanted: list[str] = []
-            for place, (cpu, count, meaning) in enumerate(counts):
-                name, means = list(COUNTS.items())[place % 6]
+            for place, ((cpu, count, meaning), (name, means)) in enumerate(zip(counts, itertools.cycle(COUNTS.items()))):
                 same((int(cpu), meaning), (place // 6, means))
                 wanted += [f"CPU {cpu}"] * (place % 6 == 0) + [name, count]
             same((picture.texts[2:], bool(counts)), (wanted, True))
@@ -259,11 +256,9 @@ def test_the_words_of_a_report_are_its_counts() -> None:
 
 def test_many_threads_and_cpus_stay_small() -> None:
     script = many(64, 10_000)
-    run = rig.ask("draw", given=script)
-    assert run.returncode == 0 and len(run.stdout) < 8_000_000
-    story = story_of(script)
-    same(Picture(run.stdout).title, story.heading)
-    assert story.commands > 9_999
+    story, drawn = story_of(script), good(rig.ask("draw", given=script))
+    assert story.commands > 9_999 and len(drawn) < 8_000_000
+    same(Picture(drawn).title, story.heading)
 
 
 def test_counts_of_many_commands_add_up() -> None:
@@ -271,9 +266,9 @@ def test_counts_of_many_commands_add_up() -> None:
     story, picture = story_of(script), draw(script)
     same(picture.sum_of(r"\d+ posts? to queue .*"), story.posted)
     same(picture.sum_of(r"\d+ deltas? taken in by agent .*"), story.done["deliver"])
+    of_no_cpu = 3 * script.count("commit 9 t0 0\n")
     told, = [text for text in picture.texts if text.startswith("refused commands that are of no CPU")]
-    of_no_cpu = int(told.rsplit(" ", 1)[1])
-    same(of_no_cpu, 3 * script.count("commit 9 t0 0\n"))
+    same(told.rsplit(" ", 1)[1], str(of_no_cpu))
     same(picture.sum_of(r"\d+ commands? refused at CPU .*") + of_no_cpu, story.refused)
 
 

@@ -174,16 +174,14 @@ def shares(picture: Picture) -> None:
 def ticks(picture: Picture, decades: int) -> None:
     """Each power of ten has its line and is told below it, and 0 is told too. On an axis of at most eight decades
     twice and five times each of them have lines."""
-    powers = [str(10**power) if decades <= 8 or power < 5 else f"10^{power}" for power in range(decades + 1)]
-    told = picture.said(y=BOTTOM + 18)
-    same([it[2:] for it in told], [(words, "middle") for words in ["0", *powers]])
-    wanted = [LEFT, *(place_of(10**power, decades) for power in range(decades + 1))]
-    for (x, _, words, _), place in zip(told, wanted, strict=True):
+    told, powers = picture.said(y=BOTTOM + 18), range(decades + 1)
+    wanted = ["0", *(str(10**power) if decades <= 8 or power < 5 else f"10^{power}" for power in powers)]
+    same([it[2:] for it in told], [(words, "middle") for words in wanted])
+    for (x, _, words, _), place in zip(told, [LEFT, *(place_of(10**power, decades) for power in powers)], strict=True):
         near(x, place, delta=1, msg=words)
     upright = sorted((*place, title) for place, lines in picture.lines.items() for title, _ in lines
                      if place[0] == place[2])
-    powers = [(x, TOP, x, BOTTOM + 6, f"10^{power}") for power, (x, *_) in enumerate(told[1:])]
-    same([it for it in upright if it[1] == TOP], powers)
+    same([it for it in upright if it[1] == TOP], [(x, TOP, x, BOTTOM + 6, f"10^{power}") for power, (x, *_) in enumerate(told[1:])])
     between = [factor * 10**power for power in range(decades) for factor in (2, 5)] if decades <= 8 else []
     short = [it for it in upright if it[1] != TOP]
     same([it[1:2] + it[3:] for it in short], [(BOTTOM, BOTTOM + 4, str(it)) for it in between])
@@ -214,16 +212,12 @@ def legend(picture: Picture, told: Told, y: int) -> None:
 def marks(picture: Picture, told: Told, decades: int) -> None:
     """Each percentile has one mark, at its share, and the name has another in the legend."""
     same(len(picture.marks[told.name]), 1)
-    for percent in PERCENTS:
-        ticks = told.percentiles.get(percent)
-        places = picture.marks.get(f"{told.name}: p{percent} {ticks}", [])
-        if ticks is None:
-            same(places, [])
-            continue
-        (x, y), = places
+    same([title for title in picture.marks if title.startswith(f"{told.name}: p")],
+         [f"{told.name}: p{percent} {ticks}" for percent, ticks in told.percentiles.items()])
+    for percent, ticks in told.percentiles.items():
+        ((x, y),), points = picture.marks[f"{told.name}: p{percent} {ticks}"], picture.curves[told.title]
         near(x, place_of(ticks, decades), delta=1)
         same(y, BOTTOM - (BOTTOM - TOP) * percent // 100)
-        points = picture.curves[told.title]
         assert height_at(points, x - 1) < BOTTOM - y <= height_at(points, x), "a mark beside its curve"
 
 
@@ -231,15 +225,13 @@ def curve(points: list[tuple[int, int]], waits: list[int], decades: int) -> None
     """It climbs from the corner to the other one, and is everywhere as high as the share of shorter waits."""
     same((points[0], points[-1]), ((LEFT, BOTTOM), (RIGHT, TOP)))
     assert len(points) <= RIGHT - LEFT + 3
-    for (x, y), (to, up) in zip(points[1:-1], points[2:-1]):
-        assert x < to and y > up
+    assert all(x < to and y > up for (x, y), (to, up) in zip(points[1:-1], points[2:-1]))
     assert all(LEFT <= x <= RIGHT and TOP <= y <= BOTTOM for x, y in points)
     places = [place_of(wait, decades) for wait in waits]
     for x in range(LEFT, RIGHT + 1):
         least, most = (bisect.bisect_right(places, x + by) for by in (-1, 1))
         high = height_at(points, x) * len(waits) / (BOTTOM - TOP)
-        assert least - len(waits) / (BOTTOM - TOP) <= high, f"at {x}"
-        assert high <= most, f"at {x}"
+        assert least - len(waits) / (BOTTOM - TOP) <= high <= most, f"at {x}"
 
 
 def test_worked_loads_are_drawn():

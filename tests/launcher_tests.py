@@ -652,17 +652,16 @@ def test_what_a_start_that_was_killed_leaves_is_removed(it: Launcher) -> None:
 def test_a_tree_in_which_nothing_can_be_started(it: Launcher) -> None:
     """Nothing is built in vain, and nothing left."""
     it.put_release()
-    tools = [shutil.which(name) for name in ("unshare", "mount", "bash")]
-    needs(all(tools), "no unshare, mount or bash here")
-    unshare, mount, bash = map(str, tools)
+    unshare, mount, bash = (str(shutil.which(name)) for name in ("unshare", "mount", "bash"))
+    needs("None" not in (unshare, mount, bash), "no unshare, mount or bash here")
     mounts = f'{mount} --bind "$0" "$0" && {mount} -o remount,bind,noexec "$0" || exit 77; {bash} "$0/pc-sim"'
     environment = {"PATH": str(it.bin), "TMPDIR": str(it.temporary), "RT_RECORD": str(it.record)}
+    fault = f"pc-sim: no program can be started in {it.tree}: it is mounted with noexec, or is another user's\n"
 
     def fails() -> None:
         ended = rig.run(unshare, "-rm", bash, "-c", mounts, it.tree, env=environment, stdin=subprocess.DEVNULL)
         needs(ended.returncode not in (1, 77), "no mounts here")
-        same(ended.stderr, f"pc-sim: no program can be started in {it.tree}: it is mounted with noexec, or is another user's\n")
-        same((ended.returncode, ended.stdout, it.called()), (5, "", []))
+        same((ended.stderr, ended.returncode, ended.stdout, it.called()), (fault, 5, "", []))
 
     fails()
     same(list(it.program.parent.iterdir()), [])
@@ -699,9 +698,7 @@ def test_a_folder_in_the_place_of_the_program(it: Launcher) -> None:
 def test_a_tree_that_cannot_be_written_takes_no_released_program(it: Launcher) -> None:
     it.put_release()
     it.program.parent.write_text("no folder")
-    status, _, errors = it.run_it()
-    same(status, 5, errors)
-    assert "pc-sim: release/pc-sim.xz has no place, since this tree cannot be written" in errors
+    assert "pc-sim: release/pc-sim.xz has no place, since this tree cannot be written" in it.fails()
 
 
 def test_the_released_program_is_compared_with_the_one_that_was_built(it: Launcher) -> None:
@@ -739,10 +736,10 @@ def test_the_released_program_is_compared_with_the_one_that_was_built(it: Launch
 def test_the_gate_compares_what_it_built_and_notes_it(it: Launcher) -> None:
     wanted = it.put_stand_ins_of_tests()
     it.put_program()
-    status, out, errors = it.run_it(command="test", RT_LEAVES_NONE="yes")
-    same((status, errors, out.splitlines()[-1]), (0, "", wanted.replace("--also 0 passed, 0 failed", "--also 0 passed, 1 failed", 1)))
-    status, out, errors = it.run_it(command="test")
-    same((status, errors, out.splitlines()[-1]), (0, "", wanted))
+    lacks = wanted.replace("--also 0 passed, 0 failed", "--also 0 passed, 1 failed", 1)
+    for more, last in (({"RT_LEAVES_NONE": "yes"}, lacks), ({}, wanted)):
+        status, out, errors = it.run_it(command="test", **more)
+        same((status, errors, out.splitlines()[-1]), (0, "", last))
     it.forget_calls()
     it.starts("x")
     same(list(it.temporary.iterdir()), [])

@@ -91,8 +91,7 @@ def kept(top: pathlib.Path) -> pathlib.Path:
     """Makes a folder with a recording."""
     folder = top / "to/pool"
     for path in (top / "to", folder):
-        path.mkdir()
-        path.chmod(0o755)
+        path.mkdir(0o755)
     (folder / "recording.txt").write_text(RECORDING)
     return folder
 

@@ -15,6 +15,7 @@ import shutil
 import subprocess
 import sys
 import tempfile
+from typing import Any
 
 import rig
 from rig import ROOT, good, needs, outcome, run, same
@@ -81,14 +82,13 @@ def test_a_root_with_nothing_but_it_runs_the_examples(is_package: bool) -> None:
     tried = run(sys.executable, "-c", f"import os; os.chroot({str(root)!r}); os.setuid({NOBODY})")
     needs(tried.returncode == 0, "the root cannot be changed here")
     bash = shutil.which("bash")
-    for word in [bash, *run("ldd", rig.program, bash).stdout.split()]:
-        if word.startswith("/") and not word.endswith(":"):
-            place = root / word.lstrip("/")
-            place.parent.mkdir(parents=True, exist_ok=True)
-            shutil.copy(word, place)
+    for word in [bash, *re.findall(r"(/\S+)(?<!:)\s", run("ldd", rig.program, bash).stdout)]:
+        place = root / word.lstrip("/")
+        place.parent.mkdir(parents=True, exist_ok=True)
+        shutil.copy(word, place)
     there, here = root / "home", root / "here"
-    there.mkdir()
-    here.mkdir()
+    for place in (there, here):
+        place.mkdir()
     os.chown(there, NOBODY, NOBODY)
     (here / "pc-sim").symlink_to(rig.program)
     below = pathlib.Path("/", installed.relative_to(root))
@@ -101,9 +101,8 @@ def test_a_root_with_nothing_but_it_runs_the_examples(is_package: bool) -> None:
         os.setgid(NOBODY)
         os.setuid(NOBODY)
 
-    def typed(line: str) -> str:
-        told: str = good(run(bash, "-c", line, preexec_fn=enter, env={"PATH": str(below / "bin")}), line)
-        return told
+    def typed(line: str) -> Any:
+        return good(run(bash, "-c", line, preexec_fn=enter, env={"PATH": str(below / "bin")}), line)
 
     for command, given, wanted in EXAMPLES:
         same(typed(f"pc-sim {command} examples/{given}"), (installed / "share/doc/pc-sim/examples" / wanted).read_text(), given)
@@ -140,8 +139,8 @@ def test_a_walk_tells_what_each_agent_knows() -> None:
 
 def test_the_licences_are_there() -> None:
     told = (unpacked(True)[1] / "share/doc/pc-sim/copyright").read_text()
-    same("License: Expat or Apache-2.0\n" in told, True, told)
-    same(" Permission is hereby granted, free of charge, " in told, True, told)
+    for words in ("License: Expat or Apache-2.0\n", " Permission is hereby granted, free of charge, "):
+        assert words in told, told
     for name in ("LICENSE-APACHE", "LICENSE-MIT"):
         same((unpacked(False)[1] / "share/doc/pc-sim" / name).read_bytes(), (ROOT / name).read_bytes())
 

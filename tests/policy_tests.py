@@ -28,9 +28,7 @@ class Drawn:
 
     def __init__(self, place: int, policy: str) -> None:
         self.chance = random.Random(f"policies {place} {policy}")
-        self.talk, self.counts = Talk(), Counter[str]()
-        self.lines: list[str] = []
-        self.answers: list[str | None] = []
+        self.talk, self.counts, self.lines, self.answers = Talk(), Counter[str](), list[str](), list[str]()
         cpus = self.chance.choice([1, 2, 2, 3])
         self.say("version 3")
         # So many items and posts are never met. The wider limits of version 3 are a world's that a policy opens anew, too.
@@ -49,10 +47,9 @@ class Drawn:
 
     def say(self, line: str) -> bool:
         """Whether it is accepted."""
-        answer = self.talk.take(line.encode()) or ""
         self.lines.append(line)
-        self.answers.append(answer)
-        is_accepted = answer.startswith("ok")
+        self.answers.append(self.talk.take(line.encode()) or "")
+        is_accepted = self.answers[-1].startswith("ok")
         self.counts[line.split()[0]] += is_accepted
         return is_accepted
 
@@ -159,8 +156,8 @@ def counts_of(policy: str, place: int) -> Counter[str]:
 def answers_are_the_models(policy: str) -> None:
     scripts = rig.options.scripts
     counts = sum(rig.in_threads(partial(counts_of, policy), range(scripts)), Counter())
-    wanted = ["pick", "steal", "mend", *(["order"] if not policy.startswith("levels") or "-" in policy else [])]
-    rare = [what for what in [*wanted, *(["other steals"] if "exact" in policy else [])] if counts[what] * 4 < scripts]
+    wanted = ["pick", "steal", "mend", *["order"] * (not policy.startswith("levels") or "-" in policy)]
+    rare = [what for what in [*wanted, *["other steals"] * ("exact" in policy)] if counts[what] * 4 < scripts]
     assert not rare, f"too few of {rare}: {counts}"
 
 

@@ -84,12 +84,8 @@ def found() -> pathlib.Path:
 
 def run(*words: object, given: str | None = None, **more: Any) -> subprocess.CompletedProcess[str]:
     """What a command comes to that is given a text as its standard input; `text=False` has it in bytes."""
-    how: dict[str, Any] = {"capture_output": True, "text": True, "timeout": SECONDS, "input": given} | more
-    if {"stdout", "stderr"} & set(more):
-        del how["capture_output"]
-        how = {"stdout": subprocess.PIPE, "stderr": subprocess.PIPE} | how
-    if "stdin" in more:
-        del how["input"]
+    how: dict[str, Any] = {"stdout": subprocess.PIPE, "stderr": subprocess.PIPE, "text": True, "timeout": SECONDS} | more
+    how |= {} if "stdin" in more else {"input": given}
     return subprocess.run([word if isinstance(word, bytes) else str(word) for word in words], **how)
 
 
@@ -241,18 +237,12 @@ def _fault_at(place: int) -> tuple[str | None, bool]:
 
 
 def main(
-    about_it: str | None,
-    tests: list[Test] | Callable[[], list[Test]],
-    add_words: Callable[[Any], object] = lambda add: None,
-    *,
-    at_once: int = 1,
-    both: bool = False,
-    before: Callable[[Tally], object] = lambda tally: None,
+    about_it: str | None, tests: list[Test] | Callable[[], list[Test]], add_words: Callable[[Any], object] = lambda add: None, *,
+    at_once: int = 1, both: bool = False, before: Callable[[Tally], object] = lambda tally: None,
 ) -> int:
     """Tries all, some at once in processes of their own; `both`: with each program that the gate builds, where none is named."""
     global program, options
-    layout = argparse.RawDescriptionHelpFormatter
-    parser = argparse.ArgumentParser(description=about_it, formatter_class=layout)
+    parser = argparse.ArgumentParser(description=about_it, formatter_class=argparse.RawDescriptionHelpFormatter)
     parser.add_argument("--program", type=pathlib.Path, help="test this program, as `rt run` leaves it")
     parser.add_argument("--test", action="append", help="try the tests of this name alone")
     add_words(parser.add_argument)

@@ -77,22 +77,14 @@ def difference(what, found, wanted):
     return next(f"{what}, line {place}: {one}, wanted {other}" for place, one, other in told)
 
 
-def without_comments(text):
-    return b"\n".join(line for line in text.split(b"\n") if not line.startswith(b"#"))
-
-
 def faults_of(case, program, word=""):
     """What differs from the wanted, as a list of texts. Where it is explained, what differs without the comments."""
     status, out, errors = outcome(case.ended(program, word))
-    out = without_comments(out) if word else out
+    out = re.sub(rb"(?m)^#.*\n", b"", out) if word else out
     faults = [f"status {status}, wanted {case.status}"] if status != case.status else []
-    if case.out is None:
-        faults += [] if out else ["nothing on standard output"]
-    elif out != case.out:
-        faults.append(difference("standard output", out, case.out))
-    if errors != case.err:
-        faults.append(difference("standard error", errors, case.err))
-    return faults
+    faults += ["nothing on standard output"] if case.out is None and not out else []
+    rows = (("standard output", out, out if case.out is None else case.out), ("standard error", errors, case.err))
+    return faults + [difference(*row) for row in rows if row[1] != row[2]]
 
 
 def expect(case):

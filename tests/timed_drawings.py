@@ -159,9 +159,8 @@ def marks_by_ticks(picture: Picture, script: str, axis: Axis, ticks: dict[int, i
     told = ((number, re.fullmatch(r"ok d(\d+) items \d+", answer)) for number, _, answer in answered(script, rig.replay(script)))
     sent, marks = {int(delta[1]): number for number, delta in told if delta}, Counter[str]()
     for text, element in picture.shapes:
-        crash = re.fullmatch(r"crash \d+, line (\d+)", text)
         line = re.match(r"(?:t\d+ (stolen|moved) from queue \d+ to queue \d+, )?line (\d+): (.*)", text)
-        if crash:
+        if crash := re.fullmatch(r"crash \d+, line (\d+)", text):
             marks["crash"] += 1
             same(x_of(element), (axis.middle(ticks[int(crash[1])]) - 7,), text)
         elif line and line[3].startswith("deliver ") and ": refused" not in text:
@@ -250,8 +249,7 @@ def spread(script: str, gap: int) -> str:
 def runs_by_column(script: str, axis: Axis, ticks: dict[int, int], cpus: int) -> dict[tuple[int, int], str]:
     """Who ran at each CPU in each column: a thread that did in each of its ticks, or the share of them in fifths. What came before the commands that
     have a tick was before the first tick, and what comes behind them is left out."""
-    spans: list[tuple[int, int, int, int]] = []
-    on: dict[int, tuple[int, int]] = {}
+    spans, on = list[tuple[int, int, int, int]](), dict[int, tuple[int, int]]()
     for number, words, answer in answered(script, rig.replay(script)):
         if number <= max(ticks) and words[0] in ("commit", "block") and answer.startswith("ok"):
             cpu, tick = int(words[1]), ticks.get(number, axis.first)
@@ -268,10 +266,9 @@ def runs_by_column(script: str, axis: Axis, ticks: dict[int, int], cpus: int) ->
     shown = {}
     for (cpu, column), threads in busy.items():
         length, ran = begins[column + 1] - begins[column], threads.total()
-        if len(+threads) == 1 and ran == length:
-            shown[cpu, column] = f"t{next(iter(+threads))}"
-        elif ran:
-            shown[cpu, column] = f"{20 * max(1, min(5, (10 * ran + length) // (2 * length)))} %"
+        share = f"{20 * max(1, min(5, (10 * ran + length) // (2 * length)))} %"
+        if ran:
+            shown[cpu, column] = f"t{next(iter(+threads))}" if len(+threads) == 1 and ran == length else share
     return shown
 
 
@@ -309,8 +306,7 @@ def in_runs(counts: Counter[tuple[int, int]], there: set[tuple[int, int]]) -> Co
 
 def counts_in(picture: Picture, axis: Axis) -> Counter[tuple[int, int]]:
     """The posts that the picture's strips tell, those of strips side by side together at the first column."""
-    counts: Counter[tuple[int, int]] = Counter()
-    there: set[tuple[int, int]] = set()
+    counts, there = Counter[tuple[int, int]](), set[tuple[int, int]]()
     for told, element in picture.found(r"(\d+) posts? to queue (\d+), .*"):
         left, right = (round((edge - LEFT) / axis.wide) for edge in edges_of(element))
         counts[int(told[2]), left] = int(told[1])

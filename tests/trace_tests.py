@@ -64,14 +64,11 @@ def test_slices_of_examples_are_the_commits_that_ended():
     """Each slice is a commit, no two of a CPU overlap, and waiting threads are never less than none."""
     for path in sorted((ROOT / "examples").glob("*.script")):
         rows = traced(path.read_text())
-        by_cpu: dict[int, list[tuple[int, int]]] = {}
-        for cpu, begin, length in told(rows, "X", "tid", "ts", "dur"):
-            by_cpu.setdefault(cpu, []).append((begin, begin + length))
+        slices = sorted(told(rows, "X", "tid", "ts", "dur"))
         assert all(args["value"] >= 0 for args, in told(rows, "C", "args")), path.name
-        for slices in by_cpu.values():
-            assert all(end <= begin for (_, end), (begin, _) in zip(slices, slices[1:])), path.name
-        commits = len(re.findall(r"(?m)^ok t\d+ c\d+$", path.with_suffix(".output").read_text()))
-        same(sum(map(len, by_cpu.values())), commits, path.name)
+        for (cpu, begin, length), (other, later, _) in zip(slices, slices[1:]):
+            assert cpu != other or begin + length <= later, path.name
+        same(len(slices), len(re.findall(r"(?m)^ok t\d+ c\d+$", path.with_suffix(".output").read_text())), path.name)
 
 
 def test_a_blocked_thread_does_not_wait_whatever_is_told_of_it():
@@ -108,8 +105,7 @@ def test_an_enclave_that_no_kernel_has():
 
 def test_comments_that_tell_no_tick():
     """A tick that goes back, and a number past the greatest, are none, as docs/FORMATS.md has it."""
-    script = SCRIPT.replace("# at 7\n", f"# at 7\n# at 3\n# at {2 ** 64}\n# at {DIGITS}\n")
-    same(traced(script), traced(SCRIPT))
+    same(traced(SCRIPT.replace("# at 7\n", f"# at 7\n# at 3\n# at {2 ** 64}\n# at {DIGITS}\n")), traced(SCRIPT))
 
 
 def test_a_file_that_is_not_there():

@@ -23,6 +23,7 @@ import argparse
 import concurrent.futures
 import dataclasses
 import importlib
+import itertools
 import json
 import os
 import pathlib
@@ -32,6 +33,7 @@ import subprocess
 import sys
 import tempfile
 import time
+from collections import defaultdict
 from dataclasses import dataclass, field
 from types import ModuleType
 from typing import Any
@@ -132,12 +134,8 @@ def read_table(text: str) -> dict[str, Row]:
 
 def owner_above(lines: list[str], place: int) -> str:
     """The owner of a function of an impl: the type, and the trait behind it."""
-    for line in reversed(lines[:place]):
-        if impl := OWNER.match(line):
-            return f"{impl[2]}{impl[1] or ''}::"
-        if line.startswith("}"):
-            break
-    return ""
+    above = itertools.takewhile(lambda line: not line.startswith("}"), reversed(lines[:place]))
+    return next((f"{impl[2]}{impl[1] or ''}::" for impl in map(OWNER.match, above) if impl), "")
 
 
 def lines_at(lines: list[str], number: int) -> tuple[int, int]:
@@ -211,17 +209,14 @@ def is_within_one(crate: pathlib.Path, body: WrongBody) -> bool:
 def together(bodies: list[WrongBody]) -> list[list[WrongBody]]:
     """Bundles of wrong bodies of which no two change, or are to be refused in, one function, those in copies of their functions aside."""
     bundles: list[list[WrongBody]] = []
-    copies = 0
+    numbers = itertools.count(1)
     for body in bodies:
-        fits = (bundle for bundle in bundles if not any(map(body.meets, bundle)))
-        if (bundle := next(fits, None)) is not None:
-            bundle.append(body)
-        elif bundles and body.can_be_copied:
-            copies += 1
-            body.copy = f"_copied_{copies}"
-            bundles[0].append(body)
-        else:
-            bundles.append([body])
+        fitting = [bundle for bundle in bundles if not any(map(body.meets, bundle))]
+        if not fitting and bundles and body.can_be_copied:
+            body.copy, fitting = f"_copied_{next(numbers)}", bundles
+        if not fitting:
+            bundles.append([])
+        (fitting or bundles[-1:])[0].append(body)
     return bundles
 
 
@@ -250,8 +245,7 @@ def body_at(lines: list[str], place: int) -> tuple[int, int] | None:
 
 def without_bodies(file: str, text: str, kept: set[str]) -> tuple[str, list[str]]:
     """The text of a file in which only these functions have bodies, and the names of the others."""
-    lines, emptied, place = text.splitlines(), [], 0
-    written: list[str] = []
+    lines, emptied, place, written = text.splitlines(), [], 0, list[str]()
     while place < len(lines):
         body = body_at(lines, place)
         name = function_in(file, lines, place + 1) if body else ""
@@ -266,11 +260,9 @@ def without_bodies(file: str, text: str, kept: set[str]) -> tuple[str, list[str]
 
 def proofs_made(crate: Any) -> list[str]:
     """The functions of which a build of the crate had a proof, by their paths."""
-    try:
-        made = pathlib.Path(f"{crate.folder}/out/rlib/{crate.name}.rlib/toolchain/made.json").read_text().splitlines()
-    except OSError:
-        return []
-    return [it[1] for line in made if (it := re.fullmatch(r"proofs/([\w/]+)/Proof", json.loads(line)[0]))]
+    made = pathlib.Path(f"{crate.folder}/out/rlib/{crate.name}.rlib/toolchain/made.json")
+    lines = made.read_text().splitlines() if made.is_file() else []
+    return [it[1] for line in lines if (it := re.fullmatch(r"proofs/([\w/]+)/Proof", json.loads(line)[0]))]
 
 
 def empty_others(copy: pathlib.Path, made: list[str], kept: set[str]) -> None:
@@ -350,7 +342,7 @@ def check(whole: pathlib.Path, made: list[str], command: list[str], bundle: list
 
 def failures_in(said: str, crate: str) -> dict[str, list[str]]:
     """The goals that are not proved, by function."""
-    goals: dict[str, list[str]] = {}
+    goals: defaultdict[str, list[str]] = defaultdict(list)
     noted: list[str] = []
     for line in said.splitlines():
         told, proof, note = TOLD.match(line), PROOF.match(line), NOTE.match(line)
@@ -359,10 +351,10 @@ def failures_in(said: str, crate: str) -> dict[str, list[str]]:
         elif told:
             if told[1] == crate and told[3] != "proved":
                 found = UNPROVED.search(told[4])
-                goals.setdefault(told[2], []).extend([*noted, *(GOAL.findall(found[1]) if found else [])])
+                goals[told[2]] += [*noted, *(GOAL.findall(found[1]) if found else [])]
             noted = []
         elif proof:
-            goals.setdefault(proof[1].replace("/", "::"), []).append(proof[2])
+            goals[proof[1].replace("/", "::")].append(proof[2])
     return goals
 
 
@@ -393,13 +385,11 @@ def fault_of(body: WrongBody, goals: dict[str, list[str]], rows: dict[str, Row])
 
 def row_told(body: WrongBody, goals: dict[str, list[str]], rows: dict[str, Row]) -> str:
     """What a check told of it, as a line of the table: what stands there, where that is told, or the first that is."""
-    row = rows.get(body.name)
-    if row and place_told(row, goals):
-        row = Row(f"{place_told(row, goals)} {row.goal.split()[1]}", row.why)
-    else:
-        row = Row((told_of(body, goals) or ["is proved"])[0], row.why if row else "")
-    asked = "" if body.changes_that_of(row) else "WHY"
-    return f"{body.name}: {row.goal}" + (f" | {row.why or asked}" if row.why or asked else "")
+    row, goal = rows.get(body.name, Row("")), (told_of(body, goals) or ["is proved"])[0]
+    if row.goal and (place := place_told(row, goals)):
+        goal = f"{place} {row.goal.split()[1]}"
+    why = row.why or ("" if body.changes_that_of(Row(goal)) else "WHY")
+    return f"{body.name}: {goal}" + (f" | {why}" if why else "")
 
 
 @dataclass(frozen=True)
@@ -418,8 +408,8 @@ def judge(said: str, crate: str, bundle: list[WrongBody], rows: dict[str, Row]) 
     all_goals, outcomes = failures_in(said, crate), {}
     for body in bundle:
         # A copy's goals stand in place of the function's.
-        own = {it: it.removesuffix(body.copy) for it in all_goals if (COPY.search(it) or [""])[0] == body.copy}
-        goals = {function: all_goals[it] for it, function in own.items()}
+        own = (it for it in all_goals if (COPY.search(it) or [""])[0] == body.copy)
+        goals = {it.removesuffix(body.copy): all_goals[it] for it in own}
         fault = fault_of(body, goals, rows)
         is_doubtful = not told_of(body, goals) or body.name in rows and bool(fault)
         outcomes[body.name] = Outcome(fault, row_told(body, goals, rows), is_doubtful)
@@ -436,10 +426,8 @@ def try_crate(tools: ModuleType, crate: Any, bodies: list[WrongBody], rows: dict
             if os.path.isdir(f"{crate.folder}/{part}"):
                 shutil.copytree(f"{crate.folder}/{part}", copy / part)
         kept.mkdir()
-        made = proofs_made(crate)
-        words = crate.words(["--jobs", "1"], keeps=False)
-        command = [tools.RATTLE, "check", *words, "--incremental", str(kept)]
-        bundles = together(bodies)
+        made, bundles = proofs_made(crate), together(bodies)
+        command = [tools.RATTLE, "check", *crate.words(["--jobs", "1"], keeps=False), "--incremental", str(kept)]
         while bundles:
             bundle, began = bundles.pop(0), time.monotonic()
             try:
@@ -447,11 +435,9 @@ def try_crate(tools: ModuleType, crate: Any, bodies: list[WrongBody], rows: dict
             except (OSError, subprocess.SubprocessError) as fault:
                 outcomes |= {body.name: Outcome(f"it could not be tried: {fault}") for body in bundle}
             if os.environ.get("WRONG_BODIES_TIMES"):
-                names = " ".join(body.name for body in bundle)
-                print(f"{time.monotonic() - began:.0f} s: {names}", file=sys.stderr, flush=True)
-            if len(bundle) > 1:
-                alone = [body for body in bundle if outcomes[body.name].is_doubtful]
-                bundles += [[dataclasses.replace(body, copy="")] for body in alone]
+                print(f"{time.monotonic() - began:.0f} s:", *(body.name for body in bundle), file=sys.stderr, flush=True)
+            alone = [body for body in bundle if len(bundle) > 1 and outcomes[body.name].is_doubtful]
+            bundles += [[dataclasses.replace(body, copy="")] for body in alone]
     return outcomes
 
 
@@ -487,15 +473,12 @@ def main() -> int:
         print(f"{why}\n0 passed, 1 failed")
         return 1
     crates = {crate.name: crate for crate in tools.crates_below(str(root))}
-    for name in options.crates or crates:
-        if name not in crates:
-            wrong[name] = "there is no such crate"
-            continue
+    wrong |= {name: "there is no such crate" for name in options.crates if name not in crates}
+    for name in (name for name in options.crates or crates if name in crates):
         bodies, bad = bodies_of(root, name, options.folder, rows)
-        wrong |= bad
         tasks += [(name, bodies)] if bodies else []
         there = {body.name for body in bodies} | bad.keys()
-        wrong |= {row: f"{TABLE} names it, and it is not there" for row in rows if row.startswith(f"{name}/") and row not in there}
+        wrong |= bad | {row: f"{TABLE} names it, and it is not there" for row in rows if row.startswith(f"{name}/") and row not in there}
     tries = lambda task: try_crate(tools, crates[task[0]], task[1], rows)
     with concurrent.futures.ThreadPoolExecutor(options.jobs or places()) as pool:
         for outcomes in pool.map(tries, tasks):
@@ -504,8 +487,7 @@ def main() -> int:
                 continue
             passed += sum(not it.fault for it in outcomes.values())
             wrong |= {name: it.fault for name, it in outcomes.items() if it.fault}
-    for name in sorted(wrong):
-        print(f"{name}: {wrong[name]}")
+    print("".join(f"{name}: {wrong[name]}\n" for name in sorted(wrong)), end="")
     print(f"{passed} passed, {len(wrong)} failed")
     return 1 if wrong else 0
 

@@ -56,8 +56,7 @@ class Running:
     The folder is fresh and nobody else's: who gets into it may command a server.
     """
 
-    def __init__(
-            self, stack: contextlib.ExitStack, folder: pathlib.Path, user: pwd.struct_passwd | None = None) -> None:
+    def __init__(self, stack: contextlib.ExitStack, folder: pathlib.Path, user: pwd.struct_passwd | None = None) -> None:
         self.stack, self.folder = stack, folder
         self.who = {"user": user.pw_uid, "group": user.pw_gid, "extra_groups": []} if user else {}
 
@@ -91,9 +90,9 @@ class Running:
 
 
 def compiler(it: Running) -> None:
+    text = "#include <stdio.h>\n#include <string.h>\n" + "".join(TEXTS["part"].format(part) for part in range(40))
+    calls = " + ".join(f"part_{part}(text, {part})" for part in range(40))
     for place in range(6 * CPUS):
-        text = "#include <stdio.h>\n#include <string.h>\n" + "".join(TEXTS["part"].format(part) for part in range(40))
-        calls = " + ".join(f"part_{part}(text, {part})" for part in range(40))
         (it.folder / f"file{place}.c").write_text(f"{text}\nint all_{place}(const char *text) {{ return {calls}; }}\n")
     (it.folder / "Makefile").write_text(TEXTS["makefile"])
     it.begin("sh", "-c", f"while make -s -B -j {2 * CPUS}; do :; done")

@@ -79,8 +79,7 @@ def use(program, options):
     repeat = f"python3 tests/hostile/hostile.py {form}--program {shlex.quote(str(program))}"
     tally = Tally(repeat, options.only, options.jobs)
     with tempfile.TemporaryDirectory(prefix="hostile-") as folder:
-        machine = Machine(program, folder)
-        for name, part in parts_of(machine, tally, options).items():
+        for name, part in parts_of(Machine(program, folder), tally, options).items():
             tally.repeat = f"{repeat} --part {shlex.quote(name)}"
             before, began = tally.passed + tally.failed, time.perf_counter()
             part()

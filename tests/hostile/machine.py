@@ -70,9 +70,7 @@ class Subject:
 
     def plain(self, text):
         """What was written, without the comments: lines whose first byte is `#`."""
-        if not self.commented:
-            return text
-        return b"\n".join(line for line in text.split(b"\n") if not line.startswith(b"#"))
+        return re.sub(rb"(?m)^#.*\n?", b"", text) if self.commented else text
 
 
 def compiler():

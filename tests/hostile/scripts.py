@@ -1,4 +1,5 @@
 """Scripts drawn at random: by the grammar, with numbers that mostly fit, and then with words and bytes spoilt."""
+from collections import Counter
 from dataclasses import dataclass, field
 
 from kernel import GREATEST, LEAVES, ORDERS, OWN_OF_VERSION_3, answered, forms, told_of
@@ -24,16 +25,13 @@ class Rough:
     cpus: int
     threads: int = 0
     deltas: int = 0
-    posts: dict = field(default_factory=dict)
+    posts: Counter = field(default_factory=Counter)
     running: set = field(default_factory=set)
-
-    def post(self, queue):
-        self.posts[queue] = self.posts.get(queue, 0) + 1
 
     def number(self, chance, name, cpu):
         """A number for a word of a command on this CPU: it mostly fits."""
         if name == "ASEQ":
-            return max(0, self.posts.get(cpu, 0) - (chance.random() < 0.1))
+            return max(0, self.posts[cpu] - (chance.random() < 0.1))
         if name in CPUS:
             return chance.randrange(self.cpus + (chance.random() < 0.02))
         if name == "MASK":
@@ -48,8 +46,7 @@ class Rough:
         self.threads += words[0] == b"create"
         self.deltas += words[0] in (b"publish", b"answer") and words[-1] != b"fail"
         leaves = words[0].decode() in LEAVES
-        if words[0] in (b"create", b"tick") or leaves and cpu in self.running:
-            self.post(cpu)
+        self.posts[cpu] += words[0] in (b"create", b"tick") or leaves and cpu in self.running
         if words[0] in (b"pick", b"commit"):
             self.running.add(cpu)
         elif leaves:
@@ -71,8 +68,7 @@ def command(chance, rough, fields, cpu):
             continue
         fixed = name in CPUS and is_first and chance.random() < 0.98
         is_first = is_first and name not in CPUS
-        number = cpu if fixed else rough.number(chance, name, cpu)
-        words.append((b"t%d" if name == "T" else b"%d") % number)
+        words.append((b"t%d" if name == "T" else b"%d") % (cpu if fixed else rough.number(chance, name, cpu)))
     rough.count(words, cpu)
     return words
 

@@ -60,15 +60,12 @@ def posts(count):
 
 
 def publishes(count):
-    yield from posts(ROOM)
-    yield "publish 0\n" * count
+    yield from (*posts(ROOM), "publish 0\n" * count)
 
 
 def created():
     """Threads, as many as may be, all of queue 0."""
-    yield WIDE
-    yield "create 0 1 ready\n" * 65535
-    yield "publish 0\n"
+    yield from (WIDE, "create 0 1 ready\n" * 65535, "publish 0\n")
 
 
 def deliveries(agents, deltas):
@@ -77,13 +74,11 @@ def deliveries(agents, deltas):
 
 
 def answers(count):
-    yield from created()
-    yield "answer 0 1\n" * count
+    yield from (*created(), "answer 0 1\n" * count)
 
 
 def threads(agents):
-    yield from created()
-    yield from deliveries(agents, [0])
+    yield from (*created(), *deliveries(agents, [0]))
 
 
 def early(agents, count, answered=0):
@@ -135,10 +130,7 @@ def living(cpus, threads, anywhere, tail=""):
     step, ending = '"block 0",', '"die 0"]},\n'
     room = MOST_SETTINGS - len(f"cpus={cpus}\nthread=[\n]\n{tail}") - sum(map(len, heads)) - threads * len(ending)
     each = min(999, room // (threads * len(step)))
-    yield f"cpus={cpus}\nthread=[\n"
-    for head in heads:
-        yield head + step * each + ending
-    yield "]\n" + tail
+    yield from (f"cpus={cpus}\nthread=[\n", *(head + step * each + ending for head in heads), "]\n" + tail)
 
 
 def restarts(cpus, threads, turn):
@@ -151,9 +143,7 @@ def thread(queue, mask, steps, more=""):
 
 
 def load(cpus, threads, variants, until=0):
-    yield f"cpus={cpus}\nuntil={until}\nthread=[\n"
-    yield from threads
-    yield "]\n" + variants
+    yield from (f"cpus={cpus}\nuntil={until}\nthread=[\n", *threads, "]\n" + variants)
 
 
 def variants_of(count, keys):
@@ -210,8 +200,7 @@ def write(words, out):
 
 def load_text(words):
     """The text of a load, by its words."""
-    out = io.StringIO()
-    write(words.split(), out)
+    write(words.split(), out := io.StringIO())
     return out.getvalue()
 
 

@@ -62,15 +62,13 @@ _equal = _either("equal", "differ")
 
 
 def _status(answer: str) -> Status:
-    words = answer.split(" ")
-    cpu = int(words[3][1:]) if len(words) > 3 else None
-    return Status(int(words[0][1:]), int(words[1][1:]), Phase(words[2]), cpu)
+    thread, number, phase, *cpu = answer.split(" ")
+    return Status(int(thread[1:]), int(number[1:]), Phase(phase), int(cpu[0][1:]) if cpu else None)
 
 
 def _known(words: list[str]) -> Known:
-    upto = int(words[2])
-    at = words.index("early")
-    early = () if words[at + 1] == "-" else tuple(int(word) for word in words[at + 1:])
+    upto, numbers = int(words[2]), words[words.index("early") + 1:]
+    early = () if numbers == ["-"] else tuple(map(int, numbers))
     if upto == 0:
         return Known(0, None, None, None, None, early)
     level = int(words[9]) if words[8] == "level" else 0

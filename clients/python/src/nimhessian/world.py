@@ -35,8 +35,7 @@ def _like(make: Callable[..., object], method: Callable[..., object]) -> None:
     """Gives a method the name, the words and the arguments of the function that makes its command."""
     functools.update_wrapper(method, make)
     own = inspect.Parameter("self", inspect.Parameter.POSITIONAL_OR_KEYWORD)
-    whole = inspect.signature(make)
-    setattr(method, "__signature__", inspect.Signature([own, *whole.parameters.values()]))
+    setattr(method, "__signature__", inspect.Signature([own, *inspect.signature(make).parameters.values()]))
 
 
 def _asked(make: Callable[Given, Command[Value]]) -> Callable[Concatenate[World, Given], Value]:
@@ -74,27 +73,16 @@ class World:
     """
 
     def __init__(
-        self,
-        cpus: int,
-        threads: int = 4_096,
-        numbers: int = 1_000_000,
-        room: int = 65_536,
-        posts: int = MOST_POSTS,
-        *,
-        version: int = 3,
-        policy: str | None = None,
-        exact: bool = False,
-        program: str | os.PathLike[str] | None = None,
-        record: TextIO | None = None,
+        self, cpus: int, threads: int = 4_096, numbers: int = 1_000_000, room: int = 65_536, posts: int = MOST_POSTS, *,
+        version: int = 3, policy: str | None = None, exact: bool = False,
+        program: str | os.PathLike[str] | None = None, record: TextIO | None = None,
     ) -> None:
         self.limits = Limits(cpus, threads, numbers, room, posts)
         self._program = Program(program, record)
-        opening: Command[None] = Command(f"version {version}", _ignored)
-        enclave: Command[None] = Command(f"enclave {cpus} {threads} {numbers} {room} {posts}", _ignored)
         try:
             if version != 1:
-                self.ask(opening)
-            self.ask(enclave)
+                self.ask(Command(f"version {version}", _ignored))
+            self.ask(Command(f"enclave {cpus} {threads} {numbers} {room} {posts}", _ignored))
             if policy is not None:
                 self.policy(policy, exact)
         except BaseException:
