@@ -12,6 +12,7 @@ where it is, as prose, and one that begins with `----` as a heading. A comment a
 is told below its record or type. specs/Inner is left out.
 """
 import collections
+import itertools
 import re
 import sys
 import textwrap
@@ -52,10 +53,8 @@ Definition = collections.namedtuple("Definition", "name line comment is_field ki
 
 def read(path):
     """The comment at the file's head, and then, in order, definitions and pieces of prose."""
-    head, found, comment, column, group, depth = [], [], [], 0, "", 0
-    lines = path.read_text().splitlines()
-    while len(head) < len(lines) and lines[len(head)].startswith("--"):
-        head.append(COMMENT.match(lines[len(head)])[2])
+    found, comment, column, group, depth, lines = [], [], 0, "", 0, path.read_text().splitlines()
+    head = [COMMENT.match(line)[2] for line in itertools.takewhile(lambda line: line.startswith("--"), lines)]
     for number, line in enumerate(lines[len(head):], len(head) + 1):
         if told := COMMENT.match(line):
             comment, column = (comment if comment and column == len(told[1]) else []) + [told[2]], len(told[1])
@@ -63,11 +62,9 @@ def read(path):
         defined = DEFINITION.match(line)
         text = " ".join(comment).strip()
         is_inner = group in ("record", "data") and line.startswith(" " * (depth + 1))
-        if is_inner and (defined or CONSTRUCTOR.match(line)):
-            name = defined[3] if defined else CONSTRUCTOR.match(line)[1]
-            text = text or line.partition("  -- ")[2]
-            if text:
-                found.append(Definition(name, number, text, True, ""))
+        if is_inner and (inner := defined or CONSTRUCTOR.match(line)):
+            if text := text or line.partition("  -- ")[2]:
+                found.append(Definition(inner[inner.lastindex], number, text, True, ""))
         elif defined and not line.startswith("use "):
             group, depth = defined[2] or "", len(defined[1])
             found.append(Definition(defined[3], number, text, False, group))

@@ -14,10 +14,9 @@ def is_link(name: str, at: int | None) -> bool:
     """Whether this is a link. One of another user is refused, but for root's."""
     with contextlib.suppress(FileNotFoundError):
         about = os.stat(name, dir_fd=at, follow_symlinks=False)
-        if stat.S_ISLNK(about.st_mode):
-            if about.st_uid not in (0, os.geteuid()):
-                raise Fault(f"`{name}` is a link of another user")
-            return True
+        if stat.S_ISLNK(about.st_mode) and about.st_uid not in (0, os.geteuid()):
+            raise Fault(f"`{name}` is a link of another user")
+        return stat.S_ISLNK(about.st_mode)
     return False
 
 

@@ -152,8 +152,7 @@ def plain(text: str) -> str:
 
 def read_recording(lines: Iterable[str], limit: int | None) -> Recording:
     """Reads at most `limit` events. A last line that has no line feed, or is no event, was cut short: not if it is all."""
-    recording = Recording()
-    numbered = enumerate(lines, 1)
+    recording, numbered = Recording(), enumerate(lines, 1)
     for number, line in numbered:
         if limit is not None and recording.read >= limit:
             break
@@ -191,10 +190,8 @@ def without_repeats(recording: Recording) -> None:
 
 def from_the_start(events: list[Event]) -> list[Event]:
     """Who recorded the first event of a CPU was there from the start, but for one seen elsewhere before."""
-    first: list[Event] = []
-    later: list[Event] = []
+    first, later, told = list[Event](), list[Event](), set[int]()
     unheard = {event.cpu for event in events if event.kind == RUNS}
-    told: set[int] = set()
     for place, event in enumerate(events):
         if not unheard:
             return first + later + events[place:]

@@ -140,14 +140,12 @@ class Crate:
             return False
         if self.is_program:
             return function.module == "main" and not function.owner
-        if function.owner:
-            return function.owner in self.exports
-        return function.name in self.exports or function.module.split("/")[0] in self.open_modules
+        is_open = not function.owner and function.module.split("/")[0] in self.open_modules
+        return (function.owner or function.name) in self.exports or is_open
 
     def knows(self, word):
-        return (word in self.types or word in self.words or any(f.name == word or word in f.clauses for f in self.functions)
-                or any(word in words for words in self.definitions.values()) or word in self.definitions
-                or any(word == trait for _, trait in self.met))
+        sets = (self.types, self.words, self.definitions, *self.definitions.values(), {trait for _, trait in self.met})
+        return any(word in it for it in sets) or any(f.name == word or word in f.clauses for f in self.functions)
 
 
 def impl_names(header):

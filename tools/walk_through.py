@@ -19,14 +19,11 @@ HEAD = (pathlib.Path(__file__).resolve().parent / "pages/walk_through.txt").read
 def blocks_of(lines):
     """The script's lines by paragraph: comments that begin it, and the commands that follow."""
     text, commands = [], []
-    for line in lines:
-        if line.startswith("#"):
-            if commands:
-                yield text, commands
-                text, commands = [], []
-            text.append(line[1:].strip())
-        elif line.strip():
-            commands.append(line.strip())
+    for line in filter(str.strip, lines):
+        if line.startswith("#") and commands:
+            yield text, commands
+            text, commands = [], []
+        (text if line.startswith("#") else commands).append(line.removeprefix("#").strip())
     yield text, commands
 
 
@@ -44,8 +41,7 @@ def steps_of(program, commands, cpus):
     asked = [line for command in commands for line in (command, *(f"show {cpu}" for cpu in range(cpus)))]
     run = subprocess.run([program, "replay"], input="\n".join([*asked, ""]), capture_output=True, text=True, check=True)
     lines = iter(run.stdout.splitlines())
-    told = [view_text(iter(lines.__next__, "end")) if line.startswith("show ") else f"`{next(lines)}`"
-            for line in asked]
+    told = [view_text(iter(lines.__next__, "end")) if line.startswith("show ") else f"`{next(lines)}`" for line in asked]
     for place in range(0, len(told), cpus + 1):
         yield told[place], told[place + 1:place + 1 + cpus]
 
@@ -61,8 +57,7 @@ def page(program, path):
             yield textwrap.fill(" ".join(text), 120, break_long_words=False, break_on_hyphens=False) + "\n"
         if not commands:
             continue
-        yield "| line | reply |" + "".join(f" agent {cpu} knows |" for cpu in range(cpus))
-        yield "|---|---|" + "---|" * cpus
+        yield "| line | reply |" + "".join(f" agent {cpu} knows |" for cpu in range(cpus)) + "\n|---|---|" + "---|" * cpus
         for command in commands:
             reply, views = next(steps)
             cells = ["" if view == old else view for view, old in zip(views, before)]
