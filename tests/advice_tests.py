@@ -20,10 +20,8 @@ from dataclasses import dataclass
 
 import rig
 from kernel import ENVIRONMENT, LEAVES, ORDERS, Talk, World, last_lines
-from rig import ROOT, good
-
-sys.path.insert(0, str(ROOT / "tests/hostile"))
-from scripts import Rough, lines_of, mended  # noqa: E402
+from rig import good
+from scripts import Rough, lines_of, mended
 
 DRAWN, SEARCHED, PAIRED = 400, 200, 6
 FORMS = {

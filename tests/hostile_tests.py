@@ -16,15 +16,15 @@ import unittest.mock
 import rig
 from rig import ROOT, differ, matches, same
 
-sys.path.insert(0, str(ROOT / "tests/hostile"))
-import fuzz  # noqa: E402
-import growths  # noqa: E402
-import loads  # noqa: E402
-import settings  # noqa: E402
-import streams  # noqa: E402
-import subjects  # noqa: E402
-import worst  # noqa: E402
-from machine import Machine, NoCompiler, Subject, Tally, build  # noqa: E402
+# These stand where the rig lets modules be looked for.
+import fuzz
+import growths
+import loads
+import settings
+import streams
+import subjects
+import worst
+from machine import Machine, NoCompiler, Subject, Tally, build
 
 # Answers each line `ok`, in a right way, and in wrong ones.
 STAND_IN = ROOT / "tests/hostile/stand_in.c"

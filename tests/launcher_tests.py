@@ -8,6 +8,7 @@ from __future__ import annotations
 
 import contextlib
 import fcntl
+import functools
 import os
 import pathlib
 import re
@@ -115,6 +116,11 @@ class Launcher:
     def put_command(self, name: str, text: str) -> None:
         (self.bin / name).unlink(missing_ok=True)
         rig.put_command(self.bin / name, text)
+
+    def put_queue(self, name: str) -> None:
+        """A queue in the place of a file of the tree, for whose other end an open would wait."""
+        (self.tree / name).unlink(missing_ok=True)
+        os.mkfifo(self.tree / name)
 
     def put_bounded(self) -> None:
         """A command of the tree that starts the launcher where no file may grow."""
@@ -264,45 +270,39 @@ FIXTURE = Launcher
 
 LOW, EXTRA, OTHER = "low/src/lib.rt", "left/specs/Extra.antt", "left/specs/Other.antt"
 OF_TESTS = ("pc_tests", "pc_tests_agents", "pc_example", "pc_replayed")
+PUT, BUILDS, STARTS = Launcher.put_program, Launcher.builds, Launcher.starts
+UNNOTED = functools.partial(PUT, is_noted=False)
 # What is done to a tree whose program is as an earlier build left it, or was built here, and what a start does then.
 CHANGES: dict[str, tuple[Any, Any, Any]] = {
-    "nothing": (Launcher.put_program, lambda it: None, Launcher.starts),
-    "the lock is held": (Launcher.put_program, Launcher.lock, Launcher.starts),
-    "the kit is gone": (Launcher.put_program, lambda it: (it.bin / "rt").unlink(), Launcher.starts),
-    "sources of another date": (Launcher.put_program, lambda it: it.set_dates(50), Launcher.starts),
-    "a copy of the tree": (Launcher.builds, Launcher.put_copy, Launcher.starts),
-    "a change that is taken back": (
-        Launcher.builds, lambda it: [it.put_source(LOW, text) for text in ("// other\n", "// low\n")], Launcher.starts),
-    "another source": (Launcher.put_program, lambda it: it.put_source(LOW), Launcher.builds),
-    "another source of an old date": (
-        Launcher.builds, lambda it: it.put_source(LOW) or it.set_dates(-1000), Launcher.builds),
-    "another definition of an old date": (Launcher.builds, lambda it: it.put_source(EXTRA) or it.set_dates(-1000), Launcher.builds),
-    "another list of crates of an old date": (
-        Launcher.builds, lambda it: it.put_crates(f"# Other.\n{CRATES}") or it.set_dates(-1000), Launcher.builds),
-    "another program": (Launcher.builds, lambda it: it.put_program(PROGRAM + "# other\n", is_noted=False), Launcher.builds),
-    "a program of another command": (lambda it: it.put_program(is_noted=False), lambda it: None, Launcher.builds),
-    "a note that is a list of names": (
-        lambda it: it.put_program(is_noted=False), lambda it: it.note.write_text("crates.txt\n"), Launcher.builds),
-    "a folder in the place of the note": (
-        lambda it: it.put_program(is_noted=False), lambda it: (it.note / "x").mkdir(parents=True), Launcher.builds),
-    "an empty note": (Launcher.put_program, lambda it: it.note.write_text(""), Launcher.builds),
-    "another edit": (Launcher.put_program, lambda it: it.put_source("low/must-fail/x.rt"), Launcher.starts),
-    "another wrong body": (Launcher.put_program, lambda it: it.put_source("low/wrong-bodies/x.rt"), Launcher.starts),
-    "another file of another kind": (Launcher.put_program, lambda it: it.put_source("low/src/notes.md"), Launcher.starts),
-    "a deleted source": (Launcher.builds, lambda it: (it.crates / EXTRA).unlink(), Launcher.builds),
-    "an added source of an old date": (Launcher.builds, lambda it: it.put_source(OTHER) or it.set_dates(-100), Launcher.builds),
-    "a deleted source, and no note": (Launcher.builds, lambda it: (it.crates / EXTRA).unlink() or it.note.unlink(), Launcher.builds),
+    "nothing": (PUT, lambda it: None, STARTS),
+    "the lock is held": (PUT, Launcher.lock, STARTS),
+    "the kit is gone": (PUT, lambda it: (it.bin / "rt").unlink(), STARTS),
+    "sources of another date": (PUT, lambda it: it.set_dates(50), STARTS),
+    "a copy of the tree": (BUILDS, Launcher.put_copy, STARTS),
+    "a change that is taken back": (BUILDS, lambda it: it.put_source(LOW) or it.put_source(LOW, "// low\n"), STARTS),
+    "another source": (PUT, lambda it: it.put_source(LOW), BUILDS),
+    "another source of an old date": (BUILDS, lambda it: it.put_source(LOW) or it.set_dates(-1000), BUILDS),
+    "another definition of an old date": (BUILDS, lambda it: it.put_source(EXTRA) or it.set_dates(-1000), BUILDS),
+    "another list of crates of an old date": (BUILDS, lambda it: it.put_crates(CRATES + "\n") or it.set_dates(-1000), BUILDS),
+    "another program": (BUILDS, lambda it: it.put_program(PROGRAM + "# other\n", is_noted=False), BUILDS),
+    "a program of another command": (UNNOTED, lambda it: None, BUILDS),
+    "a note that is a list of names": (UNNOTED, lambda it: it.note.write_text("crates.txt\n"), BUILDS),
+    "a folder in the place of the note": (UNNOTED, lambda it: (it.note / "x").mkdir(parents=True), BUILDS),
+    "an empty note": (PUT, lambda it: it.note.write_text(""), BUILDS),
+    "another edit": (PUT, lambda it: it.put_source("low/must-fail/x.rt"), STARTS),
+    "another wrong body": (PUT, lambda it: it.put_source("low/wrong-bodies/x.rt"), STARTS),
+    "another file of another kind": (PUT, lambda it: it.put_source("low/src/notes.md"), STARTS),
+    "a deleted source": (BUILDS, lambda it: (it.crates / EXTRA).unlink(), BUILDS),
+    "an added source of an old date": (BUILDS, lambda it: it.put_source(OTHER) or it.set_dates(-100), BUILDS),
+    "a deleted source, and no note": (BUILDS, lambda it: (it.crates / EXTRA).unlink() or it.note.unlink(), BUILDS),
     "crates of the tests": (
         lambda it: it.put_crates_above(*(f"{name}: low left" for name in OF_TESTS)) or it.builds(),
-        lambda it: [it.put_source(f"{name}/src/lib.rt") for name in OF_TESTS], Launcher.starts),
-    "a crate that the program does not stand on": (
-        Launcher.put_program, lambda it: it.put_crates_above("beside: low"), Launcher.builds),
+        lambda it: [it.put_source(f"{name}/src/lib.rt") for name in OF_TESTS], STARTS),
+    "a crate that the program does not stand on": (PUT, lambda it: it.put_crates_above("beside: low"), BUILDS),
     "a program of another command, that of release/": (
-        lambda it: it.put_release() or it.put_program(is_noted=False),
-        lambda it: it.starts() or shutil.rmtree(it.release), Launcher.starts),
+        lambda it: it.put_release() or UNNOTED(it), lambda it: it.starts() or shutil.rmtree(it.release), STARTS),
     "a link to the launcher": (
-        Launcher.put_program, lambda it: (it.top / "linked").symlink_to(it.tree / "pc-sim"),
-        lambda it, *args: it.starts(*args, command="../linked")),
+        PUT, lambda it: (it.top / "linked").symlink_to(it.tree / "pc-sim"), functools.partial(STARTS, command="../linked")),
 }
 
 
@@ -452,7 +452,7 @@ def test_a_failed_crate_names_itself_and_nothing_more_begins(it: Launcher) -> No
 FAILS: dict[str, tuple[Any, dict[str, str], list[str], bool]] = {
     "no rt and no program": (lambda it: (it.bin / "rt").unlink(), {}, ["not built", "rt is not on the path"], False),
     "a tree that cannot be locked": (lambda it: (it.tree / ".build.lock").mkdir(), {}, [".build.lock"], False),
-    "a queue in place of the lock": (lambda it: os.mkfifo(it.tree / ".build.lock"), {}, [".build.lock is no file"], False),
+    "a queue in place of the lock": (lambda it: it.put_queue(".build.lock"), {}, [".build.lock is no file"], False),
     "a crate that is killed": (lambda it: None, {"RT_KILLED": "left"}, ["left could not be built"], False),
     "a build that leaves no program": (lambda it: None, {"RT_LEAVES_NONE": "yes"}, ["left no program"], True),
 }
@@ -563,7 +563,7 @@ def test_no_start_builds_while_the_gate_runs(it: Launcher) -> None:
 
 
 def test_the_gate_waits_for_no_queue_in_place_of_the_lock(it: Launcher) -> None:
-    os.mkfifo(it.tree / ".build.lock")
+    it.put_queue(".build.lock")
     same(it.run_it(command="test"), (1, "0 passed, 1 failed\n", "test: .build.lock is no file, and has to be removed\n"))
 
 
@@ -615,10 +615,10 @@ NOT_TAKEN: dict[str, tuple[Any, str]] = {
         lambda it: change_release(it, "SUMS", lambda sums: re.sub(rb"(?m)^(\w)(\w{63})(?=.*program$)", rb"\2\1", sums)),
         "is not the program of release/SUMS"),
     "a program for another machine": (
-        lambda it: change_release(it, "SUMS", lambda sums: sums.replace(os.uname().machine.encode(), b"pdp11")), "is for another machine, pdp11"),
-    "a queue in place of a file": (
-        lambda it: (it.release / "pc-sim.xz").unlink() or os.mkfifo(it.release / "pc-sim.xz"), "is no file"),
-    "a queue in place of sums": (lambda it: (it.release / "SUMS").unlink() or os.mkfifo(it.release / "SUMS"), ""),
+        lambda it: change_release(it, "SUMS", lambda sums: sums.replace(os.uname().machine.encode(), b"pdp11")),
+        "is for another machine, pdp11"),
+    "a queue in place of a file": (lambda it: it.put_queue("release/pc-sim.xz"), "is no file"),
+    "a queue in place of sums": (lambda it: it.put_queue("release/SUMS"), ""),
     "no xz": (lambda it: (it.bin / "xz").unlink(), "cannot be unpacked, since there is no xz on the path"),
 }
 

@@ -4,7 +4,6 @@ from __future__ import annotations
 import itertools
 import random
 import re
-import sys
 import xml.etree.ElementTree as ElementTree
 from collections import Counter
 from collections.abc import Callable, Iterable, Iterator
@@ -14,9 +13,7 @@ from typing import NamedTuple
 import rig
 from kernel import LEAVES, Talk, World, answered, is_asked, told_of
 from rig import ROOT, outcome, same
-
-sys.path.insert(0, str(ROOT / "tests/hostile"))
-from scripts import Rough, lines_of, mended  # noqa: E402
+from scripts import Rough, lines_of, mended
 
 SCRIPTS = [*sorted((ROOT / "examples").glob("*.script")), *sorted((ROOT / "examples/recordings").glob("*.script"))]
 SETTINGS = [*sorted((ROOT / "examples").glob("*.toml")), *sorted((ROOT / "examples/recordings").glob("*.toml"))]

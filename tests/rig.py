@@ -30,7 +30,7 @@ ROOT = pathlib.Path(__file__).resolve().parent.parent
 BUILT = [ROOT / "crates/pc_sim/out/pc_sim", ROOT / "crates/pc_sim/out/pc_sim.by-rattle"]
 SECONDS = 120
 # The model of the kernel and other modules that tools and tests share.
-sys.path.append(str(ROOT / "tools"))
+sys.path += [str(ROOT / "tools"), str(ROOT / "tests/hostile")]
 Test = tuple[str, Callable[[], object]]
 
 program = BUILT[0]

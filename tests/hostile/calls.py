@@ -69,7 +69,8 @@ def refuse_in_calls(tally, folder):
         tally.add(f"call {call}", None if said == "right" else f"{said} (growth {growth})")
     for name, refused in met.items():
         tally.add(f"calls of {name}", None if refused or name in TAKE_NO_MEMORY else "no growth was refused in any")
-    tally.note("calls that were made again after a refused growth: " + ", ".join(f"{name} {count}" for name, count in met.items()))
+    told = ", ".join(f"{name} {count}" for name, count in met.items())
+    print(f"calls that were made again after a refused growth: {told}", flush=True)
 
 
 # A message that closes a gap takes no memory.

@@ -92,9 +92,9 @@ def refuse_growths(machine, tally, subjects, most):
         tried = sum(len(places(sweep.ample.growths, most)) for sweep in stepped)
         there = sum(sweep.ample.growths for sweep in stepped)
         most_of_all = max(stepped, key=lambda sweep: sweep.ample.growths)
-        tally.note(
+        print(
             f"skipped: of {len(stepped)} subjects that have more than {most} growths {there - tried} of {there} growths were not refused "
-            f"({most_of_all.subject.name} has {most_of_all.ample.growths})")
+            f"({most_of_all.subject.name} has {most_of_all.ample.growths})", flush=True)
 
 
 def bound_stack(machine, tally, subjects):

@@ -169,10 +169,6 @@ class Tally(rig.Tally):
     def wants(self, name):
         return self.only is None or name == self.only
 
-    def note(self, text):
-        """Says what was skipped, or counted beside."""
-        print(text, flush=True)
-
     def add(self, name, fault):
         super().add(name, fault and f"{fault}\n    repeat: {self.repeat} --only '{name}'")
 

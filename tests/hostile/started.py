@@ -1,27 +1,20 @@
 """Starts of the launcher where it can put, unpack, build or start no program: each ends with status 5 and why, and leaves nothing."""
-import os
 from functools import partial
 
 import rig
 from launcher_tests import Launcher
 
 
-def put_queue(it, name):
-    """A queue in the place of a file of the tree, for whose other end an open would wait."""
-    (it.tree / name).unlink(missing_ok=True)
-    os.mkfifo(it.tree / name)
-
-
 # What is done to a tree whose release/ has a program of its sources, what is started there, and whether a program could be built.
 STARTS = {
     "a folder in the program's place": (lambda it: it.program.mkdir(parents=True), "pc-sim", False),
-    "a queue in the program's place": (lambda it: it.program.parent.mkdir() or os.mkfifo(it.program), "pc-sim", True),
+    "a queue in the program's place": (lambda it: it.program.parent.mkdir() or it.put_queue(it.program), "pc-sim", True),
     "a file in its folder's place": (lambda it: it.program.parent.write_text(""), "pc-sim", False),
     "a program that is none": (lambda it: it.put_program("#!/no/such/command\n"), "pc-sim", True),
-    "a queue in place of what is unpacked": (lambda it: put_queue(it, "release/pc-sim.xz"), "pc-sim", False),
-    "a queue in place of the lock": (lambda it: put_queue(it, "release/SUMS") or put_queue(it, ".build.lock"), "pc-sim", True),
+    "a queue in place of what is unpacked": (lambda it: it.put_queue("release/pc-sim.xz"), "pc-sim", False),
+    "a queue in place of the lock": (lambda it: it.put_queue("release/SUMS") or it.put_queue(".build.lock"), "pc-sim", True),
     "files that may not grow": (Launcher.put_bounded, "bounded", False),
-    "a build where files may not grow": (lambda it: put_queue(it, "release/SUMS") or it.put_bounded(), "bounded", True),
+    "a build where files may not grow": (lambda it: it.put_queue("release/SUMS") or it.put_bounded(), "bounded", True),
 }
 
 
