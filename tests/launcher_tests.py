@@ -751,8 +751,7 @@ def test_the_gate_compares_what_it_built_and_notes_it(it: Launcher) -> None:
 def test_arguments_input_and_status_are_handed_through(it: Launcher) -> None:
     args = ["replay", "", "two words", "*", "--", "-n", "a\nb", "$HOME"]
     for built in (False, True):
-        started = it.begin(*args, stdin=subprocess.PIPE, PROGRAM_STATUS="4")
-        status, out, errors = it.ended(started, "one\ntwo\n")
+        status, out, errors = it.ended(it.begin(*args, stdin=subprocess.PIPE, PROGRAM_STATUS="4"), "one\ntwo\n")
         same((status, out, bool(errors)), (4, told(*args) + "one\ntwo\n", not built))
 
 

@@ -70,8 +70,7 @@ def test_each_row_is_that_of_the_lab(sweep: Sweep) -> None:
     rows = sweep.rows()
     for load in LOADS:
         wanted = list(csv.DictReader(pathlib.Path(load).with_suffix(".csv").read_text().splitlines()))
-        found = [row for row in rows if row["load"] == load]
-        for row, want in zip(found, wanted, strict=True):
+        for row, want in zip((row for row in rows if row["load"] == load), wanted, strict=True):
             same(row, dict.fromkeys(row, "") | want | {"load": load})
 
 
@@ -184,8 +183,7 @@ def test_a_job_that_fails_is_told_and_the_others_gathered(sweep: Sweep) -> None:
     same(ran.returncode, 1)
     assert f"{bad} is not done" in ran.stderr
     same({row["load"] for row in sweep.rows()}, {LOADS[0]})
-    told = next((sweep.to / "rows").glob("bad*.err")).read_text()
-    same(told, "pc-sim: lab BadCpus\n")
+    same(next((sweep.to / "rows").glob("bad*.err")).read_text(), "pc-sim: lab BadCpus\n")
 
 
 def test_faults_are_told(sweep: Sweep) -> None:

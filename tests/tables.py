@@ -10,14 +10,8 @@ from kernel import LEAVES, ORDERS
 STAYS_ALIVE = [leave for leave in LEAVES if leave != "die"]
 
 
-def spelled(value: object) -> str:
-    if isinstance(value, (list, tuple)):
-        return "[" + ", ".join(map(spelled, value)) + "]"
-    return json.dumps(value)
-
-
 def table(kind: str, /, **keys: object) -> str:
-    return f"[[{kind}]]\n" + "".join(f"{key} = {spelled(value)}\n" for key, value in keys.items())
+    return f"[[{kind}]]\n" + "".join(f"{key} = {json.dumps(value)}\n" for key, value in keys.items())
 
 
 def thread(queue: object, mask: object, *steps: object, **more: object) -> str:

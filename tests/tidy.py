@@ -208,8 +208,7 @@ def twins(root):
     checked, found = pairs(root)
     findings, told = [], set()
     for number, line in enumerate((root / TWINS).read_text().splitlines(), 1):
-        row = TWIN_ROW.fullmatch(line)
-        if not row or (row[1], row[2]) in told:
+        if not (row := TWIN_ROW.fullmatch(line)) or (row[1], row[2]) in told:
             findings.append(f"{TWINS}:{number}: it is no row `FILE ~ FILE: why`, or stands twice")
             continue
         told.add((row[1], row[2]))

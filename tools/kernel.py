@@ -124,8 +124,7 @@ def answered(script: str, output: str) -> Iterator[Answered]:
     answers = iter(last_lines(output))
     for number, line in enumerate(script.split("\n"), 1):
         words = words_of(line.encode())
-        answer = next(answers, "fault line") if words else ""
-        if answer.startswith("fault line"):
+        if (answer := next(answers, "fault line") if words else "").startswith("fault line"):
             return
         if words and words[0] != "version":
             yield Answered(number, words, answer)

@@ -34,15 +34,12 @@ def build_wheel(wheel_directory: str, config_settings: object = None, metadata_d
     project = _project()
     stem = f"{project['name']}-{project['version']}"
     info = f"{stem}.dist-info"
-    files = {
-        path.relative_to(HERE / "src").as_posix(): path.read_bytes()
-        for path in sorted((HERE / "src").rglob("*"))
-        if path.suffix == ".py" or path.name == "py.typed"
-    }
+    source = HERE / "src"
+    files = {path.relative_to(source).as_posix(): path.read_bytes() for path in sorted(source.rglob("*"))
+             if path.suffix == ".py" or path.name == "py.typed"}
     files[f"{info}/METADATA"] = _metadata(project).encode()
     files[f"{info}/WHEEL"] = b"Wheel-Version: 1.0\nGenerator: wheel_backend\nRoot-Is-Purelib: true\nTag: py3-none-any\n"
-    rows = "".join(_row(name, data) for name, data in files.items()) + f"{info}/RECORD,,\n"
-    files[f"{info}/RECORD"] = rows.encode()
+    files[f"{info}/RECORD"] = "".join([*(_row(*file) for file in files.items()), f"{info}/RECORD,,\n"]).encode()
     wheel = f"{stem}-py3-none-any.whl"
     with zipfile.ZipFile(pathlib.Path(wheel_directory) / wheel, "w", zipfile.ZIP_DEFLATED) as archive:
         for name, data in files.items():

@@ -64,8 +64,7 @@ class Schedule:
                 self.posted(self.world.preempt(CPU, self.rng.randint(0, 9)), True)
                 self.running = None
             case "block":
-                posted = self.world.block(CPU, self.rng.randint(0, 9))
-                self.posted(posted, False)
+                self.posted(self.world.block(CPU, self.rng.randint(0, 9)), False)
                 self.blocked += [] if thread is None else [thread]
                 self.running = None
             case "wake":

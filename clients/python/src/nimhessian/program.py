@@ -101,8 +101,7 @@ class Program:
         return "\n".join(rows)
 
     def _line(self) -> str:
-        line = self._from.readline()
-        if not line.endswith(b"\n"):
+        if not (line := self._from.readline()).endswith(b"\n"):
             status = self._status()
             self._told.seek(0)
             self._end = Died(status, self._told.read().decode(errors="replace"))
