@@ -8,6 +8,7 @@ asked; where man is not, its test is skipped.
 """
 from __future__ import annotations
 
+import itertools
 import re
 import shutil
 import sys
@@ -72,10 +73,9 @@ def test_each_command_is_completed() -> None:
 
 
 def test_each_flag_is_completed() -> None:
-    for words in places():
+    for words, complete in itertools.product(places(), SHELLS):
         for flag in sorted(flags_of(*words)):
-            for complete in SHELLS:
-                assert flag in complete(*words, "--" if flag.startswith("--") else "-"), (words, complete)
+            assert flag in complete(*words, "--" if flag.startswith("--") else "-"), (words, complete)
 
 
 def test_no_flag_is_completed_that_is_not_there() -> None:

@@ -308,8 +308,7 @@ def all_tried() -> list[Tried]:
 
 def runs_tried(chance: random.Random) -> list[Tried]:
     text = wide_load(chance)
-    read = load_of(text)
-    rows = list(csv.DictReader(told(text, "--csv").splitlines()))
+    read, rows = load_of(text), csv.DictReader(told(text, "--csv").splitlines())
     every = [Tried(text, read.cpus, *it, []) for it in zip(read.variants, rows, strict=True)]
     one = chance.choice(every)
     script = told(text, "--script", one.variant.name)

@@ -20,8 +20,7 @@ from recording_tests import record, switch
 from rig import good, needs, outcome, same
 
 NOBODY = 65_534
-RECORDING = "".join([
-    switch(0, 0, 0, "R", 7), switch(10, 0, 7, "R", 9), switch(30, 0, 9, "S", 7), switch(35, 0, 7, "S", 0)])
+RECORDING = switch(0, 0, 0, "R", 7) + switch(10, 0, 7, "R", 9) + switch(30, 0, 9, "S", 7) + switch(35, 0, 7, "S", 0)
 WRITTEN = {"told", "load.toml", "waits", "rows.csv"}
 
 # It tells of itself: the user, the folder that it is in with its mode and owner, its words, and the settings there.
@@ -160,8 +159,7 @@ BELONGS, LINK, OTHERS = "{} belongs to another user; ", "`{}` is a link of anoth
     "a kind's is another's link": ("to/pool", linked_by_another, LINK, True),
     "a recording is another's link": ("to/pool/recording.txt", linked_by_another, LINK, True),
 })
-def test_a_folder_of_others_is_refused(
-        name: str, change: Callable[[pathlib.Path], None], told: str, by_root: bool) -> None:
+def test_a_folder_of_others_is_refused(name: str, change: Callable[[pathlib.Path], None], told: str, by_root: bool) -> None:
     needs(not by_root or os.geteuid() == 0, "who is not root cannot give files away")
     with rig.folder() as top:
         kept(top)

@@ -16,7 +16,6 @@ import re
 import select
 import subprocess
 import sys
-import time
 from collections.abc import Iterator
 from functools import partial
 from typing import Any
@@ -134,10 +133,9 @@ def test_terminal() -> None:
     master, slave = pty.openpty()
     talk = start(stdin=slave, stderr=slave)
     os.close(slave)
-    said, last = b"", time.monotonic() + SECONDS
-    while b"script\r\n" not in said and time.monotonic() < last:
-        if select.select([master], [], [], 1)[0]:
-            said += os.read(master, 4_096)
+    said = b""
+    while b"script\r\n" not in said and select.select([master], [], [], SECONDS)[0]:
+        said += os.read(master, 4_096)
     assert said.startswith(b"pc-sim: ") and b"?" in said and b"explain" in said, said
     os.write(master, b"enclave 1 1 1 1 1\n")
     same(talk.stdout.readline(), b"ok\n")

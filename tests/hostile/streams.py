@@ -57,9 +57,9 @@ def fault_of_same(subject, run):
     return None if (run.status, subject.plain(run.out), run.err) == (subject.status, subject.out, subject.err) else told(run)
 
 
-def fault_of_read(run):
-    """What is wrong after a read that failed: nothing is answered."""
-    return None if (run.status, run.out, run.err) == (1, b"", CANNOT_READ) else told(run)
+def fault_of(run, status=1, out=b"", err=CANNOT_READ):
+    """What is wrong with a run that is to end so, as after a read that failed: nothing is answered then."""
+    return None if (run.status, run.out, run.err) == (status, out, err) else told(run)
 
 
 def fault_of_write(subject, run):
@@ -110,7 +110,7 @@ class Streams:
         """A read fails, behind so many bytes; a session answers these, and nothing else answers any."""
         if not (run := self.machine.run(self.subject, **hostile)).reads_met:
             return "no read was met"
-        return self.fault_of_talk(run, [count]) if self.is_talk() else fault_of_read(run)
+        return self.fault_of_talk(run, [count]) if self.is_talk() else fault_of(run)
 
     def failed_write(self, **hostile):
         run = self.machine.run(self.subject, **hostile)
@@ -119,7 +119,7 @@ class Streams:
     def interrupted_reads(self, **hostile):
         """A read that is interrupted may be tried again, or count as one that failed."""
         run, counts = self.machine.run(self.subject, **hostile), [0, 1, len(self.text())]
-        return fault_of_same(self.subject, run) and (self.fault_of_talk(run, counts) if self.is_talk() else fault_of_read(run))
+        return fault_of_same(self.subject, run) and (self.fault_of_talk(run, counts) if self.is_talk() else fault_of(run))
 
     def interrupted_writes(self, **hostile):
         return fault_of_same(self.subject, self.machine.run(self.subject, **hostile))
@@ -193,13 +193,9 @@ def disturb_streams(machine, tally, folder, most):
 
 def of_texts(machine):
     """Help that cannot be written, and a text on standard error that cannot be."""
-    def fault_of(word, wanted, **hostile):
-        run = machine.run(Subject("", [word]), **hostile)
-        return None if (run.status, run.out, run.err) == wanted else told(run)
-
     full, broken = {"write": f"1.. {errno.ENOSPC}"}, {"write": f"1.. {errno.EIO}", "descriptor": 2}
-    yield "write 1.. ENOSPC of help", partial(fault_of, "--help", (1, b"", CANNOT_READ), **full)
-    yield "write 1.. EIO to standard error", partial(fault_of, "frobnicate", (2, b"", b""), **broken)
+    yield "write 1.. ENOSPC of help", lambda: fault_of(machine.run(Subject("", ["--help"]), **full))
+    yield "write 1.. EIO to standard error", lambda: fault_of(machine.run(Subject("", ["frobnicate"]), **broken), 2, err=b"")
 
 
 def of_closed(machine):

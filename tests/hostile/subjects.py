@@ -35,9 +35,8 @@ def cases(folder):
 
     Runs of agents have another schedule each time, and may also end as threads cannot be started: they are a part of their own (settings.py).
     """
-    for case in (it for it in all_cases() if isinstance(it, Case) and not it.is_shell):
-        if case.args[:1] == ["run"] and case.status in (0, 3):
-            continue
+    every = (it for it in all_cases() if isinstance(it, Case) and not it.is_shell)
+    for case in (it for it in every if it.args[:1] != ["run"] or it.status not in (0, 3)):
         made = pathlib.Path(folder) / f"{case.name}.stdin"
         if not made.is_file():
             made.write_bytes(case.given(case.folder))
