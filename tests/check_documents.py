@@ -117,8 +117,9 @@ class Checker:
     def functions_at(self, crates, path):
         """The functions that a path of names stands for: `name`, `Type::name`, `module::name`, `tests::module::name`."""
         *above, name = path
-        every = (it for crate in crates for it in (crate.tests if above[:1] == ["tests"] else crate.functions) if it.name == name)
-        return [it for it in every if not above or it.owner == above[-1] or not it.owner and it.module.split("/") == above]
+        every = (it for crate in crates for it in (crate.tests if above[:1] == ["tests"] else crate.functions))
+        named = (it for it in every if it.name == name)
+        return [it for it in named if not above or it.owner == above[-1] or not it.owner and it.module.split("/") == above]
 
     def is_definition(self, crates, name):
         module, word = name.rsplit(".", 1)
@@ -185,7 +186,8 @@ class Checker:
     def expect_of_type(self, where, crate, name, words):
         own = {clause for f in crate.functions if f.owner == name for clause in self.sources.clauses_of(f)}
         for word in words:
-            self.expect((name, word) in crate.met or word in own, where, f"`{name}` has no clause `{word}` and meets no such trait")
+            has = (name, word) in crate.met or word in own
+            self.expect(has, where, f"`{name}` has no clause `{word}` and meets no such trait")
 
     def expect_clauses(self, where, function, clauses):
         for clause in clauses:
@@ -313,7 +315,8 @@ class Checker:
 
     def check_advice(self):
         """The refusals that an explained script tells of, and those of docs/FORMATS.md: the same names and reasons."""
-        bodies = re.findall(r"fn reason\(.*?\n(?:    )?\}", (ROOT / "crates/pc_explain/src/reasons.rt").read_text(), re.S)
+        source = ROOT / "crates/pc_explain/src/reasons.rt"
+        bodies = re.findall(r"fn reason\(.*?\n(?:    )?\}", source.read_text(), re.S)
         reasons = dict(re.findall(r"::(\w+)(?:\(_\))? =>\s*(?:\{\s*)?\"([^\"]*)\"", "".join(bodies)))
         items = [item for item in items_of("docs/FORMATS.md", ["accepted"]) if item.heading == "## Refusals" and "accepted" in item.below]
         told = dict(re.match(r"`(\w+)[^`]*`: (.*)", item.text).groups() for item in items)
@@ -328,7 +331,8 @@ class Checker:
         told = set(SPAN.findall(page.read_text()))
         for example in sorted(it for it in folder.glob("**/*.*") if it != page):
             name = str(example.relative_to(folder))
-            self.expect(any(fnmatch.fnmatchcase(name, it) for it in told), "examples/README.md", f"it does not tell of `{name}`")
+            is_told = any(fnmatch.fnmatchcase(name, it) for it in told)
+            self.expect(is_told, "examples/README.md", f"it does not tell of `{name}`")
             if example.suffix in inputs and example.parent == folder:
                 self.expect(example.with_suffix(".output").is_file(), f"examples/{name}", "it has no output beside it")
             elif example.suffix == ".output":

@@ -18,8 +18,8 @@ import timed_drawings
 from kernel import answered, ticks_of
 from pictures import (
     ENCLAVE, LEFT, MOST_SINGLE, ROWS, SCRIPTS, SETTINGS, SHAPES, SINGLE_WORDS, SVG, WHOLE, Element, Part, Picture, Words,
-    are_one, bars_in, bars_of, draw, drawn_script, edges_of, front_of, look_of, many, refused_words, shown_often, steps_of, story_of,
-    width_of,
+    are_one, bars_in, bars_of, draw, drawn_script, edges_of, front_of, look_of, many, refused_words, shown_often,
+    steps_of, story_of, width_of,
 )
 from rig import ROOT, good, outcome, same
 
@@ -248,7 +248,8 @@ def test_the_words_of_a_report_are_its_counts() -> None:
             same(picture.texts[:2], [totals_of(file), REPORT_WORDS])
             counts = [found.groups() for found, _ in picture.found(r"CPU (\d+): (\d+) (.*)")]
             wanted: list[str] = []
-            for place, ((cpu, count, meaning), (name, means)) in enumerate(zip(counts, itertools.cycle(COUNTS.items()))):
+            rows = zip(counts, itertools.cycle(COUNTS.items()))
+            for place, ((cpu, count, meaning), (name, means)) in enumerate(rows):
                 same((int(cpu), meaning), (place // 6, means))
                 wanted += [f"CPU {cpu}"] * (place % 6 == 0) + [name, count]
             same((picture.texts[2:], bool(counts)), (wanted, True))

@@ -181,7 +181,8 @@ def ticks(picture: Picture, decades: int) -> None:
         near(x, place, delta=1, msg=words)
     upright = sorted((*place, title) for place, lines in picture.lines.items() for title, _ in lines
                      if place[0] == place[2])
-    same([it for it in upright if it[1] == TOP], [(x, TOP, x, BOTTOM + 6, f"10^{power}") for power, (x, *_) in enumerate(told[1:])])
+    whole = [(x, TOP, x, BOTTOM + 6, f"10^{power}") for power, (x, *_) in enumerate(told[1:])]
+    same([it for it in upright if it[1] == TOP], whole)
     between = [factor * 10**power for power in range(decades) for factor in (2, 5)] if decades <= 8 else []
     short = [it for it in upright if it[1] != TOP]
     same([it[1:2] + it[3:] for it in short], [(BOTTOM, BOTTOM + 4, str(it)) for it in between])

@@ -117,10 +117,12 @@ class Launcher:
         (self.bin / name).unlink(missing_ok=True)
         rig.put_command(self.bin / name, text)
 
-    def put_queue(self, name: str) -> None:
-        """A queue in the place of a file of the tree, for whose other end an open would wait."""
-        (self.tree / name).unlink(missing_ok=True)
-        os.mkfifo(self.tree / name)
+    def put_queue(self, *names: str) -> None:
+        """Queues in the place of files of the tree, for whose other ends an open would wait."""
+        for path in map(self.tree.joinpath, names):
+            path.parent.mkdir(exist_ok=True)
+            path.unlink(missing_ok=True)
+            os.mkfifo(path)
 
     def put_bounded(self) -> None:
         """A command of the tree that starts the launcher where no file may grow."""
@@ -283,7 +285,7 @@ CHANGES: dict[str, tuple[Any, Any, Any]] = {
     "another source": (PUT, lambda it: it.put_source(LOW), BUILDS),
     "another source of an old date": (BUILDS, lambda it: it.put_source(LOW) or it.set_dates(-1000), BUILDS),
     "another definition of an old date": (BUILDS, lambda it: it.put_source(EXTRA) or it.set_dates(-1000), BUILDS),
-    "another list of crates of an old date": (BUILDS, lambda it: it.put_crates(CRATES + "\n") or it.set_dates(-1000), BUILDS),
+    "another list of crates": (BUILDS, lambda it: it.put_crates(CRATES + "\n") or it.set_dates(-1000), BUILDS),
     "another program": (BUILDS, lambda it: it.put_program(PROGRAM + "# other\n", is_noted=False), BUILDS),
     "a program of another command": (UNNOTED, lambda it: None, BUILDS),
     "a note that is a list of names": (UNNOTED, lambda it: it.note.write_text("crates.txt\n"), BUILDS),
@@ -302,7 +304,7 @@ CHANGES: dict[str, tuple[Any, Any, Any]] = {
     "a program of another command, that of release/": (
         lambda it: it.put_release() or UNNOTED(it), lambda it: it.starts() or shutil.rmtree(it.release), STARTS),
     "a link to the launcher": (
-        PUT, lambda it: (it.top / "linked").symlink_to(it.tree / "pc-sim"), functools.partial(STARTS, command="../linked")),
+        PUT, lambda it: (it.top / "link").symlink_to(it.tree / "pc-sim"), functools.partial(STARTS, command="../link")),
 }
 
 
@@ -361,8 +363,8 @@ def test_without_rt_an_older_program_starts_with_a_warning(it: Launcher) -> None
 # The order of the crates
 
 
-# How many cores and gigabytes there are, how long each crate takes, and whether two are built at once: the first lasts long
-# enough then for a busy machine to begin the second one meanwhile.
+# How many cores and gigabytes there are, how long each crate takes, and whether two are built at once: the first lasts
+# long enough then for a busy machine to begin the second one meanwhile.
 @rig.each({
     "four cores": (4, 100, "2", True), "two cores": (2, 8, "2", True),
     "one core": (1, 100, "0.25", False), "7 GB": (4, 7, "0.25", False), "1 GB": (4, 1, "0.25", False),
@@ -705,14 +707,15 @@ def test_the_released_program_is_compared_with_the_one_that_was_built(it: Launch
     it.put_release()
     sources, _, program, *_ = (it.release / "SUMS").read_text().split()
     passed, failed, other = "1 passed, 0 failed", "0 passed, 1 failed", PROGRAM + "# other\n"
-    unbuilt, none = "no program was built in this run", "released: release/ has no program of these sources\n0 passed, 0 failed"
+    unbuilt, changed = "no program was built in this run", "the sources are not those that this run began with"
+    none = "released: release/ has no program of these sources\n0 passed, 0 failed"
     other_kit = "released: release/ has the program that another kit makes, kit-one\n0 passed, 0 failed"
 
     def begin() -> None:
         same(it.run_it("--before", str(it.top / "before"), command="tools/released"), (0, "", ""))
 
-    # What is done; what is told then first: why nothing is compared, or whether the sources, and the program, are those of release/;
-    # and what is told last, with the status and what the stand-in for the kit is told.
+    # What is done; what is told then first: why nothing is compared, or whether the sources, and the program, are those
+    # of release/; and what is told last, with the status and which kit there is.
     for done, first, last, status, kit in [
         (lambda: None, unbuilt, failed, 1, "one"),
         (begin, unbuilt, failed, 1, "one"),
@@ -721,12 +724,13 @@ def test_the_released_program_is_compared_with_the_one_that_was_built(it: Launch
         (lambda: change_release(it, "pc-sim.xz", lambda stored: stored[:-20]), (True, True), failed, 1, "one"),
         (lambda: it.put_program(other, is_noted=False), (True, False), failed, 1, "one"),
         (lambda: None, (True, False), other_kit, 0, "two"),
-        (lambda: it.put_source("left/src/lib.rt"), "the sources are not those that this run began with", failed, 1, "one"),
+        (lambda: it.put_source("left/src/lib.rt"), changed, failed, 1, "one"),
         (lambda: begin() or it.put_program(other, is_noted=False), (False, False), none, 0, "one"),
         (lambda: shutil.rmtree(it.release), (False, False), none, 0, "one"),
     ]:
         done()
-        ended, out, _ = it.run_it("--compare", str(it.top / "before"), command="tools/released", RT_VERSION=f"kit-{kit}")
+        words = ("--compare", str(it.top / "before"))
+        ended, out, _ = it.run_it(*words, command="tools/released", RT_VERSION=f"kit-{kit}")
         told, *others = out.removeprefix("released: ").splitlines()
         sums = re.fullmatch(r"of sources with the sum (\w{64}) a program with the sum (\w{64}) was built", told)
         same((sums[1] == sources, sums[2] == program) if sums else told, first)

@@ -159,7 +159,8 @@ BELONGS, LINK, OTHERS = "{} belongs to another user; ", "`{}` is a link of anoth
     "a kind's is another's link": ("to/pool", linked_by_another, LINK, True),
     "a recording is another's link": ("to/pool/recording.txt", linked_by_another, LINK, True),
 })
-def test_a_folder_of_others_is_refused(name: str, change: Callable[[pathlib.Path], None], told: str, by_root: bool) -> None:
+def test_a_folder_of_others_is_refused(
+        name: str, change: Callable[[pathlib.Path], None], told: str, by_root: bool) -> None:
     needs(not by_root or os.geteuid() == 0, "who is not root cannot give files away")
     with rig.folder() as top:
         kept(top)

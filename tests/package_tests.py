@@ -23,12 +23,14 @@ from rig import ROOT, good, needs, outcome, run, same
 DATE = 1_700_000_000
 NOBODY = 65_534
 # Of an installed root: the example, what it is told to do, and what it prints.
-EXAMPLES = [("replay", "first-run.script", "first-run.output"), ("run", "steals-and-restarts.toml", "steals-and-restarts.output")]
+EXAMPLES = [("replay", "first-run.script", "first-run.output"),
+            ("run", "steals-and-restarts.toml", "steals-and-restarts.output")]
 # Of both packages, below usr or the archive's folder.
 FILES = ["bin/pc-sim-record-loads", "bin/pc-sim-sweep", "share/pc-sim/load_kinds.py",
          "share/doc/pc-sim/docs/pictures/crash-and-steal.png"]
 # Pages that are made, and a line of each.
-MADE = {"DEFINITIONS.md": "## `pc_kernel`", "CLAUSES.md": "- `World::mend`:", "WALK_THROUGH.md": "| `steal 1` | `ok t0 q1` |  |  |"}
+MADE = {"DEFINITIONS.md": "## `pc_kernel`", "CLAUSES.md": "- `World::mend`:",
+        "WALK_THROUGH.md": "| `steal 1` | `ok t0 q1` |  |  |"}
 IMAGE_OR_PAGE = re.compile(r"\]\(([\w./-]+)\)")
 TYPED_TOOL = re.compile(r"^    (?:\$ )?tools/([\w-]+)", re.MULTILINE)
 

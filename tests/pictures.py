@@ -202,8 +202,8 @@ def many(cpus: int, least: int) -> str:
     lines = [f"enclave {cpus} 4096 1000 4096 100000"]
     for thread in range(-(-(least - 1) // 6)):
         turn, cpu = divmod(thread, cpus)
-        lines += [f"create {cpu} {1 << cpu} ready", f"publish {cpu}", f"consume {cpu}", f"commit {cpu} t{thread} {2 * turn + 1}"]
-        lines += [f"deliver {(cpu + 1) % cpus} {thread}", f"block {cpu} 5"]
+        lines += [f"create {cpu} {1 << cpu} ready", f"publish {cpu}", f"consume {cpu}"]
+        lines += [f"commit {cpu} t{thread} {2 * turn + 1}", f"deliver {(cpu + 1) % cpus} {thread}", f"block {cpu} 5"]
     return "\n".join(lines) + "\n"
 
 

@@ -100,7 +100,8 @@ def make(text: str | bytes, *words: str, status: int = 0) -> Made:
         data = text if isinstance(text, bytes) else text.encode()
         ended = run(TOOL, "-", "--settings", settings, *words, given=data, text=False)
         told = [it.removeprefix("from-perf-sched: ") for it in ended.stderr.decode().splitlines()]
-        made = Made(ended.returncode, ended.stdout.decode("ascii").splitlines(), told, settings.read_text().splitlines())
+        script, made_settings = ended.stdout.decode("ascii").splitlines(), settings.read_text().splitlines()
+        made = Made(ended.returncode, script, told, made_settings)
     same(ended.returncode, status, told)
     if status == 0:
         replay(made)
@@ -264,7 +265,9 @@ def test_the_kept_recordings() -> None:
     for path in texts:
         assert path.stat().st_size < 200 * 1024
         made = make(path.read_bytes())
-        for text, suffix in ((text_of(made.script), ".script"), (text_of(made.settings), ".toml"), (replay(made), ".output")):
+        for suffix, text in {
+            ".script": text_of(made.script), ".toml": text_of(made.settings), ".output": replay(made),
+        }.items():
             same(text, path.with_suffix(suffix).read_text(), path.name)
 
 

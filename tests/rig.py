@@ -84,8 +84,8 @@ def found() -> pathlib.Path:
 
 def run(*words: object, given: str | None = None, **more: Any) -> subprocess.CompletedProcess[str]:
     """What a command comes to that is given a text as its standard input; `text=False` has it in bytes."""
-    how: dict[str, Any] = {"stdout": subprocess.PIPE, "stderr": subprocess.PIPE, "text": True, "timeout": SECONDS} | more
-    how |= {} if "stdin" in more else {"input": given}
+    pipes: dict[str, Any] = dict.fromkeys(("stdout", "stderr"), subprocess.PIPE)
+    how = pipes | {"text": True, "timeout": SECONDS} | ({} if "stdin" in more else {"input": given}) | more
     return subprocess.run([word if isinstance(word, bytes) else str(word) for word in words], **how)
 
 
@@ -237,7 +237,8 @@ def _fault_at(place: int) -> tuple[str | None, bool]:
 
 
 def main(
-    about_it: str | None, tests: list[Test] | Callable[[], list[Test]], add_words: Callable[[Any], object] = lambda add: None, *,
+    about_it: str | None, tests: list[Test] | Callable[[], list[Test]],
+    add_words: Callable[[Any], object] = lambda add: None, *,
     at_once: int = 1, both: bool = False, before: Callable[[Tally], object] = lambda tally: None,
 ) -> int:
     """Tries all, some at once in processes of their own; `both`: with each program that the gate builds, where none is named."""

@@ -118,8 +118,8 @@ BY_NAME, BY_TICKS = "t0 t0 t1", "t0 t1 t0"
     "come first": ("cpus = 1\n" + thread(0, 1, "yield 5", "die 1") + thread(0, 1, "yield 3", "die 1")
                    + thread(0, 1, "yield 1", "yield 1", "die 1"),
                    {"fifo": "t0 t1 t2 t0 t1 t2 t2", "least-ran": "t0 t1 t2 t2 t2 t1 t0"}),
-    # The first agent forgets both threads behind the yield, and is told of both again: it steals the first one, by its name, or
-    # the one that did not run yet. `fifo` has both alike, and then the name counts.
+    # The first agent forgets both threads behind the yield, and is told of both again: it steals the first one, by its
+    # name, or the one that did not run yet. `fifo` has both alike, and then the name counts.
     "are stolen exactly": ("cpus = 2\n" + thread(0, 1, "yield 5", "die 1") + thread(0, 1, "die 1") + restart(0, 2),
                            {"least-ran": BY_NAME, "least-ran exact": BY_TICKS, "fifo": BY_NAME, "fifo exact": BY_NAME}),
 })

@@ -35,7 +35,8 @@ BELOW = dict.fromkeys("CQAB", 5) | dict.fromkeys(("RAN", "ASEQ", "NUMBER", "K"),
 def drawn_lines(chance: random.Random) -> list[bytes]:
     """The lines of a script: its enclave, commands of version 1, silent lines, and in some scripts faults."""
     faulty = chance.random() < 0.5
-    lines = [*(chance.choice(SILENT) for _ in range(chance.randrange(3))), *[b"version 2"] * (chance.random() < 0.3), ENCLAVE]
+    lines = [chance.choice(SILENT) for _ in range(chance.randrange(3))]
+    lines += [*[b"version 2"] * (chance.random() < 0.3), ENCLAVE]
     every = [form for form in forms() if form[0] not in ("enclave", "policy", "mend")]
     for _ in range(chance.randrange(120)):
         kind, form = chance.random(), chance.choice(every)

@@ -151,7 +151,8 @@ def titles(root):
         return 0, []
     log = ["git", "-C", str(root), "log", "--format=%h %s", f"--since={TITLES_SINCE}"]
     told = [line.partition(" ") for line in subprocess.run(log, capture_output=True, text=True).stdout.splitlines()]
-    findings = [f"commit {commit}: its title has {len(title)} columns" for commit, _, title in told if len(title) > TITLE_WIDTH]
+    wide = ((commit, len(title)) for commit, _, title in told if len(title) > TITLE_WIDTH)
+    findings = [f"commit {commit}: its title has {length} columns" for commit, length in wide]
     words = ((commit, UNDER_WAY.search(title)) for commit, _, title in told)
     findings += [f"commit {commit}: `{word[0]}` is no word of a title" for commit, word in words if word]
     return len(told), findings
@@ -198,7 +199,8 @@ def pairs(root):
     for kind, (_, sorts) in TWIN_KINDS.items():
         for lines, stands in places[kind].items():
             if len(stands) <= TWIN_PLACES and len(set(lines)) >= sorts:
-                found |= {(min(one, other), max(one, other)) for (one, at), (other, there) in itertools.combinations(stands, 2)
+                every = itertools.combinations(stands, 2)
+                found |= {(min(one, other), max(one, other)) for (one, at), (other, there) in every
                           if one != other or abs(at - there) >= TWIN_LINES}
     return read, found
 

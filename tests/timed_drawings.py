@@ -12,8 +12,8 @@ from collections import Counter, defaultdict
 import rig
 from kernel import WORD64, answered, ticks_of
 from pictures import (
-    ENCLAVE, LEFT, MOST_SINGLE, ROWS, SCRIPTS, SINGLE_WORDS, SVG, WHOLE, Bar, Part, Picture, Steps, are_one, bars_of, bars_told,
-    draw, drawn_script, edges_of, front_of, many, refused_words, shown_often, steps_of, story_of, x_of,
+    ENCLAVE, LEFT, MOST_SINGLE, ROWS, SCRIPTS, SINGLE_WORDS, SVG, WHOLE, Bar, Part, Picture, Steps, are_one, bars_of,
+    bars_told, draw, drawn_script, edges_of, front_of, many, refused_words, shown_often, steps_of, story_of, x_of,
 )
 from rig import ROOT, good, outcome, same
 
@@ -156,7 +156,8 @@ def shown_by_ticks(script: str, part: Part = WHOLE) -> Counter[str]:
 def marks_by_ticks(picture: Picture, script: str, axis: Axis, ticks: dict[int, int], first: int) -> Counter[str]:
     """Holds the place of each mark of a single step against its tick, and that of each arrow against the tick at which it was sent, or where the part
     begins whose first line this is."""
-    told = ((number, re.fullmatch(r"ok d(\d+) items \d+", answer)) for number, _, answer in answered(script, rig.replay(script)))
+    answers = answered(script, rig.replay(script))
+    told = ((number, re.fullmatch(r"ok d(\d+) items \d+", answer)) for number, _, answer in answers)
     sent, marks = {int(delta[1]): number for number, delta in told if delta}, Counter[str]()
     for text, element in picture.shapes:
         line = re.match(r"(?:t\d+ (stolen|moved) from queue \d+ to queue \d+, )?line (\d+): (.*)", text)

@@ -434,7 +434,7 @@ def try_crate(tools: ModuleType, crate: Any, bodies: list[WrongBody], rows: dict
             except (OSError, subprocess.SubprocessError) as fault:
                 outcomes |= {body.name: Outcome(f"it could not be tried: {fault}") for body in bundle}
             if os.environ.get("WRONG_BODIES_TIMES"):
-                print(f"{time.monotonic() - began:.0f} s:", *(body.name for body in bundle), file=sys.stderr, flush=True)
+                print(f"{time.monotonic() - began:.0f} s:", *(it.name for it in bundle), file=sys.stderr, flush=True)
             alone = [body for body in bundle if len(bundle) > 1 and outcomes[body.name].is_doubtful]
             bundles += [[dataclasses.replace(body, copy="")] for body in alone]
     return outcomes
@@ -477,7 +477,8 @@ def main() -> int:
         bodies, bad = bodies_of(root, name, options.folder, rows)
         tasks += [(name, bodies)] if bodies else []
         there = {body.name for body in bodies} | bad.keys()
-        wrong |= bad | {row: f"{TABLE} names it, and it is not there" for row in rows if row.startswith(f"{name}/") and row not in there}
+        gone = [row for row in rows if row.startswith(f"{name}/") and row not in there]
+        wrong |= bad | dict.fromkeys(gone, f"{TABLE} names it, and it is not there")
     tries = lambda task: try_crate(tools, crates[task[0]], task[1], rows)
     with concurrent.futures.ThreadPoolExecutor(options.jobs or places()) as pool:
         for outcomes in pool.map(tries, tasks):

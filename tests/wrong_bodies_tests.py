@@ -139,8 +139,8 @@ NO_VERDICT = "low/none-is-one: the check came to no verdict"
 @rig.each({
     "a row of none": (lambda it: (it.bodies / "more-is-none.edit").unlink(),
                       "low/more-is-none: tests/wrong_bodies.txt names it, and it is not there"),
-    "an old text that is not there": (lambda it: it.put_edits({"more-is-two": "old: count + 3\nnew: count"}), NOT_APPLIED),
-    "an old text that stands more often": (lambda it: it.put_edits({"more-is-two": "old: Count\nnew: Sum"}), NOT_APPLIED),
+    "no such old text": (lambda it: it.put_edits({"more-is-two": "old: count + 3\nnew: count"}), NOT_APPLIED),
+    "several old texts": (lambda it: it.put_edits({"more-is-two": "old: Count\nnew: Sum"}), NOT_APPLIED),
     "no old text": (lambda it: it.put_edits({"more-is-two": "new: x"}), NOT_APPLIED),
     "an error": (lambda it: it.put_says({"": "src/count.rt:3:1: error: this is no Rattle"}), NO_VERDICT),
     "no verdict": (lambda it: it.put_says({"": "rattle: out of memory"}), NO_VERDICT),

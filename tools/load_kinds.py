@@ -56,7 +56,8 @@ class Running:
     The folder is fresh and nobody else's: who gets into it may command a server.
     """
 
-    def __init__(self, stack: contextlib.ExitStack, folder: pathlib.Path, user: pwd.struct_passwd | None = None) -> None:
+    def __init__(
+            self, stack: contextlib.ExitStack, folder: pathlib.Path, user: pwd.struct_passwd | None = None) -> None:
         self.stack, self.folder = stack, folder
         self.who = {"user": user.pw_uid, "group": user.pw_gid, "extra_groups": []} if user else {}
 

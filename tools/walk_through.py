@@ -41,7 +41,7 @@ def steps_of(program, commands, cpus):
     asked = [line for command in commands for line in (command, *(f"show {cpu}" for cpu in range(cpus)))]
     run = subprocess.run([program, "replay"], input="\n".join([*asked, ""]), capture_output=True, text=True, check=True)
     lines = iter(run.stdout.splitlines())
-    told = [view_text(iter(lines.__next__, "end")) if line.startswith("show ") else f"`{next(lines)}`" for line in asked]
+    told = [view_text(iter(lines.__next__, "end")) if line[:5] == "show " else f"`{next(lines)}`" for line in asked]
     for place in range(0, len(told), cpus + 1):
         yield told[place], told[place + 1:place + 1 + cpus]
 
@@ -57,7 +57,8 @@ def page(program, path):
             yield textwrap.fill(" ".join(text), 120, break_long_words=False, break_on_hyphens=False) + "\n"
         if not commands:
             continue
-        yield "| line | reply |" + "".join(f" agent {cpu} knows |" for cpu in range(cpus)) + "\n|---|---|" + "---|" * cpus
+        yield "| line | reply |" + "".join(f" agent {cpu} knows |" for cpu in range(cpus))
+        yield "|---|---|" + "---|" * cpus
         for command in commands:
             reply, views = next(steps)
             cells = ["" if view == old else view for view, old in zip(views, before)]

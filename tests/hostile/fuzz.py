@@ -61,4 +61,5 @@ def fault_of_drawn_growth(machine, place):
 
 def draw_growths(machine, tally, count):
     """Runs so many drawn scripts with a growth refused."""
-    tally.try_all((f"drawn growth of script {place}", partial(fault_of_drawn_growth, machine, place)) for place in range(count))
+    fault = partial(fault_of_drawn_growth, machine)
+    tally.try_all((f"drawn growth of script {place}", partial(fault, place)) for place in range(count))

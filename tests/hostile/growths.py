@@ -108,4 +108,4 @@ def refuse_memory(machine, tally, subjects, step):
     ample = {subject.name: machine.run(subject) for subject in subjects}
     fault = lambda subject, memory: fault_of_refused(ample[subject.name], machine.run(subject, memory=memory))
     every = itertools.product(subjects, range(0, MOST_MEMORY, step))
-    tally.try_all((f"address space of {memory} bytes for {it.name}", partial(fault, it, memory)) for it, memory in every)
+    tally.try_all((f"address space of {most} bytes for {it.name}", partial(fault, it, most)) for it, most in every)

@@ -8,11 +8,11 @@ from launcher_tests import Launcher
 # What is done to a tree whose release/ has a program of its sources, what is started there, and whether a program could be built.
 STARTS = {
     "a folder in the program's place": (lambda it: it.program.mkdir(parents=True), "pc-sim", False),
-    "a queue in the program's place": (lambda it: it.program.parent.mkdir() or it.put_queue(it.program), "pc-sim", True),
+    "a queue in the program's place": (lambda it: it.put_queue("crates/pc_sim/out/pc_sim"), "pc-sim", True),
     "a file in its folder's place": (lambda it: it.program.parent.write_text(""), "pc-sim", False),
     "a program that is none": (lambda it: it.put_program("#!/no/such/command\n"), "pc-sim", True),
     "a queue in place of what is unpacked": (lambda it: it.put_queue("release/pc-sim.xz"), "pc-sim", False),
-    "a queue in place of the lock": (lambda it: it.put_queue("release/SUMS") or it.put_queue(".build.lock"), "pc-sim", True),
+    "a queue in place of the lock": (lambda it: it.put_queue("release/SUMS", ".build.lock"), "pc-sim", True),
     "files that may not grow": (Launcher.put_bounded, "bounded", False),
     "a build where files may not grow": (lambda it: it.put_queue("release/SUMS") or it.put_bounded(), "bounded", True),
 }

@@ -119,7 +119,8 @@ class Streams:
     def interrupted_reads(self, **hostile):
         """A read that is interrupted may be tried again, or count as one that failed."""
         run, counts = self.machine.run(self.subject, **hostile), [0, 1, len(self.text())]
-        return fault_of_same(self.subject, run) and (self.fault_of_talk(run, counts) if self.is_talk() else fault_of(run))
+        fault = fault_of_same(self.subject, run)
+        return fault and (self.fault_of_talk(run, counts) if self.is_talk() else fault_of(run))
 
     def interrupted_writes(self, **hostile):
         return fault_of_same(self.subject, self.machine.run(self.subject, **hostile))
@@ -127,8 +128,8 @@ class Streams:
     def reads(self):
         name = self.subject.name
         for error, place in itertools.product(READ_ERRORS, range(1, self.plain.reads + 1)):
-            count = len(self.text()) if place > 1 else 0
-            yield f"read {place} {errno.errorcode[error]} of {name}", partial(self.failed_read, count, read=f"{place} {error}")
+            fails = partial(self.failed_read, len(self.text()) if place > 1 else 0, read=f"{place} {error}")
+            yield f"read {place} {errno.errorcode[error]} of {name}", fails
         for place in numbers(self.by_bytes.reads, self.most):
             fails = partial(self.failed_read, place - 1, read=f"{place} {errno.EIO}", read_most=1)
             yield f"byte read {place} EIO of {name}", fails
@@ -194,8 +195,9 @@ def disturb_streams(machine, tally, folder, most):
 def of_texts(machine):
     """Help that cannot be written, and a text on standard error that cannot be."""
     full, broken = {"write": f"1.. {errno.ENOSPC}"}, {"write": f"1.. {errno.EIO}", "descriptor": 2}
-    yield "write 1.. ENOSPC of help", lambda: fault_of(machine.run(Subject("", ["--help"]), **full))
-    yield "write 1.. EIO to standard error", lambda: fault_of(machine.run(Subject("", ["frobnicate"]), **broken), 2, err=b"")
+    help_text, no_command = Subject("", ["--help"]), Subject("", ["frobnicate"])
+    yield "write 1.. ENOSPC of help", lambda: fault_of(machine.run(help_text, **full))
+    yield "write 1.. EIO to standard error", lambda: fault_of(machine.run(no_command, **broken), 2, err=b"")
 
 
 def of_closed(machine):
