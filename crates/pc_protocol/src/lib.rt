@@ -1,9 +1,9 @@
 //! What agents in threads do, turn by turn, as a machine, and laws that hold of each of its states.
 //!
 //! A scheduler stalls where a thread is ready, a CPU idles, and no agent will ever look again. Agents that follow this
-//! protocol do not: whatever the environment does, however their threads are scheduled, however slow a send is. Agents
-//! that start again are not among these, nor sends that are refused. That the threads of a program do these steps, and
-//! no others, is not proved; nor that they are scheduled, and that what they send arrives.
+//! protocol do not come to that: whatever the environment did, whoever was slow, in whatever order notes were taken.
+//! Agents that start again are not among these, nor sends that are refused. That the threads of a program do these
+//! steps, and no others, is not proved; nor that they are scheduled, and that what they send arrives.
 //!
 //! Nothing is called here: the crate has laws alone.
 #![tactic(auto)]
@@ -51,7 +51,7 @@ pub fn states_are_reached()
 }
 
 /// An agent may wait for a note without another look at its queue: where none is under way to it, its queue is empty,
-/// and the next post wakes it. That stands on the count of posts that it read, under which it sleeps.
+/// and the kernel has it asleep. That stands on the count of posts that it read, under which it sleeps.
 pub fn sleepers_have_nothing()
     ensures { SleepersHaveNothing }
 {
@@ -106,10 +106,10 @@ pub fn rest_can_come()
     every_event_has_a_step();
 }
 
-/// A run has no deadlock: it has a step, unless the kernel refuses what the driver would do, or neither an agent nor
-/// the driver has anything to do; and then every thread of the plans is dead. For that each agent has to take whatever
-/// waits for its CPU: it steals also what it does not know to the end, or it ranks every thread. Else a thread without
-/// a rank waits for ever.
+/// A run has a step, unless the kernel refuses what the driver would do, or neither an agent nor the driver has
+/// anything to do; in the last case every thread of the plans is dead. For that each agent has to take whatever waits
+/// for its CPU: it steals also what it does not know to the end, or it ranks every thread. Else a thread without a rank
+/// waits for ever.
 pub fn rest_is_done()
     ensures done { RestIsDone }
     ensures on { RunsGoOn }
