@@ -31,6 +31,9 @@ ENVIRONMENT = {"create", "wake", *LEAVES, "affinity", "priority", "tick"}
 OWN_OF_VERSION_3 = {"policy", "mend"}
 # Commands that are no events: a policy may stand behind them.
 BEFORE_EVENTS = {"policy", "status", "asleep", "show", "same", "complete"}
+# How many words of a command name CPUs or their queues, first of all; of any other it is one.
+CPUS_OF = dict.fromkeys(("policy", "wake", "affinity", "priority", "associate", "status"), 0)
+CPUS_OF |= dict.fromkeys(("config", "answer", "same"), 2)
 # What the kernel does whatever agents know, and answers by itself.
 FOLLOWED = {*ENVIRONMENT, "associate", "commit", "sleep", "rouse", "config", "crash", "status", "asleep"}
 # The greatest limits of the first version, and of the later ones.
@@ -208,7 +211,7 @@ class Agent:
 
 @dataclass
 class Kernel:
-    """Threads, queues, who runs where, and which agents sleep. A command is a method; `ask` has its answer."""
+    """Threads, queues, who runs where, and which agents sleep. A command is a method; `ask` looks at its CPUs, and has its answer."""
 
     cpus: int
     threads_most: int = 65_535
@@ -229,6 +232,7 @@ class Kernel:
         """The answer to a command."""
         self.had_event |= verb not in BEFORE_EVENTS
         try:
+            self.need_cpus(*fields[:CPUS_OF.get(verb, 1)])
             return self.leave(verb, *fields) if verb in LEAVES else getattr(self, verb)(*fields)  # type: ignore
         except Refused as refusal:
             return f"refused {refusal}"
@@ -242,8 +246,8 @@ class Kernel:
         if not holds:
             raise Refused(refusal)
 
-    def need_cpus(self, *cpus: int) -> None:
-        self.need(all(cpu < self.cpus for cpu in cpus), "BadCpu")
+    def need_cpus(self, *cpus: int | str) -> None:
+        self.need(all(isinstance(cpu, str) or cpu < self.cpus for cpu in cpus), "BadCpu")
 
     def thread_at(self, name: int) -> Thread:
         self.need(name < len(self.threads), "UnknownThread")
@@ -285,7 +289,6 @@ class Kernel:
         return answer
 
     def create(self, queue: int, mask: int, phase: str) -> str:
-        self.need_cpus(queue)
         self.need_mask(mask)
         self.need(len(self.threads) < self.threads_most, "NamesSpent")
         self.need_room(queue)
@@ -298,7 +301,6 @@ class Kernel:
         return self.message(name, now._replace(phase="ready"))
 
     def leave(self, how: str, cpu: int, ran: int) -> str:
-        self.need_cpus(cpu)
         if (name := self.running[cpu]) is None:
             raise Refused("IdleCpu")
         thread = self.threads[name]
@@ -318,7 +320,6 @@ class Kernel:
         return self.message(name, now._replace(level=level))
 
     def tick(self, cpu: int) -> str:
-        self.need_cpus(cpu)
         return self.post(cpu, None)
 
     # What agents ask of the kernel
@@ -337,7 +338,6 @@ class Kernel:
         return f"ok t{name} q{queue}"
 
     def commit(self, cpu: int, name: int, aseq: int) -> str:
-        self.need_cpus(cpu)
         thread = self.thread_at(name)
         self.need_posts(cpu, aseq)
         self.need(thread.now.phase == "ready", "NotReady")
@@ -349,25 +349,21 @@ class Kernel:
         return f"ok t{name} c{cpu}"
 
     def sleep(self, cpu: int, aseq: int) -> str:
-        self.need_cpus(cpu)
         self.need_posts(cpu, aseq)
         self.sleeps[cpu] = True
         return "ok"
 
     def rouse(self, cpu: int) -> str:
-        self.need_cpus(cpu)
         self.sleeps[cpu] = False
         return "ok"
 
     def config(self, queue: int, target: int | str) -> str:
-        self.need_cpus(queue, *([target] if isinstance(target, int) else []))
         self.queues[queue].target = target if isinstance(target, int) else None
         return self.rouse(target) if isinstance(target, int) else "ok"
 
     # What agents send and remove
 
     def publish(self, cpu: int, fails: str = "") -> str:
-        self.need_cpus(cpu)
         self.need(not fails, "WireFault")
         queue = self.queues[cpu]
         queue.sent = len(queue.items)
@@ -375,7 +371,6 @@ class Kernel:
         return f"ok d{len(self.deltas) - 1} items {queue.sent}"
 
     def consume(self, cpu: int) -> str:
-        self.need_cpus(cpu)
         return self.remove(cpu, self.queues[cpu].sent)
 
     def remove(self, cpu: int, count: int) -> str:
@@ -386,7 +381,6 @@ class Kernel:
         return f"ok {count}"
 
     def crash(self, cpu: int) -> str:
-        self.need_cpus(cpu)
         self.sleeps[cpu], self.queues[cpu].sent = False, 0
         return "ok"
 
@@ -397,7 +391,6 @@ class Kernel:
         return f"t{name} n{thread.number} {thread.now.phase}" + ("" if thread.cpu is None else f" c{thread.cpu}")
 
     def asleep(self, cpu: int) -> str:
-        self.need_cpus(cpu)
         return "yes" if self.sleeps[cpu] else "no"
 
     # A script by its answers
@@ -465,7 +458,6 @@ class World(Kernel):
         return report is not None and report.may_run(cpu)
 
     def publish(self, cpu: int, fails: str = "") -> str:
-        self.need_cpus(cpu)
         agent, messages = self.agents[cpu], [item for item in self.queues[cpu].items if item]
         agent.learn(messages)
         told = {name: self.reported(cpu, name) for name in [*agent.names, *(name for name, _ in messages)]}
@@ -474,14 +466,12 @@ class World(Kernel):
         return super().publish(cpu, fails)
 
     def deliver(self, cpu: int, delta: int) -> str:
-        self.need_cpus(cpu)
         self.need(delta < len(self.deltas), "NoDelta")
         self.agents[cpu].learn(self.deltas[delta])
         return "ok"
 
     def answer(self, cpu: int, asker: int) -> str:
         """Of a thread of which the asker lacks a message that is known without a gap all such messages are told."""
-        self.need_cpus(cpu, asker)
         other, told = self.agents[asker], []
         for name, (upto, early) in self.agents[cpu].view().items():
             if any(not other.knows(name, number) for number in range(1, upto + 1)):
@@ -502,7 +492,6 @@ class World(Kernel):
         return next((name for name in self.agents[cpu].names if self.would_commit(cpu, name)), None)
 
     def pick(self, cpu: int, aseq: int) -> str:
-        self.need_cpus(cpu)
         self.need_posts(cpu, aseq)
         self.need(self.running[cpu] is None, "Busy")
         names = self.agents[cpu].names
@@ -516,19 +505,15 @@ class World(Kernel):
         """The threads that a steal may take, each with what comes first where it counts; those of which all is known, where it is exact."""
         agent = self.agents[cpu]
         for name in agent.upto.keys() - set(agent.names):
-            thread, upto = self.threads[name], agent.upto[name]
-            if thread.cpu is None and upto and thread.reports[upto - 1].may_run(cpu):
-                if not self.exact:
-                    yield (0, 0), name
-                elif upto == thread.number:
-                    yield thread.now.rank(self.order), name
+            thread = self.threads[name]
+            if thread.cpu is None and self.may_run(cpu, name) and (not self.exact or agent.upto[name] == thread.number):
+                yield thread.now.rank(self.order) if self.exact else (0, 0), name
 
     def target(self, cpu: int) -> int | None:
         """The thread that a steal tries."""
         return min(self.candidates(cpu), default=((0, 0), None))[1]
 
     def steal(self, cpu: int) -> str:
-        self.need_cpus(cpu)
         self.need(self.running[cpu] is None, "Busy")
         if (name := self.target(cpu)) is None:
             raise Refused("NothingToSteal")
@@ -543,7 +528,6 @@ class World(Kernel):
 
     def mend(self, cpu: int) -> str:
         """All queues are cleared, the agent takes all in, and picks; where nothing is ready then, it steals and picks."""
-        self.need_cpus(cpu)
         self.need(self.running[cpu] is None, "Busy")
         for each in range(self.cpus):
             self.publish(each)
@@ -559,7 +543,6 @@ class World(Kernel):
     # Questions
 
     def show(self, cpu: int) -> str:
-        self.need_cpus(cpu)
         rows = []
         for name, (upto, early) in self.agents[cpu].view().items():
             report = self.reported(cpu, name)
@@ -569,11 +552,9 @@ class World(Kernel):
         return "\n".join([*rows, "end"])
 
     def same(self, cpu: int, other: int) -> str:
-        self.need_cpus(cpu, other)
         return "equal" if self.agents[cpu].view() == self.agents[other].view() else "differ"
 
     def complete(self, cpu: int, name: int) -> str:
-        self.need_cpus(cpu)
         is_there = name < len(self.threads)
         return "yes" if is_there and self.agents[cpu].upto.get(name) == self.threads[name].number else "no"
 
