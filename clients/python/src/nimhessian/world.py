@@ -5,7 +5,7 @@ import functools
 import inspect
 import os
 from collections.abc import Callable
-from typing import Concatenate, Generic, ParamSpec, Self, TextIO, TypeVar, cast
+from typing import Generic, ParamSpec, Protocol, Self, TextIO, TypeVar, cast, overload
 
 from . import commands
 from .commands import Command
@@ -31,34 +31,68 @@ def _read(command: Command[Value], answer: str) -> Value:
         raise Misread(f"{answer}: {command.line}") from error
 
 
-def _like(make: Callable[..., object], method: Callable[..., object]) -> None:
-    """Gives a method the name, the words and the arguments of the function that makes its command."""
+class _Method(Protocol[Given, Value]):
+    """A command as a method: a world has its value at once, and a batch once it was sent."""
+
+    @overload
+    def __get__(self, it: World, owner: object, /) -> Callable[Given, Value]: ...
+
+    @overload
+    def __get__(self, it: Batch, owner: object, /) -> Callable[Given, Answer[Value]]: ...
+
+    @overload
+    def __get__(self, it: None, owner: object, /) -> Callable[..., object]: ...
+
+
+def _method(make: Callable[Given, Command[Value]]) -> _Method[Given, Value]:
+    """The method of a world that asks for the command, and of a batch that adds it: with the name, the words and the
+    arguments of the function that makes it."""
+
+    def method(self: World | Batch, /, *given: Given.args, **named: Given.kwargs) -> object:
+        command = make(*given, **named)
+        return self.ask(command) if isinstance(self, World) else self.add(command)
+
     functools.update_wrapper(method, make)
     own = inspect.Parameter("self", inspect.Parameter.POSITIONAL_OR_KEYWORD)
     setattr(method, "__signature__", inspect.Signature([own, *inspect.signature(make).parameters.values()]))
+    return cast(_Method[Given, Value], method)
 
 
-def _asked(make: Callable[Given, Command[Value]]) -> Callable[Concatenate[World, Given], Value]:
-    """The method of a world that asks for the command."""
+class _Commands:
+    """What worlds and batches have in common: a method for each command."""
 
-    def method(self: World, /, *given: Given.args, **named: Given.kwargs) -> Value:
-        return self.ask(make(*given, **named))
+    create = _method(commands.create)
+    wake = _method(commands.wake)
+    block = _method(commands.block)
+    yield_ = _method(commands.yield_)
+    preempt = _method(commands.preempt)
+    die = _method(commands.die)
+    affinity = _method(commands.affinity)
+    priority = _method(commands.priority)
+    tick = _method(commands.tick)
+    policy = _method(commands.policy)
+    associate = _method(commands.associate)
+    commit = _method(commands.commit)
+    sleep = _method(commands.sleep)
+    rouse = _method(commands.rouse)
+    config = _method(commands.config)
+    publish = _method(commands.publish)
+    publish_fail = _method(commands.publish_fail)
+    consume = _method(commands.consume)
+    deliver = _method(commands.deliver)
+    answer = _method(commands.answer)
+    pick = _method(commands.pick)
+    steal = _method(commands.steal)
+    crash = _method(commands.crash)
+    mend = _method(commands.mend)
+    status = _method(commands.status)
+    asleep = _method(commands.asleep)
+    show = _method(commands.show)
+    same = _method(commands.same)
+    complete = _method(commands.complete)
 
-    _like(make, method)
-    return method
 
-
-def _added(make: Callable[Given, Command[Value]]) -> Callable[Concatenate[Batch, Given], Answer[Value]]:
-    """The method of a batch that adds the command."""
-
-    def method(self: Batch, /, *given: Given.args, **named: Given.kwargs) -> Answer[Value]:
-        return self.add(make(*given, **named))
-
-    _like(make, method)
-    return method
-
-
-class World:
+class World(_Commands):
     """A world in a program of its own.
 
     >>> with World(cpus=2, threads=4) as world:
@@ -108,36 +142,6 @@ class World:
     def __exit__(self, *ended: object) -> None:
         self.close()
 
-    create = _asked(commands.create)
-    wake = _asked(commands.wake)
-    block = _asked(commands.block)
-    yield_ = _asked(commands.yield_)
-    preempt = _asked(commands.preempt)
-    die = _asked(commands.die)
-    affinity = _asked(commands.affinity)
-    priority = _asked(commands.priority)
-    tick = _asked(commands.tick)
-    policy = _asked(commands.policy)
-    associate = _asked(commands.associate)
-    commit = _asked(commands.commit)
-    sleep = _asked(commands.sleep)
-    rouse = _asked(commands.rouse)
-    config = _asked(commands.config)
-    publish = _asked(commands.publish)
-    publish_fail = _asked(commands.publish_fail)
-    consume = _asked(commands.consume)
-    deliver = _asked(commands.deliver)
-    answer = _asked(commands.answer)
-    pick = _asked(commands.pick)
-    steal = _asked(commands.steal)
-    crash = _asked(commands.crash)
-    mend = _asked(commands.mend)
-    status = _asked(commands.status)
-    asleep = _asked(commands.asleep)
-    show = _asked(commands.show)
-    same = _asked(commands.same)
-    complete = _asked(commands.complete)
-
 
 def _ignored(answer: str) -> None:
     """An answer that is not looked at."""
@@ -165,7 +169,7 @@ class Answer(Generic[Value]):
         return self.get()
 
 
-class Batch:
+class Batch(_Commands):
     """Commands that are sent together.
 
     >>> with World(cpus=1) as world:
@@ -197,33 +201,3 @@ class Batch:
             lines = [answer.command.line for answer in unsent]
             for answer, told in zip(unsent, self._program.exchange(lines, [answer.command.rows for answer in unsent])):
                 answer._answer = told
-
-    create = _added(commands.create)
-    wake = _added(commands.wake)
-    block = _added(commands.block)
-    yield_ = _added(commands.yield_)
-    preempt = _added(commands.preempt)
-    die = _added(commands.die)
-    affinity = _added(commands.affinity)
-    priority = _added(commands.priority)
-    tick = _added(commands.tick)
-    policy = _added(commands.policy)
-    associate = _added(commands.associate)
-    commit = _added(commands.commit)
-    sleep = _added(commands.sleep)
-    rouse = _added(commands.rouse)
-    config = _added(commands.config)
-    publish = _added(commands.publish)
-    publish_fail = _added(commands.publish_fail)
-    consume = _added(commands.consume)
-    deliver = _added(commands.deliver)
-    answer = _added(commands.answer)
-    pick = _added(commands.pick)
-    steal = _added(commands.steal)
-    crash = _added(commands.crash)
-    mend = _added(commands.mend)
-    status = _added(commands.status)
-    asleep = _added(commands.asleep)
-    show = _added(commands.show)
-    same = _added(commands.same)
-    complete = _added(commands.complete)
