@@ -17,6 +17,7 @@ import signal
 import subprocess
 import sys
 import time
+from collections.abc import Iterable
 from typing import Any, TextIO
 
 import rig
@@ -54,6 +55,7 @@ class Launcher:
 
     def __init__(self, top: pathlib.Path) -> None:
         self.top, self.open = top, contextlib.ExitStack()
+        self.end = self.open.close
         self.tree, self.bin, self.record, self.temporary = (top / name for name in ("a tree", "bin", "record", "temporary"))
         for it in (self.tree / "tools", self.bin, self.temporary):
             it.mkdir(parents=True)
@@ -68,9 +70,6 @@ class Launcher:
         for tool in TOOLS:
             self.put_tool(tool)
         self.put_command("rt", STAND_IN)
-
-    def end(self) -> None:
-        self.open.close()
 
     crates = property(lambda self: self.tree / "crates")
     release = property(lambda self: self.tree / "release")
@@ -212,13 +211,14 @@ class Launcher:
         self.forget_calls()
         return errors
 
-    def fails(self, *words: str, lines: int | None = None, **more: Any) -> str:
-        """Nothing starts, and the last line, or the only one, says why; what standard error says."""
+    def fails(self, *words: str, lines: int | None = None, says: Iterable[str] = (), **more: Any) -> str:
+        """Nothing starts, and the last line, or the only one, says why; what standard error says, this among it."""
         status, out, errors = self.run_it(**more)
         same((status, out), (5, ""), errors)
         said = errors.splitlines()
         assert lines in (None, len(said)), errors
         assert said[-1].startswith("pc-sim: ") and all(it in said[-1] for it in words), errors
+        assert all(it in errors for it in says), errors
         return errors
 
     def is_built_once(self, errors: str) -> None:
@@ -352,7 +352,6 @@ def test_a_source_that_changes_during_the_build_rebuilds_at_the_next_start(it: L
 
 # Without rt
 
-
 def test_without_rt_an_older_program_starts_with_a_warning(it: Launcher) -> None:
     (it.bin / "rt").unlink()
     it.put_program(is_noted=False)
@@ -361,7 +360,6 @@ def test_without_rt_an_older_program_starts_with_a_warning(it: Launcher) -> None
 
 
 # The order of the crates
-
 
 # How many cores and gigabytes there are, how long each crate takes, and whether two are built at once: the first lasts
 # long enough then for a busy machine to begin the second one meanwhile.
@@ -417,14 +415,6 @@ def test_what_most_stand_on_is_built_first(it: Launcher) -> None:
     same([name for name, _ in it.called()], ["low", "left", "right", "middle", "pc_sim"])
 
 
-def test_a_tree_that_cannot_be_made(it: Launcher) -> None:
-    it.put_command("cp", "#!/usr/bin/env bash\necho 'cp: no room' >&2\nexit 1\n")
-    errors = it.fails()
-    same(it.called(), [])
-    assert "a tree for low cannot be made" in errors and "cp: no room" in errors
-    assert not (it.tree / ".trees").exists()
-
-
 def test_as_a_command_it_builds_and_prints_nothing(it: Launcher) -> None:
     status, out, errors = it.run_it(command="tools/build")
     same((status, out), (0, ""))
@@ -432,14 +422,7 @@ def test_as_a_command_it_builds_and_prints_nothing(it: Launcher) -> None:
     same(it.run_it(command="tools/build"), (0, "", ""))
 
 
-def test_crates_that_stand_on_each_other(it: Launcher) -> None:
-    it.put_crates("low: left\nleft: low\nright:\npc_sim: left right\n")
-    it.fails("crates.txt")
-    same(it.called(), [("right", "lib")])
-
-
 # Failures
-
 
 def test_a_failed_crate_names_itself_and_nothing_more_begins(it: Launcher) -> None:
     errors = it.fails("low could not be built", RT_FAILS="low")
@@ -450,20 +433,38 @@ def test_a_failed_crate_names_itself_and_nothing_more_begins(it: Launcher) -> No
     same(pathlib.Path(errors.splitlines()[-1].split(" is ")[-1]).read_text().splitlines(), lines)
 
 
-# What is done to a tree, what the stand-in for rt is told, what is said of it then, and whether the last crate begins.
-FAILS: dict[str, tuple[Any, dict[str, str], list[str], bool]] = {
-    "no rt and no program": (lambda it: (it.bin / "rt").unlink(), {}, ["not built", "rt is not on the path"], False),
-    "a tree that cannot be locked": (lambda it: (it.tree / ".build.lock").mkdir(), {}, [".build.lock"], False),
-    "a queue in place of the lock": (lambda it: it.put_queue(".build.lock"), {}, [".build.lock is no file"], False),
-    "a crate that is killed": (lambda it: None, {"RT_KILLED": "left"}, ["left could not be built"], False),
-    "a build that leaves no program": (lambda it: None, {"RT_LEAVES_NONE": "yes"}, ["left no program"], True),
+ALL = ["left", "low", "pc_sim", "right"]
+NO_ROOM = "#!/usr/bin/env bash\necho 'cp: no room' >&2\nexit 1\n"
+# What is done to a tree, how it is started, what is said of it then, last of all in a last line, and which crates are called
+# for, where that is known. Nothing is left in any.
+FAILS: dict[str, tuple[Any, dict[str, Any], list[str], list[str] | None]] = {
+    "no rt and no program": (lambda it: (it.bin / "rt").unlink(), {"lines": 1}, ["not built", "rt is not on the path"], []),
+    "a tree that cannot be locked": (lambda it: (it.tree / ".build.lock").mkdir(), {"lines": 1}, [".build.lock"], []),
+    "a queue in place of the lock": (lambda it: it.put_queue(".build.lock"), {"lines": 1}, [".build.lock is no file"], []),
+    "a crate that is killed": (lambda it: None, {"RT_KILLED": "left"}, ["left could not be built"], None),
+    "a build that leaves no program": (lambda it: None, {"RT_LEAVES_NONE": "yes"}, ["left no program"], ALL),
+    "a tree that cannot be made": (
+        lambda it: it.put_command("cp", NO_ROOM), {"says": ["a tree for low cannot be made", "cp: no room"]}, [], []),
+    "crates that stand on each other": (
+        lambda it: it.put_crates("low: left\nleft: low\nright:\npc_sim: left right\n"), {}, ["crates.txt"], ["right"]),
+    "a program that cannot be started": (
+        lambda it: it.put_program("#!/no/such/command\n"), {}, ["pc_sim cannot be started"], []),
+    "a folder in the place of the program": (
+        lambda it: it.put_release() or it.program.mkdir(parents=True), {"lines": 1}, ["is no file, and has to be removed"], []),
+    "a tree that cannot be written takes no released program": (
+        lambda it: it.put_release() or it.program.parent.write_text("no folder"),
+        {"says": ["pc-sim: release/pc-sim.xz has no place, since this tree cannot be written"]}, [], ALL),
 }
 
 
 @rig.each(FAILS)
-def test_fails(it: Launcher, change: Any, environment: dict[str, str], words: list[str], has_last: bool) -> None:
+def test_fails(it: Launcher, change: Any, how: dict[str, Any], words: list[str], called: list[str] | None) -> None:
     change(it)
-    same("pc_sim .." in it.fails(*words, lines=None if environment else 1, **environment), has_last)
+    before = [*it.program.parent.rglob("*")]
+    same("pc_sim .." in it.fails(*words, **how), "pc_sim" in (called or []))
+    if called is not None:
+        same(sorted(name for name, _ in it.called()), called)
+    same([*it.tree.glob(".trees"), *it.program.parent.rglob("*")], before)
 
 
 def test_a_failed_crate_ends_those_beside_it(it: Launcher) -> None:
@@ -501,7 +502,6 @@ def test_an_interrupt_stops_what_was_started(it: Launcher, number: signal.Signal
 
 
 # One build at a time
-
 
 def test_two_starts_at_once_build_once(it: Launcher) -> None:
     first, read = it.begun("[1/4] low ..", "first", RT_SECONDS="0.3")
@@ -584,7 +584,6 @@ def test_the_gate_waits_for_a_build(it: Launcher) -> None:
 
 
 # The program of release/
-
 
 # What is done before it is started, and what that is told elsewhere.
 @rig.each({
@@ -685,24 +684,6 @@ def test_a_file_that_may_not_grow_is_a_write_that_failed(it: Launcher) -> None:
     same(([*it.temporary.iterdir()], it.called()), ([], []))
 
 
-def test_a_program_that_cannot_be_started(it: Launcher) -> None:
-    it.put_program("#!/no/such/command\n")
-    it.fails("pc_sim cannot be started")
-
-
-def test_a_folder_in_the_place_of_the_program(it: Launcher) -> None:
-    it.put_release()
-    it.program.mkdir(parents=True)
-    it.fails("is no file, and has to be removed", lines=1)
-    same(([*it.program.iterdir()], [*it.program.parent.iterdir()], it.called()), ([], [it.program], []))
-
-
-def test_a_tree_that_cannot_be_written_takes_no_released_program(it: Launcher) -> None:
-    it.put_release()
-    it.program.parent.write_text("no folder")
-    assert "pc-sim: release/pc-sim.xz has no place, since this tree cannot be written" in it.fails()
-
-
 def test_the_released_program_is_compared_with_the_one_that_was_built(it: Launcher) -> None:
     it.put_release()
     sources, _, program, *_ = (it.release / "SUMS").read_text().split()
@@ -751,7 +732,6 @@ def test_the_gate_compares_what_it_built_and_notes_it(it: Launcher) -> None:
 
 # What is handed through
 
-
 def test_arguments_input_and_status_are_handed_through(it: Launcher) -> None:
     args = ["replay", "", "two words", "*", "--", "-n", "a\nb", "$HOME"]
     for built in (False, True):
@@ -760,7 +740,6 @@ def test_arguments_input_and_status_are_handed_through(it: Launcher) -> None:
 
 
 # Where the launcher is
-
 
 def test_nothing_of_the_current_folder_is_taken(it: Launcher) -> None:
     """However the launcher is called, and where the path has no readlink."""
