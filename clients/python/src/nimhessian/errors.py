@@ -23,104 +23,36 @@ class Refused(NimhessianError):
         return f"{told}: {self.command}" if self.command else told
 
 
-class BadCpu(Refused):
-    """A CPU or a queue is not there."""
+def _refusal(name: str, about: str) -> type[Refused]:
+    """The class of a refusal that tells nothing more than its name."""
+    return cast(type[Refused], type(name, (Refused,), {"__doc__": about, "__module__": __name__}))
 
 
-class UnknownThread(Refused):
-    """No thread has this name."""
-
-
-class Dead(Refused):
-    """The thread is dead."""
-
-
-class NotBlocked(Refused):
-    """The thread is not blocked."""
-
-
-class NotReady(Refused):
-    """The thread is blocked or dead."""
-
-
-class EmptyMask(Refused):
-    """The mask has no CPU."""
-
-
-class MaskTooWide(Refused):
-    """The mask has a CPU that is not there."""
-
-
-class OnForbiddenCpu(Refused):
-    """The thread runs on a CPU that the new mask leaves out."""
-
-
-class BadLevel(Refused):
-    """The level is above 7."""
-
-
-class IdleCpu(Refused):
-    """No thread runs on the CPU."""
-
-
-class NamesSpent(Refused):
-    """There are as many threads as there may be."""
-
-
-class NumbersSpent(Refused):
-    """The thread has as many messages as it may have."""
-
-
-class QueueFull(Refused):
-    """The queue holds as many items as it may hold."""
-
-
-class PostsSpent(Refused):
-    """The queue had as many posts as it may have."""
-
-
-class Pending(Refused):
-    """A message of the thread stands in its queue."""
-
-
-class Forbidden(Refused):
-    """The thread's mask leaves the CPU out."""
-
-
-class Busy(Refused):
-    """A thread runs on the CPU; for `commit` another one."""
-
-
-class NothingReady(Refused):
-    """No thread of the agent's run list may be committed."""
-
-
-class NothingToSteal(Refused):
-    """There is no thread that the agent may choose."""
-
-
-class WireFault(Refused):
-    """The delta cannot be sent."""
-
-
-class NoDelta(Refused):
-    """So many deltas were not sent."""
-
-
-class TooMany(Refused):
-    """The queue has fewer items than are to be removed."""
-
-
-class TooLate(Refused):
-    """An event was taken before."""
-
-
-class NoEnclave(Refused):
-    """No enclave was accepted yet."""
-
-
-class HaveEnclave(Refused):
-    """An enclave was accepted before."""
+BadCpu = _refusal("BadCpu", "A CPU or a queue is not there.")
+UnknownThread = _refusal("UnknownThread", "No thread has this name.")
+Dead = _refusal("Dead", "The thread is dead.")
+NotBlocked = _refusal("NotBlocked", "The thread is not blocked.")
+NotReady = _refusal("NotReady", "The thread is blocked or dead.")
+EmptyMask = _refusal("EmptyMask", "The mask has no CPU.")
+MaskTooWide = _refusal("MaskTooWide", "The mask has a CPU that is not there.")
+OnForbiddenCpu = _refusal("OnForbiddenCpu", "The thread runs on a CPU that the new mask leaves out.")
+BadLevel = _refusal("BadLevel", "The level is above 7.")
+IdleCpu = _refusal("IdleCpu", "No thread runs on the CPU.")
+NamesSpent = _refusal("NamesSpent", "There are as many threads as there may be.")
+NumbersSpent = _refusal("NumbersSpent", "The thread has as many messages as it may have.")
+QueueFull = _refusal("QueueFull", "The queue holds as many items as it may hold.")
+PostsSpent = _refusal("PostsSpent", "The queue had as many posts as it may have.")
+Pending = _refusal("Pending", "A message of the thread stands in its queue.")
+Forbidden = _refusal("Forbidden", "The thread's mask leaves the CPU out.")
+Busy = _refusal("Busy", "A thread runs on the CPU; for `commit` another one.")
+NothingReady = _refusal("NothingReady", "No thread of the agent's run list may be committed.")
+NothingToSteal = _refusal("NothingToSteal", "There is no thread that the agent may choose.")
+WireFault = _refusal("WireFault", "The delta cannot be sent.")
+NoDelta = _refusal("NoDelta", "So many deltas were not sent.")
+TooMany = _refusal("TooMany", "The queue has fewer items than are to be removed.")
+TooLate = _refusal("TooLate", "An event was taken before.")
+NoEnclave = _refusal("NoEnclave", "No enclave was accepted yet.")
+HaveEnclave = _refusal("HaveEnclave", "An enclave was accepted before.")
 
 
 class Stale(Refused):
