@@ -59,10 +59,6 @@ def posts(count):
         yield f"priority t{queue} 0\n" * (min(count - queue * ROOM, ROOM) - 1)
 
 
-def publishes(count):
-    yield from (*posts(ROOM), "publish 0\n" * count)
-
-
 def created():
     """Threads, as many as may be, all of queue 0."""
     yield from (WIDE, "create 0 1 ready\n" * 65535, "publish 0\n")
@@ -71,14 +67,6 @@ def created():
 def deliveries(agents, deltas):
     """So many agents, the last ones, take each of the deltas in."""
     yield from (f"deliver {agent} {delta}\n" for agent in range(64 - agents, 64) for delta in deltas)
-
-
-def answers(count):
-    yield from (*created(), "answer 0 1\n" * count)
-
-
-def threads(agents):
-    yield from (*created(), *deliveries(agents, [0]))
 
 
 def early(agents, count, answered=0):
@@ -162,10 +150,6 @@ def blocks(count):
 LONG = '"die 4294967295"'
 
 
-def quanta(threads, count):
-    yield from load(1, [thread(0, 1, LONG)] * threads, variants_of(count, "quantum=1"))
-
-
 def late(names, until):
     """All agents know as many dead threads. At tick 100 each but the first wakes once, and asks for what it heard of."""
     anywhere = 2**63 - 1
@@ -175,8 +159,9 @@ def late(names, until):
 
 
 SCRIPTS = {
-    "publishes": publishes, "answers": answers, "early-answers": partial(early, 1), "threads": threads, "early": early,
-    "early-threads": early_threads, "posts": posts,
+    "publishes": lambda count: [*posts(ROOM), "publish 0\n" * count],
+    "answers": lambda count: [*created(), "answer 0 1\n" * count], "early-answers": partial(early, 1),
+    "threads": lambda agents: [*created(), *deliveries(agents, [0])], "early": early, "early-threads": early_threads, "posts": posts,
 }
 SETTINGS = {
     **{name: partial(filled, *row) for name, row in TEXTS["longest"].items()},
@@ -187,7 +172,8 @@ SETTINGS = {
     "lives": living,
     "restarts": restarts,
 }
-LOADS = {"blocks": blocks, "quanta": quanta, "late": late}
+QUANTA = lambda threads, count: load(1, [thread(0, 1, LONG)] * threads, variants_of(count, "quantum=1"))
+LOADS = {"blocks": blocks, "quanta": QUANTA, "late": late}
 # What settings and loads may take, since some runs end only after hours.
 MOST_MEMORY = 6 * 2**30
 MOST_SECONDS = 60
