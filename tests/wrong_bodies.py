@@ -132,12 +132,6 @@ def read_table(text: str) -> dict[str, Row]:
     return rows
 
 
-def owner_above(lines: list[str], place: int) -> str:
-    """The owner of a function of an impl: the type, and the trait behind it."""
-    above = itertools.takewhile(lambda line: not line.startswith("}"), reversed(lines[:place]))
-    return next((f"{impl[2]}{impl[1] or ''}::" for impl in map(OWNER.match, above) if impl), "")
-
-
 def lines_at(lines: list[str], number: int) -> tuple[int, int]:
     """The first line, from 0, of the function that has the line of this number, and the last."""
     while number < len(lines) and lines[number - 1].lstrip().startswith("#["):
@@ -151,59 +145,55 @@ def lines_at(lines: list[str], number: int) -> tuple[int, int]:
 
 
 def function_in(file: str, lines: list[str], number: int) -> str:
-    """The function that has the line of this number, with its modules and its owner."""
+    """The function that has the line of this number, with its modules and its owner: the type of an impl, and the trait behind it."""
     place, _ = lines_at(lines, number)
     module = file.removeprefix("src/").removesuffix(".rt")
     modules = "" if module in ("lib", "main") else module.replace("/", "::") + "::"
-    owner = owner_above(lines, place) if lines[place].startswith(" ") else ""
-    return modules + owner + FUNCTION.match(lines[place])[2]
+    above = itertools.takewhile(lambda line: not line.startswith("}"), reversed(lines[:place]))
+    impls = map(OWNER.match, above if lines[place].startswith(" ") else [])
+    return modules + next((f"{impl[2]}{impl[1] or ''}::" for impl in impls if impl), "") + FUNCTION.match(lines[place])[2]
 
 
 def changes_of(crate: pathlib.Path, edit: pathlib.Path) -> list[Change]:
-    file, old, changes = "", "", []
-    for line in edit.read_text().splitlines():
-        if line.startswith("file: "):
-            file = line.removeprefix("file: ").strip()
-        elif line.startswith("old: "):
-            old = line.removeprefix("old: ")
-        elif line.startswith("new:"):
+    told, changes = {"file": "", "old": ""}, []
+    for word, rest in re.findall(r"^(file: |old: |new: ?)(.*)$", edit.read_text(), re.M):
+        told[word.rstrip(": ")] = rest
+        file, old = told["file"].strip(), told["old"]
+        if word.startswith("new"):
             text = (crate / file).read_text()
             if not file.startswith("src/") or text.count(old) != 1:
                 raise Bad(f"{old!r} stands {text.count(old)} times in {file}, and not once")
             start = text.find(old)
-            changes.append(Change(file, text.count("\n", 0, start) + 1, start, old, line.removeprefix("new:").removeprefix(" ")))
+            changes.append(Change(file, text.count("\n", 0, start) + 1, start, old, rest))
     if not changes:
         raise Bad("it changes nothing")
     return changes
 
 
 def body_of(crate: pathlib.Path, edit: pathlib.Path, row: Row | None) -> WrongBody:
+    """A wrong body, which can be copied where it changes one function, of no trait, and has to be refused there."""
     body = WrongBody(f"{crate.name}/{edit.stem}", changes_of(crate, edit), refused_in={row.goal.split()[0]} if row else set())
+    begins = set()
     for it in body.changes:
+        lines = (crate / it.file).read_text().splitlines()
         try:
-            body.changed.add(function_in(it.file, (crate / it.file).read_text().splitlines(), it.line))
+            body.changed.add(function_in(it.file, lines, it.line))
+            begins.add((it.file, None if is_of_trait(lines, it.line) else lines_at(lines, it.line)[0]))
         except Bad:
             # A row of a table: the function that reads it is named, and why.
             if not row:
                 raise
-    body.can_be_copied = is_within_one(crate, body)
+            begins.add((it.file, None))
+    in_its_own = all(any(are_one(it, other) for other in body.changed) for it in body.refused_in)
+    body.can_be_copied = len(begins) == 1 and all(begin is not None for _, begin in begins) and in_its_own
     return body
 
 
-def is_within_one(crate: pathlib.Path, body: WrongBody) -> bool:
-    """Whether a wrong body changes one function, of no trait, and has to be refused there."""
-    spans = set()
-    for it in body.changes:
-        lines = (crate / it.file).read_text().splitlines()
-        try:
-            begin, _ = lines_at(lines, it.line)
-        except Bad:
-            return False
-        outer = next((line for line in reversed(lines[:begin]) if line and not line.startswith((" ", "/"))), "")
-        if lines[begin].startswith(" ") and (not outer.startswith("impl") or " for " in outer):
-            return False  # It is of a trait: a copy of it would be none.
-        spans.add((it.file, begin))
-    return len(spans) == 1 and all(any(are_one(it, other) for other in body.changed) for it in body.refused_in)
+def is_of_trait(lines: list[str], number: int) -> bool:
+    """Whether the function that has the line of this number is a trait's: a copy of it would be none."""
+    begin, _ = lines_at(lines, number)
+    outer = next((line for line in reversed(lines[:begin]) if line and not line.startswith((" ", "/"))), "")
+    return lines[begin].startswith(" ") and (not outer.startswith("impl") or " for " in outer)
 
 
 def together(bodies: list[WrongBody]) -> list[list[WrongBody]]:
