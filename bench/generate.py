@@ -197,9 +197,12 @@ def levels(lines):
         yield from (f"priority t{threads // 2} {1 + change % 7}", *look(0))
 
 
-# One queue as full as may be, of four threads; and a view that is answered in 20,000 lines.
-FULL_QUEUE = ["enclave 2 8 1000000 65536 4294967295", *["create 0 3 ready"] * 4, *(f"affinity t{it % 4} 3" for it in range(4, 65536))]
-WIDE_VIEW = ["version 2", "enclave 1 20000 1000000 65536 4294967295", *["create 0 1 ready"] * 20_000, *look(0)]
+# One queue as full as may be, of four threads; a view that is answered in 20,000 lines; and a queue that is full behind
+# the first line, so that a line costs little more than to read it and to answer.
+CHANGES = [f"affinity t{number % 4} 3" for number in range(4, 65536)]
+BIG_DELTA = filled(["enclave 2 8 1000000 65536 4294967295", *["create 0 3 ready"] * 4, *CHANGES], "publish 0")
+WIDE = ["version 2", "enclave 1 20000 1000000 65536 4294967295", *["create 0 1 ready"] * 20_000, *look(0)]
+SHOWS, SHORTEST = filled(WIDE, "show 0"), filled(["enclave 1 1 1 1 1"], "tick 0")
 # The scripts by their names, and what each is.
 SCRIPTS = {
     "first-run": (first_run, "creates, wakes, reads of status words, and now and then a queue published and a view shown"),
@@ -211,14 +214,13 @@ SCRIPTS = {
     "answer-empty": (partial(answers, known=0), "4,096 threads, and then answers to an agent that knows none of them"),
     "answer-half": (partial(answers, known=1), "the same to an agent that knows half of them"),
     "answer-equal": (partial(answers, known=2), "the same to an agent that knows all of them"),
-    "big-delta": (filled(FULL_QUEUE, "publish 0"), "a queue of 65,536 messages, published again and again"),
+    "big-delta": (BIG_DELTA, "a queue of 65,536 messages, published again and again"),
     "rounds": (rounds, "64 agents that pick, have the thread yield, publish and consume, over 4,096 threads"),
     "steals": (steals, "one agent steals all threads of another (half as many as lines, 4,096 at most), then finds none, again and again"),
     "day": (day, "64 agents in groups of four that exchange all they see: threads picked, blocked, woken, stolen, and now and then a crash"),
     "restarts": (restarts, "agents that crash, learn all of 4,096 threads from an answer, and take threads back"),
-    # The queue is full behind the first line, so that a line costs little more than to read it and to answer.
-    "shortest": (filled(["enclave 1 1 1 1 1"], "tick 0"), "the shortest command, `tick 0`, which is refused but the first time"),
-    "shows": (filled(WIDE_VIEW, "show 0"), "20,000 threads that an agent knows, shown again and again (30 times with 20,034 lines)"),
+    "shortest": (SHORTEST, "the shortest command, `tick 0`, which is refused but the first time"),
+    "shows": (SHOWS, "20,000 threads that an agent knows, shown again and again (30 times with 20,034 lines)"),
     "levels": (levels, "2,000 times another level of one thread, published and consumed, in a run list of as many names as "
                "LINES leaves (6,004 lines are for the rest: 7,004 for 1,000 names)"),
 }

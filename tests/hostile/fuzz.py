@@ -1,7 +1,6 @@
 """Scripts drawn at random, with a fixed seed: no run ends by a signal, or takes more memory or time than is named, and each answer is the model's."""
 import itertools
 import random
-from functools import partial
 
 import rig
 from growths import fault_of_refused
@@ -44,11 +43,6 @@ def fault_of_script(machine, place, peer=None):
         return None if (run.status, run.out) == (other.status, other.out) else f"the other program differs: {told(other)}"
 
 
-def draw_scripts(machine, tally, count, peer=None):
-    """Runs so many drawn scripts."""
-    tally.try_all((f"script {place}", partial(fault_of_script, machine, place, peer)) for place in range(count))
-
-
 def fault_of_drawn_growth(machine, place):
     """What is wrong with the run of a drawn script of which one of the growths, drawn too, is refused, or that one and all later ones."""
     with rig.file(drawn_script(place)) as file:
@@ -57,9 +51,3 @@ def fault_of_drawn_growth(machine, place):
         refused = chance.randrange(1, ample.growths + 1)
         run = machine.run(subject, seconds=SECONDS, growth=f"{refused}{chance.choice(['', '..'])}")
         return fault_of_refused(ample, run) if run.growths_met else "no growth was refused"
-
-
-def draw_growths(machine, tally, count):
-    """Runs so many drawn scripts with a growth refused."""
-    fault = partial(fault_of_drawn_growth, machine)
-    tally.try_all((f"drawn growth of script {place}", partial(fault, place)) for place in range(count))

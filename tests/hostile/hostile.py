@@ -12,16 +12,17 @@ import sys
 import tempfile
 import time
 from dataclasses import dataclass
+from functools import partial
 
 sys.path.insert(0, str(pathlib.Path(__file__).resolve().parent.parent))
 
+import loads
 import rig  # noqa: E402
+import settings
 from calls import refuse_in_calls
-from fuzz import draw_growths, draw_scripts
+from fuzz import fault_of_drawn_growth, fault_of_script
 from growths import bound_stack, refuse_growths, refuse_memory
-from loads import draw_loads, use_worst
 from machine import Machine, NoCompiler, Tally
-from settings import draw_settings, use_rows
 from started import start_launcher
 from streams import disturb_streams
 from subjects import examples, generated, greatest, replayed
@@ -53,25 +54,29 @@ def parts_of(machine, tally, options):
     def subjects():
         return [it for it in replayed(folder) if options.command is None or it.words[:1] == [options.command]]
 
+    def use(name, fault, every):
+        """A run on each of these texts, which are named, or drawn by their numbers."""
+        tally.try_all((f"{name} {it}", partial(fault, machine, it)) for it in every)
+
     parts = {
         "growths": lambda: refuse_growths(machine, tally, subjects(), form.growths),
         "growths of long scripts": lambda: refuse_growths(machine, tally, generated(folder, form.lines), form.of_generated),
         "stack": lambda: bound_stack(machine, tally, [*subjects(), *(greatest(folder) if form.lines else [])]),
         "memory": lambda: refuse_memory(machine, tally, list(examples()), form.step),
         "streams": lambda: disturb_streams(machine, tally, folder, form.bytes_moved),
-        "scripts": lambda: draw_scripts(machine, tally, scripts, peer),
-        "drawn growths": lambda: draw_growths(machine, tally, scripts // 2),
-        "settings": lambda: use_rows(machine, tally, form.settings),
-        "drawn settings": lambda: draw_settings(machine, tally, scripts // 10),
-        "drawn loads": lambda: draw_loads(machine, tally, scripts // 10),
-        "worst loads": lambda: use_worst(machine, tally),
+        "scripts": lambda: use("script", partial(fault_of_script, peer=peer), range(scripts)),
+        "drawn growths": lambda: use("drawn growth of script", fault_of_drawn_growth, range(scripts // 2)),
+        "settings": lambda: settings.use_rows(machine, tally, form.settings),
+        "drawn settings": lambda: use("settings", settings.fault_of_drawn, range(scripts // 10)),
+        "drawn loads": lambda: use("load", loads.fault_of_drawn, range(scripts // 10)),
+        "worst loads": lambda: use("worst load", loads.fault_of_worst, loads.WORST),
         "launcher": lambda: start_launcher(tally),
     }
     left_out = set() if form.lines else {"growths of long scripts"}
     return {name: part for name, part in parts.items() if name in (options.part or parts) and name not in left_out}
 
 
-def use(program, options):
+def use_program(program, options):
     """Uses one program, and answers what came of it."""
     rig.program = program
     os.environ["PC_SIM"] = str(program)
@@ -102,7 +107,7 @@ def uses_of(options):
     """What is used, by name: each program, and the single calls in the long form."""
     if not options.calls:
         for program in options.program or rig.BUILT:
-            yield program.name, lambda program=program: use(program.resolve(), options)
+            yield program.name, lambda program=program: use_program(program.resolve(), options)
     if options.calls or not (options.short or options.part or options.only or options.program):
         yield "single calls", lambda: use_calls(options)
 

@@ -1,7 +1,6 @@
 """Loads of the lab: a worked one whose reads and writes are disturbed, drawn ones, half of them spoilt, and some that take long."""
 import random
 import re
-from functools import partial
 
 import rig
 import tables
@@ -47,11 +46,6 @@ def fault_of_drawn(machine, place):
         return None if is_table or is_fault else told(run)
 
 
-def draw_loads(machine, tally, count):
-    """Plays so many drawn loads."""
-    tally.try_all((f"load {place}", partial(fault_of_drawn, machine, place)) for place in range(count))
-
-
 def fault_of_worst(machine, words):
     """What is wrong with the table of a load that takes long: it is told, and tells how the run ended."""
     file = written(machine.folder, words, load_text(words))
@@ -59,8 +53,3 @@ def fault_of_worst(machine, words):
     rows = dict(line.rsplit(None, 1) for line in run.out.splitlines() if b" " in line)
     is_so = (run.status, run.err, rows.get(b"end"), rows.get(b"makespan")) == (0, b"", *WORST[words])
     return None if is_so else told(run)
-
-
-def use_worst(machine, tally):
-    """Plays loads that take long."""
-    tally.try_all((f"worst load {words}", partial(fault_of_worst, machine, words)) for words in WORST)

@@ -11,6 +11,7 @@ import subprocess
 import tempfile
 import threading
 import time
+from collections import namedtuple
 from concurrent.futures import ThreadPoolExecutor
 from dataclasses import dataclass, field
 
@@ -32,23 +33,9 @@ class NoCompiler(Exception):
     """There is no C compiler, or the library does not go with the program."""
 
 
-@dataclass
-class Run:
-    """How a run ended: its status, below 0 that of a signal, None where it was ended because its time was over.
-
-    Of standard error the line that names the ending, if there is but one line behind it that says why; else all of it.
-    """
-
-    status: int | None
-    out: bytes
-    err: bytes
-    seconds: float
-    growths: int
-    growths_met: int
-    reads: int
-    reads_met: int
-    writes: int
-    writes_met: int
+# How a run ended: its status, below 0 that of a signal, None where it was ended because its time was over. Of standard
+# error the line that names the ending, if there is but one line behind it that says why; else all of it.
+Run = namedtuple("Run", "status out err seconds growths growths_met reads reads_met writes writes_met")
 
 
 @dataclass

@@ -197,8 +197,3 @@ def fault_of_drawn(machine, place):
         if run.status is None and waits:
             return None
         return told(run) if wanted is not None and run.status != 0 else fault_of_totals(run, wanted)
-
-
-def draw_settings(machine, tally, count):
-    """Runs so many drawn settings."""
-    tally.try_all((f"settings {place}", partial(fault_of_drawn, machine, place)) for place in range(count))

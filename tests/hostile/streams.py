@@ -126,26 +126,26 @@ class Streams:
         return fault_of_same(self.subject, self.machine.run(self.subject, **hostile))
 
     def reads(self):
-        name = self.subject.name
         for error, place in itertools.product(READ_ERRORS, range(1, self.plain.reads + 1)):
             fails = partial(self.failed_read, len(self.text()) if place > 1 else 0, read=f"{place} {error}")
-            yield f"read {place} {errno.errorcode[error]} of {name}", fails
-        for place in numbers(self.by_bytes.reads, self.most):
-            fails = partial(self.failed_read, place - 1, read=f"{place} {errno.EIO}", read_most=1)
-            yield f"byte read {place} EIO of {name}", fails
-        for words, most in (("reads", {}), ("byte reads", {"read_most": 1})):
-            yield f"{words} EINTR of {name}", partial(self.interrupted_reads, read=f"1/2 {errno.EINTR}", **most)
+            yield f"read {place} {errno.errorcode[error]} of {self.subject.name}", fails
+        behind = lambda place: partial(self.failed_read, place - 1)
+        yield from self.by_byte("read", self.by_bytes.reads, behind, self.interrupted_reads)
 
     def writes(self):
-        name, places = self.subject.name, range(1, self.plain.writes + 1)
+        places = range(1, self.plain.writes + 1)
         for error, place, later in itertools.product([*WRITE_ERRORS, 0], places, ("", "..")):
             fails = partial(self.failed_write, write=f"{place}{later} {error}")
-            yield f"write {place}{later} {errno.errorcode.get(error, 'of nothing')} of {name}", fails
-        for place in numbers(self.by_bytes.writes, self.most):
-            fails = partial(self.failed_write, write=f"{place} {errno.EIO}", write_most=1)
-            yield f"byte write {place} EIO of {name}", fails
-        for words, most in (("writes", {}), ("byte writes", {"write_most": 1})):
-            yield f"{words} EINTR of {name}", partial(self.interrupted_writes, write=f"1/2 {errno.EINTR}", **most)
+            yield f"write {place}{later} {errno.errorcode.get(error, 'of nothing')} of {self.subject.name}", fails
+        yield from self.by_byte("write", self.by_bytes.writes, lambda place: self.failed_write, self.interrupted_writes)
+
+    def by_byte(self, kind, count, failed, interrupted):
+        """Some of so many reads or writes of a byte fail; every other one is interrupted, of a byte or of many."""
+        of, one = f"of {self.subject.name}", {f"{kind}_most": 1}
+        for place in numbers(count, self.most):
+            yield f"byte {kind} {place} EIO {of}", partial(failed(place), **{kind: f"{place} {errno.EIO}"}, **one)
+        for words, most in ((f"{kind}s", {}), (f"byte {kind}s", one)):
+            yield f"{words} EINTR {of}", partial(interrupted, **{kind: f"1/2 {errno.EINTR}"}, **most)
 
     def trials(self):
         """(name, function) of each run."""

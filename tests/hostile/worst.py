@@ -161,7 +161,8 @@ def late(names, until):
 SCRIPTS = {
     "publishes": lambda count: [*posts(ROOM), "publish 0\n" * count],
     "answers": lambda count: [*created(), "answer 0 1\n" * count], "early-answers": partial(early, 1),
-    "threads": lambda agents: [*created(), *deliveries(agents, [0])], "early": early, "early-threads": early_threads, "posts": posts,
+    "threads": lambda agents: [*created(), *deliveries(agents, [0])],
+    "early": early, "early-threads": early_threads, "posts": posts,
 }
 SETTINGS = {
     **{name: partial(filled, *row) for name, row in TEXTS["longest"].items()},
