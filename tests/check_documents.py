@@ -223,11 +223,11 @@ class Checker:
                 self.expect(self.sources.left_by(function), function.where(), f"no clause tells what `{function}` leaves where it finds no memory")
         for name, left in LEFT_BY.items():
             found = [function for function in wanting if str(function) == name]
-            where = "tools/sources.py"
-            self.expect(found, where, f"LEFT_BY has `{name}`, which is no public call that may want memory")
+            where = "tools/left_by.toml"
+            self.expect(found, where, f"it has `{name}`, which is no public call that may want memory")
             for function in found:
                 needs = function.is_lent_to_change() and self.sources.left_by(function) == left
-                self.expect(needs, where, f"LEFT_BY has `{name}`, of which clauses tell it by their names")
+                self.expect(needs, where, f"it has `{name}`, of which clauses tell it by their names")
                 self.expect_clauses(where, function, left if isinstance(left, list) else [])
         self.hold_met(wanting)
 

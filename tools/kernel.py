@@ -3,8 +3,6 @@
 `Kernel` is what the kernel does, and can follow a script by its answers; `World` has what agents know too, and answers each line itself.
 It shares nothing with the program but the table of commands that this prints, so a new command is a line there and a method here.
 """
-from __future__ import annotations
-
 import functools
 import itertools
 import os
@@ -65,11 +63,6 @@ def forms() -> list[list[str]]:
     return [[word for word in words if word] for row in places for words in itertools.product(*row)]
 
 
-@functools.cache
-def forms_of(verb: str, length: int) -> list[list[str]]:
-    return [form for form in forms() if form[0] == verb and len(form) == length]
-
-
 def is_word(form: str, word: str) -> bool:
     """Whether a word may stand where the table has this one."""
     if form not in GREATEST:
@@ -87,8 +80,8 @@ def fields_of(words: list[str], version: int) -> list[int | str] | None:
     """The words behind the first as numbers, where they are some; nothing, where they ask for no command."""
     if words[0] in OWN_OF_VERSION_3 and version < 3:
         return None
-    for form in forms_of(words[0], len(words)):
-        if all(map(is_word, form, words)):
+    for form in forms():
+        if len(form) == len(words) and all(map(is_word, form, words)):
             return [int(word.removeprefix("t")) if it in GREATEST else word for it, word in zip(form[1:], words[1:])]
     return None
 
@@ -114,12 +107,8 @@ def last_lines(output: str) -> list[str]:
     return [line for line in output.splitlines() if not re.match(r"t\d+ upto ", line)]
 
 
-class Answered(NamedTuple):
-    """A command of a script: the number of its line, its words, and the last line of its answer."""
-
-    number: int
-    words: list[str]
-    answer: str
+# A command of a script: the number of its line, its words, and the last line of its answer.
+Answered = NamedTuple("Answered", [("number", int), ("words", list[str]), ("answer", str)])
 
 
 def answered(script: str, output: str) -> Iterator[Answered]:
@@ -211,7 +200,7 @@ class Agent:
 
 @dataclass
 class Kernel:
-    """Threads, queues, who runs where, and which agents sleep. A command is a method; `ask` looks at its CPUs, and has its answer."""
+    """Threads, queues, who runs where, and who sleeps. A command is a method; `ask` looks at its CPUs, and answers."""
 
     cpus: int
     threads_most: int = 65_535

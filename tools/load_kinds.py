@@ -1,6 +1,4 @@
 """The kinds of loads that `record-loads` records: what each wants, and how it begins."""
-from __future__ import annotations
-
 import contextlib
 import os
 import pathlib
@@ -13,7 +11,7 @@ import sys
 import time
 import tomllib
 from collections.abc import Callable
-from dataclasses import dataclass
+from typing import NamedTuple
 
 CPUS = os.cpu_count() or 1
 HALF = max(CPUS // 2, 1)
@@ -61,7 +59,7 @@ class Running:
         self.stack, self.folder = stack, folder
         self.who = {"user": user.pw_uid, "group": user.pw_gid, "extra_groups": []} if user else {}
 
-    def without_root(self, *names: str) -> Running:
+    def without_root(self, *names: str) -> "Running":
         """Has the first of these users that there is run what follows, where root would. The folder becomes that
         user's, so from here on root writes nothing there: it might follow a link."""
         if os.geteuid():
@@ -143,15 +141,8 @@ def database(it: Running) -> None:
     it.begin(*client, "-c", 4 * CPUS, "-j", 2, "-T", SLOW, "postgres")
 
 
-@dataclass(frozen=True)
-class Kind:
-    """What it is, which commands of which Debian packages it wants, and how it begins."""
-
-    title: str
-    wants: dict[str, str]
-    begin: Callable[[Running], None]
-
-
+# What it is, which commands of which Debian packages it wants, and how it begins.
+Kind = NamedTuple("Kind", [("title", str), ("wants", dict[str, str]), ("begin", Callable[[Running], None])])
 KINDS = {
     "compiler": Kind(f"`make -j {2 * CPUS}` of {6 * CPUS} files in C", {"make": "make", "gcc": "gcc"}, compiler),
     "web": Kind(f"nginx with {HALF} workers under wrk with 20 connections", {"nginx": "nginx", "wrk": "wrk"}, web),

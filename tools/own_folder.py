@@ -1,6 +1,4 @@
 """A folder for what root writes, where others may have put links: theirs are refused, and none is written through."""
-from __future__ import annotations
-
 import contextlib
 import os
 import pathlib

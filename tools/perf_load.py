@@ -1,6 +1,4 @@
 """A recording as a load for `lab` and as settings for `run`, and the recorded waits, to compare with the lab's."""
-from __future__ import annotations
-
 from collections import Counter
 from collections.abc import Iterable
 from dataclasses import dataclass, field

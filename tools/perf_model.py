@@ -1,6 +1,4 @@
 """What `pc-sim replay` will have answered to the commands written so far."""
-from __future__ import annotations
-
 from collections import Counter
 
 from kernel import MOST, Kernel, Thread

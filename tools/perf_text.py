@@ -1,6 +1,4 @@
 """Reads the text of `perf sched script` or `perf script` as events of the scheduler, and what only all of it says."""
-from __future__ import annotations
-
 import re
 from collections import Counter
 from collections.abc import Iterable

@@ -4,6 +4,7 @@ For tools/definitions.py, which prints them, and tests/check_documents.py, which
 """
 import pathlib
 import re
+import tomllib
 from dataclasses import dataclass, field
 
 ROOT = pathlib.Path(__file__).resolve().parent.parent
@@ -23,24 +24,8 @@ WANTING = re.compile(
 ENDING = re.compile(r"\balloc: Global\b.*->.*\b(?:Lab)?Ending\b", re.S)
 # What want of memory leaves, clauses of these names tell.
 LEAVING = {"between", "err", "list_err", "memory", "memory_last", "no_memory", "out_of_memory", "partly", "unanswered", "untouched", "unwritten"}
-# Of these calls clauses of other names tell it; or none does, and why.
-LEFT_BY = {
-    "pc_agent Agent::answer": ["answers"],
-    "pc_agent Agent::answer_beyond": ["answers"],
-    "pc_agent Agent::publish": ["publishes", "own"],
-    "pc_agent Wire::send": ["says"],
-    "pc_program converse_flushed": ["told", "flushed"],
-    "pc_program make": "its only clause tells it by how it ended, and has no name",
-    "pc_program make_flushed": ["told", "flushed"],
-    "pc_program replay_flushed": ["told"],
-    "pc_program run_flushed": ["told", "flushed"],
-    "pc_program run_scripted": ["told", "flushed"],
-    "pc_script read_bytes": ["reads"],
-    "pc_script read_text": ["reads"],
-    "pc_settings read_utf8": ["reads"],
-    "pc_trial compare_watched": "no clause says what a watcher was told: `Progress` shows it at a terminal, and drops what its writes answer",
-    "pc_trial picture_watched": "the same",
-}
+# Of some calls clauses of other names tell it; or none does, and why.
+LEFT_BY = tomllib.loads((ROOT / "tools/left_by.toml").read_text())
 
 
 @dataclass
