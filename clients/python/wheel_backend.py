@@ -1,6 +1,4 @@
 """Makes the wheel of this package, by the standard library alone, so that pip needs no network (PEP 517 and 427)."""
-from __future__ import annotations
-
 import base64
 import hashlib
 import io

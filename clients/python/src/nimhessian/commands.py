@@ -3,8 +3,6 @@
 `World` and `Batch` have a method for each; here they are values, so that a program can build a list of them, keep them,
 or draw them at random: `world.ask(commands.tick(0))`.
 """
-from __future__ import annotations
-
 from collections.abc import Callable
 from typing import Generic, NamedTuple, TypeVar
 

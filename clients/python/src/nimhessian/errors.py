@@ -1,6 +1,4 @@
 """What a command may meet: a refusal, each of a class of its own; a fault; the end of the program."""
-from __future__ import annotations
-
 from collections.abc import Callable
 from typing import cast
 

@@ -1,6 +1,4 @@
 """The program `pc-sim` as a session: lines go in, and lines come out."""
-from __future__ import annotations
-
 import io
 import os
 import shutil

@@ -1,6 +1,4 @@
 """What the model answers, as values."""
-from __future__ import annotations
-
 from enum import StrEnum
 from typing import NamedTuple
 
