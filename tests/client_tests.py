@@ -1,12 +1,8 @@
 #!/usr/bin/env python3
 """Tests the clients of sessions: the Python package, what its documents show, its examples, and the one in C.
 
-    tests/client_tests.py [--program PROGRAM] [--fast N]
-
 With --fast N, N commands in a batch have to be answered within N / 200,000 seconds.
 """
-from __future__ import annotations
-
 import doctest
 import inspect
 import io
@@ -182,4 +178,4 @@ def test_the_client_in_c():
 
 
 if __name__ == "__main__":
-    sys.exit(rig.main(__doc__, rig.tests_in(globals()), lambda add: add("--fast", type=int, default=0, metavar="N")))
+    rig.main(__doc__, rig.tests_in(globals()), lambda add: add("--fast", type=int, default=0, metavar="N"))

@@ -1,17 +1,12 @@
 #!/usr/bin/env python3
 """Tests that the completions and the man page tell each command and flag that the built program tells, and that shells complete them.
 
-    tests/completion_tests.py [--program PROGRAM]
-
 What there is to tell is read from the program's `--help` and from that of each of its commands. Where fish is not installed, bash alone is
 asked; where man is not, its test is skipped.
 """
-from __future__ import annotations
-
 import itertools
 import re
 import shutil
-import sys
 from typing import Any
 
 import rig
@@ -125,4 +120,4 @@ def test_the_first_example_of_the_man_page() -> None:
 
 
 if __name__ == "__main__":
-    sys.exit(rig.main(__doc__, rig.tests_in(globals())))
+    rig.main(__doc__, rig.tests_in(globals()))

@@ -1,12 +1,8 @@
 #!/usr/bin/env python3
 """Tests that tests/hostile can fail: programs that answer each line `ok`, in a right way and in wrong ones, stand in for the built one.
 
-    tests/hostile_tests.py [--program PROGRAM]
-
 A C compiler has to be there. Of PROGRAM its table of commands is asked for.
 """
-from __future__ import annotations
-
 import contextlib
 import functools
 import io
@@ -178,4 +174,4 @@ def test_answers_that_are_none():
 
 
 if __name__ == "__main__":
-    sys.exit(rig.main(__doc__, rig.tests_in(globals())))
+    rig.main(__doc__, rig.tests_in(globals()))

@@ -1,17 +1,11 @@
 #!/usr/bin/env python3
 """Tests that tools/record-loads opens the machine to nobody. Commands that stand in for the servers of its loads tell
-who runs them, where, and with what words. Where it writes, others may have put links, or may put them yet.
-
-    tests/loads_tests.py [--program PROGRAM]
-"""
-from __future__ import annotations
-
+who runs them, where, and with what words. Where it writes, others may have put links, or may put them yet."""
 import os
 import pathlib
 import pwd
 import re
 import subprocess
-import sys
 from collections.abc import Callable
 from typing import NamedTuple
 
@@ -22,24 +16,11 @@ from rig import good, needs, outcome, same
 NOBODY = 65_534
 RECORDING = switch(0, 0, 0, "R", 7) + switch(10, 0, 7, "R", 9) + switch(30, 0, 9, "S", 7) + switch(35, 0, 7, "S", 0)
 WRITTEN = {"told", "load.toml", "waits", "rows.csv"}
-
-# It tells of itself: the user, the folder that it is in with its mode and owner, its words, and the settings there.
-STANDS_IN = """#!/bin/sh
-echo "${{0##*/}}|$(id -u)|$(stat -c '%n|%a|%u' "$PWD")|$*|$(cat conf 2>&1 | tr '\\n' ' ')" >>{noted}
-case $0 in *perf) echo no events >&2; exit 1;; esac
-"""
+STANDS_IN = (rig.ROOT / "tests/load_stand_in.sh").read_text()
 
 
-class Started(NamedTuple):
-    """A command of a load."""
-
-    name: str
-    user: str
-    folder: str
-    mode: str
-    owner: str
-    words: str
-    settings: str
+# A command of a load.
+Started = NamedTuple("Started", [(it, str) for it in ("name", "user", "folder", "mode", "owner", "words", "settings")])
 
 
 def started(kind: str, *commands: str, umask: int = 0o022) -> list[Started]:
@@ -50,7 +31,7 @@ def started(kind: str, *commands: str, umask: int = 0o022) -> list[Started]:
         noted.touch()
         noted.chmod(0o666)
         for name in ("perf", *commands):
-            rig.put_command(top / name, STANDS_IN.format(noted=noted))
+            rig.put_command(top / name, STANDS_IN.replace("NOTED", str(noted)))
         ended = record("--to", top / "to", kind, env={"PATH": f"{top}:/usr/bin:/bin"}, umask=umask)
         same(outcome(ended), (1, "", f"record-loads: {kind} is passed over: perf cannot record: no events\n"))
         rows = [Started(*line.split("|")) for line in noted.read_text().splitlines()]
@@ -185,4 +166,4 @@ def test_a_link_of_another_on_the_way_is_refused() -> None:
 
 
 if __name__ == "__main__":
-    sys.exit(rig.main(__doc__, rig.tests_in(globals())))
+    rig.main(__doc__, rig.tests_in(globals()))

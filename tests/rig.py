@@ -4,8 +4,6 @@ A file of tests is a list of functions whose names begin with `test_`. Its end i
 that reads the words of the command line, calls each function in the order in which they stand, prints a line for each that
 fails or is skipped, and at last `N passed, M failed`, and `, K skipped` where any were.
 """
-from __future__ import annotations
-
 import argparse
 import concurrent.futures
 import contextlib
@@ -23,7 +21,7 @@ import unittest
 from collections.abc import Callable, Iterable, Iterator
 from dataclasses import dataclass
 from functools import partial
-from typing import Any
+from typing import Any, NoReturn
 
 ROOT = pathlib.Path(__file__).resolve().parent.parent
 # The program as both compilers leave it.
@@ -240,8 +238,8 @@ def main(
     about_it: str | None, tests: list[Test] | Callable[[], list[Test]],
     add_words: Callable[[Any], object] = lambda add: None, *,
     at_once: int = 1, both: bool = False, before: Callable[[Tally], object] = lambda tally: None,
-) -> int:
-    """Tries all, some at once in processes of their own; `both`: with each program that the gate builds, where none is named."""
+) -> NoReturn:
+    """Tries all, some at once in processes, and ends; `both`: with each program of the gate, where none is named."""
     global program, options
     parser = argparse.ArgumentParser(description=about_it, formatter_class=argparse.RawDescriptionHelpFormatter)
     parser.add_argument("--program", type=pathlib.Path, help="test this program, as `rt run` leaves it")
@@ -263,4 +261,4 @@ def main(
             tally.add("tests", "none has this name")
         for (name, _), (fault, skips) in zip(_tests, ends):
             tally.add(f"{name} ({program.name})" if both else name, fault, skips)
-    return tally.last_line()
+    sys.exit(tally.last_line())

@@ -1,17 +1,12 @@
 #!/usr/bin/env python3
 """Tests runs of agents in threads: their refusals by name, their limit, their scripts, and their policies.
 
-    tests/running_tests.py [--program PROGRAM]
-
 Settings are drawn; what is counted by name adds up.
 """
-from __future__ import annotations
-
 import random
 import re
 import signal
 import subprocess
-import sys
 import time
 
 import rig
@@ -175,4 +170,4 @@ def test_a_long_run_is_given_up() -> None:
 
 
 if __name__ == "__main__":
-    sys.exit(rig.main(__doc__, rig.tests_in(globals())))
+    rig.main(__doc__, rig.tests_in(globals()))

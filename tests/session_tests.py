@@ -1,21 +1,16 @@
 #!/usr/bin/env python3
 """Tests sessions: scripts that are cut at random through a pipe, and conversations command by command.
 
-    tests/session_tests.py [--program PROGRAM] [--scripts NUMBER | --all]
-
 Scripts are drawn: 300, or NUMBER, and 10,000 with --all. Each goes through `session` in pieces that are cut at random, and has to be
 answered as the model of tools/kernel.py tells. Then come conversations over a pipe, each answer waited for before the next command is
 sent; the line `?`; what a terminal is told first; and how a session ends whose client dies. Others are cases of tests/cases.
 """
-from __future__ import annotations
-
 import os
 import pty
 import random
 import re
 import select
 import subprocess
-import sys
 from collections.abc import Iterator
 from functools import partial
 from typing import Any
@@ -161,4 +156,4 @@ def tests() -> list[rig.Test]:
 
 
 if __name__ == "__main__":
-    sys.exit(rig.main(__doc__, tests, rig.add_scripts, at_once=os.cpu_count() or 1))
+    rig.main(__doc__, tests, rig.add_scripts, at_once=os.cpu_count() or 1)

@@ -1,12 +1,8 @@
 #!/usr/bin/env python3
 """Tests tools/sweep over the worked loads of the lab: what is gathered, and what an interrupted sweep goes on with.
 
-    tests/sweep_tests.py [--program PROGRAM]
-
 Without GNU parallel all but one are skipped.
 """
-from __future__ import annotations
-
 import csv
 import os
 import pathlib
@@ -15,6 +11,7 @@ import signal
 import subprocess
 import sys
 import time
+import tomllib
 
 import rig
 from rig import ROOT, outcome, run, same
@@ -22,13 +19,8 @@ from rig import ROOT, outcome, run, same
 SWEEP = ROOT / "tools/sweep"
 LOADS = [str(ROOT / f"examples/lab/worked/{name}.toml") for name in ("1-convoy", "2-steals", "3-levels", "4-delay")]
 VARIANTS = str(ROOT / "examples/lab/variants.toml")
-# Labs that stand for the program's: one notes each load that it ends, and takes its time; one takes no word twice, as the program does not;
-# one waits while it is held; one notes the words that it was given.
-SLOW = "sleep 0.4\n{lab} \"$@\" && echo \"$1\" >>'{top}/ended'\n"
-STRICT = "[ -z \"$(printf '%s\\n' \"$@\" | sort | uniq -d)\" ] && {lab} \"$@\"\n"
-HELD = "while [ -e '{top}/held' ]; do sleep 0.05; done\n{lab} \"$@\" && echo \"$1\" >>'{top}/ended'\n"
-NOTES = "printf '%s\\0' \"$1\" \"$2\" >>'{top}/seen'\nprintf 'variant\\nplain\\n'\n"
-AS_PROGRAM = "echo {program} >>'{top}/ran'\n[ $1 = lab ] && shift && {lab} \"$@\"\n"
+# Labs that stand for the program's.
+LABS = tomllib.loads((ROOT / "tests/sweep_labs.toml").read_text())
 # Words of `parallel`, and what a shell would run or take apart.
 NAMES = ["x\t;touch PWNED;#.toml", "y\nz\tq\t;touch P2;#.toml", "{1}", "{2}", "{#}", "{}", "{= $_=1 =}.toml", "a -- b", "$(touch P3)`touch P4`",
          "'\"\\", " \r", "\n", *map(os.fsdecode, (b"\xff", b"\xaf<1\xaf>", bytes(byte for byte in range(1, 256) if byte != ord("/"))))]
@@ -82,15 +74,15 @@ def test_the_usual_lab_is_the_program(sweep: Sweep) -> None:
         tools.mkdir(parents=True)
         tool = shutil.copy(SWEEP, tools / "sweep")
         program = (tools if folder == "bin" else tools.parent) / "pc-sim"
-        sweep.lab(AS_PROGRAM, program)
+        sweep.lab(LABS["AS_PROGRAM"], program)
         path = {"PATH": f"{tools}:{os.environ['PATH']}"}
         same(run(tool, "--to", sweep.top / f"to {folder}", LOADS[0], env=os.environ | path).returncode, 0)
         same((sweep.top / "ran").read_text().splitlines()[-1], str(program))
 
 
 def test_no_word_is_given_twice(sweep: Sweep) -> None:
-    sweep.done("--lab", sweep.lab(STRICT), *LOADS[:2])
-    sweep.done("--lab", sweep.lab(STRICT), *LOADS[:2], "--variants", VARIANTS)
+    sweep.done("--lab", sweep.lab(LABS["STRICT"]), *LOADS[:2])
+    sweep.done("--lab", sweep.lab(LABS["STRICT"]), *LOADS[:2], "--variants", VARIANTS)
 
 
 def test_files_of_variants_are_combined_with_loads(sweep: Sweep) -> None:
@@ -107,7 +99,7 @@ def test_names_are_plain_text(sweep: Sweep) -> None:
     for name in NAMES:
         (sweep.top / name).touch()
     sweep.to = sweep.top / f"to {''.join(NAMES[:8])}"
-    lab = sweep.lab(NOTES)
+    lab = sweep.lab(LABS["NOTES"])
     sweep.done("--lab", lab, *loads, *(f"--variants={it}" for it in files), cwd=sweep.top)
     seen = os.fsdecode((sweep.top / "seen").read_bytes()).split("\0")[:-1]
     wanted = [(load, file) for load in loads for file in files]
@@ -136,11 +128,11 @@ def goes_on(sweep: Sweep, *words: str) -> None:
 
 
 def test_what_was_interrupted_goes_on_with_what_is_left(sweep: Sweep) -> None:
-    with begun(sweep, sweep.lab(SLOW), "*.csv", 2) as first:
+    with begun(sweep, sweep.lab(LABS["SLOW"]), "*.csv", 2) as first:
         os.killpg(first.pid, signal.SIGKILL)
     done = (sweep.top / "ended").read_text().splitlines()
     assert len(done) in (2, 3)
-    goes_on(sweep, "--lab", sweep.lab(SLOW), *LOADS, "--", "-j", "4")
+    goes_on(sweep, "--lab", sweep.lab(LABS["SLOW"]), *LOADS, "--", "-j", "4")
     ended = (sweep.top / "ended").read_text().splitlines()
     # One that ended as it was interrupted may not have left its rows: it is run again, and no other.
     same(sorted(set(ended)), LOADS)
@@ -152,7 +144,7 @@ def test_what_was_interrupted_goes_on_with_what_is_left(sweep: Sweep) -> None:
 
 def test_one_sweep_at_a_time_is_at_work_in_a_folder(sweep: Sweep) -> None:
     """What a sweep that was killed left running is at work there, too."""
-    held, lab = sweep.top / "held", sweep.lab(HELD)
+    held, lab = sweep.top / "held", sweep.lab(LABS["HELD"])
     held.touch()
     refused = (1, "", f"sweep: another sweep is at work in {sweep.to}\n")
     with begun(sweep, lab, "*.part", 1) as first:
@@ -198,4 +190,4 @@ def test_faults_are_told(sweep: Sweep) -> None:
 
 
 if __name__ == "__main__":
-    sys.exit(rig.main(__doc__, rig.tests_in(globals())))
+    rig.main(__doc__, rig.tests_in(globals()))

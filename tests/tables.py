@@ -1,6 +1,4 @@
 """Texts of settings and of loads: tables of TOML, and threads that are drawn."""
-from __future__ import annotations
-
 import json
 import random
 from collections.abc import Sequence

@@ -1,16 +1,11 @@
 #!/usr/bin/env python3
-"""Tests what the built program tells a person at a terminal while a run or the lab goes on, as both compilers built it; the terminal is a made-up one.
-
-    tests/terminal_tests.py [--program PROGRAM]
-"""
-from __future__ import annotations
-
+"""Tests what the built program tells a person at a terminal while a run or the lab goes on,
+as both compilers built it; the terminal is a made-up one."""
 import contextlib
 import os
 import pty
 import re
 import subprocess
-import sys
 import tempfile
 import threading
 from collections.abc import Iterator
@@ -197,4 +192,4 @@ def test_what_cannot_be_written_is_told_on_a_clean_line() -> None:
 
 
 if __name__ == "__main__":
-    sys.exit(rig.main(__doc__, rig.tests_in(globals()), both=True))
+    rig.main(__doc__, rig.tests_in(globals()), both=True)

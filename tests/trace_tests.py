@@ -1,13 +1,7 @@
 #!/usr/bin/env python3
-"""Tests `tools/to-trace`, and the times that `tools/from-perf-sched` writes for it.
-
-    tests/trace_tests.py [--program PROGRAM]
-"""
-from __future__ import annotations
-
+"""Tests `tools/to-trace`, and the times that `tools/from-perf-sched` writes for it."""
 import json
 import re
-import sys
 import tomllib
 from collections import Counter
 from typing import Any
@@ -126,4 +120,4 @@ def test_times_of_recordings():
 
 
 if __name__ == "__main__":
-    sys.exit(rig.main(__doc__, rig.tests_in(globals())))
+    rig.main(__doc__, rig.tests_in(globals()))

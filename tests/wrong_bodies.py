@@ -17,8 +17,6 @@ of which the last part is there for each that fails in another function than it 
 function by its modules and its owner; of a goal that is cut off there, `..` stands behind what is printed. The libraries below a crate have to
 be built (by rt ci, or by rt lib), and the crate itself as well: they are taken as they stand in their `out` folders.
 """
-from __future__ import annotations
-
 import argparse
 import concurrent.futures
 import dataclasses
@@ -36,7 +34,7 @@ import time
 from collections import defaultdict
 from dataclasses import dataclass, field
 from types import ModuleType
-from typing import Any
+from typing import Any, NamedTuple
 
 ROOT = pathlib.Path(__file__).resolve().parent.parent
 TABLE = "tests/wrong_bodies.txt"
@@ -65,15 +63,8 @@ class Row:
     why: str = ""
 
 
-@dataclass
-class Change:
-    """A text that stands once in a file, on a line of this number, and what stands there in its place."""
-
-    file: str
-    line: int
-    start: int
-    old: str
-    new: str
+# A text that stands once in a file, on a line of this number, and what stands there in its place.
+Change = NamedTuple("Change", [("file", str), ("line", int), ("start", int), ("old", str), ("new", str)])
 
 
 def changed(text: str, changes: list[Change]) -> str:
@@ -102,7 +93,7 @@ class WrongBody:
         """Whether it is refused in a function that it changes."""
         return any(are_one(row.goal.split()[0], it) for it in self.changed)
 
-    def meets(self, other: WrongBody) -> bool:
+    def meets(self, other: "WrongBody") -> bool:
         """Whether one may fail for the other's sake, where both are tried."""
         return not self.copy and not other.copy and any(map(self.has, other.changed | other.refused_in))
 
@@ -145,13 +136,14 @@ def lines_at(lines: list[str], number: int) -> tuple[int, int]:
 
 
 def function_in(file: str, lines: list[str], number: int) -> str:
-    """The function that has the line of this number, with its modules and its owner: the type of an impl, and the trait behind it."""
+    """The function that has the line of this number, with its modules and its owner: an impl's type, and its trait."""
     place, _ = lines_at(lines, number)
     module = file.removeprefix("src/").removesuffix(".rt")
     modules = "" if module in ("lib", "main") else module.replace("/", "::") + "::"
     above = itertools.takewhile(lambda line: not line.startswith("}"), reversed(lines[:place]))
     impls = map(OWNER.match, above if lines[place].startswith(" ") else [])
-    return modules + next((f"{impl[2]}{impl[1] or ''}::" for impl in impls if impl), "") + FUNCTION.match(lines[place])[2]
+    owner = next((f"{impl[2]}{impl[1] or ''}::" for impl in impls if impl), "")
+    return modules + owner + FUNCTION.match(lines[place])[2]
 
 
 def changes_of(crate: pathlib.Path, edit: pathlib.Path) -> list[Change]:

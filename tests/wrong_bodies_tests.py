@@ -1,8 +1,5 @@
 #!/usr/bin/env python3
-"""Tests that tests/wrong_bodies.py can fail, over a made-up crate and a stand-in for the kit.
-"""
-from __future__ import annotations
-
+"""Tests that tests/wrong_bodies.py can fail, over a made-up crate and a stand-in for the kit."""
 import json
 import os
 import pathlib
@@ -179,4 +176,4 @@ def test_the_crate_is_left_as_it_was(it: WrongBodies) -> None:
 
 
 if __name__ == "__main__":
-    sys.exit(rig.main(__doc__, rig.tests_in(globals())))
+    rig.main(__doc__, rig.tests_in(globals()))
