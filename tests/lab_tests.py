@@ -1,22 +1,17 @@
 #!/usr/bin/env python3
 """Tests `pc-sim lab`: worked rows, every fault, and drawn loads against the lab of tests/reference/lab.py.
 
-    tests/lab_tests.py [--program PROGRAM] [--loads N] [--drawn N]
-
 examples/lab/worked has loads with their tables, CSV, scripts and replies, of which 308 numbers were worked out by hand
 before, and tests/lab_faults loads that are faulty. N loads are drawn (60) whose runs the program has to answer as the reference expects, and N
 (50) of which it has to write what that writes, to the byte. What holds of every load that was tried, and is not proved, is tested over 1,600
 drawn runs of the program alone. tests/lab_pictures.py has the tests of pictures.
 """
-from __future__ import annotations
-
 import csv
 import functools
 import itertools
 import pathlib
 import random
 import subprocess
-import sys
 from collections import Counter
 from collections.abc import Callable
 from dataclasses import dataclass, field
@@ -254,11 +249,6 @@ class Tried:
         """Whether all hear of each other at once, and a turn takes no time."""
         return self.variant.delay == self.variant.cost == 0 and self.variant.group >= self.cpus
 
-    @property
-    def knows(self) -> bool:
-        """Whether who steals has heard all of the thread that it asks for."""
-        return self.variant.delay == 0 or self.variant.steals == "exact"
-
     def count(self, name: str) -> int:
         """A number of the CSV. A column that no variant of the load has counts nothing."""
         return int(self.row.get(name) or 0)
@@ -378,7 +368,8 @@ def test_where_all_is_heard_at_once_no_cpu_idles_while_one_waits_for_it():
 
 
 def test_where_news_is_not_late_or_steals_are_exact_a_refused_one_found_nothing():
-    meant, others = each(lambda tried: tried.knows)
+    # Who steals has heard all of the thread that it asks for.
+    meant, others = each(lambda tried: tried.variant.delay == 0 or tried.variant.steals == "exact")
     for tried in meant:
         steals = {name for name, count in tried.refused().items() if count and name.startswith("steal_")}
         assert steals <= {"steal_NothingToSteal"}, f"{tried.variant}\n{tried.text}"
@@ -397,4 +388,4 @@ def add_words(add: Callable[..., object]) -> None:
 
 
 if __name__ == "__main__":
-    sys.exit(rig.main(__doc__, rig.tests_in(globals(), lab_pictures), add_words, at_once=2))
+    rig.main(__doc__, rig.tests_in(globals(), lab_pictures), add_words, at_once=2)

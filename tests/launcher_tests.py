@@ -4,8 +4,6 @@
 tests/launcher/rt stands in for the kit's command: it records when it begins and ends, and leaves tests/launcher/program,
 which prints what it is given. Nothing is proved here, and the real rt is not on the path.
 """
-from __future__ import annotations
-
 import contextlib
 import fcntl
 import functools
@@ -15,7 +13,6 @@ import re
 import shutil
 import signal
 import subprocess
-import sys
 import time
 from collections.abc import Iterable
 from typing import Any, TextIO
@@ -433,14 +430,14 @@ def test_a_failed_crate_names_itself_and_nothing_more_begins(it: Launcher) -> No
     same(pathlib.Path(errors.splitlines()[-1].split(" is ")[-1]).read_text().splitlines(), lines)
 
 
-ALL = ["left", "low", "pc_sim", "right"]
+ALL, ONE = ["left", "low", "pc_sim", "right"], {"lines": 1}
 NO_ROOM = "#!/usr/bin/env bash\necho 'cp: no room' >&2\nexit 1\n"
-# What is done to a tree, how it is started, what is said of it then, last of all in a last line, and which crates are called
-# for, where that is known. Nothing is left in any.
+# What is done to a tree, how it is started, what the last line says then, and which crates are called for, where that
+# is known. Nothing is left in any.
 FAILS: dict[str, tuple[Any, dict[str, Any], list[str], list[str] | None]] = {
-    "no rt and no program": (lambda it: (it.bin / "rt").unlink(), {"lines": 1}, ["not built", "rt is not on the path"], []),
-    "a tree that cannot be locked": (lambda it: (it.tree / ".build.lock").mkdir(), {"lines": 1}, [".build.lock"], []),
-    "a queue in place of the lock": (lambda it: it.put_queue(".build.lock"), {"lines": 1}, [".build.lock is no file"], []),
+    "no rt and no program": (lambda it: (it.bin / "rt").unlink(), ONE, ["not built", "rt is not on the path"], []),
+    "a tree that cannot be locked": (lambda it: (it.tree / ".build.lock").mkdir(), ONE, [".build.lock"], []),
+    "a queue in place of the lock": (lambda it: it.put_queue(".build.lock"), ONE, [".build.lock is no file"], []),
     "a crate that is killed": (lambda it: None, {"RT_KILLED": "left"}, ["left could not be built"], None),
     "a build that leaves no program": (lambda it: None, {"RT_LEAVES_NONE": "yes"}, ["left no program"], ALL),
     "a tree that cannot be made": (
@@ -450,7 +447,7 @@ FAILS: dict[str, tuple[Any, dict[str, Any], list[str], list[str] | None]] = {
     "a program that cannot be started": (
         lambda it: it.put_program("#!/no/such/command\n"), {}, ["pc_sim cannot be started"], []),
     "a folder in the place of the program": (
-        lambda it: it.put_release() or it.program.mkdir(parents=True), {"lines": 1}, ["is no file, and has to be removed"], []),
+        lambda it: it.put_release() or it.program.mkdir(parents=True), ONE, ["is no file, and has to be removed"], []),
     "a tree that cannot be written takes no released program": (
         lambda it: it.put_release() or it.program.parent.write_text("no folder"),
         {"says": ["pc-sim: release/pc-sim.xz has no place, since this tree cannot be written"]}, [], ALL),
@@ -779,4 +776,4 @@ def test_a_tree_whose_name_ends_in_a_line_feed(it: Launcher) -> None:
 
 if __name__ == "__main__":
     # They mostly wait, so several run at once: in processes, since a thread that starts a command lends it the files that others write.
-    sys.exit(rig.main(__doc__, rig.tests_in(globals()), at_once=8))
+    rig.main(__doc__, rig.tests_in(globals()), at_once=8)

@@ -1,10 +1,5 @@
 #!/usr/bin/env python3
-"""Tests the packages that `tools/package` makes: their bytes, what they hold, and the program in a root of its own.
-
-    tests/package_tests.py [--program PROGRAM]
-"""
-from __future__ import annotations
-
+"""Tests the packages that `tools/package` makes: their bytes, what they hold, and the program in a root of its own."""
 import filecmp
 import functools
 import gzip
@@ -223,4 +218,4 @@ def test_a_program_that_is_not_there_is_refused() -> None:
 
 
 if __name__ == "__main__":
-    sys.exit(rig.main(__doc__, rig.tests_in(globals())))
+    rig.main(__doc__, rig.tests_in(globals()))

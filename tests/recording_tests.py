@@ -2,13 +2,9 @@
 """Tests tools/from-perf-sched: on the short texts of tests/recordings.txt, most of whose commands were worked out by hand, on others
 that are written here, and on the recordings of examples/recordings. It also tests what of tools/record-loads needs no perf.
 
-    tests/recording_tests.py [--program PROGRAM]
-
 Every script that is made is also replayed, and every settings text is run: no line may be a fault, and the refusals have to be those that the
 tool told.
 """
-from __future__ import annotations
-
 import functools
 import importlib.machinery
 import pathlib
@@ -17,6 +13,7 @@ import shutil
 import subprocess
 import sys
 import time
+import tomllib
 import types
 from collections import Counter
 from typing import Any, NamedTuple
@@ -42,16 +39,7 @@ def name(pid: int) -> str:
 
 
 # By the name of an event: what is told of it, and how perf writes that.
-EVENTS = {
-    "switch": ("us cpu pid state other", "sched_switch: prev_comm={pid_name} prev_pid={pid} prev_prio=120 "
-               "prev_state={state} ==> next_comm={other_name} next_pid={other} next_prio=120"),
-    "wake": ("us cpu by pid target event", "{event}: comm={pid_name} pid={pid} prio=120 target_cpu={target:03d}"),
-    "move": ("us cpu by pid origin target", "sched_migrate_task: comm={pid_name} pid={pid} prio=120 "
-             "orig_cpu={origin} dest_cpu={target}"),
-    "fork": ("us cpu pid other", "sched_process_fork: comm={pid_name} pid={pid} "
-             "child_comm={other_name} child_pid={other}"),
-    "exit": ("us cpu pid", "sched_process_exit: comm={pid_name} pid={pid} prio=120"),
-}
+EVENTS = tomllib.loads((ROOT / "tests/perf_events.toml").read_text())
 
 
 def event(kind: str, *cells: Any) -> str:
@@ -283,7 +271,7 @@ def test_the_document_tells_what_is_refused() -> None:
 @rig.each({"TUTORIAL": ("TUTORIAL", 10), "LAB": ("LAB", 0)})
 def test_a_page_prints_what_it_says(page: str, least: int) -> None:
     """Each command behind a dollar sign is typed, in order."""
-    steps = tutorial_steps((ROOT / f"docs/{page}.md").read_text())
+    steps = re.findall(r"^    \$ (.*)\n((?:    (?!\$ ).*\n)*)", (ROOT / f"docs/{page}.md").read_text(), re.M)
     assert len(steps) > least
     with rig.folder() as folder:
         for name in ("examples", "tools", "docs"):
@@ -291,7 +279,7 @@ def test_a_page_prints_what_it_says(page: str, least: int) -> None:
         (folder / "pc-sim").symlink_to(rig.program)
         for command, wanted in steps:
             line = f'pc-sim() {{ "{rig.program}" "$@"; }}\n{command} 2>&1'
-            same(run("bash", "-c", line, cwd=folder).stdout, wanted, command)
+            same(run("bash", "-c", line, cwd=folder).stdout, re.sub(r"(?m)^    ", "", wanted), command)
 
 
 def row_of(made: Made) -> list[str]:
@@ -380,12 +368,6 @@ def cells_of(table: str) -> dict[str, str]:
     return {line[:26].strip(): line[26:].strip() for line in table.splitlines()}
 
 
-def tutorial_steps(page: str) -> list[tuple[str, str]]:
-    """The commands of the page, each with what it prints."""
-    parts = re.findall(r"^    \$ (.*)\n((?:    (?!\$ ).*\n)*)", page, re.M)
-    return [(command, re.sub(r"(?m)^    ", "", told)) for command, told in parts]
-
-
 def load_tool(path: pathlib.Path = TOOL) -> types.ModuleType:
     """The tool as a module. What stands beside it is found there."""
     sys.dont_write_bytecode = True
@@ -398,4 +380,4 @@ def load_tool(path: pathlib.Path = TOOL) -> types.ModuleType:
 
 
 if __name__ == "__main__":
-    sys.exit(rig.main(__doc__, rig.tests_in(globals())))
+    rig.main(__doc__, rig.tests_in(globals()))
