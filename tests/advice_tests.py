@@ -1,19 +1,15 @@
 #!/usr/bin/env python3
 """Tests what an explained script says would make a refused line accepted: by doing it.
 
-    tests/advice_tests.py [--program PROGRAM]
-
 Scripts are drawn in small worlds, where refusals are common, some with a policy. Behind each refused line the script is gone on with by the
 steps that the explanation tells: all are accepted. Where it says that no agent can make the line accepted, or that nothing does, single deeds
 of agents are tried, and pairs of them: behind none is the line accepted, with the number of now. Where several deeds are told, a single one
 hardly ever does as well.
 """
-from __future__ import annotations
-
 import itertools
 import random
 import re
-import sys
+import tomllib
 from collections import Counter
 from collections.abc import Iterator
 from dataclasses import dataclass
@@ -24,13 +20,8 @@ from rig import good
 from scripts import Rough, lines_of, mended
 
 DRAWN, SEARCHED, PAIRED = 400, 200, 6
-FORMS = {
-    "agents": r"Accepted: (.*)\.",
-    "environment": r"No agent can make it accepted before the environment acts: (.*)\.",
-    "no agent": r"No agent can make it accepted\.",
-    "never": r"Nothing makes it accepted\.",
-    "unsought": r"What would make it accepted was not looked for\.",
-}
+ADVICE = tomllib.loads((rig.ROOT / "tests/advice.toml").read_text())
+FORMS = ADVICE["forms"]
 STEP = r"`([^`]+)`(?: (\d+) times)?"
 # The policies of some of the scripts.
 POLICIES = ["fifo", *(f"{order} exact" for order in ORDERS if order != "fifo")]
@@ -40,13 +31,8 @@ SESSION = ("NoEnclave", "HaveEnclave", "BadLimits")
 MOST_TIMES = 300
 # What ends with a number that shows what its agent knows.
 BY_POSTS, BY_MESSAGES = ("commit", "sleep", "pick"), ("associate",)
-# What is refused in so many drawn scripts at the least, each with its refusal, and hardly ever without an answer.
-COMMON = {
-    "associate Dead", "associate Pending", "associate Running", "associate Stale", "associate UnknownThread", "block IdleCpu", "commit Busy",
-    "commit Forbidden", "commit NotReady", "commit NotYours", "commit Running", "commit Stale", "create NamesSpent", "create QueueFull",
-    "deliver NoDelta", "pick Busy", "pick NothingReady", "pick Stale", "publish WireFault", "sleep Stale", "steal Busy", "steal NothingToSteal",
-    "steal Pending", "steal Stale", "wake Dead", "wake NotBlocked", "tick QueueFull",
-}
+# What is refused in so many drawn scripts at the least, each with its refusal.
+COMMON = {f"{command} {refusal}" for command, refusals in ADVICE["common"].items() for refusal in refusals}
 
 
 @dataclass(frozen=True)
@@ -226,4 +212,4 @@ def helped(told: list[Told], many: int, is_environments: bool = False) -> tuple[
 
 
 if __name__ == "__main__":
-    sys.exit(rig.main(__doc__, rig.tests_in(globals())))
+    rig.main(__doc__, rig.tests_in(globals()))

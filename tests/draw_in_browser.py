@@ -8,13 +8,10 @@ ticks. With --variants it is a load of the lab, whose waits are drawn under thes
 `chromium`). ./test does not need it: the pictures are for people, and docs/pictures keeps four. A picture that the browser cannot parse,
 or that shows no element, is a failure.
 """
-from __future__ import annotations
-
 import functools
 import pathlib
 import re
 import shutil
-import sys
 import tempfile
 from collections.abc import Callable
 
@@ -72,4 +69,4 @@ def add_words(add: Callable[..., object]) -> None:
 
 
 if __name__ == "__main__":
-    sys.exit(rig.main(__doc__, lambda: [(file.name, functools.partial(shows, file)) for file in rig.options.file], add_words))
+    rig.main(__doc__, lambda: [(file.name, functools.partial(shows, file)) for file in rig.options.file], add_words)

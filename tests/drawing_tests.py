@@ -1,15 +1,10 @@
 #!/usr/bin/env python3
 """Tests the pictures that the built program draws: of scripts written here, of the examples, and of reports.
 
-    tests/drawing_tests.py [--program PROGRAM]
-
 tests/pictures.py takes a picture apart, and knows what it has to show. The tests of tests/timed_drawings.py are run too.
 """
-from __future__ import annotations
-
 import itertools
 import re
-import sys
 import tomllib
 from collections import Counter
 
@@ -95,18 +90,15 @@ def shown_bars(script: str, part: Part = WHOLE) -> Counter[str]:
     return Counter(bar.row for bar in drawn.elements())
 
 
-def test_bars_show_what_the_questions_of_drawn_scripts_answer() -> None:
-    shown_often(shown_bars, drawn_script, DRAWN, DRAWN // 2, ROWS, False)
+@rig.each({"whole": (2, False), "parts": (10, True)})
+def test_bars_show_what_the_questions_of_drawn_scripts_answer(rare: int, parts: bool) -> None:
+    shown_often(shown_bars, drawn_script, DRAWN, DRAWN // rare, ROWS, parts)
 
 
 def test_bars_show_what_the_questions_of_each_example_answer() -> None:
     for file in SCRIPTS:
         with rig.about(file.name):
             assert shown_bars(front_of(file.read_text(), MOST_SINGLE)).total() > 0
-
-
-def test_bars_of_parts_show_what_the_questions_answer() -> None:
-    shown_often(shown_bars, drawn_script, DRAWN, DRAWN // 10, ROWS, True)
 
 
 def test_a_part_has_the_lanes_that_are_asked_for() -> None:
@@ -312,4 +304,4 @@ def test_settings_with_a_fault_are_not_drawn() -> None:
 
 
 if __name__ == "__main__":
-    sys.exit(rig.main(__doc__, rig.tests_in(globals(), timed_drawings), at_once=2))
+    rig.main(__doc__, rig.tests_in(globals(), timed_drawings), at_once=2)

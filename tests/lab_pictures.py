@@ -2,8 +2,6 @@
 
 What a picture has to show is worked out here from the runs of tests/reference/lab.py.
 """
-from __future__ import annotations
-
 import bisect
 import math
 import random

@@ -1,6 +1,4 @@
 """Pictures of scripts, taken apart, and what they have to show: by what tools/kernel.py tells of the script, and nothing of the picture's own."""
-from __future__ import annotations
-
 import itertools
 import random
 import re
@@ -44,12 +42,8 @@ Steps = list[tuple[int, Shown]]
 
 # A picture
 
-class Words(NamedTuple):
-    """Visible words of a picture, and where they begin (or, of the names of rows, end)."""
-
-    x: int
-    y: int
-    text: str
+# Visible words of a picture, and where they begin (or, of the names of rows, end).
+Words = NamedTuple("Words", [("x", int), ("y", int), ("text", str)])
 
 
 class Picture:
@@ -276,14 +270,9 @@ def drawn_part(place: int, script: str) -> Part:
     return Part(*chance.choice([(some, more), (some, more), (some, None), (None, more)]))
 
 
-class Bar(NamedTuple):
-    """A bar over some columns, from the first to before the end: its row, its CPU, what it shows, and the lines that its title tells."""
-
-    row: str
-    cpu: int
-    value: int
-    columns: tuple[float, float]
-    lines: tuple[int, int]
+# A bar over some columns, from the first to before the end: its row, its CPU, what it shows, and its title's lines.
+Bar = NamedTuple("Bar", [
+    ("row", str), ("cpu", int), ("value", int), ("columns", tuple[float, float]), ("lines", tuple[int, int])])
 
 
 def bars_of(steps: Steps, cpus: int) -> Counter[Bar]:

@@ -15,7 +15,6 @@ What replays a script is explained too: without its comments an explanation is w
 import itertools
 import re
 import shutil
-import sys
 from functools import partial
 
 import rig
@@ -126,4 +125,5 @@ def counted_before(tally):
 
 
 if __name__ == "__main__":
-    sys.exit(rig.main(__doc__, lambda: [(f"case {it.name}", partial(expect, it)) for it in all_cases()], add_words, both=True, before=counted_before))
+    tests = lambda: [(f"case {it.name}", partial(expect, it)) for it in all_cases()]
+    rig.main(__doc__, tests, add_words, both=True, before=counted_before)

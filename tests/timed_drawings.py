@@ -3,11 +3,10 @@
 Where a step stands is worked out here from the lines `# at TICK` of the script, by the words of docs/FORMATS.md, and what is shown from what `replay`
 answers. Nothing is taken from the picture but the places that are held against it.
 """
-from __future__ import annotations
-
 import random
 import re
 from collections import Counter, defaultdict
+from collections.abc import Iterable
 
 import rig
 from kernel import WORD64, answered, ticks_of
@@ -29,6 +28,7 @@ NO_TICKS = [
 ]
 GAPS = {"few": [0, 0, 1, 1, 2, 3], "many": [0, 1, 5, 40, 700], "far": [0, 1, 1000, 10**6, 10**12]}
 TICK_WORDS = "Axis: ticks, from left to right, a column for each tick. A lane for each CPU."
+MARKS = ("crash", "stolen", "moved", "refused", "post", "delta")
 # How far left of its column's middle a mark begins.
 BEFORE = {"crash": 7, "stolen": 3, "moved": 1, "refused": 1}
 
@@ -182,12 +182,9 @@ def with_ticks(place: int) -> str:
     return f"# at {place % 3}\n" + timed_script(drawn_script(place), place)
 
 
-def test_what_drawn_scripts_show_stands_by_its_ticks() -> None:
-    shown_often(shown_by_ticks, with_ticks, DRAWN, 15, (*ROWS, "crash", "stolen", "moved", "refused", "post", "delta"), False)
-
-
-def test_parts_of_drawn_scripts_go_from_their_first_tick_to_their_last() -> None:
-    shown_often(shown_by_ticks, with_ticks, DRAWN, 10, ROWS, True)
+@rig.each({"whole": (15, (*ROWS, *MARKS), False), "parts, from first to last tick": (10, ROWS, True)})
+def test_what_drawn_scripts_show_stands_by_its_ticks(least: int, kinds: Iterable[str], parts: bool) -> None:
+    shown_often(shown_by_ticks, with_ticks, DRAWN, least, kinds, parts)
 
 
 def test_examples_and_loads_of_the_lab_stand_by_their_ticks() -> None:
