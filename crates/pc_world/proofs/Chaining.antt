@@ -9,7 +9,8 @@ use Rattle.pc_world.specs.PlainWorld.{PlainWorld}
 use Rattle.pc_world.specs.RanOut.{RanOutAmong}
 use Rattle.pc_world.specs.Shows.{Does, LeavesWhenRanOut, RunsOutAmong}
 use Rattle.pc_world.specs.Steps.{Runs, Step}
-use Rattle.pc_world.specs.Inner.Mends.{DoesAll, IsCommit, PicksOrSteals}
+use Rattle.pc_world.specs.Inner.Mends.{DoesAll, PicksOrSteals}
+use Rattle.pc_world.specs.Mends.{IsCommit}
 use Rattle.pc_world.proofs.Clearing.{runs_append}
 
 -- no event

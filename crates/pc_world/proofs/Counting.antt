@@ -15,16 +15,16 @@ use Rattle.pc_agent.specs.declared.agent.Agent.{Agent}
 use Rattle.pc_agent.specs.declared.counts.Counts.{Counts}
 use Rattle.pc_agent.specs.Shows.{counts_of, cpu_of}
 use Rattle.pc_world.specs.declared.parts.Parts.{Parts}
-use Rattle.pc_world.specs.Counting.{AreCounted, CountsEvent, CountsEvents, CountsInPart, CountsMending, CountsMendingInPart, CountsNothing, IsCountedAmong, IsCountedMending, counted_at, counting_cpu, counts_at}
+use Rattle.pc_world.specs.Counting.{AreCounted, AreOfMending, CountsEvent, CountsEvents, CountsInPart, CountsMending, CountsMendingInPart, CountsNothing, IsCountedAmong, IsCountedMending, counted_at, counting_cpu, counts_at}
 use Rattle.pc_world.specs.Mending.{AWaitingThreadCanBeRun, clearing, hearing, learning, mending, mending_by_steal}
-use Rattle.pc_world.specs.Mends.{TellsWhatRuns}
+use Rattle.pc_world.specs.Mends.{IsCommit, TellsWhatRuns}
 use Rattle.pc_world.specs.PlainWorld.{PlainWorld}
 use Rattle.pc_world.specs.RanOut.{RanOutAtFirst}
 use Rattle.pc_world.specs.Shows.{Does, IsReached, LeavesWhenRanOut, RunsThrough, ShowsWorld}
 use Rattle.pc_world.specs.Steps.{Runs, Step}
 use Rattle.pc_world.specs.Inner.Handling.{CountsOrLeaves, CountsOutcome, outcome_of}
 use Rattle.pc_world.specs.Inner.Laws.{KernelLaws}
-use Rattle.pc_world.specs.Inner.Mends.{CountsAll, CountsAmong, CountsPicks, DoesAll, IsCommit, PicksOrSteals, RunsCounted}
+use Rattle.pc_world.specs.Inner.Mends.{CountsAll, CountsAmong, CountsPicks, DoesAll, PicksOrSteals, RunsCounted}
 use Rattle.pc_world.specs.Inner.Places.{IsPlace}
 use Rattle.pc_world.proofs.Chaining.{cut_first, cut_then, grows_on}
 use Rattle.pc_world.proofs.Clearing.{runs_append}
@@ -291,7 +291,7 @@ module _ (old : Parts) (c cpus n deltas : ℕ) (begun : Begun old c cpus n delta
       known = learnt.1.runs w h
 
       -- these events, the last of which are these, with these replies, the last but one of which are these
-      by_last : (last events : List Event) (s : List Reply) → learns ++ last ≡ events → (events ≡ mending w c) ⊎ (events ≡ mending_by_steal w c) → (done : RunsCounted last (s ++ told ∷ []) mid new)
+      by_last : (last events : List Event) (s : List Reply) → learns ++ last ≡ events → AreOfMending w c told events → (done : RunsCounted last (s ++ told ∷ []) mid new)
           → TellsWhatRuns w c told (done.runs known.0 known.2).0 → IsCountedMending w c old new told
       by_last last events s are_all are done tells =
           let ends = done.runs known.0 known.2 in
@@ -318,7 +318,7 @@ module _ (old : Parts) (c cpus n deltas : ℕ) (begun : Begun old c cpus n delta
         by_picks : CountsPicks c n mid new told → IsCountedMending w c old new told
         by_picks (inl once) =
             by_last w h (event.Pick c n ∷ []) (mending w c) []
-            (ap (λ l. l ++ event.Pick c n ∷ []) (begun.learns w h) ∙ ap (λ m. learning w c ++ event.Pick c m ∷ []) (begun.posts w h)) (inl refl) once.1 (tells (inl once))
+            (ap (λ l. l ++ event.Pick c n ∷ []) (begun.learns w h) ∙ ap (λ m. learning w c ++ event.Pick c m ∷ []) (begun.posts w h)) (inl (refl, once.0)) once.1 (tells (inl once))
         by_picks (inr late) =
             by_last w h (event.Pick c n ∷ event.Steal c ∷ event.Pick c n ∷ []) (mending_by_steal w c) (late.first ∷ late.second ∷ [])
             (ap (λ l. l ++ event.Pick c n ∷ event.Steal c ∷ event.Pick c n ∷ []) (begun.learns w h) ∙ ap (λ m. learning w c ++ event.Pick c m ∷ event.Steal c ∷ event.Pick c m ∷ []) (begun.posts w h)) (inr refl) late.done (tells (inr late))

@@ -22,14 +22,14 @@ use Rattle.pc_agent.specs.PlainAgent.{ready_list}
 use Rattle.pc_world.specs.declared.parts.Parts.{Parts}
 use Rattle.pc_world.specs.Mending.{AWaitingThreadCanBeRun, IsIdle, IsStolenBy, RunsSome, WaitsFor, clearing, hearing, learning, mending, mending_by_steal, picking}
 use Rattle.pc_world.specs.Facts.{EveryEventHasAStep}
-use Rattle.pc_world.specs.Mends.{IsMended, IsMending, MendedIsReached, MendsInPart, NoneWaits, TellsWhatRuns}
+use Rattle.pc_world.specs.Mends.{IsCommit, IsMended, IsMending, MendedIsReached, MendsInPart, NoneWaits, TellsWhatRuns}
 use Rattle.pc_world.specs.PlainWorld.{PlainWorld, opened_by}
 use Rattle.pc_world.specs.Reached.{Reached}
 use Rattle.pc_world.specs.Shows.{Does, IsReached, RunsOutAmong, ShowsWorld, deltas_of}
 use Rattle.pc_world.specs.RanOut.{RanOutAmong}
 use Rattle.pc_world.specs.Steps.{IsBadCpu, IsRefused, Runs, Step}
 use Rattle.pc_world.specs.Inner.Laws.{KernelLaws}
-use Rattle.pc_world.specs.Inner.Mends.{DoesAll, IsCommit, IsPickedLate, PicksOrSteals}
+use Rattle.pc_world.specs.Inner.Mends.{DoesAll, IsPickedLate, PicksOrSteals}
 use Rattle.pc_world.proofs.Clearing.{get_at, runs_append}
 use Rattle.pc_world.proofs.Determined.{Each, IsOfMending, each_both, each_clearing, each_hearing, runs_same, step_same}
 use Rattle.pc_world.proofs.Lasting.{leads_more}

@@ -12,7 +12,7 @@ use Rattle.pc_agent.specs.Counts.{consume_counted, none_counted, pick_counted, s
 use Rattle.pc_agent.specs.declared.counts.Counts.{Counts}
 use Rattle.pc_agent.specs.Shows.{counts_of}
 use Rattle.pc_world.specs.Mending.{mending, mending_by_steal}
-use Rattle.pc_world.specs.Mends.{TellsWhatRuns}
+use Rattle.pc_world.specs.Mends.{IsCommit, TellsWhatRuns}
 use Rattle.pc_world.specs.PlainWorld.{PlainWorld}
 use Rattle.pc_world.specs.RanOut.{IsCutShort, RanOutAmong}
 use Rattle.pc_world.specs.Shows.{ShowsWorld, World}
@@ -90,12 +90,15 @@ pub record IsCountedAmong (w : PlainWorld) (events : List Event) (old new : Worl
   pub shows : ShowsWorld new after
   pub counts : CountsEvents among.done among.replies old new
 
--- the events of mending, without the steal or with it, were done, one after another; the last of their replies is the
--- answer, and tells what runs in a plain world that is shown after; and every agent has counted these events by these
--- replies, and nothing else
+-- the events of mending by a pick that commits a thread, or by a steal
+abbrev pub AreOfMending : PlainWorld → ℕ → Reply → List Event → Type 0
+AreOfMending w c told events = ((events ≡ mending w c) × IsCommit told) ⊎ (events ≡ mending_by_steal w c)
+
+-- the events of mending were done, one after another; the last of their replies is the answer, and tells what runs in a
+-- plain world that is shown after; and every agent has counted these events by these replies, and nothing else
 pub record IsCountedMending (w : PlainWorld) (c : ℕ) (old new : World) (told : Reply) : Type 0 where
   pub events : List Event
-  pub are : (events ≡ mending w c) ⊎ (events ≡ mending_by_steal w c)
+  pub are : AreOfMending w c told events
   pub replies : List Reply  -- but the last
   pub after : PlainWorld
   pub runs : Runs w events (replies ++ told ∷ []) after

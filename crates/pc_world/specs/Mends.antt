@@ -12,6 +12,12 @@ use Rattle.pc_world.specs.Reached.{Reached}
 use Rattle.pc_world.specs.Shows.{ShowsWorld, World}
 use Rattle.pc_world.specs.Steps.{IsRefused, OnCpu, Runs}
 
+-- the reply is that of a commit
+pub record IsCommit (told : Reply) : Type 0 where
+  pub cpu : ℕ
+  pub thread : ℕ
+  pub is : told ≡ Committed cpu thread
+
 -- no thread waits for the CPU that its agent may take
 abbrev pub NoneWaits : PlainWorld → ℕ → Type 0
 NoneWaits w c = (t : ℕ) → WaitsFor w.kernel c t → IsStolenBy (w.agents c).rules w.kernel c t → ⊥

@@ -3,9 +3,9 @@ use Rattle.std.specs.Prelude.{ℕ, ◌≡◌, ◌⊎◌, List, [], ◌∷◌}
 use Rattle.pc_calls.specs.declared.event.Event.{Event}
 use Rattle.pc_calls.specs.declared.event.Event.TheVariants.{Pick, Steal}
 use Rattle.pc_calls.specs.declared.event.Reply.{Reply}
-use Rattle.pc_calls.specs.declared.event.Reply.TheVariants.{Committed}
 use Rattle.pc_world.specs.declared.parts.Parts.{Parts}
 use Rattle.pc_world.specs.Counting.{CountsEvents, IsCountedAmong}
+use Rattle.pc_world.specs.Mends.{IsCommit}
 use Rattle.pc_world.specs.PlainWorld.{PlainWorld}
 use Rattle.pc_world.specs.Shows.{RunsThrough, ShowsWorld}
 use Rattle.pc_world.specs.Steps.{Runs, Step}
@@ -29,12 +29,6 @@ CountsAll events old new = (replies : List Reply) × RunsCounted events replies 
 -- memory, and was not counted
 abbrev pub CountsAmong : List Event → Parts → Parts → Type 0
 CountsAmong events old new = (w : PlainWorld) → ShowsWorld old w → IsCountedAmong w events old new
-
--- the reply is that of a commit
-pub record IsCommit (told : Reply) : Type 0 where
-  pub cpu : ℕ
-  pub thread : ℕ
-  pub is : told ≡ Committed cpu thread
 
 -- a pick that commits nothing, then a steal, and another pick
 pub record IsPickedLate (c n : ℕ) (w : PlainWorld) (told : Reply) (new : PlainWorld) : Type 0 where
