@@ -1,27 +1,29 @@
 -- A world that events lead to is still one after a further event.
-use Rattle.std.proofs.Common.{ℕ, ◌≡◌, List, [], ◌∷◌, ◌++◌, Some, None, Result, Ok, Err, refl, sym, ◌∙◌, ap, subst, inl, inr}
+use Rattle.std.proofs.Common.{ℕ, ◌≡◌, true, List, [], ◌∷◌, ◌++◌, Some, None, Result, Ok, Err, refl, sym, ◌∙◌, ap, subst, inl, inr}
 use Rattle.pc_calls.specs.declared.call.AgentCall.TheVariants as agent_call
 use Rattle.pc_calls.specs.declared.call.Call.{Call}
 use Rattle.pc_calls.specs.declared.call.Call.TheVariants as call
 use Rattle.pc_calls.specs.declared.call.EnvCall.{EnvCall}
 use Rattle.pc_calls.specs.declared.call.EnvCall.TheVariants as env
 use Rattle.pc_calls.specs.declared.event.Event.{Event}
+use Rattle.pc_calls.specs.declared.event.Event.TheVariants as event
 use Rattle.pc_calls.specs.declared.event.Reply.{Reply}
 use Rattle.pc_calls.specs.declared.limits.Limits.{Limits}
 use Rattle.pc_join.specs.declared.join.OutOfMemory.{OutOfMemory}
 use Rattle.pc_kernel.specs.Answers.{Shows}
 use Rattle.pc_kernel.specs.PlainKernel.{PlainKernel, start}
-use Rattle.pc_kernel.specs.Reads.{Reads, shown}
+use Rattle.pc_kernel.specs.Reads.{Reads, is_cpu, shown}
 use Rattle.pc_kernel.specs.Rows.{KernelRows}
 use Rattle.pc_kernel.specs.Steps.{after, after_of, changed, posting, refused, replay}
 use Rattle.pc_world.specs.declared.parts.Parts.{Parts}
 use Rattle.pc_policy.specs.Rules.{Rules}
 use Rattle.pc_world.specs.PlainWorld.{PlainWorld, opened_by}
-use Rattle.pc_world.specs.Reached.{Leads, LeadsTo, Reached}
-use Rattle.pc_world.specs.Shows.{IsReached, KeepsSent, ShowsWorld}
+use Rattle.pc_world.specs.Reached.{IsSentLate, Leads, LeadsTo, Reached}
+use Rattle.pc_world.specs.Shows.{IsReached, KeepsSent, ShowsTheSame, ShowsWorld}
 use Rattle.pc_world.specs.Inner.Handling.{Handles, Outcome}
 use Rattle.pc_world.specs.Inner.Laws.{KernelLaws}
 use Rattle.pc_world.proofs.Reaching.{reached_good, reached_ranked}
+use Rattle.pc_messages.proofs.Bools.{both}
 
 -- no call changes the limits
 env_limits : (P : PlainKernel) (made : EnvCall) → (posting P made).before.limits ≡ P.limits
@@ -74,26 +76,48 @@ reached_start world ranks limits shows =
       rules = λ c agent there. (shows.agents c agent there).rules;
     }
 
-pub reached_on : (laws : KernelLaws) (event : Event) (result : Result Reply OutOfMemory) (old new : Parts) → Handles event result old new → IsReached old → IsReached new
-reached_on laws event result old new handles h =
+-- what an event leads to from a reached world is reached, and so a world that shows it
+pub reached_by : (laws : KernelLaws) (event : Event) (old new : Parts) (h : IsReached old) (w : PlainWorld) → LeadsTo h.plain event w → ShowsWorld new w → IsReached new
+reached_by laws event old new h w to shows =
     let limits : Limits = old.kernel.limits in
     let ranks : ℕ → Rules = h.reached.rules in
-    let did = handles h.plain h.shows in
-    let leads = leads_more (opened_by ranks limits) h.reached.events h.plain did.0 event h.reached.leads (leads_to h.plain event result did.0 did.1) in
-    let again : Reached limits did.0 = record { rules = ranks; events = h.reached.events ++ event ∷ []; leads = leads } in
-    let good = reached_good laws limits did.0 again in
+    let leads = leads_more (opened_by ranks limits) h.reached.events h.plain w event h.reached.leads to in
+    let again : Reached limits w = record { rules = ranks; events = h.reached.events ++ event ∷ []; leads = leads } in
+    let good = reached_good laws limits w again in
     let same : new.kernel.limits ≡ limits =
-    shown_limits new.kernel did.0.kernel did.2.kernel ∙ ap (λ (P : PlainKernel). P.limits) good.replayed ∙ replay_limits (start limits) good.calls in
+    shown_limits new.kernel w.kernel shows.kernel ∙ ap (λ (P : PlainKernel). P.limits) good.replayed ∙ replay_limits (start limits) good.calls in
     record {
-      plain = did.0;
+      plain = w;
       reached = record {
         rules = ranks;
         events = h.reached.events ++ event ∷ [];
-        leads = subst (λ l. Leads (opened_by ranks l) (h.reached.events ++ event ∷ []) did.0) (sym same) leads;
+        leads = subst (λ l. Leads (opened_by ranks l) (h.reached.events ++ event ∷ []) w) (sym same) leads;
       };
-      shows = did.2;
-      rules = λ c agent there. (did.2.agents c agent there).rules ∙ reached_ranked laws limits did.0 c again;
+      shows = shows;
+      rules = λ c agent there. (shows.agents c agent there).rules ∙ reached_ranked laws limits w c again;
     }
+
+pub reached_on : (laws : KernelLaws) (event : Event) (result : Result Reply OutOfMemory) (old new : Parts) → Handles event result old new → IsReached old → IsReached new
+reached_on laws event result old new handles h =
+    let did = handles h.plain h.shows in reached_by laws event old new h did.0 (leads_to h.plain event result did.0 did.1) did.2
+
+-- an answer to an older digest is sent from a reached world
+pub reached_late : (laws : KernelLaws) (c : ℕ) (old new : Parts) (h : IsReached old) (w : PlainWorld) → is_cpu (shown h.plain.kernel) c ≡ true → IsSentLate h.plain c w → ShowsWorld new w → IsReached new
+reached_late laws c old new h w there late shows =
+    reached_by laws (event.Answer c c) old new h w (inr (inl (both (is_cpu (shown h.plain.kernel) c) (is_cpu (shown h.plain.kernel) c) there there, late))) shows
+
+-- a world that shows the same is reached
+pub reached_same : (laws : KernelLaws) (old new : Parts) → new.kernel ≡ old.kernel → ShowsTheSame old new → IsReached old → IsReached new
+reached_same laws old new kernel same h = record {
+  plain = h.plain;
+  reached = record {
+    rules = h.reached.rules;
+    events = h.reached.events;
+    leads = subst (λ (k : KernelRows). Leads (opened_by h.reached.rules k.limits) h.reached.events h.plain) (sym kernel) h.reached.leads;
+  };
+  shows = same h.plain h.shows;
+  rules = λ c agent there. ((same h.plain h.shows).agents c agent there).rules ∙ reached_ranked laws old.kernel.limits h.plain c h.reached;
+}
 
 -- what was sent stays sent
 pub keeps_sent : (event : Event) (result : Result Reply OutOfMemory) (old new : Parts) → Handles event result old new → IsReached old → KeepsSent old new

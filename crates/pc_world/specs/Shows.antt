@@ -3,6 +3,7 @@ use Rattle.std.specs.Prelude.{ℕ, ◌≡◌, List, [], ◌∷◌, ◌++◌, Opt
 use Rattle.pc_messages.specs.Run.{Run}
 use Rattle.pc_calls.specs.declared.event.Event.{Event}
 use Rattle.pc_calls.specs.declared.event.Reply.{Reply}
+use Rattle.pc_join.specs.Sets.{IsSameSet, Members, as_members}
 use Rattle.pc_kernel.specs.Answers.{Shows}
 use Rattle.pc_kernel.specs.PlainKernel.{kinds}
 use Rattle.pc_kernel.specs.Reads.{shown, is_cpu}
@@ -16,7 +17,7 @@ use Rattle.pc_world.specs.declared.parts.Parts.{Parts}
 use Rattle.pc_world.specs.PlainWorld.{PlainWorld}
 use Rattle.pc_world.specs.Reached.{Reached}
 use Rattle.pc_world.specs.RanOut.{IsCutShort, RanOut, RanOutAmong}
-use Rattle.pc_world.specs.Steps.{Runs}
+use Rattle.pc_world.specs.Steps.{IsAnsweringDigest, Runs}
 
 -- what a world is seen as
 abbrev pub World : Type 0
@@ -61,6 +62,16 @@ IsViewAt w c (Some view) = IsTrue (is_cpu (shown w.kernel) c) × ShowsView (kind
 -- for every plain world that is shown before, the reply is that of a step, whose result is shown after
 abbrev pub Does : (PlainWorld → Reply → PlainWorld → Type 0) → World → World → Reply → Type 0
 Does step old new told = (w : PlainWorld) → ShowsWorld old w → (w' : PlainWorld) × step w told w' × ShowsWorld new w'
+
+-- for every plain world that is shown before, and every set that a digest is of, the reply is that of an answer to this
+-- set, whose result is shown after
+abbrev pub AnswersDigest : Members → ℕ → World → World → Reply → Type 0
+AnswersDigest digest c old new told =
+    (set : Set) → IsSameSet digest (as_members set) → Does (IsAnsweringDigest set c) old new told
+
+-- every plain world that is shown before is shown after
+abbrev pub ShowsTheSame : World → World → Type 0
+ShowsTheSame old new = (w : PlainWorld) → ShowsWorld old w → ShowsWorld new w
 
 -- for every plain world that is shown before, what the event leaves without memory is shown after
 abbrev pub LeavesWhenRanOut : Event → World → World → Type 0

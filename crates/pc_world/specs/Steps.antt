@@ -90,12 +90,20 @@ pub record IsAnswerSet (run : Run) (view digest set : Set) : Type 0 where
   pub within : (t n : ℕ) → has set t n ≡ true → has view t n ≡ true
   pub none_spare : All (IsNewTo digest) parts
 
--- one agent answers another's digest of this moment; which of the answers it sends is its choice
-pub record IsAnswered (w : PlainWorld) (c asker : ℕ) (told : Reply) (new : PlainWorld) : Type 0 where
+-- one agent answers a digest; which of the answers it sends is its choice
+pub record IsAnsweredTo (digest : Set) (w : PlainWorld) (c : ℕ) (told : Reply) (new : PlainWorld) : Type 0 where
   pub set : Set
-  pub answers : IsAnswerSet (kinds w.kernel) (w.agents c).known (w.agents asker).known set
+  pub answers : IsAnswerSet (kinds w.kernel) (w.agents c).known digest set
   pub tells : told ≡ reply.Answered (length w.sent)
   pub after : new ≡ sending w set
+
+-- an answer to a digest: a delta is sent that tells what the agent knows and the digest has not
+abbrev pub IsAnsweringDigest : Set → ℕ → PlainWorld → Reply → PlainWorld → Type 0
+IsAnsweringDigest digest c w told new = OnCpu w c told new (IsAnsweredTo digest w c told new)
+
+-- one agent answers another's digest of this moment
+abbrev pub IsAnswered : PlainWorld → ℕ → ℕ → Reply → PlainWorld → Type 0
+IsAnswered w c asker told new = IsAnsweredTo (w.agents asker).known w c told new
 
 -- both CPUs are there
 abbrev pub are_cpus : PlainWorld → ℕ → ℕ → Bool

@@ -1,14 +1,15 @@
 //! What a world keeps, and what each event does to it.
 
-ghost use Rattle.std.specs.Prelude.{◌≡◌, false, MatchOption, OnErr, Some, length, slice_get, option_copied};
+ghost use Rattle.std.specs.Prelude.{◌≡◌, false, IfOk, MatchOption, OnErr, Some, length, slice_get, option_copied};
 ghost use Rattle.pc_kernel.specs.Reads.{seen, is_cpu};
 ghost use Rattle.pc_world.specs.Inner.Agents.{AreOwn};
 ghost use Rattle.pc_world.specs.Inner.Laws.{RunsGoOn};
 
+use crate::laws::kernel_laws;
 use pc_agent::{Agent, KeptWire, SendFault, agents_stay_as_the_run_goes_on};
 use pc_calls::{AgentCall, Call, CallFault, EnvCall, Event, Refusal, Reply};
-use pc_delta::Delta;
 use pc_delta::laws::{parts_stay_as_the_run_goes_on, sets_are_pairs};
+use pc_delta::{Delta, Digest};
 use pc_join::OutOfMemory;
 use pc_kernel::Kernel;
 use pc_kernel::laws::calls_extend_the_run;
@@ -48,6 +49,8 @@ impl Parts {
     ghost use Rattle.pc_world.specs.Counting.{CountsNothing};
     ghost use Rattle.pc_world.specs.Inner.Handling.{CountsOutcome, Handles, outcome_of};
     ghost use Rattle.pc_world.specs.Inner.Places.{IsPlace};
+    ghost use Rattle.pc_world.specs.Shows.{AnswersDigest, IsReached, KeepsSent, ShowsTheSame};
+    ghost use Rattle.pc_delta.specs.Digests.{set_of_digest};
 
     /// The CPU's agent; none of a CPU that is not there.
     pub(crate) fn agent(&self, cpu: Cpu) -> Option<&Agent>
@@ -236,6 +239,28 @@ impl Parts {
                 *reply = Reply::Answered { delta: index };
                 Ok(())
             }
+            Err(SendFault::OutOfMemory) => Err(OutOfMemory),
+            Err(SendFault::WireFault) => unreachable!(),
+        }
+    }
+
+    /// The agent sends what a digest lacks, whenever that was made.
+    pub(crate) fn answer_digest(&mut self, cpu: Cpu, digest: &Digest) -> Result<Reply, OutOfMemory>
+        ensures answers { IfOk result (AnswersDigest (set_of_digest digest.now) cpu self.old self.new) }
+        ensures reached { IsReached self.old → IsReached self.new }
+        ensures no_memory { OnErr result (ShowsTheSame self.old self.new) }
+        ensures counts { CountsNothing self.old self.new }
+        ensures kept { KeepsSent self.old self.new }
+    {
+        kernel_laws();
+        sets_are_pairs();
+        let Some(place) = self.place(cpu) else {
+            return Ok(Reply::Refused(Refusal::BadCpu));
+        };
+        let index = self.wire.sent().len() as u64;
+        self.wire.set_refuses(false);
+        match self.agents[place].answer(digest, &mut self.wire) {
+            Ok(()) => Ok(Reply::Answered { delta: index }),
             Err(SendFault::OutOfMemory) => Err(OutOfMemory),
             Err(SendFault::WireFault) => unreachable!(),
         }

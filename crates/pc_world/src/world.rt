@@ -14,7 +14,7 @@ use crate::laws::kernel_laws;
 use crate::parts::Parts;
 use pc_agent::{Agent, KeptWire};
 use pc_calls::{Event, LimitField, Limits, LimitsFault, Posted, Profile, Refusal, Reply};
-use pc_delta::Delta;
+use pc_delta::{Delta, Digest};
 use pc_join::OutOfMemory;
 use pc_kernel::Kernel;
 use pc_messages::{Cpu, Tid};
@@ -56,8 +56,10 @@ fn add<T: Drop>(items: &mut Vec<T>, item: T) -> Result<(), OutOfMemory>
 }
 
 impl World {
-    ghost use Rattle.pc_world.specs.Shows.{AreSent, Does, IsAgentAt, IsReached, IsViewAt, KeepsSent, RunsInPart};
-    ghost use Rattle.pc_world.specs.Shows.{RunsThrough, ShowsWorld, LeavesWhenRanOut, deltas_of};
+    ghost use Rattle.pc_delta.specs.Digests.{set_of_digest};
+    ghost use Rattle.pc_world.specs.Shows.{AnswersDigest, AreSent, Does, IsAgentAt, IsReached, IsViewAt, KeepsSent};
+    ghost use Rattle.pc_world.specs.Shows.{LeavesWhenRanOut, RunsInPart, RunsThrough, ShowsTheSame, ShowsWorld};
+    ghost use Rattle.pc_world.specs.Shows.{deltas_of};
     ghost use Rattle.pc_world.specs.Counting.{CountsEvent, CountsEvents, CountsInPart, CountsNothing};
     ghost use Rattle.pc_world.specs.Counting.{HaveCountedNothing, counts_at};
     ghost use Rattle.pc_world.specs.Inner.Handling.{CountsInto, CountsOrLeaves, StepsInPart, StepsInto};
@@ -188,6 +190,18 @@ impl World {
     {
         kernel_laws();
         self.parts.handle(event, reply)
+    }
+
+    /// Has the CPU's agent send what a digest lacks of all that it knows, whenever the digest was made: the answer to
+    /// one of this moment is [`Event::Answer`]. Its reply is that of an answer, or that the CPU is not there. Where
+    /// memory runs out, nothing is sent.
+    pub fn answer_digest(&mut self, cpu: Cpu, digest: &Digest) -> Result<Reply, OutOfMemory>
+        ensures answers { IfOk result (AnswersDigest (set_of_digest digest.now) cpu self.old self.new) }
+        ensures no_memory { OnErr result (ShowsTheSame self.old self.new) }
+        ensures counts { CountsNothing self.old self.new }
+        ensures kept { KeepsSent self.old self.new }
+    {
+        self.parts.answer_digest(cpu, digest)
     }
 
     /// Takes events, one after another, and gives the reply of each. Where memory runs out, some first events were

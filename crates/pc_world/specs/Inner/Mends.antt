@@ -1,5 +1,5 @@
 -- The parts of mending.
-use Rattle.std.specs.Prelude.{ℕ, ◌≡◌, ◌⊎◌, List, [], ◌∷◌}
+use Rattle.std.specs.Prelude.{ℕ, ◌⊎◌, List, [], ◌∷◌}
 use Rattle.pc_calls.specs.declared.event.Event.{Event}
 use Rattle.pc_calls.specs.declared.event.Event.TheVariants.{Pick, Steal}
 use Rattle.pc_calls.specs.declared.event.Reply.{Reply}
