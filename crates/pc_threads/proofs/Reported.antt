@@ -14,7 +14,7 @@ use Rattle.pc_threads.specs.Inner.Shares.{HasPosted, Spent}
 use Rattle.pc_threads.specs.declared.report.LoadReport.{LoadReport}
 use Rattle.pc_threads.specs.Pages.{IsReplay, Pages}
 use Rattle.pc_threads.specs.Reports.{DoesAll, TellsItsBook}
-use Rattle.pc_threads.specs.Settings.{IsPlan, Plan, Settings, messages_in, ran_in, steps_in, ticks}
+use Rattle.pc_threads.specs.Settings.{IsPlan, IsSound, Plan, Settings, messages_in, ran_in, steps_in, ticks}
 use Rattle.pc_threads.specs.Totals.{committed_by, created_by, died_by, in_all, left_by, limits_on, ran_by, told_by}
 use Rattle.pc_threads.proofs.Counted.{threads_counted}
 use Rattle.pc_threads.proofs.Steps.{deaths_in, ones_in, ran_in_all, told_in_all}
@@ -64,6 +64,12 @@ pub no_bad_limit : (cpus : ℕ) → 1 ≤ cpus → cpus ≤ MOST_CPUS → bad_fi
 no_bad_limit cpus some few =
     let fits : is_outside cpus MOST_CPUS ≡ false = grind (arith, nat_tests) in
     rw fits refl
+
+-- so many CPUs as sound settings say are 1 to 64
+pub sound_cpus : (settings : Settings) (cpus : ℕ) → pos cpus ≡ settings.cpus → IsSound settings → (1 ≤ cpus) × (cpus ≤ MOST_CPUS)
+sound_cpus settings cpus named sound =
+    let same : cpus ≡ sound.cpus = ap nat_abs (named ∙ sound.cpus_is) in
+    (omega (arith, same, sound.cpus_some), omega (arith, same, sound.cpus_few))
 
 -- a limit is not told to be bad where none is
 pub no_bad : {A : Type 0} (r : Result A LimitsFault) (fault : LimitsFault) (field : LimitField) (bad : Option LimitField)

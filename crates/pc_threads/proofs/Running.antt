@@ -25,7 +25,7 @@ use Rattle.pc_kernel.specs.Reads.{shown}
 use Rattle.pc_kernel.specs.Reads as reads
 use Rattle.pc_kernel.specs.Steps.{after, at, changed, is_blocked, is_dead, posted, refusals, replay}
 use Rattle.pc_kernel.proofs.Always.{IsKept}
-use Rattle.pc_kernel.proofs.AlwaysCalls.{known_of, not_false, not_some}
+use Rattle.pc_kernel.proofs.AlwaysCalls.{not_false}
 use Rattle.pc_kernel.proofs.AlwaysEvery.{always_kept, dense}
 use Rattle.pc_kernel.proofs.Posting.{kinds_quiet, kinds_told, quiet_other, telling_same, threads-posted_known}
 use Rattle.pc_kernel.proofs.Refusals.{NoneHold, commit_passes}

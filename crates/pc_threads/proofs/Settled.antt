@@ -15,7 +15,7 @@ use Rattle.pc_view.specs.declared.view.View.{View}
 use Rattle.pc_view.specs.Prefixes.{reported_in, state_told, upto_of, upto_told}
 use Rattle.pc_view.specs.Views.{IsOfRun, pairs_in, pairs_of, thread_of}
 use Rattle.pc_threads.specs.declared.book.settling.RunFault.{RunFault}
-use Rattle.pc_threads.specs.declared.book.settling.RunFault.TheVariants.{Audit, Driver, GaveUp, Incomplete, OutOfMemory, StartFailed, TimeUp}
+use Rattle.pc_threads.specs.declared.book.settling.RunFault.TheVariants.{Audit, Driver, GaveUp, Incomplete, OutOfMemory, StartFailed, TimeUp, Unaccounted}
 use Rattle.pc_threads.specs.Inner.Merging.{IsFirstShort, ReachesAll}
 use Rattle.pc_threads.specs.Settling.{AreOfRun, AreWhole, IsLeastLacking, IsViewOfAll, Settles, pairs_of_all}
 
@@ -87,6 +87,7 @@ settled_whole run views (Err StartFailed) settles whole = absurd settles
 settled_whole run views (Err (GaveUp cpu)) settles whole = absurd settles
 settled_whole run views (Err TimeUp) settles whole = absurd settles
 settled_whole run views (Err (Driver refusal)) settles whole = absurd settles
+settled_whole run views (Err Unaccounted) settles whole = absurd settles
 settled_whole run views (Err (Incomplete thread)) settles whole =
     absurd (true≢false (sym settles.1.told ∙ sym (whole.all (thread ∷ settles.1.number ∷ [])) ∙ settles.1.unknown))
 

@@ -86,7 +86,7 @@ ones_in (plan ∷ plans) =
     let more' : steps_in (plan ∷ plans) ≡ length plan.steps + steps_in plans = sum_by-cons (λ (p : Plan). length p.steps) plan plans in
     omega (arith, rest, here, more, more')
 
-told_all : (steps : List Step) → sum_by told_in steps ≡ length steps + count_by is_block steps
+pub told_all : (steps : List Step) → sum_by told_in steps ≡ length steps + count_by is_block steps
 told_all [] = refl
 told_all (step ∷ steps) =
     let rest = told_all steps in
@@ -130,20 +130,6 @@ messages_few settings sound =
     let most = plans_few sound.cpus settings.threads sound.threads in
     let few = sound.threads_few in
     omega (arith, most, few)
-
-steps_less : (plans : List Plan) → steps_in plans ≤ messages_in plans
-steps_less [] = omega arith
-steps_less (plan ∷ plans) =
-    let rest = steps_less plans in
-    let more : steps_in (plan ∷ plans) ≡ length plan.steps + steps_in plans = sum_by-cons (λ (p : Plan). length p.steps) plan plans in
-    let more' : messages_in (plan ∷ plans) ≡ messages_of plan + messages_in plans = sum_by-cons messages_of plan plans in
-    let own : messages_of plan ≡ 1 + length plan.steps + count_by is_block plan.steps = refl in
-    omega (arith, rest, more, more', own)
-
-pub steps_few : (plans : List Plan) → messages_in plans < 2 ^ 32 → steps_in plans < 2 ^ 64
-steps_few plans few =
-    let less = steps_less plans in
-    omega (arith, less, few)
 
 lives_on : (steps : List Step) → All (λ step. is_die step ≡ false) steps → sum_by died_in steps ≡ 0
 lives_on [] all = refl
@@ -237,20 +223,20 @@ one_done plans done t n plan step there begun is_plan is_count left is_step =
     (slice_get_at done t n begun is_count)
     (slice_get_at plan.steps.items n step left is_step)
 
--- the steps of the first plans, with those of the next one, are not more than all
-pub steps_more : (plans : List ThreadPlan) (i : ℕ) (plan : ThreadPlan) → i < length plans → plan ≡ get_or plans i plan
-    → steps_in (map plan_of (take i plans)) + length plan.steps.items ≤ steps_in (map plan_of plans)
-steps_more [] i plan low is = absurd (omega arith)
-steps_more (first ∷ plans) zero plan low is =
-    let more : steps_in (map plan_of (first ∷ plans)) ≡ length first.steps.items + steps_in (map plan_of plans) = sum_by-cons (λ (p : Plan). length p.steps) (plan_of first) (map plan_of plans) in
-    let same : length plan.steps.items ≡ length first.steps.items = ap (λ (p : ThreadPlan). length p.steps.items) is in
-    let none : steps_in (map plan_of (take zero (first ∷ plans))) ≡ 0 = refl in
+-- what the first plans come to, with what the next one comes to, is not more than what all do
+pub amount_more : (by : Plan → ℕ) (plans : List ThreadPlan) (i : ℕ) (plan : ThreadPlan) → i < length plans → plan ≡ get_or plans i plan
+    → sum_by by (map plan_of (take i plans)) + by (plan_of plan) ≤ sum_by by (map plan_of plans)
+amount_more by [] i plan low is = absurd (omega arith)
+amount_more by (first ∷ plans) zero plan low is =
+    let more : sum_by by (map plan_of (first ∷ plans)) ≡ by (plan_of first) + sum_by by (map plan_of plans) = sum_by-cons by (plan_of first) (map plan_of plans) in
+    let same : by (plan_of plan) ≡ by (plan_of first) = ap (λ (p : ThreadPlan). by (plan_of p)) is in
+    let none : sum_by by (map plan_of (take zero (first ∷ plans))) ≡ 0 = refl in
     omega (arith, more, same, none)
-steps_more (first ∷ plans) (suc i) plan low is =
-    let rest = steps_more plans i plan (omega arith) is in
-    let more : steps_in (map plan_of (first ∷ plans)) ≡ length first.steps.items + steps_in (map plan_of plans) = sum_by-cons (λ (p : Plan). length p.steps) (plan_of first) (map plan_of plans) in
-    let more' : steps_in (map plan_of (take (suc i) (first ∷ plans))) ≡ length first.steps.items + steps_in (map plan_of (take i plans)) =
-    sum_by-cons (λ (p : Plan). length p.steps) (plan_of first) (map plan_of (take i plans)) in
+amount_more by (first ∷ plans) (suc i) plan low is =
+    let rest = amount_more by plans i plan (omega arith) is in
+    let more : sum_by by (map plan_of (first ∷ plans)) ≡ by (plan_of first) + sum_by by (map plan_of plans) = sum_by-cons by (plan_of first) (map plan_of plans) in
+    let more' : sum_by by (map plan_of (take (suc i) (first ∷ plans))) ≡ by (plan_of first) + sum_by by (map plan_of (take i plans)) =
+    sum_by-cons by (plan_of first) (map plan_of (take i plans)) in
     omega (arith, rest, more, more')
 
 -- each plan of a list of sound ones is sound

@@ -1,8 +1,11 @@
 -- What the report of a run tells.
-use Rattle.std.specs.Prelude.{◌≡◌, length, nat_abs, sum_by}
+use Rattle.std.specs.Prelude.{◌≡◌, pos, List, length, nat_abs, sum_by, Result, Ok, Err}
 use Rattle.pc_kernel.specs.Reads.{seen}
+use Rattle.pc_view.specs.declared.view.View.{View}
+use Rattle.pc_threads.specs.declared.book.settling.RunFault.{RunFault}
 use Rattle.pc_threads.specs.declared.report.LoadReport.{LoadReport}
-use Rattle.pc_threads.specs.Pages.{run_of}
+use Rattle.pc_threads.specs.declared.report.row.Row.{Row}
+use Rattle.pc_threads.specs.Pages.{Pages, run_of}
 use Rattle.pc_threads.specs.Settings.{Settings, messages_in, ran_in, steps_in}
 use Rattle.pc_threads.specs.Settling.{IsViewOfAll}
 use Rattle.pc_threads.specs.Totals.{committed_by, consumed_by, in_all, limits_on, ran_by, taken_over_by, told_by}
@@ -29,3 +32,29 @@ pub record DoesAll (settings : Settings) (report : LoadReport) : Type 0 where
   pub messages : report.messages ≡ messages_in settings.threads
   pub commits : report.commits ≡ steps_in settings.threads
   pub ran : report.ran ≡ ran_in settings.threads
+
+-- the book lists all that the settings ask for, on so many CPUs: the threads that are known, their messages, the
+-- commits and the ticks are as many as the settings' threads, with their steps, come to
+pub record ListsAll (settings : Settings) (book : Pages) : Type 0 where
+  pub limits : book.kernel.limits ≡ limits_on (nat_abs settings.cpus)
+  pub threads : (seen book.kernel).threads ≡ length settings.threads
+  pub messages : in_all told_by book.calls ≡ messages_in settings.threads
+  pub commits : in_all committed_by book.calls ≡ steps_in settings.threads
+  pub ran : in_all ran_by book.calls ≡ ran_in settings.threads
+
+-- what the agents counted adds up to what the book lists
+pub record AreCountsOf (book : Pages) (rows : List Row) : Type 0 where
+  pub commits : sum_by (λ row. row.commits) rows ≡ in_all committed_by book.calls
+  pub steals : sum_by (λ row. row.steals) rows ≡ in_all taken_over_by book.calls
+  pub taken : sum_by (λ row. row.taken) rows ≡ in_all consumed_by book.calls
+
+-- the book lists all that the settings ask for, and there is a row for each CPU, which together count what it lists
+pub record IsAccountedFor (settings : Settings) (book : Pages) (rows : List Row) : Type 0 where
+  pub lists : ListsAll settings book
+  pub counts : AreCountsOf book rows
+  pub each : pos (length rows) ≡ settings.cpus
+
+-- the view of a report, or why there is none
+abbrev pub view_in : Result LoadReport RunFault → Result View RunFault
+view_in (Ok report) = Ok report.view
+view_in (Err fault) = Err fault

@@ -7,7 +7,7 @@ use Rattle.pc_view.specs.declared.view.View.{View}
 use Rattle.pc_view.specs.Views.{IsOfRun, pairs_in, pairs_of}
 use Rattle.pc_threads.specs.declared.book.settling.RunFault.{RunFault}
 use Rattle.pc_threads.specs.declared.book.settling.RunFault.TheVariants.{Audit, Driver, GaveUp, Incomplete, OutOfMemory}
-use Rattle.pc_threads.specs.declared.book.settling.RunFault.TheVariants.{StartFailed, TimeUp}
+use Rattle.pc_threads.specs.declared.book.settling.RunFault.TheVariants.{StartFailed, TimeUp, Unaccounted}
 
 -- the messages that some view knows
 abbrev pub pairs_of_all : List View → Members
@@ -51,3 +51,4 @@ Settles run views (Err StartFailed) = ⊥
 Settles run views (Err (GaveUp cpu)) = ⊥
 Settles run views (Err TimeUp) = ⊥
 Settles run views (Err (Driver refusal)) = ⊥
+Settles run views (Err Unaccounted) = ⊥

@@ -9,8 +9,10 @@ ghost use Rattle.pc_calls.specs.declared.limits.Profile.TheVariants as profile;
 ghost use Rattle.pc_messages.specs.Run.{Extends};
 
 mod agents;
+mod opened;
 mod settling;
 
+pub(crate) use opened::limits_of;
 use pc_calls::{
     AgentCall, Answer, Call, CallFault, EnvCall, LimitField, Limits, LimitsFault, Posted, Refusal,
 };
@@ -125,6 +127,29 @@ impl Book {
         self.kernel.peek(cpu)
     }
 
+    /// Makes the call, whoever's it is, and lists it with its answer.
+    ///
+    /// What the kernel refuses is told as `Refused`, want of memory as `OutOfMemory`; either leaves the book as it was.
+    pub fn apply(&mut self, call: Call) -> Result<Answer, CallFault>
+        ensures listed { IfOk result (λ answer. Lists call answer self.old self.new) }
+        ensures fault { IfSome (answered result)
+            (λ answer. refusal_in answer ≡ refused (seen self.old.kernel) call) }
+        ensures extends { IfOk result (λ _. Extends (run_of self.new) (run_of self.old)) }
+        ensures limits { self.new.kernel.limits ≡ self.old.kernel.limits }
+        ensures err { OnErr result (self.new ≡ self.old) }
+    {
+        if make_room(&mut self.calls).is_err() {
+            return Err(CallFault::OutOfMemory);
+        }
+        match self.kernel.apply(call) {
+            Ok(answer) => {
+                list(&mut self.calls, &call, &answer);
+                Ok(answer)
+            }
+            Err(fault) => Err(fault),
+        }
+    }
+
     /// Makes the call of the environment.
     pub fn post(&mut self, call: EnvCall) -> Result<Posted, CallFault>
         ensures listed { IfOk result (λ posted. Lists (Call.Env call) (Answer.Posted posted) self.old self.new) }
@@ -135,7 +160,7 @@ impl Book {
         ensures err { OnErr result (self.new ≡ self.old) }
     {
         self.is_replay();
-        match self.make(&Call::Env(call)) {
+        match self.apply(Call::Env(call)) {
             Ok(Answer::Posted(posted)) => Ok(posted),
             Ok(Answer::Done) => unreachable!(),
             Err(fault) => Err(fault),
@@ -152,7 +177,7 @@ impl Book {
         ensures err { OnErr result (self.new ≡ self.old) }
     {
         self.is_replay();
-        match self.make(&Call::Agent(AgentCall::Sleep { cpu, aseq })) {
+        match self.apply(Call::Agent(AgentCall::Sleep { cpu, aseq })) {
             Ok(Answer::Done) => Ok(()),
             Ok(Answer::Posted(_)) => unreachable!(),
             Err(fault) => Err(fault),
@@ -169,30 +194,9 @@ impl Book {
         ensures err { OnErr result (self.new ≡ self.old) }
     {
         self.is_replay();
-        match self.make(&Call::Agent(AgentCall::Rouse { cpu })) {
+        match self.apply(Call::Agent(AgentCall::Rouse { cpu })) {
             Ok(Answer::Done) => Ok(()),
             Ok(Answer::Posted(_)) => unreachable!(),
-            Err(fault) => Err(fault),
-        }
-    }
-
-    /// Makes the call, and lists it with its answer.
-    fn make(&mut self, call: &Call) -> Result<Answer, CallFault>
-        ensures listed { IfOk result (λ answer. Lists call.now answer self.old self.new) }
-        ensures fault { IfSome (answered result)
-            (λ answer. refusal_in answer ≡ refused (seen self.old.kernel) call.now) }
-        ensures extends { IfOk result (λ _. Extends (run_of self.new) (run_of self.old)) }
-        ensures limits { self.new.kernel.limits ≡ self.old.kernel.limits }
-        ensures err { OnErr result (self.new ≡ self.old) }
-    {
-        if make_room(&mut self.calls).is_err() {
-            return Err(CallFault::OutOfMemory);
-        }
-        match self.kernel.apply(*call) {
-            Ok(answer) => {
-                list(&mut self.calls, call, &answer);
-                Ok(answer)
-            }
             Err(fault) => Err(fault),
         }
     }

@@ -14,7 +14,7 @@ pub use book::{Book, RunFault, settle};
 pub use pc_calls::{
     AgentCall, Answer, Call, CallFault, EnvCall, Limits, LimitsFault, Posted, Refusal,
 };
-pub use report::{LoadReport, Row};
+pub use report::{LoadReport, Row, report_on};
 pub use runner::{Driven, Gate, OpenGate, Point, run_agents, run_agents_by};
 pub use settings::{
     Config, ConfigFault, MOST_RESTARTS, MOST_STEPS, MOST_TURN, Restart, Step, ThreadPlan,

@@ -1,11 +1,10 @@
 //! A run of agents in threads.
 
-ghost use Rattle.std.specs.Prelude.{pos, ◌≡◌, ◌^◌, ◌<◌, ◌≤◌, IfOk, vec_len};
-ghost use Rattle.pc_calls.specs.declared.limits.TheConstants.{MOST_CPUS};
+ghost use Rattle.std.specs.Prelude.{pos, ◌≡◌, IfOk, vec_len};
 ghost use Rattle.pc_kernel.specs.Reads.{seen};
 ghost use Rattle.pc_threads.specs.Inner.Blanks.{AreBlanksOf};
 ghost use Rattle.pc_threads.specs.Reports.{AddsUp, DoesAll, TellsItsBook};
-ghost use Rattle.pc_threads.specs.Totals.{committed_by, created_by, died_by, in_all, left_by, told_by};
+ghost use Rattle.pc_threads.specs.Totals.{committed_by, created_by, died_by, in_all, left_by};
 
 mod channels;
 mod desk;
@@ -25,15 +24,15 @@ mod threads;
 mod turns;
 mod worker;
 
-use crate::book::{Book, RunFault, settle};
-use crate::report::LoadReport;
+use crate::book::{Book, RunFault};
+use crate::report::{LoadReport, report_of};
 use crate::settings::Config;
 use channels::Channels;
 use desk::Desk;
 use driver::create_all;
 pub use gate::{Driven, Gate, OpenGate, Point};
 use ledgers::{Names, Nine};
-use opening::{Blanks, Opened, new_book, open};
+use opening::{Blanks, Opened, open};
 use pc_policy::AgentPolicy;
 use scope::{Ended, scoped};
 use std::alloc::Global;
@@ -57,18 +56,6 @@ fn none_runs_in_the_end(book: &Book)
         in_all committed_by book.now.calls ≡ in_all left_by book.now.calls }
 {
     book.is_replay();
-}
-
-/// The report of a run that ended with this book, of agents that knew this and counted that.
-fn report_of(alloc: Global, book: Book, joined: Joined) -> Result<LoadReport, RunFault>
-    requires few { vec_len joined.views ≤ MOST_CPUS }
-    requires counted { in_all told_by book.calls < 2 ^ 32 }
-    ensures tells { IfOk result TellsItsBook }
-    ensures book { IfOk result (λ report. report.book ≡ book) }
-    ensures rows { IfOk result (λ report. report.rows ≡ joined.rows) }
-{
-    let view = settle(alloc, &book, joined.views.as_slice())?;
-    Ok(LoadReport::new(book, view, joined.rows))
 }
 
 /// A run by these ledgers.
@@ -100,7 +87,7 @@ where
 {
     config.is_sound();
     let cpus = config.cpus();
-    let book = new_book(alloc, cpus)?;
+    let book = Book::of_run(alloc, config)?;
     let channels = Channels::new(alloc, config)?;
     let Opened {
         mut tallied,
@@ -124,7 +111,8 @@ where
     known_are_created(&book);
     none_runs_in_the_end(&book);
     // The proof speaks of the report by its name.
-    let report = report_of(alloc, book, joined)?;
+    let Joined { rows, views } = joined;
+    let report = report_of(alloc, book, views.as_slice(), rows)?;
     Ok(report)
 }
 

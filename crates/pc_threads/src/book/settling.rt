@@ -44,6 +44,9 @@ pub enum RunFault {
     /// A message of this thread is in no view; the least such thread.
     #[error("a message of {0:?} is in no view")]
     Incomplete(Tid),
+    /// The calls, or what the agents counted, do not come to what the settings ask for.
+    #[error("the calls do not add up to the settings")]
+    Unaccounted,
 }
 
 /// The first view that is not of the kernel's run.

@@ -34,7 +34,7 @@ pub struct Row {
 
 impl Row {
     /// What the agent counted.
-    pub(crate) fn of(agent: &Agent) -> Row
+    pub fn of(agent: &Agent) -> Row
         ensures cpu { result.cpu ≡ cpu_of agent.now }
         ensures taken { result.taken ≡ (counts_of agent.now).taken }
         ensures commits { result.commits ≡ (counts_of agent.now).commits }

@@ -1,10 +1,10 @@
 //! What drives a run: it creates the threads, and does what each thread does on its CPU.
 
-ghost use Rattle.std.specs.Prelude.{ℕ, ◌≡◌, ◌+◌, ◌<◌, ◌^◌, All, IfOk, IfSome, OnOk, if◌then◌else◌, length, map, sum_by};
+ghost use Rattle.std.specs.Prelude.{ℕ, ◌≡◌, ◌<◌, ◌^◌, All, IfOk, IfSome, OnOk, if◌then◌else◌, length, map, sum_by};
 ghost use Rattle.pc_calls.specs.declared.call.Call.TheVariants.{Env};
 ghost use Rattle.pc_threads.specs.Inner.Driving.{IsOneFewer, died_in, leaving, left_of, one, sum_in, told_in};
 ghost use Rattle.pc_threads.specs.Inner.Shares.{HasPosted};
-ghost use Rattle.pc_threads.specs.Settings.{IsPlan, is_block, plan_of, steps_in, ticks};
+ghost use Rattle.pc_threads.specs.Settings.{IsPlan, is_block, plan_of, ticks};
 ghost use Rattle.pc_threads.specs.Totals.{created_by, died_by, left_by, ran_by, told_by};
 
 use crate::book::RunFault;
@@ -14,7 +14,7 @@ use crate::runner::faults::Quit;
 use crate::runner::gate::{Driven, Gate};
 use crate::runner::ledgers::{Names, Purse};
 use crate::runner::tallied::Tallied;
-use crate::settings::{Config, Step, ThreadPlan};
+use crate::settings::{Config, Step, ThreadPlan, amounts_of};
 use crossbeam_channel::RecvTimeoutError;
 use pc_calls::{CallFault, EnvCall, Posted, Refusal};
 use pc_messages::{Cpu, Tid};
@@ -305,18 +305,6 @@ fn drive<N: Names, R: Wait + Clock, G: Gate>(
     Ok(())
 }
 
-/// How many steps there are.
-fn count_steps(plans: &[ThreadPlan]) -> u64
-    requires { steps_in (map plan_of plans.now) < 2 ^ 64 }
-    ensures { result ≡ steps_in (map plan_of plans.now) }
-{
-    let mut steps = 0;
-    for plan in plans {
-        steps += plan.steps.len() as u64;
-    }
-    steps
-}
-
 /// All steps that the settings ask for.
 fn undone_of<'a>(alloc: Global, config: &'a Config) -> Result<Undone<'a>, AllocError>
     ensures plans { IfOk result (λ undone. map plan_of undone.plans.now ≡ config.now.threads) }
@@ -324,10 +312,9 @@ fn undone_of<'a>(alloc: Global, config: &'a Config) -> Result<Undone<'a>, AllocE
         → left_of by (map plan_of undone.plans.now) undone.progress.done.items
         ≡ sum_in by (map plan_of undone.plans.now)) }
 {
-    config.is_sound();
     let plans = config.threads();
     let progress = Progress::new(alloc, plans)?;
-    let steps = count_steps(plans);
+    let steps = amounts_of(config).steps;
     Ok(Undone {
         plans,
         progress,

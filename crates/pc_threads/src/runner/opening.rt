@@ -1,44 +1,14 @@
-//! The book of a new run, and its ledgers.
+//! The ledgers of a new run.
 
-ghost use Rattle.std.specs.Prelude.{◌≡◌, ◌≤◌, [], IfOk};
-ghost use Rattle.pc_calls.specs.declared.limits.TheConstants.{MOST_CPUS};
+ghost use Rattle.std.specs.Prelude.{◌≡◌, []};
 ghost use Rattle.pc_threads.specs.Inner.Blanks.{AreBlanksOf};
 ghost use Rattle.pc_threads.specs.Inner.Shares.{idle};
 ghost use Rattle.pc_threads.specs.Totals.{limits_on};
 
-use crate::book::{Book, RunFault};
+use crate::book::Book;
 use crate::runner::ledgers::{Names, Pool, Purse};
 use crate::runner::tallied::Tallied;
-use pc_calls::{Limits, LimitsFault, MOST_NUMBERS, MOST_POSTS, MOST_ROOM, MOST_THREADS};
-use std::alloc::Global;
 use std::sync::ledger::Blank;
-
-/// The limits of a run on so many CPUs.
-fn limits_of(cpus: u8) -> Limits
-    ensures { result ≡ limits_on cpus }
-{
-    Limits {
-        cpus,
-        threads: MOST_THREADS,
-        numbers: MOST_NUMBERS,
-        room: MOST_ROOM,
-        posts: MOST_POSTS,
-    }
-}
-
-/// The book of a run on so many CPUs.
-pub(crate) fn new_book(alloc: Global, cpus: u8) -> Result<Book, RunFault>
-    requires some { 1 ≤ cpus }
-    requires few { cpus ≤ MOST_CPUS }
-    ensures nothing { IfOk result (λ book. book.calls ≡ []) }
-    ensures limits { IfOk result (λ book. book.kernel.limits ≡ limits_on cpus) }
-{
-    match Book::new(alloc, limits_of(cpus)) {
-        Ok(book) => Ok(book),
-        Err(LimitsFault::OutOfMemory) => Err(RunFault::OutOfMemory),
-        Err(LimitsFault::BadLimits(_)) => unreachable!(),
-    }
-}
 
 /// Nine ledgers that no type stands for yet.
 #[derive(Drop)]

@@ -1,8 +1,9 @@
 //! What threads are to do.
 
-ghost use Rattle.std.specs.Prelude.{◌≡◌, ◌≤◌, not, position};
+ghost use Rattle.std.specs.Prelude.{◌≡◌, ◌<◌, ◌≤◌, not, position};
 ghost use Rattle.pc_calls.specs.declared.limits.TheConstants.{MOST_CPUS};
-ghost use Rattle.pc_threads.specs.Settings.{LivesEndInDeath, is_die, is_life, is_thread, plan_of};
+ghost use Rattle.pc_threads.specs.Inner.Driving.{told_in};
+ghost use Rattle.pc_threads.specs.Settings.{LivesEndInDeath, is_die, is_life, is_thread, plan_of, ticks};
 
 use pc_load::{dies_last, is_cpu, is_mask};
 
@@ -36,6 +37,26 @@ impl Step {
         ensures { result ≡ is_die self.now }
     {
         matches!(self, Step::Die(_))
+    }
+
+    /// How many messages it posts: its own, and behind a block that of the wakeup.
+    pub(crate) fn messages(&self) -> u64
+        ensures told { result ≡ told_in self.now }
+        ensures few { result < 3 }
+    {
+        match self {
+            Step::Block(_) => 2,
+            Step::Yield(_) | Step::Preempt(_) | Step::Die(_) => 1,
+        }
+    }
+
+    /// For how many ticks the thread runs in it.
+    pub(crate) fn ticks(&self) -> u32
+        ensures { result ≡ ticks self.now }
+    {
+        match self {
+            Step::Yield(ran) | Step::Block(ran) | Step::Preempt(ran) | Step::Die(ran) => *ran,
+        }
     }
 }
 

@@ -1,4 +1,4 @@
-use Rattle.std.proofs.Common.{ℕ, ◌≡◌, ◌+◌, ◌∙◌, subst, arith, if◌then◌else◌}
+use Rattle.std.proofs.Common.{ℕ, ◌+◌, ◌∙◌, subst, arith, if◌then◌else◌}
 use Rattle.pc_agent.specs.Shows.{cpu_of}
 use Rattle.pc_threads.specs.Inner.Turns.{ListsUnder, commits_of}
 use Rattle.pc_threads.proofs.Turns.{more_under, same_under}
