@@ -10,7 +10,7 @@ use Rattle.pc_calls.specs.declared.limits.TheConstants.{MOST_CPUS}
 use Rattle.pc_kernel.specs.PlainKernel.{start, threads}
 use Rattle.pc_kernel.specs.Reads.{Reads, seen}
 use Rattle.pc_threads.specs.Inner.Driving.{died_in, one, sum_in, told_in}
-use Rattle.pc_threads.specs.Inner.Shares.{HasPosted, Spent}
+use Rattle.pc_threads.specs.Inner.Shares.{HasPosted, Spent, unspent}
 use Rattle.pc_threads.specs.declared.report.LoadReport.{LoadReport}
 use Rattle.pc_threads.specs.Pages.{IsReplay, Pages}
 use Rattle.pc_threads.specs.Reports.{DoesAll, TellsItsBook}
@@ -37,7 +37,7 @@ pub record IsAllPosted (cpus : ℕ) (plans : List Plan) (spent : Spent) : Type 0
   pub died_all : spent.died ≡ length plans
 
 pub all_posted : (cpus bound count : ℕ) (plans : List Plan) (first then' last : Spent) → All (IsPlan bound) plans → count ≡ length plans
-    → first ≡ record { cpus = cpus; created = 0; told = 0; ran = 0; left = 0; died = 0 } → HasPosted count count 0 0 0 first then'
+    → first ≡ unspent cpus → HasPosted count count 0 0 0 first then'
     → HasPosted 0 (sum_in told_in plans) (sum_in ticks plans) (sum_in one plans) (sum_in died_in plans) then' last → IsAllPosted cpus plans last
 all_posted cpus bound count plans first then' last sound many none created done =
     let c = ap (λ (s : Spent). s.cpus) none in
@@ -79,15 +79,14 @@ no_bad r fault field bad is e f none =
     let no : None ≡ Some field = sym none ∙ some in cc
 
 -- a report of a book whose shares have all come back
-pub does_all : (settings : Settings) (report : LoadReport) (book : Pages) (cpus : ℕ) (spent : Spent) → pos cpus ≡ settings.cpus → IsAllPosted cpus settings.threads spent
+pub does_all : (settings : Settings) (report : LoadReport) (book : Pages) (spent : Spent) → IsAllPosted (nat_abs settings.cpus) settings.threads spent
     → book.kernel.limits ≡ limits_on spent.cpus → in_all created_by book.calls ≡ spent.created → in_all told_by book.calls ≡ spent.told → in_all ran_by book.calls ≡ spent.ran
     → in_all left_by book.calls ≡ spent.left → in_all died_by book.calls ≡ spent.died → (in_all created_by book.calls ≡ in_all died_by book.calls → in_all committed_by book.calls ≡ in_all left_by book.calls)
     → (seen book.kernel).threads ≡ in_all created_by book.calls → report.book ≡ book → TellsItsBook report → DoesAll settings report
-does_all settings report book cpus spent named all limits created told ran left died again known same tells =
-    let count : nat_abs settings.cpus ≡ cpus = ap nat_abs (sym named) in
+does_all settings report book spent all limits created told ran left died again known same tells =
     let committed : in_all committed_by book.calls ≡ in_all left_by book.calls = again (omega (arith, created, died, all.created_all, all.died_all)) in
     record {
-      limits = ap (λ (b : Pages). b.kernel.limits) same ∙ limits ∙ ap limits_on (all.cpus_are ∙ sym count);
+      limits = ap (λ (b : Pages). b.kernel.limits) same ∙ limits ∙ ap limits_on all.cpus_are;
       threads = omega (arith, tells.threads, ap (λ (b : Pages). (seen b.kernel).threads) same, known, created, all.created_all);
       messages = omega (arith, tells.messages, ap (λ (b : Pages). in_all told_by b.calls) same, told, all.told_all);
       commits = omega (arith, tells.commits, ap (λ (b : Pages). in_all committed_by b.calls) same, committed, left, all.left_all);

@@ -29,12 +29,11 @@ use crate::report::{LoadReport, report_of};
 use crate::settings::Config;
 use channels::Channels;
 use desk::Desk;
-use driver::create_all;
 pub use gate::{Driven, Gate, OpenGate, Point};
 use ledgers::{Names, Nine};
-use opening::{Blanks, Opened, open};
+use opening::{Blanks, Opened, begin};
 use pc_policy::AgentPolicy;
-use scope::{Ended, scoped};
+use scope::{Begun, Ended, scoped};
 use std::alloc::Global;
 use std::marker::Brand;
 use std::sync::ledger::{Blank, Ledger};
@@ -86,26 +85,28 @@ where
     ensures rows { IfOk result (λ report. pos (vec_len report.rows) ≡ config.now.cpus) }
 {
     config.is_sound();
-    let cpus = config.cpus();
-    let book = Book::of_run(alloc, config)?;
     let channels = Channels::new(alloc, config)?;
     let Opened {
-        mut tallied,
-        mut purse,
+        tallied,
+        purse,
         pool,
-    } = open::<N>(book, cpus, blanks);
-    create_all(config.threads(), &mut tallied, &mut purse)?;
+    } = begin::<N>(alloc, config, blanks)?;
     let desk = Desk {
         alloc,
         tallied: Mutex::new(tallied),
         channels,
         policy,
     };
+    let begun = Begun {
+        config,
+        purse,
+        pool,
+    };
     let Ended {
         purse,
         pool,
         joined,
-    } = scoped(rt, gate, config, &desk, purse, pool)?;
+    } = scoped(rt, gate, &desk, begun)?;
     let Desk { tallied, .. } = desk;
     let book = tallied.into_inner().close(purse, pool);
     known_are_created(&book);

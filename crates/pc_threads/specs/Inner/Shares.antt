@@ -12,6 +12,10 @@ pub record Spent : Type 0 where
   pub left : ℕ
   pub died : ℕ
 
+-- on so many CPUs, nothing was posted
+abbrev pub unspent : ℕ → Spent
+unspent cpus = record { cpus = cpus; created = 0; told = 0; ran = 0; left = 0; died = 0 }
+
 -- so many threads were created, so many messages of threads posted, which told so many ticks, so many times a thread
 -- left its CPU, and so many threads died
 pub record HasPosted (threads messages ticks leavings deaths : ℕ) (old new : Spent) : Type 0 where

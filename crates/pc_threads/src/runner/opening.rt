@@ -1,13 +1,16 @@
 //! The ledgers of a new run.
 
-ghost use Rattle.std.specs.Prelude.{◌≡◌, []};
+ghost use Rattle.std.specs.Prelude.{◌≡◌, [], IfOk, length, nat_abs};
 ghost use Rattle.pc_threads.specs.Inner.Blanks.{AreBlanksOf};
-ghost use Rattle.pc_threads.specs.Inner.Shares.{idle};
+ghost use Rattle.pc_threads.specs.Inner.Shares.{HasPosted, idle, unspent};
 ghost use Rattle.pc_threads.specs.Totals.{limits_on};
 
-use crate::book::Book;
+use crate::book::{Book, RunFault};
+use crate::runner::driver::create_all;
 use crate::runner::ledgers::{Names, Pool, Purse};
 use crate::runner::tallied::Tallied;
+use crate::settings::Config;
+use std::alloc::Global;
 use std::sync::ledger::Blank;
 
 /// Nine ledgers that no type stands for yet.
@@ -33,12 +36,12 @@ pub(crate) struct Opened<N: Names> {
 }
 
 /// Opens the ledgers over a new book.
-pub(crate) fn open<N: Names>(book: Book, cpus: u8, blanks: Blanks) -> Opened<N>
+fn open<N: Names>(book: Book, cpus: u8, blanks: Blanks) -> Opened<N>
     requires new { (book.calls ≡ []) × (book.kernel.limits ≡ limits_on cpus) }
     requires named { AreBlanksOf N.Cpus.Ledger N.Created.Ledger N.Told.Ledger N.Ran.Ledger N.Left.Ledger
         N.Died.Ledger N.Committed.Ledger N.TakenOver.Ledger N.Consumed.Ledger blanks }
     ensures nothing { result.pool ≡ idle blanks.committed.parts }
-    ensures none { result.purse ≡ record { cpus = cpus; created = 0; told = 0; ran = 0; left = 0; died = 0 } }
+    ensures none { result.purse ≡ unspent cpus }
 {
     let (mut all_cpus, mut cpus_share) = blanks.cpus.open::<N::Cpus>();
     let (created, created_share) = blanks.created.open::<N::Created>();
@@ -77,4 +80,32 @@ pub(crate) fn open<N: Names>(book: Book, cpus: u8, blanks: Blanks) -> Opened<N>
             consumed: consumed_share,
         },
     }
+}
+
+/// Opens the ledgers over the book of a run, and creates its threads.
+pub(crate) fn begin<N: Names>(
+    alloc: Global,
+    config: &Config,
+    blanks: Blanks,
+) -> Result<Opened<N>, RunFault>
+    requires named { AreBlanksOf N.Cpus.Ledger N.Created.Ledger N.Told.Ledger N.Ran.Ledger N.Left.Ledger
+        N.Died.Ledger N.Committed.Ledger N.TakenOver.Ledger N.Consumed.Ledger blanks }
+    ensures nothing { IfOk result (λ opened. opened.pool ≡ idle blanks.committed.parts) }
+    ensures created { IfOk result (λ opened. HasPosted (length config.now.threads) (length config.now.threads) 0 0 0
+        (unspent (nat_abs config.now.cpus)) opened.purse) }
+{
+    config.is_sound();
+    let cpus = config.cpus();
+    let book = Book::of_run(alloc, config)?;
+    let Opened {
+        mut tallied,
+        mut purse,
+        pool,
+    } = open::<N>(book, cpus, blanks);
+    create_all(config.threads(), &mut tallied, &mut purse)?;
+    Ok(Opened {
+        tallied,
+        purse,
+        pool,
+    })
 }

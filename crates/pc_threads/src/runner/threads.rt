@@ -57,6 +57,43 @@ fn take_back<N: Names>(pool: &mut Pool<N>, worker: Worker<N>) -> (Row, View)
     (Row::of(&agent), agent.into_view())
 }
 
+/// Starts an agent's thread.
+fn start<'s, 'e, N: Names + Send + Sync + 's, R: Wait + Sync, G: Gate + Sync>(
+    scope: &'s Scope<'s, &'e ()>,
+    rt: &'s R,
+    gate: &'s G,
+    config: &'s Config,
+    desk: &'s Desk<N>,
+    worker: Worker<N>,
+) -> Result<JoinHandle<Served<N>>, RunFault>
+where
+    N::Cpus: Send + Sync,
+    N::Created: Send + Sync,
+    N::Told: Send + Sync,
+    N::Ran: Send + Sync,
+    N::Left: Send + Sync,
+    N::Died: Send + Sync,
+    N::Committed: Send + Sync,
+    N::TakenOver: Send + Sync,
+    N::Consumed: Send + Sync,
+{
+    match scope.spawn(move || serve(rt, gate, config, desk, worker)) {
+        Ok(handle) => Ok(handle),
+        Err(_) => Err(RunFault::StartFailed),
+    }
+}
+
+/// An agent for the CPU that goes by the run's policy, with its shares.
+fn hire<N: Names>(desk: &Desk<N>, pool: &mut Pool<N>, cpu: Cpu) -> Result<Worker<N>, RunFault>
+    requires some { 0 < pool.old.agents }
+    requires nothing { pool.old ≡ idle pool.old.agents }
+    ensures fewer { OnOk result (pool.new.agents + 1 ≡ pool.old.agents) }
+    ensures nothing { OnOk result (pool.new ≡ idle pool.new.agents) }
+{
+    let policy = desk.policy.try_copy()?;
+    Ok(lend(pool, desk.alloc, cpu, policy))
+}
+
 /// Starts a thread for each CPU's agent.
 pub(crate) fn start_all<'s, 'e, N: Names + Send + Sync + 's, R: Wait + Sync, G: Gate + Sync>(
     scope: &'s Scope<'s, &'e ()>,
@@ -83,12 +120,9 @@ where
     ensures started { OnOk result (length handles.new.items ≡ length handles.old.items + pool.old.agents) }
 {
     for cpu in 0..config.cpus() {
-        let policy = desk.policy.try_copy()?;
-        let worker = lend(pool, desk.alloc, Cpu(cpu), policy);
-        match scope.spawn(move || serve(rt, gate, config, desk, worker)) {
-            Ok(handle) => handles.push_back(handle)?,
-            Err(_) => return Err(RunFault::StartFailed),
-        }
+        let worker = hire(desk, pool, Cpu(cpu))?;
+        let handle = start(scope, rt, gate, config, desk, worker)?;
+        handles.push_back(handle)?;
     }
     Ok(())
 }

@@ -8,12 +8,14 @@ use crate::runner::channels::Notice;
 use crate::runner::desk::Desk;
 use crate::runner::faults::Quit;
 use crate::runner::gate::{Gate, Point};
-use crate::runner::inbox::Received;
+use crate::runner::inbox::{Inbox, Received};
 use crate::runner::inbox_wire::InboxWire;
 use crate::runner::ledgers::Names;
 use crate::runner::restarts::{restarts_at, restarts_later};
+use crate::runner::tallied::Acted;
 use crate::runner::worker::Worker;
 use crate::settings::Config;
+use pc_delta::{Delta, Digest};
 use pc_messages::{Cpu, Item};
 use std::sync::{Arc, Wait};
 
@@ -56,6 +58,42 @@ fn peek<N: Names, R: Wait>(rt: &R, desk: &Desk<N>, cpu: Cpu) -> Result<(u32, Vec
     }
 }
 
+/// What an agent copied of its queue.
+#[derive(Drop)]
+struct Copied {
+    /// The count of posts that it read.
+    aseq: u32,
+    items: u32,
+    /// What the items tell.
+    delta: Delta,
+}
+
+/// Copies all that the agent's queue holds.
+fn copy<N: Names, R: Wait>(rt: &R, desk: &Desk<N>, worker: &mut Worker<N>) -> Result<Copied, Quit> {
+    let (aseq, items) = peek(rt, desk, worker.agent.cpu())?;
+    let delta = worker.copied(items.as_slice())?;
+    Ok(Copied {
+        aseq,
+        items: items.len() as u32,
+        delta,
+    })
+}
+
+/// Tells the others what the agent copied, where that tells anything.
+fn tell_peers<N: Names, R: Wait>(
+    rt: &R,
+    desk: &Desk<N>,
+    worker: &Worker<N>,
+    delta: Delta,
+) -> Result<(), Quit> {
+    if delta.parts().is_empty() {
+        return Ok(());
+    }
+    let delta = Arc::new(desk.alloc, delta)?;
+    desk.channels
+        .tell_peers(rt, worker.agent.cpu(), &delta, worker.agent.view())
+}
+
 /// Copies all that the agent's queue holds and sends it; answers the count of posts that it read.
 fn publish<N: Names, R: Wait, G: Gate>(
     rt: &R,
@@ -63,16 +101,50 @@ fn publish<N: Names, R: Wait, G: Gate>(
     desk: &Desk<N>,
     worker: &mut Worker<N>,
 ) -> Result<u32, Quit> {
-    let cpu = worker.agent.cpu();
-    let (aseq, items) = peek(rt, desk, cpu)?;
-    let delta = worker.copied(items.as_slice())?;
-    pass(gate, cpu, Point::Copied)?;
-    if !delta.parts().is_empty() {
-        desk.channels.tell_peers(rt, cpu, &Arc::new(desk.alloc, delta)?, worker.agent.view())?;
-    }
-    pass(gate, cpu, Point::Sent)?;
-    worker.sent(items.len() as u32);
+    let Copied { aseq, items, delta } = copy(rt, desk, worker)?;
+    pass(gate, worker.agent.cpu(), Point::Copied)?;
+    tell_peers(rt, desk, worker, delta)?;
+    pass(gate, worker.agent.cpu(), Point::Sent)?;
+    worker.sent(items);
     Ok(aseq)
+}
+
+/// Takes in all that others have learnt.
+fn take_news<N: Names, R: Wait>(rt: &R, inbox: &Inbox, worker: &mut Worker<N>) -> Result<(), Quit> {
+    for delta in inbox.take_news(rt) {
+        worker.deliver(&delta)?;
+    }
+    Ok(())
+}
+
+/// Answers the CPU's agent what it lacks, by what it knows.
+fn answer<N: Names, R: Wait>(
+    rt: &R,
+    desk: &Desk<N>,
+    worker: &mut Worker<N>,
+    asker: Cpu,
+    digest: &Digest,
+) -> Result<(), Quit> {
+    let cpu = worker.agent.cpu();
+    let mut wire = InboxWire::new(rt, desk.alloc, desk.channels.of(asker)?, cpu);
+    worker.agent.answer(digest, &mut wire)?;
+    Ok(())
+}
+
+/// Takes what was received, and answers whether it was the last.
+fn take<N: Names, R: Wait>(
+    rt: &R,
+    desk: &Desk<N>,
+    worker: &mut Worker<N>,
+    received: Received,
+) -> Result<bool, Quit> {
+    match received {
+        Received::Nothing => {}
+        Received::Delta(delta) => worker.deliver(&delta)?,
+        Received::Digest(asker, digest) => answer(rt, desk, worker, asker, &digest)?,
+        Received::End => return Ok(true),
+    }
+    Ok(false)
 }
 
 /// Takes one note, behind all news, and answers whether it was the last one.
@@ -81,24 +153,68 @@ fn take_note<N: Names, R: Wait>(
     desk: &Desk<N>,
     worker: &mut Worker<N>,
 ) -> Result<bool, Quit> {
-    let cpu = worker.agent.cpu();
-    let inbox = desk.channels.of(cpu)?;
+    let inbox = desk.channels.of(worker.agent.cpu())?;
     let received = inbox.take(rt)?;
-    for delta in inbox.take_news(rt) {
-        worker.deliver(&delta)?;
+    take_news(rt, inbox, worker)?;
+    take(rt, desk, worker, received)
+}
+
+/// Begins a turn: restarts where the agent is to, and publishes; answers the count of posts that it read.
+fn begin<N: Names, R: Wait, G: Gate>(
+    rt: &R,
+    gate: &G,
+    desk: &Desk<N>,
+    worker: &mut Worker<N>,
+    restarts: bool,
+) -> Result<u32, Quit> {
+    pass(gate, worker.agent.cpu(), Point::Turn)?;
+    if restarts {
+        restart(rt, desk, worker)?;
     }
-    match received {
-        Received::Nothing => Ok(false),
-        Received::Delta(delta) => {
-            worker.deliver(&delta)?;
-            Ok(false)
-        }
-        Received::Digest(asker, digest) => {
-            let mut wire = InboxWire::new(rt, desk.alloc, desk.channels.of(asker)?, cpu);
-            worker.agent.answer(&digest, &mut wire)?;
-            Ok(false)
-        }
-        Received::End => Ok(true),
+    publish(rt, gate, desk, worker)
+}
+
+/// Does what the agent does in one section of the lock.
+fn act<N: Names, R: Wait>(
+    rt: &R,
+    desk: &Desk<N>,
+    worker: &mut Worker<N>,
+    aseq: u32,
+) -> Result<Acted, Quit> {
+    match desk.tallied.lock(rt).act(worker, aseq) {
+        Ok(acted) => Ok(acted),
+        Err(fault) => Err(Quit::from(fault)),
+    }
+}
+
+/// Tells the driver what was committed, and asks the others for what the agent lacks.
+fn report<N: Names, R: Wait>(
+    rt: &R,
+    desk: &Desk<N>,
+    worker: &mut Worker<N>,
+    acted: Acted,
+) -> Result<(), Quit> {
+    if acted.committed {
+        desk.channels
+            .report(rt, Notice::Committed(worker.agent.cpu().index()))?;
+    }
+    if acted.lacks {
+        ask_peers(rt, desk, worker)?;
+    }
+    Ok(())
+}
+
+/// Publishes what came behind the last turn, and removes it.
+fn finish<N: Names, R: Wait, G: Gate>(
+    rt: &R,
+    gate: &G,
+    desk: &Desk<N>,
+    worker: &mut Worker<N>,
+) -> Result<(), Quit> {
+    publish(rt, gate, desk, worker)?;
+    match desk.tallied.lock(rt).consume(worker) {
+        Ok(_) => Ok(()),
+        Err(fault) => Err(Quit::from(fault)),
     }
 }
 
@@ -110,26 +226,30 @@ fn turn<N: Names, R: Wait, G: Gate>(
     worker: &mut Worker<N>,
     restarts: bool,
 ) -> Result<bool, Quit> {
-    let cpu = worker.agent.cpu();
-    pass(gate, cpu, Point::Turn)?;
-    if restarts {
-        restart(rt, desk, worker)?;
-    }
-    let aseq = publish(rt, gate, desk, worker)?;
-    let acted = desk.tallied.lock(rt).act(worker, aseq)?;
-    pass(gate, cpu, Point::Answered)?;
-    if acted.committed {
-        desk.channels.report(rt, Notice::Committed(cpu.index()))?;
-    }
-    if acted.lacks {
-        ask_peers(rt, desk, worker)?;
-    }
+    let aseq = begin(rt, gate, desk, worker, restarts)?;
+    let acted = act(rt, desk, worker, aseq)?;
+    pass(gate, worker.agent.cpu(), Point::Answered)?;
+    report(rt, desk, worker, acted)?;
     if !acted.asleep || !take_note(rt, desk, worker)? {
         return Ok(false);
     }
-    publish(rt, gate, desk, worker)?;
-    desk.tallied.lock(rt).consume(worker)?;
+    finish(rt, gate, desk, worker)?;
     Ok(true)
+}
+
+/// Whether the CPU's agent restarts before its turn with this number. Where it does for the last time, it is woken for
+/// each news no more.
+fn restarts_before<N: Names>(
+    config: &Config,
+    desk: &Desk<N>,
+    cpu: Cpu,
+    number: u32,
+) -> Result<bool, Quit> {
+    let restarts = restarts_at(config, cpu, number);
+    if restarts && !restarts_later(config, cpu, number) {
+        desk.channels.of(cpu)?.restarts_no_more();
+    }
+    Ok(restarts)
 }
 
 /// Turn after turn, until the agent is told to end, or the run is given up.
@@ -140,17 +260,13 @@ fn turns<N: Names, R: Wait, G: Gate>(
     desk: &Desk<N>,
     worker: &mut Worker<N>,
 ) -> Result<(), Quit> {
-    let cpu = worker.agent.cpu();
     let mut number: u32 = 0;
     for _ in rt.forever() {
         if desk.channels.is_given_up() {
             return Err(Quit::GaveUp);
         }
         number = number.saturating_add(1);
-        let restarts = restarts_at(config, cpu, number);
-        if restarts && !restarts_later(config, cpu, number) {
-            desk.channels.of(cpu)?.restarts_no_more();
-        }
+        let restarts = restarts_before(config, desk, worker.agent.cpu(), number)?;
         if turn(rt, gate, desk, worker, restarts)? {
             return Ok(());
         }
