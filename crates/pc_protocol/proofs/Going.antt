@@ -32,7 +32,7 @@ nothing_or_not (reply.Refused why) = inr (λ e. cc)
 nothing_or_not other = inr (λ e. cc)
 
 -- a steal is replied the thread that it took, or a refusal
-abbrev StealTells : Reply → Type 0
+abbrev pub StealTells : Reply → Type 0
 StealTells told = ((queue : ℕ) × (thread : ℕ) × (told ≡ reply.Associated queue thread)) ⊎ ((why : Refusal) × (told ≡ reply.Refused why))
 
 module _ (w new : PlainWorld) (c : ℕ) (told : Reply) where
@@ -52,7 +52,7 @@ module _ (w new : PlainWorld) (c : ℕ) (told : Reply) where
   by_there true h = by_busy (is_some (on (shown w.kernel) c)) h
   by_there false h = inr (refusal.BadCpu, h.refused)
 
-  steal_tells : Step w (event.Steal c) told new → StealTells told
+  pub steal_tells : Step w (event.Steal c) told new → StealTells told
   steal_tells step = by_there (is_cpu (shown w.kernel) c) step
 
 -- some list of events that is an act

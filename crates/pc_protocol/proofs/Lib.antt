@@ -13,6 +13,9 @@ pub mod Quieting
 pub mod Resting
 pub mod Going
 pub mod Worked
+pub mod Turning
+pub mod Seated
+pub mod Doing
 pub mod Coming
 pub mod Posts
 pub mod Driving

@@ -4,3 +4,9 @@
 pub mod Protocol
 pub mod Resting
 pub mod Running
+pub mod Listing
+pub mod Seats
+pub mod Turning
+pub mod Manning
+pub mod Following
+pub mod Machine

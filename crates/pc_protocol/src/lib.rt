@@ -5,8 +5,14 @@
 //! Agents that start again are not among these, nor sends that are refused. That the threads of a program do these
 //! steps, and no others, is not proved; nor that they are scheduled, and that what they send arrives.
 //!
-//! Nothing is called here: the crate has laws alone.
+//! `Protocol` is the machine as a value: each of its calls is a step of the machine, so each law holds of it.
 #![tactic(auto)]
+
+mod machine;
+mod question;
+mod seats;
+mod steps;
+mod turns;
 
 ghost use Rattle.pc_world.specs.Inner.Laws.{KernelLaws};
 ghost use Rattle.pc_protocol.specs.Resting.{AgentsGoOn, AtRestAllIsHeld, AtRestItsThreadsAreKnown};
@@ -15,6 +21,7 @@ ghost use Rattle.pc_protocol.specs.Resting.{RestCanCome, SleepersHaveNothing, So
 ghost use Rattle.pc_protocol.specs.Resting.{WhoWaitsHasNoStep};
 ghost use Rattle.pc_protocol.specs.Running.{DriversGoOn, DriversWake, RestIsDone, RunsGoOn, SomeRunIsOver};
 
+pub use machine::{Protocol, StepFault};
 use pc_kernel::laws::{
     accepted_associates_are_exact, accepted_commits_are_exact, calls_extend_the_run,
     homes_are_there, messages_are_posted, messages_stay_home, queues_go_on,
@@ -23,9 +30,10 @@ use pc_kernel::laws::{
 };
 use pc_view::upto_is_the_greatest;
 use pc_world::laws::every_event_has_a_step;
+pub use turns::Told;
 
 /// The laws of the kernel.
-fn kernel_laws()
+pub(crate) fn kernel_laws()
     ensures { KernelLaws }
 {
     messages_stay_home();

@@ -1,0 +1,15 @@
+use Rattle.std.proofs.Common.{◌≡◌, ◌<◌, length, Some, slice_get, subst, arith}
+use Rattle.pc_protocol.proofs.Doing.{has_begun}
+use Rattle.pc_protocol.proofs.Seated.{seat_at}
+use Rattle.pc_protocol.proofs.machine.Protocol.begins.Goals as goal
+
+pub returns : goal.returns
+returns c =
+    let seats = c.args.self.now.seats.items in
+    let seat = c.index.result.now in
+    let below = c.if-place-len.false in
+    let many = c.len.ensures in
+    let ok = c.args.self.now.seats.ok in
+    let low : c.index-place.result < length seats = omega arith in
+    let there = subst (λ d. slice_get seats d ≡ Some seat) c.index-place.ensures (seat_at seats c.index-place.result seat seat low c.index.ensures) in
+    has_begun c.args.self.now c.args.cpu seat c.begins.result there c.begins.ensures

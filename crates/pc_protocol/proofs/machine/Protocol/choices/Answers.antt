@@ -1,0 +1,16 @@
+use Rattle.std.proofs.Common.{◌≡◌, ◌∙◌, ◌<◌, length, Some, slice_get, ap, subst, sym, arith}
+use Rattle.pc_protocol.specs.Seats.{choices_of}
+use Rattle.pc_protocol.proofs.Doing.{has_choices}
+use Rattle.pc_protocol.proofs.Seated.{seat_at}
+use Rattle.pc_protocol.proofs.machine.Protocol.choices.Goals as goal
+
+pub returns-clause-some : goal.returns-clause-some
+returns-clause-some c =
+    let seats = c.args.self.now.seats.items in
+    let seat = c.index.result.now in
+    let below = c.if-place-len.false in
+    let many = c.len.ensures in
+    let ok = c.args.self.now.seats.ok in
+    let low : c.index-place.result < length seats = omega arith in
+    let there = subst (λ d. slice_get seats d ≡ Some seat) c.index-place.ensures (seat_at seats c.index-place.result seat seat low c.index.ensures) in
+    has_choices c.args.self.now c.args.cpu c.choices.result c.args.self.now.manned (c.choices.ensures ∙ sym (ap choices_of there))
