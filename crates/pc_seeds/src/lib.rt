@@ -1,0 +1,11 @@
+//! Runs of agents in one thread, whose schedule a seed draws: the same seed gives the same run on every machine (own).
+//!
+//! Agents work by the protocol of `pc_protocol`, step by step; the driver and the report are those of a run in threads.
+#![tactic(auto)]
+
+mod draws;
+mod driver;
+mod listed;
+mod runs;
+
+pub use runs::{SeedFault, Stall, run_by_seed};
