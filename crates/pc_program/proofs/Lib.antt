@@ -1,6 +1,7 @@
 pub mod Commands
 pub mod FirstWord
 pub mod NumbersWritten
+pub mod OneNumber
 pub mod Reporting
 pub mod Running
 pub mod Scripting

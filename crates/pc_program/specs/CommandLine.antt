@@ -56,16 +56,22 @@ drawing =
 abbrev pub limit : Rule
 limit = record (option (codes "limit")) { parser = Some (Unsigned 0 4294967295) }
 
--- run [FILE] [--per-cpu] [--draw] [--limit SECONDS] [--script FILE] [--policy NAME]
+-- --seed NUMBER
+abbrev pub seed : Rule
+seed = record (option (codes "seed")) { parser = Some (Unsigned 0 18446744073709551615) }
+
+-- run [FILE] [--per-cpu] [--draw] [--limit SECONDS] [--script FILE] [--policy NAME] [--seed NUMBER]
 abbrev pub run : App
 run =
     with_rule
     (with_rule
     (with_rule
+    (with_rule
     (with_rule (with_rule (of_file (codes "run")) (counted_flag (codes "per-cpu"))) (flag (codes "draw")))
     limit)
     (option (codes "script")))
-    (option (codes "policy"))
+    (option (codes "policy")))
+    seed
 
 -- session [FILE] [--explain]
 abbrev pub session : App
@@ -129,14 +135,22 @@ IsReportForm Totals rows = (IsSet (codes "draw") rows → ⊥) × (count_of (cod
 IsReportForm EachCpu rows = (IsSet (codes "draw") rows → ⊥) × (count_of (codes "per-cpu") rows ≡ 1)
 IsReportForm EachRefusal rows = (IsSet (codes "draw") rows → ⊥) × (1 < count_of (codes "per-cpu") rows)
 
+-- the number of at most so many bits that an option's word spells, if it spells one
+abbrev pub IsNumber : (bits : ℕ) → Option Text → Option ℕ → Type 0
+IsNumber bits None given = given ≡ None
+IsNumber bits (Some word) (Some number) =
+    IsNumeral 10 (without_leading_plus word) × (digits_value 10 (without_leading_plus word) < 2 ^ bits)
+    × (number ≡ digits_value 10 (without_leading_plus word))
+IsNumber bits (Some word) None =
+    IsNumeral 10 (without_leading_plus word) × (digits_value 10 (without_leading_plus word) < 2 ^ bits) → ⊥
+
 -- the number of seconds that an option's word spells, if it spells one
 abbrev pub IsLimit : Option Text → Option ℕ → Type 0
-IsLimit None given = given ≡ None
-IsLimit (Some word) (Some seconds) =
-    IsNumeral 10 (without_leading_plus word) × (digits_value 10 (without_leading_plus word) < 2 ^ 32)
-    × (seconds ≡ digits_value 10 (without_leading_plus word))
-IsLimit (Some word) None =
-    IsNumeral 10 (without_leading_plus word) × (digits_value 10 (without_leading_plus word) < 2 ^ 32) → ⊥
+IsLimit word seconds = IsNumber 32 word seconds
+
+-- the seed that an option's word spells, if it spells one
+abbrev pub IsSeed : Option Text → Option ℕ → Type 0
+IsSeed word given = IsNumber 64 word given
 
 -- the numbers that the word behind an option spells: all where there is no word
 abbrev pub IsSpelled : Option Text → Option Interval → Type 0
@@ -195,10 +209,11 @@ IsAsked (Some met) (Replay given) = IsOf (codes "replay") (option_map string_byt
 IsAsked (Some met) (Explain given) = IsOf (codes "explain") (option_map string_bytes given) met
 IsAsked (Some met) (Draw given part axis) =
     IsOf (codes "draw") (option_map string_bytes given) met × IsPart part met.1 × IsAxis axis met.1
-IsAsked (Some met) (Run given form seconds policy script) =
+IsAsked (Some met) (Run given form seconds policy script drawn_by) =
     IsOf (codes "run") (option_map string_bytes given) met × IsReportForm form met.1
     × IsLimit (one_of (codes "limit") met.1) seconds × IsPolicy (first_of (codes "policy") met.1) policy
     × (option_map string_bytes script ≡ first_of (codes "script") met.1)
+    × IsSeed (one_of (codes "seed") met.1) drawn_by
 IsAsked (Some met) (Session given explains) =
     IsOf (codes "session") (option_map string_bytes given) met × (IsTrue explains ↔ IsSet (codes "explain") met.1)
 IsAsked (Some met) (Lab given variants each csv picture script) =

@@ -65,11 +65,13 @@ ending_of_run (run.GaveUp cpu) = Run why.GaveUp
 ending_of_run run.TimeUp = Run why.GaveUp
 ending_of_run run.StartFailed = CannotStart
 ending_of_run run.OutOfMemory = OutOfMemory
+ending_of_run run.Unaccounted = Run why.Unaccounted
 
 -- how it ends after a run by a settings text
 abbrev pub ending_of_run_text : RunTextFault → Ending
 ending_of_run_text (text.Settings fault) = ending_of_settings fault
 ending_of_run_text (text.Run fault) = ending_of_run fault
+ending_of_run_text (text.Stalled stall) = Run (why.Stalled stall)
 ending_of_run_text text.Write = CannotRead failure.Write
 
 -- how it ends after the script of a run and its report were written: a write that failed is told before want of memory
@@ -123,6 +125,8 @@ unsettled_message why.Audit = codes "pc-sim: run Audit"
 unsettled_message why.Incomplete = codes "pc-sim: run Incomplete"
 unsettled_message why.Driver = codes "pc-sim: run Driver"
 unsettled_message why.GaveUp = codes "pc-sim: run GaveUp"
+unsettled_message why.Unaccounted = codes "pc-sim: run Unaccounted"
+unsettled_message (why.Stalled stall) = codes "pc-sim: run Stalled"
 
 -- what it says on standard error
 abbrev pub message_of : Ending → Option (List ℕ)

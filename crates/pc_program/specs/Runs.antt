@@ -6,7 +6,7 @@ use Rattle.pc_threads.specs.Settings.{first_fault}
 use Rattle.pc_threads.specs.declared.report.LoadReport.{LoadReport}
 use Rattle.pc_settings.specs.SettingsText.{Reads, SpellsSettings, faults_in, settings_in}
 use Rattle.pc_program.specs.declared.run_text.RunTextFault.{RunTextFault}
-use Rattle.pc_program.specs.declared.run_text.RunTextFault.TheVariants.{Run, Settings, Write}
+use Rattle.pc_program.specs.declared.run_text.RunTextFault.TheVariants.{Run, Settings, Stalled, Write}
 
 -- the text spells settings without fault, and all was done that they ask for
 abbrev pub DoesWhatIsSpelled : Option Members → LoadReport → Type 0
@@ -18,4 +18,5 @@ DoesWhatIsSpelled None report = ⊥
 abbrev pub IsTextsFault : Option Members → RunTextFault → Type 0
 IsTextsFault text (Settings fault) = Reads text (Err fault)
 IsTextsFault text (Run fault) = SpellsSettings text
+IsTextsFault text (Stalled stall) = SpellsSettings text
 IsTextsFault text Write = SpellsSettings text

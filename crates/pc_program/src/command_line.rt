@@ -8,8 +8,8 @@ ghost use Rattle.clap.specs.Simple.{subcommand_of, subcommand_rows_of};
 ghost use Rattle.clap.specs.Faults.{fault_of};
 ghost use Rattle.clap.specs.Matches.{found_of};
 ghost use Rattle.pc_program.specs.CommandLine.{IsAsked, IsAxis, IsCommandMet, IsInput, IsLimit, IsNoPart, IsPart};
-ghost use Rattle.pc_program.specs.CommandLine.{IsFrom, IsNoPolicy, IsPolicy, IsRefusal, IsReportForm, IsSpelled};
-ghost use Rattle.pc_program.specs.CommandLine.{IsUnnamed, IsUnread, NamesNone, pc_sim};
+ghost use Rattle.pc_program.specs.CommandLine.{IsFrom, IsNoPolicy, IsPolicy, IsRefusal, IsReportForm, IsSeed};
+ghost use Rattle.pc_program.specs.CommandLine.{IsSpelled, IsUnnamed, IsUnread, NamesNone, pc_sim};
 ghost use Rattle.pc_program.specs.Inner.FirstWord.{first_word};
 
 mod parsers;
@@ -44,7 +44,7 @@ pub enum ProgramCommand {
         /// What goes to the right.
         axis: Axis,
     },
-    /// Run agents in threads by settings.
+    /// Run agents by settings, in threads or by a seed.
     Run {
         file: Option<String>,
         /// How the report is told.
@@ -55,6 +55,8 @@ pub enum ProgramCommand {
         policy: PolicyName,
         /// The file into which the run's calls are written as a script.
         script: Option<String>,
+        /// What draws whose step is next, where the agents run in one thread.
+        seed: Option<u64>,
     },
     /// Answer commands as they come.
     Session {
@@ -205,6 +207,7 @@ fn run_of(
         limit: limit_of(met),
         policy,
         script,
+        seed: seed_of(met),
     })
 }
 
@@ -326,6 +329,13 @@ fn limit_of(matches: &ArgMatches<'_>) -> Option<u32>
     ensures { IsLimit (one_of (codes "limit") (rows_of (found_of matches.now))) result }
 {
     matches.get_one::<u32>("limit")
+}
+
+/// What draws whose step is next in a run.
+fn seed_of(matches: &ArgMatches<'_>) -> Option<u64>
+    ensures { IsSeed (one_of (codes "seed") (rows_of (found_of matches.now))) result }
+{
+    matches.get_one::<u64>("seed")
 }
 
 /// The policy that a word of the command line names.

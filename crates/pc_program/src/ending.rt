@@ -7,6 +7,7 @@ ghost use Rattle.pc_program.specs.Endings.{unsettled_message};
 
 use crate::run_text::RunTextFault;
 use pc_script::{Conversed, Outcome, ScriptFault};
+use pc_seeds::Stall;
 use pc_settings::SettingsFault;
 use pc_threads::{ConfigFault, RunFault};
 
@@ -76,6 +77,10 @@ pub enum Unsettled {
     Driver,
     /// An agent gave the run up, or it was given up at its deadline.
     GaveUp,
+    /// The calls, or what the agents counted, do not come to what the settings ask for.
+    Unaccounted,
+    /// This thread waits in a run by a seed, and no agent has a step left.
+    Stalled(Stall),
 }
 
 impl Ending {
@@ -167,6 +172,8 @@ impl Unsettled {
             Unsettled::Incomplete => "pc-sim: run Incomplete",
             Unsettled::Driver => "pc-sim: run Driver",
             Unsettled::GaveUp => "pc-sim: run GaveUp",
+            Unsettled::Unaccounted => "pc-sim: run Unaccounted",
+            Unsettled::Stalled(_) => "pc-sim: run Stalled",
         }
     }
 }
@@ -213,6 +220,7 @@ impl From<RunFault> for Ending {
             RunFault::GaveUp(_) | RunFault::TimeUp => Ending::Run(Unsettled::GaveUp),
             RunFault::StartFailed => Ending::CannotStart,
             RunFault::OutOfMemory => Ending::OutOfMemory,
+            RunFault::Unaccounted => Ending::Run(Unsettled::Unaccounted),
         }
     }
 }
@@ -227,6 +235,7 @@ impl From<RunTextFault> for Ending {
         match fault {
             RunTextFault::Settings(fault) => Ending::from(fault),
             RunTextFault::Run(fault) => Ending::from(fault),
+            RunTextFault::Stalled(stall) => Ending::Run(Unsettled::Stalled(stall)),
             RunTextFault::Write => Ending::CannotRead(Failure::Write),
         }
     }

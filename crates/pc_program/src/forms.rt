@@ -14,10 +14,9 @@ ghost use Rattle.pc_program.specs.Programs.{IsAnswered, IsDrawn, IsMade, IsRepor
 use crate::ending::{Ending, Failure};
 use crate::progress::Progress;
 use crate::report::ReportForm;
-use crate::run_text::run_config;
+use crate::run_text::{Scheduling, run_config};
 use pc_draw::{Axis, DrawnPart, draw_script};
 use pc_explain::explain_script;
-use pc_policy::AgentPolicy;
 use pc_script::{Outcome, ScriptFault};
 use pc_session::Session;
 use std::alloc::Global;
@@ -164,7 +163,7 @@ pub fn run_flushed<R: Threads + Wait + Clock + Sync, S: Write + Copy + Sync, W: 
     rt: &R,
     alloc: Global,
     text: &str,
-    policy: AgentPolicy,
+    scheduling: Scheduling,
     form: ReportForm,
     progress: &Progress<S>,
     writer: &mut BufWriter<W>,
@@ -173,7 +172,7 @@ pub fn run_flushed<R: Threads + Wait + Clock + Sync, S: Write + Copy + Sync, W: 
         (writer_contents W.contents writer.new) result }
     ensures flushed { (result ≡ Ending.CannotRead Failure.Write) ⊎ (writer_buffer writer.new ≡ []) }
 {
-    match run_config(rt, alloc, text, policy, form, progress, writer) {
+    match run_config(rt, alloc, text, scheduling, form, progress, writer) {
         Ok(_report) => flushed(writer, Ending::Finished),
         Err(fault) => flushed(writer, Ending::from(fault)),
     }

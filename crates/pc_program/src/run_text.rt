@@ -1,16 +1,17 @@
-//! A run of agents in threads, from a settings text to the text of its report.
+//! A run of agents, in threads or by a seed, from a settings text to the text of its report.
 
 ghost use Rattle.std.specs.Prelude.{◌≡◌, ◌≢◌, IfErr, IfOk};
 ghost use Rattle.toml.specs.Parse.{parse_document};
-ghost use Rattle.pc_threads.specs.Reports.{AddsUp, TellsItsBook};
+ghost use Rattle.pc_threads.specs.Reports.{AddsUp, DoesAll, TellsItsBook};
 ghost use Rattle.pc_program.specs.ReportText.{IsReport};
 ghost use Rattle.pc_program.specs.Runs.{DoesWhatIsSpelled, IsTextsFault};
 
 use crate::progress::Progress;
 use crate::report::{ReportForm, write_report};
 use pc_policy::AgentPolicy;
+use pc_seeds::{SeedFault, Stall, run_by_seed};
 use pc_settings::{SettingsFault, read_config};
-use pc_threads::{LoadReport, RunFault, run_agents_by};
+use pc_threads::{Config, Gate, LoadReport, RunFault, run_agents_by};
 use std::alloc::Global;
 use std::io::Write;
 use std::sync::Wait;
@@ -27,18 +28,51 @@ pub enum RunTextFault {
     /// The run met a fault.
     #[error(transparent)]
     Run(RunFault),
+    /// The run was one by a seed, and nobody has a step left, while a thread lives.
+    #[error("{0:?} is stalled")]
+    Stalled(Stall),
     /// The report could not be written.
     #[error("the report cannot be written")]
     Write,
 }
 
-/// Reads the settings, and runs agents in threads as they ask, all by this policy. Nothing is written but what the
-/// progress tells.
+/// What agents of a run go by, and who says whose step is next (own).
+#[derive(Debug, Drop)]
+pub struct Scheduling {
+    /// What every agent goes by.
+    pub policy: AgentPolicy,
+    /// What draws whose step is next, where all run in one thread; none: each agent runs in a thread of its own.
+    pub seed: Option<u64>,
+}
+
+/// Runs the agents of the settings, scheduled so.
+fn run_scheduled<R: Threads + Wait + Clock + Sync, S: Write + Copy + Sync>(
+    rt: &R,
+    alloc: Global,
+    config: &Config,
+    scheduling: Scheduling,
+    progress: &Progress<S>,
+) -> Result<LoadReport, SeedFault>
+    ensures tells { IfOk result TellsItsBook }
+    ensures adds_up { IfOk result AddsUp }
+    ensures all { IfOk result (DoesAll config.now) }
+{
+    let Scheduling { policy, seed } = scheduling;
+    match seed {
+        Some(seed) => run_by_seed(rt, alloc, config, &policy, seed, progress.deadline()),
+        None => match run_agents_by(rt, alloc, config, policy, progress) {
+            Ok(report) => Ok(report),
+            Err(fault) => Err(SeedFault::Run(fault)),
+        },
+    }
+}
+
+/// Reads the settings, and runs agents as they ask, scheduled so. Nothing is written but what the progress tells.
 pub(crate) fn run_settings<R: Threads + Wait + Clock + Sync, S: Write + Copy + Sync>(
     rt: &R,
     alloc: Global,
     text: &str,
-    policy: AgentPolicy,
+    scheduling: Scheduling,
     progress: &Progress<S>,
 ) -> Result<LoadReport, RunTextFault>
     ensures tells { IfOk result TellsItsBook }
@@ -52,25 +86,26 @@ pub(crate) fn run_settings<R: Threads + Wait + Clock + Sync, S: Write + Copy + S
         Err(fault) => return Err(RunTextFault::Settings(fault)),
     };
     progress.begin(config.threads().len());
-    let ended = run_agents_by(rt, alloc, &config, policy, progress);
+    let ended = run_scheduled(rt, alloc, &config, scheduling, progress);
     progress.end();
     match ended {
         Ok(report) => Ok(report),
-        Err(fault) => Err(RunTextFault::Run(fault)),
+        Err(SeedFault::Run(fault)) => Err(RunTextFault::Run(fault)),
+        Err(SeedFault::Stalled(stall)) => Err(RunTextFault::Stalled(stall)),
     }
 }
 
-/// Reads the settings, runs agents in threads as they ask, all by this policy, and writes the report. The progress
-/// tells meanwhile how far the run is, and says when it is given up.
+/// Reads the settings, runs agents as they ask, scheduled so, and writes the report. The progress says when the run is
+/// given up, and of a run in threads tells meanwhile how far it is.
 ///
-/// Faults of the settings come first (`Settings`), then those of the run (`Run`), then `Write`, from the first write
-/// that fails: the report may then be written in part. Nothing is flushed. Without a deadline it may wait without end,
-/// as a run may.
+/// Faults of the settings come first (`Settings`), then those of the run (`Run`, and by a seed `Stalled`), then
+/// `Write`, from the first write that fails: the report may then be written in part. Nothing is flushed. Without a
+/// deadline it may wait without end, as a run in threads may.
 pub fn run_config<R: Threads + Wait + Clock + Sync, S: Write + Copy + Sync, W: Write>(
     rt: &R,
     alloc: Global,
     text: &str,
-    policy: AgentPolicy,
+    scheduling: Scheduling,
     form: ReportForm,
     progress: &Progress<S>,
     writer: &mut W,
@@ -82,7 +117,7 @@ pub fn run_config<R: Threads + Wait + Clock + Sync, S: Write + Copy + Sync, W: W
     ensures settings { IfErr result (IsTextsFault (parse_document text.now)) }
     ensures unwritten { IfErr result (λ fault. fault ≢ RunTextFault.Write → writer.new ≡ writer.old) }
 {
-    let report = match run_settings(rt, alloc, text, policy, progress) {
+    let report = match run_settings(rt, alloc, text, scheduling, progress) {
         Ok(report) => report,
         Err(fault) => return Err(fault),
     };

@@ -11,8 +11,7 @@ use crate::ending::{Ending, Failure};
 use crate::forms::flushed;
 use crate::progress::Progress;
 use crate::report::{ReportForm, write_report};
-use crate::run_text::run_settings;
-use pc_policy::AgentPolicy;
+use crate::run_text::{Scheduling, run_settings};
 use pc_report::{TranscriptFault, write_transcript};
 use pc_threads::LoadReport;
 use std::alloc::Global;
@@ -53,7 +52,7 @@ fn run_both<R: Threads + Wait + Clock + Sync, S: Write + Copy + Sync, V: Write, 
     rt: &R,
     alloc: Global,
     text: &str,
-    policy: AgentPolicy,
+    scheduling: Scheduling,
     form: ReportForm,
     progress: &Progress<S>,
     script: &mut V,
@@ -62,7 +61,7 @@ fn run_both<R: Threads + Wait + Clock + Sync, S: Write + Copy + Sync, V: Write, 
     ensures { IsScripted (parse_document text.now) form (V.contents script.old) (V.contents script.new)
         (W.contents writer.old) (W.contents writer.new) result }
 {
-    match run_settings(rt, alloc, text, policy, progress) {
+    match run_settings(rt, alloc, text, scheduling, progress) {
         Ok(report) => write_both(alloc, &report, form, script, writer),
         Err(fault) => Ending::from(fault),
     }
@@ -97,7 +96,7 @@ pub fn run_scripted<
     rt: &R,
     alloc: Global,
     text: &str,
-    policy: AgentPolicy,
+    scheduling: Scheduling,
     form: ReportForm,
     progress: &Progress<S>,
     script: &mut BufWriter<V>,
@@ -109,6 +108,6 @@ pub fn run_scripted<
     ensures flushed { (result ≡ Ending.CannotRead Failure.Write)
         ⊎ ((writer_buffer script.new ≡ []) × (writer_buffer writer.new ≡ [])) }
 {
-    let ending = run_both(rt, alloc, text, policy, form, progress, script, writer);
+    let ending = run_both(rt, alloc, text, scheduling, form, progress, script, writer);
     both_flushed(script, writer, ending)
 }

@@ -1,6 +1,6 @@
 //! `pc-sim`: replays scripts of events on the kernel model and its agents, explains or draws them, answers commands as
-//! they come, runs agents in threads, or tries loads of the lab. What it does is the libraries', `pc_program` and
-//! `pc_trial`; here are the words, files and streams of the machine that it runs on.
+//! they come, runs agents in threads or by a seed, or tries loads of the lab. What it does is the libraries',
+//! `pc_program` and `pc_trial`; here are the words, files and streams of the machine that it runs on.
 #![tactic(auto)]
 
 mod lab;
@@ -12,7 +12,7 @@ mod words;
 use lab::try_on_machine;
 use met::{Met, Source, say_failure};
 use pc_program::{
-    AgentPolicy, CommandFault, Ending, Failure, Manual, ProgramCommand, ScriptForm,
+    AgentPolicy, CommandFault, Ending, Failure, Manual, ProgramCommand, Scheduling, ScriptForm,
     converse_flushed, make_flushed, read_command, replay_flushed,
 };
 use pc_script::MOST_BYTES;
@@ -222,10 +222,12 @@ fn main(rt: HostRuntime) -> ExitCode {
                 limit,
                 policy,
                 script,
+                seed,
             },
         ) => {
             let policy = AgentPolicy::named(policy);
-            run_on_machine(&rt, &rt, file, form, limit, policy, script)
+            let scheduling = Scheduling { policy, seed };
+            run_on_machine(&rt, &rt, file, form, limit, scheduling, script)
         }
         Err(met) => end(&rt, &met, &Source(None), MOST_BYTES),
     }

@@ -1,11 +1,12 @@
-//! The command that runs agents in threads: its settings, its screen, its limit, and the file of its calls.
+//! The command that runs agents, in threads or by a seed: its settings, its screen, its limit, and the file of its
+//! calls.
 
 use crate::end;
 use crate::met::{Met, Source};
 use crate::streams::{Noted, screen_of};
 use pc_program::{
-    AgentPolicy, Ending, MOST_SETTINGS, Progress, ReportForm, SoFar, read_settings, run_flushed,
-    run_scripted, write_trouble,
+    Ending, MOST_SETTINGS, Progress, ReportForm, Scheduling, SoFar, Unsettled, read_settings,
+    run_flushed, run_scripted, write_trouble,
 };
 use std::alloc::Global;
 use std::fs::File;
@@ -48,7 +49,7 @@ fn run_settings<R: Threads + Wait + Clock + Sync, S: Write + Copy + Sync, W: Wri
     rt: &R,
     alloc: Global,
     text: &str,
-    policy: AgentPolicy,
+    scheduling: Scheduling,
     form: ReportForm,
     progress: &Progress<S>,
     writer: W,
@@ -56,7 +57,7 @@ fn run_settings<R: Threads + Wait + Clock + Sync, S: Write + Copy + Sync, W: Wri
     let Ok(mut writer) = BufWriter::new(alloc, Noted::new(writer)) else {
         return Met::ended(Ending::OutOfMemory);
     };
-    let ending = run_flushed(rt, alloc, text, policy, form, progress, &mut writer);
+    let ending = run_flushed(rt, alloc, text, scheduling, form, progress, &mut writer);
     Met::of(ending, writer.get_ref().fault())
 }
 
@@ -81,7 +82,7 @@ fn run_with_script<R: Threads + Wait + Clock + Sync, S: Write + Copy + Sync, W: 
     rt: &R,
     alloc: Global,
     text: &str,
-    policy: AgentPolicy,
+    scheduling: Scheduling,
     form: ReportForm,
     progress: &Progress<S>,
     script: ScriptFile,
@@ -98,7 +99,7 @@ fn run_with_script<R: Threads + Wait + Clock + Sync, S: Write + Copy + Sync, W: 
         rt,
         alloc,
         text,
-        policy,
+        scheduling,
         form,
         progress,
         &mut script,
@@ -110,18 +111,37 @@ fn run_with_script<R: Threads + Wait + Clock + Sync, S: Write + Copy + Sync, W: 
     }
 }
 
-/// The same of a run by a settings text. Of settings that have a fault it says which, and of a run that did not settle
-/// how far it came.
-fn end_run(rt: &HostRuntime, met: &Met, source: &Source, text: &str, so_far: SoFar) -> ExitCode {
-    let status = end(rt, met, source, MOST_SETTINGS);
+/// Says how far a run came that did not settle; or, of one by a seed, who waits in it, and how it can be had again.
+fn say_unsettled(rt: &HostRuntime, why: Unsettled, seed: Option<u64>, so_far: SoFar) {
     // Nothing can be said of an error on standard error itself.
+    let _ = match (why, seed) {
+        (Unsettled::Stalled(stall), Some(seed)) => {
+            let (thread, cpu) = (stall.thread.0, stall.cpu.0);
+            eprintln!(rt;
+                "pc-sim: t{thread} waits for CPU {cpu}, and no agent will look at it; --seed {seed} has it again"
+            )
+        }
+        (_, Some(seed)) => eprintln!(rt; "pc-sim: --seed {seed} has it again"),
+        (_, None) => eprintln!(rt; "pc-sim: {so_far}"),
+    };
+}
+
+/// Says how a run by a settings text ended. Of settings that have a fault it says which.
+fn end_run(
+    rt: &HostRuntime,
+    met: &Met,
+    source: &Source,
+    text: &str,
+    seed: Option<u64>,
+    so_far: SoFar,
+) -> ExitCode {
+    let status = end(rt, met, source, MOST_SETTINGS);
     match met.ending {
         Ending::Settings(_) => {
+            // Nothing can be said of an error on standard error itself.
             let _ = write_trouble(rt.alloc(), text, &mut rt.stderr());
         }
-        Ending::Run(_) => {
-            let _ = eprintln!(rt; "pc-sim: {so_far}");
-        }
+        Ending::Run(why) => say_unsettled(rt, why, seed, so_far),
         _ => {}
     }
     status
@@ -133,16 +153,18 @@ fn run_told<R: Threads + Wait + Clock + Sync>(
     rt: &HostRuntime,
     threads: &R,
     text: &str,
-    policy: AgentPolicy,
+    scheduling: Scheduling,
     form: ReportForm,
     script: Option<String>,
     progress: &Progress<Stderr>,
 ) -> Met {
     let (alloc, out) = (rt.alloc(), rt.stdout());
     match script_file(rt, script) {
-        Ok(None) => run_settings(threads, alloc, text, policy, form, progress, out),
+        Ok(None) => run_settings(threads, alloc, text, scheduling, form, progress, out),
         Ok(Some(script)) => {
-            run_with_script(threads, alloc, text, policy, form, progress, script, out)
+            run_with_script(
+                threads, alloc, text, scheduling, form, progress, script, out,
+            )
         }
         Err(met) => met,
     }
@@ -155,16 +177,17 @@ pub(crate) fn run_on_machine<R: Threads + Wait + Clock + Sync>(
     file: Option<String>,
     form: ReportForm,
     limit: Option<u32>,
-    policy: AgentPolicy,
+    scheduling: Scheduling,
     script: Option<String>,
 ) -> ExitCode {
     let source = Source(file);
+    let seed = scheduling.seed;
     match settings_of(rt, &source) {
         Ok(text) => {
             let text = text.as_str();
             let progress = Progress::new(screen_of(rt), deadline_of(rt, limit));
-            let met = run_told(rt, threads, text, policy, form, script, &progress);
-            end_run(rt, &met, &source, text, progress.so_far())
+            let met = run_told(rt, threads, text, scheduling, form, script, &progress);
+            end_run(rt, &met, &source, text, seed, progress.so_far())
         }
         Err(met) => end(rt, &met, &source, MOST_SETTINGS),
     }

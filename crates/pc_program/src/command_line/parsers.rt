@@ -7,7 +7,7 @@ ghost use Rattle.std.specs.Prelude.{◌≡◌, IfOk, codes, false, option_map};
 ghost use Rattle.clap.specs.Walk.{rule_of};
 ghost use Rattle.clap.specs.Simple.{app_of, with_rule, with_subcommand};
 ghost use Rattle.pc_program.specs.CommandLine.{counted_flag, drawing, flag, lab, limit, of_file, option, pc_sim};
-ghost use Rattle.pc_program.specs.CommandLine.{program, run, session};
+ghost use Rattle.pc_program.specs.CommandLine.{program, run, seed, session};
 ghost use Rattle.pc_program.specs.Inner.FirstWord.{named, parser_of, program_for};
 
 use super::VERSION;
@@ -68,15 +68,17 @@ tell; each CPU has a lane. A browser shows the picture.
 Exit status: 0 finished; 1 a line is no command, or a read or a write failed; 4 memory is wanting.
 What is drawn is described in docs/FORMATS.md.";
 
-const ABOUT_RUN: &str = "Runs agents in threads by settings, and reports what they did";
+const ABOUT_RUN: &str =
+    "Runs agents by settings, in threads or by a seed, and reports what they did";
 
 const AFTER_RUN: &str = "\
 Example:
   printf 'cpus = 2\\n[[thread]]\\nqueue = 0\\nmask = 3\\nsteps = [\"yield 2\", \"die 1\"]\\n' | pc-sim run
 
-With --draw the report is a picture, and --per-cpu changes nothing. Where --per-cpu stands twice,
-refusals are counted by name. The file of --script is made, or emptied, before the run begins; what is
-written there can be replayed, explained and drawn.
+With --seed the agents run in one thread, and the same number has the same run again. With --draw the
+report is a picture, and --per-cpu changes nothing. Where --per-cpu stands twice, refusals are counted by
+name. The file of --script is made, or emptied, before the run begins; what is written there can be
+replayed, explained and drawn.
 Exit status: 0 finished; 1 the settings have a fault, or a read or a write failed; 3 the run did not
 settle, or not within its limit; 4 memory or a thread is wanting.
 Settings and the report are described in docs/FORMATS.md.";
@@ -143,6 +145,9 @@ const TO_SCRIPT: &str = "also writes the calls of the run as a script, into this
 const POLICY: &str =
     "by which agents run and steal threads: levels (the default), fifo, least-ran or \
      levels-then-least-ran, and ` exact` behind it where steals are exact";
+
+const SEED: &str =
+    "runs the agents in one thread, where this number (0 to 18446744073709551615) draws whose step is next";
 
 const SETTINGS: &str = "the settings; without it, and where it is `-`, the standard input is read";
 
@@ -284,7 +289,7 @@ fn draw_parser<'a>(alloc: Global) -> Result<Parser<'a>, AllocError>
     with_flag(parser, alloc, "time", TIME)
 }
 
-/// `run [FILE] [--per-cpu] [--draw] [--limit SECONDS] [--script FILE] [--policy NAME]`
+/// `run [FILE] [--per-cpu] [--draw] [--limit SECONDS] [--script FILE] [--policy NAME] [--seed NUMBER]`
 #[inline(never)]
 fn run_parser<'a>(alloc: Global) -> Result<Parser<'a>, AllocError>
     ensures { IfOk result (λ parser. app_of parser ≡ run) }
@@ -293,7 +298,7 @@ fn run_parser<'a>(alloc: Global) -> Result<Parser<'a>, AllocError>
     let parser = with_report_forms(parser, alloc)?;
     let parser = with_limit(parser, alloc)?;
     let parser = with_option(parser, alloc, "script", "FILE", TO_SCRIPT)?;
-    with_option(parser, alloc, "policy", "NAME", POLICY)
+    with_scheduling(parser, alloc)
 }
 
 /// Adds `[--per-cpu] [--draw]`, by which the report of a run is told.
@@ -304,6 +309,16 @@ fn with_report_forms<'a>(parser: Parser<'a>, alloc: Global) -> Result<Parser<'a>
 {
     let parser = with_counted_flag(parser, alloc, "per-cpu", REPORTS_CPUS)?;
     with_flag(parser, alloc, "draw", DRAWS)
+}
+
+/// Adds `[--policy NAME] [--seed NUMBER]`, by which agents go, and whose step is next.
+#[inline(never)]
+fn with_scheduling<'a>(parser: Parser<'a>, alloc: Global) -> Result<Parser<'a>, AllocError>
+    ensures { IfOk result (λ more. app_of more
+        ≡ with_rule (with_rule (app_of parser.entry) (option (codes "policy"))) seed) }
+{
+    let parser = with_option(parser, alloc, "policy", "NAME", POLICY)?;
+    with_seed(parser, alloc)
 }
 
 /// `session [FILE] [--explain]`
@@ -404,6 +419,14 @@ fn with_limit<'a>(parser: Parser<'a>, alloc: Global) -> Result<Parser<'a>, Alloc
     parser.arg(limit_option(alloc))
 }
 
+/// Adds the option `--seed NUMBER`.
+#[inline(never)]
+fn with_seed<'a>(parser: Parser<'a>, alloc: Global) -> Result<Parser<'a>, AllocError>
+    ensures { IfOk result (λ more. app_of more ≡ with_rule (app_of parser.entry) seed) }
+{
+    parser.arg(seed_option(alloc))
+}
+
 /// The flag `--NAME`.
 fn flag_of<'a>(alloc: Global, name: &'static str, help: &'static str) -> Arg<'a>
     ensures rule { rule_of result ≡ flag name.now }
@@ -452,4 +475,12 @@ fn limit_option<'a>(alloc: Global) -> Arg<'a>
         0,
         u32::MAX as u64,
     ))
+}
+
+/// The option `--seed NUMBER`.
+fn seed_option<'a>(alloc: Global) -> Arg<'a>
+    ensures rule { rule_of result ≡ seed }
+    ensures local { result.global ≡ false }
+{
+    option_of(alloc, "seed", "NUMBER", SEED).value_parser(ValueParser::Unsigned(0, u64::MAX))
 }
