@@ -13,6 +13,10 @@ mod explain;
 #[cfg(test)]
 mod lab;
 #[cfg(test)]
+mod protocol;
+#[cfg(test)]
+mod seeds;
+#[cfg(test)]
 mod session;
 #[cfg(test)]
 mod settings;

@@ -2,26 +2,18 @@
 
 mod asking;
 mod holds;
-mod runs;
+pub(crate) mod runs;
 mod schedules;
 mod transcripts;
 
+use crate::world::SMALL;
 use pc_agent::Agent;
 use pc_delta::Delta;
 use pc_join::Join;
 use pc_messages::{Cpu, Tid};
-use pc_threads::{Book, EnvCall, Limits, Posted, settle};
+use pc_threads::{Book, EnvCall, Posted, settle};
 use pc_view::View;
 use std::alloc::Global;
-
-/// Two CPUs, eight threads.
-const SMALL: Limits = Limits {
-    cpus: 2,
-    threads: 8,
-    numbers: 100,
-    room: 16,
-    posts: 1_000,
-};
 
 /// A ready thread of queue 0 that may run on both CPUs.
 const CREATE: EnvCall = EnvCall::Create {

@@ -3,13 +3,14 @@
 mod disturbed;
 
 use pc_calls::{AgentCall, EnvCall, Limits, Posted, Profile, Refusal};
+use pc_delta::Digest;
 use pc_messages::{Cpu, Tid};
 use pc_policy::AgentPolicy;
 use pc_world::{Event, Reply, World};
 use std::alloc::Global;
 
 /// Two CPUs, eight threads.
-const SMALL: Limits = Limits {
+pub(crate) const SMALL: Limits = Limits {
     cpus: 2,
     threads: 8,
     numbers: 100,
@@ -17,9 +18,9 @@ const SMALL: Limits = Limits {
     posts: 1_000,
 };
 
-const FIRST: Cpu = Cpu(0);
+pub(crate) const FIRST: Cpu = Cpu(0);
 
-const OTHER: Cpu = Cpu(1);
+pub(crate) const OTHER: Cpu = Cpu(1);
 
 /// Each sort of event: t0 is created on the first CPU, and taken over and run by the other one's agent.
 const EVENTS: [Event; 12] = [
@@ -123,4 +124,43 @@ fn mended(alloc: Global, cpu: Cpu) -> Option<Tid> {
 fn a_cpu_is_mended(rt: HostRuntime) {
     assert_eq!(rt; mended(rt.alloc(), FIRST), Some(Tid(0)));
     assert_eq!(rt; mended(rt.alloc(), OTHER), Some(Tid(0)));
+}
+
+/// Whether the CPU's agent answers one who knows nothing by another delta that is sent, which tells the other CPU's
+/// agent of the thread.
+fn answers_one_who_knows_nothing(world: &mut World, digest: &Digest) -> bool {
+    let answered = world.answer_digest(FIRST, digest) == Ok(Reply::Answered { delta: 1 });
+    let event = Event::Deliver {
+        cpu: OTHER,
+        delta: 1,
+    };
+    answered && world.step(event).is_ok() && known(world, OTHER) == Some(1)
+}
+
+/// Up to which of the thread's messages the CPU's agent knows all.
+fn known(world: &World, cpu: Cpu) -> Option<u32> {
+    Some(world.view(cpu)?.upto(Tid(0)))
+}
+
+fn refuses_of_no_cpu(world: &mut World, digest: &Digest) -> bool {
+    world.answer_digest(Cpu(2), digest) == Ok(Reply::Refused(Refusal::BadCpu))
+}
+
+/// Whether digests are answered where the first agent alone knows of the thread.
+fn are_answered(alloc: Global) -> Option<bool> {
+    let mut world = World::new(alloc, SMALL).ok()?;
+    let digest = Digest::new(alloc);
+    let publish = *EVENTS.get(1)?;
+    if !creates(&mut world) || world.step(publish).is_err() || known(&world, OTHER) != Some(0) {
+        return None;
+    }
+    Some(
+        answers_one_who_knows_nothing(&mut world, &digest)
+            && refuses_of_no_cpu(&mut world, &digest),
+    )
+}
+
+#[test]
+fn a_digest_is_answered(rt: HostRuntime) {
+    assert_eq!(rt; are_answered(rt.alloc()), Some(true));
 }

@@ -53,7 +53,12 @@ fn add_restarts(restarts: &mut Vec<Restart>, turns: &[(i64, i64)]) -> bool {
 }
 
 /// Settings of these CPUs, threads and restarts (their CPU and turn), where they are accepted.
-fn config(alloc: Global, cpus: i64, plans: &[Plan<'_>], turns: &[(i64, i64)]) -> Option<Config> {
+pub(crate) fn config(
+    alloc: Global,
+    cpus: i64,
+    plans: &[Plan<'_>],
+    turns: &[(i64, i64)],
+) -> Option<Config> {
     let mut threads = Vec::new(alloc);
     let mut restarts = Vec::new(alloc);
     if add_plans(alloc, &mut threads, plans) && add_restarts(&mut restarts, turns) {
@@ -64,10 +69,10 @@ fn config(alloc: Global, cpus: i64, plans: &[Plan<'_>], turns: &[(i64, i64)]) ->
 }
 
 /// A thread that may run on two CPUs: it yields, blocks and dies.
-const LIFE: Plan<'static> = (0, 3, &[Step::Yield(2), Step::Block(3), Step::Die(1)]);
+pub(crate) const LIFE: Plan<'static> = (0, 3, &[Step::Yield(2), Step::Block(3), Step::Die(1)]);
 
 /// Threads, messages, commits and ticks.
-fn totals(report: &LoadReport) -> [u64; 4] {
+pub(crate) fn totals(report: &LoadReport) -> [u64; 4] {
     [report.threads, report.messages, report.commits, report.ran]
 }
 
