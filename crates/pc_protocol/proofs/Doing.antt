@@ -336,15 +336,23 @@ module _ (old new : Machine) (c : ℕ) where
       )
 
 -- an agent starts again
-pub does_restart : (old new : Machine) (c : ℕ) (told : Reply) → IsManned new.world old.seats.items → IsDueAt old.seats.items c due.Look → DoesEvent (λ w. Step w (event.Crash c)) old.world new.world told
+pub does_restart : (old new : Machine) (c : ℕ) (told : Reply) → IsManned new.world old.seats.items → HasBegun c old true → DoesEvent (λ w. Step w (event.Crash c)) old.world new.world told
     → AsksByWorld new.world c old.seats.items new.seats.items → Restarts c old new
-does_restart old new c told manned next does asks_all p h =
+does_restart old new c told manned begun does asks_all p h =
     let x = does p.world h.world in
+    let first = (begun p h).0 refl in
     let boxes = telling_others c (asks c (x.0.agents c).known) p.boxes in (
       record { world = x.0; stages = p.stages; mails = p.mails; boxes = boxes },
-      record { at_begin = at_stage old new c begins kept_stage.Begins due.Look next (due_begins next.0.stage next.2) shows_begins p h; told = told; step = x.1; stages = refl; mails = refl; boxes = refl },
-      record { world = x.2; seats = asks_all x.0 p.stages p.mails p.boxes x.2 (due_there new.world old.seats.items c due.Look x.0 manned next x.2) h.seats },
+      record { at_begin = first.1; told = told; step = x.1; stages = refl; mails = refl; boxes = refl },
+      record { world = x.2; seats = asks_all x.0 p.stages p.mails p.boxes x.2 (there x.0 x.2 first.0) h.seats },
     )
+  where
+    there : (w : PlainWorld) → ShowsWorld new.world w → c < cpus_of p → is_cpu (shown w.kernel) c ≡ true
+    there w shows low =
+        let many = manned w shows in
+        let before = old.manned p.world h.world in
+        let inside : c < w.kernel.limits.cpus = omega arith in
+        grind (arith, nat_tests)
 
 -- the environment makes a call
 pub does_call : (old new : Machine) (made : EnvCall) (told : Reply) → DoesEvent (λ w. Step w (event.Env made)) old.world new.world told → TellsWoken told old.seats.items new.seats.items → CallsByEnv made old told new
@@ -546,10 +554,17 @@ low_as seats seats' place c choice same at_place h = subst (λ d. choice < choic
 
 -- what a mailbox holds
 pub has_mail : (machine : Machine) (c : ℕ) (seat : Seat) → slice_get machine.seats.items c ≡ Some seat → HasMail c machine seat.mail.items
-has_mail machine c seat there p h low = (h.seats c seat there).mail
+has_mail machine c seat there p h =
+    let inside = slice_get_within machine.seats.items c seat there in
+    let many = machine.manned p.world h.world in
+    let low : nat_lt c (cpus_of p) ≡ true = grind (arith, nat_tests) in
+    subst (λ b. seat.mail.items ≡ (if b then p.mails c else [])) (sym low) (h.seats c seat there).mail
 
-pub no_mail : (machine : Machine) (c : ℕ) (mail : List ℕ) → IsManned machine.world machine.seats.items → length machine.seats.items ≤ c → HasMail c machine mail
-no_mail machine c mail manned high p h low = absurd (let many = manned p.world h.world in let none : ⊥ = omega arith in none)
+pub no_mail : (machine : Machine) (c : ℕ) → IsManned machine.world machine.seats.items → length machine.seats.items ≤ c → HasMail c machine []
+no_mail machine c manned high p h =
+    let many = manned p.world h.world in
+    let past : nat_lt c (cpus_of p) ≡ false = grind (arith, nat_tests) in
+    subst (λ b. [] ≡ (if b then p.mails c else [])) (sym past) refl
 
 module _ (laws : KernelLaws) where
   pub manned_crash : (c : ℕ) (told : Reply) (old new : World) (seats seats' : List Seat) → IsReached old → IsManned old seats → length seats' ≡ length seats → DoesEvent (λ w. Step w (event.Crash c)) old new told → IsManned new seats'
@@ -568,9 +583,13 @@ begin_so kept_stage.Waits (puts n k cpus) h = absurd h
 begin_so kept_stage.Waits waits h = (λ e. absurd (false≢true e), λ e. absurd (begins_not_waits (sym e)))
 
 pub has_begun : (machine : Machine) (c : ℕ) (seat : Seat) (begun : Bool) → slice_get machine.seats.items c ≡ Some seat → begun ≡ is_begin seat.stage → HasBegun c machine begun
-has_begun machine c seat begun there e p h low =
+has_begun machine c seat begun there e p h =
     let is = begin_so seat.stage (p.stages c) (h.seats c seat there).stage in
-    (λ yes_begun. is.0 (sym e ∙ yes_begun), λ at_begin. e ∙ is.1 at_begin)
+    let inside = slice_get_within machine.seats.items c seat there in
+    let many = machine.manned p.world h.world in
+    let low : c < cpus_of p = omega arith in
+    (λ yes_begun. (low, is.0 (sym e ∙ yes_begun)), λ begun_there. e ∙ is.1 begun_there.1)
 
-pub none_begun : (machine : Machine) (c : ℕ) (begun : Bool) → IsManned machine.world machine.seats.items → length machine.seats.items ≤ c → HasBegun c machine begun
-none_begun machine c begun manned high p h low = absurd (let many = manned p.world h.world in let none : ⊥ = omega arith in none)
+pub none_begun : (machine : Machine) (c : ℕ) → IsManned machine.world machine.seats.items → length machine.seats.items ≤ c → HasBegun c machine false
+none_begun machine c manned high p h =
+    (λ e. absurd (false≢true e), λ begun_there. absurd (let many = manned p.world h.world in let low = begun_there.0 in let none : ⊥ = omega arith in none))

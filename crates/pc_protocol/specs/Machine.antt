@@ -1,5 +1,5 @@
 -- The protocol as a value: what it shows, and what its calls do to what is shown.
-use Rattle.std.specs.Prelude.{ℕ, ◌≡◌, ◌<◌, ◌↔◌, Bool, true, List}
+use Rattle.std.specs.Prelude.{ℕ, ◌≡◌, ◌<◌, ◌↔◌, Bool, true, nat_lt, if◌then◌else◌, List, []}
 use Rattle.pc_calls.specs.declared.call.EnvCall.{EnvCall}
 use Rattle.pc_calls.specs.declared.event.Event.TheVariants.{Crash}
 use Rattle.pc_calls.specs.declared.event.Reply.{Reply}
@@ -42,14 +42,15 @@ HasChoices c machine many =
 abbrev pub Rests : Machine → Bool → Type 0
 Rests machine rests = (p : Protocol) → Shows machine p → (rests ≡ true) ↔ IsAtRest p
 
--- whether an agent that is there is at the begin of a turn
+-- whether an agent is there, and at the begin of a turn
 abbrev pub HasBegun : ℕ → Machine → Bool → Type 0
 HasBegun c machine begun =
-    (p : Protocol) → Shows machine p → c < cpus_of p → (begun ≡ true) ↔ (p.stages c ≡ begins)
+    (p : Protocol) → Shows machine p → (begun ≡ true) ↔ ((c < cpus_of p) × (p.stages c ≡ begins))
 
--- what the mailbox of an agent that is there holds
+-- what the mailbox of an agent holds: nothing, where the agent is not there
 abbrev pub HasMail : ℕ → Machine → List ℕ → Type 0
-HasMail c machine mail = (p : Protocol) → Shows machine p → c < cpus_of p → mail ≡ p.mails c
+HasMail c machine mail =
+    (p : Protocol) → Shows machine p → mail ≡ (if nat_lt c (cpus_of p) then p.mails c else [])
 
 -- an agent at the begin of a turn starts again with nothing, and asks all others
 pub record IsRestart (p : Protocol) (c : ℕ) (new : Protocol) : Type 0 where

@@ -1,6 +1,6 @@
 //! The protocol as a value, step by step.
 
-ghost use Rattle.std.specs.Prelude.{◌≡◌, ◌≤◌, None, Some, Err, IfOk, OnOk, length, slice_get};
+ghost use Rattle.std.specs.Prelude.{◌≡◌, ◌≤◌, false, None, Some, Err, IfOk, OnOk, length, slice_get};
 ghost use Rattle.pc_calls.specs.Limits.{bad_field};
 ghost use Rattle.pc_calls.specs.declared.limits.Profile.TheVariants as profile;
 ghost use Rattle.pc_world.specs.PlainWorld.{rules_at};
@@ -119,7 +119,7 @@ impl Protocol {
         self.seats[place].choices()
     }
 
-    /// Whether the CPU's agent is at the begin of a turn; never one of a CPU that is not there.
+    /// Whether the CPU's agent is at the begin of a turn; none is of a CPU that is not there.
     pub fn begins(&self, cpu: Cpu) -> bool
         ensures { HasBegun cpu self.now result }
     {
@@ -207,15 +207,16 @@ impl Protocol {
     /// step of the protocol: what is said of its states is not said of those behind.
     pub fn restart(self, cpu: Cpu, told: &mut Vec<Told>) -> Result<Protocol, StepFault>
         ensures restarts { IfOk result (Restarts cpu self) }
+        ensures no_step { result ≡ Err StepFault.NoStep → HasBegun cpu self false }
     {
         // The checker finds the types that a reply nests only where the function names them.
         let _: (Option<Posted>, Option<Tid>, Option<Cpu>, Option<Refusal>) = (
             None, None, None, None,
         );
         kernel_laws();
-        let Some(Due::Look) = due_at(&self.seats, cpu.index() as usize, 0) else {
+        if !self.begins(cpu) {
             return Err(StepFault::NoStep);
-        };
+        }
         let Protocol {
             alloc,
             mut world,

@@ -1,6 +1,11 @@
 //! What drives a run: it does what each thread does on its CPU, and wakes whom it blocked.
 
-use crate::runs::SeedFault;
+ghost use Rattle.std.specs.Prelude.{◌≡◌, ◌++◌, ◌∷◌, [], true, map, None, IfOk, IfSome, OnOk};
+ghost use Rattle.pc_calls.specs.Leavings.{call_for};
+ghost use Rattle.pc_protocol.specs.Running.{blocked_by};
+ghost use Rattle.pc_threads.specs.Settings.{plan_of};
+ghost use Rattle.pc_seeds.specs.Driving.{Accepts, DoesDeed, DrivesOn, IsIdle, TakesStep, deed_of};
+
 use pc_calls::{EnvCall, Posted, Refusal, Reply};
 use pc_messages::{Cpu, Tid};
 use pc_protocol::{Protocol, Told};
@@ -16,12 +21,22 @@ pub(crate) struct Driver {
     told: Vec<Cpu>,
     /// The thread that it blocked, and wakes next.
     blocked: Option<Tid>,
-    /// How many threads are dead.
-    dead: usize,
+}
+
+/// The thread that is woken next, where this one does the step.
+fn blocked_by(thread: Tid, step: &Step) -> Option<Tid>
+    ensures { result ≡ blocked_by (deed_of step.now).leaving thread }
+{
+    match step {
+        Step::Block(_) => Some(thread),
+        Step::Yield(_) | Step::Preempt(_) | Step::Die(_) => None,
+    }
 }
 
 /// What a thread's step is to the kernel.
-fn call_of(cpu: Cpu, step: &Step) -> EnvCall {
+fn call_of(cpu: Cpu, step: &Step) -> EnvCall
+    ensures { result ≡ call_for (deed_of step.now).leaving cpu (deed_of step.now).ran }
+{
     match *step {
         Step::Yield(ran) => EnvCall::YieldNow { cpu, ran },
         Step::Block(ran) => EnvCall::Block { cpu, ran },
@@ -35,34 +50,37 @@ pub(crate) fn accepted(
     machine: Protocol,
     call: EnvCall,
     told: &mut Vec<Told>,
-) -> Result<Protocol, SeedFault> {
+) -> Result<Protocol, RunFault>
+    ensures { IfOk result (Accepts call machine) }
+{
     // The checker finds the types that a reply nests only where the function names them.
     let _: (Option<Posted>, Option<Tid>, Option<Cpu>, Option<Refusal>) = (None, None, None, None);
     let Ok((machine, reply)) = machine.call(call, told) else {
-        return Err(SeedFault::Run(RunFault::OutOfMemory));
+        return Err(RunFault::OutOfMemory);
     };
     match &reply {
         Reply::Posted(_) => Ok(machine),
-        Reply::Refused(refusal) => Err(SeedFault::Run(RunFault::Driver(*refusal))),
+        Reply::Refused(refusal) => Err(RunFault::Driver(*refusal)),
         Reply::Done
         | Reply::Associated { .. }
         | Reply::Committed { .. }
         | Reply::Published { .. }
         | Reply::Consumed { .. }
-        | Reply::Answered { .. } => Err(SeedFault::Run(RunFault::Driver(Refusal::IdleCpu))),
+        | Reply::Answered { .. } => Err(RunFault::Unaccounted),
     }
 }
 
 impl Driver {
     /// No thread has done a step.
-    pub(crate) fn new(alloc: Global, plans: &[ThreadPlan]) -> Result<Driver, AllocError> {
+    pub(crate) fn new(alloc: Global, plans: &[ThreadPlan]) -> Result<Driver, AllocError>
+        ensures { IfOk result (IsIdle (map plan_of plans.now)) }
+    {
         let mut done = Vec::new(alloc);
         done.resize(plans.len(), 0)?;
         Ok(Driver {
             done,
             told: Vec::new(alloc),
             blocked: None,
-            dead: 0,
         })
     }
 
@@ -74,26 +92,55 @@ impl Driver {
         }
     }
 
-    /// How many threads are dead.
-    pub(crate) fn dead(&self) -> usize {
-        self.dead
+    /// Whether it has none.
+    pub(crate) fn is_idle(&self) -> bool
+        ensures { result ≡ true → (self.now.told.items ≡ []) × (self.now.blocked ≡ None) }
+    {
+        self.blocked.is_none() && self.told.is_empty()
     }
 
     /// It is told that a thread came to run on the CPU.
-    pub(crate) fn notice(&mut self, cpu: Cpu) -> Result<(), AllocError> {
+    pub(crate) fn notice(&mut self, cpu: Cpu) -> Result<(), AllocError>
+        ensures told { OnOk result (self.new.told.items ≡ self.old.told.items ++ cpu ∷ []) }
+        ensures done { self.new.done ≡ self.old.done }
+        ensures blocked { self.new.blocked ≡ self.old.blocked }
+    {
         self.told.push(cpu)?;
         Ok(())
     }
 
     /// The thread's next step, which then is done, if it has one left.
-    fn next_of(&mut self, plans: &[ThreadPlan], thread: Tid) -> Option<Step> {
+    fn next_of(&mut self, plans: &[ThreadPlan], thread: Tid) -> Option<Step>
+        ensures { IfSome result (λ step. TakesStep (map plan_of plans.now) thread step self.old self.new) }
+    {
         let place = thread.index() as usize;
-        let done = *self.done.get(place)?;
-        let step = *plans.get(place)?.steps.get(done)?;
-        if place < self.done.len() {
-            self.done[place] = done + 1;
+        if place >= self.done.len() {
+            return None;
         }
+        let done = self.done[place];
+        let step = *plans.get(place)?.steps.get(done)?;
+        self.done[place] = done + 1;
         Some(step)
+    }
+
+    /// The thread on the CPU does its next step.
+    fn go_on(
+        &mut self,
+        machine: Protocol,
+        plans: &[ThreadPlan],
+        cpu: Cpu,
+        told: &mut Vec<Told>,
+    ) -> Result<Protocol, RunFault>
+        ensures { IfOk result (λ new. DoesDeed (map plan_of plans.now) cpu machine self.old new self.new) }
+    {
+        let Some(thread) = machine.world().kernel().running(cpu) else {
+            return Err(RunFault::Driver(Refusal::IdleCpu));
+        };
+        let Some(step) = self.next_of(plans, thread) else {
+            return Err(RunFault::Driver(Refusal::IdleCpu));
+        };
+        self.blocked = blocked_by(thread, &step);
+        accepted(machine, call_of(cpu, &step), told)
     }
 
     /// Does what is next.
@@ -103,26 +150,17 @@ impl Driver {
         plans: &[ThreadPlan],
         choice: usize,
         told: &mut Vec<Told>,
-    ) -> Result<Protocol, SeedFault> {
+    ) -> Result<Protocol, RunFault>
+        ensures { IfOk result (λ new. DrivesOn (map plan_of plans.now) machine self.old new self.new) }
+    {
         if let Some(thread) = self.blocked {
             self.blocked = None;
             return accepted(machine, EnvCall::Wake { thread }, told);
         }
         if choice >= self.told.len() {
-            return Err(SeedFault::Run(RunFault::Driver(Refusal::IdleCpu)));
+            return Err(RunFault::Driver(Refusal::IdleCpu));
         }
         let cpu = self.told.remove(choice);
-        let Some(thread) = machine.world().kernel().running(cpu) else {
-            return Err(SeedFault::Run(RunFault::Driver(Refusal::IdleCpu)));
-        };
-        let Some(step) = self.next_of(plans, thread) else {
-            return Err(SeedFault::Run(RunFault::Driver(Refusal::IdleCpu)));
-        };
-        match step {
-            Step::Block(_) => self.blocked = Some(thread),
-            Step::Die(_) => self.dead = self.dead.saturating_add(1),
-            Step::Yield(_) | Step::Preempt(_) => {}
-        }
-        accepted(machine, call_of(cpu, &step), told)
+        self.go_on(machine, plans, cpu, told)
     }
 }

@@ -5,7 +5,9 @@
 
 mod draws;
 mod driver;
+mod ending;
 mod listed;
 mod runs;
 
-pub use runs::{SeedFault, Stall, run_by_seed};
+pub use ending::{Ended, Manner, Stall};
+pub use runs::run_by_seed;

@@ -1,25 +1,30 @@
-//! A run by a seed, from settings to its report.
+//! A run by a seed, from settings to its end.
 
-ghost use Rattle.std.specs.Prelude.{◌≡◌, IfOk, length, pos, vec_len};
+ghost use Rattle.std.specs.Prelude.{◌≡◌, [], false, Ok, IfOk, IfSome, length, pos, vec_len};
+ghost use Rattle.pc_policy.specs.Rules.{rules_of};
 ghost use Rattle.pc_threads.specs.Reports.{AddsUp, DoesAll, TellsItsBook};
+ghost use Rattle.pc_threads.specs.Settings.{plan_of};
+ghost use Rattle.pc_seeds.specs.Driving.{AreCopies, Creates, DrivesOn, IsIdle, IsOpened, StaysInRun, created_by, deeds_of};
+ghost use Rattle.pc_seeds.specs.Ending.{IfReported, IfStalledBookTells, IsReported, IsUndisturbed, RestsAs};
+ghost use Rattle.pc_seeds.specs.Ending.{RestsOnlyWhenDone};
 
 use crate::draws::{Draws, Turn};
 use crate::driver::{Driver, accepted};
+use crate::ending::{Ended, HeldUp, Manner, Stall, held_up, is_held_up};
 use crate::listed::list_all;
 use pc_calls::{
     EnvCall, Limits, LimitsFault, MOST_NUMBERS, MOST_POSTS, MOST_ROOM, MOST_THREADS, Refusal,
 };
 use pc_delta::take_in;
-use pc_join::{Join, OutOfMemory};
-use pc_messages::{Cpu, Tid};
+use pc_join::OutOfMemory;
+use pc_messages::Cpu;
 use pc_policy::AgentPolicy;
-use pc_protocol::{Protocol, StepFault, Told};
-use pc_threads::{Book, Config, LoadReport, Row, RunFault, ThreadPlan, report_on};
+use pc_protocol::{Protocol, StepFault, Told, rest_is_done};
+use pc_threads::{Book, Config, Row, RunFault, ThreadPlan, report_on};
 use pc_view::View;
 use pc_world::World;
 use std::alloc::{AllocError, Global};
 use std::time::{Clock, Instant};
-use thiserror::Error;
 
 /// A run of a seed is given up behind so many steps, whatever its deadline.
 const MOST_DRAWN: u64 = 1 << 40;
@@ -27,40 +32,16 @@ const MOST_DRAWN: u64 = 1 << 40;
 /// The clock is asked once in so many steps.
 const STEPS_BETWEEN: u64 = 256;
 
-/// A thread for which a CPU idles, and no agent will look again (own). It comes of agents that restarted.
-#[derive(Clone, Copy, Debug, PartialEq, Eq)]
-pub struct Stall {
-    /// The least thread that waits.
-    pub thread: Tid,
-    /// The least CPU that idles, and that it may run on.
-    pub cpu: Cpu,
-}
+/// How many turns each agent has, at least by the odds, before a run in which no thread came to run is told as stalled.
+const TURNS_OF_NONE: u64 = 64;
 
-/// Why a run by a seed has no report.
-#[derive(Clone, Copy, Debug, PartialEq, Eq, Error)]
-pub enum SeedFault {
-    /// What a run in threads may meet, too.
-    #[error(transparent)]
-    Run(RunFault),
-    /// Nobody has a step left, and a thread lives.
-    #[error("{0:?} is stalled")]
-    Stalled(Stall),
-}
-
-impl From<OutOfMemory> for SeedFault {
-    fn from(_error: OutOfMemory) -> SeedFault {
-        SeedFault::Run(RunFault::OutOfMemory)
-    }
-}
-
-impl From<AllocError> for SeedFault {
-    fn from(_error: AllocError) -> SeedFault {
-        SeedFault::Run(RunFault::OutOfMemory)
-    }
-}
+/// The heaviest agent has so many steps for one of the lightest.
+const STEPS_OF_THE_HEAVIEST: u64 = 64;
 
 /// What creates the thread; none where its queue or its mask is no number of a CPU or of a mask.
-fn creation(plan: &ThreadPlan) -> Option<EnvCall> {
+fn creation(plan: &ThreadPlan) -> Option<EnvCall>
+    ensures { IfSome result (λ call. call ≡ created_by (deeds_of (plan_of plan.now))) }
+{
     Some(EnvCall::Create {
         queue: Cpu(u8::try_from(plan.queue).ok()?),
         mask: u64::try_from(plan.mask).ok()?,
@@ -69,12 +50,21 @@ fn creation(plan: &ThreadPlan) -> Option<EnvCall> {
 }
 
 /// What a step of an agent came to.
-fn stepped(done: Result<Protocol, StepFault>, cpu: Cpu) -> Result<Protocol, SeedFault> {
+fn stepped(done: Result<Protocol, StepFault>, cpu: Cpu) -> Result<Protocol, RunFault>
+    ensures { IfOk result (λ machine. done ≡ Ok machine) }
+{
     match done {
         Ok(machine) => Ok(machine),
-        Err(StepFault::NoStep) => Err(SeedFault::Run(RunFault::GaveUp(cpu))),
-        Err(StepFault::OutOfMemory) => Err(SeedFault::Run(RunFault::OutOfMemory)),
+        Err(StepFault::NoStep) => Err(RunFault::GaveUp(cpu)),
+        Err(StepFault::OutOfMemory) => Err(RunFault::OutOfMemory),
     }
+}
+
+/// In so many steps the slowest of the agents has [`TURNS_OF_NONE`] turns by the odds: a turn is a look, a put to each
+/// other agent, an act and a note.
+fn most_of_none(cpus: u8) -> u64 {
+    let agents = cpus as u64;
+    TURNS_OF_NONE * STEPS_OF_THE_HEAVIEST * (agents + 1) * (agents + 2)
 }
 
 /// The state of a run by a seed.
@@ -90,11 +80,11 @@ struct Seeded<'a> {
 
 impl<'a> Seeded<'a> {
     /// A run of which nothing was done.
-    fn new(alloc: Global, config: &'a Config) -> Result<Seeded<'a>, SeedFault> {
-        let book = match Book::of_run(alloc, config) {
-            Ok(book) => book,
-            Err(fault) => return Err(SeedFault::Run(fault)),
-        };
+    fn new(alloc: Global, config: &'a Config) -> Result<Seeded<'a>, RunFault>
+        ensures config { IfOk result (λ run. run.config ≡ config) }
+        ensures idle { IfOk result (λ run. IsIdle config.now.threads run.driver) }
+    {
+        let book = Book::of_run(alloc, config)?;
         let mut turns = Vec::new(alloc);
         turns.resize(config.cpus() as usize, 0)?;
         Ok(Seeded {
@@ -107,19 +97,23 @@ impl<'a> Seeded<'a> {
     }
 
     /// Lists what was told since the last time.
-    fn list(&mut self, world: &World) -> Result<(), SeedFault> {
-        match list_all(&mut self.book, world, &mut self.told) {
-            Ok(()) => Ok(()),
-            Err(fault) => Err(SeedFault::Run(fault)),
-        }
+    fn list(&mut self, world: &World) -> Result<(), RunFault>
+        ensures config { self.new.config ≡ self.old.config }
+        ensures driver { self.new.driver ≡ self.old.driver }
+    {
+        list_all(&mut self.book, world, &mut self.told)
     }
 
     /// Creates the threads, in order.
-    fn create_all(&mut self, machine: Protocol) -> Result<Protocol, SeedFault> {
+    fn create_all(&mut self, machine: Protocol) -> Result<Protocol, RunFault>
+        ensures config { self.new.config ≡ self.old.config }
+        ensures driver { self.new.driver ≡ self.old.driver }
+        ensures creates { IfOk result (Creates self.old.config.now.threads machine) }
+    {
         let mut machine = machine;
         for plan in self.config.threads() {
             let Some(call) = creation(plan) else {
-                return Err(SeedFault::Run(RunFault::Driver(Refusal::BadCpu)));
+                return Err(RunFault::Driver(Refusal::BadCpu));
             };
             machine = accepted(machine, call, &mut self.told)?;
         }
@@ -128,7 +122,11 @@ impl<'a> Seeded<'a> {
     }
 
     /// Another turn of the CPU's agent begins; answers whether it restarts before that.
-    fn begins_turn(&mut self, cpu: Cpu) -> bool {
+    fn begins_turn(&mut self, cpu: Cpu) -> bool
+        ensures config { self.new.config ≡ self.old.config }
+        ensures driver { self.new.driver ≡ self.old.driver }
+        ensures none { self.old.config.now.restarts ≡ [] → result ≡ false }
+    {
         let place = cpu.index() as usize;
         if place >= self.turns.len() {
             return false;
@@ -140,53 +138,94 @@ impl<'a> Seeded<'a> {
     }
 
     /// The CPU's agent does a step, ahead of it what its restart is.
-    fn step(&mut self, machine: Protocol, cpu: Cpu, choice: usize) -> Result<Protocol, SeedFault> {
+    fn step(&mut self, machine: Protocol, cpu: Cpu, choice: usize) -> Result<Protocol, RunFault>
+        ensures config { self.new.config ≡ self.old.config }
+        ensures drives { self.old.config.now.restarts ≡ [] →
+            IfOk result (λ new. DrivesOn self.old.config.now.threads machine self.old.driver new self.new.driver) }
+    {
         let mut machine = machine;
         if machine.begins(cpu) && self.begins_turn(cpu) {
             machine = stepped(machine.restart(cpu, &mut self.told), cpu)?;
         }
+        self.serve(machine, cpu, choice)
+    }
+
+    /// The CPU's agent does a step, and the driver is told where a thread comes to run by it.
+    fn serve(&mut self, machine: Protocol, cpu: Cpu, choice: usize) -> Result<Protocol, RunFault>
+        ensures config { self.new.config ≡ self.old.config }
+        ensures drives { IfOk result (λ new.
+            DrivesOn self.old.config.now.threads machine self.old.driver new self.new.driver) }
+    {
         let ran = machine.world().kernel().running(cpu);
-        machine = stepped(machine.step(cpu, choice, &mut self.told), cpu)?;
+        let machine = stepped(machine.step(cpu, choice, &mut self.told), cpu)?;
         if ran.is_none() && machine.world().kernel().running(cpu).is_some() {
             self.driver.notice(cpu)?;
         }
         Ok(machine)
     }
 
-    /// Step after step, until nobody has one.
+    /// Does this step, and lists what it told.
+    fn take(&mut self, machine: Protocol, turn: Turn) -> Result<Protocol, RunFault>
+        ensures config { self.new.config ≡ self.old.config }
+        ensures drives { self.old.config.now.restarts ≡ [] →
+            IfOk result (λ new. DrivesOn self.old.config.now.threads machine self.old.driver new self.new.driver) }
+    {
+        let machine = match turn {
+            Turn::Driver(choice) => {
+                self.driver
+                    .go(machine, self.config.threads(), choice, &mut self.told)?
+            }
+            Turn::Agent(cpu, choice) => self.step(machine, cpu, choice)?,
+        };
+        self.list(machine.world())?;
+        Ok(machine)
+    }
+
+    /// Step after step, until nobody has one, or for so long no thread has come to run that none will.
     fn play<R: Clock>(
         &mut self,
         rt: &R,
         machine: Protocol,
         draws: &mut Draws,
         deadline: Option<Instant>,
-    ) -> Result<Protocol, SeedFault> {
+    ) -> Result<Protocol, RunFault>
+        ensures config { self.new.config ≡ self.old.config }
+        ensures stays { self.old.config.now.restarts ≡ [] →
+            IfOk result (λ new. StaysInRun self.old.config.now.threads machine self.old.driver new self.new.driver) }
+    {
         let mut machine = machine;
+        let most = most_of_none(self.config.cpus());
+        let mut of_none: u64 = 0;
         for number in 0..MOST_DRAWN {
-            let Some(turn) = draws.next(&machine, self.driver.choices()) else {
+            let choices = self.driver.choices();
+            of_none = if choices > 0 {
+                0
+            } else {
+                of_none.saturating_add(1)
+            };
+            if of_none > most {
+                return Ok(machine);
+            }
+            let Some(turn) = draws.next(&machine, choices) else {
                 return Ok(machine);
             };
             if number % STEPS_BETWEEN == 0 && is_past(rt, deadline) {
-                return Err(SeedFault::Run(RunFault::TimeUp));
+                return Err(RunFault::TimeUp);
             }
-            machine = match turn {
-                Turn::Driver(choice) => {
-                    self.driver
-                        .go(machine, self.config.threads(), choice, &mut self.told)?
-                }
-                Turn::Agent(cpu, choice) => self.step(machine, cpu, choice)?,
-            };
-            self.list(machine.world())?;
+            machine = self.take(machine, turn)?;
         }
-        Err(SeedFault::Run(RunFault::TimeUp))
+        Err(RunFault::TimeUp)
     }
 }
 
 /// Whether the deadline is gone by. Where the clock cannot be read it is not.
 fn is_past<R: Clock>(rt: &R, deadline: Option<Instant>) -> bool {
-    match (deadline, Instant::now(rt)) {
-        (Some(deadline), Ok(now)) => now >= deadline,
-        (_, _) => false,
+    let Some(deadline) = deadline else {
+        return false;
+    };
+    match Instant::now(rt) {
+        Ok(now) => now >= deadline,
+        Err(_) => false,
     }
 }
 
@@ -228,31 +267,10 @@ fn rows_of(alloc: Global, world: &World, cpus: u8) -> Result<Vec<Row>, OutOfMemo
     Ok(rows)
 }
 
-/// The least thread that waits for a CPU that idles.
-fn stall_of(machine: &Protocol, cpus: u8) -> Option<Stall> {
-    let kernel = machine.world().kernel();
-    for name in 0..kernel.threads() {
-        let thread = Tid(name);
-        if kernel.is_waiting(thread) {
-            if let Some(state) = kernel.state(thread) {
-                for cpu in 0..cpus {
-                    let cpu = Cpu(cpu);
-                    if kernel.running(cpu).is_none() && state.may_run_on(cpu) {
-                        return Some(Stall { thread, cpu });
-                    }
-                }
-            }
-        }
-    }
-    None
-}
-
 /// So many copies of a policy.
-fn copies_of(
-    alloc: Global,
-    policy: &AgentPolicy,
-    many: u8,
-) -> Result<Vec<AgentPolicy>, AllocError> {
+fn copies_of(alloc: Global, policy: &AgentPolicy, many: u8) -> Result<Vec<AgentPolicy>, AllocError>
+    ensures { IfOk result (λ copies. AreCopies policy.now copies.items) }
+{
     let mut copies = Vec::new(alloc);
     for _ in 0..many {
         let copy = policy.try_copy()?;
@@ -262,7 +280,9 @@ fn copies_of(
 }
 
 /// The machine of a run at its start, whose agents all go by a copy of the policy.
-fn machine_of(alloc: Global, config: &Config, policy: &AgentPolicy) -> Result<Protocol, SeedFault> {
+fn machine_of(alloc: Global, config: &Config, policy: &AgentPolicy) -> Result<Protocol, RunFault>
+    ensures { IfOk result (IsOpened (rules_of policy.now)) }
+{
     let limits = Limits {
         cpus: config.cpus(),
         threads: MOST_THREADS,
@@ -273,16 +293,61 @@ fn machine_of(alloc: Global, config: &Config, policy: &AgentPolicy) -> Result<Pr
     let policies = copies_of(alloc, policy, config.cpus())?;
     match Protocol::new(alloc, limits, &policies) {
         Ok(machine) => Ok(machine),
-        Err(LimitsFault::OutOfMemory) => Err(SeedFault::Run(RunFault::OutOfMemory)),
-        Err(LimitsFault::BadLimits(_)) => Err(SeedFault::Run(RunFault::Unaccounted)),
+        Err(LimitsFault::OutOfMemory) => Err(RunFault::OutOfMemory),
+        Err(LimitsFault::BadLimits(_)) => Err(RunFault::Unaccounted),
     }
 }
 
+/// How a run ended in which a thread is held up; it stands in the book as in the machine.
+fn stalled(run: Seeded<'_>, machine: &Protocol, held: HeldUp) -> Result<Ended, RunFault>
+    ensures told { IfOk result IfStalledBookTells }
+    ensures rests { IfOk result (RestsAs machine.now run.driver) }
+{
+    let manner = if machine.is_at_rest() && run.driver.is_idle() {
+        Manner::AtRest
+    } else {
+        Manner::Asking
+    };
+    let HeldUp { thread, cpu } = held;
+    let Seeded { book, .. } = run;
+    if !is_held_up(book.kernel(), thread, cpu) {
+        return Err(RunFault::Unaccounted);
+    }
+    let stall = Stall {
+        thread,
+        cpu,
+        manner,
+    };
+    Ok(Ended::Stalled(stall, book))
+}
+
+/// The report of a run in which no thread is held up.
+fn reported(
+    alloc: Global,
+    config: &Config,
+    book: Book,
+    machine: &Protocol,
+) -> Result<Ended, RunFault>
+    ensures tells { IfOk result (IfReported TellsItsBook) }
+    ensures adds_up { IfOk result (IfReported AddsUp) }
+    ensures all { IfOk result (IfReported (DoesAll config.now)) }
+    ensures rows { IfOk result (IfReported (λ report. pos (vec_len report.rows) ≡ config.now.cpus)) }
+    ensures ends { IfOk result IsReported }
+{
+    config.is_sound();
+    let cpus = config.cpus();
+    let views = views_of(alloc, machine, cpus)?;
+    let rows = rows_of(alloc, machine.world(), cpus)?;
+    let report = report_on(alloc, config, book, views.as_slice(), rows)?;
+    Ok(Ended::Reported(report))
+}
+
 /// Runs the agents of these settings in one thread, where whose step is next is drawn by a seed: some agents are slow,
-/// and notes overtake each other (own). The same seed gives the same run, its report and its book, on every machine.
+/// and notes overtake each other (own). The same seed gives the same run, and its book, on every machine.
 ///
-/// Faults are those of a run in threads, but `StartFailed`; and `Stalled` where nobody has a step left and a thread
-/// lives, which no agent brings about that does not restart. It is given up (`TimeUp`) at its deadline.
+/// It stalls where nobody has a step left and a thread waits for a CPU that idles, which no agents bring about that do
+/// not restart; or where agents ask each other for so long that no thread will come to run by it. Faults are those of a
+/// run in threads, but `StartFailed`; it is given up (`TimeUp`) at its deadline.
 pub fn run_by_seed<R: Clock>(
     rt: &R,
     alloc: Global,
@@ -290,29 +355,26 @@ pub fn run_by_seed<R: Clock>(
     policy: &AgentPolicy,
     seed: u64,
     deadline: Option<Instant>,
-) -> Result<LoadReport, SeedFault>
-    ensures tells { IfOk result TellsItsBook }
-    ensures adds_up { IfOk result AddsUp }
-    ensures all { IfOk result (DoesAll config.now) }
-    ensures rows { IfOk result (λ report. pos (vec_len report.rows) ≡ config.now.cpus) }
+) -> Result<Ended, RunFault>
+    ensures tells { IfOk result (IfReported TellsItsBook) }
+    ensures adds_up { IfOk result (IfReported AddsUp) }
+    ensures all { IfOk result (IfReported (DoesAll config.now)) }
+    ensures rows { IfOk result (IfReported (λ report. pos (vec_len report.rows) ≡ config.now.cpus)) }
+    ensures stalled { IfOk result IfStalledBookTells }
+    ensures rests { IsUndisturbed config.now (rules_of policy.now) → IfOk result RestsOnlyWhenDone }
 {
+    rest_is_done();
+    config.is_sound();
     let mut run = Seeded::new(alloc, config)?;
     let mut draws = Draws::new(alloc, seed, config.cpus())?;
     let machine = machine_of(alloc, config, policy)?;
     let machine = run.create_all(machine)?;
     let machine = run.play(rt, machine, &mut draws, deadline)?;
-    if run.driver.dead() < config.threads().len() {
-        if let Some(stall) = stall_of(&machine, config.cpus()) {
-            return Err(SeedFault::Stalled(stall));
+    match held_up(machine.world().kernel(), config.threads(), config.cpus()) {
+        Some(held) => stalled(run, &machine, held),
+        None => {
+            let Seeded { book, .. } = run;
+            reported(alloc, config, book, &machine)
         }
-    }
-    config.is_sound();
-    let cpus = config.cpus();
-    let views = views_of(alloc, &machine, cpus)?;
-    let rows = rows_of(alloc, machine.world(), cpus)?;
-    let Seeded { book, .. } = run;
-    match report_on(alloc, config, book, views.as_slice(), rows) {
-        Ok(report) => Ok(report),
-        Err(fault) => Err(SeedFault::Run(fault)),
     }
 }

@@ -126,7 +126,7 @@ pub(crate) struct Ended<N: Names> {
     pub(crate) joined: Joined,
 }
 
-/// The same, with what the driver and the agents have done.
+/// All threads of a run, by what was done before them; answers what they leave.
 fn in_scope<'s, 'e, N: Names + Send + Sync + 's, R: Threads + Wait + Clock + Sync, G: Gate + Sync>(
     scope: &'s Scope<'s, &'e ()>,
     rt: &'s R,

@@ -1,0 +1,86 @@
+//! What a run by a seed comes to.
+
+ghost use Rattle.std.specs.Prelude.{◌≡◌, ◌<◌, true, IfSome, length};
+ghost use Rattle.pc_seeds.specs.Ending.{IsHeldUp};
+
+use pc_kernel::Kernel;
+use pc_messages::{Cpu, Tid};
+use pc_threads::{Book, LoadReport, ThreadPlan};
+
+/// What agents do while a thread waits that none of them takes (own).
+#[derive(Clone, Copy, Debug, PartialEq, Eq)]
+pub enum Manner {
+    /// None has a step left.
+    AtRest,
+    /// They ask each other again and again, and nobody knows more.
+    Asking,
+}
+
+/// A thread for which a CPU idles, and that no agent takes (own). It comes of agents that restarted.
+#[derive(Clone, Copy, Debug, PartialEq, Eq)]
+pub struct Stall {
+    /// The least thread that waits so.
+    pub thread: Tid,
+    /// The least CPU that idles, and that it may run on.
+    pub cpu: Cpu,
+    pub manner: Manner,
+}
+
+/// How a run by a seed ended (own).
+#[derive(Drop)]
+pub enum Ended {
+    /// Every thread is dead.
+    Reported(LoadReport),
+    /// A thread is stalled, behind these calls.
+    Stalled(Stall, Book),
+}
+
+/// A thread that waits, and a CPU that idles.
+#[derive(Clone, Copy)]
+pub(crate) struct HeldUp {
+    pub(crate) thread: Tid,
+    pub(crate) cpu: Cpu,
+}
+
+/// Whether the thread waits, and the CPU, on which it may run, idles.
+pub(crate) fn is_held_up(kernel: &Kernel, thread: Tid, cpu: Cpu) -> bool
+    ensures { result ≡ true → IsHeldUp kernel.now thread cpu }
+{
+    let Some(state) = kernel.state(thread) else {
+        return false;
+    };
+    let Some(status) = kernel.status(thread) else {
+        return false;
+    };
+    state.may_run_on(cpu) && status.running_on.is_none() && kernel.running(cpu).is_none()
+}
+
+/// The least CPU that idles while the thread waits, and that it may run on.
+fn idle_for(kernel: &Kernel, thread: Tid, cpus: u8) -> Option<Cpu>
+    ensures { IfSome result (IsHeldUp kernel.now thread) }
+{
+    for cpu in 0..cpus {
+        let cpu = Cpu(cpu);
+        if is_held_up(kernel, thread, cpu) {
+            return Some(cpu);
+        }
+    }
+    None
+}
+
+/// The least of the threads that waits for a CPU that idles.
+pub(crate) fn held_up(kernel: &Kernel, plans: &[ThreadPlan], cpus: u8) -> Option<HeldUp>
+    ensures held { IfSome result (λ held. IsHeldUp kernel.now held.thread held.cpu) }
+    ensures one { IfSome result (λ held. held.thread < length plans.now) }
+{
+    for place in 0..plans.len() {
+        let Ok(name) = u32::try_from(place) else {
+            return None;
+        };
+        let thread = Tid(name);
+        if let Some(cpu) = idle_for(kernel, thread, cpus) {
+            return Some(HeldUp { thread, cpu });
+        }
+    }
+    None
+}
