@@ -1,9 +1,9 @@
 -- What a run by a seed comes to.
-use Rattle.std.specs.Prelude.{ℕ, ◌≡◌, true, false, Option, None, option_map_or, [], ⊥}
-use Rattle.pc_messages.specs.State.{may_run_on}
+use Rattle.std.specs.Prelude.{ℕ, ◌≡◌, true, None, []}
 use Rattle.pc_kernel.specs.Reads.{on, place, reported_of, seen}
 use Rattle.pc_kernel.specs.Rows.{KernelRows}
 use Rattle.pc_policy.specs.Rules.{Rules}
+use Rattle.pc_run_queue.specs.Runs.{may_run}
 use Rattle.pc_protocol.specs.Machine.{Machine, Rests}
 use Rattle.pc_protocol.specs.Running.{TakesEach}
 use Rattle.pc_threads.specs.declared.report.LoadReport.{LoadReport}
@@ -16,7 +16,7 @@ use Rattle.pc_seeds.specs.declared.ending.Stall.{Stall}
 
 -- the thread waits, and the CPU, on which it may run, idles
 pub record IsHeldUp (kernel : KernelRows) (t c : ℕ) : Type 0 where
-  pub may_run : option_map_or (λ state. may_run_on state c) (reported_of (seen kernel) t) false ≡ true
+  pub may : may_run (reported_of (seen kernel) t) c ≡ true
   pub is_off : place (seen kernel) t ≡ None
   pub idles : on (seen kernel) c ≡ None
 

@@ -3,8 +3,8 @@
 use crate::threads::runs::{LIFE, Plan, config, totals};
 use pc_messages::{Cpu, Tid};
 use pc_policy::AgentPolicy;
-use pc_seeds::{SeedFault, Stall, run_by_seed};
-use pc_threads::{LoadReport, RunFault, Step};
+use pc_seeds::{Ended, Manner, Stall, run_by_seed};
+use pc_threads::{Book, LoadReport, RunFault, Step};
 use std::alloc::Global;
 use std::time::{Clock, Duration, Instant};
 
@@ -15,20 +15,32 @@ type Settings<'a> = (i64, &'a [Plan<'a>], &'a [(i64, i64)]);
 const LIVES: Settings<'static> = (3, &[LIFE, LIFE, LIFE], &[]);
 
 // Without a contract, as those below, so that a test's proof does not carry those of the run.
+fn end<R: Clock>(
+    rt: &R,
+    alloc: Global,
+    settings: &Settings<'_>,
+    seed: u64,
+) -> Result<Ended, RunFault> {
+    let Some(config) = config(alloc, settings.0, settings.1, settings.2) else {
+        return Err(RunFault::Unaccounted);
+    };
+    run_by_seed(rt, alloc, &config, &AgentPolicy::usual(), seed, None)
+}
+
 fn report<R: Clock>(
     rt: &R,
     alloc: Global,
     settings: &Settings<'_>,
     seed: u64,
-) -> Result<LoadReport, SeedFault> {
-    let Some(config) = config(alloc, settings.0, settings.1, settings.2) else {
-        return Err(SeedFault::Run(RunFault::Unaccounted));
-    };
-    run_by_seed(rt, alloc, &config, &AgentPolicy::usual(), seed, None)
+) -> Option<LoadReport> {
+    match end(rt, alloc, settings, seed).ok()? {
+        Ended::Reported(report) => Some(report),
+        Ended::Stalled(..) => None,
+    }
 }
 
 fn totals_of<R: Clock>(rt: &R, alloc: Global, seed: u64) -> Option<[u64; 4]> {
-    Some(totals(&report(rt, alloc, &LIVES, seed).ok()?))
+    Some(totals(&report(rt, alloc, &LIVES, seed)?))
 }
 
 // Each thread has five messages, three commits and six ticks.
@@ -41,8 +53,8 @@ fn totals_are_those_of_the_settings(rt: HostRuntime) {
 
 /// Whether runs by two seeds list the same calls and answers.
 fn list_the_same<R: Clock>(rt: &R, alloc: Global, first: u64, second: u64) -> Option<bool> {
-    let one = report(rt, alloc, &LIVES, first).ok()?;
-    let other = report(rt, alloc, &LIVES, second).ok()?;
+    let one = report(rt, alloc, &LIVES, first)?;
+    let other = report(rt, alloc, &LIVES, second)?;
     Some(one.book.calls() == other.book.calls())
 }
 
@@ -76,33 +88,40 @@ const FORGETS: Settings<'static> = (
     &[(0, 2), (1, 2)],
 );
 
-/// Where a run may stall: each thread waits for the CPU that it may run on.
-const STALLS: [Stall; 2] = [
-    Stall {
-        thread: Tid(0),
-        cpu: Cpu(0),
-    },
-    Stall {
-        thread: Tid(1),
-        cpu: Cpu(1),
-    },
-];
-
-fn if_there(stall: &Stall) -> Option<bool> {
-    if STALLS.contains(stall) {
-        Some(true)
-    } else {
-        None
+/// Where a run stalled, if it did; nothing where it fails by what such agents do not bring about. A message that both
+/// have forgotten may be lacking at the end.
+fn stall<R: Clock>(
+    rt: &R,
+    alloc: Global,
+    settings: &Settings<'_>,
+    seed: u64,
+) -> Option<Option<(Stall, Book)>> {
+    match end(rt, alloc, settings, seed) {
+        Ok(Ended::Stalled(stall, book)) => Some(Some((stall, book))),
+        Ok(Ended::Reported(_)) | Err(RunFault::Incomplete(_)) => Some(None),
+        Err(_) => None,
     }
 }
 
-/// Whether a run stalls there; none where it fails by what such agents do not bring about. A message that both have
-/// forgotten may be lacking at the end.
+/// Whether the thread waits for the CPU that it alone may run on, by the calls of the book.
+fn waits_at_home(stall: &Stall, book: &Book) -> bool {
+    let kernel = book.kernel();
+    stall.thread.index() == stall.cpu.index() as u32
+        && kernel.is_waiting(stall.thread)
+        && kernel.running(stall.cpu).is_none()
+}
+
+/// Whether a run stalls so; none where it stalls or fails otherwise.
 fn stalls<R: Clock>(rt: &R, alloc: Global, seed: u64) -> Option<bool> {
-    match report(rt, alloc, &FORGETS, seed).err() {
-        None | Some(SeedFault::Run(RunFault::Incomplete(_))) => Some(false),
-        Some(SeedFault::Stalled(stall)) => if_there(&stall),
-        Some(SeedFault::Run(_)) => None,
+    match stall(rt, alloc, &FORGETS, seed)? {
+        Some((stall, book)) => {
+            if waits_at_home(&stall, &book) {
+                Some(true)
+            } else {
+                None
+            }
+        }
+        None => Some(false),
     }
 }
 
@@ -122,8 +141,57 @@ fn agents_that_start_again_may_stall(rt: HostRuntime) {
     assert_eq!(rt; some_stall(&rt, rt.alloc()), Some(true));
 }
 
+/// Two CPUs and three threads; both agents start again often, and may have forgotten what the kernel knows of a thread,
+/// so that each asks the other for it, again and again.
+const ASKS: Settings<'static> = (
+    2,
+    &[
+        (0, 3, &[Step::Yield(1), Step::Yield(1), Step::Die(1)]),
+        (1, 3, &[Step::Block(1), Step::Yield(1), Step::Die(1)]),
+        (0, 3, &[Step::Yield(1), Step::Block(1), Step::Die(1)]),
+    ],
+    &[
+        (0, 2),
+        (1, 2),
+        (0, 3),
+        (1, 3),
+        (0, 4),
+        (1, 4),
+        (0, 5),
+        (1, 5),
+        (0, 6),
+        (1, 6),
+        (0, 7),
+        (1, 7),
+    ],
+);
+
+/// Whether a run of these ends in agents that ask each other.
+fn asks<R: Clock>(rt: &R, alloc: Global, seed: u64) -> Option<bool> {
+    match stall(rt, alloc, &ASKS, seed)? {
+        Some((stall, _)) => Some(stall.manner == Manner::Asking),
+        None => Some(false),
+    }
+}
+
+fn some_ask<R: Clock>(rt: &R, alloc: Global) -> Option<bool> {
+    let mut some = false;
+    for seed in 0..64 {
+        if asks(rt, alloc, seed)? {
+            some = true;
+        }
+    }
+    Some(some)
+}
+
+// Such a run has a step for ever; it is told as stalled all the same.
+#[test]
+fn agents_that_ask_each_other_for_ever_are_told(rt: HostRuntime) {
+    assert_eq!(rt; some_ask(&rt, rt.alloc()), Some(true));
+}
+
 /// Why a run whose deadline is gone by as it begins has no report.
-fn late<R: Clock>(rt: &R, alloc: Global) -> Option<SeedFault> {
+fn late<R: Clock>(rt: &R, alloc: Global) -> Option<RunFault> {
     let config = config(alloc, LIVES.0, LIVES.1, LIVES.2)?;
     let deadline = Instant::now(rt).ok()?;
     run_by_seed(rt, alloc, &config, &AgentPolicy::usual(), 0, Some(deadline)).err()
@@ -131,8 +199,5 @@ fn late<R: Clock>(rt: &R, alloc: Global) -> Option<SeedFault> {
 
 #[test]
 fn a_run_is_given_up_at_its_deadline(rt: HostRuntime) {
-    assert_eq!(rt;
-        late(&rt, rt.alloc()),
-        Some(SeedFault::Run(RunFault::TimeUp))
-    );
+    assert_eq!(rt; late(&rt, rt.alloc()), Some(RunFault::TimeUp));
 }
