@@ -16,15 +16,15 @@ LATE = ("refused Stale", "refused Pending", "refused Dead")
 class Rule(Enum):
     """What an agent does, or is told; its name is that of the script that stalls without it."""
 
-    TELLS_WHO_WOKE = "a-post-tells-nobody"
-    SLEEPS_BY_THE_COUNT = "a-sleep-goes-by-no-count"
-    PUTS_BEFORE_REMOVAL = "a-removal-comes-before-the-puts"
-    REMOVES_BEFORE_A_STEAL = "a-steal-comes-before-the-removal"
-    PICKS_BEFORE_SLEEP = "a-sleep-comes-before-the-pick"
-    ASKS_WHEN_LATE = "a-late-steal-asks-nobody"
-    SENDS_EMPTY_ANSWERS = "an-empty-answer-is-not-sent"
-    TURNS_BEHIND_NOTES = "a-note-leads-to-no-turn"
-    TELLS_OF_URGENT_NEWS = "news-is-never-told"
+    TELLS_WHO_WOKE = "post-tells-nobody"
+    SLEEPS_BY_THE_COUNT = "sleep-without-count"
+    PUTS_BEFORE_REMOVAL = "removal-before-puts"
+    REMOVES_BEFORE_A_STEAL = "steal-before-removal"
+    PICKS_BEFORE_SLEEP = "sleep-before-pick"
+    ASKS_WHEN_LATE = "late-steal-asks-nobody"
+    SENDS_EMPTY_ANSWERS = "empty-answer-unsent"
+    TURNS_BEHIND_NOTES = "note-without-turn"
+    TELLS_OF_URGENT_NEWS = "news-untold"
 
 
 # What is said of an agent's step in a script.

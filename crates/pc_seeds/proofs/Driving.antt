@@ -66,11 +66,6 @@ drop_at [] i x e = cc
 drop_at (y ∷ xs) zero x e = let same : y ≡ x = cc in ap (λ z. z ∷ xs) same
 drop_at (y ∷ xs) (suc i) x e = drop_at xs i x e
 
-pub cut_at : {X : Type 0} (xs : List X) (i : ℕ) (x : X) → slice_get xs i ≡ Some x → xs ≡ take i xs ++ x ∷ drop (suc i) xs
-cut_at [] i x e = cc
-cut_at (y ∷ xs) zero x e = let same : y ≡ x = cc in ap (λ z. z ∷ xs) same
-cut_at (y ∷ xs) (suc i) x e = ap (λ l. y ∷ l) (cut_at xs i x e)
-
 -- the driver wakes whom it blocked
 pub wakes : (plans : List Plan) (old new : Machine) (was is : Driver) (t : ℕ) → was.blocked ≡ Some t → is.done ≡ was.done → is.told ≡ was.told → is.blocked ≡ None → Accepts (Wake t) old new → DrivesOn plans old was new is
 wakes plans old new was is t blocked done told none accepts r here =

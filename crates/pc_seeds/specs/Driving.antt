@@ -1,5 +1,6 @@
 -- What the driver of a run by a seed keeps, and that its steps are those of the protocol's driver.
-use Rattle.std.specs.Prelude.{ℕ, nat_abs, ◌≡◌, true, List, [], ◌∷◌, ◌++◌, None, length, drop, get_or, map, option_map_or, slice_get, All}
+use Rattle.std.specs.Prelude.{ℕ, nat_abs, ◌≡◌, true, List, [], ◌∷◌, ◌++◌, length, drop, get_or, map, slice_get, All}
+use Rattle.std.specs.Prelude.{None, option_map_or}
 use Rattle.pc_calls.specs.declared.call.EnvCall.{EnvCall}
 use Rattle.pc_calls.specs.declared.call.EnvCall.TheVariants.{Create}
 use Rattle.pc_calls.specs.declared.leaving.Leaving.TheVariants as leaving
@@ -9,7 +10,8 @@ use Rattle.pc_policy.specs.declared.agent_policy.AgentPolicy.{AgentPolicy}
 use Rattle.pc_policy.specs.Rules.{Rules, rules_of}
 use Rattle.pc_protocol.specs.Machine.{Leads, Machine, Shows}
 use Rattle.pc_protocol.specs.Protocol.{opening}
-use Rattle.pc_protocol.specs.Running.{AreCreated, Deed, Drive, Driven, Drives, IsAccepted, IsDone, Plan as PlanOfDeeds, TakesEach, asked}
+use Rattle.pc_protocol.specs.Running.{AreCreated, Deed, Drive, Driven, Drives, IsAccepted, IsDone}
+use Rattle.pc_protocol.specs.Running.{Plan as PlanOfDeeds, TakesEach, asked}
 use Rattle.pc_threads.specs.declared.settings.plans.Step.{Step}
 use Rattle.pc_threads.specs.declared.settings.plans.Step.TheVariants.{Block, Die, Preempt, Yield}
 use Rattle.pc_threads.specs.Settings.{Plan}
@@ -89,7 +91,8 @@ pub record TakesStep (plans : List Plan) (t : ℕ) (step : Step) (was is : Drive
 abbrev pub DoesDeed : List Plan → ℕ → Machine → Driver → Machine → Driver → Type 0
 DoesDeed plans c old was new is =
     (r : Drive) (before behind : List ℕ) → r.blocked ≡ None → r.told ≡ before ++ c ∷ behind
-    → IsAt plans old was (record r { told = before ++ behind }) → (next : Drive) × IsDone r c next × IsAt plans new is next
+    → IsAt plans old was (record r { told = before ++ behind })
+    → (next : Drive) × IsDone r c next × IsAt plans new is next
 
 -- the policies are copies of one
 abbrev pub AreCopies : AgentPolicy → List AgentPolicy → Type 0

@@ -4,7 +4,8 @@ ghost use Rattle.std.specs.Prelude.{◌≡◌, [], false, Ok, IfOk, IfSome, leng
 ghost use Rattle.pc_policy.specs.Rules.{rules_of};
 ghost use Rattle.pc_threads.specs.Reports.{AddsUp, DoesAll, TellsItsBook};
 ghost use Rattle.pc_threads.specs.Settings.{plan_of};
-ghost use Rattle.pc_seeds.specs.Driving.{AreCopies, Creates, DrivesOn, IsIdle, IsOpened, StaysInRun, created_by, deeds_of};
+ghost use Rattle.pc_seeds.specs.Driving.{AreCopies, Creates, DrivesOn, IsIdle, IsOpened, StaysInRun, created_by};
+ghost use Rattle.pc_seeds.specs.Driving.{deeds_of};
 ghost use Rattle.pc_seeds.specs.Ending.{IfReported, IfStalledBookTells, IsReported, IsUndisturbed, RestsAs};
 ghost use Rattle.pc_seeds.specs.Ending.{RestsOnlyWhenDone};
 
