@@ -11,5 +11,6 @@ returns c =
     record {
       restarts = does_restart old _ c.args.cpu told
           (manned_crash c.kernel_laws.ensures c.args.cpu told old.world c.perform.new.world seats seats c.is_reached.ensures old.manned refl c.in-Ok.ensures)
-          (subst (λ b. HasBegun c.args.cpu old b) c.if-begins.false c.begins.ensures) c.in-Ok.ensures c.in-Ok-ask.ensures.asks;
+          (subst (λ b. HasBegun c.args.cpu old b) c.if-not-begins.false c.begins.ensures) c.in-Ok.ensures c.in-Ok-ask.ensures.asks;
+      no_step = λ none. cc;
     }
