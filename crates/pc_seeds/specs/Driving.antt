@@ -1,6 +1,7 @@
 -- What the driver of a run by a seed keeps, and that its steps are those of the protocol's driver.
-use Rattle.std.specs.Prelude.{ℕ, nat_abs, ◌≡◌, true, List, [], ◌∷◌, ◌++◌, length, drop, get_or, map, slice_get, All}
-use Rattle.std.specs.Prelude.{None, option_map_or}
+use Rattle.std.specs.Prelude.{ℕ, nat_abs, ◌≡◌, true, List, [], ◌∷◌, ◌++◌, length, drop, get_or, map, slice_get}
+use Rattle.std.specs.Prelude.{All, None}
+use Rattle.std.specs.Option.{option_map_or}
 use Rattle.pc_calls.specs.declared.call.EnvCall.{EnvCall}
 use Rattle.pc_calls.specs.declared.call.EnvCall.TheVariants.{Create}
 use Rattle.pc_calls.specs.declared.leaving.Leaving.TheVariants as leaving

@@ -35,15 +35,9 @@ abbrev pub RestsOnlyWhenDone : Ended → Type 0
 RestsOnlyWhenDone (Reported report) = Unit {0}
 RestsOnlyWhenDone (Stalled stall book) = stall.manner ≡ AtRest → ⊥
 
--- it is reported
-abbrev pub IsReported : Ended → Type 0
-IsReported (Reported report) = Unit {0}
-IsReported (Stalled stall book) = ⊥
-
 -- it is told as at rest only where the machine rests, and the driver has nothing to do
-abbrev pub RestsAs : Machine → Driver → Ended → Type 0
-RestsAs machine driver (Reported report) = Unit {0}
-RestsAs machine driver (Stalled stall book) =
+abbrev pub RestsAs : Machine → Driver → Stall → Type 0
+RestsAs machine driver stall =
     stall.manner ≡ AtRest → Rests machine true × (driver.told.items ≡ []) × (driver.blocked ≡ None)
 
 -- no agent restarts, and each takes whatever thread waits for its CPU

@@ -2,7 +2,7 @@
 
 ghost use Rattle.std.specs.Prelude.{◌≡◌, ◌++◌, ◌∷◌, [], true, map, None, IfOk, IfSome, OnOk};
 ghost use Rattle.pc_calls.specs.Leavings.{call_for};
-ghost use Rattle.pc_protocol.specs.Running.{blocked_by};
+ghost use Rattle.pc_protocol.specs.Running.{blocked_by, noticing};
 ghost use Rattle.pc_threads.specs.Settings.{plan_of};
 ghost use Rattle.pc_seeds.specs.Driving.{Accepts, DoesDeed, DrivesOn, IsIdle, TakesStep, deed_of};
 
@@ -99,13 +99,21 @@ impl Driver {
         self.blocked.is_none() && self.told.is_empty()
     }
 
-    /// It is told that a thread came to run on the CPU.
-    pub(crate) fn notice(&mut self, cpu: Cpu) -> Result<(), AllocError>
-        ensures told { OnOk result (self.new.told.items ≡ self.old.told.items ++ cpu ∷ []) }
+    /// It is told of the CPU, where a thread came to run there and none ran before.
+    pub(crate) fn notice(
+        &mut self,
+        cpu: Cpu,
+        ran: Option<Tid>,
+        runs: Option<Tid>,
+    ) -> Result<(), AllocError>
+        ensures told { OnOk result (self.new.told.items ≡ noticing cpu ran runs self.old.told.items) }
         ensures done { self.new.done ≡ self.old.done }
         ensures blocked { self.new.blocked ≡ self.old.blocked }
     {
-        self.told.push(cpu)?;
+        match (ran, runs) {
+            (None, Some(_)) => self.told.push(cpu)?,
+            (Some(_), _) | (None, None) => {}
+        }
         Ok(())
     }
 
@@ -140,7 +148,8 @@ impl Driver {
             return Err(RunFault::Driver(Refusal::IdleCpu));
         };
         self.blocked = blocked_by(thread, &step);
-        accepted(machine, call_of(cpu, &step), told)
+        let machine = accepted(machine, call_of(cpu, &step), told)?;
+        Ok(machine)
     }
 
     /// Does what is next.
@@ -155,12 +164,14 @@ impl Driver {
     {
         if let Some(thread) = self.blocked {
             self.blocked = None;
-            return accepted(machine, EnvCall::Wake { thread }, told);
+            let machine = accepted(machine, EnvCall::Wake { thread }, told)?;
+            return Ok(machine);
         }
         if choice >= self.told.len() {
             return Err(RunFault::Driver(Refusal::IdleCpu));
         }
         let cpu = self.told.remove(choice);
-        self.go_on(machine, plans, cpu, told)
+        let machine = self.go_on(machine, plans, cpu, told)?;
+        Ok(machine)
     }
 }

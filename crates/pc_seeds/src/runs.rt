@@ -6,7 +6,7 @@ ghost use Rattle.pc_threads.specs.Reports.{AddsUp, DoesAll, TellsItsBook};
 ghost use Rattle.pc_threads.specs.Settings.{plan_of};
 ghost use Rattle.pc_seeds.specs.Driving.{AreCopies, Creates, DrivesOn, IsIdle, IsOpened, StaysInRun, created_by};
 ghost use Rattle.pc_seeds.specs.Driving.{deeds_of};
-ghost use Rattle.pc_seeds.specs.Ending.{IfReported, IfStalledBookTells, IsReported, IsUndisturbed, RestsAs};
+ghost use Rattle.pc_seeds.specs.Ending.{IfReported, IfStalledBookTells, IsHeldUp, IsUndisturbed, RestsAs};
 ghost use Rattle.pc_seeds.specs.Ending.{RestsOnlyWhenDone};
 
 use crate::draws::{Draws, Turn};
@@ -21,7 +21,7 @@ use pc_join::OutOfMemory;
 use pc_messages::Cpu;
 use pc_policy::AgentPolicy;
 use pc_protocol::{Protocol, StepFault, Told, rest_is_done};
-use pc_threads::{Book, Config, Row, RunFault, ThreadPlan, report_on};
+use pc_threads::{Book, Config, LoadReport, Row, RunFault, ThreadPlan, report_on};
 use pc_view::View;
 use pc_world::World;
 use std::alloc::{AllocError, Global};
@@ -82,7 +82,7 @@ struct Seeded<'a> {
 impl<'a> Seeded<'a> {
     /// A run of which nothing was done.
     fn new(alloc: Global, config: &'a Config) -> Result<Seeded<'a>, RunFault>
-        ensures config { IfOk result (λ run. run.config ≡ config) }
+        ensures config { IfOk result (λ run. run.config.now ≡ config.now) }
         ensures idle { IfOk result (λ run. IsIdle config.now.threads run.driver) }
     {
         let book = Book::of_run(alloc, config)?;
@@ -159,27 +159,37 @@ impl<'a> Seeded<'a> {
     {
         let ran = machine.world().kernel().running(cpu);
         let machine = stepped(machine.step(cpu, choice, &mut self.told), cpu)?;
-        if ran.is_none() && machine.world().kernel().running(cpu).is_some() {
-            self.driver.notice(cpu)?;
+        let kernel = machine.world().kernel();
+        // An agent that has done a step is there: that is asked, so as not to be proved.
+        if cpu.index() >= kernel.cpus() {
+            return Err(RunFault::GaveUp(cpu));
         }
+        self.driver.notice(cpu, ran, kernel.running(cpu))?;
         Ok(machine)
     }
 
-    /// Does this step, and lists what it told.
+    /// The driver does what is next.
+    fn drive(&mut self, machine: Protocol, choice: usize) -> Result<Protocol, RunFault>
+        ensures config { self.new.config ≡ self.old.config }
+        ensures drives { IfOk result (λ new.
+            DrivesOn self.old.config.now.threads machine self.old.driver new self.new.driver) }
+    {
+        let machine = self
+            .driver
+            .go(machine, self.config.threads(), choice, &mut self.told)?;
+        Ok(machine)
+    }
+
+    /// Does this step.
     fn take(&mut self, machine: Protocol, turn: Turn) -> Result<Protocol, RunFault>
         ensures config { self.new.config ≡ self.old.config }
         ensures drives { self.old.config.now.restarts ≡ [] →
             IfOk result (λ new. DrivesOn self.old.config.now.threads machine self.old.driver new self.new.driver) }
     {
-        let machine = match turn {
-            Turn::Driver(choice) => {
-                self.driver
-                    .go(machine, self.config.threads(), choice, &mut self.told)?
-            }
-            Turn::Agent(cpu, choice) => self.step(machine, cpu, choice)?,
-        };
-        self.list(machine.world())?;
-        Ok(machine)
+        match turn {
+            Turn::Driver(choice) => self.drive(machine, choice),
+            Turn::Agent(cpu, choice) => self.step(machine, cpu, choice),
+        }
     }
 
     /// Step after step, until nobody has one, or for so long no thread has come to run that none will.
@@ -214,6 +224,7 @@ impl<'a> Seeded<'a> {
                 return Err(RunFault::TimeUp);
             }
             machine = self.take(machine, turn)?;
+            self.list(machine.world())?;
         }
         Err(RunFault::TimeUp)
     }
@@ -299,27 +310,25 @@ fn machine_of(alloc: Global, config: &Config, policy: &AgentPolicy) -> Result<Pr
     }
 }
 
-/// How a run ended in which a thread is held up; it stands in the book as in the machine.
-fn stalled(run: Seeded<'_>, machine: &Protocol, held: HeldUp) -> Result<Ended, RunFault>
-    ensures told { IfOk result IfStalledBookTells }
-    ensures rests { IfOk result (RestsAs machine.now run.driver) }
+/// The stall of a run in which a thread is held up, as in the machine, so by the calls of its book.
+fn stall_of(run: &Seeded<'_>, machine: &Protocol, held: HeldUp) -> Result<Stall, RunFault>
+    ensures told { IfOk result (λ stall. IsHeldUp run.now.book.kernel stall.thread stall.cpu) }
+    ensures rests { IfOk result (RestsAs machine.now run.now.driver) }
 {
+    let HeldUp { thread, cpu } = held;
+    if !is_held_up(run.book.kernel(), thread, cpu) {
+        return Err(RunFault::Unaccounted);
+    }
     let manner = if machine.is_at_rest() && run.driver.is_idle() {
         Manner::AtRest
     } else {
         Manner::Asking
     };
-    let HeldUp { thread, cpu } = held;
-    let Seeded { book, .. } = run;
-    if !is_held_up(book.kernel(), thread, cpu) {
-        return Err(RunFault::Unaccounted);
-    }
-    let stall = Stall {
+    Ok(Stall {
         thread,
         cpu,
         manner,
-    };
-    Ok(Ended::Stalled(stall, book))
+    })
 }
 
 /// The report of a run in which no thread is held up.
@@ -328,19 +337,17 @@ fn reported(
     config: &Config,
     book: Book,
     machine: &Protocol,
-) -> Result<Ended, RunFault>
-    ensures tells { IfOk result (IfReported TellsItsBook) }
-    ensures adds_up { IfOk result (IfReported AddsUp) }
-    ensures all { IfOk result (IfReported (DoesAll config.now)) }
-    ensures rows { IfOk result (IfReported (λ report. pos (vec_len report.rows) ≡ config.now.cpus)) }
-    ensures ends { IfOk result IsReported }
+) -> Result<LoadReport, RunFault>
+    ensures tells { IfOk result TellsItsBook }
+    ensures adds_up { IfOk result AddsUp }
+    ensures all { IfOk result (DoesAll config.now) }
+    ensures rows { IfOk result (λ report. pos (vec_len report.rows) ≡ config.now.cpus) }
 {
     config.is_sound();
     let cpus = config.cpus();
     let views = views_of(alloc, machine, cpus)?;
     let rows = rows_of(alloc, machine.world(), cpus)?;
-    let report = report_on(alloc, config, book, views.as_slice(), rows)?;
-    Ok(Ended::Reported(report))
+    report_on(alloc, config, book, views.as_slice(), rows)
 }
 
 /// Runs the agents of these settings in one thread, where whose step is next is drawn by a seed: some agents are slow,
@@ -371,11 +378,13 @@ pub fn run_by_seed<R: Clock>(
     let machine = machine_of(alloc, config, policy)?;
     let machine = run.create_all(machine)?;
     let machine = run.play(rt, machine, &mut draws, deadline)?;
-    match held_up(machine.world().kernel(), config.threads(), config.cpus()) {
-        Some(held) => stalled(run, &machine, held),
-        None => {
-            let Seeded { book, .. } = run;
-            reported(alloc, config, book, &machine)
-        }
+    let held = held_up(machine.world().kernel(), config.threads(), config.cpus());
+    if let Some(held) = held {
+        let stall = stall_of(&run, &machine, held)?;
+        let Seeded { book, .. } = run;
+        return Ok(Ended::Stalled(stall, book));
     }
+    let Seeded { book, .. } = run;
+    let report = reported(alloc, config, book, &machine)?;
+    Ok(Ended::Reported(report))
 }

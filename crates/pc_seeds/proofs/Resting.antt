@@ -1,13 +1,12 @@
 -- A run without restarts does not come to rest while a thread waits.
-use Rattle.std.proofs.Common.{◌≡◌, ◌<◌, ℕ, zero, suc, Bool, true, false, List, [], ◌∷◌, ◌++◌, length, map, All, Option, Some, None, nat_lt, if◌then◌else◌, refl, sym, ◌∙◌, ap, subst, arith}
+use Rattle.std.proofs.Common.{◌≡◌, ◌<◌, ℕ, zero, suc, Bool, true, false, List, [], ◌∷◌, ◌++◌, length, map, All, None, refl, sym, ◌∙◌, ap, subst, arith}
 use Rattle.std.proofs.lemmas.Bool.{false≢true}
 use Rattle.pc_messages.specs.State.{phase_of, state_of}
-use Rattle.pc_messages.specs.declared.reported.Phase.TheVariants as phase
 use Rattle.pc_calls.specs.declared.leaving.Leaving.TheVariants as how
 use Rattle.pc_calls.specs.declared.limits.Limits.{Limits}
 use Rattle.pc_kernel.specs.Answers.{Shows as ShowsKernel}
 use Rattle.pc_kernel.specs.PlainKernel.{PlainKernel, is_known, kinds}
-use Rattle.pc_kernel.specs.Reads.{reported_of, seen, shown}
+use Rattle.pc_kernel.specs.Reads.{reported_of, shown}
 use Rattle.pc_kernel.specs.Rows.{KernelRows}
 use Rattle.pc_kernel.specs.Steps.{is_dead}
 use Rattle.pc_policy.specs.Rules.{Rules}
@@ -32,8 +31,9 @@ no_death (Preempt n) e d = cc
 no_death (Die n) e d = cc
 
 goes_on : (steps : List Step) → All (λ step. is_die step ≡ false) steps → All (λ deed. deed.leaving ≡ how.Die → ⊥) (map deed_of steps)
-goes_on [] h = tt
-goes_on (step ∷ steps) h = (no_death step h.0, goes_on steps h.1)
+goes_on [] h k d low = absurd (omega arith)
+goes_on (step ∷ steps) h zero d low = no_death step (h 0 step (omega arith))
+goes_on (step ∷ steps) h (suc k) d low = goes_on steps (λ j s below. h (suc j) s (omega arith)) k d (omega arith)
 
 map_end : (steps : List Step) (n : ℕ) → map deed_of (steps ++ Die n ∷ []) ≡ map deed_of steps ++ record { leaving = how.Die; ran = n } ∷ []
 map_end [] n = refl
@@ -45,8 +45,9 @@ life_of plan h =
     record { before = map deed_of h.before; ran = h.ticks; ends = ap (map deed_of) h.ends ∙ map_end h.before h.ticks; goes_on = goes_on h.before h.goes_on }
 
 pub lives_of : (cpus : ℕ) (plans : List Plan) → All (IsPlan cpus) plans → All (λ plan. IsLife plan.deeds) (map deeds_of plans)
-lives_of cpus [] h = tt
-lives_of cpus (plan ∷ plans) h = (life_of plan h.0.life, lives_of cpus plans h.1)
+lives_of cpus [] h k d low = absurd (omega arith)
+lives_of cpus (plan ∷ plans) h zero d low = life_of plan (h 0 plan (omega arith)).life
+lives_of cpus (plan ∷ plans) h (suc k) d low = lives_of cpus plans (λ j p below. h (suc j) p (omega arith)) k d (omega arith)
 
 many_of : (plans : List Plan) → length (map deeds_of plans) ≡ length plans
 many_of [] = refl
@@ -68,8 +69,8 @@ none_held rest_is_done rules limits cpus plans machine driver k t c sound takes 
     let here = run.2 in
     let P = r.protocol.world.kernel in
     let dead =
-      rest_is_done rules limits (map deeds_of plans) r (lives_of cpus plans sound) (λ d inside. takes d) run.1
-      record { rests = (rests r.protocol here.shows).0 refl; none_told = here.keeps.told ∙ none_told; none_blocked = here.keeps.blocked ∙ none_blocked }
-      t (subst (λ n. t < n) (sym (many_of plans)) low) in
+    rest_is_done rules limits (map deeds_of plans) r (lives_of cpus plans sound) (λ d inside. takes d) run.1
+    record { rests = (rests r.protocol here.shows).0 refl; none_told = here.keeps.told ∙ none_told; none_blocked = here.keeps.blocked ∙ none_blocked }
+    t (subst (λ n. t < n) (sym (many_of plans)) low) in
     let alive_there = is_alive k P t c (shows r.protocol.world here.shows.world) held in
     absurd (false≢true (sym alive_there ∙ ap is_dead dead))
