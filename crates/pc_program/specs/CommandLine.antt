@@ -1,5 +1,5 @@
 -- The parser of the command line as a value, and what the words ask for.
-use Rattle.std.specs.Prelude.{◌≡◌, ◌≢◌, ◌⊎◌, ◌↔◌, ◌<◌, ◌^◌, ℕ, IsTrue, true, List, [], Option, Some, None}
+use Rattle.std.specs.Prelude.{◌≡◌, ◌≢◌, ◌⊎◌, ◌↔◌, ◌<◌, ◌≤◌, ◌^◌, ℕ, IsTrue, true, List, [], Option, Some, None}
 use Rattle.std.specs.Prelude.{codes, option_map, string_bytes}
 use Rattle.std.specs.Option.{IsSomeAnd}
 use Rattle.std.specs.Str.Parse.{IsNumeral, digits_value, without_leading_plus}
@@ -17,14 +17,16 @@ use Rattle.pc_draw.specs.declared.part.DrawnPart.{DrawnPart}
 use Rattle.pc_policy.specs.Names.{is_usual, policy_text}
 use Rattle.pc_policy.specs.declared.named.PolicyName.{PolicyName}
 use Rattle.pc_program.specs.Numbers.{IsWritten, SpellsNone}
+use Rattle.pc_program.specs.Seeds.{AreNumbers}
 use Rattle.pc_program.specs.declared.command_line.ProgramCommand.{ProgramCommand}
-use Rattle.pc_program.specs.declared.command_line.ProgramCommand.TheVariants.{Replay, Explain, Draw, Run, Session, Lab}
+use Rattle.pc_program.specs.declared.command_line.ProgramCommand.TheVariants.{Replay, Explain, Draw, Run, Tally, Session, Lab}
 use Rattle.pc_program.specs.declared.command_line.VariantsFrom.{VariantsFrom}
 use Rattle.pc_program.specs.declared.command_line.VariantsFrom.TheVariants as from
 use Rattle.pc_program.specs.declared.command_line.CommandFault.{CommandFault}
-use Rattle.pc_program.specs.declared.command_line.CommandFault.TheVariants.{OutOfMemory, BadNumbers, BadPolicy, Clap}
+use Rattle.pc_program.specs.declared.command_line.CommandFault.TheVariants.{OutOfMemory, BadNumbers, BadPolicy, BadRuns, Clap}
 use Rattle.pc_program.specs.declared.report.ReportForm.{ReportForm}
 use Rattle.pc_program.specs.declared.report.ReportForm.TheVariants.{Totals, EachCpu, EachRefusal, Picture}
+use Rattle.pc_program.specs.declared.seeds.Seeds.{Seeds}
 
 -- the word after a command
 abbrev pub file : Rule
@@ -60,10 +62,15 @@ limit = record (option (codes "limit")) { parser = Some (Unsigned 0 4294967295) 
 abbrev pub seed : Rule
 seed = record (option (codes "seed")) { parser = Some (Unsigned 0 18446744073709551615) }
 
--- run [FILE] [--per-cpu] [--draw] [--limit SECONDS] [--script FILE] [--policy NAME] [--seed NUMBER]
+-- --runs NUMBER
+abbrev pub runs : Rule
+runs = record (option (codes "runs")) { parser = Some (Unsigned 1 1000000000) }
+
+-- run [FILE] [--per-cpu] [--draw] [--limit SECONDS] [--script FILE] [--policy NAME] [--seed NUMBER] [--runs NUMBER]
 abbrev pub run : App
 run =
     with_rule
+    (with_rule
     (with_rule
     (with_rule
     (with_rule
@@ -71,7 +78,8 @@ run =
     limit)
     (option (codes "script")))
     (option (codes "policy")))
-    seed
+    seed)
+    runs
 
 -- session [FILE] [--explain]
 abbrev pub session : App
@@ -152,6 +160,29 @@ IsLimit word seconds = IsNumber 32 word seconds
 abbrev pub IsSeed : Option Text → Option ℕ → Type 0
 IsSeed word given = IsNumber 64 word given
 
+-- the number of runs that an option's word spells, if it spells one
+abbrev pub IsRuns : Option Text → Option ℕ → Type 0
+IsRuns word many = IsNumber 32 word many
+
+-- at least one run, and at most 1,000,000,000, each by a seed of 64 bits
+pub record AreSeeds (seeds : Seeds) : Type 0 where
+  pub some : 1 ≤ seeds.many
+  pub few : seeds.many ≤ 1000000000
+  pub numbers : AreNumbers seeds
+
+-- no word asks for a line for each CPU, a picture, or a script of a run
+abbrev pub AsksForTotals : List Row → Type 0
+AsksForTotals rows =
+    (count_of (codes "per-cpu") rows ≡ 0) × (IsSet (codes "draw") rows → ⊥) × (first_of (codes "script") rows ≡ None)
+
+-- several runs are asked for, but no seeds for them, or more than totals
+abbrev pub AreNoSeeds : Option (Text × List Row) → Type 0
+AreNoSeeds None = ⊥
+AreNoSeeds (Some met) =
+    (met.0 ≡ codes "run") × (one_of (codes "runs") met.1 ≢ None)
+    × ((seeds : Seeds) → IsSeed (one_of (codes "seed") met.1) (Some seeds.first)
+    → IsRuns (one_of (codes "runs") met.1) (Some seeds.many) → AreSeeds seeds → AsksForTotals met.1 → ⊥)
+
 -- the numbers that the word behind an option spells: all where there is no word
 abbrev pub IsSpelled : Option Text → Option Interval → Type 0
 IsSpelled None numbers = numbers ≡ None
@@ -213,7 +244,11 @@ IsAsked (Some met) (Run given form seconds policy script drawn_by) =
     IsOf (codes "run") (option_map string_bytes given) met × IsReportForm form met.1
     × IsLimit (one_of (codes "limit") met.1) seconds × IsPolicy (first_of (codes "policy") met.1) policy
     × (option_map string_bytes script ≡ first_of (codes "script") met.1)
-    × IsSeed (one_of (codes "seed") met.1) drawn_by
+    × IsSeed (one_of (codes "seed") met.1) drawn_by × IsRuns (one_of (codes "runs") met.1) None
+IsAsked (Some met) (Tally given seconds policy seeds) =
+    IsOf (codes "run") (option_map string_bytes given) met × IsLimit (one_of (codes "limit") met.1) seconds
+    × IsPolicy (first_of (codes "policy") met.1) policy × IsSeed (one_of (codes "seed") met.1) (Some seeds.first)
+    × IsRuns (one_of (codes "runs") met.1) (Some seeds.many) × AreSeeds seeds × AsksForTotals met.1
 IsAsked (Some met) (Session given explains) =
     IsOf (codes "session") (option_map string_bytes given) met × (IsTrue explains ↔ IsSet (codes "explain") met.1)
 IsAsked (Some met) (Lab given variants each csv picture script) =
@@ -222,12 +257,13 @@ IsAsked (Some met) (Lab given variants each csv picture script) =
     × (IsTrue picture ↔ IsSet (codes "picture") met.1)
     × (option_map string_bytes script ≡ first_of (codes "script") met.1)
 
--- want of memory, numbers or a policy that are none where there is no other fault, or one of these kinds, of which
--- help and the version are two
+-- want of memory, numbers, a policy or seeds that are none where there is no other fault, or one of these kinds, of
+-- which help and the version are two
 abbrev pub IsRefusal : Kinds → CommandFault → Type 0
 IsRefusal kinds OutOfMemory = Unit {0}
 IsRefusal kinds BadNumbers = kinds ≡ []
 IsRefusal kinds BadPolicy = kinds ≡ []
+IsRefusal kinds BadRuns = kinds ≡ []
 IsRefusal kinds (Clap error) = (kind_of error ≢ kind.OutOfMemory) × IsAmong (kind_of error) kinds
 
 -- one of the commands was met

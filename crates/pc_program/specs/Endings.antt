@@ -1,5 +1,5 @@
 -- How the program ends, and what it says then.
-use Rattle.std.specs.Prelude.{ℕ, List, Option, Some, None, Result, Ok, Err, codes, if◌then◌else◌}
+use Rattle.std.specs.Prelude.{ℕ, List, ◌++◌, Option, Some, None, Result, Ok, Err, codes, if◌then◌else◌}
 use Rattle.pc_script.specs.declared.outcome.Outcome.{Outcome}
 use Rattle.pc_script.specs.declared.outcome.Outcome.TheVariants as outcome
 use Rattle.pc_script.specs.declared.outcome.ScriptFault.{ScriptFault}
@@ -119,14 +119,18 @@ settings_message bad.TooManyThreads = codes "pc-sim: settings TooManyThreads"
 settings_message bad.BadThread = codes "pc-sim: settings BadThread"
 settings_message bad.BadRestart = codes "pc-sim: settings BadRestart"
 
+-- the name of what kept a run from settling
+abbrev pub unsettled_name : Unsettled → List ℕ
+unsettled_name why.Audit = codes "Audit"
+unsettled_name why.Incomplete = codes "Incomplete"
+unsettled_name why.Driver = codes "Driver"
+unsettled_name why.GaveUp = codes "GaveUp"
+unsettled_name why.Unaccounted = codes "Unaccounted"
+unsettled_name (why.Stalled stall) = codes "Stalled"
+
 -- what it says of a run that did not settle
 abbrev pub unsettled_message : Unsettled → List ℕ
-unsettled_message why.Audit = codes "pc-sim: run Audit"
-unsettled_message why.Incomplete = codes "pc-sim: run Incomplete"
-unsettled_message why.Driver = codes "pc-sim: run Driver"
-unsettled_message why.GaveUp = codes "pc-sim: run GaveUp"
-unsettled_message why.Unaccounted = codes "pc-sim: run Unaccounted"
-unsettled_message (why.Stalled stall) = codes "pc-sim: run Stalled"
+unsettled_message unsettled = codes "pc-sim: run " ++ unsettled_name unsettled
 
 -- what it says on standard error
 abbrev pub message_of : Ending → Option (List ℕ)

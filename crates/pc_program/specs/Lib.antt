@@ -1,5 +1,5 @@
--- What the program does: runs by a settings text, reports, the command line, how the program ends, and what it wrote
--- then.
+-- What the program does: runs by a settings text, reports, tallies, the command line, how the program ends, and what it
+-- wrote then.
 pub mod CommandLine
 pub mod Endings
 pub mod Numbers
@@ -8,5 +8,7 @@ pub mod Programs
 pub mod Progress
 pub mod ReportText
 pub mod Runs
+pub mod Seeds
 pub mod Talks
+pub mod Tallies
 pub mod Inner

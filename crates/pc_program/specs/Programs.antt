@@ -8,6 +8,9 @@ use Rattle.pc_script.specs.Scripts.{IsOutput, IsOutputUntil}
 use Rattle.pc_script.specs.Sessions.{ConsumesMost, IsAnsweredBy, IsAnsweredUntil}
 use Rattle.pc_script.specs.declared.input.TheConstants.{MOST_BYTES}
 use Rattle.pc_script.specs.declared.outcome.Outcome.TheVariants as outcome
+use Rattle.pc_seeds.specs.Ending.{IsHeldUp}
+use Rattle.pc_seeds.specs.declared.ending.Stall.{Stall}
+use Rattle.pc_threads.specs.Pages.{Pages}
 use Rattle.pc_threads.specs.Reports.{AddsUp, TellsItsBook}
 use Rattle.pc_threads.specs.declared.report.LoadReport.{LoadReport}
 use Rattle.pc_program.specs.Endings.{ending_of_settings}
@@ -20,6 +23,8 @@ use Rattle.pc_program.specs.declared.ending.Ending.{Ending}
 use Rattle.pc_program.specs.declared.ending.Ending.TheVariants.{Finished, FaultLine, DrawnToFault, CannotRead}
 use Rattle.pc_program.specs.declared.ending.Ending.TheVariants.{BadCommandLine, OutOfMemory, Settings, Run, CannotStart}
 use Rattle.pc_program.specs.declared.ending.Failure.TheVariants as failure
+use Rattle.pc_program.specs.declared.ending.Unsettled.{Unsettled}
+use Rattle.pc_program.specs.declared.ending.Unsettled.TheVariants as unsettled
 use Rattle.pc_program.specs.declared.forms.ScriptForm.{ScriptForm}
 use Rattle.pc_program.specs.declared.forms.ScriptForm.TheVariants.{Replies, Explained, Picture}
 use Rattle.pc_program.specs.declared.report.ReportForm.{ReportForm}
@@ -110,8 +115,37 @@ abbrev pub IsOfRun : (settings : Option Members) → (LoadReport → Type 0) →
 IsOfRun settings IsWritten =
     (report : LoadReport) × TellsItsBook report × AddsUp report × DoesWhatIsSpelled settings report × IsWritten report
 
+-- the calls of a run were written in which this thread is held up
+abbrev pub WritesStall : Stall → (old new : Option (List ℕ)) → Type 0
+WritesStall stall old new =
+    (book : Pages) × IsHeldUp book.kernel stall.thread stall.cpu × WritesCalls (script_of book) old new
+
+-- what is written as the script of a run that did not settle: its calls where it stalled, and else nothing
+abbrev pub IsUnsettledScript : Unsettled → (old new : Option (List ℕ)) → Type 0
+IsUnsettledScript (unsettled.Stalled stall) old new = WritesStall stall old new
+IsUnsettledScript unsettled.Audit old new = Keeps old new
+IsUnsettledScript unsettled.Incomplete old new = Keeps old new
+IsUnsettledScript unsettled.Driver old new = Keeps old new
+IsUnsettledScript unsettled.GaveUp old new = Keeps old new
+IsUnsettledScript unsettled.Unaccounted old new = Keeps old new
+
+-- after the script of a run that stalled was written
+abbrev pub IsScriptOfStall : Stall → (old new : Option (List ℕ)) → Ending → Type 0
+IsScriptOfStall stall old new (Run why) = (why ≡ unsettled.Stalled stall) × WritesStall stall old new
+IsScriptOfStall stall old new OutOfMemory = Keeps old new
+IsScriptOfStall stall old new (CannotRead failure.Write) = Unit {0}
+IsScriptOfStall stall old new (CannotRead failure.Read) = ⊥
+IsScriptOfStall stall old new (CannotRead failure.TooLong) = ⊥
+IsScriptOfStall stall old new (CannotRead failure.NotUtf8) = ⊥
+IsScriptOfStall stall old new Finished = ⊥
+IsScriptOfStall stall old new FaultLine = ⊥
+IsScriptOfStall stall old new DrawnToFault = ⊥
+IsScriptOfStall stall old new BadCommandLine = ⊥
+IsScriptOfStall stall old new (Settings bad) = ⊥
+IsScriptOfStall stall old new CannotStart = ⊥
+
 -- after a run by settings whose calls are written as a script: that script and the report of a run that did what they
--- ask for, or nothing; want of memory leaves out both, or the script alone
+-- ask for, the script alone of one that stalled, or nothing; want of memory leaves out both, or the script alone
 abbrev pub IsScripted : (settings : Option Members) (form : ReportForm)
     (script_old script_new old new : Option (List ℕ)) → Ending → Type 0
 IsScripted settings form script_old script_new old new Finished =
@@ -122,7 +156,7 @@ IsScripted settings form script_old script_new old new OutOfMemory =
 IsScripted settings form script_old script_new old new (Settings bad) =
     Keeps script_old script_new × IsReported settings form old new (Settings bad)
 IsScripted settings form script_old script_new old new (Run why) =
-    Keeps script_old script_new × IsReported settings form old new (Run why)
+    IsUnsettledScript why script_old script_new × IsReported settings form old new (Run why)
 IsScripted settings form script_old script_new old new CannotStart =
     Keeps script_old script_new × IsReported settings form old new CannotStart
 IsScripted settings form script_old script_new old new (CannotRead failure.Write) = Unit {0}

@@ -20,3 +20,10 @@ IsTextsFault text (Settings fault) = Reads text (Err fault)
 IsTextsFault text (Run fault) = SpellsSettings text
 IsTextsFault text (Stalled stall) = SpellsSettings text
 IsTextsFault text Write = SpellsSettings text
+
+-- it is not that a run stalled
+abbrev pub IsNoStall : RunTextFault → Type 0
+IsNoStall (Settings fault) = Unit {0}
+IsNoStall (Run fault) = Unit {0}
+IsNoStall (Stalled stall) = ⊥
+IsNoStall Write = Unit {0}

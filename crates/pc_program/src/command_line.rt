@@ -1,21 +1,23 @@
 //! The command line.
 
-ghost use Rattle.std.specs.Prelude.{◌≡◌, ◌↔◌, ◌⊎◌, [], Some, Err, IfOk, IfErr, IsTrue, map, option_map};
+ghost use Rattle.std.specs.Prelude.{◌≡◌, ◌↔◌, ◌⊎◌, [], Some, None, Err, IfOk, IfErr, IsTrue, map, option_map};
 ghost use Rattle.std.specs.Prelude.{string_bytes, codes, MatchOption};
 ghost use Rattle.pc_policy.specs.Names.{policy_text};
 ghost use Rattle.clap.specs.Walk.{first_of, one_of, rows_of};
 ghost use Rattle.clap.specs.Simple.{subcommand_of, subcommand_rows_of};
 ghost use Rattle.clap.specs.Faults.{fault_of};
 ghost use Rattle.clap.specs.Matches.{found_of};
-ghost use Rattle.pc_program.specs.CommandLine.{IsAsked, IsAxis, IsCommandMet, IsInput, IsLimit, IsNoPart, IsPart};
-ghost use Rattle.pc_program.specs.CommandLine.{IsFrom, IsNoPolicy, IsPolicy, IsRefusal, IsReportForm, IsSeed};
-ghost use Rattle.pc_program.specs.CommandLine.{IsSpelled, IsUnnamed, IsUnread, NamesNone, pc_sim};
+ghost use Rattle.pc_program.specs.CommandLine.{AreNoSeeds, AreSeeds, AsksForTotals, IsAsked, IsAxis, IsCommandMet};
+ghost use Rattle.pc_program.specs.CommandLine.{IsFrom, IsInput, IsLimit, IsNoPart, IsNoPolicy, IsPart, IsPolicy};
+ghost use Rattle.pc_program.specs.CommandLine.{IsRefusal, IsReportForm, IsRuns, IsSeed, IsSpelled, IsUnnamed};
+ghost use Rattle.pc_program.specs.CommandLine.{IsUnread, NamesNone, pc_sim};
 ghost use Rattle.pc_program.specs.Inner.FirstWord.{first_word};
 
 mod parsers;
 
 use crate::numbers::numbers_in;
 use crate::report::ReportForm;
+use crate::seeds::Seeds;
 use clap::error::ErrorKind;
 use clap::{ArgMatches, Command as Parser, Error};
 use parsers::parser_for;
@@ -57,6 +59,15 @@ pub enum ProgramCommand {
         script: Option<String>,
         /// What draws whose step is next, where the agents run in one thread.
         seed: Option<u64>,
+    },
+    /// Run agents by settings once for each of several seeds, and tally how the runs end.
+    Tally {
+        file: Option<String>,
+        /// After how many seconds no more of them are tried.
+        limit: Option<u32>,
+        /// What every agent goes by.
+        policy: PolicyName,
+        seeds: Seeds,
     },
     /// Answer commands as they come.
     Session {
@@ -103,6 +114,9 @@ pub enum CommandFault {
     /// A word that is to name a policy names none.
     #[error("a word names no policy")]
     BadPolicy,
+    /// The seeds of several runs are none, or other words ask for a single run.
+    #[error("several runs cannot be asked for so")]
+    BadRuns,
     /// The words are no command, or they ask for help or the version, which is the error's text.
     #[error(transparent)]
     Clap(Error),
@@ -122,11 +136,14 @@ impl From<AllocError> for CommandFault {
 /// The version of the program. It cannot know which kit built it, so it does not say so.
 const VERSION: &str = "1.0.0";
 
+/// The most runs that a tally is of.
+const MOST_RUNS: u32 = 1_000_000_000;
+
 /// Reads the words of the command line, of which the first is the program's name.
 ///
 /// The fault is `Clap` where the words are no command, and where they ask for help or the version; `BadNumbers` where
-/// they are one but for a word that is to spell numbers, and `BadPolicy` but for one that is to name a policy; or
-/// `OutOfMemory`.
+/// they are one but for a word that is to spell numbers, `BadPolicy` but for one that is to name a policy, and `BadRuns`
+/// but for those that ask for several runs; or `OutOfMemory`.
 pub fn read_command<'a, S: AsStr>(
     alloc: Global,
     words: &'a [S],
@@ -138,6 +155,8 @@ pub fn read_command<'a, S: AsStr>(
         → IsNoPart (subcommand_of pc_sim (map S.text words.entry.now)) }
     ensures policy { result ≡ Err CommandFault.BadPolicy
         → IsNoPolicy (subcommand_of pc_sim (map S.text words.entry.now)) }
+    ensures runs { result ≡ Err CommandFault.BadRuns
+        → AreNoSeeds (subcommand_of pc_sim (map S.text words.entry.now)) }
 {
     let parser: Parser<'a> = parser_for(alloc, first_word(words))?;
     match parser.try_get_matches_from(words) {
@@ -162,9 +181,10 @@ fn command_of(alloc: Global, matches: &ArgMatches<'_>) -> Result<ProgramCommand,
     requires { IsCommandMet (subcommand_rows_of matches.now) }
     ensures asked { IfOk result (IsAsked (subcommand_rows_of matches.now)) }
     ensures fault { IfErr result (λ fault. (fault ≡ CommandFault.OutOfMemory) ⊎ (fault ≡ CommandFault.BadNumbers)
-        ⊎ (fault ≡ CommandFault.BadPolicy)) }
+        ⊎ (fault ≡ CommandFault.BadPolicy) ⊎ (fault ≡ CommandFault.BadRuns)) }
     ensures numbers { result ≡ Err CommandFault.BadNumbers → IsNoPart (subcommand_rows_of matches.now) }
     ensures policy { result ≡ Err CommandFault.BadPolicy → IsNoPolicy (subcommand_rows_of matches.now) }
+    ensures runs { result ≡ Err CommandFault.BadRuns → AreNoSeeds (subcommand_rows_of matches.now) }
 {
     let Some((name, met)) = matches.subcommand() else {
         unreachable!()
@@ -188,7 +208,7 @@ fn command_of(alloc: Global, matches: &ArgMatches<'_>) -> Result<ProgramCommand,
     }
 }
 
-/// The run of this file that the matches of `run` ask for.
+/// The run of this file, or the runs, that the matches of `run` ask for.
 fn run_of(
     alloc: Global,
     file: Option<String>,
@@ -196,10 +216,30 @@ fn run_of(
 ) -> Result<ProgramCommand, CommandFault>
     requires { IsInput (first_of (codes "FILE") (rows_of (found_of met.now))) (option_map string_bytes file) }
     ensures asked { IfOk result (IsAsked (Some (codes "run", rows_of (found_of met.now)))) }
-    ensures fault { IfErr result (λ fault. (fault ≡ CommandFault.OutOfMemory) ⊎ (fault ≡ CommandFault.BadPolicy)) }
+    ensures fault { IfErr result (λ fault. (fault ≡ CommandFault.OutOfMemory) ⊎ (fault ≡ CommandFault.BadPolicy)
+        ⊎ (fault ≡ CommandFault.BadRuns)) }
     ensures policy { result ≡ Err CommandFault.BadPolicy → IsUnnamed (rows_of (found_of met.now)) }
+    ensures runs { result ≡ Err CommandFault.BadRuns → AreNoSeeds (Some (codes "run", rows_of (found_of met.now))) }
 {
     let policy = policy_of(met)?;
+    match runs_of(met) {
+        Some(many) => tally_of(file, policy, many, met),
+        None => Ok(single_of(alloc, file, policy, met)?),
+    }
+}
+
+/// The run of this file, by this policy, that the matches of `run` ask for.
+fn single_of(
+    alloc: Global,
+    file: Option<String>,
+    policy: PolicyName,
+    met: &ArgMatches<'_>,
+) -> Result<ProgramCommand, AllocError>
+    requires input { IsInput (first_of (codes "FILE") (rows_of (found_of met.now))) (option_map string_bytes file) }
+    requires policy { IsPolicy (first_of (codes "policy") (rows_of (found_of met.now))) policy }
+    requires single { IsRuns (one_of (codes "runs") (rows_of (found_of met.now))) None }
+    ensures { IfOk result (IsAsked (Some (codes "run", rows_of (found_of met.now)))) }
+{
     let script = script_of(alloc, met)?;
     Ok(ProgramCommand::Run {
         file,
@@ -209,6 +249,50 @@ fn run_of(
         script,
         seed: seed_of(met),
     })
+}
+
+/// So many runs of this file, by this policy, that the matches of `run` ask for.
+fn tally_of(
+    file: Option<String>,
+    policy: PolicyName,
+    many: u32,
+    met: &ArgMatches<'_>,
+) -> Result<ProgramCommand, CommandFault>
+    requires input { IsInput (first_of (codes "FILE") (rows_of (found_of met.now))) (option_map string_bytes file) }
+    requires policy { IsPolicy (first_of (codes "policy") (rows_of (found_of met.now))) policy }
+    requires runs { IsRuns (one_of (codes "runs") (rows_of (found_of met.now))) (Some many) }
+    ensures asked { IfOk result (IsAsked (Some (codes "run", rows_of (found_of met.now)))) }
+    ensures fault { IfErr result (λ fault. (fault ≡ CommandFault.BadRuns)
+        × AreNoSeeds (Some (codes "run", rows_of (found_of met.now)))) }
+{
+    let Some(first) = seed_of(met) else {
+        return Err(CommandFault::BadRuns);
+    };
+    let seeds = Seeds { first, many };
+    if !are_seeds(seeds) || !asks_for_totals(met) {
+        return Err(CommandFault::BadRuns);
+    }
+    Ok(ProgramCommand::Tally {
+        file,
+        limit: limit_of(met),
+        policy,
+        seeds,
+    })
+}
+
+/// Whether so many runs may be asked for, and the last seed is one.
+fn are_seeds(seeds: Seeds) -> bool
+    ensures { IsTrue result ↔ AreSeeds seeds }
+{
+    let Seeds { first, many } = seeds;
+    many >= 1 && many <= MOST_RUNS && first <= u64::MAX - (many - 1) as u64
+}
+
+/// Whether nothing asks for more than the totals of a run.
+fn asks_for_totals(met: &ArgMatches<'_>) -> bool
+    ensures { IsTrue result ↔ AsksForTotals (rows_of (found_of met.now)) }
+{
+    met.get_count("per-cpu") == 0 && !is_set(met, "draw") && met.get_str("script").is_none()
 }
 
 /// The picture of this file that the matches of `draw` ask for.
@@ -336,6 +420,13 @@ fn seed_of(matches: &ArgMatches<'_>) -> Option<u64>
     ensures { IsSeed (one_of (codes "seed") (rows_of (found_of matches.now))) result }
 {
     matches.get_one::<u64>("seed")
+}
+
+/// How many runs are asked for, where several may be.
+fn runs_of(matches: &ArgMatches<'_>) -> Option<u32>
+    ensures { IsRuns (one_of (codes "runs") (rows_of (found_of matches.now))) result }
+{
+    matches.get_one::<u32>("runs")
 }
 
 /// The policy that a word of the command line names.

@@ -3,7 +3,7 @@
 ghost use Rattle.std.specs.Prelude.{◌≡◌, option_map};
 ghost use Rattle.pc_program.specs.Endings.{ending_of_picture, ending_of_session, message_of};
 ghost use Rattle.pc_program.specs.Endings.{settings_message, status_of};
-ghost use Rattle.pc_program.specs.Endings.{unsettled_message};
+ghost use Rattle.pc_program.specs.Endings.{unsettled_message, unsettled_name};
 
 use crate::run_text::RunTextFault;
 use pc_script::{Conversed, Outcome, ScriptFault};
@@ -79,7 +79,7 @@ pub enum Unsettled {
     GaveUp,
     /// The calls, or what the agents counted, do not come to what the settings ask for.
     Unaccounted,
-    /// This thread waits in a run by a seed, and no agent has a step left.
+    /// This thread waits in a run by a seed, and no agent will look at it.
     Stalled(Stall),
 }
 
@@ -163,6 +163,20 @@ impl BadSettings {
 }
 
 impl Unsettled {
+    /// Its name.
+    pub(crate) fn name(self) -> &'static str
+        ensures { result.now ≡ unsettled_name self }
+    {
+        match self {
+            Unsettled::Audit => "Audit",
+            Unsettled::Incomplete => "Incomplete",
+            Unsettled::Driver => "Driver",
+            Unsettled::GaveUp => "GaveUp",
+            Unsettled::Unaccounted => "Unaccounted",
+            Unsettled::Stalled(_) => "Stalled",
+        }
+    }
+
     /// What is said on standard error.
     fn message(self) -> &'static str
         ensures { result.now ≡ unsettled_message self }

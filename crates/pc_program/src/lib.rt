@@ -1,5 +1,5 @@
 //! What `pc-sim` does, whatever gives its texts and takes its answers: it replays scripts of events on the kernel model
-//! and its agents, explains or draws them, answers commands as they come, or runs agents, in threads or by a seed.
+//! and its agents, explains or draws them, answers commands as they come, or runs agents, in threads or by seeds.
 //! Whoever calls it has the files, the streams and the exit.
 //!
 //! A script over memory, of which the third line is not answered, since the second is a fault:
@@ -22,7 +22,9 @@ mod progress;
 mod report;
 mod run_text;
 mod scripted;
+mod seeds;
 mod talk;
+mod tally;
 
 pub use command_line::{CommandFault, ProgramCommand, VariantsFrom, read_command};
 pub use ending::{BadSettings, Ending, Failure, Unsettled};
@@ -31,7 +33,7 @@ pub use input::{MOST_SETTINGS, read_settings};
 pub use pc_draw::{Axis, DrawnPart, Interval};
 pub use pc_policy::{AgentPolicy, Order, OrderName, PolicyName, Stealing};
 pub use pc_script::Helper;
-pub use pc_seeds::Stall;
+pub use pc_seeds::{Manner, Stall};
 pub use pc_settings::{
     Field, SettingsFault, read_config, steps_are_read_as_written, write_trouble,
 };
@@ -39,4 +41,6 @@ pub use progress::{Progress, SoFar};
 pub use report::ReportForm;
 pub use run_text::{RunTextFault, Scheduling, run_config};
 pub use scripted::run_scripted;
+pub use seeds::{Seeds, Tallied, tally_flushed};
 pub use talk::{Manual, converse_flushed};
+pub use tally::{Tally, TallyRow, Unreported};

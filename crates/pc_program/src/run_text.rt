@@ -2,14 +2,16 @@
 
 ghost use Rattle.std.specs.Prelude.{◌≡◌, ◌≢◌, IfErr, IfOk};
 ghost use Rattle.toml.specs.Parse.{parse_document};
+ghost use Rattle.pc_seeds.specs.Ending.{IfReported, IfStalledBookTells};
+ghost use Rattle.pc_settings.specs.SettingsText.{SpellsSettings};
 ghost use Rattle.pc_threads.specs.Reports.{AddsUp, DoesAll, TellsItsBook};
 ghost use Rattle.pc_program.specs.ReportText.{IsReport};
-ghost use Rattle.pc_program.specs.Runs.{DoesWhatIsSpelled, IsTextsFault};
+ghost use Rattle.pc_program.specs.Runs.{DoesWhatIsSpelled, IsNoStall, IsTextsFault};
 
 use crate::progress::Progress;
 use crate::report::{ReportForm, write_report};
 use pc_policy::AgentPolicy;
-use pc_seeds::{SeedFault, Stall, run_by_seed};
+use pc_seeds::{Ended, Stall, run_by_seed};
 use pc_settings::{SettingsFault, read_config};
 use pc_threads::{Config, Gate, LoadReport, RunFault, run_agents_by};
 use std::alloc::Global;
@@ -28,7 +30,7 @@ pub enum RunTextFault {
     /// The run met a fault.
     #[error(transparent)]
     Run(RunFault),
-    /// The run was one by a seed, and nobody has a step left, while a thread lives.
+    /// The run was one by a seed, and no agent will look at a thread that waits.
     #[error("{0:?} is stalled")]
     Stalled(Stall),
     /// The report could not be written.
@@ -52,17 +54,18 @@ fn run_scheduled<R: Threads + Wait + Clock + Sync, S: Write + Copy + Sync>(
     config: &Config,
     scheduling: Scheduling,
     progress: &Progress<S>,
-) -> Result<LoadReport, SeedFault>
-    ensures tells { IfOk result TellsItsBook }
-    ensures adds_up { IfOk result AddsUp }
-    ensures all { IfOk result (DoesAll config.now) }
+) -> Result<Ended, RunFault>
+    ensures tells { IfOk result (IfReported TellsItsBook) }
+    ensures adds_up { IfOk result (IfReported AddsUp) }
+    ensures all { IfOk result (IfReported (DoesAll config.now)) }
+    ensures stalled { IfOk result IfStalledBookTells }
 {
     let Scheduling { policy, seed } = scheduling;
     match seed {
         Some(seed) => run_by_seed(rt, alloc, config, &policy, seed, progress.deadline()),
         None => match run_agents_by(rt, alloc, config, policy, progress) {
-            Ok(report) => Ok(report),
-            Err(fault) => Err(SeedFault::Run(fault)),
+            Ok(report) => Ok(Ended::Reported(report)),
+            Err(fault) => Err(fault),
         },
     }
 }
@@ -74,12 +77,15 @@ pub(crate) fn run_settings<R: Threads + Wait + Clock + Sync, S: Write + Copy + S
     text: &str,
     scheduling: Scheduling,
     progress: &Progress<S>,
-) -> Result<LoadReport, RunTextFault>
-    ensures tells { IfOk result TellsItsBook }
-    ensures adds_up { IfOk result AddsUp }
-    ensures all { IfOk result (DoesWhatIsSpelled (parse_document text.now)) }
+) -> Result<Ended, RunTextFault>
+    ensures tells { IfOk result (IfReported TellsItsBook) }
+    ensures adds_up { IfOk result (IfReported AddsUp) }
+    ensures all { IfOk result (IfReported (DoesWhatIsSpelled (parse_document text.now))) }
+    ensures stalled { IfOk result IfStalledBookTells }
+    ensures spelled { IfOk result (λ _. SpellsSettings (parse_document text.now)) }
     ensures settings { IfErr result (IsTextsFault (parse_document text.now)) }
     ensures unwritten { IfErr result (λ fault. fault ≢ RunTextFault.Write) }
+    ensures unstalled { IfErr result IsNoStall }
 {
     let config = match read_config(alloc, text) {
         Ok(config) => config,
@@ -89,9 +95,8 @@ pub(crate) fn run_settings<R: Threads + Wait + Clock + Sync, S: Write + Copy + S
     let ended = run_scheduled(rt, alloc, &config, scheduling, progress);
     progress.end();
     match ended {
-        Ok(report) => Ok(report),
-        Err(SeedFault::Run(fault)) => Err(RunTextFault::Run(fault)),
-        Err(SeedFault::Stalled(stall)) => Err(RunTextFault::Stalled(stall)),
+        Ok(ended) => Ok(ended),
+        Err(fault) => Err(RunTextFault::Run(fault)),
     }
 }
 
@@ -118,7 +123,8 @@ pub fn run_config<R: Threads + Wait + Clock + Sync, S: Write + Copy + Sync, W: W
     ensures unwritten { IfErr result (λ fault. fault ≢ RunTextFault.Write → writer.new ≡ writer.old) }
 {
     let report = match run_settings(rt, alloc, text, scheduling, progress) {
-        Ok(report) => report,
+        Ok(Ended::Reported(report)) => report,
+        Ok(Ended::Stalled(stall, _)) => return Err(RunTextFault::Stalled(stall)),
         Err(fault) => return Err(fault),
     };
     match write_report(writer, &report, form) {

@@ -5,15 +5,17 @@ ghost use Rattle.std.specs.Io.Buffered.{writer_buffer, writer_contents};
 ghost use Rattle.std.specs.Io.KnownBytes.{Keeps};
 ghost use Rattle.toml.specs.Parse.{parse_document};
 ghost use Rattle.pc_program.specs.Endings.{ending_of_both};
-ghost use Rattle.pc_program.specs.Programs.{IsScripted, IsWrittenBoth};
+ghost use Rattle.pc_seeds.specs.Ending.{IsHeldUp};
+ghost use Rattle.pc_program.specs.Programs.{IsScripted, IsScriptOfStall, IsWrittenBoth};
 
-use crate::ending::{Ending, Failure};
+use crate::ending::{Ending, Failure, Unsettled};
 use crate::forms::flushed;
 use crate::progress::Progress;
 use crate::report::{ReportForm, write_report};
 use crate::run_text::{Scheduling, run_settings};
 use pc_report::{TranscriptFault, write_transcript};
-use pc_threads::LoadReport;
+use pc_seeds::{Ended, Stall};
+use pc_threads::{Book, LoadReport};
 use std::alloc::Global;
 use std::io::{self, BufWriter, Write};
 use std::sync::Wait;
@@ -47,6 +49,18 @@ fn write_both<V: Write, W: Write>(
     ending_of_both(transcribed, told)
 }
 
+/// Writes the script of a run that stalled. It has no report.
+fn write_stalled<V: Write>(alloc: Global, stall: Stall, book: &Book, script: &mut V) -> Ending
+    ensures { IsHeldUp book.now.kernel stall.thread stall.cpu →
+        IsScriptOfStall stall (V.contents script.old) (V.contents script.new) result }
+{
+    match write_transcript(alloc, book, script) {
+        Ok(()) => Ending::Run(Unsettled::Stalled(stall)),
+        Err(TranscriptFault::OutOfMemory) => Ending::OutOfMemory,
+        Err(TranscriptFault::Write) => Ending::CannotRead(Failure::Write),
+    }
+}
+
 /// Runs agents by a settings text, and writes both. Nothing is flushed.
 fn run_both<R: Threads + Wait + Clock + Sync, S: Write + Copy + Sync, V: Write, W: Write>(
     rt: &R,
@@ -62,7 +76,8 @@ fn run_both<R: Threads + Wait + Clock + Sync, S: Write + Copy + Sync, V: Write, 
         (W.contents writer.old) (W.contents writer.new) result }
 {
     match run_settings(rt, alloc, text, scheduling, progress) {
-        Ok(report) => write_both(alloc, &report, form, script, writer),
+        Ok(Ended::Reported(report)) => write_both(alloc, &report, form, script, writer),
+        Ok(Ended::Stalled(stall, book)) => write_stalled(alloc, stall, &book, script),
         Err(fault) => Ending::from(fault),
     }
 }
@@ -86,7 +101,8 @@ fn both_flushed<V: Write + Drop, W: Write + Drop>(
 /// whatever the ending.
 ///
 /// Endings are those of [`crate::run_flushed`]; want of memory may also be that of the script, of which nothing was
-/// written then. The report is written whatever came of the script.
+/// written then. The report is written whatever came of the script. A run by a seed that stalls has a script, too, and
+/// no report.
 pub fn run_scripted<
     R: Threads + Wait + Clock + Sync,
     S: Write + Copy + Sync,

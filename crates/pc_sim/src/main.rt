@@ -1,5 +1,5 @@
 //! `pc-sim`: replays scripts of events on the kernel model and its agents, explains or draws them, answers commands as
-//! they come, runs agents in threads or by a seed, or tries loads of the lab. What it does is the libraries',
+//! they come, runs agents in threads or by seeds, or tries loads of the lab. What it does is the libraries',
 //! `pc_program` and `pc_trial`; here are the words, files and streams of the machine that it runs on.
 #![tactic(auto)]
 
@@ -7,6 +7,7 @@ mod lab;
 mod met;
 mod run;
 mod streams;
+mod tally;
 mod words;
 
 use lab::try_on_machine;
@@ -23,6 +24,7 @@ use std::fs::File;
 use std::io::{BufWriter, IsTerminal, Read, Write};
 use std::process::ExitCode;
 use streams::{Noted, fill_closed};
+use tally::tally_on_machine;
 use words::words_of;
 
 /// How it ended, and what the system said of the stream that failed, where one did.
@@ -75,7 +77,7 @@ fn command_of(rt: &HostRuntime) -> Result<ProgramCommand, Met> {
     match read_command(rt.alloc(), words.as_slice()) {
         Ok(command) => Ok(command),
         Err(CommandFault::OutOfMemory) => Err(Met::ended(Ending::OutOfMemory)),
-        Err(CommandFault::BadNumbers | CommandFault::BadPolicy) => {
+        Err(CommandFault::BadNumbers | CommandFault::BadPolicy | CommandFault::BadRuns) => {
             Err(Met::ended(Ending::BadCommandLine))
         }
         Err(CommandFault::Clap(error)) if error.use_stderr() => {
@@ -229,6 +231,14 @@ fn main(rt: HostRuntime) -> ExitCode {
             let scheduling = Scheduling { policy, seed };
             run_on_machine(&rt, &rt, file, form, limit, scheduling, script)
         }
+        Ok(
+            ProgramCommand::Tally {
+                file,
+                limit,
+                policy,
+                seeds,
+            },
+        ) => tally_on_machine(&rt, file, limit, &AgentPolicy::named(policy), seeds),
         Err(met) => end(&rt, &met, &Source(None), MOST_BYTES),
     }
 }

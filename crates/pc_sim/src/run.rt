@@ -5,8 +5,8 @@ use crate::end;
 use crate::met::{Met, Source};
 use crate::streams::{Noted, screen_of};
 use pc_program::{
-    Ending, MOST_SETTINGS, Progress, ReportForm, Scheduling, SoFar, Unsettled, read_settings,
-    run_flushed, run_scripted, write_trouble,
+    Ending, MOST_SETTINGS, Manner, Progress, ReportForm, Scheduling, SoFar, Unsettled,
+    read_settings, run_flushed, run_scripted, write_trouble,
 };
 use std::alloc::Global;
 use std::fs::File;
@@ -26,7 +26,7 @@ fn settings_in<R: Read + Drop>(alloc: Global, reader: R) -> Result<String, Met> 
 }
 
 /// The settings text of the file, or else of the standard input.
-fn settings_of(rt: &HostRuntime, source: &Source) -> Result<String, Met> {
+pub(crate) fn settings_of(rt: &HostRuntime, source: &Source) -> Result<String, Met> {
     match &source.0 {
         None => settings_in(rt.alloc(), rt.stdin()),
         Some(name) => match File::open(rt, name.as_str()) {
@@ -37,7 +37,7 @@ fn settings_of(rt: &HostRuntime, source: &Source) -> Result<String, Met> {
 }
 
 /// When a run that begins now is given up. Where the clock cannot be read it is not.
-fn deadline_of(rt: &HostRuntime, limit: Option<u32>) -> Option<Instant> {
+pub(crate) fn deadline_of(rt: &HostRuntime, limit: Option<u32>) -> Option<Instant> {
     let seconds = limit? as u64;
     Instant::now(rt)
         .ok()?
@@ -111,22 +111,50 @@ fn run_with_script<R: Threads + Wait + Clock + Sync, S: Write + Copy + Sync, W: 
     }
 }
 
-/// Says how far a run came that did not settle; or, of one by a seed, who waits in it, and how it can be had again.
-fn say_unsettled(rt: &HostRuntime, why: Unsettled, seed: Option<u64>, so_far: SoFar) {
+/// What agents do while a thread waits that none of them takes.
+fn deed(manner: Manner) -> &'static str {
+    match manner {
+        Manner::AtRest => "no agent will look at it",
+        Manner::Asking => "agents ask each other without end",
+    }
+}
+
+/// Says of a run by a seed that did not settle who waits in it, and how it can be had again.
+pub(crate) fn say_seed(rt: &HostRuntime, why: Unsettled, seed: u64) {
     // Nothing can be said of an error on standard error itself.
-    let _ = match (why, seed) {
-        (Unsettled::Stalled(stall), Some(seed)) => {
-            let (thread, cpu) = (stall.thread.0, stall.cpu.0);
+    let _ = match why {
+        Unsettled::Stalled(stall) => {
+            let (thread, cpu, deed) = (stall.thread.0, stall.cpu.0, deed(stall.manner));
             eprintln!(rt;
-                "pc-sim: t{thread} waits for CPU {cpu}, and no agent will look at it; --seed {seed} has it again"
+                "pc-sim: t{thread} waits for CPU {cpu}, and {deed}; --seed {seed} has it again"
             )
         }
-        (_, Some(seed)) => eprintln!(rt; "pc-sim: --seed {seed} has it again"),
-        (_, None) => eprintln!(rt; "pc-sim: {so_far}"),
+        _ => eprintln!(rt; "pc-sim: --seed {seed} has it again"),
     };
 }
 
-/// Says how a run by a settings text ended. Of settings that have a fault it says which.
+/// Says how far a run came that did not settle; or what [`say_seed`] says.
+fn say_unsettled(rt: &HostRuntime, why: Unsettled, seed: Option<u64>, so_far: SoFar) {
+    match seed {
+        Some(seed) => say_seed(rt, why, seed),
+        None => {
+            // Nothing can be said of an error on standard error itself.
+            let _ = eprintln!(rt; "pc-sim: {so_far}");
+        }
+    }
+}
+
+/// Says how what was to be done by a settings text ended. Of settings that have a fault it says which.
+pub(crate) fn end_settings(rt: &HostRuntime, met: &Met, source: &Source, text: &str) -> ExitCode {
+    let status = end(rt, met, source, MOST_SETTINGS);
+    if let Ending::Settings(_) = met.ending {
+        // Nothing can be said of an error on standard error itself.
+        let _ = write_trouble(rt.alloc(), text, &mut rt.stderr());
+    }
+    status
+}
+
+/// Says how a run by a settings text ended.
 fn end_run(
     rt: &HostRuntime,
     met: &Met,
@@ -135,14 +163,9 @@ fn end_run(
     seed: Option<u64>,
     so_far: SoFar,
 ) -> ExitCode {
-    let status = end(rt, met, source, MOST_SETTINGS);
-    match met.ending {
-        Ending::Settings(_) => {
-            // Nothing can be said of an error on standard error itself.
-            let _ = write_trouble(rt.alloc(), text, &mut rt.stderr());
-        }
-        Ending::Run(why) => say_unsettled(rt, why, seed, so_far),
-        _ => {}
+    let status = end_settings(rt, met, source, text);
+    if let Ending::Run(why) = met.ending {
+        say_unsettled(rt, why, seed, so_far);
     }
     status
 }

@@ -7,10 +7,10 @@ ghost use Rattle.std.specs.Prelude.{◌≡◌, IfOk, codes, false, option_map};
 ghost use Rattle.clap.specs.Walk.{rule_of};
 ghost use Rattle.clap.specs.Simple.{app_of, with_rule, with_subcommand};
 ghost use Rattle.pc_program.specs.CommandLine.{counted_flag, drawing, flag, lab, limit, of_file, option, pc_sim};
-ghost use Rattle.pc_program.specs.CommandLine.{program, run, seed, session};
+ghost use Rattle.pc_program.specs.CommandLine.{program, run, runs, seed, session};
 ghost use Rattle.pc_program.specs.Inner.FirstWord.{named, parser_of, program_for};
 
-use super::VERSION;
+use super::{MOST_RUNS, VERSION};
 use clap::builder::ValueParser;
 use clap::{Arg, ArgAction, Command as Parser};
 use std::alloc::{AllocError, Global};
@@ -75,10 +75,11 @@ const AFTER_RUN: &str = "\
 Example:
   printf 'cpus = 2\\n[[thread]]\\nqueue = 0\\nmask = 3\\nsteps = [\"yield 2\", \"die 1\"]\\n' | pc-sim run
 
-With --seed the agents run in one thread, and the same number has the same run again. With --draw the
-report is a picture, and --per-cpu changes nothing. Where --per-cpu stands twice, refusals are counted by
-name. The file of --script is made, or emptied, before the run begins; what is written there can be
-replayed, explained and drawn.
+With --seed the agents run in one thread, and the same number has the same run again. With --runs, too,
+there is a run by each seed, and a tally tells how many have a report, and which seeds have none first; no
+report, picture or script is written then. With --draw the report is a picture, and --per-cpu changes
+nothing. Where --per-cpu stands twice, refusals are counted by name. The file of --script is made, or
+emptied, before the run begins; what is written there can be replayed, explained and drawn.
 Exit status: 0 finished; 1 the settings have a fault, or a read or a write failed; 3 the run did not
 settle, or not within its limit; 4 memory or a thread is wanting.
 Settings and the report are described in docs/FORMATS.md.";
@@ -148,6 +149,9 @@ const POLICY: &str =
 
 const SEED: &str =
     "runs the agents in one thread, where this number (0 to 18446744073709551615) draws whose step is next";
+
+const RUNS: &str =
+    "runs once by each of so many seeds (1 to 1000000000) from that of --seed on, and tallies how they end";
 
 const SETTINGS: &str = "the settings; without it, and where it is `-`, the standard input is read";
 
@@ -289,7 +293,7 @@ fn draw_parser<'a>(alloc: Global) -> Result<Parser<'a>, AllocError>
     with_flag(parser, alloc, "time", TIME)
 }
 
-/// `run [FILE] [--per-cpu] [--draw] [--limit SECONDS] [--script FILE] [--policy NAME] [--seed NUMBER]`
+/// `run [FILE] [--per-cpu] [--draw] [--limit SECONDS] [--script FILE] [--policy NAME] [--seed NUMBER] [--runs NUMBER]`
 #[inline(never)]
 fn run_parser<'a>(alloc: Global) -> Result<Parser<'a>, AllocError>
     ensures { IfOk result (λ parser. app_of parser ≡ run) }
@@ -311,14 +315,15 @@ fn with_report_forms<'a>(parser: Parser<'a>, alloc: Global) -> Result<Parser<'a>
     with_flag(parser, alloc, "draw", DRAWS)
 }
 
-/// Adds `[--policy NAME] [--seed NUMBER]`, by which agents go, and whose step is next.
+/// Adds `[--policy NAME] [--seed NUMBER] [--runs NUMBER]`, by which agents go, and whose step is next, in how many runs.
 #[inline(never)]
 fn with_scheduling<'a>(parser: Parser<'a>, alloc: Global) -> Result<Parser<'a>, AllocError>
     ensures { IfOk result (λ more. app_of more
-        ≡ with_rule (with_rule (app_of parser.entry) (option (codes "policy"))) seed) }
+        ≡ with_rule (with_rule (with_rule (app_of parser.entry) (option (codes "policy"))) seed) runs) }
 {
     let parser = with_option(parser, alloc, "policy", "NAME", POLICY)?;
-    with_seed(parser, alloc)
+    let parser = with_seed(parser, alloc)?;
+    with_runs(parser, alloc)
 }
 
 /// `session [FILE] [--explain]`
@@ -427,6 +432,14 @@ fn with_seed<'a>(parser: Parser<'a>, alloc: Global) -> Result<Parser<'a>, AllocE
     parser.arg(seed_option(alloc))
 }
 
+/// Adds the option `--runs NUMBER`.
+#[inline(never)]
+fn with_runs<'a>(parser: Parser<'a>, alloc: Global) -> Result<Parser<'a>, AllocError>
+    ensures { IfOk result (λ more. app_of more ≡ with_rule (app_of parser.entry) runs) }
+{
+    parser.arg(runs_option(alloc))
+}
+
 /// The flag `--NAME`.
 fn flag_of<'a>(alloc: Global, name: &'static str, help: &'static str) -> Arg<'a>
     ensures rule { rule_of result ≡ flag name.now }
@@ -483,4 +496,15 @@ fn seed_option<'a>(alloc: Global) -> Arg<'a>
     ensures local { result.global ≡ false }
 {
     option_of(alloc, "seed", "NUMBER", SEED).value_parser(ValueParser::Unsigned(0, u64::MAX))
+}
+
+/// The option `--runs NUMBER`.
+fn runs_option<'a>(alloc: Global) -> Arg<'a>
+    ensures rule { rule_of result ≡ runs }
+    ensures local { result.global ≡ false }
+{
+    option_of(alloc, "runs", "NUMBER", RUNS).value_parser(ValueParser::Unsigned(
+        1,
+        MOST_RUNS as u64,
+    ))
 }
