@@ -26,7 +26,7 @@ _pc_sim() {
     command=$(_pc_sim_command "${COMP_WORDS[@]:1:COMP_CWORD-1}")
     COMPREPLY=()
     case $command in
-    run) flags="--per-cpu --draw --limit --policy --script --seed -h --help" ;;
+    run) flags="--per-cpu --draw --limit --policy --script --seed --runs -h --help" ;;
     draw) flags="--cpus --lines --time -h --help" ;;
     session) flags="--explain -h --help" ;;
     lab) flags="--variants --per-cpu --csv --picture --script -h --help" ;;
@@ -34,7 +34,7 @@ _pc_sim() {
     *) flags="-h --help -V --version" ;;
     esac
     case ${COMP_WORDS[COMP_CWORD-1]} in
-    --limit | --seed | --cpus | --lines) return ;;
+    --limit | --seed | --runs | --cpus | --lines) return ;;
     --policy)
         for name in levels fifo least-ran levels-then-least-ran; do
             for policy in "$name" "$name\\ exact"; do

@@ -19,6 +19,7 @@ complete -c pc-sim -n "__fish_seen_subcommand_from run" -l limit -x -d "Gives th
 complete -c pc-sim -n "__fish_seen_subcommand_from run" -l policy -x -a "$policies" -d "Runs and steals threads by this policy"
 complete -c pc-sim -n "__fish_seen_subcommand_from run" -l script -r -F -d "Also writes the run as a script into this file"
 complete -c pc-sim -n "__fish_seen_subcommand_from run" -l seed -x -d "Draws whose step is next by this number"
+complete -c pc-sim -n "__fish_seen_subcommand_from run" -l runs -x -d "Tries so many seeds, and tallies how runs end"
 complete -c pc-sim -n "__fish_seen_subcommand_from session" -l explain -d "Also explains each line"
 complete -c pc-sim -n "__fish_seen_subcommand_from draw" -l cpus -x -d "Draws the lanes of these CPUs alone"
 complete -c pc-sim -n "__fish_seen_subcommand_from draw" -l lines -x -d "Draws what happens at these lines alone"

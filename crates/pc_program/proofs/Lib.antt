@@ -6,3 +6,5 @@ pub mod Reporting
 pub mod Running
 pub mod Scripting
 pub mod Talking
+pub mod Tallying
+pub mod Trying

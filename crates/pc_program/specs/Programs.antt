@@ -10,7 +10,7 @@ use Rattle.pc_script.specs.declared.input.TheConstants.{MOST_BYTES}
 use Rattle.pc_script.specs.declared.outcome.Outcome.TheVariants as outcome
 use Rattle.pc_seeds.specs.Ending.{IsHeldUp}
 use Rattle.pc_seeds.specs.declared.ending.Stall.{Stall}
-use Rattle.pc_threads.specs.Pages.{Pages}
+use Rattle.pc_threads.specs.Pages.{IsReplay, Pages}
 use Rattle.pc_threads.specs.Reports.{AddsUp, TellsItsBook}
 use Rattle.pc_threads.specs.declared.report.LoadReport.{LoadReport}
 use Rattle.pc_program.specs.Endings.{ending_of_settings}
@@ -115,10 +115,10 @@ abbrev pub IsOfRun : (settings : Option Members) → (LoadReport → Type 0) →
 IsOfRun settings IsWritten =
     (report : LoadReport) × TellsItsBook report × AddsUp report × DoesWhatIsSpelled settings report × IsWritten report
 
--- the calls of a run were written in which this thread is held up
+-- the calls were written of a book, by which this thread is held up
 abbrev pub WritesStall : Stall → (old new : Option (List ℕ)) → Type 0
 WritesStall stall old new =
-    (book : Pages) × IsHeldUp book.kernel stall.thread stall.cpu × WritesCalls (script_of book) old new
+    (book : Pages) × IsReplay book × IsHeldUp book.kernel stall.thread stall.cpu × WritesCalls (script_of book) old new
 
 -- what is written as the script of a run that did not settle: its calls where it stalled, and else nothing
 abbrev pub IsUnsettledScript : Unsettled → (old new : Option (List ℕ)) → Type 0

@@ -54,6 +54,7 @@ fn write_stalled<V: Write>(alloc: Global, stall: Stall, book: &Book, script: &mu
     ensures { IsHeldUp book.now.kernel stall.thread stall.cpu →
         IsScriptOfStall stall (V.contents script.old) (V.contents script.new) result }
 {
+    book.is_replay();
     match write_transcript(alloc, book, script) {
         Ok(()) => Ending::Run(Unsettled::Stalled(stall)),
         Err(TranscriptFault::OutOfMemory) => Ending::OutOfMemory,

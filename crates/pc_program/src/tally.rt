@@ -47,7 +47,8 @@ pub struct Tally {
 /// The row behind one more run.
 fn with_one(row: Option<TallyRow>, it: Unreported) -> TallyRow
     requires few { many row + 1 < 2 ^ 64 }
-    ensures { result ≡ one_more row it }
+    ensures row { result ≡ one_more row it }
+    ensures counts { result.runs ≡ many row + 1 }
 {
     match row {
         Some(row) => TallyRow {

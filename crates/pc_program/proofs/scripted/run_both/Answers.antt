@@ -1,8 +1,23 @@
+use Rattle.std.proofs.Common.{subst}
+use Rattle.std.proofs.KnownBytes.{Keeps-refl}
 use Rattle.toml.specs.Parse.{parse_document}
-use Rattle.pc_program.proofs.Scripting.{both_of_run}
+use Rattle.pc_seeds.specs.Ending.{IfReported, IfStalledBookTells}
+use Rattle.pc_threads.specs.Reports.{AddsUp, TellsItsBook}
+use Rattle.pc_program.specs.Runs.{DoesWhatIsSpelled}
+use Rattle.pc_program.proofs.Scripting.{both_of_run, stall_of_run}
 use Rattle.pc_program.proofs.scripted.run_both.Goals as goal
 
-pub returns-in-Ok : goal.returns-in-Ok
-returns-in-Ok g c =
-    let ran = c.in-Ok.ensures in
-    both_of_run (parse_document c.args.text.now) c.args.form c.in-Ok.report _ _ _ _ c.write_both.result ran.tells ran.adds_up ran.all c.write_both.ensures
+pub returns-in-Ok-Reported : goal.returns-in-Ok-Reported
+returns-in-Ok-Reported g c =
+    let ran = c.in-Ok-Reported.ensures in
+    let is = c.in-Ok-Reported.field-0-is in
+    both_of_run (parse_document c.args.text.now) c.args.form c.in-Ok-Reported.report _ _ _ _ c.write_both.result
+    (subst (IfReported TellsItsBook) is ran.tells) (subst (IfReported AddsUp) is ran.adds_up)
+    (subst (IfReported (DoesWhatIsSpelled (parse_document c.args.text.now))) is ran.all) c.write_both.ensures
+
+pub returns-in-Ok-Stalled : goal.returns-in-Ok-Stalled
+returns-in-Ok-Stalled g c =
+    let ran = c.in-Ok-Stalled.ensures in
+    let held = subst IfStalledBookTells c.in-Ok-Stalled.field-0-is ran.stalled in
+    stall_of_run (parse_document c.args.text.now) c.args.form c.in-Ok-Stalled.stall _ _ _ _ c.write_stalled.result ran.spelled
+    (c.write_stalled.ensures held) (Keeps-refl _)
