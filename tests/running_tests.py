@@ -1,8 +1,9 @@
 #!/usr/bin/env python3
-"""Tests runs of agents in threads: their refusals by name, their limit, their scripts, and their policies.
+"""Tests runs of agents, in threads and by seeds: refusals by name, limits, scripts, policies, and tallies.
 
 Settings are drawn; what is counted by name adds up.
 """
+import itertools
 import random
 import re
 import signal
@@ -16,6 +17,10 @@ from tables import drawn_steps, restart, thread
 
 DRAWN = 40
 POLICIES = [order + rest for order in ORDERS for rest in ("", " exact")]
+# Each agent starts again before its second turn, so by some seeds a thread is forgotten.
+FORGETFUL = "cpus = 2\n" + thread(0, 1, "yield 1", "die 1") + thread(1, 2, "die 1") + restart(0, 2) + restart(1, 2)
+# In the order of a tally.
+UNSETTLED = ["Audit", "Incomplete", "Driver", "GaveUp", "Unaccounted", "Stalled"]
 CPU_LINE = re.compile(r"cpu (\d+)((?: [A-Za-z]+ \d+)+)")
 
 
@@ -167,6 +172,60 @@ def test_a_long_run_is_given_up() -> None:
         out, told = begun.communicate(timeout=rig.SECONDS)
     same((begun.returncode, out), (3, ""))
     matches(told, r"\Apc-sim: run GaveUp\npc-sim: \d+ of 80 threads dead, \d+ messages\n\Z")
+
+
+def ended_so(ended: subprocess.CompletedProcess[str]) -> str:
+    """How a run ended, by the word that a tally has for it."""
+    if ended.returncode == 0:
+        return "reported"
+    matches(ended.stderr, r"\Apc-sim: run [A-Za-z]+\n")
+    return ended.stderr.split()[2]
+
+
+def test_a_tally_is_of_what_each_seed_comes_to() -> None:
+    """Those of a span that begins anywhere: the first seed of each ending is told, and what is said is said of the first that failed."""
+    alone = [rig.ask("run", "--seed", seed, given=FORGETFUL) for seed in range(40)]
+    for first, count in itertools.product((0, 7, 31), (1, 9)):
+        ended = alone[first:first + count]
+        names = [ended_so(it) for it in ended]
+        wanted = f"runs {count}\nreported {names.count('reported')}\n"
+        for name in UNSETTLED:
+            wanted += f"{name} {names.count(name)} first {first + names.index(name)}\n" if name in names else ""
+        said = next((it.stderr for it in ended if it.returncode), "")
+        tried = rig.ask("run", "--seed", first, "--runs", count, given=FORGETFUL)
+        same(outcome(tried), (3 if said else 0, wanted, said))
+    assert "Stalled" in map(ended_so, alone)
+
+
+def test_runs_by_seeds_without_restarts_are_all_reported() -> None:
+    rng = random.Random(71)
+    for policy in POLICIES:
+        text = drawn(rng).partition("[[restart]]")[0]
+        told = good(rig.ask("run", "--seed", rng.randrange(1 << 63), "--runs", 50, "--policy", policy, given=text), text)
+        same(told, "runs 50\nreported 50\n", text)
+
+
+def test_the_script_of_a_stalled_run_makes_its_calls() -> None:
+    """Each line is accepted, and behind them the thread that is told of is ready and runs nowhere, while the CPU idles."""
+    found = 0
+    for seed in range(20):
+        with rig.folder() as folder:
+            ended = rig.ask("run", "--seed", seed, "--script", folder / "run.script", given=FORGETFUL)
+            if ended_so(ended) != "Stalled":
+                continue
+            script = (folder / "run.script").read_text()
+        found += 1
+        same(ended.stdout, "")
+        thread_and_cpu = re.search(r"\npc-sim: (t\d+) waits for CPU (\d+), and .*; --seed (\d+) has it again\n\Z", ended.stderr)
+        assert thread_and_cpu, ended.stderr
+        name, cpu, told = thread_and_cpu.groups()
+        same(int(told), seed)
+        replies = list(answered(script, good(rig.ask("replay", given=script))))
+        same((len(replies), [it for it in replies if it.answer.split()[0] != "ok"]), (script.count("\n"), []))
+        *_, status, idle = good(rig.ask("replay", given=f"{script}status {name}\nblock {cpu} 1\n")).splitlines()
+        matches(status, rf"\A{name} n\d+ ready\Z")
+        same(idle, "refused IdleCpu")
+    assert found
 
 
 if __name__ == "__main__":

@@ -78,6 +78,13 @@ def accepted(folder):
         yield Subject(f"settings of {name} with a script", words, out=out.encode(), environment=ONE_HEAP)
 
 
+def tallied(folder):
+    """The settings that are run once by each of some seeds."""
+    for name in SCRIPTED:
+        words = ["run", "--seed", "7", "--runs", "3", str(written(folder, name, ROWS[name][0]))]
+        yield Subject(f"settings of {name} by three seeds", words, out=b"runs 3\nreported 3\n", environment=ONE_HEAP)
+
+
 def faulty(folder):
     """The settings that have a fault: none of them begins a thread, so the growths of each are the same in every run."""
     for name, (text, fault) in FAULTS.items():
@@ -137,14 +144,14 @@ def trials_of_limited(machine):
 
 def use_rows(machine, tally, most):
     """The rows, the deep texts, and the rows with some so many growths refused."""
-    every = list(accepted(machine.folder))
-    ample = [*every, *faulty(machine.folder)]
+    every, by_seeds = list(accepted(machine.folder)), list(tallied(machine.folder))
+    ample = [*every, *by_seeds, *faulty(machine.folder)]
     tally.try_all((it.name, lambda it=it: fault_of_ample(it, machine.run(it))) for it in ample)
     tally.try_all((f"{it.name} --per-cpu", lambda it=it: fault_of_per_cpu(machine, it)) for it in every)
     for name, text in DEEP.items():
         subject = Subject("", ["run", str(written(machine.folder, name, text))], environment=ONE_HEAP)
         tally.try_all([(f"settings of {name}", lambda it=subject: fault_of_totals(machine.run(it)))])
-    tally.try_all(trial for subject in every for trial in trials_of_growths(machine, subject, most))
+    tally.try_all(trial for subject in [*every, *by_seeds] for trial in trials_of_growths(machine, subject, most))
     tally.try_all(trials_of_limited(machine))
 
 

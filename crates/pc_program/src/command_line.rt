@@ -272,9 +272,10 @@ fn tally_of(
     if !are_seeds(seeds) || !asks_for_totals(met) {
         return Err(CommandFault::BadRuns);
     }
+    let limit = limit_of(met);
     Ok(ProgramCommand::Tally {
         file,
-        limit: limit_of(met),
+        limit,
         policy,
         seeds,
     })

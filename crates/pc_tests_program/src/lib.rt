@@ -7,4 +7,6 @@ mod lab;
 #[cfg(test)]
 mod program;
 #[cfg(test)]
+mod seeds;
+#[cfg(test)]
 mod settings;

@@ -2,7 +2,8 @@
 
 use pc_program::{
     Axis, CommandFault, DrawnPart, Ending, Failure, Helper, Interval, ProgramCommand, ReportForm,
-    ScriptForm, VariantsFrom, converse_flushed, make, read_command, replay_flushed, run_script,
+    ScriptForm, Seeds, VariantsFrom, converse_flushed, make, read_command, replay_flushed,
+    run_script,
 };
 use pc_script::Outcome;
 use std::alloc::Global;
@@ -96,6 +97,7 @@ enum Asked {
     Explain,
     Draw(DrawnPart, Axis),
     Run(ReportForm, Option<u32>),
+    Tally(Seeds),
     Session(bool),
     /// Whether other variants are tried, whether the time of each CPU is told, whether for other tools, and whether the
     /// waits are drawn.
@@ -116,6 +118,7 @@ fn read_off(
             limit,
             ..
         } => Ok((Asked::Run(form, limit), file)),
+        ProgramCommand::Tally { file, seeds, .. } => Ok((Asked::Tally(seeds), file)),
         ProgramCommand::Session { file, explains } => Ok((Asked::Session(explains), file)),
         ProgramCommand::Lab {
             file,
@@ -211,8 +214,14 @@ const EACH_REFUSAL: Asked = Asked::Run(ReportForm::EachRefusal, None);
 
 const PICTURE: Asked = Asked::Run(ReportForm::Picture, None);
 
+/// Up to the last seed.
+const LAST_SEEDS: Asked = Asked::Tally(Seeds {
+    first: u64::MAX - 2,
+    many: 3,
+});
+
 /// Words, and what they ask for, of which file.
-static COMMANDS: [(&[&str], Asked, Option<&str>); 26] = [
+static COMMANDS: [(&[&str], Asked, Option<&str>); 27] = [
     (&["pc-sim", "replay"], Asked::Replay, None),
     (
         &["pc-sim", "replay", "a.script"],
@@ -286,6 +295,19 @@ static COMMANDS: [(&[&str], Asked, Option<&str>); 26] = [
         ],
         AT_ONCE,
         None,
+    ),
+    (
+        &[
+            "pc-sim",
+            "run",
+            "--runs",
+            "3",
+            "s.toml",
+            "--seed",
+            "18446744073709551613",
+        ],
+        LAST_SEEDS,
+        Some("s.toml"),
     ),
     (&["pc-sim", "session"], Asked::Session(false), None),
     (&["pc-sim", "session", "-"], Asked::Session(false), None),
