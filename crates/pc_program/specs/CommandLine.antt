@@ -19,11 +19,13 @@ use Rattle.pc_policy.specs.declared.named.PolicyName.{PolicyName}
 use Rattle.pc_program.specs.Numbers.{IsWritten, SpellsNone}
 use Rattle.pc_program.specs.Seeds.{AreNumbers}
 use Rattle.pc_program.specs.declared.command_line.ProgramCommand.{ProgramCommand}
-use Rattle.pc_program.specs.declared.command_line.ProgramCommand.TheVariants.{Replay, Explain, Draw, Run, Tally, Session, Lab}
+use Rattle.pc_program.specs.declared.command_line.ProgramCommand.TheVariants.{Replay, Explain, Draw, Run, Tally}
+use Rattle.pc_program.specs.declared.command_line.ProgramCommand.TheVariants.{Session, Lab}
 use Rattle.pc_program.specs.declared.command_line.VariantsFrom.{VariantsFrom}
 use Rattle.pc_program.specs.declared.command_line.VariantsFrom.TheVariants as from
 use Rattle.pc_program.specs.declared.command_line.CommandFault.{CommandFault}
-use Rattle.pc_program.specs.declared.command_line.CommandFault.TheVariants.{OutOfMemory, BadNumbers, BadPolicy, BadRuns, Clap}
+use Rattle.pc_program.specs.declared.command_line.CommandFault.TheVariants.{OutOfMemory, BadNumbers, BadPolicy}
+use Rattle.pc_program.specs.declared.command_line.CommandFault.TheVariants.{BadRuns, Clap}
 use Rattle.pc_program.specs.declared.report.ReportForm.{ReportForm}
 use Rattle.pc_program.specs.declared.report.ReportForm.TheVariants.{Totals, EachCpu, EachRefusal, Picture}
 use Rattle.pc_program.specs.declared.seeds.Seeds.{Seeds}

@@ -33,9 +33,11 @@ IsOfRuns IsSuch seed tally =
 
 -- this tally was written: of runs by the first of the seeds or all, whose reports are of runs that did what the settings
 -- ask for
-pub record IsTold (settings : Option Members) (seeds : Seeds) (tally : Tally) (old new : Option (List ℕ)) : Type 0 where
+pub record IsTold (settings : Option Members) (seeds : Seeds) (tally : Tally) (old new : Option (List ℕ))
+    : Type 0 where
   pub spelled : SpellsSettings settings
-  pub of_runs : IsOfRuns (λ report. TellsItsBook report × AddsUp report × DoesWhatIsSpelled settings report) seeds.first tally
+  pub of_runs : IsOfRuns (λ report. TellsItsBook report × AddsUp report × DoesWhatIsSpelled settings report)
+      seeds.first tally
   pub adds_up : CountsAddUp tally
   pub few : tally.runs ≤ seeds.many
   pub written : Appends old new (tally_text tally)

@@ -1,6 +1,6 @@
 -- How runs by seeds ended: their tally, what it says, and its text.
-use Rattle.std.specs.Prelude.{ℕ, Bool, true, false, ◌≡◌, ◌+◌, ◌<◌, ◌≤◌, ◌++◌, List, [], ◌∷◌, Option, Some, None, Result, Ok, Err}
-use Rattle.std.specs.Prelude.{codes, count_by, decimal, is_ok, ltb, length, option_map, if◌then◌else◌}
+use Rattle.std.specs.Prelude.{ℕ, Bool, true, false, ◌≡◌, ◌+◌, ◌++◌, List, [], ◌∷◌, Option, Some, None, Result, Ok}
+use Rattle.std.specs.Prelude.{Err, codes, count_by, decimal, is_ok, ltb, length, option_map, if◌then◌else◌}
 use Rattle.std.specs.Option.{option_map_or}
 use Rattle.std.specs.Str.{bytes_eq}
 use Rattle.pc_threads.specs.declared.report.LoadReport.{LoadReport}
@@ -52,7 +52,7 @@ pub record IsTallyOf (seed : ℕ) (endings : List (Result LoadReport Unsettled))
 
 -- how many runs a row counts
 abbrev pub many : Option TallyRow → ℕ
-many row = option_map_or (λ given. given.runs) row 0
+many counted = option_map_or (λ row. row.runs) counted 0
 
 -- each run has a report or stands in one row
 abbrev pub CountsAddUp : Tally → Type 0

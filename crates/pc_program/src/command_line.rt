@@ -142,8 +142,8 @@ const MOST_RUNS: u32 = 1_000_000_000;
 /// Reads the words of the command line, of which the first is the program's name.
 ///
 /// The fault is `Clap` where the words are no command, and where they ask for help or the version; `BadNumbers` where
-/// they are one but for a word that is to spell numbers, `BadPolicy` but for one that is to name a policy, and `BadRuns`
-/// but for those that ask for several runs; or `OutOfMemory`.
+/// they are one but for a word that is to spell numbers, `BadPolicy` but for one that is to name a policy, and
+/// `BadRuns` but for those that ask for several runs; or `OutOfMemory`.
 pub fn read_command<'a, S: AsStr>(
     alloc: Global,
     words: &'a [S],

@@ -315,7 +315,7 @@ fn with_report_forms<'a>(parser: Parser<'a>, alloc: Global) -> Result<Parser<'a>
     with_flag(parser, alloc, "draw", DRAWS)
 }
 
-/// Adds `[--policy NAME] [--seed NUMBER] [--runs NUMBER]`, by which agents go, and whose step is next, in how many runs.
+/// Adds `[--policy NAME] [--seed NUMBER] [--runs NUMBER]`: by what agents go, whose step is next, in how many runs.
 #[inline(never)]
 fn with_scheduling<'a>(parser: Parser<'a>, alloc: Global) -> Result<Parser<'a>, AllocError>
     ensures { IfOk result (λ more. app_of more

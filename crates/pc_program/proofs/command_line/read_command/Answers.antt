@@ -4,10 +4,10 @@ use Rattle.clap.specs.Kinds.{IsAmong}
 use Rattle.clap.specs.Values.{kind_of}
 use Rattle.clap.specs.Walk.{Text}
 use Rattle.clap.specs.Faults.{fault_of}
-use Rattle.pc_program.specs.CommandLine.{IsAsked, IsCommandMet, IsNoPart, IsNoPolicy, IsRefusal, pc_sim}
+use Rattle.pc_program.specs.CommandLine.{AreNoSeeds, IsAsked, IsCommandMet, IsNoPart, IsNoPolicy, IsRefusal, pc_sim}
 use Rattle.pc_program.specs.Inner.FirstWord.{first_word, program_for}
 use Rattle.pc_program.specs.declared.command_line.CommandFault.{CommandFault}
-use Rattle.pc_program.specs.declared.command_line.CommandFault.TheVariants.{BadNumbers, BadPolicy, OutOfMemory}
+use Rattle.pc_program.specs.declared.command_line.CommandFault.TheVariants.{BadNumbers, BadPolicy, BadRuns, OutOfMemory}
 use Rattle.clap.specs.declared.error.kind.ErrorKind.TheVariants as kind
 use Rattle.pc_program.proofs.Commands.{command_met}
 use Rattle.pc_program.proofs.FirstWord.{is_free, is_plain, same_command, same_faults}
@@ -18,11 +18,12 @@ whatever (Ok a) p = p
 whatever (Err e) p = search rules
 
 -- a fault of words that the parser takes
-taken : {A : Type 0} (r : Result A CommandFault) → IfErr r (λ fault. (fault ≡ OutOfMemory) ⊎ (fault ≡ BadNumbers) ⊎ (fault ≡ BadPolicy)) → IfErr r (IsRefusal [])
+taken : {A : Type 0} (r : Result A CommandFault) → IfErr r (λ fault. (fault ≡ OutOfMemory) ⊎ (fault ≡ BadNumbers) ⊎ (fault ≡ BadPolicy) ⊎ (fault ≡ BadRuns)) → IfErr r (IsRefusal [])
 taken (Ok a) h = tt
 taken (Err e) (inl memory) = subst (IsRefusal []) (sym memory) tt
 taken (Err e) (inr (inl numbers)) = subst (IsRefusal []) (sym numbers) refl
-taken (Err e) (inr (inr policy)) = subst (IsRefusal []) (sym policy) refl
+taken (Err e) (inr (inr (inl policy))) = subst (IsRefusal []) (sym policy) refl
+taken (Err e) (inr (inr (inr runs))) = subst (IsRefusal []) (sym runs) refl
 
 pub returns-in-Ok-clause-taken : goal.returns-in-Ok-clause-taken
 returns-in-Ok-clause-taken g c =
@@ -58,6 +59,13 @@ returns-in-Ok-clause-policy g c =
     let app : app_of c.in_ok-parser.parser ≡ program_for (first_word words) = search rules in
     let met : subcommand_rows_of c.in-Ok.matches ≡ subcommand_of pc_sim words = (c.in-Ok.ensures.matches (is_plain _ words app)).1 ∙ same_command _ words app in
     λ bad. subst IsNoPolicy met (c.command_of.ensures.policy bad)
+
+pub returns-in-Ok-clause-runs : goal.returns-in-Ok-clause-runs
+returns-in-Ok-clause-runs g c =
+    let words : List Text = map g.S.AsStr.text c.args.words.now in
+    let app : app_of c.in_ok-parser.parser ≡ program_for (first_word words) = search rules in
+    let met : subcommand_rows_of c.in-Ok.matches ≡ subcommand_of pc_sim words = (c.in-Ok.ensures.matches (is_plain _ words app)).1 ∙ same_command _ words app in
+    λ bad. subst AreNoSeeds met (c.command_of.ensures.runs bad)
 
 pub returns-in-Err-2-clause-refused : goal.returns-in-Err-2-clause-refused
 returns-in-Err-2-clause-refused g c =
