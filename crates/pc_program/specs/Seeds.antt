@@ -31,8 +31,8 @@ IsOfRuns IsSuch seed tally =
     (endings : List (Result LoadReport Unsettled)) × All (λ ended. IfOk ended IsSuch) endings
     × IsTallyOf seed endings tally
 
--- this tally was written: of runs by the first of the seeds or all, whose reports are of runs that did what the settings
--- ask for
+-- this tally was written: of runs by the first of the seeds or all, whose reports are of runs that did what the
+-- settings ask for
 pub record IsTold (settings : Option Members) (seeds : Seeds) (tally : Tally) (old new : Option (List ℕ))
     : Type 0 where
   pub spelled : SpellsSettings settings

@@ -293,7 +293,7 @@ fn are_seeds(seeds: Seeds) -> bool
 fn asks_for_totals(met: &ArgMatches<'_>) -> bool
     ensures { IsTrue result ↔ AsksForTotals (rows_of (found_of met.now)) }
 {
-    met.get_count("per-cpu") == 0 && !is_set(met, "draw") && met.get_str("script").is_none()
+    met.get_count("per-cpu") == 0 && !is_set(met, "draw") && is_absent(met, "script")
 }
 
 /// The picture of this file that the matches of `draw` ask for.
@@ -470,5 +470,15 @@ fn is_set(matches: &ArgMatches<'_>, name: &str) -> bool
     match matches.get_str(name) {
         Some(word) => word == "true",
         None => false,
+    }
+}
+
+/// Whether no word stands behind the option of this name.
+fn is_absent(matches: &ArgMatches<'_>, name: &str) -> bool
+    ensures { IsTrue result ↔ (first_of name.now (rows_of (found_of matches.now)) ≡ None) }
+{
+    match matches.get_str(name) {
+        Some(_word) => false,
+        None => true,
     }
 }
