@@ -7,6 +7,7 @@ import doctest
 import inspect
 import io
 import os
+import random
 import re
 import shutil
 import signal
@@ -15,8 +16,10 @@ import time
 from typing import Any
 
 import rig
-from kernel import GREATEST, forms
+from kernel import GREATEST, ORDERS, forms
+from kernel import World as Model
 from rig import ROOT, good, needs, raises, raises_text, same
+from scripts import Rough, lines_of
 
 CLIENT = ROOT / "clients/python"
 sys.path.insert(0, str(CLIENT / "src"))
@@ -119,6 +122,79 @@ def test_many_are_fast():
     if rig.options.fast:
         print(f"{count / took:,.0f} commands a second")
         assert took < count / 200_000
+
+
+def drawn(place: int, cpus: int) -> list[str]:
+    """The lines of a script that is drawn, without its enclave."""
+    chance = random.Random(f"queues {place}")
+    return [f"policy {chance.choice(ORDERS)}", *lines_of(chance, Rough(cpus), 12, lambda other: [
+        ["create Q MASK ready", "publish C", "consume C", "pick C ASEQ"], ["yield C RAN"], ["steal C", "pick C ASEQ"], ["mend C"]])]
+
+
+def told_by(model: Model, cpu: int) -> list[tuple[int | None, ...]]:
+    """What the model of all tests has in a queue: of each item the thread, its number, and what the message tells of it."""
+    queue = model.queues[cpu]
+    reports = [model.threads[item[0]].reports[item[1] - 1] if item else None for item in queue.items]
+    posts = range(queue.posts - len(queue.items) + 1, queue.posts + 1)
+    return [(aseq, *(item or (None, None)), *((it.phase, it.mask, it.level) if it else (None, None, None)))
+            for aseq, item, it in zip(posts, queue.items, reports)]
+
+
+def agrees(message: nimhessian.Message, told: tuple[Any, ...]) -> None:
+    """A message tells no more and nothing else than the model's report behind it."""
+    aseq, thread, number, phase, mask, level = told
+    same((message.aseq, getattr(message, "thread", None), getattr(message, "number", None)), (aseq, thread, number))
+    phases = {"ThreadBlocked": "blocked", "ThreadDead": "dead", "ThreadWakeup": "ready", "ThreadYield": "ready", "ThreadPreempted": "ready"}
+    same(getattr(message, "phase", phases.get(type(message).__name__, phase)), phase)
+    same((getattr(message, "mask", mask), getattr(message, "level", level)), (mask, level))
+
+
+def test_messages_are_what_queues_hold():
+    """Scripts are drawn, and the model of all tests tells what each queue holds behind each line."""
+    kinds = set()
+    for place in range(60):
+        cpus, model = 1 + place % 3, Model(1 + place % 3)
+        with World(cpus) as world:
+            for line in drawn(place, cpus):
+                with world.batch() as batch:
+                    answer = batch.add(commands.Command(line, str, line.startswith("show")))
+                same(answer._answer, model.say(line), line)
+                for cpu in range(cpus):
+                    held, wanted = world.messages(cpu), told_by(model, cpu)
+                    same((len(held), world.aseq(cpu)), (len(wanted), model.queues[cpu].posts), line)
+                    for message, told in zip(held, wanted):
+                        agrees(message, told)
+                        kinds.add(type(message).__name__)
+    same(kinds, {"ThreadCreated", "ThreadWakeup", "ThreadBlocked", "ThreadYield", "ThreadPreempted", "ThreadDead", "ThreadAffinity",
+                 "ThreadPriority", "TimerTick"})
+
+
+def test_the_program_is_started_and_not_the_launcher():
+    """A launcher is asked once, and what it says is seen; its program answers."""
+    with rig.folder() as tree:
+        (tree / "tools").mkdir()
+        (tree / "tools/released").touch()
+        place = tree / "crates/pc_sim/out"
+        rig.put_command(tree / "pc-sim", f"#!/bin/sh\necho asked >>{tree}/starts\nmkdir -p {place}\nln -s {rig.program} {place}/pc_sim\n")
+        for _ in range(3):
+            with World(cpus=1, program=tree / "pc-sim") as world:
+                same((world.tick(0).aseq, world._program._process.args[0]), (1, str(place / "pc_sim")))
+                world.reset()
+        same((tree / "starts").read_text(), "asked\n")
+        (tree / "tools/released").touch()
+        rig.put_command(tree / "other", "#!/bin/sh\nexit 5\n")
+        with raises(nimhessian.Died) as died:
+            World(cpus=1, program=tree / "other")
+        same(died.exception.status, 5)
+
+
+def test_a_batch_tells_advice_as_well():
+    with World(cpus=2) as world:
+        with world.batch() as batch:
+            batch.create(0, 3), batch.tick(0)
+            wrong = batch.commit(0, 0, 1)
+            batch.tick(0)
+        same(wrong.either().advice, ["commit 0 t0 2"])
 
 
 def test_an_answer_that_was_not_waited_for_is_no_other_ones():

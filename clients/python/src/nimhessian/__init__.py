@@ -11,15 +11,20 @@ from .errors import (
     NothingToSteal, NumbersSpent, OnForbiddenCpu, Pending, PostsSpent, QueueFull, Refused, Running, Stale, TooLate,
     TooMany, UnknownThread, WireFault,
 )
+from .messages import (
+    Message, ThreadAffinity, ThreadBlocked, ThreadCreated, ThreadDead, ThreadLeft, ThreadMessage, ThreadPreempted,
+    ThreadPriority, ThreadWakeup, ThreadYield, TimerTick,
+)
 from .values import Known, Limits, Phase, Placed, Posted, Published, Status, View
 from .world import Answer, Batch, World
 
 __all__ = [
     "Answer", "BadCpu", "BadLevel", "BadLimits", "Batch", "Busy", "Command", "Dead", "Died", "EmptyMask", "Fault",
-    "Forbidden", "HaveEnclave", "IdleCpu", "Known", "Limits", "Lost", "MaskTooWide", "Misread", "NamesSpent",
+    "Forbidden", "HaveEnclave", "IdleCpu", "Known", "Limits", "Lost", "MaskTooWide", "Message", "Misread", "NamesSpent",
     "NimhessianError", "NoDelta", "NoEnclave", "NotBlocked", "NotReady", "NotYours", "NothingReady",
     "NothingToSteal", "NumbersSpent", "OnForbiddenCpu", "Pending", "Phase", "Placed", "Posted", "PostsSpent",
-    "Published", "QueueFull", "Refused", "Running", "Stale", "Status", "TooLate", "TooMany", "UnknownThread",
-    "View", "WireFault", "World", "commands",
+    "Published", "QueueFull", "Refused", "Running", "Stale", "Status", "ThreadAffinity", "ThreadBlocked",
+    "ThreadCreated", "ThreadDead", "ThreadLeft", "ThreadMessage", "ThreadPreempted", "ThreadPriority", "ThreadWakeup",
+    "ThreadYield", "TimerTick", "TooLate", "TooMany", "UnknownThread", "View", "WireFault", "World", "commands",
 ]
 __version__ = "1.0.0"

@@ -2,6 +2,8 @@
 from collections.abc import Callable
 from typing import cast
 
+from .advice import Past
+
 
 class NimhessianError(Exception):
     """What all errors of this package have in common."""
@@ -14,9 +16,20 @@ class Refused(NimhessianError):
         super().__init__(command)
         self.command = command
         """The command, as it was sent."""
+        self.past: Past | None = None
+        """What was said before it."""
+
+    @property
+    def advice(self) -> list[str]:
+        """Commands behind which the refused one is accepted: the last of them is that command, with the numbers of then.
+
+        Where no agent can do it, calls of the environment are among them; none are told where nothing helps. They are
+        what `pc-sim explain` says: a program is started, and is told all that the world was told before the refusal.
+        """
+        return self.past.advice(self.command) if self.past else []
 
     def __str__(self) -> str:
-        arguments = [f"{name}={value!r}" for name, value in vars(self).items() if name != "command"]
+        arguments = [f"{name}={value!r}" for name, value in vars(self).items() if name not in ("command", "past")]
         told = type(self).__name__ + (f"({', '.join(arguments)})" if arguments else "")
         return f"{told}: {self.command}" if self.command else told
 
@@ -118,12 +131,14 @@ class Misread(NimhessianError):
 REFUSALS: dict[str, type[Refused]] = {refusal.__name__: refusal for refusal in Refused.__subclasses__()}
 
 
-def refusal_of(command: str, words: list[str]) -> Refused:
+def refusal_of(command: str, words: list[str], past: Past | None) -> Refused:
     """The refusal that the words behind `refused` tell."""
     make = cast(Callable[..., Refused] | None, REFUSALS.get(words[0]))
     try:
         if make is not None:
-            return make(command, *(int(word) if word.isdigit() else word for word in words[1:]))
+            refused = make(command, *(int(word) if word.isdigit() else word for word in words[1:]))
+            refused.past = past
+            return refused
     except TypeError:
         pass  # an argument where none belongs
     raise Misread(f"refused {' '.join(words)}: {command}")

@@ -1,6 +1,8 @@
 """The program `pc-sim` as a session: lines go in, and lines come out."""
+import functools
 import io
 import os
+import pathlib
 import shutil
 import subprocess
 import tempfile
@@ -15,16 +17,43 @@ MOST_AT_ONCE = 1 << 16
 """So many bytes are read at once."""
 SMALL = 4_096
 """So many bytes fit into any pipe, so no thread is needed to write them."""
+BUILT, BESIDE_LAUNCHER = "crates/pc_sim/out/pc_sim", "tools/released"
+"""Where the launcher of a tree has the program that it starts, and a file that it reads for that."""
 
 
 def find_program(named: str | os.PathLike[str] | None) -> str:
-    """The program that is named, or the one of the variable PC_SIM, or `pc-sim` of the path."""
+    """The program that is named, or the one of the variable PC_SIM, or `pc-sim` of the path; never a launcher."""
     for name in (named, os.environ.get("PC_SIM")):
         if name is not None:
-            return os.fspath(name)
+            path = os.fspath(name)
+            return _program_behind(shutil.which(path) or path)
     if (found := shutil.which("pc-sim")) is None:
         raise Died(None, "no pc-sim on the path, and PC_SIM is not set")
-    return found
+    return _program_behind(found)
+
+
+@functools.cache
+def _program_behind(name: str) -> str:
+    """The program that a launcher of the sources' tree starts, or what is named itself.
+
+    A launcher looks at all sources at each start. It is asked once, which has it put the program where it belongs, and
+    what it says of that goes to standard error.
+    """
+    tree = pathlib.Path(name).resolve().parent
+    if not (tree / BESIDE_LAUNCHER).is_file() or not _is_script(name):
+        return name
+    status = subprocess.run([name, "--version"], stdin=subprocess.DEVNULL, stdout=subprocess.DEVNULL).returncode
+    if status:
+        raise Died(status, f"{name} has no program to start")
+    return str(tree / BUILT)
+
+
+def _is_script(name: str) -> bool:
+    try:
+        with open(name, "rb") as file:
+            return file.read(2) == b"#!"
+    except OSError:
+        return False  # which its start tells
 
 
 def is_silent(line: str) -> bool:
@@ -35,8 +64,7 @@ def is_silent(line: str) -> bool:
 class Program:
     """A running session."""
 
-    def __init__(self, named: str | os.PathLike[str] | None, record: TextIO | None) -> None:
-        name = find_program(named)
+    def __init__(self, name: str, record: TextIO | None) -> None:
         self._record = record
         self._told: IO[bytes] = tempfile.TemporaryFile()
         try:
@@ -57,8 +85,7 @@ class Program:
         Where that does not come to its end, by an interrupt say, no later answer could be told from those that were not
         taken: nothing more is sent then.
         """
-        if self._end is not None:
-            raise self._end
+        self.check()
         for line in lines:
             if "\n" in line:
                 raise ValueError(f"a command is one line: {line!r}")
@@ -80,6 +107,11 @@ class Program:
             writer.join()
         self._end = None
         return answers
+
+    def check(self) -> None:
+        """Raises why nothing more can be asked, where that is so."""
+        if self._end is not None:
+            raise self._end
 
     def _write(self, data: bytes) -> None:
         try:

@@ -1,6 +1,7 @@
 """A world: a kernel, an agent for each of its CPUs, and what the agents sent each other."""
 from __future__ import annotations
 
+import copy
 import functools
 import inspect
 import os
@@ -8,21 +9,26 @@ from collections.abc import Callable
 from typing import Generic, ParamSpec, Protocol, Self, TextIO, TypeVar, cast, overload
 
 from . import commands
+from .advice import Past
 from .commands import Command
-from .errors import Fault, Misread, Refused, refusal_of
-from .program import Program
+from .errors import BadCpu, Fault, Misread, Refused, refusal_of
+from .messages import Message
+from .program import Program, find_program
+from .queues import CHANGING, Queues
 from .values import Limits
 
 Value = TypeVar("Value")
 Given = ParamSpec("Given")
 
 MOST_POSTS = 4_294_967_295
+QUESTIONS = frozenset(("status", "asleep", "show", "same", "complete"))
+"""The commands that change nothing."""
 
 
-def _read(command: Command[Value], answer: str) -> Value:
-    """The value that is answered; a refusal or a fault is raised."""
+def _read(command: Command[Value], answer: str, past: Past | None) -> Value:
+    """The value that is answered behind what was said before; a refusal or a fault is raised."""
     if answer.startswith("refused "):
-        raise refusal_of(command.line, answer.split(" ")[1:])
+        raise refusal_of(command.line, answer.split(" ")[1:], past)
     if answer.startswith("fault line "):
         raise Fault(command.line, int(answer.split(" ")[2]))
     try:
@@ -112,25 +118,96 @@ class World(_Commands):
         program: str | os.PathLike[str] | None = None, record: TextIO | None = None,
     ) -> None:
         self.limits = Limits(cpus, threads, numbers, room, posts)
-        self._program = Program(program, record)
+        self._name = find_program(program)
+        self._begin = [f"version {version}"] * (version != 1) + [f"enclave {cpus} {threads} {numbers} {room} {posts}"]
+        if policy is not None:
+            self._begin.append(commands.policy(policy, exact).line)
+        self._start(self._begin, record)
+
+    def _start(self, lines: list[str], record: TextIO | None) -> None:
+        """Has a new program answer these lines, and nothing else so far."""
+        self._said: list[str] = []
+        """All that was said, but for questions and faults."""
+        self._queues = Queues(self.limits.cpus)
+        self._program = Program(self._name, record)
         try:
-            if version != 1:
-                self.ask(Command(f"version {version}", _ignored))
-            self.ask(Command(f"enclave {cpus} {threads} {numbers} {room} {posts}", _ignored))
-            if policy is not None:
-                self.policy(policy, exact)
+            for line in lines:
+                self.ask(Command(line, _ignored))
+        except BaseException:
+            self.close()
+            raise
+
+    def reset(self, *, record: TextIO | None = None) -> None:
+        """Begins anew, as the world was made; `record` gets the lines from now on.
+
+        A session has one enclave, so its program is started anew, which takes some milliseconds.
+        """
+        self.close()
+        self._start(self._begin, record)
+
+    def copy(self, *, record: TextIO | None = None) -> Self:
+        """Another world in the same state, in a program of its own.
+
+        That is told all that was said so far, questions aside: a start, and some microseconds for each command. For that
+        a world keeps what it was told, about a hundred bytes a command; `reset` forgets them.
+        """
+        self._program.check()
+        made = copy.copy(self)
+        made._start(self._begin, record)
+        made._repeat(self._said[len(self._begin):])
+        return made
+
+    def _repeat(self, lines: list[str]) -> None:
+        """Says lines whose answers are not wanted."""
+        try:
+            self._exchange(lines, [False] * len(lines))
         except BaseException:
             self.close()
             raise
 
     def ask(self, command: Command[Value]) -> Value:
         """Sends a command, and waits for its answer. A line that would have none, such as a comment, is a ValueError."""
-        (answer,) = self._program.exchange([command.line], [command.rows])
-        return _read(command, answer)
+        (answer,), refused = self._exchange([command.line], [command.rows])
+        return _read(command, answer, refused.get(0))
+
+    def _exchange(self, lines: list[str], rows: list[bool]) -> tuple[list[str], dict[int, Past]]:
+        """The answer to each line, and before those that are refused what was said."""
+        answers, said = self._program.exchange(lines, rows), self._said
+        refused: dict[int, Past] = {}
+        for place, (line, answer) in enumerate(zip(lines, answers)):
+            if answer.startswith("refused "):
+                refused[place] = Past(self._name, said, len(said))
+            word = line.split(None, 1)[0]
+            if word not in QUESTIONS and not answer.startswith("fault "):
+                said.append(line)
+                if word in CHANGING:
+                    self._queues.hear(line.split(), answer)
+        return answers, refused
+
+    def script(self) -> str:
+        """All that was said so far, but for questions and faults: a script that leads here."""
+        return "".join(f"{line}\n" for line in self._said)
+
+    def messages(self, cpu: int) -> list[Message]:
+        """What the queue of the CPU holds, the oldest in front: what its agent reads. They stay until a `consume`.
+
+        Nothing is asked for that: posts and consumes tell it where they are answered.
+        """
+        return list(self._queues.held[self._is_there("messages", cpu)])
+
+    def aseq(self, cpu: int) -> int:
+        """How many posts the queue of the CPU had. Read it before the messages: one that comes between is not missed then."""
+        return self._queues.aseq[self._is_there("aseq", cpu)]
+
+    def _is_there(self, asked: str, cpu: int) -> int:
+        self._program.check()
+        if not 0 <= cpu < self.limits.cpus:
+            raise BadCpu(f"{asked} {cpu}")
+        return cpu
 
     def batch(self) -> Batch:
         """Many commands in one write: they are sent, and answered, where the `with` ends."""
-        return Batch(self._program)
+        return Batch(self)
 
     def close(self) -> None:
         """Ends the program."""
@@ -150,23 +227,25 @@ def _ignored(answer: str) -> None:
 class Answer(Generic[Value]):
     """What a command of a batch was answered, once the batch was sent."""
 
-    __slots__ = ("command", "_answer")
+    __slots__ = ("command", "_answer", "_past")
 
     def __init__(self, command: Command[Value]) -> None:
         self.command = command
         self._answer: str | None = None
+        self._past: Past | None = None
 
     def get(self) -> Value:
         """The value; a refusal is raised."""
         if self._answer is None:
             raise RuntimeError(f"{self.command.line!r} was not answered: its batch was not sent")
-        return _read(self.command, self._answer)
+        return _read(self.command, self._answer, self._past)
 
     def either(self) -> Value | Refused:
         """The value, or the refusal as a value."""
-        if self._answer is not None and self._answer.startswith("refused "):
-            return refusal_of(self.command.line, self._answer.split(" ")[1:])
-        return self.get()
+        try:
+            return self.get()
+        except Refused as refused:
+            return refused
 
 
 class Batch(_Commands):
@@ -181,8 +260,8 @@ class Batch(_Commands):
     Where the `with` ends by an exception nothing is sent. A batch that is entered again sends what was added since.
     """
 
-    def __init__(self, program: Program) -> None:
-        self._program = program
+    def __init__(self, world: World) -> None:
+        self._world = world
         self.answers: list[Answer[object]] = []
         """What was added, in order."""
 
@@ -199,5 +278,6 @@ class Batch(_Commands):
         unsent = [answer for answer in self.answers if answer._answer is None]
         if kind is None and unsent:
             lines = [answer.command.line for answer in unsent]
-            for answer, told in zip(unsent, self._program.exchange(lines, [answer.command.rows for answer in unsent])):
-                answer._answer = told
+            answers, refused = self._world._exchange(lines, [answer.command.rows for answer in unsent])
+            for place, (answer, told) in enumerate(zip(unsent, answers)):
+                answer._answer, answer._past = told, refused.get(place)
