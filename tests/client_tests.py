@@ -1,5 +1,5 @@
 #!/usr/bin/env python3
-"""Tests the clients of sessions: the Python package, what its documents show, its examples, and the one in C.
+"""Tests the clients of sessions: the Python package, what it tests agents by, what its documents show, its examples, and the one in C.
 
 With --fast N, N commands in a batch have to be answered within N / 200,000 seconds.
 """
@@ -25,6 +25,7 @@ CLIENT = ROOT / "clients/python"
 sys.path.insert(0, str(CLIENT / "src"))
 os.environ["PYTHONPATH"] = str(CLIENT / "src")
 
+import client_testing  # noqa: E402
 import nimhessian  # noqa: E402
 from nimhessian import Refused, World, commands  # noqa: E402
 
@@ -254,4 +255,4 @@ def test_the_client_in_c():
 
 
 if __name__ == "__main__":
-    rig.main(__doc__, rig.tests_in(globals()), lambda add: add("--fast", type=int, default=0, metavar="N"))
+    rig.main(__doc__, rig.tests_in(globals(), client_testing), lambda add: add("--fast", type=int, default=0, metavar="N"))
