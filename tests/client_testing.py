@@ -1,6 +1,6 @@
-"""Tests of nimhessian.testing, which tests/client_tests.py tries: wrong agents are found, and their runs cut short; a right one passes.
+"""Tests of nimhessian.testing, which tests/client_tests.py tries: wrong agents are found, and a right one passes.
 
-What an agent breaks is told here by hand, of its bug. The script that is printed is replayed, and has to end as it is told.
+What an agent breaks is told here by hand, of its bug. The script that is printed is replayed, and ends as it is told.
 """
 import os
 import re
@@ -11,18 +11,21 @@ import client_agents
 import rig
 from client_agents import Right
 from nimhessian import Busy, World, testing
-from nimhessian.testing import AgentFailed, Broken, Counts, Environment, Event, Plan, Play, Rest, Rule, State, Turn, Weights
+from nimhessian.testing import (
+    AgentFailed, Broken, Counts, Environment, Event, Plan, Play, Rest, Rule, State, Turn, Weights,
+)
 from rig import ROOT, needs, raises, same
 
 SEEDS, MOST_LINES = range(200), 15
 ALONE = Environment(cpus=(1,), weights=Weights(crash=0))
 # By which rules the bug of an agent may be found: the first that a run meets is told.
 FOUND_BY = {
-    "ForgetsToConsume": {Rule.EMPTIED, Rule.AT_REST, Rule.PLACED}, "ConsumesBeforeItSends": {Rule.EMPTIED, Rule.AT_REST, Rule.PLACED},
+    "ForgetsToConsume": {Rule.EMPTIED, Rule.AT_REST, Rule.PLACED},
+    "ConsumesBeforeItSends": {Rule.EMPTIED, Rule.AT_REST, Rule.PLACED},
     "SleepsByTheCountOfThen": {Rule.SLEPT}, "CountsNoTicks": {Rule.AT_REST}, "TakesStaleForNever": {Rule.COUNTED},
     "IgnoresAffinity": {Rule.PLACED, Rule.AT_REST}, "StealsTwice": {Rule.PLACED}, "ForgetsWokenThreads": {Rule.AT_REST},
-    "ForgetsYields": {Rule.AT_REST}, "NeverSteals": {Rule.AT_REST}, "IgnoresDeath": {Rule.PLACED}, "RousesNobody": {Rule.AT_REST},
-    "ReadsBeforeItSends": {Rule.AT_REST, Rule.PLACED}, "TellsBeforeItKnows": {Rule.AT_REST},
+    "ForgetsYields": {Rule.AT_REST}, "NeverSteals": {Rule.AT_REST}, "IgnoresDeath": {Rule.PLACED},
+    "RousesNobody": {Rule.AT_REST}, "ReadsBeforeItSends": {Rule.AT_REST, Rule.PLACED},
     "MissesWhatCameBeforeItSlept": {Rule.AT_REST},
 }
 
@@ -62,11 +65,20 @@ def test_every_wrong_agent_has_a_row():
     same(FOUND_BY.keys(), {agent.__name__ for agent in client_agents.WRONG})
 
 
+def test_a_rare_bug_is_shown_by_a_plan():
+    """Agent 0 starts again, and has to rouse agent 1 for a thread of which only deltas tell that it may run there."""
+    plan = Plan(2, 65_536, (Event("create", (0, 2, 1), 0), Rest(), Event("crash", (0,)), Event("wake", (), 0), Rest()))
+    testing.replay(Right, plan)
+    with raises(Broken) as broken:
+        testing.replay(client_agents.TellsBeforeItKnows, plan)
+    same((broken.exception.rule, broken.exception.line), (Rule.AT_REST, "status t0"))
+
+
 def test_a_right_agent_passes():
     """And everything is met that the environment may do, and every state."""
     counts = testing.run(Right, SEEDS)
     same((counts.runs, counts.never()["events"], counts.never()["states"]), (len(SEEDS), [], []))
-    for met in ("commit Stale", "sleep Stale", "associate Pending", "associate Stale", "commit NotYours", "commit Busy"):
+    for met in ("commit Stale", "sleep Stale", "associate Pending", "associate Stale", "commit NotYours"):
         assert counts.refusals[met], f"{met} was never met"
     for told in ("runs 200, turns ", "\nevents: ", "\nrefusals never met: BadCpu; "):
         assert told in str(counts), counts
@@ -81,8 +93,9 @@ def test_what_was_never_tried_is_told():
 
 
 def test_the_rules_stand_in_the_documents():
-    told = " ".join(" ".join((ROOT / "docs" / name).read_text() for name in ("PROMISES.md", "PROTOCOL.md")).replace("*", "").split())
-    same([rule for rule in Rule if rule not in told], [])
+    told = "".join((ROOT / "docs" / name).read_text() for name in ("PROMISES.md", "PROTOCOL.md"))
+    words = " ".join(told.replace("*", "").split())
+    same([rule for rule in Rule if rule not in words], [])
 
 
 def test_a_seed_gives_the_same_run_again():
@@ -202,7 +215,7 @@ def test_an_agent_crashes_within_its_turn():
             ended.append(0)
 
     with Play(Crashes, 1) as play:
-        play.take(Turn(0, ((1, Event("crash", (0,))),)))
+        play.take(Turn(0, (("rouse 1", Event("crash", (0,))),)))
         same((made, ended, play.script()[2:]), ([0, 0], [], ["rouse 0", "crash 0"]))
 
 
@@ -217,7 +230,8 @@ from hypothesis.stateful import run_state_machine_as_test
 import client_agents
 from nimhessian import testing
 agent = getattr(client_agents, sys.argv[1])
-how = settings(max_examples=int(sys.argv[2]), deadline=None, derandomize=True, database=None, report_multiple_bugs=False, print_blob=False)
+how = settings(max_examples=int(sys.argv[2]), deadline=None, derandomize=True, database=None, print_blob=False)
+how = settings(how, report_multiple_bugs=False)
 try:
     run_state_machine_as_test(testing.state_machine(agent), settings=how)
 except testing.Broken as broken:
@@ -229,18 +243,19 @@ else:
 
 def python_with_hypothesis() -> str | None:
     """This Python, or Debian's."""
-    return next((it for it in (sys.executable, "/usr/bin/python3") if os.path.exists(it) and rig.run(it, "-c", "import hypothesis").returncode == 0), None)
+    there = [it for it in (sys.executable, "/usr/bin/python3") if os.path.exists(it)]
+    return next((it for it in there if rig.run(it, "-c", "import hypothesis").returncode == 0), None)
 
 
 @rig.each({
-    "a right agent": ("Right", 20, "passes", None), "one that forgets to consume": ("ForgetsToConsume", 200, "EMPTIED", r"publish \d"),
-    "one that steals nothing": ("NeverSteals", 200, "AT_REST", r"status t\d"),
+    "a right agent": ("Right", 20, "passes"), "one that forgets to consume": ("ForgetsToConsume", 200, "EMPTIED"),
+    "one that takes no thread over": ("NeverSteals", 200, "AT_REST"),
 })
-def test_hypothesis_plays_an_agent(agent: str, examples: int, wanted: str, last: str | None) -> None:
+def test_hypothesis_plays_an_agent(agent: str, examples: int, wanted: str) -> None:
     needs(python := python_with_hypothesis(), "no hypothesis here")
     path = os.pathsep.join([str(ROOT / "clients/python/src"), str(ROOT / "tests")])
     ended = rig.run(python, "-c", HYPOTHESIS, agent, examples, env=os.environ | {"PYTHONPATH": path})
     told = rig.good(ended).splitlines()
     same(told[0].split()[0], wanted)
-    if last is not None:
+    if wanted != "passes":
         assert len(told) <= MOST_LINES + 1 and told[1] == "version 3", ended.stdout

@@ -1,5 +1,5 @@
 #!/usr/bin/env python3
-"""Tests the clients of sessions: the Python package, what it tests agents by, what its documents show, its examples, and the one in C.
+"""Tests the clients of sessions: the Python package with its tests of agents, its documents and examples, and the one in C.
 
 With --fast N, N commands in a batch have to be answered within N / 200,000 seconds.
 """
@@ -128,12 +128,12 @@ def test_many_are_fast():
 def drawn(place: int, cpus: int) -> list[str]:
     """The lines of a script that is drawn, without its enclave."""
     chance = random.Random(f"queues {place}")
-    return [f"policy {chance.choice(ORDERS)}", *lines_of(chance, Rough(cpus), 12, lambda other: [
-        ["create Q MASK ready", "publish C", "consume C", "pick C ASEQ"], ["yield C RAN"], ["steal C", "pick C ASEQ"], ["mend C"]])]
+    further = [["create Q MASK ready", "publish C", "consume C", "pick C ASEQ"], ["yield C RAN"], ["steal C"], ["mend C"]]
+    return [f"policy {chance.choice(ORDERS)}", *lines_of(chance, Rough(cpus), 12, lambda other: further)]
 
 
 def told_by(model: Model, cpu: int) -> list[tuple[int | None, ...]]:
-    """What the model of all tests has in a queue: of each item the thread, its number, and what the message tells of it."""
+    """What the model of all tests has in a queue: of each item the thread, its number, and what the thread is then."""
     queue = model.queues[cpu]
     reports = [model.threads[item[0]].reports[item[1] - 1] if item else None for item in queue.items]
     posts = range(queue.posts - len(queue.items) + 1, queue.posts + 1)
@@ -145,8 +145,8 @@ def agrees(message: nimhessian.Message, told: tuple[Any, ...]) -> None:
     """A message tells no more and nothing else than the model's report behind it."""
     aseq, thread, number, phase, mask, level = told
     same((message.aseq, getattr(message, "thread", None), getattr(message, "number", None)), (aseq, thread, number))
-    phases = {"ThreadBlocked": "blocked", "ThreadDead": "dead", "ThreadWakeup": "ready", "ThreadYield": "ready", "ThreadPreempted": "ready"}
-    same(getattr(message, "phase", phases.get(type(message).__name__, phase)), phase)
+    phases = {"Blocked": "blocked", "Dead": "dead", "Wakeup": "ready", "Yield": "ready", "Preempted": "ready"}
+    same(getattr(message, "phase", phases.get(type(message).__name__.removeprefix("Thread"), phase)), phase)
     same((getattr(message, "mask", mask), getattr(message, "level", level)), (mask, level))
 
 
@@ -166,8 +166,8 @@ def test_messages_are_what_queues_hold():
                     for message, told in zip(held, wanted):
                         agrees(message, told)
                         kinds.add(type(message).__name__)
-    same(kinds, {"ThreadCreated", "ThreadWakeup", "ThreadBlocked", "ThreadYield", "ThreadPreempted", "ThreadDead", "ThreadAffinity",
-                 "ThreadPriority", "TimerTick"})
+    of_threads = "Created Wakeup Blocked Yield Preempted Dead Affinity Priority"
+    same(kinds, {"TimerTick", *(f"Thread{it}" for it in of_threads.split())})
 
 
 def test_the_program_is_started_and_not_the_launcher():
@@ -176,7 +176,8 @@ def test_the_program_is_started_and_not_the_launcher():
         (tree / "tools").mkdir()
         (tree / "tools/released").touch()
         place = tree / "crates/pc_sim/out"
-        rig.put_command(tree / "pc-sim", f"#!/bin/sh\necho asked >>{tree}/starts\nmkdir -p {place}\nln -s {rig.program} {place}/pc_sim\n")
+        puts = f"mkdir -p {place}\nln -s {rig.program} {place}/pc_sim\n"
+        rig.put_command(tree / "pc-sim", f"#!/bin/sh\necho asked >>{tree}/starts\n{puts}")
         for _ in range(3):
             with World(cpus=1, program=tree / "pc-sim") as world:
                 same((world.tick(0).aseq, world._program._process.args[0]), (1, str(place / "pc_sim")))
@@ -218,12 +219,15 @@ def test_what_documents_show():
     same([it.failed for it in every], [0, 0, 0])
     assert sum(it.attempted for it in every) > 0, "no module shows how it is used"
     shown = doctest.testfile(str(CLIENT / "README.md"), module_relative=False)
-    same((shown.failed, shown.attempted > 10), (0, True))
+    same((shown.failed, shown.attempted >= 8), (0, True))
 
 
 def test_examples():
     ticks, stale = good(rig.run(sys.executable, CLIENT / "examples/shortest_first.py", 7)).splitlines()
-    same(len(ticks.split(": ")[1].split()), 6)
+    of_cpus = [[int(it.split("@")[0]) for it in ticks.split(": ")[1].split() if it.endswith(f"@{cpu}")] for cpu in (0, 1)]
+    same(sum(map(len, of_cpus)), 6)
+    for alike in of_cpus:  # who has run for the fewest ticks runs next, for 9 at the most
+        assert max(alike) - min(alike) <= 9, ticks
     assert any(int(word) for word in stale.split(": ")[1].split()), stale
     tested = rig.run(sys.executable, CLIENT / "examples/test_my_agent.py")
     assert tested.returncode == 0 and "Ran 3 tests" in tested.stderr, tested.stderr
@@ -255,4 +259,5 @@ def test_the_client_in_c():
 
 
 if __name__ == "__main__":
-    rig.main(__doc__, rig.tests_in(globals(), client_testing), lambda add: add("--fast", type=int, default=0, metavar="N"))
+    every = rig.tests_in(globals(), client_testing)
+    rig.main(__doc__, every, lambda add: add("--fast", type=int, default=0, metavar="N"))

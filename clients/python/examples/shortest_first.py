@@ -5,6 +5,10 @@
 
 Threads run for a while, and leave their CPU, as the seed has it. Where a message comes between an agent's look and its
 commit, the model refuses the commit as stale, and the agent looks again.
+
+Two lines tell how it went. The ticks of threads on one CPU are nearly the same: that is what the policy is for. Those
+of two CPUs are not, where more threads share the one than the other: no agent here takes a thread from the other. How
+many commits came late says how often an agent had to look again, which costs the threads nothing here.
 """
 import random
 import sys
@@ -51,8 +55,7 @@ def main() -> None:
     rng = random.Random(int(sys.argv[1]) if len(sys.argv) > 1 else 0)
     with World(CPUS) as world:
         agents = [Agent(world, cpu) for cpu in range(CPUS)]
-        for _ in range(THREADS):
-            world.create(queue=rng.randrange(CPUS), mask=(1 << CPUS) - 1)
+        homes = [world.create(queue=rng.randrange(CPUS), mask=(1 << CPUS) - 1).queue for _ in range(THREADS)]
         ran = [0] * THREADS
         for _ in range(RUNS):
             agent = rng.choice(agents)
@@ -67,8 +70,8 @@ def main() -> None:
                     world.wake(thread)
                 else:
                     world.preempt(agent.cpu, ticks)
-        print("ticks of each thread:", *ran)
-        print("commits refused as stale:", *(agent.stale for agent in agents))
+        print("ticks that each thread ran, with its CPU:", *(f"{ticks}@{cpu}" for ticks, cpu in zip(ran, homes)))
+        print("commits of each CPU's agent that came late, and were tried again:", *(agent.stale for agent in agents))
 
 
 if __name__ == "__main__":

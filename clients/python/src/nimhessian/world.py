@@ -107,9 +107,9 @@ class World(_Commands):
     ...     world.pick(0, aseq=posted.aseq)
     Placed(thread=0, cpu=0)
 
-    `version` is that of the script: 1 has narrower limits, and 3 alone has policies and `mend`. `program` is the path of `pc-sim`;
-    without it PC_SIM names it, or it is looked for on the path. `record` gets each line that is sent: a script, which
-    `pc-sim replay`, `explain` and `draw` take.
+    `version` is that of the script: 1 has narrower limits, and 3 alone has policies and `mend`. `program` is the path of
+    `pc-sim`; without it PC_SIM names it, or it is looked for on the path. `record` gets each line that is sent: a script,
+    which `pc-sim replay`, `explain` and `draw` take.
     """
 
     def __init__(
@@ -148,8 +148,8 @@ class World(_Commands):
     def copy(self, *, record: TextIO | None = None) -> Self:
         """Another world in the same state, in a program of its own.
 
-        That is told all that was said so far, questions aside: a start, and some microseconds for each command. For that
-        a world keeps what it was told, about a hundred bytes a command; `reset` forgets them.
+        That is told all that was said so far, questions aside: a start, and some microseconds for each command. So a
+        world keeps what it was told, about a hundred bytes a command; `reset` forgets that.
         """
         self._program.check()
         made = copy.copy(self)
@@ -166,7 +166,7 @@ class World(_Commands):
             raise
 
     def ask(self, command: Command[Value]) -> Value:
-        """Sends a command, and waits for its answer. A line that would have none, such as a comment, is a ValueError."""
+        """Sends a command, and waits for its answer. A line that has none, such as a comment, is a ValueError."""
         (answer,), refused = self._exchange([command.line], [command.rows])
         return _read(command, answer, refused.get(0))
 
@@ -196,7 +196,7 @@ class World(_Commands):
         return list(self._queues.held[self._is_there("messages", cpu)])
 
     def aseq(self, cpu: int) -> int:
-        """How many posts the queue of the CPU had. Read it before the messages: one that comes between is not missed then."""
+        """How many posts the queue of the CPU had. Read before the messages, it counts none that is not among them."""
         return self._queues.aseq[self._is_there("aseq", cpu)]
 
     def _is_there(self, asked: str, cpu: int) -> int:

@@ -1,4 +1,4 @@
-"""Tests an agent against the model: environments are drawn, and each call of the agent is held against the model's rules.
+"""Tests an agent against the model: environments are drawn, and each call of the agent is held against rules.
 
     class MyAgent:
         def __init__(self, world: World, cpu: int) -> None: ...
@@ -6,8 +6,8 @@
 
     print(run(MyAgent, seeds=range(200)))
 
-The agent reads its queue by `world.messages`, and asks the world for what it wants. Threads are created, woken, blocked
-and moved while it does so, agents crash, and other agents act, also within its turn. A run that breaks a rule is cut down
+The agent reads its queue by `world.messages`, and asks the world for what it wants. Meanwhile threads are created,
+woken, blocked and moved, agents crash, and other agents act, also within its turn. A run that breaks a rule is cut down
 to a short script, which `AgentFailed` tells; otherwise `Counts` says what was met, and what never was.
 
 `state_machine` has the same for Hypothesis, where that is installed.
@@ -27,8 +27,8 @@ if TYPE_CHECKING:
     from hypothesis.stateful import RuleBasedStateMachine
 
 __all__ = [
-    "Agent", "AgentFailed", "Broken", "Counts", "Environment", "Event", "Maker", "Plan", "Play", "Rest", "Rule", "State",
-    "Step", "Turn", "Weights", "replay", "run", "state_machine",
+    "Agent", "AgentFailed", "Broken", "Counts", "Environment", "Event", "Maker", "Plan", "Play", "Rest", "Rule",
+    "State", "Step", "Turn", "Weights", "replay", "run", "state_machine",
 ]
 
 

@@ -8,6 +8,8 @@ from .rules import Broken
 from .steps import Event, Plan, Rest, Step, Turn
 
 MOST_TRIES = 2_000
+LAST = "sleep 0"
+"""The last call of most turns."""
 
 
 @dataclass(frozen=True)
@@ -18,15 +20,16 @@ class Ended:
     broken: Broken
     script: list[str]
 
-    def size(self) -> tuple[int, int, int, int]:
+    def size(self) -> tuple[int, ...]:
         """What is to be made small: lines before steps, these before CPUs, these before numbers.
 
         What happens within a turn is harder to follow than two lines more, and often in the way of what is simpler.
+        So is what happens before another call than the last one.
         """
         steps = self.plan.steps
-        within = sum(len(it.between) for it in steps if isinstance(it, Turn))
+        within = [call for it in steps if isinstance(it, Turn) for call, _ in it.between]
         numbers = sum(sum(it.given) for it in steps if isinstance(it, Event))
-        return len(self.script) + 2 * within, len(steps), self.plan.cpus, numbers
+        return len(self.script) + 2 * len(within), len(steps), len(within) - within.count(LAST), self.plan.cpus, numbers
 
 
 def cut(ended: Ended, replay: Callable[[Plan], Ended | None]) -> Ended:
@@ -79,14 +82,21 @@ def _instead(step: Step, cpus: int) -> Iterator[tuple[Step, ...]]:
             yield from ((Turn(cpu),) for cpu in range(cpus))
         case Turn(cpu, between) if between:
             yield (Turn(cpu),)
-            for place, (_, inner) in enumerate(between):
+            for place, (call, inner) in enumerate(between):
+                if call != LAST:
+                    yield (Turn(cpu, between[:place] + ((LAST, inner),) + between[place + 1:]),)
                 rest = Turn(cpu, between[:place] + between[place + 1:])
                 yield (rest,)
                 yield from ((inner,), (inner, rest), (rest, inner))
         case Event(name, given):
             for place, number in enumerate(given):
                 others = _OTHERS.get((name, place), lambda cpus: range(2))(cpus)
-                yield from ((replace(step, given=given[:place] + (it,) + given[place + 1:]),) for it in others if it != number)
+                yield from ((_with(step, place, it),) for it in others if it != number)
+
+
+def _with(event: Event, place: int, number: int) -> Event:
+    """The event with another number there."""
+    return replace(event, given=event.given[:place] + (number,) + event.given[place + 1:])
 
 
 def _without_cpu(plan: Plan, gone: int, instead: int | None) -> Plan:
@@ -102,8 +112,8 @@ def _moved(step: Step, cpus: dict[int, int | None]) -> Step | None:
         return step
     if isinstance(step, Turn):
         cpu = cpus.get(step.cpu)
-        between = ((place, it) for place, inner in step.between if (it := _moved(inner, cpus)) is not None)
-        return None if cpu is None else Turn(cpu, tuple((place, it) for place, it in between if not isinstance(it, Rest)))
+        between = ((call, it) for call, inner in step.between if isinstance(it := _moved(inner, cpus), Event | Turn))
+        return None if cpu is None else Turn(cpu, tuple(between))
     if step.name in ("wake", "priority"):
         return step
     if step.name == "affinity":

@@ -2,7 +2,7 @@
 from __future__ import annotations
 
 from collections.abc import Callable, Sequence
-from dataclasses import dataclass, field, fields
+from dataclasses import asdict, dataclass, field
 from random import Random
 
 from ..values import Phase
@@ -59,7 +59,7 @@ class Drawing:
         self.environment, self.chance = environment, chance
         self.created = 0
         # Some faults need much of one thing and nothing of another, of which a run by even weights has too little.
-        self.weights = {it.name: getattr(environment.weights, it.name) * chance.choice(FACTORS) for it in fields(Weights)}
+        self.weights = {name: weight * chance.choice(FACTORS) for name, weight in asdict(environment.weights).items()}
 
     def run(self, play: Play, steps: list[Step]) -> None:
         """Draws steps, and takes them: each is added to the list, also the one by which a rule is found broken."""
@@ -73,21 +73,21 @@ class Drawing:
             steps.append(step)
             play.take(step)
             return
-        between: list[tuple[int, Event | Turn]] = []
+        between: list[tuple[str, Event | Turn]] = []
         try:
             play.turn(step.cpu, self._draws(play, step.cpu, between))
         finally:
             steps.append(Turn(step.cpu, tuple(between)))
 
-    def _draws(self, play: Play, cpu: int, drawn: list[tuple[int, Event | Turn]]) -> Between:
+    def _draws(self, play: Play, cpu: int, drawn: list[tuple[str, Event | Turn]]) -> Between:
         """Draws what happens before each call of an agent, and tells it to the list."""
-        def draw(place: int) -> list[Event | Turn]:
+        def draw(call: str) -> list[Event | Turn]:
             if self.chance.random() >= self.environment.between:
                 return []
             step = self._step(play, cpu)
             if isinstance(step, Rest):
                 return []
-            drawn.append((place, step))
+            drawn.append((call, step))
             return [step]
 
         return draw

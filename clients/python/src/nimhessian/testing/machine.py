@@ -13,6 +13,11 @@ from .play import Maker, Play
 from .rules import Broken
 from .steps import LEAVINGS, Event, Rest, Turn
 
+CALLS = (
+    "sleep", "commit", "associate", "pick", "steal", "consume", "publish", "messages", "aseq", "deliver", "show", "rouse",
+)
+"""What agents ask, before which something else may happen."""
+
 
 def _events(environment: Environment, *names: str) -> st.SearchStrategy[Event]:
     """What the environment may do of these, or of all; what is not possible then is refused, and changes nothing."""
@@ -51,13 +56,15 @@ def _fitting(play: Play, step: Event | Turn, threads: int) -> Event | Turn | Non
 
 def machine_of(agent: Maker, environment: Environment, program: str | None = None) -> type[RuleBasedStateMachine]:
     """A machine whose rules are the steps of a play."""
-    cpu = st.integers(0, max(environment.cpus) - 1)
-    inner = st.tuples(st.integers(0, 12), st.one_of(_events(environment), st.builds(Turn, cpu)))
+    cpus, rooms = sorted(set(environment.cpus)), sorted(set(environment.rooms), reverse=True)
+    cpu = st.integers(0, max(cpus) - 1)
+    call = st.builds("{} {}".format, st.sampled_from(CALLS), st.integers(0, 1))
+    inner = st.tuples(call, st.one_of(_events(environment), st.builds(Turn, cpu)))
 
     class AgentMachine(RuleBasedStateMachine):
         play: Play | None = None
 
-        @initialize(cpus=st.sampled_from(sorted(set(environment.cpus))), room=st.sampled_from(sorted(set(environment.rooms))[::-1]))
+        @initialize(cpus=st.sampled_from(cpus), room=st.sampled_from(rooms))
         def begin(self, cpus: int, room: int) -> None:
             self.play = Play(agent, cpus, room, program=program)
 
@@ -88,7 +95,7 @@ def machine_of(agent: Maker, environment: Environment, program: str | None = Non
             self.take(event)
 
         @rule(cpu=cpu, between=st.lists(inner, max_size=2))
-        def turn(self, cpu: int, between: list[tuple[int, Event | Turn]]) -> None:
+        def turn(self, cpu: int, between: list[tuple[str, Event | Turn]]) -> None:
             self.take(Turn(cpu, tuple(between)))
 
         @rule()

@@ -3,6 +3,7 @@ from __future__ import annotations
 
 import contextlib
 import os
+from collections import Counter
 from collections.abc import Callable, Collection, Iterable, Iterator
 from typing import Protocol, Self, TextIO
 
@@ -16,10 +17,12 @@ from .counts import Counts, State
 from .rules import UNCAUGHT, Broken, Rule
 from .steps import LEAVINGS, Event, Rest, Step, Turn
 
+AT_CPUS = {*LEAVINGS, "tick", "crash"}
+"""The events whose first number is a CPU, but for `create`, which is refused where that is not there."""
 MOST_CALLS = 1_000
 """So many calls a turn may have."""
-PATIENCE = 20
-"""So many turns each agent gets to come to rest."""
+PATIENCE, ALIKE = 20, 3
+"""So many turns each agent gets to come to rest, and so many of all agents that are alike are rest."""
 OF_THE_CPU = {"publish", "consume", "deliver", "answer", "pick", "steal", "commit", "sleep"}
 """What an agent asks for its own CPU alone."""
 NOT_OF_AGENTS = POSTING | {"crash", "mend", "policy", "enclave", "version"}
@@ -28,18 +31,18 @@ NOT_OF_AGENTS = POSTING | {"crash", "mend", "policy", "enclave", "version"}
 class Agent(Protocol):
     """What is tested: the agent of one CPU, made with the world and the CPU, and made anew where it crashes.
 
-    In a turn it reads its queue, and asks the world for what it wants. An agent that sleeps has no turn until it is woken.
+    In a turn it reads its queue, and asks the world for what it wants. An agent that sleeps has none until it is woken.
     """
 
     def turn(self) -> None: ...
 
 
 Maker = Callable[[World, int], Agent]
-Between = Callable[[int], Iterable[Event | Turn]]
-"""What happens before the call of an agent of this place."""
+Between = Callable[[str], Iterable[Event | Turn]]
+"""What happens before this call of an agent, which is told as in `Turn.between`."""
 
 
-def nothing(place: int) -> Iterable[Event | Turn]:
+def nothing(call: str) -> Iterable[Event | Turn]:
     return ()
 
 
@@ -114,9 +117,10 @@ class Play:
         self.masks: dict[int, int] = {}
         self._make, self._tolerates = make, {refusal.__name__ for refusal in tolerates}
         self._acting: list[int | None] = [None]
-        """Whose calls these are: of an agent within whose turn others act, and last who acts now; the environment is none."""
+        """Who acts: an agent within whose turn others do, and last whose calls these are; the environment is none."""
         self._between: Between = nothing
-        self._place = self._deeds = 0
+        self._calls = Counter[str]()
+        """What was asked so far in this turn."""
         self._broken: Broken | None = None
         self._read = [0] * cpus
         """How many posts of its queue each agent has looked at."""
@@ -164,13 +168,13 @@ class Play:
             case Event():
                 self._happen(step)
             case Turn(cpu, between) if cpu in self.awake():
-                self.turn(cpu, lambda place: [it for at, it in between if at == place])
+                self.turn(cpu, lambda call: [it for at, it in between if at == call])
             case Rest():
                 self._rest()
 
     def _happen(self, event: Event) -> None:
         command = event.command(self.threads)
-        if command is None or event.name not in ("create", "wake", "affinity", "priority") and event.given[0] not in self.cpus:
+        if command is None or event.name in AT_CPUS and event.given[0] not in self.cpus:
             return
         try:
             with self._as(None):
@@ -214,8 +218,8 @@ class Play:
 
     def _act(self, cpu: int, act: Callable[[], None], between: Between) -> None:
         """An agent acts; what it lets pass is its fault."""
-        outer = self._between, self._place
-        self._between, self._place = between, 0
+        outer = self._between, self._calls
+        self._between, self._calls = between, Counter()
         crashed = False
         try:
             with self._as(cpu):
@@ -227,9 +231,10 @@ class Play:
         except (NimhessianError, Broken):
             raise
         except Exception as error:
-            self._broken = self._broken or Broken(Rule.GOES_ON, f"raises {type(error).__name__}", f"agent {cpu} raises {error!r}")
+            raised = Broken(Rule.GOES_ON, f"raises {type(error).__name__}", f"agent {cpu} raises {error!r}")
+            self._broken = self._broken or raised
         finally:
-            self._between, self._place = outer
+            self._between, self._calls = outer
         if self._broken is not None:
             raise self._broken
         if crashed:
@@ -242,12 +247,13 @@ class Play:
             return
         if self._broken is not None:
             raise _Ends
-        place, self._place = self._place, self._place + 1
-        if place == MOST_CALLS:
-            self._break(Broken(Rule.GOES_ON, "no end", f"agent {cpu} makes more than {MOST_CALLS} calls in a turn"))
-        for step in self._between(place):
-            self._meanwhile(step)
         verb, *words = line.split(" ")
+        call = f"{verb} {self._calls[verb]}"
+        self._calls[verb] += 1
+        if self._calls.total() > MOST_CALLS:
+            self._break(Broken(Rule.GOES_ON, "no end", f"agent {cpu} makes more than {MOST_CALLS} calls in a turn"))
+        for step in self._between(call):
+            self._meanwhile(step)
         if verb in NOT_OF_AGENTS or verb in OF_THE_CPU and words[0] != str(cpu):
             self._break(Broken(Rule.ALONE, f"asks {verb}", f"agent {cpu} asks `{line}`, which is not its to ask", line))
 
@@ -278,24 +284,27 @@ class Play:
             self._look_at_refusal(cpu, line, verb, told)
         elif told[0] == "ok":
             self.counts.calls[verb] += 1
-            self._deeds += 1
             if verb == "publish":
                 self.has_read(cpu)
             elif verb in ("commit", "pick"):
                 self._placed[cpu] = True
             elif verb == "sleep" and self._read[cpu] < self.world.posts(cpu):
-                self._break(Broken(Rule.SLEPT, "sleeps", f"agent {cpu} sleeps by a count of posts that it has not read: `{line}`"))
+                how = f"agent {cpu} sleeps by a count of posts that it has not read: `{line}`"
+                self._break(Broken(Rule.SLEPT, "sleeps", how))
 
     def _look_at_refusal(self, cpu: int, line: str, verb: str, told: list[str]) -> None:
         """What an agent should have known is a fault even where it catches the refusal."""
         name = told[1]
+        is_busy = name == "Busy" or verb == "commit" and told[1:] == ["Running", str(cpu)]
         if name in self._tolerates:
             return
-        is_busy = name == "Busy" or verb == "commit" and told[1:] == ["Running", str(cpu)]
         if is_busy and self._placed[cpu]:
-            self._break(Broken(Rule.PLACED, f"{verb} {name}", f"agent {cpu} forgot the thread that it runs: `{line}`", line))
-        if verb == "commit" and name in ("NotReady", "Forbidden") and self._knows_all(cpu, line):
-            self._break(Broken(Rule.PLACED, f"{verb} {name}", f"agent {cpu} was told all of the thread, and asks `{line}`", line))
+            why = "forgot the thread that it runs"
+        elif verb == "commit" and name in ("NotReady", "Forbidden") and self._knows_all(cpu, line):
+            why = "was told all of the thread"
+        else:
+            return
+        self._break(Broken(Rule.PLACED, f"{verb} {name}", f"agent {cpu} {why}, and asks `{line}`", line))
 
     def _knows_all(self, cpu: int, line: str) -> bool:
         """Whether the agent was told every message of the thread of a commit."""
@@ -303,21 +312,29 @@ class Play:
             return self.world.ask(commands.complete(cpu, int(line.split(" ")[2][1:])))
 
     def _rest(self) -> None:
-        """Agents have turns, one after another, until all sleep, or none of them does anything."""
-        for _ in range(PATIENCE):
-            deeds = self._deeds
-            for cpu in self.awake():
-                self.turn(cpu)
-            if self._deeds == deeds:
+        """Agents have turns until all sleep, or do the same again and again, which may be nothing."""
+        rounds: list[list[str]] = []
+        while len(rounds) < PATIENCE and (awake := self.awake()):
+            if len(rounds) >= ALIKE and rounds[-ALIKE:] == [rounds[-1]] * ALIKE:
                 break
+            begin = len(self.world.told)
+            for cpu in awake:
+                self.turn(cpu)
+            accepted = (line for line, answer in self.world.told[begin:] if answer.startswith("ok"))
+            # Which delta it is that is taken in goes on where nothing else does.
+            rounds.append([line.rpartition(" ")[0] if line.startswith("deliver ") else line for line in accepted])
+        self._check_rest()
+
+    def _check_rest(self) -> None:
+        """At rest no CPU idles beside a thread that waits for it, and every queue is empty."""
         self.counts.states[State.RESTED] += 1
         statuses = self.statuses()
         idle = [cpu for cpu in self.cpus if all(it.cpu != cpu for it in statuses)]
         for it in statuses:
             allowed = [cpu for cpu in idle if self.masks[it.thread] >> cpu & 1]
             if it.phase is Phase.READY and it.cpu is None and allowed:
-                raise Broken(Rule.AT_REST, "waits", f"CPU {allowed[0]} idles at rest, and thread t{it.thread} waits that may run there",
-                             commands.status(it.thread).line)
+                told = f"CPU {allowed[0]} idles at rest, and thread t{it.thread} waits that may run there"
+                raise Broken(Rule.AT_REST, "waits", told, commands.status(it.thread).line)
         for cpu in self.cpus:
             if left := self.world.holds(cpu):
                 raise Broken(Rule.EMPTIED, "leaves", f"agent {cpu} leaves messages in its queue at rest: {left}")
@@ -334,7 +351,7 @@ class Play:
             states[State.BLOCKED] += it.phase is Phase.BLOCKED
             states[State.DEAD] += it.phase is Phase.DEAD
             states[State.AWAY] += not mask >> home & 1
-            states[State.ELSEWHERE] += waits and any(mask >> cpu & 1 for cpu in self.cpus if cpu not in busy and cpu != home)
+            states[State.ELSEWHERE] += waits and any(mask >> cpu & 1 for cpu in self.cpus if cpu not in {*busy, home})
         states[State.FULL] += len(busy) == len(self.cpus)
         states[State.ASLEEP] += len(self.awake()) < len(self.cpus)
 

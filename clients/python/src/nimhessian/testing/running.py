@@ -18,7 +18,7 @@ from .steps import Plan, Step
 
 
 class AgentFailed(AssertionError):
-    """An agent broke a rule. Its text tells which, and has the shortest run that was found, with what `pc-sim` says of it."""
+    """An agent broke a rule. Its text tells which, and the shortest run that was found, with what `pc-sim` says of it."""
 
     def __init__(self, seed: int, ended: Ended, explanation: str, counts: Counts) -> None:
         broken = ended.broken
@@ -72,8 +72,8 @@ def run(
 ) -> Counts:
     """Runs the agent once for each seed; what was met, or `AgentFailed` by the first seed where a rule is broken.
 
-    `agent` makes the agent of a CPU, of a world and the CPU. Refusals that it `tolerates` are no faults where it catches
-    them; those that no law excludes, such as `Stale`, never are.
+    `agent` makes the agent of a CPU, of a world and the CPU. Refusals that it `tolerates` are no faults where it
+    catches them; those that no law excludes, such as `Stale`, never are.
     """
     runner, counts = _Runner(agent, tolerates, find_program(program)), Counts()
     for seed in seeds:
@@ -84,7 +84,8 @@ def run(
 
 
 def replay(
-    agent: Maker, plan: Plan, *, tolerates: Collection[type[Refused]] = (), program: str | os.PathLike[str] | None = None,
+    agent: Maker, plan: Plan, *,
+    tolerates: Collection[type[Refused]] = (), program: str | os.PathLike[str] | None = None,
 ) -> None:
     """Runs the agent by a plan; what is broken is raised where it is."""
     if (ended := _Runner(agent, tolerates, find_program(program)).replay(plan)) is not None:

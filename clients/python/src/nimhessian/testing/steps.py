@@ -18,8 +18,8 @@ EVENTS = ("create", "wake", *LEAVINGS, "affinity", "priority", "tick", "crash")
 class Event:
     """The environment does something: a command, by its name in `nimhessian.commands`.
 
-    `thread` is a name of the run's own, so that a step stays what it is where others are left out: `create` gives it, and
-    what is said of a thread that was not created is passed over.
+    `thread` is a name of the run's own, so that a step stays what it is where others are left out: `create` gives it,
+    and what is said of a thread that was not created is passed over.
     """
 
     name: str
@@ -37,10 +37,11 @@ class Event:
 
 @dataclass(frozen=True, slots=True)
 class Turn:
-    """The agent of a CPU has a turn. Before its calls of these places, from 0, something else happens."""
+    """The agent of a CPU has a turn. Before some of its calls something else happens."""
 
     cpu: int
-    between: tuple[tuple[int, Event | Turn], ...] = ()
+    between: tuple[tuple[str, Event | Turn], ...] = ()
+    """Before which call, as `sleep 0`: the first of the turn that asks to sleep."""
 
 
 @dataclass(frozen=True, slots=True)
