@@ -219,6 +219,18 @@ def test_an_agent_crashes_within_its_turn():
         same((made, ended, play.script()[2:]), ([0, 0], [], ["rouse 0", "crash 0"]))
 
 
+def test_an_agent_may_look_ahead_in_a_copy():
+    """What is tried there happens in no run, and is held against no rule."""
+    def looks(world: World, cpu: int) -> None:
+        with world.copy() as other:
+            other.tick(cpu), other.publish(cpu)
+
+    with Play(type("Looks", (Does,), {"deed": staticmethod(looks)}), 1) as play:
+        play.take(Event("create", (0, 1, 0)))
+        play.take(Turn(0))
+        same((play.script()[2:], play.world.posts(0), play.counts.calls.total()), (["create 0 1 ready"], 1, 0))
+
+
 def test_a_plan_is_replayed():
     testing.replay(Right, Plan(2, 65_536, (Event("create", (0, 3, 0), 5), Turn(0), Event("wake", (), 9), Rest())))
 

@@ -21,7 +21,7 @@ class Refused(NimhessianError):
 
     @property
     def advice(self) -> list[str]:
-        """Commands that are accepted behind the refused one, the last of which is that itself, with the numbers of then.
+        """Commands that are accepted behind the refused one. The last of them is that itself, by the numbers of then.
 
         Where no agent can do it, calls of the environment are among them; none are told where nothing helps. They are
         what `pc-sim explain` says: a program is started, and is told all that the world was told before the refusal.

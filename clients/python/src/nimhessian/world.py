@@ -107,9 +107,9 @@ class World(_Commands):
     ...     world.pick(0, aseq=posted.aseq)
     Placed(thread=0, cpu=0)
 
-    `version` is that of the script: 1 has narrower limits, and 3 alone has policies and `mend`. `program` is the path of
-    `pc-sim`; without it PC_SIM names it, or it is looked for on the path. `record` gets each line that is sent: a script,
-    which `pc-sim replay`, `explain` and `draw` take.
+    `version` is that of the script: 1 has narrower limits, and 3 alone has policies and `mend`. `program` is the path
+    of `pc-sim`; without it PC_SIM names it, or it is looked for on the path. `record` gets each line that is sent: a
+    script, which `pc-sim replay`, `explain` and `draw` take.
     """
 
     def __init__(

@@ -14,7 +14,8 @@ from .rules import Broken
 from .steps import LEAVINGS, Event, Rest, Turn
 
 CALLS = (
-    "sleep", "commit", "associate", "pick", "steal", "consume", "publish", "messages", "aseq", "deliver", "show", "rouse",
+    "sleep", "commit", "associate", "pick", "steal", "consume", "publish", "messages", "aseq", "deliver", "show",
+    "rouse",
 )
 """What agents ask, before which something else may happen."""
 
@@ -54,29 +55,40 @@ def _fitting(play: Play, step: Event | Turn, threads: int) -> Event | Turn | Non
     return step if step.name != "create" or len(statuses) < threads else None
 
 
-def machine_of(agent: Maker, environment: Environment, program: str | None = None) -> type[RuleBasedStateMachine]:
+class _Machine(RuleBasedStateMachine):
+    """What all machines have: a play, whose steps are taken."""
+
+    play: Play | None = None
+    threads = 0
+
+    def take(self, step: Event | Turn | Rest) -> None:
+        assert self.play is not None
+        fitting = step if isinstance(step, Rest) else _fitting(self.play, step, self.threads)
+        try:
+            if fitting is not None:
+                self.play.take(fitting)
+        except Broken as broken:
+            broken.add_note("\n".join(["The script that leads there:", *self.play.script(broken)]))
+            raise
+
+    def teardown(self) -> None:
+        if self.play is not None:
+            self.play.world.close()
+
+
+def machine_of(agent: Maker, environment: Environment) -> type[RuleBasedStateMachine]:
     """A machine whose rules are the steps of a play."""
     cpus, rooms = sorted(set(environment.cpus)), sorted(set(environment.rooms), reverse=True)
     cpu = st.integers(0, max(cpus) - 1)
     call = st.builds("{} {}".format, st.sampled_from(CALLS), st.integers(0, 1))
     inner = st.tuples(call, st.one_of(_events(environment), st.builds(Turn, cpu)))
 
-    class AgentMachine(RuleBasedStateMachine):
-        play: Play | None = None
+    class AgentMachine(_Machine):
+        threads = environment.threads
 
         @initialize(cpus=st.sampled_from(cpus), room=st.sampled_from(rooms))
         def begin(self, cpus: int, room: int) -> None:
-            self.play = Play(agent, cpus, room, program=program)
-
-        def take(self, step: Event | Turn | Rest) -> None:
-            assert self.play is not None
-            fitting = step if isinstance(step, Rest) else _fitting(self.play, step, environment.threads)
-            try:
-                if fitting is not None:
-                    self.play.take(fitting)
-            except Broken as broken:
-                broken.add_note("\n".join(["The script that leads there:", *self.play.script(broken)]))
-                raise
+            self.play = Play(agent, cpus, room)
 
         @rule(event=_events(environment, "create"))
         def create(self, event: Event) -> None:
@@ -102,10 +114,4 @@ def machine_of(agent: Maker, environment: Environment, program: str | None = Non
         def rest(self) -> None:
             self.take(Rest())
 
-        def teardown(self) -> None:
-            if self.play is not None:
-                self.play.world.close()
-
-    made: Any = AgentMachine
-    made.__name__ = f"Machine of {getattr(agent, '__name__', 'an agent')}"
     return AgentMachine

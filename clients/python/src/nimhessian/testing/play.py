@@ -65,19 +65,22 @@ class PlayedWorld(World):
         super()._start(lines, record)
 
     def _exchange(self, lines: list[str], rows: list[bool]) -> tuple[list[str], dict[int, Past]]:
-        answers: list[str] = []
-        refused: dict[int, Past] = {}
+        if self._play is None or self._play.is_environment():
+            answers, refused = super()._exchange(lines, rows)
+            self._keep(lines, answers)
+            return answers, refused
+        answers, refused = [], {}
         for place, (line, has_rows) in enumerate(zip(lines, rows)):
-            if self._play is not None:
-                self._play.before(line)
+            self._play.before(line)
             (answer,), past = super()._exchange([line], [has_rows])
+            self._keep([line], [answer])
             answers.append(answer)
             refused |= {place: it for it in past.values()}
-            if line.split(" ")[0] not in QUESTIONS:
-                self.told.append((line, answer))
-            if self._play is not None:
-                self._play.after(line, answer)
+            self._play.after(line, answer)
         return answers, refused
+
+    def _keep(self, lines: list[str], answers: list[str]) -> None:
+        self.told += [row for row in zip(lines, answers) if row[0].split(" ")[0] not in QUESTIONS]
 
     def messages(self, cpu: int) -> list[Message]:
         if self._play is not None:
@@ -147,6 +150,10 @@ class Play:
             yield
         finally:
             self._acting.pop()
+
+    def is_environment(self) -> bool:
+        """Whether what is asked now is asked by no agent."""
+        return self._acting[-1] is None
 
     def statuses(self) -> list[Status]:
         """What the kernel says of each thread."""

@@ -18,7 +18,7 @@ from .steps import Plan, Step
 
 
 class AgentFailed(AssertionError):
-    """An agent broke a rule. Its text tells which, and the shortest run that was found, with what `pc-sim` says of it."""
+    """An agent broke a rule. Its text tells which, and the shortest run that was found, as `pc-sim` explains it."""
 
     def __init__(self, seed: int, ended: Ended, explanation: str, counts: Counts) -> None:
         broken = ended.broken
