@@ -6,15 +6,15 @@ from collections.abc import Collection, Iterable
 from dataclasses import dataclass
 from random import Random
 
-from ..advice import explained
-from ..errors import Refused
-from ..program import find_program
-from .counts import Counts
-from .cutting import Ended, cut
-from .drawing import Drawing, Environment
-from .play import Maker, Play
-from .rules import Broken, Rule
-from .steps import Plan, Step
+from .advice import explained
+from .errors import Refused
+from .program import find_program
+from .testing_counts import Counts
+from .testing_cutting import Ended, cut
+from .testing_drawing import Drawing, Environment
+from .testing_play import Maker, Play
+from .testing_rules import Broken, Rule
+from .testing_steps import Plan, Step
 
 
 class AgentFailed(AssertionError):

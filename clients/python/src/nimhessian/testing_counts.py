@@ -4,8 +4,8 @@ from collections.abc import Iterable
 from dataclasses import dataclass, field
 from enum import StrEnum
 
-from ..errors import REFUSALS
-from .steps import EVENTS
+from .errors import REFUSALS
+from .testing_steps import EVENTS
 
 
 class State(StrEnum):

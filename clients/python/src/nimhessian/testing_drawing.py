@@ -5,9 +5,9 @@ from collections.abc import Callable, Sequence
 from dataclasses import asdict, dataclass, field
 from random import Random
 
-from ..values import Phase
-from .play import Between, Play
-from .steps import LEAVINGS, Event, Rest, Step, Turn
+from .testing_play import Between, Play
+from .testing_steps import LEAVINGS, Event, Rest, Step, Turn
+from .values import Phase
 
 FACTORS = (0.2, 1, 1, 3)
 """By one of these each weight is multiplied, in each run by another."""

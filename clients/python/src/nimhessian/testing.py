@@ -16,12 +16,12 @@ from __future__ import annotations
 
 from typing import TYPE_CHECKING
 
-from .counts import Counts, State
-from .drawing import Environment, Weights
-from .play import Agent, Maker, Play
-from .rules import Broken, Rule
-from .running import AgentFailed, replay, run
-from .steps import Event, Plan, Rest, Step, Turn
+from .testing_counts import Counts, State
+from .testing_drawing import Environment, Weights
+from .testing_play import Agent, Maker, Play
+from .testing_rules import Broken, Rule
+from .testing_running import AgentFailed, replay, run
+from .testing_steps import Event, Plan, Rest, Step, Turn
 
 if TYPE_CHECKING:
     from hypothesis.stateful import RuleBasedStateMachine
@@ -34,6 +34,6 @@ __all__ = [
 
 def state_machine(agent: Maker, environment: Environment = Environment()) -> type[RuleBasedStateMachine]:
     """A machine of Hypothesis that plays the agent; its `TestCase` is a test."""
-    from .machine import machine_of
+    from .testing_machine import machine_of
 
     return machine_of(agent, environment)

@@ -4,8 +4,8 @@ from __future__ import annotations
 from collections.abc import Callable, Iterator
 from dataclasses import dataclass, replace
 
-from .rules import Broken
-from .steps import Event, Plan, Rest, Step, Turn
+from .testing_rules import Broken
+from .testing_steps import Event, Plan, Rest, Step, Turn
 
 MOST_TRIES = 2_000
 LAST = "sleep 0"

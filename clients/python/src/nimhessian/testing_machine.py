@@ -7,11 +7,11 @@ from typing import Any
 from hypothesis import strategies as st
 from hypothesis.stateful import RuleBasedStateMachine, initialize, rule
 
-from ..values import Phase
-from .drawing import TICKS, Environment
-from .play import Maker, Play
-from .rules import Broken
-from .steps import LEAVINGS, Event, Rest, Turn
+from .testing_drawing import TICKS, Environment
+from .testing_play import Maker, Play
+from .testing_rules import Broken
+from .testing_steps import LEAVINGS, Event, Rest, Turn
+from .values import Phase
 
 CALLS = (
     "sleep", "commit", "associate", "pick", "steal", "consume", "publish", "messages", "aseq", "deliver", "show",

@@ -5,8 +5,8 @@ from collections.abc import Callable, Mapping
 from dataclasses import dataclass
 from typing import cast
 
-from .. import commands
-from ..commands import Command
+from . import commands
+from .commands import Command
 
 LEAVINGS = ("block", "yield_", "preempt", "die")
 """The events by which a thread leaves its CPU."""

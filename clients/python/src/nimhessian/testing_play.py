@@ -7,15 +7,15 @@ from collections import Counter
 from collections.abc import Callable, Collection, Iterable, Iterator
 from typing import Protocol, Self, TextIO
 
-from .. import commands
-from ..advice import Past
-from ..errors import Fault, NimhessianError, Refused
-from ..messages import POSTING, Message
-from ..values import Phase, Posted, Status
-from ..world import QUESTIONS, World
-from .counts import Counts, State
-from .rules import UNCAUGHT, Broken, Rule
-from .steps import LEAVINGS, Event, Rest, Step, Turn
+from . import commands
+from .advice import Past
+from .errors import Fault, NimhessianError, Refused
+from .messages import POSTING, Message
+from .testing_counts import Counts, State
+from .testing_rules import UNCAUGHT, Broken, Rule
+from .testing_steps import LEAVINGS, Event, Rest, Step, Turn
+from .values import Phase, Posted, Status
+from .world import QUESTIONS, World
 
 AT_CPUS = {*LEAVINGS, "tick", "crash"}
 """The events whose first number is a CPU, but for `create`, which is refused where that is not there."""
