@@ -9,9 +9,11 @@ drawn runs of the program alone. tests/lab_pictures.py has the tests of pictures
 import csv
 import functools
 import itertools
+import json
 import pathlib
 import random
 import subprocess
+import tomllib
 from collections import Counter
 from collections.abc import Callable
 from dataclasses import dataclass, field
@@ -20,15 +22,15 @@ from typing import Any
 import lab_pictures
 import rig
 from kernel import ORDERS, WORD32, answered, ticks_of
-from reference.lab import STEALS, TIMES, Run, Variant, csv_of, load_of, replies_of, runs_of, script_of, table_of
+from reference.lab import STEALS, TIMES, Run, Variant, csv_of, load_of, replies_of, runs_of, script_of, table_of, unknown_keys
 from rig import ROOT, good, outcome, same
 from tables import drawn_load, drawn_threads, thread, variant
 
 ROWS, BAD = ROOT / "examples/lab/worked", ROOT / "tests/lab_faults"
-LOADS, WIDE = 60, 100
+LOADS, WIDE, MISSPELT = 60, 100, 200
 # How many worked files end like this, and how many rows tests/lab_faults/expected has.
 FILES = {".toml": 8, ".table": 8, ".csv": 8, ".script": 20, ".replies": 20}
-FAULTS, MOST_BYTES = 59, 16_777_216
+FAULTS, MOST_BYTES = 66, 16_777_216
 
 
 def files(suffix: str) -> list[pathlib.Path]:
@@ -113,7 +115,44 @@ def test_faults(more: list[str]) -> None:
                 same(out, (BAD / words).with_suffix(".table").read_text(), words)
             continue
         first, *others = errors.splitlines()
-        same((status, out, first, len(others)), (1, "", wanted, int(wanted == "pc-sim: cannot read")), words)
+        same((status, out, first, len(others)), (1, "", wanted, int(wanted.startswith(("pc-sim: cannot read", "pc-sim: lab UnknownKey")))), words)
+        if wanted.startswith("pc-sim: lab UnknownKey"):
+            faulty = next(it for it in words.split()[::-1] if (BAD / it).is_file())
+            same((first, *others), told_unknown((BAD / faulty).read_text()), words)
+
+
+def told_unknown(text: str) -> tuple[str, str]:
+    """What is told of the first key of a text that is not known."""
+    key, where = next(unknown_keys(text))
+    return f"pc-sim: lab UnknownKey {key}", f"pc-sim: {where}"
+
+
+def misspelt(chance: random.Random, text: str) -> str:
+    """A load some of whose keys have bytes that are put in, left out or replaced."""
+    lines = text.splitlines()
+    for place in chance.sample([place for place, line in enumerate(lines) if " = " in line], 2):
+        key, _, value = lines[place].partition(" = ")
+        for _ in range(chance.choice([1, 1, 2, 3, 4])):
+            at, end = sorted((chance.randint(0, len(key)), chance.randint(0, len(key))))
+            key = key[:at] + chance.choice(["", "x", "u", "ü", " ", "\\", "z" * 40]) + key[min(end, at + 1):]
+        lines[place] = f"{json.dumps(key, ensure_ascii=False)} = {value}"
+    return "\n".join(lines) + "\n"
+
+
+def test_misspelt_keys() -> None:
+    """Of drawn loads with misspelt keys the lab tells the first one, where it stands, and the known key that is nearest."""
+    chance, tried = random.Random("misspelt keys"), Counter[bool]()
+    while tried[True] < MISSPELT:
+        text = misspelt(chance, drawn_load(chance, 4))
+        try:
+            unknown = [*unknown_keys(text)]
+        except tomllib.TOMLDecodeError:  # two keys of one name
+            continue
+        tried[bool(unknown)] += 1
+        if unknown:
+            same(outcome(lab("-", given=text)), (1, "", "\n".join((*told_unknown(text), ""))), text)
+            others = lab("2-steals.toml", "--variants", "-", given=text)
+            same(outcome(others), (1, "", "\n".join((*told_unknown(text), ""))), text)
 
 
 def test_a_script_past_the_greatest_length() -> None:

@@ -11,7 +11,7 @@ from worst import load_text
 
 WORKED = ROOT / "examples/lab/worked"
 TABLE = re.compile(rb"variant( +[a-z0-9.-]+)+\nend( +(done|until|NumbersSpent))+\n([a-zA-Z0-9 -]+\n)+")
-FAULT = re.compile(rb"pc-sim: (cannot read|lab [A-Z][A-Za-z]+( [a-z0-9.]+){0,2})\n")
+FAULT = re.compile(rb"pc-sim: (cannot read|lab UnknownKey [ -~]*|lab [A-Z][A-Za-z]+( [a-z0-9.]+){0,2})\n")
 # Loads of worst.py, with which a run ends after some seconds: how it ends, and when.
 WORST = {"quanta 2 1": (b"NumbersSpent", b"1999999"), "late 1000 200": (b"until", b"200")}
 # What a drawn load may take: its ticks are few, unless a number was spoilt, and so many quanta may pass then.

@@ -27,6 +27,8 @@ SECONDS = 60
 
 # How the program ends, and of a file or settings a second line: which, and why.
 ENDING = re.compile(rb"(pc-sim: [^\n]*\n)(?:pc-sim: [^\n]*\n)?")
+# What stands in front of that: keys of settings that are passed over.
+WARNINGS = re.compile(rb"\A(?:pc-sim: warning: [^\n]*\n)+")
 
 
 class NoCompiler(Exception):
@@ -118,7 +120,8 @@ class Machine:
 
 
 def ending_of(text):
-    """The line of standard error that names how the program ended, without the one that says why."""
+    """The line of standard error that names how the program ended, without warnings and the one that says why."""
+    text = WARNINGS.sub(b"", text)
     found = ENDING.fullmatch(text)
     return found[1] if found else text
 

@@ -7,7 +7,7 @@ use Rattle.toml.specs.View.{view, items_of}
 use Rattle.toml.specs.declared.value.Value.{Value}
 use Rattle.pc_settings.specs.Keys.{all_some, elements, list_of}
 
-elements_of : (values : List Data) → elements (items_of values) ≡ values
+pub elements_of : (values : List Data) → elements (items_of values) ≡ values
 elements_of [] = refl
 elements_of (value ∷ values) = ap (λ rest. value ∷ rest) (elements_of values)
 

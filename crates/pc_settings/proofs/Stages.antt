@@ -30,6 +30,14 @@ seen h items k w below = ap (map h) (take_more items k w below) ∙ map-append h
 count : {W X : Type 0} (h : W → X) (items : List W) (k : ℕ) → k < length items → k ≡ 0 + length (map h (take k items))
 count h items k below = omega (arith, length-map (take k items) h, length-take-le k items (omega arith))
 
+-- one more
+pub each_more : {W X F : Type 0} (h : W → X) (faults : ℕ → X → List (Option F)) (items : List W) (k : ℕ) (w : W) → k < length items → w ≡ get_or items k w
+    → of_each faults 0 (map h (take (k + 1) items)) ≡ of_each faults 0 (map h (take k items)) ++ faults k (h w)
+each_more h faults items k w below is =
+    ap (of_each faults 0) (seen h items k w below)
+    ∙ of_each-append faults 0 k (map h (take k items)) (h (get_or items k w) ∷ []) (count h items k below)
+    ∙ ap (λ more. of_each faults 0 (map h (take k items)) ++ more) (append-nil (faults k (h (get_or items k w))) ∙ ap (λ v. faults k (h v)) (sym is))
+
 -- one more without a fault
 pub turn_at : {W X F : Type 0} (h : W → X) (faults : ℕ → X → List (Option F)) (items : List W) (k : ℕ) (w : W) → k < length items
     → first_some (of_each faults 0 (map h (take k items))) ≡ None → first_some (faults k (h (get_or items k w))) ≡ None

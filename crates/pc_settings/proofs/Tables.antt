@@ -1,5 +1,5 @@
 -- Tables that are read in stages, each of which may find a fault.
-use Rattle.std.proofs.Common.{ℤ, pos, ◌≡◌, List, [], ◌∷◌, ◌++◌, map, Option, Some, None, option_map, unwrap_or, Result, Ok, Err, codes, refl, sym, ap, ◌∙◌, subst, inl, inr}
+use Rattle.std.proofs.Common.{ℤ, pos, ◌≡◌, List, [], ◌∷◌, ◌++◌, map, Option, Some, None, option_map, unwrap_or, Result, Ok, Err, codes, refl, sym, ap, ◌∙◌, subst, inl, inr, IfOk, IfSome}
 use Rattle.toml.specs.Data.{Members}
 use Rattle.pc_load.specs.Loads.{Need, demand}
 use Rattle.pc_load.specs.Variants.{Choice, or_plain, variant_fault}
@@ -8,8 +8,11 @@ use Rattle.pc_load.specs.declared.variant.Variants.{Variants}
 use Rattle.pc_settings.specs.Keys.{first_some, integer_at, integer_or, of_each, tables_at, unless}
 use Rattle.pc_settings.specs.declared.field.Field.TheVariants as field
 use Rattle.pc_settings.specs.declared.loads.LoadTextFault.{LoadTextFault}
-use Rattle.pc_settings.specs.declared.loads.LoadTextFault.TheVariants.{BadField, BadVariants}
-use Rattle.pc_settings.specs.LoadTexts.{AreAsked, Finds, IsFault, IsRead, Told, asked_faults, choice_faults, choice_told, choices_faults, choices_in, demand_in, load_faults, need_told, step_faults, thread_faults, threads_faults, threads_in, told_in, variants_faults}
+use Rattle.pc_settings.specs.declared.loads.LoadTextFault.TheVariants.{BadField, BadVariants, UnknownKey}
+use Rattle.pc_settings.specs.LoadTexts.{AreAsked, Finds, IsFault, IsRead, Told, asked_faults, choice_faults, choice_told, choices_faults, choices_in, demand_in, load_faults, need_told, step_faults, thread_faults, threads_faults, threads_in, told_in, unknown_faults, variants_faults}
+use Rattle.pc_settings.specs.UnknownKeys.{AreAllKnown, unknown_keys}
+use Rattle.pc_settings.specs.declared.unknown.UnknownKey as unknown
+use Rattle.pc_settings.proofs.AllKnown.{all_known, none_first}
 use Rattle.pc_settings.proofs.Stages.{through, told_first}
 
 skip : {A F : Type 0} (o : Option A) (a : A) (fault : F) (rest : List (Option F)) → o ≡ Some a → first_some (unless o fault ∷ rest) ≡ first_some rest
@@ -81,7 +84,7 @@ demanded table cpus until those needs h same needed =
     ∙ ap (demand (unwrap_or (integer_at (codes "cpus") table) (pos 0)) (unwrap_or (integer_or (pos 0) (codes "until") table) (pos 0)))
     (needed ∙ ap (map need_told) same ∙ map_twice (threads_in table))
 
-found_at : {B : Type 0} (faults others : List (Option LoadTextFault)) (holds : B → Type 0) (r : Result B LoadTextFault) → first_some others ≡ first_some faults
+pub found_at : {B : Type 0} (faults others : List (Option LoadTextFault)) (holds : B → Type 0) (r : Result B LoadTextFault) → first_some others ≡ first_some faults
     → Finds faults holds r → Finds others holds r
 found_at faults others holds (Ok b) e h = (e ∙ h.0, h.1)
 found_at faults others holds (Err fault) e h = moved faults others fault (λ f. e ∙ f) h
@@ -115,3 +118,33 @@ choices_read table choices r variants chosen found =
     found_at (asked_choices (choices_in table)) (choices_faults table) (λ variants. variants ≡ or_plain (choices_in table)) r
     (through (variants_faults table) (asked_choices (choices_in table)) variants)
     (subst (λ xs. Finds (asked_choices xs) (λ variants. variants ≡ or_plain xs) r) chosen found)
+
+-- keys that are not known come first
+first_mapped : {F G : Type 0} (g : F → G) (found : List (Option F)) → first_some (map (option_map g) found) ≡ option_map g (first_some found)
+first_mapped g [] = refl
+first_mapped g (None ∷ found) = first_mapped g found
+first_mapped g (Some f ∷ found) = refl
+
+pub unknown_told : (table : Members) (rest : List (Option LoadTextFault)) (unknown : unknown.UnknownKey) → first_some (unknown_keys table) ≡ Some unknown
+    → IsFault (unknown_faults table ++ rest) (UnknownKey unknown)
+unknown_told table rest unknown told =
+    inl (told_first (unknown_faults table) rest (UnknownKey unknown) (first_mapped UnknownKey (unknown_keys table) ∙ ap (option_map UnknownKey) told))
+
+pub known_read : {B : Type 0} (table : Members) (rest : List (Option LoadTextFault)) (holds : B → Type 0) (r : Result B LoadTextFault)
+    → first_some (unknown_keys table) ≡ None → Finds rest holds r → Finds (unknown_faults table ++ rest) holds r
+known_read table rest holds r none found =
+    found_at rest (unknown_faults table ++ rest) holds r
+    (through (unknown_faults table) rest (first_mapped UnknownKey (unknown_keys table) ∙ ap (option_map UnknownKey) none)) found
+
+none_told : (table : Members) (told : Option unknown.UnknownKey) → first_some (unknown_keys table) ≡ told → option_map UnknownKey told ≡ None → first_some (unknown_keys table) ≡ None
+none_told table None is none = is
+none_told table (Some unknown) is none = cc
+
+-- what is read has known keys alone
+pub read_known : {B : Type 0} (document : Option Members) (table : Members) (rest : List (Option LoadTextFault)) (holds : B → Type 0) (r : Result B LoadTextFault)
+    → document ≡ Some table → Finds (unknown_faults table ++ rest) holds r → IfOk r (λ b. IfSome document AreAllKnown)
+read_known document table rest holds (Ok b) is found =
+    let none : first_some (unknown_faults table) ≡ None = none_first (unknown_faults table) rest found.0 in
+    subst (λ those. IfSome those AreAllKnown) (sym is)
+    (all_known table (none_told table (first_some (unknown_keys table)) refl (sym (first_mapped UnknownKey (unknown_keys table)) ∙ none)))
+read_known document table rest holds (Err fault) is found = tt

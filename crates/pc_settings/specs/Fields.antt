@@ -3,6 +3,31 @@ use Rattle.std.specs.Prelude.{ℕ, List, codes}
 use Rattle.pc_settings.specs.declared.field.Field.{Field}
 use Rattle.pc_settings.specs.declared.field.Field.TheVariants as field
 
+-- how a key is written in its table
+abbrev pub key_of : Field → List ℕ
+key_of field.Cpus = codes "cpus"
+key_of field.Until = codes "until"
+key_of field.Threads = codes "thread"
+key_of field.Queue = codes "queue"
+key_of field.Mask = codes "mask"
+key_of field.Steps = codes "steps"
+key_of field.Start = codes "start"
+key_of field.Level = codes "level"
+key_of field.Sleeps = codes "sleeps"
+key_of field.Restarts = codes "restart"
+key_of field.Cpu = codes "cpu"
+key_of field.Turn = codes "turn"
+key_of field.Variants = codes "variant"
+key_of field.Name = codes "name"
+key_of field.Order = codes "order"
+key_of field.Steals = codes "steals"
+key_of field.Quantum = codes "quantum"
+key_of field.Group = codes "group"
+key_of field.Delay = codes "delay"
+key_of field.Cost = codes "cost"
+key_of field.Urgent = codes "urgent"
+key_of field.Keep = codes "keep"
+
 -- how a key is written in what the program says
 abbrev pub key_text : Field → List ℕ
 key_text field.Cpus = codes "cpus"

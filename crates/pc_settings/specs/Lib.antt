@@ -2,7 +2,11 @@
 pub mod Fields
 pub mod Inner
 pub mod Keys
+pub mod KnownKeys
 pub mod LoadTexts
+pub mod Nearness
 pub mod SettingsText
 pub mod Steps
+pub mod UnknownKeys
+pub mod UnknownWords
 pub mod Words

@@ -1,5 +1,5 @@
 -- The loads and variants that TOML texts spell, and what is wrong with a text that spells none.
-use Rattle.std.specs.Prelude.{ℕ, ℤ, pos, ◌≡◌, ◌+◌, ◌⊎◌, Bool, false, List, [], ◌∷◌, ◌++◌, map, filter_map}
+use Rattle.std.specs.Prelude.{ℕ, ℤ, pos, ◌≡◌, ◌⊎◌, false, List, [], ◌∷◌, ◌++◌, map, filter_map}
 use Rattle.std.specs.Prelude.{Option, Some, None, Result, Ok, Err, unwrap_or, option_map, codes}
 use Rattle.toml.specs.Data.{Members}
 use Rattle.pc_load.specs.Loads.{Need, Demand, demand, end_of, fault_of}
@@ -12,7 +12,8 @@ use Rattle.pc_settings.specs.Steps.{read_step}
 use Rattle.pc_settings.specs.declared.field.Field.TheVariants as field
 use Rattle.pc_settings.specs.declared.loads.LoadTextFault.{LoadTextFault}
 use Rattle.pc_settings.specs.declared.loads.LoadTextFault.TheVariants.{NotToml, BadField, BadStep, BadLoad, BadVariants}
-use Rattle.pc_settings.specs.declared.loads.LoadTextFault.TheVariants.{OutOfMemory}
+use Rattle.pc_settings.specs.declared.loads.LoadTextFault.TheVariants.{OutOfMemory, UnknownKey}
+use Rattle.pc_settings.specs.UnknownKeys.{unknown_keys}
 
 -- What the keys of a text tell; what is said of a key that tells nothing plays no part, since it is a fault.
 
@@ -145,6 +146,18 @@ load_faults table =
 abbrev pub choices_faults : Members → List (Option LoadTextFault)
 choices_faults table = variants_faults table ++ option_map BadVariants (variant_fault (choices_in table)) ∷ []
 
+-- the keys that are not known where they stand
+abbrev pub unknown_faults : Members → List (Option LoadTextFault)
+unknown_faults table = map (option_map UnknownKey) (unknown_keys table)
+
+-- what may be wrong with the text of a load: keys that are not known come first
+abbrev pub load_text_faults : Members → List (Option LoadTextFault)
+load_text_faults table = unknown_faults table ++ load_faults table
+
+-- and with the text of variants
+abbrev pub variants_text_faults : Members → List (Option LoadTextFault)
+variants_text_faults table = unknown_faults table ++ choices_faults table
+
 -- the fault of a text, or memory was wanting
 abbrev pub IsFault : List (Option LoadTextFault) → LoadTextFault → Type 0
 IsFault faults fault = (first_some faults ≡ Some fault) ⊎ (fault ≡ OutOfMemory)
@@ -166,13 +179,14 @@ AreAsked all choices read =
 
 -- the load and the variants that the table of a text spells, or its first fault; or memory was wanting
 abbrev pub ReadsLoad : Option Members → Result (Load × Variants) LoadTextFault → Type 0
-ReadsLoad (Some table) result = Finds (load_faults table) (AreAsked (demand_in table) (choices_in table)) result
+ReadsLoad (Some table) result =
+    Finds (load_text_faults table) (AreAsked (demand_in table) (choices_in table)) result
 ReadsLoad None (Ok read) = ⊥
 ReadsLoad None (Err fault) = (fault ≡ NotToml) ⊎ (fault ≡ OutOfMemory)
 
 -- the variants that the table of a text spells, or its first fault; or memory was wanting
 abbrev pub ReadsVariants : Option Members → Result Variants LoadTextFault → Type 0
 ReadsVariants (Some table) result =
-    Finds (choices_faults table) (λ variants. variants ≡ or_plain (choices_in table)) result
+    Finds (variants_text_faults table) (λ variants. variants ≡ or_plain (choices_in table)) result
 ReadsVariants None (Ok variants) = ⊥
 ReadsVariants None (Err fault) = (fault ≡ NotToml) ⊎ (fault ≡ OutOfMemory)

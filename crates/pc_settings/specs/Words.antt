@@ -5,6 +5,7 @@ use Rattle.pc_load.specs.declared.load.LoadFault.TheVariants as load
 use Rattle.pc_load.specs.declared.variant.VariantFault.{VariantFault}
 use Rattle.pc_load.specs.declared.variant.VariantFault.TheVariants as variant
 use Rattle.pc_settings.specs.Fields.{key_text}
+use Rattle.pc_settings.specs.UnknownWords.{start_text}
 use Rattle.pc_settings.specs.declared.loads.LoadTextFault.{LoadTextFault}
 use Rattle.pc_settings.specs.declared.loads.LoadTextFault.TheVariants as fault
 
@@ -26,6 +27,7 @@ variants_text variant.OutOfMemory = codes "out of memory"
 -- what is said of a text
 abbrev pub fault_text : LoadTextFault → List ℕ
 fault_text fault.NotToml = codes "lab NotToml"
+fault_text (fault.UnknownKey unknown) = codes "lab UnknownKey " ++ start_text unknown.key
 fault_text (fault.BadField key) = codes "lab BadField " ++ key_text key
 fault_text (fault.BadStep thread step) = codes "lab BadStep " ++ (decimal thread ++ (codes " " ++ decimal step))
 fault_text (fault.BadLoad why) = load_text why

@@ -51,6 +51,41 @@ pub enum Field {
     Keep,
 }
 
+impl Field {
+    ghost use Rattle.std.specs.Prelude.{◌≡◌};
+    ghost use Rattle.pc_settings.specs.Fields.{key_of};
+
+    /// How the key is written in its table.
+    pub(crate) const fn key(self) -> &'static str
+        ensures { result.now ≡ key_of self }
+    {
+        match self {
+            Field::Cpus => "cpus",
+            Field::Until => "until",
+            Field::Threads => "thread",
+            Field::Queue => "queue",
+            Field::Mask => "mask",
+            Field::Steps => "steps",
+            Field::Start => "start",
+            Field::Level => "level",
+            Field::Sleeps => "sleeps",
+            Field::Restarts => "restart",
+            Field::Cpu => "cpu",
+            Field::Turn => "turn",
+            Field::Variants => "variant",
+            Field::Name => "name",
+            Field::Order => "order",
+            Field::Steals => "steals",
+            Field::Quantum => "quantum",
+            Field::Group => "group",
+            Field::Delay => "delay",
+            Field::Cost => "cost",
+            Field::Urgent => "urgent",
+            Field::Keep => "keep",
+        }
+    }
+}
+
 impl Display for Field {
     ghost use Rattle.std.specs.Prelude.{Some};
     ghost use Rattle.pc_settings.specs.Fields.{key_text};

@@ -1,14 +1,16 @@
 //! Loads and their variants: TOML texts, and what they spell.
 
-ghost use Rattle.std.specs.Prelude.{◌≡◌, ◌∷◌, [], ℤ, map, option_map};
+ghost use Rattle.std.specs.Prelude.{◌≡◌, ◌∷◌, [], ℤ, map, option_map, IfOk, IfSome};
 ghost use Rattle.toml.specs.Parse.{parse_document};
 ghost use Rattle.toml.specs.View.{table_view};
 ghost use Rattle.pc_load.specs.Loads.{demand, drafted};
 ghost use Rattle.pc_load.specs.Variants.{choice_in, or_plain, variant_fault};
 ghost use Rattle.pc_settings.specs.Inner.Drafts.{told};
 ghost use Rattle.pc_settings.specs.LoadTexts.{AreAsked, Finds, IsRead, ReadsLoad, ReadsVariants, asked_faults};
-ghost use Rattle.pc_settings.specs.LoadTexts.{choices_faults, choices_in, demand_in, load_faults, threads_faults};
-ghost use Rattle.pc_settings.specs.LoadTexts.{threads_in, told_in, variants_faults};
+ghost use Rattle.pc_settings.specs.LoadTexts.{choices_faults, choices_in, demand_in, load_faults, load_text_faults};
+ghost use Rattle.pc_settings.specs.LoadTexts.{threads_faults, threads_in, told_in, variants_faults};
+ghost use Rattle.pc_settings.specs.LoadTexts.{variants_text_faults};
+ghost use Rattle.pc_settings.specs.UnknownKeys.{AreAllKnown};
 ghost use Rattle.pc_settings.specs.declared.loads.LoadTextFault.TheVariants.{BadVariants};
 
 mod draft;
@@ -19,6 +21,7 @@ mod words;
 use crate::field::Field;
 use crate::keys::{integer_or, tables_at};
 use crate::shared_keys::{cpus_of, threads_of};
+use crate::unknown::{UnknownKey, first_unknown};
 use draft::Draft;
 use pc_load::{Load, LoadFault, ThreadDraft, VariantDraft, VariantFault, Variants};
 use std::alloc::{AllocError, Global};
@@ -31,6 +34,8 @@ use variants::choices_of;
 pub enum LoadTextFault {
     /// The text is no TOML.
     NotToml,
+    /// This key is not known where it stands: the first one such.
+    UnknownKey(UnknownKey),
     /// This key is absent, or has another type: the first one such.
     BadField(Field),
     /// A text that is no step: the first one such, by the places of its thread and of the text.
@@ -79,7 +84,7 @@ fn choices_in<'a>(alloc: Global, table: &'a Table) -> Result<Vec<VariantDraft<'a
     ensures { IsRead (variants_faults (table_view table.now)) (choices_in (table_view table.now))
         (λ choices. map choice_in choices.items) result }
 {
-    match tables_at(table, "variant") {
+    match tables_at(table, Field::Variants) {
         Some(items) => choices_of(alloc, items),
         None => Err(LoadTextFault::BadField(Field::Variants)),
     }
@@ -123,7 +128,7 @@ fn load_of(alloc: Global, table: &Table) -> Result<(Load, Variants), LoadTextFau
         (AreAsked (demand_in (table_view table.now)) (choices_in (table_view table.now))) result }
 {
     let cpus = cpus_of(table)?;
-    let Some(until) = integer_or(0, table, "until") else {
+    let Some(until) = integer_or(0, table, Field::Until) else {
         return Err(LoadTextFault::BadField(Field::Until));
     };
     let threads = threads_in(alloc, table)?;
@@ -141,27 +146,52 @@ fn variants_of(alloc: Global, table: &Table) -> Result<Variants, LoadTextFault>
     variants_asked(alloc, choices.as_slice())
 }
 
-/// Reads the load that a TOML text spells, and its variants. Other keys are passed over.
+/// The load and the variants of a table all of whose keys are known.
+fn known_load_of(alloc: Global, table: &Table) -> Result<(Load, Variants), LoadTextFault>
+    ensures { Finds (load_text_faults (table_view table.now))
+        (AreAsked (demand_in (table_view table.now)) (choices_in (table_view table.now))) result }
+{
+    match first_unknown(table) {
+        Some(unknown) => Err(LoadTextFault::UnknownKey(unknown)),
+        None => load_of(alloc, table),
+    }
+}
+
+/// The variants of a table all of whose keys are known.
+fn known_variants_of(alloc: Global, table: &Table) -> Result<Variants, LoadTextFault>
+    ensures { Finds (variants_text_faults (table_view table.now))
+        (λ variants. variants ≡ or_plain (choices_in (table_view table.now))) result }
+{
+    match first_unknown(table) {
+        Some(unknown) => Err(LoadTextFault::UnknownKey(unknown)),
+        None => variants_of(alloc, table),
+    }
+}
+
+/// Reads the load that a TOML text spells, and its variants. Keys of settings are known, too, and passed over.
 ///
-/// The fault is the first in this order: `NotToml`; `BadField`, of `cpus`, `until`, of the threads, then of the
-/// variants; `BadStep`; `BadLoad`, as `Load::new` has them; `BadVariants`, as `Variants::new` has them. Want of memory
-/// is told where it comes.
+/// The fault is the first in this order: `NotToml`; `UnknownKey`; `BadField`, of `cpus`, `until`, of the threads, then
+/// of the variants; `BadStep`; `BadLoad`, as `Load::new` has them; `BadVariants`, as `Variants::new` has them. Want of
+/// memory is told where it comes.
 pub fn read_load(alloc: Global, text: &str) -> Result<(Load, Variants), LoadTextFault>
-    ensures { ReadsLoad (parse_document text.now) result }
+    ensures reads { ReadsLoad (parse_document text.now) result }
+    ensures known { IfOk result (λ read. IfSome (parse_document text.now) AreAllKnown) }
 {
     match toml::table_from_str(alloc, text) {
-        Ok(table) => load_of(alloc, &table),
+        Ok(table) => known_load_of(alloc, &table),
         Err(error) if error.is_memory() => Err(LoadTextFault::OutOfMemory),
         Err(_) => Err(LoadTextFault::NotToml),
     }
 }
 
-/// Reads the variants that a TOML text spells; other keys are passed over. The faults are those of variants alone.
+/// Reads the variants that a TOML text spells; keys of loads and of settings are known, too, and passed over. The
+/// faults are `NotToml`, `UnknownKey`, and those of variants alone.
 pub fn read_variants(alloc: Global, text: &str) -> Result<Variants, LoadTextFault>
-    ensures { ReadsVariants (parse_document text.now) result }
+    ensures reads { ReadsVariants (parse_document text.now) result }
+    ensures known { IfOk result (λ variants. IfSome (parse_document text.now) AreAllKnown) }
 {
     match toml::table_from_str(alloc, text) {
-        Ok(table) => variants_of(alloc, &table),
+        Ok(table) => known_variants_of(alloc, &table),
         Err(error) if error.is_memory() => Err(LoadTextFault::OutOfMemory),
         Err(_) => Err(LoadTextFault::NotToml),
     }

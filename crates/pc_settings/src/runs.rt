@@ -87,7 +87,7 @@ fn config_of(alloc: Global, table: &Table) -> Result<Config, SettingsFault>
 {
     let cpus = cpus_of(table)?;
     let threads = drafts_of(alloc, threads_of(table)?)?;
-    let restarts = match tables_at(table, "restart") {
+    let restarts = match tables_at(table, Field::Restarts) {
         Some(restarts) => restarts_of(alloc, restarts)?,
         None => return Err(SettingsFault::BadField(Field::Restarts)),
     };

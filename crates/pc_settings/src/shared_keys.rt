@@ -15,7 +15,7 @@ pub(crate) fn cpus_of(table: &Table) -> Result<i64, Field>
     ensures { MatchResult result (λ cpus. integer_at (codes "cpus") (table_view table.now) ≡ Some cpus)
         (λ key. (integer_at (codes "cpus") (table_view table.now) ≡ None) × (key ≡ Cpus)) }
 {
-    match integer_at(table, "cpus") {
+    match integer_at(table, Field::Cpus) {
         Some(cpus) => Ok(cpus),
         None => Err(Field::Cpus),
     }
@@ -28,7 +28,7 @@ pub(crate) fn threads_of(table: &Table) -> Result<&[Value], Field>
         × (tables_at (codes "thread") (table_view table.now) ≡ Some (map table_in threads.now)))
         (λ key. (tables_at (codes "thread") (table_view table.now) ≡ None) × (key ≡ Threads)) }
 {
-    match tables_at(table, "thread") {
+    match tables_at(table, Field::Threads) {
         Some(threads) => Ok(threads),
         None => Err(Field::Threads),
     }
@@ -51,13 +51,13 @@ impl<'a> ThreadKeys<'a> {
     pub(crate) fn of(table: &'a Table) -> Result<ThreadKeys<'a>, Field>
         ensures { AreKeysOf (table_view table.now) result }
     {
-        let Some(queue) = integer_at(table, "queue") else {
+        let Some(queue) = integer_at(table, Field::Queue) else {
             return Err(Field::Queue);
         };
-        let Some(mask) = integer_at(table, "mask") else {
+        let Some(mask) = integer_at(table, Field::Mask) else {
             return Err(Field::Mask);
         };
-        let Some(texts) = texts_at(table, "steps") else {
+        let Some(texts) = texts_at(table, Field::Steps) else {
             return Err(Field::Steps);
         };
         Ok(ThreadKeys { queue, mask, texts })

@@ -4,6 +4,7 @@ use crate::end;
 use crate::met::{Met, Source};
 use crate::streams::{Noted, Opening, screen_of};
 use pc_program::{Ending, Failure, VariantsFrom};
+use pc_settings::LoadTextFault;
 use pc_trial::{LabEnding, LabOutput, MOST_LOAD, Progress, Unread, try_load, try_variants};
 use std::io::{self, BufWriter};
 use std::process::ExitCode;
@@ -18,11 +19,23 @@ fn unread(why: Unread, said: Option<io::Error>) -> Met {
     Met::of(Ending::CannotRead(failure), said)
 }
 
+/// Says where the key stands that is not known, and which one is nearest.
+fn say_where(rt: &HostRuntime, fault: LoadTextFault) {
+    if let LoadTextFault::UnknownKey(unknown) = fault {
+        // Nothing can be said of an error on standard error itself.
+        let _ = eprintln!(rt; "pc-sim: {unknown}");
+    }
+}
+
 /// Says how the lab ended that read no text anew and wrote nothing anew, and answers its exit status.
 fn said(rt: &HostRuntime, ending: LabEnding) -> ExitCode {
     if ending != LabEnding::Finished {
         // Nothing can be said of an error on standard error itself.
         let _ = eprintln!(rt; "pc-sim: {ending}");
+    }
+    match ending {
+        LabEnding::BadLoad(fault) | LabEnding::BadVariants(fault) => say_where(rt, fault),
+        _ => {}
     }
     ExitCode::from(ending.status())
 }

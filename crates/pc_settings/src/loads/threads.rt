@@ -29,9 +29,9 @@ fn draft_of(item: &Value) -> Result<Draft<'_>, LoadTextFault>
         unreachable!()
     };
     let keys = ThreadKeys::of(table)?;
-    let start = integer_or(0, table, "start").ok_or(Field::Start)?;
-    let level = integer_or(0, table, "level").ok_or(Field::Level)?;
-    let sleeps = integers_at(table, "sleeps").ok_or(Field::Sleeps)?;
+    let start = integer_or(0, table, Field::Start).ok_or(Field::Start)?;
+    let level = integer_or(0, table, Field::Level).ok_or(Field::Level)?;
+    let sleeps = integers_at(table, Field::Sleeps).ok_or(Field::Sleeps)?;
     Ok(Draft {
         keys,
         start,

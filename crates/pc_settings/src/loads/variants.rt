@@ -24,15 +24,15 @@ fn choice_of(item: &Value) -> Result<VariantDraft<'_>, LoadTextFault>
         unreachable!()
     };
     let plain = VariantDraft::PLAIN;
-    let name = text_at(table, "name").ok_or(Field::Name)?;
-    let order = text_or(plain.order, table, "order").ok_or(Field::Order)?;
-    let steals = text_or(plain.steals, table, "steals").ok_or(Field::Steals)?;
-    let quantum = integer_or(plain.quantum, table, "quantum").ok_or(Field::Quantum)?;
-    let group = integer_or(plain.group, table, "group").ok_or(Field::Group)?;
-    let delay = integer_or(plain.delay, table, "delay").ok_or(Field::Delay)?;
-    let cost = integer_or(plain.cost, table, "cost").ok_or(Field::Cost)?;
-    let urgent = switch_or(plain.urgent, table, "urgent").ok_or(Field::Urgent)?;
-    let keep = switch_or(plain.keep, table, "keep").ok_or(Field::Keep)?;
+    let name = text_at(table, Field::Name).ok_or(Field::Name)?;
+    let order = text_or(plain.order, table, Field::Order).ok_or(Field::Order)?;
+    let steals = text_or(plain.steals, table, Field::Steals).ok_or(Field::Steals)?;
+    let quantum = integer_or(plain.quantum, table, Field::Quantum).ok_or(Field::Quantum)?;
+    let group = integer_or(plain.group, table, Field::Group).ok_or(Field::Group)?;
+    let delay = integer_or(plain.delay, table, Field::Delay).ok_or(Field::Delay)?;
+    let cost = integer_or(plain.cost, table, Field::Cost).ok_or(Field::Cost)?;
+    let urgent = switch_or(plain.urgent, table, Field::Urgent).ok_or(Field::Urgent)?;
+    let keep = switch_or(plain.keep, table, Field::Keep).ok_or(Field::Keep)?;
     Ok(VariantDraft {
         name,
         order,

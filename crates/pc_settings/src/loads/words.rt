@@ -55,6 +55,10 @@ impl Display for LoadTextFault {
     fn fmt<W: Write>(&self, f: &mut Formatter<W>) -> Result<(), fmt::Error> {
         match *self {
             LoadTextFault::NotToml => f.write_str("lab NotToml"),
+            LoadTextFault::UnknownKey(unknown) => {
+                let key = unknown.key;
+                write!(f, "lab UnknownKey {key}")
+            }
             LoadTextFault::BadField(key) => write!(f, "lab BadField {key}"),
             LoadTextFault::BadStep { thread, step } => write!(f, "lab BadStep {thread} {step}"),
             LoadTextFault::BadLoad(why) => {

@@ -33,10 +33,10 @@ pub(crate) fn restart_of(item: &Value) -> Result<Restart, SettingsFault>
     let Some(table) = item.as_table() else {
         unreachable!()
     };
-    let Some(cpu) = integer_at(table, "cpu") else {
+    let Some(cpu) = integer_at(table, Field::Cpu) else {
         return Err(SettingsFault::BadField(Field::Cpu));
     };
-    let Some(turn) = integer_at(table, "turn") else {
+    let Some(turn) = integer_at(table, Field::Turn) else {
         return Err(SettingsFault::BadField(Field::Turn));
     };
     Ok(Restart { cpu, turn })

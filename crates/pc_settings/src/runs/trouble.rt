@@ -6,7 +6,7 @@ ghost use Rattle.pc_settings.specs.SettingsText.{SpellsSettings};
 
 use super::{SettingsFault, read_config};
 use crate::field::Field;
-use crate::keys::integer_at;
+use crate::keys::{integer_at, items_at, value_at};
 use crate::steps::step_of;
 use pc_calls::{Leaving, MOST_CPUS, MOST_THREADS};
 use pc_load::{count_of_cpus, is_cpu, is_mask};
@@ -72,7 +72,7 @@ fn write_fault<W: Write>(table: &Table, fault: &SettingsFault, writer: &mut W) -
         SettingsFault::BadStep { thread, step } => write_step(table, *thread, *step, writer),
         SettingsFault::BadConfig(ConfigFault::BadCpus) => write_cpus(table, writer),
         SettingsFault::BadConfig(ConfigFault::TooManyThreads) => {
-            let count = items_at(table, "thread").len();
+            let count = items_at(table, Field::Threads).len();
             writeln!(writer, "{count} threads: {MOST_THREADS} are the most")
         }
         SettingsFault::BadConfig(ConfigFault::BadThread(place)) => {
@@ -85,25 +85,14 @@ fn write_fault<W: Write>(table: &Table, fault: &SettingsFault, writer: &mut W) -
     }
 }
 
-/// The items of the list at a key, if there is one.
-fn items_at<'a>(table: &'a Table, key: &str) -> &'a [Value] {
-    match table.get(key) {
-        Some(value) => match value.as_array() {
-            Some(items) => items.as_slice(),
-            None => &[],
-        },
-        None => &[],
-    }
-}
-
 /// The table at this place of the list at a key.
-fn table_at<'a>(table: &'a Table, key: &str, place: usize) -> Option<&'a Table> {
-    items_at(table, key).get(place)?.as_table()
+fn table_at<'a>(table: &'a Table, list: Field, place: usize) -> Option<&'a Table> {
+    items_at(table, list).get(place)?.as_table()
 }
 
 /// What type stands at a key.
-fn found_at(table: &Table, key: &str) -> &'static str {
-    match table.get(key) {
+fn found_at(table: &Table, field: Field) -> &'static str {
+    match value_at(table, field) {
         Some(value) => value.type_str(),
         None => "nothing",
     }
@@ -115,15 +104,12 @@ fn write_field<W: Write>(table: &Table, field: Field, writer: &mut W) -> io::Res
         Field::Cpus => writeln!(
             writer,
             "cpus: {INTEGER}, and there is {}",
-            found_at(table, "cpus")
+            found_at(table, Field::Cpus)
         ),
-        Field::Threads => write_list(table, "thread", writer),
-        Field::Restarts => write_list(table, "restart", writer),
-        Field::Queue => write_key(table, "thread", "queue", writer),
-        Field::Mask => write_key(table, "thread", "mask", writer),
+        Field::Threads | Field::Restarts => write_list(table, field, writer),
+        Field::Queue | Field::Mask => write_key(table, Field::Threads, field, writer),
         Field::Steps => write_steps(table, writer),
-        Field::Cpu => write_key(table, "restart", "cpu", writer),
-        Field::Turn => write_key(table, "restart", "turn", writer),
+        Field::Cpu | Field::Turn => write_key(table, Field::Restarts, field, writer),
         Field::Until
         | Field::Start
         | Field::Level
@@ -142,8 +128,9 @@ fn write_field<W: Write>(table: &Table, field: Field, writer: &mut W) -> io::Res
 }
 
 /// What is wrong at a key that has to list tables.
-fn write_list<W: Write>(table: &Table, key: &str, writer: &mut W) -> io::Result<()> {
-    let items = items_at(table, key);
+fn write_list<W: Write>(table: &Table, list: Field, writer: &mut W) -> io::Result<()> {
+    let items = items_at(table, list);
+    let key = list.key();
     match items.iter().position(|item| !item.is_table()) {
         Some(place) => {
             let found = items[place].type_str();
@@ -155,17 +142,18 @@ fn write_list<W: Write>(table: &Table, key: &str, writer: &mut W) -> io::Result<
         None => writeln!(
             writer,
             "{key}: {TABLES}, and there is {}",
-            found_at(table, key)
+            found_at(table, list)
         ),
     }
 }
 
 /// What is wrong at the first of the tables that has no integer at a key.
-fn write_key<W: Write>(table: &Table, list: &str, key: &str, writer: &mut W) -> io::Result<()> {
+fn write_key<W: Write>(table: &Table, list: Field, field: Field, writer: &mut W) -> io::Result<()> {
     for (place, item) in items_at(table, list).iter().enumerate() {
         if let Some(item) = item.as_table() {
-            if integer_at(item, key).is_none() {
-                let found = found_at(item, key);
+            if integer_at(item, field).is_none() {
+                let found = found_at(item, field);
+                let (list, key) = (list.key(), field.key());
                 return writeln!(
                     writer,
                     "{list} {place}: {key}: {INTEGER}, and there is {found}"
@@ -178,9 +166,9 @@ fn write_key<W: Write>(table: &Table, list: &str, key: &str, writer: &mut W) -> 
 
 /// What is wrong with the steps of the first thread that has no list of texts there.
 fn write_steps<W: Write>(table: &Table, writer: &mut W) -> io::Result<()> {
-    for (place, thread) in items_at(table, "thread").iter().enumerate() {
+    for (place, thread) in items_at(table, Field::Threads).iter().enumerate() {
         if let Some(thread) = thread.as_table() {
-            let steps = items_at(thread, "steps");
+            let steps = items_at(thread, Field::Steps);
             if let Some(step) = steps.iter().position(|step| !step.is_str()) {
                 let found = steps[step].type_str();
                 return writeln!(
@@ -188,7 +176,7 @@ fn write_steps<W: Write>(table: &Table, writer: &mut W) -> io::Result<()> {
                     "thread {place}: step {step}: a text is wanted, and there is {found}"
                 );
             }
-            let found = found_at(thread, "steps");
+            let found = found_at(thread, Field::Steps);
             if found != "array" {
                 return writeln!(
                     writer,
@@ -207,10 +195,10 @@ fn write_step<W: Write>(
     step: usize,
     writer: &mut W,
 ) -> io::Result<()> {
-    let Some(plan) = table_at(table, "thread", thread) else {
+    let Some(plan) = table_at(table, Field::Threads, thread) else {
         return Ok(());
     };
-    let Some(text) = items_at(plan, "steps").get(step) else {
+    let Some(text) = items_at(plan, Field::Steps).get(step) else {
         return Ok(());
     };
     let text = text.as_str().unwrap_or("");
@@ -227,7 +215,7 @@ fn write_step<W: Write>(
 
 /// How many CPUs the settings have.
 fn cpus_of(table: &Table) -> i64 {
-    integer_at(table, "cpus").unwrap_or(0)
+    integer_at(table, Field::Cpus).unwrap_or(0)
 }
 
 /// What is wrong with the count of CPUs.
@@ -241,13 +229,13 @@ fn write_cpus<W: Write>(table: &Table, writer: &mut W) -> io::Result<()> {
 
 /// What is wrong with a thread that is spelled.
 fn write_thread<W: Write>(table: &Table, place: usize, writer: &mut W) -> io::Result<()> {
-    let Some(thread) = table_at(table, "thread", place) else {
+    let Some(thread) = table_at(table, Field::Threads, place) else {
         return Ok(());
     };
     let Some(cpus) = count_of_cpus(cpus_of(table)) else {
         return Ok(());
     };
-    let queue = integer_at(thread, "queue").unwrap_or(0);
+    let queue = integer_at(thread, Field::Queue).unwrap_or(0);
     if !is_cpu(cpus, queue) {
         let last = cpus - 1;
         return writeln!(
@@ -255,7 +243,7 @@ fn write_thread<W: Write>(table: &Table, place: usize, writer: &mut W) -> io::Re
             "thread {place}: queue {queue}: there are CPUs 0 to {last}"
         );
     }
-    let mask = integer_at(thread, "mask").unwrap_or(0);
+    let mask = integer_at(thread, Field::Mask).unwrap_or(0);
     if mask <= 0 {
         return writeln!(
             writer,
@@ -268,7 +256,7 @@ fn write_thread<W: Write>(table: &Table, place: usize, writer: &mut W) -> io::Re
             "thread {place}: mask {mask}: it has a CPU past the {cpus} that there are"
         );
     }
-    write_life(place, items_at(thread, "steps"), writer)
+    write_life(place, items_at(thread, Field::Steps), writer)
 }
 
 /// Whether a text is a step in which a thread dies.
@@ -306,16 +294,16 @@ fn write_life<W: Write>(place: usize, steps: &[Value], writer: &mut W) -> io::Re
 /// What is wrong with a restart that is spelled.
 fn write_restart<W: Write>(table: &Table, place: usize, writer: &mut W) -> io::Result<()> {
     if MOST_RESTARTS <= place {
-        let count = items_at(table, "restart").len();
+        let count = items_at(table, Field::Restarts).len();
         return writeln!(writer, "{count} restarts: {MOST_RESTARTS} are the most");
     }
-    let Some(restart) = table_at(table, "restart", place) else {
+    let Some(restart) = table_at(table, Field::Restarts, place) else {
         return Ok(());
     };
     let Some(cpus) = count_of_cpus(cpus_of(table)) else {
         return Ok(());
     };
-    let cpu = integer_at(restart, "cpu").unwrap_or(0);
+    let cpu = integer_at(restart, Field::Cpu).unwrap_or(0);
     if !is_cpu(cpus, cpu) {
         let last = cpus - 1;
         return writeln!(
@@ -329,7 +317,7 @@ fn write_restart<W: Write>(table: &Table, place: usize, writer: &mut W) -> io::R
             "restart {place}: there is no other agent to learn from: 2 CPUs are wanted at least"
         );
     }
-    let turn = integer_at(restart, "turn").unwrap_or(0);
+    let turn = integer_at(restart, Field::Turn).unwrap_or(0);
     writeln!(
         writer,
         "restart {place}: turn {turn}: 1 to {MOST_TURN} is wanted"
