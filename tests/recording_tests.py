@@ -212,6 +212,28 @@ def test_files_that_cannot_be_read_or_written() -> None:
     same(outcome(run(TOOL, "/")), (1, "", "from-perf-sched: /: Is a directory\n"))
 
 
+def test_a_recording_is_not_written_over() -> None:
+    text = switch(10, 0, 7, "S", 0)
+    for option in ("-o", "--settings", "--load", "--waits"):
+        with rig.file(text) as recording, rig.folder() as other:
+            (other / "link").symlink_to(recording)
+            ended = run(TOOL, recording, option, other / "link")
+            same(outcome(ended), (1, "", f"from-perf-sched: {other}/link: it is what is read, and stays as it is\n"))
+            with recording.open() as given:
+                same(run(TOOL, option, recording, stdin=given).returncode, 1)
+            same(recording.read_text(), text)
+
+
+def test_a_file_is_put_in_place_when_it_is_whole() -> None:
+    text = switch(10, 0, 7, "S", 0)
+    with rig.folder() as place:
+        (place / "script").write_text("old\n")
+        (place / "script").chmod(0o640)
+        make(text, "-o", str(place / "script"))
+        same([it.name for it in place.iterdir()], ["script"])
+        same(((place / "script").read_text(), (place / "script").stat().st_mode & 0o777), ("\n".join(make(text).script) + "\n", 0o640))
+
+
 def test_a_bad_command_line() -> None:
     for line in ("--cpus 0", "--cpus 65", "--cpus x", "--limit -1", "a b", "--unknown"):
         same(outcome(run(TOOL, *line.split(), given=""))[:2], (2, ""), line)

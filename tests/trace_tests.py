@@ -107,6 +107,13 @@ def test_a_file_that_is_not_there():
     same((status, out, len(errors.splitlines())), (1, "", 1))
 
 
+def test_what_is_read_is_not_written_over():
+    with rig.file(SCRIPT) as path:
+        ended = rig.run(TO_TRACE, path, "-o", path, "--program", rig.program)
+        same((ended.returncode, ended.stdout, path.read_text()), (1, "", SCRIPT))
+        assert "it is what is read" in ended.stderr
+
+
 def test_times_of_recordings():
     """They ascend, and are all that --times adds."""
     for path in sorted((ROOT / "examples/recordings").glob("*.txt")):

@@ -8,9 +8,11 @@ use pc_program::{
     Ending, MOST_SETTINGS, Manner, Progress, ReportForm, Scheduling, SoFar, Unsettled,
     read_settings, run_flushed, run_scripted, write_trouble,
 };
+use pc_settings::write_unknown_keys;
 use std::alloc::Global;
-use std::fs::File;
-use std::io::{BufWriter, Read, Stderr, Write};
+use std::fs::{self, File};
+use std::io::{self, BufWriter, Read, Stderr, Write};
+use std::os::unix::fs::MetadataExt;
 use std::process::ExitCode;
 use std::sync::Wait;
 use std::thread::Threads;
@@ -68,9 +70,31 @@ struct ScriptFile {
     file: File,
 }
 
-/// The file of this name, made or emptied, where there is a name.
-fn script_file(rt: &HostRuntime, name: Option<String>) -> Result<Option<ScriptFile>, Met> {
+/// Whether both name one file on a disk.
+fn are_one(rt: &HostRuntime, one: &str, other: &str) -> bool {
+    match (fs::metadata(rt, one), fs::metadata(rt, other)) {
+        (Ok(one), Ok(other)) => {
+            one.is_file() && one.dev() == other.dev() && one.ino() == other.ino()
+        }
+        (_, _) => false,
+    }
+}
+
+/// The file of this name, made or emptied, where there is a name. One that the settings were read from stays.
+fn script_file(
+    rt: &HostRuntime,
+    name: Option<String>,
+    source: &Source,
+) -> Result<Option<ScriptFile>, Met> {
     let Some(name) = name else { return Ok(None) };
+    let read = match &source.0 {
+        Some(read) => read.as_str(),
+        None => "/dev/stdin",
+    };
+    if are_one(rt, name.as_str(), read) {
+        let error = io::Error::other("the settings were read from it");
+        return Err(Met::unmade(error, name));
+    }
     match File::create(rt, name.as_str()) {
         Ok(file) => Ok(Some(ScriptFile { name, file })),
         Err(error) => Err(Met::unmade(error, name)),
@@ -144,6 +168,12 @@ fn say_unsettled(rt: &HostRuntime, why: Unsettled, seed: Option<u64>, so_far: So
     }
 }
 
+/// Warns of each key of a settings text that is not known.
+pub(crate) fn say_unknown(rt: &HostRuntime, text: &str) {
+    // Nothing can be said of an error on standard error itself.
+    let _ = write_unknown_keys(rt.alloc(), text, &mut rt.stderr());
+}
+
 /// Says how what was to be done by a settings text ended. Of settings that have a fault it says which.
 pub(crate) fn end_settings(rt: &HostRuntime, met: &Met, source: &Source, text: &str) -> ExitCode {
     let status = end(rt, met, source, MOST_SETTINGS);
@@ -167,6 +197,7 @@ fn end_run(
     if let Ending::Run(why) = met.ending {
         say_unsettled(rt, why, seed, so_far);
     }
+    say_unknown(rt, text);
     status
 }
 
@@ -178,11 +209,11 @@ fn run_told<R: Threads + Wait + Clock + Sync>(
     text: &str,
     scheduling: Scheduling,
     form: ReportForm,
-    script: Option<String>,
+    script: Result<Option<ScriptFile>, Met>,
     progress: &Progress<Stderr>,
 ) -> Met {
     let (alloc, out) = (rt.alloc(), rt.stdout());
-    match script_file(rt, script) {
+    match script {
         Ok(None) => run_settings(threads, alloc, text, scheduling, form, progress, out),
         Ok(Some(script)) => {
             run_with_script(
@@ -209,6 +240,7 @@ pub(crate) fn run_on_machine<R: Threads + Wait + Clock + Sync>(
         Ok(text) => {
             let text = text.as_str();
             let progress = Progress::new(screen_of(rt), deadline_of(rt, limit));
+            let script = script_file(rt, script, &source);
             let met = run_told(rt, threads, text, scheduling, form, script, &progress);
             end_run(rt, &met, &source, text, seed, progress.so_far())
         }

@@ -2,7 +2,7 @@
 
 use crate::end;
 use crate::met::{Met, Source};
-use crate::run::{deadline_of, end_settings, say_seed, settings_of};
+use crate::run::{deadline_of, end_settings, say_seed, say_unknown, settings_of};
 use crate::streams::Noted;
 use pc_program::{
     AgentPolicy, Ending, MOST_SETTINGS, Seeds, Tallied, Tally, Unreported, tally_flushed,
@@ -65,5 +65,6 @@ pub(crate) fn tally_on_machine(
     if let (Ending::Run(_), Some(tally)) = (met.ending, tally) {
         say_tally(rt, &tally, seeds);
     }
+    say_unknown(rt, text);
     status
 }
