@@ -122,10 +122,13 @@ pub fn run_config<R: Threads + Wait + Clock + Sync, S: Write + Copy + Sync, W: W
     ensures settings { IfErr result (IsTextsFault (parse_document text.now)) }
     ensures unwritten { IfErr result (λ fault. fault ≢ RunTextFault.Write → writer.new ≡ writer.old) }
 {
-    let report = match run_settings(rt, alloc, text, scheduling, progress) {
-        Ok(Ended::Reported(report)) => report,
-        Ok(Ended::Stalled(stall, _)) => return Err(RunTextFault::Stalled(stall)),
+    let ended = match run_settings(rt, alloc, text, scheduling, progress) {
+        Ok(ended) => ended,
         Err(fault) => return Err(fault),
+    };
+    let report = match ended {
+        Ended::Reported(report) => report,
+        Ended::Stalled(stall, _book) => return Err(RunTextFault::Stalled(stall)),
     };
     match write_report(writer, &report, form) {
         Ok(()) => Ok(report),

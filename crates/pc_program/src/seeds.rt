@@ -40,13 +40,18 @@ fn told(ran: Result<Ended, RunFault>) -> Result<Result<LoadReport, Unsettled>, R
     ensures reported { IfOk result (λ ended. IfOk ended (λ report. ran ≡ Ok (Ended.Reported report))) }
     ensures fault { IfErr result EndsAll }
 {
-    match ran {
-        Ok(Ended::Reported(report)) => Ok(Ok(report)),
-        Ok(Ended::Stalled(stall, _)) => Ok(Err(Unsettled::Stalled(stall))),
-        Err(fault) => match Ending::from(fault) {
-            Ending::Run(why) => Ok(Err(why)),
-            _ => Err(fault),
-        },
+    let ended = match ran {
+        Ok(ended) => ended,
+        Err(fault) => {
+            return match Ending::from(fault) {
+                Ending::Run(why) => Ok(Err(why)),
+                _ => Err(fault),
+            };
+        }
+    };
+    match ended {
+        Ended::Reported(report) => Ok(Ok(report)),
+        Ended::Stalled(stall, _book) => Ok(Err(Unsettled::Stalled(stall))),
     }
 }
 

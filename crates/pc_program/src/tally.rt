@@ -118,7 +118,8 @@ impl Tally {
             first: Some(self.first.unwrap_or(it)),
             ..self
         };
-        match it.why {
+        let why = it.why;
+        match why {
             Unsettled::Audit => Tally {
                 audit: Some(with_one(self.audit, it)),
                 ..tally
@@ -169,9 +170,9 @@ impl fmt::Display for RowLine {
 
     fn fmt<W: fmt::Write>(&self, f: &mut fmt::Formatter<W>) -> fmt::Result {
         let Some(row) = self.0 else { return Ok(()) };
-        let name = row.first.why.name();
-        let runs = row.runs;
-        let seed = row.first.seed;
+        let TallyRow { runs, first } = row;
+        let Unreported { seed, why } = first;
+        let name = why.name();
         writeln!(f, "{name} {runs} first {seed}")
     }
 }
