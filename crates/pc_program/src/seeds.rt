@@ -1,6 +1,6 @@
 //! Runs by several seeds, one after another: from a settings text to the text of their tally.
 
-ghost use Rattle.std.specs.Prelude.{◌≡◌, ◌≢◌, ◌⊎◌, ◌≤◌, [], IfErr, IfOk, None, Ok};
+ghost use Rattle.std.specs.Prelude.{◌≡◌, ◌≢◌, ◌⊎◌, ◌≤◌, [], IfErr, IfNone, IfOk, None, Ok};
 ghost use Rattle.std.specs.Io.Buffered.{writer_buffer, writer_contents};
 ghost use Rattle.toml.specs.Parse.{parse_document};
 ghost use Rattle.pc_threads.specs.Reports.{AddsUp, DoesAll, TellsItsBook};
@@ -35,6 +35,16 @@ pub struct Tallied {
     pub tally: Tally,
 }
 
+/// Why a run did not settle that has this fault; none where the fault ends all.
+fn unsettled_by(fault: &RunFault) -> Option<Unsettled>
+    ensures { IfNone result (EndsAll fault.now) }
+{
+    match Ending::from(*fault) {
+        Ending::Run(why) => Some(why),
+        _ => None,
+    }
+}
+
 /// What came of a run: its report, or why it has none. A fault is one that ends all.
 fn told(ran: Result<Ended, RunFault>) -> Result<Result<LoadReport, Unsettled>, RunFault>
     ensures reported { IfOk result (λ ended. IfOk ended (λ report. ran ≡ Ok (Ended.Reported report))) }
@@ -43,9 +53,9 @@ fn told(ran: Result<Ended, RunFault>) -> Result<Result<LoadReport, Unsettled>, R
     let ended = match ran {
         Ok(ended) => ended,
         Err(fault) => {
-            return match Ending::from(fault) {
-                Ending::Run(why) => Ok(Err(why)),
-                _ => Err(fault),
+            return match unsettled_by(&fault) {
+                Some(why) => Ok(Err(why)),
+                None => Err(fault),
             };
         }
     };

@@ -94,54 +94,56 @@ impl Tally {
                 reported: self.reported + 1,
                 ..self
             },
-            Err(why) => self.with_unreported(Unreported { seed, why: *why }),
+            Err(why) => {
+                let it = Unreported { seed, why: *why };
+                self.with_unreported(&it)
+            }
         }
     }
 
     /// Behind one more run, which has no report.
-    fn with_unreported(self, it: Unreported) -> Tally
-        requires adds_up { CountsAddUp self }
-        requires few { self.runs + 1 < 2 ^ 64 }
-        ensures runs { result.runs ≡ self.runs + 1 }
-        ensures reported { result.reported ≡ self.reported }
-        ensures audit { result.audit ≡ counted (codes "Audit") self.audit it }
-        ensures incomplete { result.incomplete ≡ counted (codes "Incomplete") self.incomplete it }
-        ensures driver { result.driver ≡ counted (codes "Driver") self.driver it }
-        ensures gave_up { result.gave_up ≡ counted (codes "GaveUp") self.gave_up it }
-        ensures unaccounted { result.unaccounted ≡ counted (codes "Unaccounted") self.unaccounted it }
-        ensures stalled { result.stalled ≡ counted (codes "Stalled") self.stalled it }
-        ensures first { result.first ≡ first_counted self.first it }
+    fn with_unreported(&self, it: &Unreported) -> Tally
+        requires adds_up { CountsAddUp self.now }
+        requires few { self.now.runs + 1 < 2 ^ 64 }
+        ensures runs { result.runs ≡ self.now.runs + 1 }
+        ensures reported { result.reported ≡ self.now.reported }
+        ensures audit { result.audit ≡ counted (codes "Audit") self.now.audit it.now }
+        ensures incomplete { result.incomplete ≡ counted (codes "Incomplete") self.now.incomplete it.now }
+        ensures driver { result.driver ≡ counted (codes "Driver") self.now.driver it.now }
+        ensures gave_up { result.gave_up ≡ counted (codes "GaveUp") self.now.gave_up it.now }
+        ensures unaccounted { result.unaccounted ≡ counted (codes "Unaccounted") self.now.unaccounted it.now }
+        ensures stalled { result.stalled ≡ counted (codes "Stalled") self.now.stalled it.now }
+        ensures first { result.first ≡ first_counted self.now.first it.now }
         ensures adds_up { CountsAddUp result }
     {
         let tally = Tally {
             runs: self.runs + 1,
-            first: Some(self.first.unwrap_or(it)),
-            ..self
+            first: Some(self.first.unwrap_or(*it)),
+            ..*self
         };
-        let why = it.why;
-        match why {
+        match it.why {
             Unsettled::Audit => Tally {
-                audit: Some(with_one(self.audit, it)),
+                audit: Some(with_one(self.audit, *it)),
                 ..tally
             },
             Unsettled::Incomplete => Tally {
-                incomplete: Some(with_one(self.incomplete, it)),
+                incomplete: Some(with_one(self.incomplete, *it)),
                 ..tally
             },
             Unsettled::Driver => Tally {
-                driver: Some(with_one(self.driver, it)),
+                driver: Some(with_one(self.driver, *it)),
                 ..tally
             },
             Unsettled::GaveUp => Tally {
-                gave_up: Some(with_one(self.gave_up, it)),
+                gave_up: Some(with_one(self.gave_up, *it)),
                 ..tally
             },
             Unsettled::Unaccounted => Tally {
-                unaccounted: Some(with_one(self.unaccounted, it)),
+                unaccounted: Some(with_one(self.unaccounted, *it)),
                 ..tally
             },
             Unsettled::Stalled(_) => Tally {
-                stalled: Some(with_one(self.stalled, it)),
+                stalled: Some(with_one(self.stalled, *it)),
                 ..tally
             },
         }
