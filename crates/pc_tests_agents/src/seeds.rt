@@ -3,7 +3,7 @@
 use crate::threads::runs::{LIFE, Plan, config, totals};
 use pc_messages::{Cpu, Tid};
 use pc_policy::AgentPolicy;
-use pc_seeds::{Ended, Manner, Stall, run_by_seed};
+use pc_seeds::{Ended, Stall, run_by_seed};
 use pc_threads::{Book, LoadReport, RunFault, Step};
 use std::alloc::Global;
 use std::time::{Clock, Duration, Instant};
@@ -139,55 +139,6 @@ fn some_stall<R: Clock>(rt: &R, alloc: Global) -> Option<bool> {
 #[test]
 fn agents_that_start_again_may_stall(rt: HostRuntime) {
     assert_eq!(rt; some_stall(&rt, rt.alloc()), Some(true));
-}
-
-/// Two CPUs and three threads; both agents start again often, and may have forgotten what the kernel knows of a thread,
-/// so that each asks the other for it, again and again.
-const ASKS: Settings<'static> = (
-    2,
-    &[
-        (0, 3, &[Step::Yield(1), Step::Yield(1), Step::Die(1)]),
-        (1, 3, &[Step::Block(1), Step::Yield(1), Step::Die(1)]),
-        (0, 3, &[Step::Yield(1), Step::Block(1), Step::Die(1)]),
-    ],
-    &[
-        (0, 2),
-        (1, 2),
-        (0, 3),
-        (1, 3),
-        (0, 4),
-        (1, 4),
-        (0, 5),
-        (1, 5),
-        (0, 6),
-        (1, 6),
-        (0, 7),
-        (1, 7),
-    ],
-);
-
-/// Whether a run of these ends in agents that ask each other.
-fn asks<R: Clock>(rt: &R, alloc: Global, seed: u64) -> Option<bool> {
-    match stall(rt, alloc, &ASKS, seed)? {
-        Some((stall, _)) => Some(stall.manner == Manner::Asking),
-        None => Some(false),
-    }
-}
-
-fn some_ask<R: Clock>(rt: &R, alloc: Global) -> Option<bool> {
-    let mut some = false;
-    for seed in 0..64 {
-        if asks(rt, alloc, seed)? {
-            some = true;
-        }
-    }
-    Some(some)
-}
-
-// Such a run has a step for ever; it is told as stalled all the same.
-#[test]
-fn agents_that_ask_each_other_for_ever_are_told(rt: HostRuntime) {
-    assert_eq!(rt; some_ask(&rt, rt.alloc()), Some(true));
 }
 
 /// Why a run whose deadline is gone by as it begins has no report.
