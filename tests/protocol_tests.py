@@ -29,7 +29,7 @@ HARMLESS = Rule.PUTS_BEFORE_REMOVAL
 
 
 def stall_of(rule: Rule) -> tuple[Machine, list[Step]]:
-    """The shortest schedule that the stored seed of a rule leads to, and the machine behind it."""
+    """A schedule that the stored seed of a rule leads to, without the steps that it can do without; and the machine behind it."""
     ranks = rule not in UNRANKED
     machine, schedule = drawn(FOUND[rule], rule, ranks)
     assert machine.stalled(), rule
