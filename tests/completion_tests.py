@@ -80,16 +80,16 @@ def test_no_flag_is_completed_that_is_not_there() -> None:
 
 def test_files_are_completed() -> None:
     for words, wanted in {
-        "replay examples/fir": "examples/first-run.script", "run --per-cpu examples/st": "examples/steals-and-restarts.toml",
+        "replay examples/fir": "examples/first-run.script", "run --per-cpu examples/ste": "examples/steals-and-restarts.toml",
         "run --script examples/fir": "examples/first-run.script",
-        "lab --csv examples/st": "examples/steals-and-restarts.toml", "lab --variants examples/lab/v": "examples/lab/variants.toml",
+        "lab --csv examples/ste": "examples/steals-and-restarts.toml", "lab --variants examples/lab/v": "examples/lab/variants.toml",
         "lab --script f": "", "replay exam": "examples", "replay CHANGE": "CHANGELOG.md",
     }.items():
         same(bash(*words.split()), wanted.split(), words)
     same(set(bash("run", "--policy", "")), {order + exact for order in ORDERS for exact in ("", "\\ exact")})
     if fish in SHELLS:
         same(fish("replay", "examples/fir")[0], "examples/first-run.script")
-        same(fish("run", "examples/st")[0], "examples/steals-and-restarts.toml")
+        same(fish("run", "examples/ste")[0], "examples/steals-and-restarts.toml")
 
 
 def test_bash_completes_by_the_function() -> None:
