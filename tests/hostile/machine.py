@@ -27,8 +27,8 @@ SECONDS = 60
 
 # How the program ends, and of a file or settings a second line: which, and why.
 ENDING = re.compile(rb"(pc-sim: [^\n]*\n)(?:pc-sim: [^\n]*\n)?")
-# What stands in front of that: keys of settings that are passed over.
-WARNINGS = re.compile(rb"\A(?:pc-sim: warning: [^\n]*\n)+")
+# What stands behind that: keys of settings that are passed over.
+WARNINGS = re.compile(rb"(?:pc-sim: warning: [^\n]*\n)+\Z")
 
 
 class NoCompiler(Exception):
