@@ -1,28 +1,31 @@
--- A number in decimal has no byte below its digits.
+-- A number in decimal is digits: it has no byte below them.
 use Rattle.std.proofs.Common.{◌≡◌, ◌∙◌, ap, refl, ℕ, zero, suc, ◌+◌, ◌/◌, ◌%◌, ◌<◌, List, [], ◌∷◌, Bool, true, false, not, ◌&&◌, eqb, if◌then◌else◌, decimal, arith}
 use Rattle.std.specs.Fmt.{digits, digits_onto, digit_glyph}
 use Rattle.std.specs.List.{list_all}
-use Rattle.std.proofs.lemmas.Bool.{ne_eqb}
+use Rattle.std.proofs.lemmas.Bool.{ne_eqb, lt-ltb}
 
-module _ (byte : ℕ) (low : byte < 48) where
-  abbrev Lacks : List ℕ → Type 0
-  Lacks text = list_all (λ b. not (eqb b byte)) text ≡ true
+-- what each digit passes, a number in decimal passes
+module _ (test : ℕ → Bool) (each : (d : ℕ) → d < 10 → test (48 + d) ≡ true) where
+  abbrev Passes : List ℕ → Type 0
+  Passes text = list_all test text ≡ true
 
-  glyph_without : (d : ℕ) (is_digit : Bool) → not (eqb (if is_digit then 48 + d else 87 + d) byte) ≡ true
-  glyph_without d true = ap not (ne_eqb (48 + d) byte (λ e. omega (arith, e, low)))
-  glyph_without d false = ap not (ne_eqb (87 + d) byte (λ e. omega (arith, e, low)))
+  glyph_passes : (d : ℕ) → d < 10 → test (digit_glyph false d) ≡ true
+  glyph_passes d less = rw (lt-ltb d 10 less) (each d less)
 
-  either_without : (b : Bool) (one other : List ℕ) → Lacks one → Lacks other → Lacks (if b then one else other)
-  either_without true one other h k = h
-  either_without false one other h k = k
+  either_passes : (b : Bool) (one other : List ℕ) → Passes one → Passes other → Passes (if b then one else other)
+  either_passes true one other h k = h
+  either_passes false one other h k = k
 
-  onto_without : (k n : ℕ) (acc : List ℕ) → Lacks acc → Lacks (digits_onto k 10 false n acc)
-  onto_without zero n acc h = h
-  onto_without (suc k) n acc h =
-      let here : Lacks (digit_glyph false (n % 10) ∷ acc) =
-      ap (λ b. b && list_all (λ x. not (eqb x byte)) acc) (glyph_without (n % 10) _) ∙ h in
-      either_without (eqb (n / 10) 0) _ _ here (onto_without k (n / 10) (digit_glyph false (n % 10) ∷ acc) here)
+  onto_passes : (k n : ℕ) (acc : List ℕ) → Passes acc → Passes (digits_onto k 10 false n acc)
+  onto_passes zero n acc h = h
+  onto_passes (suc k) n acc h =
+      let here : Passes (digit_glyph false (n % 10) ∷ acc) =
+      ap (λ b. b && list_all test acc) (glyph_passes (n % 10) (omega arith)) ∙ h in
+      either_passes (eqb (n / 10) 0) _ _ here (onto_passes k (n / 10) (digit_glyph false (n % 10) ∷ acc) here)
 
-  pub decimal_without : (n : ℕ) → Lacks (decimal n)
+  pub decimal_passes : (n : ℕ) → Passes (decimal n)
   unfolding digits
-  decimal_without n = onto_without 64 n [] refl
+  decimal_passes n = onto_passes 64 n [] refl
+
+pub decimal_without : (byte : ℕ) → byte < 48 → (n : ℕ) → list_all (λ b. not (eqb b byte)) (decimal n) ≡ true
+decimal_without byte low = decimal_passes (λ b. not (eqb b byte)) (λ d less. ap not (ne_eqb (48 + d) byte (λ e. omega (arith, e, low))))

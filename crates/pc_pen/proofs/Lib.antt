@@ -1,3 +1,4 @@
 pub mod Decimals
+pub mod Escapes
 pub mod Fronts
 pub mod Marks

@@ -2,6 +2,7 @@
 -- which they are composed, and the frame around them.
 pub mod Canvases
 pub mod Drawn
+pub mod Escapes
 pub mod Phrases
 pub mod Pictures
 pub mod TerminalLines
