@@ -1,1 +1,4 @@
+pub mod Drawings
+pub mod Intervals
+pub mod LineCounts
 pub mod Recordings

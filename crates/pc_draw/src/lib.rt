@@ -19,6 +19,6 @@ mod step;
 mod ticks;
 mod words;
 
-pub use part::{DrawnPart, Interval};
-pub use script::draw_script;
+pub use part::{DrawnPart, Interval, Missing};
+pub use script::{Drawn, draw_script};
 pub use ticks::Axis;

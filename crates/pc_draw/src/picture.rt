@@ -128,7 +128,7 @@ fn write_marks<W: Write>(
 }
 
 /// How many CPUs the accepted `enclave` has; none without one.
-fn cpus_of(steps: &[Step]) -> u32 {
+pub(crate) fn cpus_of(steps: &[Step]) -> u32 {
     for step in steps {
         if let (Command::Enclave(limits), Answer::Opened) = (step.command, step.answer) {
             return u32::from(limits.cpus);
