@@ -1,5 +1,5 @@
 -- What is answered is lines, none of which is a comment.
-use Rattle.std.proofs.Common.{◌≡◌, ℕ, ◌+◌, List, [], ◌∷◌, ◌++◌, Bool, true, false, eqb, if◌then◌else◌, refl, sym, ◌∙◌, Option, Some, None, codes, decimal, flat_map, arith, append_assoc}
+use Rattle.std.proofs.Common.{◌≡◌, ℕ, List, [], ◌∷◌, ◌++◌, Bool, true, false, eqb, if◌then◌else◌, refl, ◌∙◌, Option, Some, None, codes, decimal, flat_map, arith, append_assoc}
 use Rattle.pc_calls.specs.declared.call.Posted.{Posted}
 use Rattle.pc_calls.specs.declared.call.Status.{Status}
 use Rattle.pc_calls.specs.declared.event.Reply.{Reply}
@@ -12,9 +12,8 @@ use Rattle.pc_messages.specs.declared.reported.Phase.{Phase}
 use Rattle.pc_messages.specs.declared.reported.Phase.TheVariants as phase
 use Rattle.pc_messages.specs.declared.reported.Reported.{Reported}
 use Rattle.pc_pen.proofs.Decimals.{decimal_without as without_byte}
-use Rattle.pc_script.specs.Grammar.{thread_name}
 use Rattle.pc_messages.specs.State.{phase_word}
-use Rattle.pc_script.specs.Responses.{text_line, limit_text, refusal_text, number_or_dash, subject_text, posted_text, running_text, status_text, truth_text, sameness_text, level_text, reported_text, numbers_text, shown_text, shown_lines, reply_text, response_text}
+use Rattle.pc_script.specs.Responses.{text_line, limit_text, refusal_text, number_or_dash, subject_text, posted_text, running_text, status_text, level_text, reported_text, numbers_text, shown_text, shown_lines, reply_text, response_text}
 use Rattle.pc_script.specs.Scripts.{outcome_text}
 use Rattle.pc_script.specs.Versions.{opening_text}
 use Rattle.pc_script.specs.declared.version.Version.{Version}

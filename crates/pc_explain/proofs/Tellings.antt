@@ -1,5 +1,5 @@
 -- What is written of a whole script.
-use Rattle.std.proofs.Common.{◌≡◌, ℕ, List, [], ◌∷◌, ◌++◌, Option, Some, None, Result, Ok, Err, IfOk, IfSome, ◌⊎◌, inl, inr, refl, sym, ◌∙◌}
+use Rattle.std.proofs.Common.{◌≡◌, ℕ, List, Option, Some, None, Result, Ok, Err, IfOk, IfSome, OnOk, ◌⊎◌, inl, inr, ◌∙◌}
 use Rattle.std.specs.Io.KnownBytes.{Appends, Consumes}
 use Rattle.pc_calls.specs.declared.limits.Profile.{Profile}
 use Rattle.pc_script.specs.Scripts.{IsOutput, IsOutputUntil, IsWalked, IsWalkedUntil, Telling, notices_text}
@@ -12,13 +12,18 @@ use Rattle.pc_script.specs.declared.outcome.ScriptFault.TheVariants.{OutOfMemory
 use Rattle.pc_script.specs.declared.session.Conversed.{Conversed}
 use Rattle.pc_script.specs.declared.response.Response.{Response}
 use Rattle.pc_script.proofs.Notices.{all_are, answers_are}
-use Rattle.pc_explain.specs.Comments.{without_comments}
+use Rattle.pc_explain.specs.Comments.{HasPrintedComments, without_comments}
 use Rattle.pc_explain.specs.Inner.Writing.{Annotates}
-use Rattle.pc_explain.proofs.Annotations.{without_comments_is}
+use Rattle.pc_explain.proofs.Annotations.{comments_printed, without_comments_is}
 
 -- what is told is written, with comments
 abbrev Tells : {O : Type 0} → Telling O
 Tells old before notices new after = Annotates (notices_text notices) before after
+
+-- what was written has printed comments
+printed_of : {plain : List ℕ} (before after : Option (List ℕ)) → Annotates plain before after
+    → (written : List ℕ) × HasPrintedComments written × Appends before after written
+printed_of before after h = (h.0, comments_printed h.1, h.2)
 
 module _ {O : Type 0} (IsRun : Profile → List Command → List Response → Type 0) where
   explained_of : (text : List ℕ) (outcome : Outcome) (old new : O) (before after : Option (List ℕ)) → IsWalked Tells IsRun (lines text) outcome old before new after
@@ -42,6 +47,12 @@ module _ {O : Type 0} (IsRun : Profile → List Command → List Response → Ty
   whole_explained (Some bytes) text old new before after (Ok outcome) is walked =
       let told : IsWalked Tells IsRun (lines bytes) outcome old before new after = rw is walked in
       explained_of bytes outcome old new before after told
+
+  pub whole_printed : (script : List (List ℕ)) (old new : O) (before after : Option (List ℕ)) (answer : Result Outcome ScriptFault)
+      → IfOk answer (λ outcome. IsWalked Tells IsRun script outcome old before new after)
+      → OnOk answer ((written : List ℕ) × HasPrintedComments written × Appends before after written)
+  whole_printed script old new before after (Err e) walked = tt
+  whole_printed script old new before after (Ok outcome) walked = printed_of before after walked.told
 
   pub until_explained : (RanOut : Profile → List Command → List Response → Command → Type 0) (known : Option (List ℕ)) (text : List ℕ) (old new : O)
       (before after : Option (List ℕ)) → IfSome known (λ bytes. bytes ≡ text)
@@ -76,6 +87,12 @@ module _ {O : Type 0} (IsRun : Profile → List Command → List Response → Ty
       told.told.2,
     ),
   )
+
+  pub session_printed : (left rest : Option (List ℕ)) (whole : Conversed → Type 0) (old new : O) (before after : Option (List ℕ)) (answer : Result Conversed ScriptFault)
+      → IfOk answer (λ conversed. (text : List ℕ) × Consumes left rest text × whole conversed × IsConversed Tells IsRun (lines text) conversed.had_fault old before new after)
+      → OnOk answer ((written : List ℕ) × HasPrintedComments written × Appends before after written)
+  session_printed left rest whole old new before after (Err e) told = tt
+  session_printed left rest whole old new before after (Ok conversed) (text, read, end, told) = printed_of before after told.told
 
   pub session_until : (RanOut : Profile → List Command → List Response → Command → Type 0) (left rest : Option (List ℕ)) (old new : O) (before after : Option (List ℕ))
       → (OutOfMemory ≡ Write) ⊎ ((text : List ℕ) × Consumes left rest text × IsConversedUntil Tells IsRun RanOut (lines text) old before new after)

@@ -1,50 +1,28 @@
 //! Comments: lines behind a `#`, between the lines of what a script writes.
 
-ghost use Rattle.std.specs.Prelude.{◌≡◌, ◌≢◌, [], ◌∷◌, ◌++◌, OnOk, Err};
+ghost use Rattle.std.specs.Prelude.{◌≡◌, [], ◌∷◌, ◌++◌, OnOk, Err, codes};
 ghost use Rattle.std.specs.Io.KnownBytes.{Appends};
-ghost use Rattle.pc_explain.specs.Inner.Annotated.{HasNoLineFeed};
 ghost use Rattle.pc_explain.specs.Inner.Writing.{Annotates};
+ghost use Rattle.pc_pen.specs.Escapes.{IsPrinted};
 ghost use Rattle.pc_script.specs.declared.outcome.ScriptFault.{ScriptFault};
 ghost use Rattle.pc_script.specs.Responses.{response_text, text_line};
 
 use crate::sentences::Sentences;
+use pc_pen::{Escaped, is_printed};
 use pc_script::{Response, ScriptFault, lines_of};
-use std::fmt::Write as _;
 use std::io::{self, Write};
 
-/// The text up to its first line feed.
-fn first_line(text: &[u8]) -> &[u8]
-    ensures { HasNoLineFeed result.now }
+/// The text up to its first byte that is not printed.
+fn printed(text: &[u8]) -> &[u8]
+    ensures { IsPrinted result.now }
 {
-    match text.iter().position(|b| *b == b'\n') {
+    match text.iter().position(|b| !is_printed(*b)) {
         Some(end) => &text[..end],
         None => text,
     }
 }
 
-/// Writes a `#`, two texts, and a line feed.
-fn write_line<W: Write>(front: &[u8], text: &[u8], writer: &mut W) -> io::Result<()>
-    ensures { OnOk result
-        (Appends (W.contents writer.old) (W.contents writer.new) (35 ∷ (front.now ++ text.now) ++ 10 ∷ [])) }
-{
-    writer.write_all(b"#")?;
-    writer.write_all(front)?;
-    writer.write_all(text)?;
-    writer.write_all(b"\n")
-}
-
-/// Writes a comment of two texts, each up to its first line feed.
-fn write_comment<W: Write>(front: &[u8], text: &[u8], writer: &mut W) -> Result<(), ScriptFault>
-    ensures ok { OnOk result (Annotates [] (W.contents writer.old) (W.contents writer.new)) }
-    ensures err { (fault : ScriptFault) → result ≡ Err fault → fault ≡ ScriptFault.Write }
-{
-    match write_line(first_line(front), first_line(text), writer) {
-        Ok(()) => Ok(()),
-        Err(_) => Err(ScriptFault::Write),
-    }
-}
-
-/// Writes a line of the script, with its number, as a comment.
+/// Writes a line of the script, with its number, as a comment: its bytes as they are shown.
 pub(crate) fn write_heading<W: Write>(
     number: u64,
     line: &[u8],
@@ -53,12 +31,24 @@ pub(crate) fn write_heading<W: Write>(
     ensures ok { OnOk result (Annotates [] (W.contents writer.old) (W.contents writer.new)) }
     ensures err { (fault : ScriptFault) → result ≡ Err fault → fault ≡ ScriptFault.Write }
 {
-    let mut front = Sentences::new();
-    let _ = write!(front, " {number}: ");
-    write_comment(front.as_slice(), line, writer)
+    let shown = Escaped(line);
+    match write!(writer, "# {number}: {shown}\n") {
+        Ok(()) => Ok(()),
+        Err(_) => Err(ScriptFault::Write),
+    }
 }
 
-/// Writes a sentence, if there is one, as a comment.
+/// Writes a line of four spaces and a text behind a `#`.
+fn write_line<W: Write>(text: &[u8], writer: &mut W) -> io::Result<()>
+    ensures { OnOk result
+        (Appends (W.contents writer.old) (W.contents writer.new) (codes "#    " ++ (text.now ++ 10 ∷ []))) }
+{
+    writer.write_all(b"#    ")?;
+    writer.write_all(text)?;
+    writer.write_all(b"\n")
+}
+
+/// Writes a sentence, if there is one, as a comment, up to its first byte that is not printed.
 fn write_sentence<W: Write>(sentence: &[u8], writer: &mut W) -> Result<(), ScriptFault>
     ensures ok { OnOk result (Annotates [] (W.contents writer.old) (W.contents writer.new)) }
     ensures err { (fault : ScriptFault) → result ≡ Err fault → fault ≡ ScriptFault.Write }
@@ -66,7 +56,10 @@ fn write_sentence<W: Write>(sentence: &[u8], writer: &mut W) -> Result<(), Scrip
     if sentence.is_empty() {
         return Ok(());
     }
-    write_comment(b"    ", sentence, writer)
+    match write_line(printed(sentence), writer) {
+        Ok(()) => Ok(()),
+        Err(_) => Err(ScriptFault::Write),
+    }
 }
 
 /// Writes each sentence as a comment.

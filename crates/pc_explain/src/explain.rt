@@ -3,7 +3,7 @@
 ghost use Rattle.std.specs.Prelude.{◌≡◌, ◌⊎◌, ◌+◌, ℕ, List, [], ◌∷◌, ◌<◌, ◌≤◌, length, IfOk, IfSome, OnOk, Err, true};
 ghost use Rattle.std.specs.Io.Buffered.{writer_buffer, writer_contents};
 ghost use Rattle.std.specs.Io.KnownBytes.{Appends, Consumes, IsAtEnd};
-ghost use Rattle.pc_explain.specs.Comments.{without_comments};
+ghost use Rattle.pc_explain.specs.Comments.{HasPrintedComments, without_comments};
 ghost use Rattle.pc_explain.specs.Inner.Told.{told_kept, told_more, told_nothing};
 ghost use Rattle.pc_explain.specs.Inner.Writing.{Annotates};
 ghost use Rattle.pc_script.specs.Responses.{response_text, text_line};
@@ -16,7 +16,7 @@ ghost use Rattle.pc_session.specs.Session.{IsSession, RanOut};
 
 use crate::before::Before;
 use crate::comment::{write_heading, write_response, write_sentences};
-use crate::faults::tell_fault;
+use crate::faults::{Settled, tell_fault};
 use crate::openings::{on_long_line, on_version};
 use crate::sentences::Sentences;
 use crate::telling::{CommandContext, tell};
@@ -34,8 +34,8 @@ use std::io::{BufWriter, Read, Write};
 struct Comments {
     /// What the sentences on the command that is under way need of the world before it.
     before: Before,
-    /// That of the script.
-    version: Version,
+    /// The version of the script, which its first line that is not silent settles.
+    settled: Settled,
     /// The policy that all agents go by.
     policy: PolicyName,
 }
@@ -45,17 +45,22 @@ impl Comments {
     fn new() -> Comments {
         Comments {
             before: Before::Nothing,
-            version: Version::One,
+            settled: None,
             policy: PolicyName::USUAL,
         }
     }
 }
 
 /// The sentences on a line that is a fault.
-fn on_fault(version: Version, line: &[u8]) -> Sentences {
+fn on_fault(settled: Settled, line: Line<'_>) -> Sentences {
     let mut sentences = Sentences::new();
-    tell_fault(&mut sentences, version, line);
+    tell_fault(&mut sentences, settled, line);
     sentences
+}
+
+/// The version behind a line that is not silent and names none.
+fn settled_by(before: Settled) -> Settled {
+    Some(before.unwrap_or(Version::One))
 }
 
 /// What the sentences on a command need of a session's world as it is before it.
@@ -166,7 +171,7 @@ impl<W: Write> Observer<Session, W> for Comments {
         version: Version,
         writer: &mut W,
     ) -> Result<(), ScriptFault> {
-        self.version = version;
+        self.settled = Some(version);
         write_told(line, &Response::Opened, &on_version(version), writer)
     }
 
@@ -182,6 +187,7 @@ impl<W: Write> Observer<Session, W> for Comments {
         machine: &Session,
         writer: &mut W,
     ) -> Result<(), ScriptFault> {
+        self.settled = settled_by(self.settled);
         self.policy = policy_after(self.policy, response);
         let sentences = on_command(machine, command, response, &self.before, self.policy);
         let told = write_told(line, response, &sentences, writer);
@@ -190,10 +196,13 @@ impl<W: Write> Observer<Session, W> for Comments {
     }
 
     fn faulted(&mut self, line: Line<'_>, writer: &mut W) -> Result<(), ScriptFault> {
-        write_fault(line, &on_fault(self.version, line.text), writer)
+        let sentences = on_fault(self.settled, line);
+        self.settled = settled_by(self.settled);
+        write_fault(line, &sentences, writer)
     }
 
     fn passed_over(&mut self, number: u64, writer: &mut W) -> Result<(), ScriptFault> {
+        self.settled = settled_by(self.settled);
         write_passed_over(number, writer)
     }
 
@@ -212,8 +221,8 @@ impl<W: Write> Observer<Session, W> for Comments {
 /// comments between.
 ///
 /// What is written is, without its comments, what [`pc_script::run_script`] writes. Reading and the faults are as
-/// there. Comments take no memory. They are written line by line, so a writer without a buffer is slow; nothing
-/// is flushed.
+/// there. Comments are printed ASCII, whatever bytes the script has, and take no memory. They are written line by line,
+/// so a writer without a buffer is slow; nothing is flushed.
 pub fn explain_script<R: Read, W: Write>(
     alloc: Global,
     reader: &mut R,
@@ -222,6 +231,8 @@ pub fn explain_script<R: Read, W: Write>(
     ensures ok { IfOk result (λ outcome. IfSome (R.remaining reader.old) (λ text. (written : List ℕ)
         × IsOutput IsSession text outcome (without_comments written)
         × Appends (W.contents writer.old) (W.contents writer.new) written)) }
+    ensures printed { OnOk result ((written : List ℕ) × HasPrintedComments written
+        × Appends (W.contents writer.old) (W.contents writer.new) written) }
     ensures no_memory { result ≡ Err ScriptFault.OutOfMemory → (writer.new ≡ writer.old)
         ⊎ IfSome (R.remaining reader.old) (λ text. (written : List ℕ)
         × IsOutputUntil IsSession RanOut text (without_comments written)
@@ -241,8 +252,8 @@ pub fn explain_script<R: Read, W: Write>(
 /// Answers the lines of a text one after another, as [`pc_script::run_session`] does in a session of its own, and
 /// writes the responses with comments between.
 ///
-/// What is written is, without its comments, what is written there. A line that was passed over is told by its number
-/// alone.
+/// What is written is, without its comments, what is written there, and its comments are printed ASCII. A line that was
+/// passed over is told by its number alone.
 pub fn explain_session<R: Read, W: Write + Drop, H: Helper>(
     alloc: Global,
     reader: &mut R,
@@ -254,6 +265,8 @@ pub fn explain_session<R: Read, W: Write + Drop, H: Helper>(
         × (conversed.is_whole ≡ true → IsAtEnd (R.remaining reader.new))
         × ((written : List ℕ) × IsAnsweredBy IsSession text conversed.had_fault (without_comments written)
         × Appends (writer_contents W.contents writer.old) (writer_contents W.contents writer.new) written)) }
+    ensures printed { OnOk result ((written : List ℕ) × HasPrintedComments written
+        × Appends (writer_contents W.contents writer.old) (writer_contents W.contents writer.new) written) }
     ensures flushed { OnOk result (writer_buffer writer.new ≡ []) }
     ensures no_memory { result ≡ Err ScriptFault.OutOfMemory → (text : List ℕ)
         × Consumes (R.remaining reader.old) (R.remaining reader.new) text

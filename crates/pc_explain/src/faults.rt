@@ -2,15 +2,43 @@
 //! is written.
 
 use crate::sentences::Sentences;
+use crate::versions::{of_another, unnamed, version_with};
 use crate::words::QuotedWord;
-use pc_script::{CommandInWords, Orders, Trouble, Verb, Version, Wanted, first_word, trouble_in};
+use pc_script::{
+    CommandInWords, Line, Orders, Trouble, Verb, Version, Wanted, first_word, trouble_in,
+};
 use std::fmt::{self, Write};
 
-/// Tells why a line of a script of the version is no command.
-pub(crate) fn tell_fault(text: &mut Sentences, version: Version, line: &[u8]) {
+/// The version of a script, as it is where a line stands: none before its first line that is not silent.
+pub(crate) type Settled = Option<Version>;
+
+/// Tells why a line of a script, of which the version is settled so far, is no command.
+pub(crate) fn tell_fault(text: &mut Sentences, settled: Settled, line: Line<'_>) {
     // Sentences take any text: what goes past their room is left out.
-    let _ = fault(text, version, line);
-    let _ = spaces(text, line);
+    let _ = fault(text, settled, line.text);
+    let _ = encoding(text, line);
+    let _ = spaces(text, line.text);
+}
+
+/// Tells of a text whose first bytes tell how it is encoded.
+fn encoding(text: &mut Sentences, line: Line<'_>) -> fmt::Result {
+    if line.number != 1 {
+        return Ok(());
+    }
+    match line.text {
+        [0xef, 0xbb, 0xbf, ..] => marked(text, &[0xef, 0xbb, 0xbf], "UTF-8"),
+        [0xff, 0xfe, ..] => marked(text, &[0xff, 0xfe], "UTF-16"),
+        [0xfe, 0xff, ..] => marked(text, &[0xfe, 0xff], "UTF-16"),
+        _ => Ok(()),
+    }
+}
+
+/// Tells of a text that begins with the mark of an encoding.
+fn marked(text: &mut Sentences, mark: &[u8], encoding: &str) -> fmt::Result {
+    let quoted = QuotedWord(mark);
+    write!(text, "The text begins with `{quoted}`, ")?;
+    write!(text, "the byte order mark of {encoding}: ")?;
+    writeln!(text, "save it as ASCII, or as UTF-8 without one.")
 }
 
 /// Tells of a `#` or a tab that is taken for a part of a word.
@@ -19,14 +47,14 @@ fn spaces(text: &mut Sentences, line: &[u8]) -> fmt::Result {
         writeln!(text, "A comment's # is the first byte of its line.")?;
     }
     if line.contains(&b'\t') {
-        writeln!(text, "A tab is no space: it is a part of its word.")?;
+        writeln!(text, "A tab (\\x09) is no space: it is a part of its word.")?;
     }
     Ok(())
 }
 
-fn fault(text: &mut Sentences, version: Version, line: &[u8]) -> fmt::Result {
-    match trouble_in(version, line) {
-        Some(Trouble::NoCommand { word }) => no_command(text, version, word),
+fn fault(text: &mut Sentences, settled: Settled, line: &[u8]) -> fmt::Result {
+    match trouble_in(settled.unwrap_or(Version::One), line) {
+        Some(Trouble::NoCommand { word }) => no_command(text, settled, word, line),
         Some(
             Trouble::Missing {
                 verb,
@@ -68,19 +96,15 @@ fn begins_with_mark(line: &[u8]) -> bool {
     }
 }
 
-/// The first word of a line is no command's.
-fn no_command(text: &mut Sentences, version: Version, word: &[u8]) -> fmt::Result {
-    let quoted = QuotedWord(word);
+/// The first word of a line is no command's in a script of the version.
+fn no_command(text: &mut Sentences, settled: Settled, word: &[u8], line: &[u8]) -> fmt::Result {
     if word == b"version".as_slice() {
-        let named = match version {
-            Version::One | Version::Two => "`version 2`",
-            Version::Three => "`version 2` or `version 3`",
-        };
-        return writeln!(
-            text,
-            "Word 1, `{quoted}`: a command was wanted, since only the first line that is not silent may be {named}."
-        );
+        return unnamed(text, settled.is_none(), line);
     }
+    if let Some(other) = version_with(line) {
+        return of_another(text, word, settled.unwrap_or(Version::One), other);
+    }
+    let quoted = QuotedWord(word);
     writeln!(
         text,
         "Word 1, `{quoted}`: the name of a command was wanted."

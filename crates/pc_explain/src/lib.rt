@@ -2,7 +2,8 @@
 //!
 //! What is written is what the script's run writes, with comments between: before each reply the line that it answers,
 //! with its number, and after it what changed, or why it was refused and what would make it accepted. Without the
-//! comments it is exactly what the run writes. The sentences themselves are tested, not proved.
+//! comments it is exactly what the run writes, and each comment is printed ASCII, whatever bytes the script has. The
+//! sentences themselves are tested, not proved.
 //!
 //! A script that is explained over memory:
 //!
@@ -24,6 +25,7 @@ mod openings;
 mod reasons;
 mod sentences;
 mod telling;
+mod versions;
 mod words;
 
 pub use explain::{explain_script, explain_session};

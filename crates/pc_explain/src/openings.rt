@@ -1,6 +1,7 @@
 //! The sentences on a line that names the version, and on one that was passed over.
 
 use crate::sentences::Sentences;
+use crate::versions::number_of;
 use pc_calls::MOST_THREADS_TWO;
 use pc_messages::GREATEST_NUMBER;
 use pc_script::{MOST_LINE, Version};
@@ -18,11 +19,11 @@ fn tell_version(text: &mut Sentences, version: Version) -> fmt::Result {
     match version {
         Version::One => Ok(()),
         Version::Two => {
-            more_room(text, 2)?;
+            more_room(text, version)?;
             writeln!(text, ".")
         }
         Version::Three => {
-            more_room(text, 3)?;
+            more_room(text, version)?;
             writeln!(
                 text,
                 ", its agents may be given a policy, and a CPU may be mended."
@@ -32,11 +33,13 @@ fn tell_version(text: &mut Sentences, version: Version) -> fmt::Result {
 }
 
 /// What an enclave may have since a version.
-fn more_room(text: &mut Sentences, version: u8) -> fmt::Result {
+fn more_room(text: &mut Sentences, version: Version) -> fmt::Result {
+    let number = number_of(version);
     write!(
         text,
-        "The script is of version {version}: an enclave may have up to {MOST_THREADS_TWO} threads, and each {GREATEST_NUMBER} messages"
-    )
+        "The script is of version {number}: an enclave may have up to {MOST_THREADS_TWO} threads, "
+    )?;
+    write!(text, "and each {GREATEST_NUMBER} messages")
 }
 
 /// The sentences on a line that a session passed over.

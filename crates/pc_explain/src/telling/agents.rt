@@ -162,9 +162,10 @@ pub(super) fn marked(text: &mut Sentences, event: &Event) -> fmt::Result {
     match event {
         Event::Agent(AgentCall::Sleep { cpu, .. }) => {
             let agent = cpu.index();
+            write!(text, "Agent {agent} sleeps until it is woken: ")?;
             writeln!(
                 text,
-                "Agent {agent} sleeps until it is woken: by a post to a queue that wakes it, or by a rouse, a config or a crash."
+                "by a post to a queue that wakes it, or by a rouse, a config or a crash."
             )
         }
         Event::Agent(AgentCall::Rouse { cpu }) => {

@@ -47,9 +47,10 @@ fn learnt(text: &mut Sentences, cpu: Cpu, world: &World, before: &Before) -> fmt
     match before {
         Before::Held { items, .. } => {
             let items = Count(*items, "item");
+            write!(text, "Every agent sends what its queue holds ")?;
             writeln!(
                 text,
-                "Every agent sends what its queue holds and removes it there, {items} in all, and agent {agent} takes in {deltas}."
+                "and removes it there, {items} in all, and agent {agent} takes in {deltas}."
             )
         }
         _ => writeln!(
@@ -84,9 +85,10 @@ fn runs(
 /// No thread was there that the agent may take.
 fn idles(text: &mut Sentences, cpu: Cpu) -> fmt::Result {
     let agent = cpu.index();
+    write!(text, "It knows every message now, and no thread ")?;
     writeln!(
         text,
-        "It knows every message now, and no thread that it may take is ready, allowed on CPU {agent} and on no CPU: CPU {agent} idles."
+        "that it may take is ready, allowed on CPU {agent} and on no CPU: CPU {agent} idles."
     )
 }
 

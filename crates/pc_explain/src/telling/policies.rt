@@ -23,9 +23,10 @@ pub(super) fn ruled(text: &mut Sentences, policy: PolicyName) -> fmt::Result {
         "All agents go by the policy {policy} from now on: {order}."
     )?;
     if policy.exact {
+        write!(text, "A steal takes only a thread of which the agent ")?;
         writeln!(
             text,
-            "A steal takes only a thread of which the agent knows every message so far: the one of the least rank, and of these the least name."
+            "knows every message so far: the one of the least rank, and of these the least name."
         )
     } else {
         writeln!(
@@ -120,9 +121,10 @@ fn rank_of(text: &mut Sentences, order: OrderName, cpu: Cpu, reported: &Reported
 fn stolen(text: &mut Sentences, policy: PolicyName, cpu: Cpu) -> fmt::Result {
     let agent = cpu.index();
     if policy.exact {
+        write!(text, "Of the threads that agent {agent} may take ")?;
         writeln!(
             text,
-            "Of the threads that agent {agent} may take and of which it knows every message so far it has the least rank, and of these the least name."
+            "and of which it knows every message so far it has the least rank, and of these the least name."
         )
     } else {
         writeln!(

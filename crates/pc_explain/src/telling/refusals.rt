@@ -67,10 +67,13 @@ fn old_posts(text: &mut Sentences, cpu: Cpu, now: u32) -> fmt::Result {
             text,
             "The count of posts is wrong: 1 post was made to queue {queue}, as its answer (a1) tells."
         ),
-        _ => writeln!(
-            text,
-            "The count of posts is wrong: {now} posts were made to queue {queue}, as the answer to the last one (a{now}) tells."
-        ),
+        _ => {
+            write!(text, "The count of posts is wrong: {now} posts ")?;
+            writeln!(
+                text,
+                "were made to queue {queue}, as the answer to the last one (a{now}) tells."
+            )
+        }
     }
 }
 
