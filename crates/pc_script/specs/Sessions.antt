@@ -20,9 +20,9 @@ use Rattle.pc_script.specs.declared.version.Version.TheVariants.{One}
 abbrev pub IsShort : List ℕ → Type 0
 IsShort line = length line ≤ MOST_LINE
 
--- the line `?` asks for the table of commands, which is no part of what is answered
+-- the lines `?` and `help` ask for the table of commands, which is no part of what is answered
 abbrev pub AsksForHelp : List ℕ → Type 0
-AsksForHelp line = line ≡ codes "?"
+AsksForHelp line = (line ≡ codes "?") ⊎ (line ≡ codes "help")
 
 -- a line that is answered by nothing: it has no reply in a script either, or asks for help
 abbrev pub IsSilent : List ℕ → Type 0

@@ -4,7 +4,7 @@
 //! reads the text in pieces, passes over what is too long, and goes on behind a fault.
 
 ghost use Rattle.std.specs.Prelude.{◌≡◌, ◌≢◌, ◌⊎◌, ◌+◌, ◌<◌, ◌≤◌, ℕ, suc, true, false, List, [], ◌∷◌, ◌++◌, length};
-ghost use Rattle.std.specs.Prelude.{IfOk, IsTrue, OnOk, Err};
+ghost use Rattle.std.specs.Prelude.{◌↔◌, IfOk, IsTrue, OnOk, Err};
 ghost use Rattle.std.specs.Io.Buffered.{writer_buffer, writer_contents};
 ghost use Rattle.std.specs.Io.KnownBytes.{Appends, Consumes, IsAtEnd};
 ghost use Rattle.std.specs.Str.Lines.{strip_carriage_return};
@@ -43,10 +43,21 @@ pub struct Conversed {
     pub is_whole: bool,
 }
 
-/// Who is asked for help by a line `?`: whoever has somewhere else to write the table of commands.
+/// Who is asked for help by a line `?` or `help`: whoever has somewhere else to write the table of commands.
 pub trait Helper: Drop {
     /// A line asks for help.
     fn help(&mut self);
+
+    /// A line is a fault, and none was before it.
+    fn first_fault(&mut self);
+}
+
+/// Whether a line asks for help.
+#[inline(always)]
+fn asks_for_help(line: &[u8]) -> bool
+    ensures { IsTrue result ↔ AsksForHelp line.now }
+{
+    line == b"?".as_slice() || line == b"help".as_slice()
 }
 
 /// A session between two of its lines.
@@ -90,11 +101,23 @@ impl<M: Machine> Talk<M> {
         }
     }
 
+    /// A line is a fault. Of the first one the helper is told.
+    #[inline(never)]
+    fn note_fault<H: Helper>(&mut self, helper: &mut H)
+        ensures { self.new ≡ record self.old { had_fault = true } }
+    {
+        if !self.had_fault {
+            helper.first_fault();
+        }
+        self.had_fault = true;
+    }
+
     /// The next line is too long.
     #[inline(never)]
-    fn pass_over<O: Observer<M, W>, W: Write>(
+    fn pass_over<O: Observer<M, W>, W: Write, H: Helper>(
         &mut self,
         observer: &mut O,
+        helper: &mut H,
         writer: &mut W,
     ) -> Result<(), ScriptFault>
         ensures ok { OnOk result ((line : List ℕ) → MOST_LINE < length line → Hears M.StandsAfter O.Tells
@@ -109,7 +132,7 @@ impl<M: Machine> Talk<M> {
     {
         let number = self.next_number()?;
         self.number = number;
-        self.had_fault = true;
+        self.note_fault(helper);
         self.walk.is_open = true;
         observer.passed_over(number, writer)
     }
@@ -139,17 +162,17 @@ impl<M: Machine> Talk<M> {
         ensures passes { self.new.passes ≡ self.old.passes }
     {
         if text.len() > MOST_LINE {
-            return self.pass_over(observer, writer);
+            return self.pass_over(observer, helper, writer);
         }
         let number = self.next_number()?;
         self.number = number;
-        if text == b"?".as_slice() {
+        if asks_for_help(text) {
             helper.help();
             return Ok(());
         }
         let line = Line { number, text };
         if !self.walk.take(line, observer, writer)? {
-            self.had_fault = true;
+            self.note_fault(helper);
         }
         Ok(())
     }
@@ -261,7 +284,7 @@ impl<M: Machine> Talk<M> {
         let Some((_, more)) = first_whole_line(text) else {
             return Ok(&text[text.len()..]);
         };
-        match self.pass_over(observer, writer) {
+        match self.pass_over(observer, helper, writer) {
             Ok(()) => {}
             Err(fault) => return Err(fault),
         }
@@ -292,7 +315,7 @@ impl<M: Machine> Talk<M> {
             (W.contents writer.new))) }
     {
         if self.passes {
-            self.pass_over(observer, writer)
+            self.pass_over(observer, helper, writer)
         } else {
             self.take(without_carriage_return(text), observer, helper, writer)
         }
@@ -320,9 +343,9 @@ fn settle<M: Machine, O: Observer<M, BufWriter<W>>, W: Write + Drop>(
 /// read fails: then what is left of the text is the last line.
 ///
 /// Lines are those of a script, and are answered as there; but a fault changes nothing, and the session goes on. A line
-/// of more than [`MOST_LINE`] bytes is a fault, and is not kept; a line `?` is the helper's. Whatever the pieces are in
-/// which the text comes, what is answered is the same. All answers are flushed before each read, and at the end, and
-/// at no other time. It takes no memory that grows with the text.
+/// of more than [`MOST_LINE`] bytes is a fault, and is not kept; a line `?` or `help` is the helper's, who is told of
+/// the first fault, too. Whatever the pieces are in which the text comes, what is answered is the same. All answers are
+/// flushed before each read, and at the end, and at no other time. It takes no memory that grows with the text.
 ///
 /// The fault is one of the observer's; `Write` where a flush fails; `OutOfMemory` where the machine found none for an
 /// answer, behind the lines before; or `TooLong` past 18,446,744,073,709,551,615 lines or reads, each of which took a
@@ -385,9 +408,9 @@ pub fn converse<M: Machine, O: Observer<M, BufWriter<W>>, R: Read, W: Write + Dr
 
 /// Answers the lines of a text one after another, as [`converse`] does, and writes the replies.
 ///
-/// Each line is answered, a fault is told, and the session goes on behind it. Of a text without a fault, a line `?` and
-/// a line longer than [`MOST_LINE`] what is written is the output of [`run_script`](crate::run_script). After want of
-/// memory the replies to the lines before are written, and not flushed. What `Write` leaves is as there.
+/// Each line is answered, a fault is told, and the session goes on behind it. Of a text without a fault, a line `?` or
+/// `help` and a line longer than [`MOST_LINE`] what is written is the output of [`run_script`](crate::run_script).
+/// After want of memory the replies to the lines before are written, and not flushed. What `Write` leaves is as there.
 pub fn run_session<M: Machine, R: Read, W: Write + Drop, H: Helper>(
     alloc: Global,
     reader: &mut R,
