@@ -14,13 +14,15 @@ use Rattle.pc_run_queue.specs.Runs.{may_run}
 use Rattle.pc_world.specs.PlainWorld.{PlainWorld}
 use Rattle.pc_world.specs.Shows.{ShowsWorld}
 use Rattle.pc_world.proofs.Taken.{alive}
-use Rattle.pc_protocol.specs.Machine.{Machine, Rests}
+use Rattle.pc_protocol.specs.Machine.{Machine, Shows}
+use Rattle.pc_protocol.specs.Protocol.{Protocol}
+use Rattle.pc_protocol.specs.Resting.{IsAtRest}
 use Rattle.pc_protocol.specs.Running.{IsLife, RestIsDone, TakesEach}
 use Rattle.pc_threads.specs.declared.settings.plans.Step.{Step}
 use Rattle.pc_threads.specs.declared.settings.plans.Step.TheVariants.{Block, Die, Preempt, Yield}
 use Rattle.pc_threads.specs.Settings.{IsPlan, Plan, is_die, IsLife as IsLifeOfSteps}
 use Rattle.pc_seeds.specs.declared.driver.Driver.{Driver}
-use Rattle.pc_seeds.specs.Driving.{IsInRun, deed_of, deeds_of}
+use Rattle.pc_seeds.specs.Driving.{HasNothingToDo, IsInRun, deed_of, deeds_of}
 use Rattle.pc_seeds.specs.Ending.{IsHeldUp}
 
 -- a step that is no death is no deed of one
@@ -63,14 +65,15 @@ is_alive k P t c shows held = alive (kinds P t) c (told_of (is_known P t) P t c 
 
 -- at rest no thread of the plans is held up
 pub none_held : RestIsDone → (rules : ℕ → Rules) (limits : Limits) (cpus : ℕ) (plans : List Plan) (machine : Machine) (driver : Driver) (k : KernelRows) (t c : ℕ) → All (IsPlan cpus) plans → ((c : ℕ) → TakesEach (rules c) c)
-    → IsInRun rules limits plans machine driver → Rests machine true → driver.told.items ≡ [] → driver.blocked ≡ None → ((w : PlainWorld) → ShowsWorld machine.world w → ShowsKernel k w.kernel) → IsHeldUp k t c → t < length plans → ⊥
-none_held rest_is_done rules limits cpus plans machine driver k t c sound takes run rests none_told none_blocked shows held low =
+    → IsInRun rules limits plans machine driver → ((p : Protocol) → Shows machine p → IsAtRest p × HasNothingToDo driver) → ((w : PlainWorld) → ShowsWorld machine.world w → ShowsKernel k w.kernel) → IsHeldUp k t c → t < length plans → ⊥
+none_held rest_is_done rules limits cpus plans machine driver k t c sound takes run rests shows held low =
     let r = run.0 in
     let here = run.2 in
     let P = r.protocol.world.kernel in
+    let still = rests r.protocol here.shows in
     let dead =
     rest_is_done rules limits (map deeds_of plans) r (lives_of cpus plans sound) (λ d inside. takes d) run.1
-    record { rests = (rests r.protocol here.shows).0 refl; none_told = here.keeps.told ∙ none_told; none_blocked = here.keeps.blocked ∙ none_blocked }
+    record { rests = still.0; none_told = here.keeps.told ∙ still.1.none_told; none_blocked = here.keeps.blocked ∙ still.1.none_blocked }
     t (subst (λ n. t < n) (sym (many_of plans)) low) in
     let alive_there = is_alive k P t c (shows r.protocol.world here.shows.world) held in
     absurd (false≢true (sym alive_there ∙ ap is_dead dead))

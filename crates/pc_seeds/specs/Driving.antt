@@ -74,6 +74,15 @@ Accepts made = Leads (λ p q. IsAccepted p made q)
 abbrev pub Creates : List Plan → Machine → Machine → Type 0
 Creates plans = Leads (λ p q. AreCreated p (map deeds_of plans) q)
 
+-- the driver was told of no CPU, and has no thread to wake
+pub record HasNothingToDo (driver : Driver) : Type 0 where
+  pub none_told : driver.told.items ≡ []
+  pub none_blocked : driver.blocked ≡ None
+
+-- how many choices the driver has: to wake the thread that it blocked, or one for each CPU of which it was told
+abbrev pub choices_of : Driver → ℕ
+choices_of driver = option_map_or (λ t. 1) driver.blocked (length driver.told.items)
+
 -- the driver has done nothing yet
 abbrev pub IsIdle : List Plan → Driver → Type 0
 IsIdle plans driver =

@@ -1,5 +1,8 @@
 //! What a seed draws.
 
+ghost use Rattle.std.specs.Prelude.{◌≡◌, ◌<◌, MatchOption};
+ghost use Rattle.pc_seeds.specs.Draws.{IsChoice, NobodyChooses};
+
 use pc_messages::Cpu;
 use pc_protocol::{Protocol, StepFault};
 use rand_core::{Rng, SeedableRng};
@@ -55,7 +58,10 @@ impl Draws {
     }
 
     /// A number below this one; 0 below none.
-    fn below(&mut self, bound: u64) -> u64 {
+    fn below(&mut self, bound: u64) -> u64
+        ensures below { 0 < bound → result < bound }
+        ensures cpus { self.new.cpus ≡ self.old.cpus }
+    {
         if bound == 0 {
             return 0;
         }
@@ -63,7 +69,10 @@ impl Draws {
     }
 
     /// One of so many choices.
-    fn choose(&mut self, choices: usize) -> usize {
+    fn choose(&mut self, choices: usize) -> usize
+        ensures below { 0 < choices → result < choices }
+        ensures cpus { self.new.cpus ≡ self.old.cpus }
+    {
         self.below(choices as u64) as usize
     }
 
@@ -90,14 +99,22 @@ impl Draws {
     }
 
     /// Whose step is next, where the driver has so many choices; none where nobody has one.
-    pub(crate) fn next(&mut self, machine: &Protocol, driver: usize) -> Option<Turn> {
+    pub(crate) fn next(&mut self, machine: &Protocol, driver: usize) -> Option<Turn>
+        ensures turn { MatchOption result (NobodyChooses machine.now self.old.cpus driver)
+            (IsChoice machine.now self.old.cpus driver) }
+        ensures cpus { self.new.cpus ≡ self.old.cpus }
+    {
         let all = self.weigh(machine, driver);
         let mut drawn = self.below(all);
+        // The weights come to more than what was drawn, so a turn is found below. That is not proved: the last one that
+        // could be stands in.
+        let mut last = None;
         if driver > 0 {
             if drawn < self.driver {
                 return Some(Turn::Driver(self.choose(driver)));
             }
             drawn -= self.driver;
+            last = Some(Turn::Driver(0));
         }
         for cpu in 0..self.cpus {
             let choices = machine.choices(Cpu(cpu));
@@ -107,8 +124,9 @@ impl Draws {
                     return Some(Turn::Agent(Cpu(cpu), self.choose(choices)));
                 }
                 drawn -= weight;
+                last = Some(Turn::Agent(Cpu(cpu), 0));
             }
         }
-        None
+        last
     }
 }

@@ -1,10 +1,11 @@
 //! What drives a run: it does what each thread does on its CPU, and wakes whom it blocked.
 
-ghost use Rattle.std.specs.Prelude.{◌≡◌, ◌++◌, ◌∷◌, [], true, map, None, IfOk, IfSome, OnOk};
+ghost use Rattle.std.specs.Prelude.{◌≡◌, ◌≢◌, ◌↔◌, ◌++◌, ◌∷◌, [], map, Err, IfOk, IfSome, IsTrue, OnOk};
 ghost use Rattle.pc_calls.specs.Leavings.{call_for};
 ghost use Rattle.pc_protocol.specs.Running.{blocked_by, noticing};
 ghost use Rattle.pc_threads.specs.Settings.{plan_of};
-ghost use Rattle.pc_seeds.specs.Driving.{Accepts, DoesDeed, DrivesOn, IsIdle, TakesStep, deed_of};
+ghost use Rattle.pc_seeds.specs.Driving.{Accepts, DoesDeed, DrivesOn, HasNothingToDo, IsIdle, TakesStep, choices_of};
+ghost use Rattle.pc_seeds.specs.Driving.{deed_of};
 
 use pc_calls::{EnvCall, Posted, Refusal, Reply};
 use pc_messages::{Cpu, Tid};
@@ -51,7 +52,8 @@ pub(crate) fn accepted(
     call: EnvCall,
     told: &mut Vec<Told>,
 ) -> Result<Protocol, RunFault>
-    ensures { IfOk result (Accepts call machine) }
+    ensures accepts { IfOk result (Accepts call machine) }
+    ensures starts { result ≢ Err RunFault.StartFailed }
 {
     // The checker finds the types that a reply nests only where the function names them.
     let _: (Option<Posted>, Option<Tid>, Option<Cpu>, Option<Refusal>) = (None, None, None, None);
@@ -85,7 +87,9 @@ impl Driver {
     }
 
     /// How many choices it has: to wake whom it blocked, or one of the CPUs of which it was told.
-    pub(crate) fn choices(&self) -> usize {
+    pub(crate) fn choices(&self) -> usize
+        ensures { result ≡ choices_of self.now }
+    {
         match self.blocked {
             Some(_) => 1,
             None => self.told.len(),
@@ -94,7 +98,7 @@ impl Driver {
 
     /// Whether it has none.
     pub(crate) fn is_idle(&self) -> bool
-        ensures { result ≡ true → (self.now.told.items ≡ []) × (self.now.blocked ≡ None) }
+        ensures { IsTrue result ↔ HasNothingToDo self.now }
     {
         self.blocked.is_none() && self.told.is_empty()
     }
@@ -139,7 +143,8 @@ impl Driver {
         cpu: Cpu,
         told: &mut Vec<Told>,
     ) -> Result<Protocol, RunFault>
-        ensures { IfOk result (λ new. DoesDeed (map plan_of plans.now) cpu machine self.old new self.new) }
+        ensures does { IfOk result (λ new. DoesDeed (map plan_of plans.now) cpu machine self.old new self.new) }
+        ensures starts { result ≢ Err RunFault.StartFailed }
     {
         let Some(thread) = machine.world().kernel().running(cpu) else {
             return Err(RunFault::Driver(Refusal::IdleCpu));
@@ -160,7 +165,8 @@ impl Driver {
         choice: usize,
         told: &mut Vec<Told>,
     ) -> Result<Protocol, RunFault>
-        ensures { IfOk result (λ new. DrivesOn (map plan_of plans.now) machine self.old new self.new) }
+        ensures drives { IfOk result (λ new. DrivesOn (map plan_of plans.now) machine self.old new self.new) }
+        ensures starts { result ≢ Err RunFault.StartFailed }
     {
         if let Some(thread) = self.blocked {
             self.blocked = None;

@@ -1,11 +1,11 @@
 //! What a run by a seed comes to.
 
-ghost use Rattle.std.specs.Prelude.{◌≡◌, ◌<◌, true, IfSome, length};
-ghost use Rattle.pc_seeds.specs.Ending.{IsHeldUp};
+ghost use Rattle.std.specs.Prelude.{◌↔◌, IsTrue, MatchOption};
+ghost use Rattle.pc_seeds.specs.Ending.{IsFirstToWait, IsHeldUp, IsLeastIdle, NoneIdlesFor, NoneWaits};
 
 use pc_kernel::Kernel;
 use pc_messages::{Cpu, Tid};
-use pc_threads::{Book, LoadReport, ThreadPlan};
+use pc_threads::{Book, Config, LoadReport};
 
 /// What agents do while a thread waits that none of them takes (own).
 #[derive(Clone, Copy, Debug, PartialEq, Eq)]
@@ -16,7 +16,8 @@ pub enum Manner {
     Asking,
 }
 
-/// A thread for which a CPU idles, and that no agent takes (own). It comes of agents that restarted.
+/// A thread for which a CPU idles, and that no agent takes (own). It comes of agents that restarted, or of exact steals
+/// where a policy gives a thread no rank.
 #[derive(Clone, Copy, Debug, PartialEq, Eq)]
 pub struct Stall {
     /// The least thread that waits so.
@@ -44,7 +45,7 @@ pub(crate) struct HeldUp {
 
 /// Whether the thread waits, and the CPU, on which it may run, idles.
 pub(crate) fn is_held_up(kernel: &Kernel, thread: Tid, cpu: Cpu) -> bool
-    ensures { result ≡ true → IsHeldUp kernel.now thread cpu }
+    ensures { IsTrue result ↔ IsHeldUp kernel.now thread cpu }
 {
     let Some(state) = kernel.state(thread) else {
         return false;
@@ -57,7 +58,7 @@ pub(crate) fn is_held_up(kernel: &Kernel, thread: Tid, cpu: Cpu) -> bool
 
 /// The least CPU that idles while the thread waits, and that it may run on.
 fn idle_for(kernel: &Kernel, thread: Tid, cpus: u8) -> Option<Cpu>
-    ensures { IfSome result (IsHeldUp kernel.now thread) }
+    ensures { MatchOption result (NoneIdlesFor kernel.now thread cpus) (IsLeastIdle kernel.now thread cpus) }
 {
     for cpu in 0..cpus {
         let cpu = Cpu(cpu);
@@ -68,15 +69,14 @@ fn idle_for(kernel: &Kernel, thread: Tid, cpus: u8) -> Option<Cpu>
     None
 }
 
-/// The least of the threads that waits for a CPU that idles.
-pub(crate) fn held_up(kernel: &Kernel, plans: &[ThreadPlan], cpus: u8) -> Option<HeldUp>
-    ensures held { IfSome result (λ held. IsHeldUp kernel.now held.thread held.cpu) }
-    ensures one { IfSome result (λ held. held.thread < length plans.now) }
+/// The least of the settings' threads that waits for a CPU that idles, and the least such CPU.
+pub(crate) fn held_up(kernel: &Kernel, config: &Config) -> Option<HeldUp>
+    ensures { MatchOption result (NoneWaits config.now kernel.now)
+        (λ held. IsFirstToWait config.now kernel.now held.thread held.cpu) }
 {
-    for place in 0..plans.len() {
-        let Ok(name) = u32::try_from(place) else {
-            return None;
-        };
+    config.is_sound();
+    let cpus = config.cpus();
+    for name in 0..config.threads().len() as u32 {
         let thread = Tid(name);
         if let Some(cpu) = idle_for(kernel, thread, cpus) {
             return Some(HeldUp { thread, cpu });

@@ -1,5 +1,7 @@
 //! The calls of the kernel that a run makes, in a book.
 
+ghost use Rattle.std.specs.Prelude.{◌≡◌, ◌≢◌, [], Err, OnOk};
+
 use pc_calls::{AgentCall, Call, CallFault, Event, Reply};
 use pc_messages::{Cpu, Tid};
 use pc_protocol::Told;
@@ -81,11 +83,10 @@ fn call_of(world: &World, told: &Told) -> Option<Call> {
 }
 
 /// Lists what was told in the book, in order, and forgets it.
-pub(crate) fn list_all(
-    book: &mut Book,
-    world: &World,
-    told: &mut Vec<Told>,
-) -> Result<(), RunFault> {
+pub(crate) fn list_all(book: &mut Book, world: &World, told: &mut Vec<Told>) -> Result<(), RunFault>
+    ensures forgets { OnOk result (told.new.items ≡ []) }
+    ensures starts { result ≢ Err RunFault.StartFailed }
+{
     for one in told.iter() {
         if let Some(call) = call_of(world, one) {
             match book.apply(call) {

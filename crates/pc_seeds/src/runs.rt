@@ -1,12 +1,12 @@
 //! A run by a seed, from settings to its end.
 
-ghost use Rattle.std.specs.Prelude.{◌≡◌, [], false, Ok, IfOk, IfSome, length, pos, vec_len};
+ghost use Rattle.std.specs.Prelude.{◌≡◌, ◌≢◌, [], false, Ok, Err, IfOk, IfSome, length, pos, vec_len};
 ghost use Rattle.pc_policy.specs.Rules.{rules_of};
 ghost use Rattle.pc_threads.specs.Reports.{AddsUp, DoesAll, TellsItsBook};
 ghost use Rattle.pc_threads.specs.Settings.{plan_of};
-ghost use Rattle.pc_seeds.specs.Driving.{AreCopies, Creates, DrivesOn, IsIdle, IsOpened, StaysInRun, created_by};
-ghost use Rattle.pc_seeds.specs.Driving.{deeds_of};
-ghost use Rattle.pc_seeds.specs.Ending.{IfReported, IfStalledBookTells, IsHeldUp, IsUndisturbed, RestsAs};
+ghost use Rattle.pc_seeds.specs.Driving.{AreCopies, Creates, DrivesOn, HasNothingToDo, IsIdle, IsOpened, StaysInRun};
+ghost use Rattle.pc_seeds.specs.Driving.{created_by, deeds_of};
+ghost use Rattle.pc_seeds.specs.Ending.{IfReported, IfStalledBookTells, IsUndisturbed, NoneWaits, RestsAs};
 ghost use Rattle.pc_seeds.specs.Ending.{RestsOnlyWhenDone};
 
 use crate::draws::{Draws, Turn};
@@ -52,7 +52,8 @@ fn creation(plan: &ThreadPlan) -> Option<EnvCall>
 
 /// What a step of an agent came to.
 fn stepped(done: Result<Protocol, StepFault>, cpu: Cpu) -> Result<Protocol, RunFault>
-    ensures { IfOk result (λ machine. done ≡ Ok machine) }
+    ensures done { IfOk result (λ machine. done ≡ Ok machine) }
+    ensures starts { result ≢ Err RunFault.StartFailed }
 {
     match done {
         Ok(machine) => Ok(machine),
@@ -84,13 +85,19 @@ impl<'a> Seeded<'a> {
     fn new(alloc: Global, config: &'a Config) -> Result<Seeded<'a>, RunFault>
         ensures config { IfOk result (λ run. run.config.now ≡ config.now) }
         ensures idle { IfOk result (λ run. IsIdle config.now.threads run.driver) }
+        ensures starts { result ≢ Err RunFault.StartFailed }
     {
         let book = Book::of_run(alloc, config)?;
         let mut turns = Vec::new(alloc);
-        turns.resize(config.cpus() as usize, 0)?;
+        let Ok(()) = turns.resize(config.cpus() as usize, 0) else {
+            return Err(RunFault::OutOfMemory);
+        };
+        let Ok(driver) = Driver::new(alloc, config.threads()) else {
+            return Err(RunFault::OutOfMemory);
+        };
         Ok(Seeded {
             config,
-            driver: Driver::new(alloc, config.threads())?,
+            driver,
             book,
             turns,
             told: Vec::new(alloc),
@@ -101,6 +108,7 @@ impl<'a> Seeded<'a> {
     fn list(&mut self, world: &World) -> Result<(), RunFault>
         ensures config { self.new.config ≡ self.old.config }
         ensures driver { self.new.driver ≡ self.old.driver }
+        ensures starts { result ≢ Err RunFault.StartFailed }
     {
         list_all(&mut self.book, world, &mut self.told)
     }
@@ -110,6 +118,7 @@ impl<'a> Seeded<'a> {
         ensures config { self.new.config ≡ self.old.config }
         ensures driver { self.new.driver ≡ self.old.driver }
         ensures creates { IfOk result (Creates self.old.config.now.threads machine) }
+        ensures starts { result ≢ Err RunFault.StartFailed }
     {
         let mut machine = machine;
         for plan in self.config.threads() {
@@ -143,6 +152,7 @@ impl<'a> Seeded<'a> {
         ensures config { self.new.config ≡ self.old.config }
         ensures drives { self.old.config.now.restarts ≡ [] →
             IfOk result (λ new. DrivesOn self.old.config.now.threads machine self.old.driver new self.new.driver) }
+        ensures starts { result ≢ Err RunFault.StartFailed }
     {
         let mut machine = machine;
         if machine.begins(cpu) && self.begins_turn(cpu) {
@@ -156,6 +166,7 @@ impl<'a> Seeded<'a> {
         ensures config { self.new.config ≡ self.old.config }
         ensures drives { IfOk result (λ new.
             DrivesOn self.old.config.now.threads machine self.old.driver new self.new.driver) }
+        ensures starts { result ≢ Err RunFault.StartFailed }
     {
         let ran = machine.world().kernel().running(cpu);
         let machine = stepped(machine.step(cpu, choice, &mut self.told), cpu)?;
@@ -164,7 +175,9 @@ impl<'a> Seeded<'a> {
         if cpu.index() >= kernel.cpus() {
             return Err(RunFault::GaveUp(cpu));
         }
-        self.driver.notice(cpu, ran, kernel.running(cpu))?;
+        let Ok(()) = self.driver.notice(cpu, ran, kernel.running(cpu)) else {
+            return Err(RunFault::OutOfMemory);
+        };
         Ok(machine)
     }
 
@@ -173,6 +186,7 @@ impl<'a> Seeded<'a> {
         ensures config { self.new.config ≡ self.old.config }
         ensures drives { IfOk result (λ new.
             DrivesOn self.old.config.now.threads machine self.old.driver new self.new.driver) }
+        ensures starts { result ≢ Err RunFault.StartFailed }
     {
         let machine = self
             .driver
@@ -185,6 +199,7 @@ impl<'a> Seeded<'a> {
         ensures config { self.new.config ≡ self.old.config }
         ensures drives { self.old.config.now.restarts ≡ [] →
             IfOk result (λ new. DrivesOn self.old.config.now.threads machine self.old.driver new self.new.driver) }
+        ensures starts { result ≢ Err RunFault.StartFailed }
     {
         match turn {
             Turn::Driver(choice) => self.drive(machine, choice),
@@ -203,6 +218,8 @@ impl<'a> Seeded<'a> {
         ensures config { self.new.config ≡ self.old.config }
         ensures stays { self.old.config.now.restarts ≡ [] →
             IfOk result (λ new. StaysInRun self.old.config.now.threads machine self.old.driver new self.new.driver) }
+        ensures nothing { IfOk result (λ _. HasNothingToDo self.new.driver) }
+        ensures starts { result ≢ Err RunFault.StartFailed }
     {
         let mut machine = machine;
         let most = most_of_none(self.config.cpus());
@@ -293,7 +310,8 @@ fn copies_of(alloc: Global, policy: &AgentPolicy, many: u8) -> Result<Vec<AgentP
 
 /// The machine of a run at its start, whose agents all go by a copy of the policy.
 fn machine_of(alloc: Global, config: &Config, policy: &AgentPolicy) -> Result<Protocol, RunFault>
-    ensures { IfOk result (IsOpened (rules_of policy.now)) }
+    ensures opened { IfOk result (IsOpened (rules_of policy.now)) }
+    ensures starts { result ≢ Err RunFault.StartFailed }
 {
     let limits = Limits {
         cpus: config.cpus(),
@@ -302,7 +320,9 @@ fn machine_of(alloc: Global, config: &Config, policy: &AgentPolicy) -> Result<Pr
         room: MOST_ROOM,
         posts: MOST_POSTS,
     };
-    let policies = copies_of(alloc, policy, config.cpus())?;
+    let Ok(policies) = copies_of(alloc, policy, config.cpus()) else {
+        return Err(RunFault::OutOfMemory);
+    };
     match Protocol::new(alloc, limits, &policies) {
         Ok(machine) => Ok(machine),
         Err(LimitsFault::OutOfMemory) => Err(RunFault::OutOfMemory),
@@ -310,25 +330,23 @@ fn machine_of(alloc: Global, config: &Config, policy: &AgentPolicy) -> Result<Pr
     }
 }
 
-/// The stall of a run in which a thread is held up, as in the machine, so by the calls of its book.
-fn stall_of(run: &Seeded<'_>, machine: &Protocol, held: HeldUp) -> Result<Stall, RunFault>
-    ensures told { IfOk result (λ stall. IsHeldUp run.now.book.kernel stall.thread stall.cpu) }
-    ensures rests { IfOk result (RestsAs machine.now run.now.driver) }
+/// The stall of a run in which this thread is held up.
+fn stall_of(machine: &Protocol, driver: &Driver, held: HeldUp) -> Stall
+    ensures thread { result.thread ≡ held.thread }
+    ensures cpu { result.cpu ≡ held.cpu }
+    ensures rests { RestsAs machine.now driver.now result }
 {
     let HeldUp { thread, cpu } = held;
-    if !is_held_up(run.book.kernel(), thread, cpu) {
-        return Err(RunFault::Unaccounted);
-    }
-    let manner = if machine.is_at_rest() && run.driver.is_idle() {
+    let manner = if machine.is_at_rest() && driver.is_idle() {
         Manner::AtRest
     } else {
         Manner::Asking
     };
-    Ok(Stall {
+    Stall {
         thread,
         cpu,
         manner,
-    })
+    }
 }
 
 /// The report of a run in which no thread is held up.
@@ -342,20 +360,27 @@ fn reported(
     ensures adds_up { IfOk result AddsUp }
     ensures all { IfOk result (DoesAll config.now) }
     ensures rows { IfOk result (λ report. pos (vec_len report.rows) ≡ config.now.cpus) }
+    ensures book { IfOk result (λ report. report.book ≡ book) }
+    ensures starts { result ≢ Err RunFault.StartFailed }
 {
     config.is_sound();
     let cpus = config.cpus();
-    let views = views_of(alloc, machine, cpus)?;
-    let rows = rows_of(alloc, machine.world(), cpus)?;
+    let Ok(views) = views_of(alloc, machine, cpus) else {
+        return Err(RunFault::OutOfMemory);
+    };
+    let Ok(rows) = rows_of(alloc, machine.world(), cpus) else {
+        return Err(RunFault::OutOfMemory);
+    };
     report_on(alloc, config, book, views.as_slice(), rows)
 }
 
 /// Runs the agents of these settings in one thread, where whose step is next is drawn by a seed: some agents are slow,
 /// and notes overtake each other (own). The same seed gives the same run, and its book, on every machine.
 ///
-/// It stalls where nobody has a step left and a thread waits for a CPU that idles, which no agents bring about that do
-/// not restart; or where agents ask each other for so long that no thread will come to run by it. Faults are those of a
-/// run in threads, but `StartFailed`; it is given up (`TimeUp`) at its deadline.
+/// It stalls where a thread waits for a CPU that idles, and nobody has a step left, or agents ask each other for so
+/// long that no thread will come to run by it. Nobody has a step left then only where an agent restarted, or steals are
+/// exact and the policy gives a thread no rank. Faults are those of a run in threads, but `StartFailed`; it is given up
+/// (`TimeUp`) at its deadline.
 pub fn run_by_seed<R: Clock>(
     rt: &R,
     alloc: Global,
@@ -368,23 +393,30 @@ pub fn run_by_seed<R: Clock>(
     ensures adds_up { IfOk result (IfReported AddsUp) }
     ensures all { IfOk result (IfReported (DoesAll config.now)) }
     ensures rows { IfOk result (IfReported (λ report. pos (vec_len report.rows) ≡ config.now.cpus)) }
-    ensures stalled { IfOk result IfStalledBookTells }
+    ensures none_waits { IfOk result (IfReported (λ report. NoneWaits config.now report.book.kernel)) }
+    ensures stalled { IfOk result (IfStalledBookTells config.now) }
     ensures rests { IsUndisturbed config.now (rules_of policy.now) → IfOk result RestsOnlyWhenDone }
+    ensures starts { result ≢ Err RunFault.StartFailed }
 {
     rest_is_done();
     config.is_sound();
     let mut run = Seeded::new(alloc, config)?;
-    let mut draws = Draws::new(alloc, seed, config.cpus())?;
+    let Ok(mut draws) = Draws::new(alloc, seed, config.cpus()) else {
+        return Err(RunFault::OutOfMemory);
+    };
     let machine = machine_of(alloc, config, policy)?;
     let machine = run.create_all(machine)?;
     let machine = run.play(rt, machine, &mut draws, deadline)?;
-    let held = held_up(machine.world().kernel(), config.threads(), config.cpus());
-    if let Some(held) = held {
-        let stall = stall_of(&run, &machine, held)?;
-        let Seeded { book, .. } = run;
+    let Seeded { driver, book, .. } = run;
+    if let Some(held) = held_up(book.kernel(), config) {
+        // The machine's kernel is as the book's: that is asked, so as not to be proved.
+        if !is_held_up(machine.world().kernel(), held.thread, held.cpu) {
+            return Err(RunFault::Unaccounted);
+        }
+        book.is_replay();
+        let stall = stall_of(&machine, &driver, held);
         return Ok(Ended::Stalled(stall, book));
     }
-    let Seeded { book, .. } = run;
     let report = reported(alloc, config, book, &machine)?;
     Ok(Ended::Reported(report))
 }

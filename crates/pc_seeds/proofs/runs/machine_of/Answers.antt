@@ -4,7 +4,7 @@ use Rattle.pc_seeds.specs.Driving.{AreCopies}
 use Rattle.pc_seeds.proofs.Driving.{copies_take}
 use Rattle.pc_seeds.proofs.runs.machine_of.Goals as goal
 
-pub returns-in-Ok : goal.returns-in-Ok
-returns-in-Ok c =
-    let same = subst (AreCopies c.args.policy.now) (sym c.deref.ensures.value) c.in_ok-policies.ensures in
-    (rules_at c.deref.result.now, _, λ d takes. copies_take c.args.policy.now c.deref.result.now d d same takes, c.in-Ok.ensures.ok)
+pub returns-in-Ok-new-clause-opened : goal.returns-in-Ok-new-clause-opened
+returns-in-Ok-new-clause-opened c =
+    let same = subst (AreCopies c.args.policy.now) (sym c.deref.ensures.value) c.in-Ok.ensures in
+    (rules_at c.deref.result.now, _, λ d takes. copies_take c.args.policy.now c.deref.result.now d d same takes, c.in-Ok-new.ensures.ok)

@@ -17,7 +17,7 @@ loop-plan-preserved c =
       c.loop-plan.invariant.1,
       subst (λ n. (end : Machine) → Creates (map plan_of (drop n items)) c.in_ok-machine.machine end → Creates (map plan_of items) c.args.machine end) one
           (creates_on items i x c.args.machine c.loop-plan.machine c.in_ok-machine.machine there c.loop-plan.invariant.2
-          (subst (λ call. Accepts call c.loop-plan.machine c.in_ok-machine.machine) c.in-Some.ensures c.in_ok-machine.ensures)),
+          (subst (λ call. Accepts call c.loop-plan.machine c.in_ok-machine.machine) c.in-Some.ensures c.in_ok-machine.ensures.accepts)),
     )
 
 pub returns-clause-creates : goal.returns-clause-creates
