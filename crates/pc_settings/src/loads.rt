@@ -15,6 +15,7 @@ ghost use Rattle.pc_settings.specs.declared.loads.LoadTextFault.TheVariants.{Bad
 
 mod draft;
 mod threads;
+mod trouble;
 mod variants;
 mod words;
 
@@ -27,6 +28,7 @@ use pc_load::{Load, LoadFault, ThreadDraft, VariantDraft, VariantFault, Variants
 use std::alloc::{AllocError, Global};
 use threads::{drafts_of, plans_of};
 use toml::Table;
+pub use trouble::write_load_trouble;
 use variants::choices_of;
 
 /// Why a text spells no load, or no variants.

@@ -13,7 +13,9 @@ use crate::output::LabOutput;
 use crate::script::script_of;
 use crate::watcher::Watcher;
 use pc_load::{Load, Variants};
-use pc_settings::{LoadTextFault, TextFault, read_load, read_utf8, read_variants};
+use pc_settings::{
+    LoadTextFault, TextFault, read_load, read_utf8, read_variants, write_load_trouble,
+};
 use pc_table::Form;
 use std::alloc::Global;
 use std::io::{BufWriter, Read, Write};
@@ -21,32 +23,44 @@ use std::io::{BufWriter, Read, Write};
 /// The greatest length of the text of a load, and of variants, in bytes.
 pub const MOST_LOAD: usize = 16_777_216;
 
-/// The load and the variants that a text spells.
-fn load_of(alloc: Global, text: &str) -> Result<(Load, Variants), LabEnding>
+/// The load and the variants that a text spells; what is wrong with it goes into `trouble`.
+fn load_of(alloc: Global, text: &str, trouble: &mut Vec<u8>) -> Result<(Load, Variants), LabEnding>
     requires { length text.now ≤ 16777216 }
     ensures { IsLoadOf text.now result }
 {
     match read_load(alloc, text) {
         Ok(read) => Ok(read),
         Err(LoadTextFault::OutOfMemory) => Err(LabEnding::OutOfMemory),
-        Err(fault) => Err(LabEnding::BadLoad(fault)),
+        Err(fault) => {
+            // Where memory is wanting for it, less is said.
+            let _ = write_load_trouble(alloc, text, &fault, trouble);
+            Err(LabEnding::BadLoad(fault))
+        }
     }
 }
 
-/// The variants that a text spells.
-fn variants_of(alloc: Global, text: &str) -> Result<Variants, LabEnding>
+/// The variants that a text spells; what is wrong with it goes into `trouble`.
+fn variants_of(alloc: Global, text: &str, trouble: &mut Vec<u8>) -> Result<Variants, LabEnding>
     requires { length text.now ≤ 16777216 }
     ensures { IsVariantsOf text.now result }
 {
     match read_variants(alloc, text) {
         Ok(variants) => Ok(variants),
         Err(LoadTextFault::OutOfMemory) => Err(LabEnding::OutOfMemory),
-        Err(fault) => Err(LabEnding::BadVariants(fault)),
+        Err(fault) => {
+            // Where memory is wanting for it, less is said.
+            let _ = write_load_trouble(alloc, text, &fault, trouble);
+            Err(LabEnding::BadVariants(fault))
+        }
     }
 }
 
 /// The load and the variants of the text that a reader gives.
-pub(crate) fn load_in<R: Read>(alloc: Global, reader: &mut R) -> Result<(Load, Variants), LabEnding>
+pub(crate) fn load_in<R: Read>(
+    alloc: Global,
+    reader: &mut R,
+    trouble: &mut Vec<u8>,
+) -> Result<(Load, Variants), LabEnding>
     ensures ok { IfOk result
         (λ read. IfSome (R.remaining reader.old) (λ text. Spells text read.0 read.1)) }
     ensures err { IfErr result (λ ending. IfSome (R.remaining reader.old) (λ text. EndsAtLoad text ending)) }
@@ -55,14 +69,18 @@ pub(crate) fn load_in<R: Read>(alloc: Global, reader: &mut R) -> Result<(Load, V
         × Consumes (R.remaining reader.old) (R.remaining reader.new) bytes }
 {
     match read_utf8(alloc, reader, MOST_LOAD) {
-        Ok(text) => load_of(alloc, text.as_str()),
+        Ok(text) => load_of(alloc, text.as_str(), trouble),
         Err(TextFault::Unread(why)) => Err(LabEnding::LoadUnread(why)),
         Err(TextFault::OutOfMemory) => Err(LabEnding::OutOfMemory),
     }
 }
 
 /// The variants of the text that a reader gives.
-pub(crate) fn variants_in<R: Read>(alloc: Global, reader: &mut R) -> Result<Variants, LabEnding>
+pub(crate) fn variants_in<R: Read>(
+    alloc: Global,
+    reader: &mut R,
+    trouble: &mut Vec<u8>,
+) -> Result<Variants, LabEnding>
     ensures ok { IfOk result
         (λ variants. IfSome (R.remaining reader.old) (λ text. Lists text variants)) }
     ensures err { IfErr result (λ ending. IfSome (R.remaining reader.old) (λ text. EndsAtVariants text ending)) }
@@ -72,7 +90,7 @@ pub(crate) fn variants_in<R: Read>(alloc: Global, reader: &mut R) -> Result<Vari
         × Consumes (R.remaining reader.old) (R.remaining reader.new) bytes }
 {
     match read_utf8(alloc, reader, MOST_LOAD) {
-        Ok(text) => variants_of(alloc, text.as_str()),
+        Ok(text) => variants_of(alloc, text.as_str(), trouble),
         Err(TextFault::Unread(why)) => Err(LabEnding::VariantsUnread(why)),
         Err(TextFault::OutOfMemory) => Err(LabEnding::OutOfMemory),
     }

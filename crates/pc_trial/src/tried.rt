@@ -11,7 +11,20 @@ use crate::progress::Progress;
 use crate::stages::{load_in, put, told, variants_in};
 use pc_load::{Load, Variants};
 use std::alloc::Global;
-use std::io::{BufWriter, Read, Write};
+use std::io::{self, BufWriter, Read, Write};
+
+/// Says which variants there are, of which none has the name that is wanted.
+fn say_names<W: Write>(variants: &Variants, wanted: &LabOutput, trouble: &mut W) -> io::Result<()> {
+    if let LabOutput::Script(name) = wanted {
+        write!(trouble, "--script {name:?}: the variants are")?;
+        for variant in variants.as_slice() {
+            trouble.write_all(b" ")?;
+            trouble.write_all(variant.name.as_slice())?;
+        }
+        trouble.write_all(b"\n")?;
+    }
+    Ok(())
+}
 
 /// Writes what is wanted of a load under these variants, and flushes it. Nothing is left of the progress then.
 fn tell<S: Write + Drop, W: Write + Drop>(
@@ -20,6 +33,7 @@ fn tell<S: Write + Drop, W: Write + Drop>(
     variants: &Variants,
     wanted: &LabOutput,
     progress: &mut Progress<S>,
+    trouble: &mut Vec<u8>,
     writer: &mut BufWriter<W>,
 ) -> LabEnding
     ensures told { IsWrittenOf wanted.now load.now variants.now (writer_contents W.contents writer.old)
@@ -32,7 +46,13 @@ fn tell<S: Write + Drop, W: Write + Drop>(
     progress.end();
     match made {
         Ok(text) => put(writer, text.as_slice()),
-        Err(ending) => ending,
+        Err(ending) => {
+            if ending == LabEnding::NoVariant {
+                // Where memory is wanting for it, less is said.
+                let _ = say_names(variants, wanted, trouble);
+            }
+            ending
+        }
     }
 }
 
@@ -41,12 +61,15 @@ fn tell<S: Write + Drop, W: Write + Drop>(
 /// At most one byte more than [`MOST_LOAD`](crate::MOST_LOAD) is read. Nothing is written but where it is `Finished`,
 /// or `Unwritten` by a write that failed. Else it is the first of these:
 /// `LoadUnread`; `BadLoad`, as `read_load` has the faults; `NoVariant`, `ScriptTooLong`, `Unaccounted`; or want of
-/// memory. The progress is told of each variant that was played for a table or a picture, when it was.
+/// memory. The progress is told of each variant that was played for a table or a picture, when it was. What is wrong
+/// with a text, or which variants there are where none has the name, goes into `trouble` as a line, so that it can be
+/// told behind the ending.
 pub fn try_load<R: Read, S: Write + Drop, W: Write + Drop>(
     alloc: Global,
     load: &mut R,
     wanted: &LabOutput,
     progress: &mut Progress<S>,
+    trouble: &mut Vec<u8>,
     writer: &mut BufWriter<W>,
 ) -> LabEnding
     ensures told { IfSome (R.remaining load.old)
@@ -57,8 +80,8 @@ pub fn try_load<R: Read, S: Write + Drop, W: Write + Drop>(
     ensures reads { (bytes : List ℕ) × (length bytes ≤ 16777217)
         × Consumes (R.remaining load.old) (R.remaining load.new) bytes }
 {
-    match load_in(alloc, load) {
-        Ok((load, variants)) => tell(alloc, &load, &variants, wanted, progress, writer),
+    match load_in(alloc, load, trouble) {
+        Ok((load, variants)) => tell(alloc, &load, &variants, wanted, progress, trouble, writer),
         Err(ending) => ending,
     }
 }
@@ -71,6 +94,7 @@ pub fn try_variants<R: Read, V: Read, S: Write + Drop, W: Write + Drop>(
     variants: &mut V,
     wanted: &LabOutput,
     progress: &mut Progress<S>,
+    trouble: &mut Vec<u8>,
     writer: &mut BufWriter<W>,
 ) -> LabEnding
     ensures told { IfSome (R.remaining load.old) (λ text. IfSome (V.remaining variants.old)
@@ -84,12 +108,12 @@ pub fn try_variants<R: Read, V: Read, S: Write + Drop, W: Write + Drop>(
     ensures reads_variants { (bytes : List ℕ) × (length bytes ≤ 16777217)
         × Consumes (V.remaining variants.old) (V.remaining variants.new) bytes }
 {
-    let (load, _) = match load_in(alloc, load) {
+    let (load, _) = match load_in(alloc, load, trouble) {
         Ok(read) => read,
         Err(ending) => return ending,
     };
-    match variants_in(alloc, variants) {
-        Ok(variants) => tell(alloc, &load, &variants, wanted, progress, writer),
+    match variants_in(alloc, variants, trouble) {
+        Ok(variants) => tell(alloc, &load, &variants, wanted, progress, trouble, writer),
         Err(ending) => ending,
     }
 }
