@@ -1,5 +1,5 @@
 -- The program's parser is one of which clap says all, and words that it takes name one of its commands.
-use Rattle.std.proofs.Common.{◌≡◌, true, false, refl, rules, Bool, List, [], ◌∷◌, Option, Some, None, IfSome, inl, inr, if◌then◌else◌}
+use Rattle.std.proofs.Common.{◌≡◌, true, false, refl, rules, Bool, List, [], ◌∷◌, Option, Some, None, IfSome, if◌then◌else◌}
 use Rattle.std.proofs.Common.{option_map, is_some, find}
 use Rattle.clap.specs.Faults.{check_fault, defaults_fault, entered_fault, fault_of, is_simple_and_free, level_fault, settle_fault, walk_fault}
 use Rattle.clap.specs.Kinds.{Kinds, or_else}

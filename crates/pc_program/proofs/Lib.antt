@@ -3,7 +3,6 @@ pub mod FirstWord
 pub mod NumbersWritten
 pub mod OneNumber
 pub mod Reporting
-pub mod Running
 pub mod Scripting
 pub mod Talking
 pub mod Tallying

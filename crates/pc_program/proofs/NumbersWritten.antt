@@ -1,5 +1,5 @@
 -- Words that spell numbers: there is one way to part them at a dash, since numbers have none.
-use Rattle.std.proofs.Common.{◌≡◌, ◌∙◌, ap₂, sym, subst, refl, ℕ, ◌+◌, List, [], ◌∷◌, ◌++◌, true, false, not, eqb, Option, Some, None, MatchOption, inl, inr, decimal, arith}
+use Rattle.std.proofs.Common.{◌≡◌, ◌∙◌, ap₂, sym, subst, refl, ℕ, List, [], ◌∷◌, ◌++◌, true, false, not, eqb, Option, Some, None, MatchOption, inl, inr, decimal, arith}
 use Rattle.std.specs.List.{list_all}
 use Rattle.std.proofs.lemmas.Bool.{true≢false}
 use Rattle.std.proofs.lemmas.List.Folds.{list_all-append}

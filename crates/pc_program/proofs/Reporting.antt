@@ -1,6 +1,6 @@
 -- What was written of a run stays as it is when it is flushed.
 use Rattle.std.proofs.Common.{ℕ, ◌≡◌, ◌⊎◌, ◌++◌, List, Option, inl, inr, subst, sym}
-use Rattle.std.specs.Io.KnownBytes.{Appends, Keeps}
+use Rattle.std.specs.Io.KnownBytes.{Keeps}
 use Rattle.std.proofs.KnownBytes.{Appends-kept}
 use Rattle.toml.specs.Data.{Members}
 use Rattle.pc_threads.specs.Reports.{AddsUp, TellsItsBook}

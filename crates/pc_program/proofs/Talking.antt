@@ -1,5 +1,5 @@
 -- How a session ended, and what was written of it.
-use Rattle.std.proofs.Common.{◌≡◌, ◌∙◌, ◌⊎◌, inl, inr, ℕ, Bool, true, false, List, [], Option, Result, Ok, Err, IfOk, refl, sym}
+use Rattle.std.proofs.Common.{◌≡◌, ◌⊎◌, inl, inr, ℕ, Bool, true, false, List, Option, Result, Ok, Err, IfOk, refl}
 use Rattle.std.specs.Io.KnownBytes.{Appends, Consumes, IsAtEnd, Keeps}
 use Rattle.std.proofs.KnownBytes.{Appends-kept}
 use Rattle.pc_script.specs.Sessions.{ConsumesMost, IsAnsweredBy, IsAnsweredUntil}
@@ -12,6 +12,7 @@ use Rattle.pc_program.specs.Programs.{IsTalked}
 use Rattle.pc_program.specs.declared.ending.Ending.{Ending}
 use Rattle.pc_program.specs.declared.ending.Ending.TheVariants.{Finished, FaultLine, DrawnToFault, CannotRead}
 use Rattle.pc_program.specs.declared.ending.Ending.TheVariants.{BadCommandLine, OutOfMemory, Settings, Run, CannotStart}
+use Rattle.pc_program.specs.declared.ending.Ending.TheVariants.{NothingToDraw}
 use Rattle.pc_program.specs.declared.ending.Failure.TheVariants as failure
 
 module _ (plain : List ℕ → List ℕ) (left rest old new : Option (List ℕ)) where
@@ -53,7 +54,8 @@ kept_talk plain left rest old mid new OutOfMemory (text, read, (written, is, put
 kept_talk plain left rest old mid new (CannotRead failure.TooLong) talk kept = talk
 kept_talk plain left rest old mid new (CannotRead failure.Write) talk kept = tt
 kept_talk plain left rest old mid new (CannotRead failure.NotUtf8) talk kept = absurd talk
-kept_talk plain left rest old mid new DrawnToFault talk kept = absurd talk
+kept_talk plain left rest old mid new (DrawnToFault line) talk kept = absurd talk
+kept_talk plain left rest old mid new (NothingToDraw missing) talk kept = absurd talk
 kept_talk plain left rest old mid new BadCommandLine talk kept = absurd talk
 kept_talk plain left rest old mid new (Settings bad) talk kept = absurd talk
 kept_talk plain left rest old mid new (Run why) talk kept = absurd talk

@@ -1,7 +1,6 @@
 -- The parser of the command line as a value, and what the words ask for.
 use Rattle.std.specs.Prelude.{◌≡◌, ◌≢◌, ◌⊎◌, ◌↔◌, ◌<◌, ◌≤◌, ◌^◌, ℕ, IsTrue, true, List, [], Option, Some, None}
 use Rattle.std.specs.Prelude.{codes, option_map, string_bytes}
-use Rattle.std.specs.Option.{IsSomeAnd}
 use Rattle.std.specs.Str.Parse.{IsNumeral, digits_value, without_leading_plus}
 use Rattle.clap.specs.Walk.{Row, Rule, Text, count_of, first_of, one_of}
 use Rattle.clap.specs.Simple.{App, new_app, new_rule, on_top, with_rule, with_subcommand}
@@ -26,6 +25,8 @@ use Rattle.pc_program.specs.declared.command_line.VariantsFrom.TheVariants as fr
 use Rattle.pc_program.specs.declared.command_line.CommandFault.{CommandFault}
 use Rattle.pc_program.specs.declared.command_line.CommandFault.TheVariants.{OutOfMemory, BadNumbers, BadPolicy}
 use Rattle.pc_program.specs.declared.command_line.CommandFault.TheVariants.{BadRuns, Clap}
+use Rattle.pc_program.specs.declared.command_line.RunsFault.{RunsFault}
+use Rattle.pc_program.specs.declared.command_line.RunsFault.TheVariants as runs_fault
 use Rattle.pc_program.specs.declared.report.ReportForm.{ReportForm}
 use Rattle.pc_program.specs.declared.report.ReportForm.TheVariants.{Totals, EachCpu, EachRefusal, Picture}
 use Rattle.pc_program.specs.declared.seeds.Seeds.{Seeds}
@@ -177,13 +178,20 @@ abbrev pub AsksForTotals : List Row → Type 0
 AsksForTotals rows =
     (count_of (codes "per-cpu") rows ≡ 0) × (IsSet (codes "draw") rows → ⊥) × (first_of (codes "script") rows ≡ None)
 
--- several runs are asked for, but no seeds for them, or more than totals
-abbrev pub AreNoSeeds : Option (Text × List Row) → Type 0
-AreNoSeeds None = ⊥
-AreNoSeeds (Some met) =
-    (met.0 ≡ codes "run") × (one_of (codes "runs") met.1 ≢ None)
-    × ((seeds : Seeds) → IsSeed (one_of (codes "seed") met.1) (Some seeds.first)
-    → IsRuns (one_of (codes "runs") met.1) (Some seeds.many) → AreSeeds seeds → AsksForTotals met.1 → ⊥)
+-- these rows ask for runs by these seeds
+abbrev pub AreAsked : List Row → Seeds → Type 0
+AreAsked rows seeds =
+    IsSeed (one_of (codes "seed") rows) (Some seeds.first) × IsRuns (one_of (codes "runs") rows) (Some seeds.many)
+
+-- why these rows, which ask for several runs, are no way to ask for them: they have no seed; or else the last seed is
+-- none; or else they ask for more than totals
+abbrev pub AreNoRuns : List Row → RunsFault → Type 0
+AreNoRuns rows runs_fault.NoSeed =
+    (one_of (codes "runs") rows ≢ None) × IsSeed (one_of (codes "seed") rows) None
+AreNoRuns rows runs_fault.PastTheLast =
+    (one_of (codes "runs") rows ≢ None) × ((seeds : Seeds) → AreAsked rows seeds → AreSeeds seeds → ⊥)
+AreNoRuns rows runs_fault.MoreThanTotals =
+    (seeds : Seeds) × AreAsked rows seeds × AreSeeds seeds × (AsksForTotals rows → ⊥)
 
 -- the numbers that the word behind an option spells: all where there is no word
 abbrev pub IsSpelled : Option Text → Option Interval → Type 0
@@ -201,14 +209,9 @@ abbrev pub IsAxis : Axis → List Row → Type 0
 IsAxis Ticks rows = IsSet (codes "time") rows
 IsAxis Lines rows = IsSet (codes "time") rows → ⊥
 
--- the word behind an option spells no numbers
-abbrev pub IsUnread : Text → List Row → Type 0
-IsUnread name rows = IsSomeAnd (first_of name rows) SpellsNone
-
--- a picture is asked for, and which part of it is no numbers
-abbrev pub IsNoPart : Option (Text × List Row) → Type 0
-IsNoPart None = ⊥
-IsNoPart (Some met) = (met.0 ≡ codes "draw") × (IsUnread (codes "cpus") met.1 ⊎ IsUnread (codes "lines") met.1)
+-- this word stands behind this option, and spells no numbers
+abbrev pub IsNoNumbers : (option word : Text) → List Row → Type 0
+IsNoNumbers option word rows = (first_of option rows ≡ Some word) × SpellsNone word
 
 -- the policy that the text behind an option names: the usual one where there is no text
 abbrev pub IsPolicy : Option Text → PolicyName → Type 0
@@ -219,14 +222,21 @@ IsPolicy (Some text) policy = text ≡ policy_text policy
 abbrev pub NamesNone : Text → Type 0
 NamesNone text = (policy : PolicyName) → text ≡ policy_text policy → ⊥
 
--- the text behind the option names no policy
-abbrev pub IsUnnamed : List Row → Type 0
-IsUnnamed rows = IsSomeAnd (first_of (codes "policy") rows) NamesNone
-
--- a run is asked for, by a policy that is none
-abbrev pub IsNoPolicy : Option (Text × List Row) → Type 0
-IsNoPolicy None = ⊥
-IsNoPolicy (Some met) = (met.0 ≡ codes "run") × IsUnnamed met.1
+-- what is wrong with the words of a command that clap takes: a part of a picture that is no numbers, a policy of a
+-- run that is none, or several runs that cannot be asked for so
+abbrev pub IsWrongIn : Option (Text × List Row) → CommandFault → Type 0
+IsWrongIn met OutOfMemory = Unit {0}
+IsWrongIn met (Clap error) = Unit {0}
+IsWrongIn None (BadNumbers option word) = ⊥
+IsWrongIn None (BadPolicy word) = ⊥
+IsWrongIn None (BadRuns why) = ⊥
+IsWrongIn (Some met) (BadNumbers option word) =
+    (met.0 ≡ codes "draw") × ((option.now ≡ codes "cpus") ⊎ (option.now ≡ codes "lines"))
+    × IsNoNumbers option.now (string_bytes word) met.1
+IsWrongIn (Some met) (BadPolicy word) =
+    (met.0 ≡ codes "run") × (first_of (codes "policy") met.1 ≡ Some (string_bytes word))
+    × NamesNone (string_bytes word)
+IsWrongIn (Some met) (BadRuns why) = (met.0 ≡ codes "run") × AreNoRuns met.1 why
 
 -- where variants come from by the word behind `--variants`: from the load where there is none, and from the standard
 -- input where it is `-`
@@ -263,9 +273,9 @@ IsAsked (Some met) (Lab given variants each csv picture script) =
 -- which help and the version are two
 abbrev pub IsRefusal : Kinds → CommandFault → Type 0
 IsRefusal kinds OutOfMemory = Unit {0}
-IsRefusal kinds BadNumbers = kinds ≡ []
-IsRefusal kinds BadPolicy = kinds ≡ []
-IsRefusal kinds BadRuns = kinds ≡ []
+IsRefusal kinds (BadNumbers option word) = kinds ≡ []
+IsRefusal kinds (BadPolicy word) = kinds ≡ []
+IsRefusal kinds (BadRuns why) = kinds ≡ []
 IsRefusal kinds (Clap error) = (kind_of error ≢ kind.OutOfMemory) × IsAmong (kind_of error) kinds
 
 -- one of the commands was met

@@ -1,5 +1,7 @@
 -- How the program ends, and what it says then.
 use Rattle.std.specs.Prelude.{ℕ, List, ◌++◌, Option, Some, None, Result, Ok, Err, codes, if◌then◌else◌}
+use Rattle.pc_draw.specs.declared.script.Drawn.{Drawn}
+use Rattle.pc_draw.specs.declared.script.Drawn.TheVariants as drawn
 use Rattle.pc_script.specs.declared.outcome.Outcome.{Outcome}
 use Rattle.pc_script.specs.declared.outcome.Outcome.TheVariants as outcome
 use Rattle.pc_script.specs.declared.outcome.ScriptFault.{ScriptFault}
@@ -14,11 +16,11 @@ use Rattle.pc_program.specs.declared.ending.BadSettings.{BadSettings}
 use Rattle.pc_program.specs.declared.ending.BadSettings.TheVariants as bad
 use Rattle.pc_program.specs.declared.ending.Unsettled.{Unsettled}
 use Rattle.pc_program.specs.declared.ending.Unsettled.TheVariants as why
-use Rattle.pc_program.specs.declared.ending.Failure.{Failure}
 use Rattle.pc_program.specs.declared.ending.Failure.TheVariants as failure
 use Rattle.pc_program.specs.declared.ending.Ending.{Ending}
 use Rattle.pc_program.specs.declared.ending.Ending.TheVariants.{Finished, FaultLine, DrawnToFault, CannotRead}
 use Rattle.pc_program.specs.declared.ending.Ending.TheVariants.{BadCommandLine, OutOfMemory, Settings, Run, CannotStart}
+use Rattle.pc_program.specs.declared.ending.Ending.TheVariants.{NothingToDraw}
 use Rattle.pc_program.specs.declared.run_text.RunTextFault.{RunTextFault}
 use Rattle.pc_program.specs.declared.run_text.RunTextFault.TheVariants as text
 use Rattle.pc_settings.specs.declared.runs.SettingsFault.{SettingsFault}
@@ -40,9 +42,10 @@ ending_of_session (Ok conversed) =
 ending_of_session (Err why) = ending_of (Err why)
 
 -- how it ends after the drawing of a script
-abbrev pub ending_of_picture : Result Outcome ScriptFault → Ending
-ending_of_picture (Ok outcome.Finished) = Finished
-ending_of_picture (Ok (outcome.FaultLine line)) = DrawnToFault
+abbrev pub ending_of_picture : Result Drawn ScriptFault → Ending
+ending_of_picture (Ok (drawn.Picture outcome.Finished)) = Finished
+ending_of_picture (Ok (drawn.Picture (outcome.FaultLine line))) = DrawnToFault line
+ending_of_picture (Ok (drawn.Nothing missing)) = NothingToDraw missing
 ending_of_picture (Err why) = ending_of (Err why)
 
 -- how it ends where settings have a fault, where a run met one, and where either did
@@ -86,7 +89,8 @@ ending_of_both (Err script.Write) told = CannotRead failure.Write
 abbrev pub IsUnread : Ending → Type 0
 IsUnread Finished = ⊥
 IsUnread FaultLine = ⊥
-IsUnread DrawnToFault = ⊥
+IsUnread (DrawnToFault line) = ⊥
+IsUnread (NothingToDraw missing) = ⊥
 IsUnread (CannotRead failure.Read) = Unit {0}
 IsUnread (CannotRead failure.TooLong) = Unit {0}
 IsUnread (CannotRead failure.NotUtf8) = Unit {0}
@@ -101,7 +105,8 @@ IsUnread CannotStart = ⊥
 abbrev pub status_of : Ending → ℕ
 status_of Finished = 0
 status_of FaultLine = 1
-status_of DrawnToFault = 1
+status_of (DrawnToFault line) = 1
+status_of (NothingToDraw missing) = 2
 status_of (CannotRead failed) = 1
 status_of BadCommandLine = 2
 status_of OutOfMemory = 4
@@ -136,7 +141,9 @@ unsettled_message unsettled = codes "pc-sim: run " ++ unsettled_name unsettled
 abbrev pub message_of : Ending → Option (List ℕ)
 message_of Finished = None
 message_of FaultLine = None
-message_of DrawnToFault = Some (codes "pc-sim: a line of the script is no command, and the picture ends there")
+message_of (DrawnToFault line) =
+    Some (codes "pc-sim: a line of the script is no command, and the picture ends there")
+message_of (NothingToDraw missing) = Some (codes "pc-sim: bad command line")
 message_of (CannotRead failed) = Some (codes "pc-sim: cannot read")
 message_of BadCommandLine = Some (codes "pc-sim: bad command line")
 message_of OutOfMemory = Some (codes "pc-sim: out of memory")

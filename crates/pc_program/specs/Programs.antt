@@ -2,26 +2,28 @@
 use Rattle.std.specs.Prelude.{ℕ, Bool, true, false, ◌≡◌, ◌⊎◌, ◌<◌, List, Option, Err, length}
 use Rattle.std.specs.Io.KnownBytes.{Appends, Consumes, IsAtEnd, Keeps}
 use Rattle.toml.specs.Data.{Members}
-use Rattle.pc_draw.specs.Pictures.{IsPictureOf}
+use Rattle.pc_draw.specs.Parts.{Draws}
+use Rattle.pc_draw.specs.declared.part.DrawnPart.{DrawnPart}
+use Rattle.pc_draw.specs.declared.script.Drawn.TheVariants as drawn
 use Rattle.pc_explain.specs.Comments.{without_comments}
 use Rattle.pc_script.specs.Scripts.{IsOutput, IsOutputUntil}
 use Rattle.pc_script.specs.Sessions.{ConsumesMost, IsAnsweredBy, IsAnsweredUntil}
 use Rattle.pc_script.specs.declared.input.TheConstants.{MOST_BYTES}
 use Rattle.pc_script.specs.declared.outcome.Outcome.TheVariants as outcome
-use Rattle.pc_seeds.specs.Ending.{IsHeldUp}
 use Rattle.pc_seeds.specs.declared.ending.Stall.{Stall}
-use Rattle.pc_threads.specs.Pages.{IsReplay, Pages}
+use Rattle.pc_threads.specs.Pages.{Pages}
 use Rattle.pc_threads.specs.Reports.{AddsUp, TellsItsBook}
 use Rattle.pc_threads.specs.declared.report.LoadReport.{LoadReport}
 use Rattle.pc_program.specs.Endings.{ending_of_settings}
 use Rattle.pc_program.specs.ReportText.{IsReport}
-use Rattle.pc_program.specs.Runs.{DoesWhatIsSpelled}
+use Rattle.pc_program.specs.Runs.{DoesWhatIsSpelled, LeadsAsSpelled, StallsAsSpelled}
 use Rattle.pc_session.specs.Session.{IsSession, RanOut}
 use Rattle.pc_report.specs.Transcripts.{WritesCalls, script_of}
 use Rattle.pc_settings.specs.SettingsText.{Reads, SpellsSettings}
 use Rattle.pc_program.specs.declared.ending.Ending.{Ending}
 use Rattle.pc_program.specs.declared.ending.Ending.TheVariants.{Finished, FaultLine, DrawnToFault, CannotRead}
 use Rattle.pc_program.specs.declared.ending.Ending.TheVariants.{BadCommandLine, OutOfMemory, Settings, Run, CannotStart}
+use Rattle.pc_program.specs.declared.ending.Ending.TheVariants.{NothingToDraw}
 use Rattle.pc_program.specs.declared.ending.Failure.TheVariants as failure
 use Rattle.pc_program.specs.declared.ending.Unsettled.{Unsettled}
 use Rattle.pc_program.specs.declared.ending.Unsettled.TheVariants as unsettled
@@ -44,35 +46,43 @@ IsAnswered plain text old new (CannotRead failure.Read) = Keeps old new
 IsAnswered plain text old new (CannotRead failure.TooLong) = (MOST_BYTES < length text) × Keeps old new
 IsAnswered plain text old new (CannotRead failure.NotUtf8) = ⊥
 IsAnswered plain text old new (CannotRead failure.Write) = Unit {0}
-IsAnswered plain text old new DrawnToFault = ⊥
+IsAnswered plain text old new (DrawnToFault line) = ⊥
+IsAnswered plain text old new (NothingToDraw missing) = ⊥
 IsAnswered plain text old new BadCommandLine = ⊥
 IsAnswered plain text old new (Settings bad) = ⊥
 IsAnswered plain text old new (Run why) = ⊥
 IsAnswered plain text old new CannotStart = ⊥
 
--- after a script of this text was drawn: what was written is its picture, or nothing
-abbrev pub IsDrawn : (text : List ℕ) (old new : Option (List ℕ)) → Ending → Type 0
-IsDrawn text old new Finished =
-    (written : List ℕ) × IsPictureOf IsSession text outcome.Finished written × Appends old new written
-IsDrawn text old new DrawnToFault =
-    (line : ℕ) × (written : List ℕ) × IsPictureOf IsSession text (outcome.FaultLine line) written
-    × Appends old new written
-IsDrawn text old new OutOfMemory = Keeps old new
-IsDrawn text old new (CannotRead failure.Read) = Keeps old new
-IsDrawn text old new (CannotRead failure.TooLong) = (MOST_BYTES < length text) × Keeps old new
-IsDrawn text old new (CannotRead failure.NotUtf8) = ⊥
-IsDrawn text old new (CannotRead failure.Write) = Unit {0}
-IsDrawn text old new FaultLine = ⊥
-IsDrawn text old new BadCommandLine = ⊥
-IsDrawn text old new (Settings bad) = ⊥
-IsDrawn text old new (Run why) = ⊥
-IsDrawn text old new CannotStart = ⊥
+-- after this part of a script of this text was drawn: what was written is its picture, or nothing
+abbrev pub IsDrawn : DrawnPart → (text : List ℕ) (old new : Option (List ℕ)) → Ending → Type 0
+IsDrawn part text old new Finished = Draws part text (drawn.Picture outcome.Finished) old new
+IsDrawn part text old new (DrawnToFault line) = Draws part text (drawn.Picture (outcome.FaultLine line)) old new
+IsDrawn part text old new (NothingToDraw missing) = Draws part text (drawn.Nothing missing) old new
+IsDrawn part text old new OutOfMemory = Keeps old new
+IsDrawn part text old new (CannotRead failure.Read) = Keeps old new
+IsDrawn part text old new (CannotRead failure.TooLong) = (MOST_BYTES < length text) × Keeps old new
+IsDrawn part text old new (CannotRead failure.NotUtf8) = ⊥
+IsDrawn part text old new (CannotRead failure.Write) = Unit {0}
+IsDrawn part text old new FaultLine = ⊥
+IsDrawn part text old new BadCommandLine = ⊥
+IsDrawn part text old new (Settings bad) = ⊥
+IsDrawn part text old new (Run why) = ⊥
+IsDrawn part text old new CannotStart = ⊥
 
 -- after this was made of the text
 abbrev pub IsMade : ScriptForm → (text : List ℕ) (old new : Option (List ℕ)) → Ending → Type 0
 IsMade Replies text old new ending = IsAnswered (λ written. written) text old new ending
 IsMade Explained text old new ending = IsAnswered without_comments text old new ending
-IsMade (Picture part axis) text old new ending = IsDrawn text old new ending
+IsMade (Picture part axis) text old new ending = IsDrawn part text old new ending
+
+-- the text spells settings, and in a run by them that does not settle for this, calls lead to it where it is a stall
+abbrev pub IsUnsettled : Option Members → Unsettled → Type 0
+IsUnsettled settings (unsettled.Stalled stall) = StallsAsSpelled settings stall
+IsUnsettled settings unsettled.Audit = SpellsSettings settings
+IsUnsettled settings unsettled.Incomplete = SpellsSettings settings
+IsUnsettled settings unsettled.Driver = SpellsSettings settings
+IsUnsettled settings unsettled.GaveUp = SpellsSettings settings
+IsUnsettled settings unsettled.Unaccounted = SpellsSettings settings
 
 -- after a run by settings: the report of a run that did what they ask for, or nothing
 abbrev pub IsReported : (settings : Option Members) (form : ReportForm) (old new : Option (List ℕ)) → Ending → Type 0
@@ -81,7 +91,7 @@ IsReported settings form old new Finished =
     × IsReport form report old new
 IsReported settings form old new (Settings bad) =
     (fault : SettingsFault) × Reads settings (Err fault) × (ending_of_settings fault ≡ Settings bad) × Keeps old new
-IsReported settings form old new (Run why) = SpellsSettings settings × Keeps old new
+IsReported settings form old new (Run why) = IsUnsettled settings why × Keeps old new
 IsReported settings form old new CannotStart = SpellsSettings settings × Keeps old new
 IsReported settings form old new OutOfMemory = Keeps old new
 IsReported settings form old new (CannotRead failure.Read) = ⊥
@@ -89,7 +99,8 @@ IsReported settings form old new (CannotRead failure.TooLong) = ⊥
 IsReported settings form old new (CannotRead failure.NotUtf8) = ⊥
 IsReported settings form old new (CannotRead failure.Write) = Unit {0}
 IsReported settings form old new FaultLine = ⊥
-IsReported settings form old new DrawnToFault = ⊥
+IsReported settings form old new (DrawnToFault line) = ⊥
+IsReported settings form old new (NothingToDraw missing) = ⊥
 IsReported settings form old new BadCommandLine = ⊥
 
 -- after the script of a run and its report were written, each where it goes
@@ -104,7 +115,8 @@ IsWrittenBoth form report script_old script_new old new (CannotRead failure.Read
 IsWrittenBoth form report script_old script_new old new (CannotRead failure.TooLong) = ⊥
 IsWrittenBoth form report script_old script_new old new (CannotRead failure.NotUtf8) = ⊥
 IsWrittenBoth form report script_old script_new old new FaultLine = ⊥
-IsWrittenBoth form report script_old script_new old new DrawnToFault = ⊥
+IsWrittenBoth form report script_old script_new old new (DrawnToFault line) = ⊥
+IsWrittenBoth form report script_old script_new old new (NothingToDraw missing) = ⊥
 IsWrittenBoth form report script_old script_new old new BadCommandLine = ⊥
 IsWrittenBoth form report script_old script_new old new (Settings bad) = ⊥
 IsWrittenBoth form report script_old script_new old new (Run why) = ⊥
@@ -115,34 +127,36 @@ abbrev pub IsOfRun : (settings : Option Members) → (LoadReport → Type 0) →
 IsOfRun settings IsWritten =
     (report : LoadReport) × TellsItsBook report × AddsUp report × DoesWhatIsSpelled settings report × IsWritten report
 
--- the calls were written of a book, by which this thread is held up
-abbrev pub WritesStall : Stall → (old new : Option (List ℕ)) → Type 0
-WritesStall stall old new =
-    (book : Pages) × IsReplay book × IsHeldUp book.kernel stall.thread stall.cpu × WritesCalls (script_of book) old new
+-- the calls were written of a book, which lead to this stall
+abbrev pub WritesStall : (settings : Option Members) → Stall → (old new : Option (List ℕ)) → Type 0
+WritesStall settings stall old new =
+    (book : Pages) × LeadsAsSpelled settings book stall × WritesCalls (script_of book) old new
 
 -- what is written as the script of a run that did not settle: its calls where it stalled, and else nothing
-abbrev pub IsUnsettledScript : Unsettled → (old new : Option (List ℕ)) → Type 0
-IsUnsettledScript (unsettled.Stalled stall) old new = WritesStall stall old new
-IsUnsettledScript unsettled.Audit old new = Keeps old new
-IsUnsettledScript unsettled.Incomplete old new = Keeps old new
-IsUnsettledScript unsettled.Driver old new = Keeps old new
-IsUnsettledScript unsettled.GaveUp old new = Keeps old new
-IsUnsettledScript unsettled.Unaccounted old new = Keeps old new
+abbrev pub IsUnsettledScript : (settings : Option Members) → Unsettled → (old new : Option (List ℕ)) → Type 0
+IsUnsettledScript settings (unsettled.Stalled stall) old new = WritesStall settings stall old new
+IsUnsettledScript settings unsettled.Audit old new = Keeps old new
+IsUnsettledScript settings unsettled.Incomplete old new = Keeps old new
+IsUnsettledScript settings unsettled.Driver old new = Keeps old new
+IsUnsettledScript settings unsettled.GaveUp old new = Keeps old new
+IsUnsettledScript settings unsettled.Unaccounted old new = Keeps old new
 
 -- after the script of a run that stalled was written
-abbrev pub IsScriptOfStall : Stall → (old new : Option (List ℕ)) → Ending → Type 0
-IsScriptOfStall stall old new (Run why) = (why ≡ unsettled.Stalled stall) × WritesStall stall old new
-IsScriptOfStall stall old new OutOfMemory = Keeps old new
-IsScriptOfStall stall old new (CannotRead failure.Write) = Unit {0}
-IsScriptOfStall stall old new (CannotRead failure.Read) = ⊥
-IsScriptOfStall stall old new (CannotRead failure.TooLong) = ⊥
-IsScriptOfStall stall old new (CannotRead failure.NotUtf8) = ⊥
-IsScriptOfStall stall old new Finished = ⊥
-IsScriptOfStall stall old new FaultLine = ⊥
-IsScriptOfStall stall old new DrawnToFault = ⊥
-IsScriptOfStall stall old new BadCommandLine = ⊥
-IsScriptOfStall stall old new (Settings bad) = ⊥
-IsScriptOfStall stall old new CannotStart = ⊥
+abbrev pub IsScriptOfStall : (settings : Option Members) → Stall → (old new : Option (List ℕ)) → Ending → Type 0
+IsScriptOfStall settings stall old new (Run why) =
+    (why ≡ unsettled.Stalled stall) × WritesStall settings stall old new
+IsScriptOfStall settings stall old new OutOfMemory = Keeps old new
+IsScriptOfStall settings stall old new (CannotRead failure.Write) = Unit {0}
+IsScriptOfStall settings stall old new (CannotRead failure.Read) = ⊥
+IsScriptOfStall settings stall old new (CannotRead failure.TooLong) = ⊥
+IsScriptOfStall settings stall old new (CannotRead failure.NotUtf8) = ⊥
+IsScriptOfStall settings stall old new Finished = ⊥
+IsScriptOfStall settings stall old new FaultLine = ⊥
+IsScriptOfStall settings stall old new (DrawnToFault line) = ⊥
+IsScriptOfStall settings stall old new (NothingToDraw missing) = ⊥
+IsScriptOfStall settings stall old new BadCommandLine = ⊥
+IsScriptOfStall settings stall old new (Settings bad) = ⊥
+IsScriptOfStall settings stall old new CannotStart = ⊥
 
 -- after a run by settings whose calls are written as a script: that script and the report of a run that did what they
 -- ask for, the script alone of one that stalled, or nothing; want of memory leaves out both, or the script alone
@@ -156,7 +170,7 @@ IsScripted settings form script_old script_new old new OutOfMemory =
 IsScripted settings form script_old script_new old new (Settings bad) =
     Keeps script_old script_new × IsReported settings form old new (Settings bad)
 IsScripted settings form script_old script_new old new (Run why) =
-    IsUnsettledScript why script_old script_new × IsReported settings form old new (Run why)
+    IsUnsettledScript settings why script_old script_new × IsReported settings form old new (Run why)
 IsScripted settings form script_old script_new old new CannotStart =
     Keeps script_old script_new × IsReported settings form old new CannotStart
 IsScripted settings form script_old script_new old new (CannotRead failure.Write) = Unit {0}
@@ -164,7 +178,8 @@ IsScripted settings form script_old script_new old new (CannotRead failure.Read)
 IsScripted settings form script_old script_new old new (CannotRead failure.TooLong) = ⊥
 IsScripted settings form script_old script_new old new (CannotRead failure.NotUtf8) = ⊥
 IsScripted settings form script_old script_new old new FaultLine = ⊥
-IsScripted settings form script_old script_new old new DrawnToFault = ⊥
+IsScripted settings form script_old script_new old new (DrawnToFault line) = ⊥
+IsScripted settings form script_old script_new old new (NothingToDraw missing) = ⊥
 IsScripted settings form script_old script_new old new BadCommandLine = ⊥
 
 -- a text was read of what a reader has, and this is so of it
@@ -191,7 +206,8 @@ IsTalked plain left rest old new OutOfMemory =
 IsTalked plain left rest old new (CannotRead failure.TooLong) = ConsumesMost left rest
 IsTalked plain left rest old new (CannotRead failure.Write) = Unit {0}
 IsTalked plain left rest old new (CannotRead failure.NotUtf8) = ⊥
-IsTalked plain left rest old new DrawnToFault = ⊥
+IsTalked plain left rest old new (DrawnToFault line) = ⊥
+IsTalked plain left rest old new (NothingToDraw missing) = ⊥
 IsTalked plain left rest old new BadCommandLine = ⊥
 IsTalked plain left rest old new (Settings bad) = ⊥
 IsTalked plain left rest old new (Run why) = ⊥

@@ -50,6 +50,10 @@ pub record IsTallyOf (seed : ℕ) (endings : List (Result LoadReport Unsettled))
   pub stalled : tally.stalled ≡ row_of (codes "Stalled") seed endings
   pub first : tally.first ≡ first_without (λ unsettled. true) seed endings
 
+-- no run is counted
+abbrev pub CountsNone : Tally → Type 0
+CountsNone tally = (seed : ℕ) → IsTallyOf seed [] tally
+
 -- how many runs a row counts
 abbrev pub many : Option TallyRow → ℕ
 many counted = option_map_or (λ row. row.runs) counted 0

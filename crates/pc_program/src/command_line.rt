@@ -7,10 +7,9 @@ ghost use Rattle.clap.specs.Walk.{first_of, one_of, rows_of};
 ghost use Rattle.clap.specs.Simple.{subcommand_of, subcommand_rows_of};
 ghost use Rattle.clap.specs.Faults.{fault_of};
 ghost use Rattle.clap.specs.Matches.{found_of};
-ghost use Rattle.pc_program.specs.CommandLine.{AreNoSeeds, AreSeeds, AsksForTotals, IsAsked, IsAxis, IsCommandMet};
-ghost use Rattle.pc_program.specs.CommandLine.{IsFrom, IsInput, IsLimit, IsNoPart, IsNoPolicy, IsPart, IsPolicy};
-ghost use Rattle.pc_program.specs.CommandLine.{IsRefusal, IsReportForm, IsRuns, IsSeed, IsSpelled, IsUnnamed};
-ghost use Rattle.pc_program.specs.CommandLine.{IsUnread, NamesNone, pc_sim};
+ghost use Rattle.pc_program.specs.CommandLine.{AreNoRuns, AreSeeds, AsksForTotals, IsAsked, IsAxis, IsCommandMet};
+ghost use Rattle.pc_program.specs.CommandLine.{IsFrom, IsInput, IsLimit, IsPart, IsPolicy, IsRefusal, IsReportForm};
+ghost use Rattle.pc_program.specs.CommandLine.{IsRuns, IsSeed, IsSpelled, IsWrongIn, NamesNone, pc_sim};
 ghost use Rattle.pc_program.specs.Inner.FirstWord.{first_word};
 
 mod parsers;
@@ -20,6 +19,7 @@ use crate::report::ReportForm;
 use crate::seeds::Seeds;
 use clap::error::ErrorKind;
 use clap::{ArgMatches, Command as Parser, Error};
+pub(crate) use parsers::command_named;
 use parsers::parser_for;
 use pc_draw::{Axis, DrawnPart, Interval};
 use pc_policy::PolicyName;
@@ -102,21 +102,35 @@ pub enum VariantsFrom {
     File(String),
 }
 
+/// Why several runs cannot be asked for so (own).
+#[derive(Clone, Copy, Debug, PartialEq, Eq, Fault)]
+pub enum RunsFault {
+    /// No word says by which seed the first of them is.
+    #[error("--runs wants --seed NUMBER beside it, the first of the seeds")]
+    NoSeed,
+    /// The last of so many seeds is none.
+    #[error("--seed and --runs: the last of so many seeds would be past 18446744073709551615")]
+    PastTheLast,
+    /// Other words ask for more than a tally.
+    #[error("--runs writes a tally alone: --per-cpu, --draw and --script cannot stand beside it")]
+    MoreThanTotals,
+}
+
 /// Why there is no command.
 #[derive(Debug, Drop, Fault)]
 pub enum CommandFault {
     /// A growth was refused.
     #[error("out of memory")]
     OutOfMemory,
-    /// A word that is to spell numbers spells none.
-    #[error("a word spells no numbers")]
-    BadNumbers,
-    /// A word that is to name a policy names none.
-    #[error("a word names no policy")]
-    BadPolicy,
-    /// The seeds of several runs are none, or other words ask for a single run.
-    #[error("several runs cannot be asked for so")]
-    BadRuns,
+    /// The word behind an option that is to spell numbers spells none.
+    #[error("--{option} {word:?}: a number is wanted, as 2, or the first and the last of several, as 0-3")]
+    BadNumbers { option: &'static str, word: String },
+    /// The word behind `--policy` names none.
+    #[error("--policy {word:?}: it is levels, fifo, least-ran, levels-then-least-ran, or one as 'fifo exact'")]
+    BadPolicy { word: String },
+    /// Several runs are asked for, but not so that they can be.
+    #[error(transparent)]
+    BadRuns(RunsFault),
     /// The words are no command, or they ask for help or the version, which is the error's text.
     #[error(transparent)]
     Clap(Error),
@@ -143,7 +157,8 @@ const MOST_RUNS: u32 = 1_000_000_000;
 ///
 /// The fault is `Clap` where the words are no command, and where they ask for help or the version; `BadNumbers` where
 /// they are one but for a word that is to spell numbers, `BadPolicy` but for one that is to name a policy, and
-/// `BadRuns` but for those that ask for several runs; or `OutOfMemory`.
+/// `BadRuns` but for those that ask for several runs; or `OutOfMemory`. Numbers of CPUs are looked at before those of
+/// lines, and a policy before runs.
 pub fn read_command<'a, S: AsStr>(
     alloc: Global,
     words: &'a [S],
@@ -151,12 +166,7 @@ pub fn read_command<'a, S: AsStr>(
     ensures asked { IfOk result (IsAsked (subcommand_of pc_sim (map S.text words.entry.now))) }
     ensures taken { IfOk result (λ _. fault_of pc_sim (map S.text words.entry.now) ≡ []) }
     ensures refused { IfErr result (IsRefusal (fault_of pc_sim (map S.text words.entry.now))) }
-    ensures numbers { result ≡ Err CommandFault.BadNumbers
-        → IsNoPart (subcommand_of pc_sim (map S.text words.entry.now)) }
-    ensures policy { result ≡ Err CommandFault.BadPolicy
-        → IsNoPolicy (subcommand_of pc_sim (map S.text words.entry.now)) }
-    ensures runs { result ≡ Err CommandFault.BadRuns
-        → AreNoSeeds (subcommand_of pc_sim (map S.text words.entry.now)) }
+    ensures wrong { IfErr result (IsWrongIn (subcommand_of pc_sim (map S.text words.entry.now))) }
 {
     let parser: Parser<'a> = parser_for(alloc, first_word(words))?;
     match parser.try_get_matches_from(words) {
@@ -167,7 +177,7 @@ pub fn read_command<'a, S: AsStr>(
 }
 
 /// The first word after the program's name; an empty one where there is none.
-fn first_word<S: AsStr>(words: &[S]) -> &str
+pub(crate) fn first_word<S: AsStr>(words: &[S]) -> &str
     ensures { result.now ≡ first_word (map S.text words.now) }
 {
     match words.get(1) {
@@ -180,11 +190,8 @@ fn first_word<S: AsStr>(words: &[S]) -> &str
 fn command_of(alloc: Global, matches: &ArgMatches<'_>) -> Result<ProgramCommand, CommandFault>
     requires { IsCommandMet (subcommand_rows_of matches.now) }
     ensures asked { IfOk result (IsAsked (subcommand_rows_of matches.now)) }
-    ensures fault { IfErr result (λ fault. (fault ≡ CommandFault.OutOfMemory) ⊎ (fault ≡ CommandFault.BadNumbers)
-        ⊎ (fault ≡ CommandFault.BadPolicy) ⊎ (fault ≡ CommandFault.BadRuns)) }
-    ensures numbers { result ≡ Err CommandFault.BadNumbers → IsNoPart (subcommand_rows_of matches.now) }
-    ensures policy { result ≡ Err CommandFault.BadPolicy → IsNoPolicy (subcommand_rows_of matches.now) }
-    ensures runs { result ≡ Err CommandFault.BadRuns → AreNoSeeds (subcommand_rows_of matches.now) }
+    ensures own { IfErr result (IsRefusal []) }
+    ensures wrong { IfErr result (IsWrongIn (subcommand_rows_of matches.now)) }
 {
     let Some((name, met)) = matches.subcommand() else {
         unreachable!()
@@ -200,7 +207,7 @@ fn command_of(alloc: Global, matches: &ArgMatches<'_>) -> Result<ProgramCommand,
             explains: is_set(met, "explain"),
         })
     } else if name == "draw" {
-        drawing_of(file, met)
+        drawing_of(alloc, file, met)
     } else if name == "lab" {
         Ok(lab_of(alloc, file, met)?)
     } else {
@@ -216,14 +223,15 @@ fn run_of(
 ) -> Result<ProgramCommand, CommandFault>
     requires { IsInput (first_of (codes "FILE") (rows_of (found_of met.now))) (option_map string_bytes file) }
     ensures asked { IfOk result (IsAsked (Some (codes "run", rows_of (found_of met.now)))) }
-    ensures fault { IfErr result (λ fault. (fault ≡ CommandFault.OutOfMemory) ⊎ (fault ≡ CommandFault.BadPolicy)
-        ⊎ (fault ≡ CommandFault.BadRuns)) }
-    ensures policy { result ≡ Err CommandFault.BadPolicy → IsUnnamed (rows_of (found_of met.now)) }
-    ensures runs { result ≡ Err CommandFault.BadRuns → AreNoSeeds (Some (codes "run", rows_of (found_of met.now))) }
+    ensures own { IfErr result (IsRefusal []) }
+    ensures wrong { IfErr result (IsWrongIn (Some (codes "run", rows_of (found_of met.now)))) }
 {
-    let policy = policy_of(met)?;
+    let policy = policy_of(alloc, met)?;
     match runs_of(met) {
-        Some(many) => tally_of(file, policy, many, met),
+        Some(many) => match tally_of(file, policy, many, met) {
+            Ok(command) => Ok(command),
+            Err(fault) => Err(CommandFault::BadRuns(fault)),
+        },
         None => Ok(single_of(alloc, file, policy, met)?),
     }
 }
@@ -257,20 +265,22 @@ fn tally_of(
     policy: PolicyName,
     many: u32,
     met: &ArgMatches<'_>,
-) -> Result<ProgramCommand, CommandFault>
+) -> Result<ProgramCommand, RunsFault>
     requires input { IsInput (first_of (codes "FILE") (rows_of (found_of met.now))) (option_map string_bytes file) }
     requires policy { IsPolicy (first_of (codes "policy") (rows_of (found_of met.now))) policy }
     requires runs { IsRuns (one_of (codes "runs") (rows_of (found_of met.now))) (Some many) }
     ensures asked { IfOk result (IsAsked (Some (codes "run", rows_of (found_of met.now)))) }
-    ensures fault { IfErr result (λ fault. (fault ≡ CommandFault.BadRuns)
-        × AreNoSeeds (Some (codes "run", rows_of (found_of met.now)))) }
+    ensures fault { IfErr result (AreNoRuns (rows_of (found_of met.now))) }
 {
     let Some(first) = seed_of(met) else {
-        return Err(CommandFault::BadRuns);
+        return Err(RunsFault::NoSeed);
     };
     let seeds = Seeds { first, many };
-    if !are_seeds(seeds) || !asks_for_totals(met) {
-        return Err(CommandFault::BadRuns);
+    if !are_seeds(seeds) {
+        return Err(RunsFault::PastTheLast);
+    }
+    if !asks_for_totals(met) {
+        return Err(RunsFault::MoreThanTotals);
     }
     let limit = limit_of(met);
     Ok(ProgramCommand::Tally {
@@ -297,14 +307,17 @@ fn asks_for_totals(met: &ArgMatches<'_>) -> bool
 }
 
 /// The picture of this file that the matches of `draw` ask for.
-fn drawing_of(file: Option<String>, met: &ArgMatches<'_>) -> Result<ProgramCommand, CommandFault>
+fn drawing_of(
+    alloc: Global,
+    file: Option<String>,
+    met: &ArgMatches<'_>,
+) -> Result<ProgramCommand, CommandFault>
     requires { IsInput (first_of (codes "FILE") (rows_of (found_of met.now))) (option_map string_bytes file) }
     ensures asked { IfOk result (IsAsked (Some (codes "draw", rows_of (found_of met.now)))) }
-    ensures fault { IfErr result (λ fault. (fault ≡ CommandFault.BadNumbers)
-        × (IsUnread (codes "cpus") (rows_of (found_of met.now))
-        ⊎ IsUnread (codes "lines") (rows_of (found_of met.now)))) }
+    ensures own { IfErr result (IsRefusal []) }
+    ensures wrong { IfErr result (IsWrongIn (Some (codes "draw", rows_of (found_of met.now)))) }
 {
-    let part = part_of(met)?;
+    let part = part_of(alloc, met)?;
     Ok(ProgramCommand::Draw {
         file,
         part,
@@ -357,14 +370,13 @@ fn variants_of(alloc: Global, matches: &ArgMatches<'_>) -> Result<VariantsFrom, 
 }
 
 /// The part of a picture that is asked for.
-fn part_of(matches: &ArgMatches<'_>) -> Result<DrawnPart, CommandFault>
+fn part_of(alloc: Global, matches: &ArgMatches<'_>) -> Result<DrawnPart, CommandFault>
     ensures asked { IfOk result (λ part. IsPart part (rows_of (found_of matches.now))) }
-    ensures refused { IfErr result (λ fault. (fault ≡ CommandFault.BadNumbers)
-        × (IsUnread (codes "cpus") (rows_of (found_of matches.now))
-        ⊎ IsUnread (codes "lines") (rows_of (found_of matches.now)))) }
+    ensures own { IfErr result (IsRefusal []) }
+    ensures wrong { IfErr result (IsWrongIn (Some (codes "draw", rows_of (found_of matches.now)))) }
 {
-    let cpus = numbers_of(matches, "cpus")?;
-    let lines = numbers_of(matches, "lines")?;
+    let cpus = numbers_of(alloc, matches, "cpus")?;
+    let lines = numbers_of(alloc, matches, "lines")?;
     Ok(DrawnPart { cpus, lines })
 }
 
@@ -379,18 +391,27 @@ fn axis_of(matches: &ArgMatches<'_>) -> Axis
     }
 }
 
-/// The numbers that the word behind an option spells; none without a word.
-fn numbers_of(matches: &ArgMatches<'_>, name: &str) -> Result<Option<Interval>, CommandFault>
-    ensures spelled { IfOk result (λ numbers. IsSpelled (first_of name.now (rows_of (found_of matches.now))) numbers) }
-    ensures refused { IfErr result (λ fault. (fault ≡ CommandFault.BadNumbers)
-        × IsUnread name.now (rows_of (found_of matches.now))) }
+/// The numbers that the word behind an option of `draw` spells; none without a word.
+fn numbers_of(
+    alloc: Global,
+    matches: &ArgMatches<'_>,
+    option: &'static str,
+) -> Result<Option<Interval>, CommandFault>
+    requires { (option.now ≡ codes "cpus") ⊎ (option.now ≡ codes "lines") }
+    ensures spelled { IfOk result
+        (λ numbers. IsSpelled (first_of option.now (rows_of (found_of matches.now))) numbers) }
+    ensures own { IfErr result (IsRefusal []) }
+    ensures wrong { IfErr result (IsWrongIn (Some (codes "draw", rows_of (found_of matches.now)))) }
 {
-    match matches.get_str(name) {
-        None => Ok(None),
-        Some(word) => match numbers_in(word.as_bytes()) {
-            Some(numbers) => Ok(Some(numbers)),
-            None => Err(CommandFault::BadNumbers),
-        },
+    let Some(word) = matches.get_str(option) else {
+        return Ok(None);
+    };
+    match numbers_in(word.as_bytes()) {
+        Some(numbers) => Ok(Some(numbers)),
+        None => {
+            let word = String::from_str(alloc, word)?;
+            Err(CommandFault::BadNumbers { option, word })
+        }
     }
 }
 
@@ -438,17 +459,20 @@ fn policy_named(word: &str) -> Option<PolicyName>
 }
 
 /// What every agent goes by: the usual policy where none is named.
-fn policy_of(matches: &ArgMatches<'_>) -> Result<PolicyName, CommandFault>
+fn policy_of(alloc: Global, matches: &ArgMatches<'_>) -> Result<PolicyName, CommandFault>
     ensures named { IfOk result (IsPolicy (first_of (codes "policy") (rows_of (found_of matches.now)))) }
-    ensures refused { IfErr result (λ fault. (fault ≡ CommandFault.BadPolicy)
-        × IsUnnamed (rows_of (found_of matches.now))) }
+    ensures own { IfErr result (IsRefusal []) }
+    ensures wrong { IfErr result (IsWrongIn (Some (codes "run", rows_of (found_of matches.now)))) }
 {
-    match matches.get_str("policy") {
-        None => Ok(PolicyName::USUAL),
-        Some(word) => match policy_named(word) {
-            Some(policy) => Ok(policy),
-            None => Err(CommandFault::BadPolicy),
-        },
+    let Some(word) = matches.get_str("policy") else {
+        return Ok(PolicyName::USUAL);
+    };
+    match policy_named(word) {
+        Some(policy) => Ok(policy),
+        None => {
+            let word = String::from_str(alloc, word)?;
+            Err(CommandFault::BadPolicy { word })
+        }
     }
 }
 

@@ -6,6 +6,7 @@ ghost use Rattle.pc_program.specs.Endings.{settings_message, status_of};
 ghost use Rattle.pc_program.specs.Endings.{unsettled_message, unsettled_name};
 
 use crate::run_text::RunTextFault;
+use pc_draw::{Drawn, Missing};
 use pc_script::{Conversed, Outcome, ScriptFault};
 use pc_seeds::Stall;
 use pc_settings::SettingsFault;
@@ -18,8 +19,10 @@ pub enum Ending {
     Finished,
     /// The script has a line that is no command, or a session had one; its output says which.
     FaultLine,
-    /// The same of a script that was drawn: the picture says which, and goes up to it.
-    DrawnToFault,
+    /// The same of a script that was drawn: it is this line, and the picture goes up to it.
+    DrawnToFault(u64),
+    /// A part of a script's picture was asked for, of which the script has nothing.
+    NothingToDraw(Missing),
     /// This failed of reading a text, or of writing what was made of it.
     CannotRead(Failure),
     /// The words of the command line are no command.
@@ -79,7 +82,7 @@ pub enum Unsettled {
     GaveUp,
     /// The calls, or what the agents counted, do not come to what the settings ask for.
     Unaccounted,
-    /// This thread waits in a run by a seed, and no agent will look at it.
+    /// This thread waits in a run by a seed for a CPU that idles, and no agent will take it.
     Stalled(Stall),
 }
 
@@ -91,10 +94,10 @@ impl Ending {
         match self {
             Ending::Finished => 0,
             Ending::FaultLine
-            | Ending::DrawnToFault
+            | Ending::DrawnToFault(_)
             | Ending::CannotRead(_)
             | Ending::Settings(_) => 1,
-            Ending::BadCommandLine => 2,
+            Ending::NothingToDraw(_) | Ending::BadCommandLine => 2,
             Ending::Run(_) => 3,
             Ending::OutOfMemory | Ending::CannotStart => 4,
         }
@@ -106,11 +109,11 @@ impl Ending {
     {
         match self {
             Ending::Finished | Ending::FaultLine => None,
-            Ending::DrawnToFault => {
+            Ending::DrawnToFault(_) => {
                 Some("pc-sim: a line of the script is no command, and the picture ends there")
             }
             Ending::CannotRead(_) => Some("pc-sim: cannot read"),
-            Ending::BadCommandLine => Some("pc-sim: bad command line"),
+            Ending::NothingToDraw(_) | Ending::BadCommandLine => Some("pc-sim: bad command line"),
             Ending::OutOfMemory => Some("pc-sim: out of memory"),
             Ending::CannotStart => Some("pc-sim: cannot start"),
             Ending::Settings(bad) => Some(bad.message()),
@@ -121,12 +124,14 @@ impl Ending {
 
 impl Ending {
     /// How the program ends after it drew a script.
-    pub fn of_picture(drawn: Result<Outcome, ScriptFault>) -> Ending
+    pub fn of_picture(drawn: Result<Drawn, ScriptFault>) -> Ending
         ensures { result ≡ ending_of_picture drawn }
     {
         match drawn {
-            Ok(Outcome::FaultLine(_)) => Ending::DrawnToFault,
-            ended => Ending::from(ended),
+            Ok(Drawn::Picture(Outcome::FaultLine(line))) => Ending::DrawnToFault(line),
+            Ok(Drawn::Picture(Outcome::Finished)) => Ending::Finished,
+            Ok(Drawn::Nothing(missing)) => Ending::NothingToDraw(missing),
+            Err(fault) => Ending::from(Err(fault)),
         }
     }
 }

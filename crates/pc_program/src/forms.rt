@@ -83,7 +83,7 @@ fn picture<R: Read, W: Write>(
     writer: &mut W,
 ) -> Ending
     ensures { IfSome (R.remaining reader.old)
-        (λ text. IsDrawn text (W.contents writer.old) (W.contents writer.new) result) }
+        (λ text. IsDrawn part text (W.contents writer.old) (W.contents writer.new) result) }
 {
     Ending::of_picture(draw_script(alloc, part, axis, reader, writer))
 }
@@ -91,7 +91,8 @@ fn picture<R: Read, W: Write>(
 /// Reads a script, makes this of it, writes it, and tells how it ended. Nothing is flushed.
 ///
 /// A text that cannot be read, or is too long, and a write that fails are `CannotRead`, which says which; want of
-/// memory is `OutOfMemory`, behind what was made so far, and of a picture nothing was written.
+/// memory is `OutOfMemory`, behind what was made so far, and of a picture nothing was written. Nothing is written of a
+/// part of which nothing is there, either: that is `NothingToDraw`.
 pub fn make<R: Read, W: Write>(
     alloc: Global,
     form: ScriptForm,

@@ -14,6 +14,7 @@
 #![tactic(auto)]
 
 mod command_line;
+mod command_trouble;
 mod ending;
 mod forms;
 mod input;
@@ -26,11 +27,12 @@ mod seeds;
 mod talk;
 mod tally;
 
-pub use command_line::{CommandFault, ProgramCommand, VariantsFrom, read_command};
+pub use command_line::{CommandFault, ProgramCommand, RunsFault, VariantsFrom, read_command};
+pub use command_trouble::write_command_trouble;
 pub use ending::{BadSettings, Ending, Failure, Unsettled};
 pub use forms::{ScriptForm, make, make_flushed, replay_flushed, run_flushed, run_script};
 pub use input::{MOST_SETTINGS, read_settings};
-pub use pc_draw::{Axis, DrawnPart, Interval};
+pub use pc_draw::{Axis, DrawnPart, Interval, Missing};
 pub use pc_policy::{AgentPolicy, Order, OrderName, PolicyName, Stealing};
 pub use pc_script::Helper;
 pub use pc_seeds::{Manner, Stall};

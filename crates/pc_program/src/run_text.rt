@@ -6,7 +6,7 @@ ghost use Rattle.pc_seeds.specs.Ending.{IfReported, IfStalledBookTells};
 ghost use Rattle.pc_settings.specs.SettingsText.{SpellsSettings};
 ghost use Rattle.pc_threads.specs.Reports.{AddsUp, DoesAll, TellsItsBook};
 ghost use Rattle.pc_program.specs.ReportText.{IsReport};
-ghost use Rattle.pc_program.specs.Runs.{DoesWhatIsSpelled, IsNoStall, IsTextsFault};
+ghost use Rattle.pc_program.specs.Runs.{DoesWhatIsSpelled, IfStalledLeads, IsNoStall, IsTextsFault};
 
 use crate::progress::Progress;
 use crate::report::{ReportForm, write_report};
@@ -30,7 +30,7 @@ pub enum RunTextFault {
     /// The run met a fault.
     #[error(transparent)]
     Run(RunFault),
-    /// The run was one by a seed, and no agent will look at a thread that waits.
+    /// The run was one by a seed, and no agent will take a thread that waits for a CPU that idles.
     #[error("{0:?} is stalled")]
     Stalled(Stall),
     /// The report could not be written.
@@ -58,7 +58,7 @@ fn run_scheduled<R: Threads + Wait + Clock + Sync, S: Write + Copy + Sync>(
     ensures tells { IfOk result (IfReported TellsItsBook) }
     ensures adds_up { IfOk result (IfReported AddsUp) }
     ensures all { IfOk result (IfReported (DoesAll config.now)) }
-    ensures stalled { IfOk result IfStalledBookTells }
+    ensures stalled { IfOk result (IfStalledBookTells config.now) }
 {
     let Scheduling { policy, seed } = scheduling;
     match seed {
@@ -81,7 +81,7 @@ pub(crate) fn run_settings<R: Threads + Wait + Clock + Sync, S: Write + Copy + S
     ensures tells { IfOk result (IfReported TellsItsBook) }
     ensures adds_up { IfOk result (IfReported AddsUp) }
     ensures all { IfOk result (IfReported (DoesWhatIsSpelled (parse_document text.now))) }
-    ensures stalled { IfOk result IfStalledBookTells }
+    ensures stalled { IfOk result (IfStalledLeads (parse_document text.now)) }
     ensures spelled { IfOk result (λ _. SpellsSettings (parse_document text.now)) }
     ensures settings { IfErr result (IsTextsFault (parse_document text.now)) }
     ensures unwritten { IfErr result (λ fault. fault ≢ RunTextFault.Write) }

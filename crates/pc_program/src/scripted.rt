@@ -1,12 +1,13 @@
 //! A run whose calls are written as a script, beside its report.
 
-ghost use Rattle.std.specs.Prelude.{◌≡◌, ◌⊎◌, []};
+ghost use Rattle.std.specs.Prelude.{◌≡◌, ◌⊎◌, [], Option};
 ghost use Rattle.std.specs.Io.Buffered.{writer_buffer, writer_contents};
 ghost use Rattle.std.specs.Io.KnownBytes.{Keeps};
+ghost use Rattle.toml.specs.Data.{Members};
 ghost use Rattle.toml.specs.Parse.{parse_document};
 ghost use Rattle.pc_program.specs.Endings.{ending_of_both};
-ghost use Rattle.pc_seeds.specs.Ending.{IsHeldUp};
 ghost use Rattle.pc_program.specs.Programs.{IsScripted, IsScriptOfStall, IsWrittenBoth};
+ghost use Rattle.pc_program.specs.Runs.{LeadsAsSpelled};
 
 use crate::ending::{Ending, Failure, Unsettled};
 use crate::forms::flushed;
@@ -51,10 +52,9 @@ fn write_both<V: Write, W: Write>(
 
 /// Writes the script of a run that stalled. It has no report.
 fn write_stalled<V: Write>(alloc: Global, stall: Stall, book: &Book, script: &mut V) -> Ending
-    ensures { IsHeldUp book.now.kernel stall.thread stall.cpu →
-        IsScriptOfStall stall (V.contents script.old) (V.contents script.new) result }
+    ensures { (settings : Option Members) → LeadsAsSpelled settings book.now stall →
+        IsScriptOfStall settings stall (V.contents script.old) (V.contents script.new) result }
 {
-    book.is_replay();
     match write_transcript(alloc, book, script) {
         Ok(()) => Ending::Run(Unsettled::Stalled(stall)),
         Err(TranscriptFault::OutOfMemory) => Ending::OutOfMemory,

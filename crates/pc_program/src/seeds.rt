@@ -1,11 +1,11 @@
 //! Runs by several seeds, one after another: from a settings text to the text of their tally.
 
-ghost use Rattle.std.specs.Prelude.{◌≡◌, ◌≢◌, ◌⊎◌, ◌≤◌, [], IfErr, IfNone, IfOk, None, Ok};
+ghost use Rattle.std.specs.Prelude.{◌≡◌, ◌≢◌, ◌⊎◌, ◌≤◌, [], IfErr, IfOk, None};
 ghost use Rattle.std.specs.Io.Buffered.{writer_buffer, writer_contents};
 ghost use Rattle.toml.specs.Parse.{parse_document};
-ghost use Rattle.pc_threads.specs.Reports.{AddsUp, DoesAll, TellsItsBook};
 ghost use Rattle.pc_program.specs.Runs.{IsTextsFault};
-ghost use Rattle.pc_program.specs.Seeds.{AreNumbers, EndsAll, EndsAllOfText, IsOfRuns, IsTallied, IsTold};
+ghost use Rattle.pc_program.specs.Seeds.{AreNumbers, EndsAll, IsOfRuns, IsTallied, IsTold, MayEnd, told_of};
+ghost use Rattle.pc_program.specs.Seeds.{unsettled_by};
 ghost use Rattle.pc_program.specs.Tallies.{CountsAddUp};
 
 use crate::ending::{Ending, Failure, Unsettled};
@@ -37,7 +37,7 @@ pub struct Tallied {
 
 /// Why a run did not settle that has this fault; none where the fault ends all.
 fn unsettled_by(fault: &RunFault) -> Option<Unsettled>
-    ensures { IfNone result (EndsAll fault.now) }
+    ensures { result ≡ unsettled_by fault.now }
 {
     match Ending::from(*fault) {
         Ending::Run(why) => Some(why),
@@ -47,8 +47,7 @@ fn unsettled_by(fault: &RunFault) -> Option<Unsettled>
 
 /// What came of a run: its report, or why it has none. A fault is one that ends all.
 fn told(ran: Result<Ended, RunFault>) -> Result<Result<LoadReport, Unsettled>, RunFault>
-    ensures reported { IfOk result (λ ended. IfOk ended (λ report. ran ≡ Ok (Ended.Reported report))) }
-    ensures fault { IfErr result EndsAll }
+    ensures { result ≡ told_of ran }
 {
     let ended = match ran {
         Ok(ended) => ended,
@@ -74,12 +73,11 @@ fn try_seeds<R: Clock>(
     seeds: Seeds,
     deadline: Option<Instant>,
 ) -> Result<Tally, RunFault>
-    ensures of_runs { IfOk result (IsOfRuns (λ report. TellsItsBook report × AddsUp report × DoesAll config.now report)
-        seeds.first) }
+    ensures of_runs { IfOk result (IsOfRuns (λ ended. MayEnd ended config.now) seeds.first) }
     ensures adds_up { IfOk result CountsAddUp }
     ensures few { IfOk result (λ tally. tally.runs ≤ seeds.many) }
     ensures whole { deadline ≡ None → AreNumbers seeds → IfOk result (λ tally. tally.runs ≡ seeds.many) }
-    ensures fault { IfErr result EndsAll }
+    ensures fault { IfErr result (λ fault. fault ≡ RunFault.OutOfMemory) }
 {
     let mut tally = Tally::new();
     for place in 0..seeds.many {
@@ -110,7 +108,7 @@ fn tally_config<R: Clock, W: Write>(
         (W.contents writer.new)) }
     ensures whole { deadline ≡ None → AreNumbers seeds → IfOk result (λ tally. tally.runs ≡ seeds.many) }
     ensures settings { IfErr result (IsTextsFault (parse_document text.now)) }
-    ensures fault { IfErr result EndsAllOfText }
+    ensures fault { IfErr result EndsAll }
     ensures unwritten { IfErr result (λ fault. fault ≢ RunTextFault.Write → writer.new ≡ writer.old) }
 {
     let config = match read_config(alloc, text) {

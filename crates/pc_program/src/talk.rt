@@ -1,4 +1,4 @@
-//! Sessions: commands that are answered as they come, and the table of commands that a line `?` asks for.
+//! Sessions: commands that are answered as they come, and the table of commands that a line `?` or `help` asks for.
 
 ghost use Rattle.std.specs.Prelude.{◌≡◌, ◌⊎◌, [], true, false};
 ghost use Rattle.std.specs.Io.Buffered.{writer_buffer, writer_contents};
@@ -17,8 +17,11 @@ use std::io::{BufWriter, Read, Write};
 const LEGEND: &str = "\
 C, A and B are CPUs and Q is a queue, from 0; T is a thread, as t0; MASK is a sum of powers of 2, one for
 each CPU. `version 2` or `version 3` may stand in the first line that is answered: `policy` and `mend` are
-of version 3. docs/FORMATS.md tells what each word means.
+of version 3. A line `quit` ends the session. docs/FORMATS.md tells what each word means.
 ";
+
+/// What is said at the first line that is no command.
+const HINT: &str = "pc-sim: no command; ? lists the commands\n";
 
 /// Writes the table of commands to whatever a person reads.
 #[derive(Drop)]
@@ -40,6 +43,11 @@ impl<S: Write + Drop> Helper for Manual<S> {
         // Nothing can be said of an error where it would be said.
         let _ = write_command_table(&mut self.screen);
         let _ = self.screen.write_all(LEGEND.as_bytes());
+        let _ = self.screen.flush();
+    }
+
+    fn first_fault(&mut self) {
+        let _ = self.screen.write_all(HINT.as_bytes());
         let _ = self.screen.flush();
     }
 }

@@ -28,7 +28,7 @@ Examples:
   pc-sim session
   pc-sim lab load.toml --variants examples/lab/variants.toml
 
-FILE may be `-`, the standard input.
+FILE may be `-`, the standard input. `pc-sim help COMMAND` tells more of a command.
 Exit status: 0 finished; 1 a file or a text has a fault; 2 the command line has one; 3 a run did not
 settle; 4 memory or a thread is wanting.
 Scripts, settings and answers are described in docs/FORMATS.md.";
@@ -94,9 +94,9 @@ Example:
 
 A line is answered as `pc-sim replay` answers it, and all answers are flushed before more is read. A line
 that is no command is a fault, which changes nothing, and the session goes on. `?` alone on a line lists
-the commands, on standard error.
+the commands, on standard error; `quit` ends the session.
 Exit status: 0 finished; 1 a line was no command, or a read or a write failed; 4 memory is wanting.
-Sessions are described in docs/FORMATS.md.";
+Sessions are described in docs/SESSIONS.md, and what is answered in docs/FORMATS.md.";
 
 const ABOUT_LAB: &str =
     "Tries a load under variants of the policy, in virtual time, and compares them in a table";
@@ -161,7 +161,7 @@ const DRAWS: &str = "draws the report, as SVG";
 
 /// A command of the program.
 #[derive(Clone, Copy)]
-enum Subcommand {
+pub(crate) enum Subcommand {
     Replay,
     Explain,
     Draw,
@@ -183,7 +183,7 @@ pub(super) fn parser_for<'a>(alloc: Global, word: &str) -> Result<Parser<'a>, Al
 }
 
 /// The command of this name, if there is one.
-fn command_named(word: &str) -> Option<Subcommand>
+pub(crate) fn command_named(word: &str) -> Option<Subcommand>
     ensures { option_map parser_of result ≡ named word.now }
 {
     if word == "replay" {

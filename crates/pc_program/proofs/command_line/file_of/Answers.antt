@@ -1,8 +1,7 @@
-use Rattle.std.proofs.Common.{◌≡◌, ◌∙◌, ap, sym, subst, refl, Some, None, true, false, codes, rules, string_bytes, nat_eq, ℕ, List}
+use Rattle.std.proofs.Common.{◌≡◌, ◌∙◌, ap, sym, subst, refl, Some, None, true, false, codes, rules, string_bytes, nat_eq}
 use Rattle.std.proofs.lemmas.Bool.{false≢true}
 use Rattle.std.specs.Cmp.Lexicographic.{same_text, pointwise}
 use Rattle.clap.specs.Matches.{found_of, first_value}
-use Rattle.clap.specs.Walk.{first_of, rows_of}
 use Rattle.clap.proofs.WalkLemmas.{first_value-rows}
 use Rattle.pc_program.specs.CommandLine.{IsInput}
 use Rattle.pc_program.proofs.command_line.file_of.Goals as goal

@@ -1,13 +1,12 @@
-use Rattle.std.proofs.Common.{◌≡◌, ◌∙◌, false, subst, refl, Some, None, codes, rules}
-use Rattle.std.specs.Option.{IsSomeAnd}
+use Rattle.std.proofs.Common.{◌≡◌, ◌∙◌, ap, sym, false, subst, refl, Some, None, codes, rules, string_bytes}
 use Rattle.clap.specs.Matches.{found_of, first_value}
 use Rattle.clap.proofs.WalkLemmas.{first_value-rows}
 use Rattle.pc_program.specs.CommandLine.{IsPolicy, NamesNone}
 use Rattle.pc_policy.specs.declared.named.OrderName.TheVariants.{Levels}
 use Rattle.pc_program.proofs.command_line.policy_of.Goals as goal
 
-pub returns-in-None-clause-named : goal.returns-in-None-clause-named
-returns-in-None-clause-named c =
+pub returns-in_default-clause-named : goal.returns-in_default-clause-named
+returns-in_default-clause-named c =
     let given : None ≡ first_value (found_of c.args.matches.now) (codes "policy") = search rules in
     subst (λ word. IsPolicy word (record { order = Levels; exact = false })) (given ∙ first_value-rows (found_of c.args.matches.now) (codes "policy")) refl
 
@@ -17,7 +16,9 @@ returns-in-Some-policy_named-clause-named c =
     let given : Some c.in-Some.word.now ≡ first_value (found_of c.args.matches.now) (codes "policy") = search rules in
     subst (λ word. IsPolicy word policy) (given ∙ first_value-rows (found_of c.args.matches.now) (codes "policy")) c.in-Some-policy_named.ensures
 
-pub returns-in-None-policy_named-clause-refused : goal.returns-in-None-policy_named-clause-refused
-returns-in-None-policy_named-clause-refused c =
+pub returns-in_ok-word-in-None-clause-wrong : goal.returns-in_ok-word-in-None-clause-wrong
+returns-in_ok-word-in-None-clause-wrong c =
+    let copied : string_bytes c.in_ok-word-in-None.word ≡ c.in-Some.word.now = search rules in
     let given : Some c.in-Some.word.now ≡ first_value (found_of c.args.matches.now) (codes "policy") = search rules in
-    (refl, subst (λ word. IsSomeAnd word NamesNone) (given ∙ first_value-rows (found_of c.args.matches.now) (codes "policy")) c.in-None-policy_named.ensures)
+    let none : NamesNone c.in-Some.word.now = c.in-None.ensures in
+    (refl, sym (given ∙ first_value-rows (found_of c.args.matches.now) (codes "policy")) ∙ ap Some (sym copied), subst NamesNone (sym copied) none)

@@ -1,13 +1,11 @@
-use Rattle.std.proofs.Common.{◌≡◌, ◌∙◌, sym, subst, map, Result, Ok, Err, IfOk, IfErr, List, [], inl, inr, ◌⊎◌, rules, refl}
+use Rattle.std.proofs.Common.{◌≡◌, ◌∙◌, sym, subst, map, Result, Ok, Err, IfOk, IfErr, List, [], inl, inr, rules}
 use Rattle.clap.specs.Simple.{app_of, subcommand_of, subcommand_rows_of}
 use Rattle.clap.specs.Kinds.{IsAmong}
 use Rattle.clap.specs.Values.{kind_of}
 use Rattle.clap.specs.Walk.{Text}
 use Rattle.clap.specs.Faults.{fault_of}
-use Rattle.pc_program.specs.CommandLine.{AreNoSeeds, IsAsked, IsCommandMet, IsNoPart, IsNoPolicy, IsRefusal, pc_sim}
+use Rattle.pc_program.specs.CommandLine.{IsAsked, IsCommandMet, IsRefusal, IsWrongIn, pc_sim}
 use Rattle.pc_program.specs.Inner.FirstWord.{first_word, program_for}
-use Rattle.pc_program.specs.declared.command_line.CommandFault.{CommandFault}
-use Rattle.pc_program.specs.declared.command_line.CommandFault.TheVariants.{BadNumbers, BadPolicy, BadRuns, OutOfMemory}
 use Rattle.clap.specs.declared.error.kind.ErrorKind.TheVariants as kind
 use Rattle.pc_program.proofs.Commands.{command_met}
 use Rattle.pc_program.proofs.FirstWord.{is_free, is_plain, same_command, same_faults}
@@ -16,14 +14,6 @@ use Rattle.pc_program.proofs.command_line.read_command.Goals as goal
 whatever : {A E P : Type 0} (r : Result A E) → P → IfOk r (λ _. P)
 whatever (Ok a) p = p
 whatever (Err e) p = search rules
-
--- a fault of words that the parser takes
-taken : {A : Type 0} (r : Result A CommandFault) → IfErr r (λ fault. (fault ≡ OutOfMemory) ⊎ (fault ≡ BadNumbers) ⊎ (fault ≡ BadPolicy) ⊎ (fault ≡ BadRuns)) → IfErr r (IsRefusal [])
-taken (Ok a) h = tt
-taken (Err e) (inl memory) = subst (IsRefusal []) (sym memory) tt
-taken (Err e) (inr (inl numbers)) = subst (IsRefusal []) (sym numbers) refl
-taken (Err e) (inr (inr (inl policy))) = subst (IsRefusal []) (sym policy) refl
-taken (Err e) (inr (inr (inr runs))) = subst (IsRefusal []) (sym runs) refl
 
 pub returns-in-Ok-clause-taken : goal.returns-in-Ok-clause-taken
 returns-in-Ok-clause-taken g c =
@@ -37,7 +27,7 @@ returns-in-Ok-clause-refused g c =
     let words : List Text = map g.S.AsStr.text c.args.words.now in
     let app : app_of c.in_ok-parser.parser ≡ program_for (first_word words) = search rules in
     let none : fault_of pc_sim words ≡ [] = sym (same_faults _ words app) ∙ c.in-Ok.ensures.kinds (is_free _ words app) in
-    subst (λ kinds. IfErr c.command_of.result (IsRefusal kinds)) (sym none) (taken c.command_of.result c.command_of.ensures.fault)
+    subst (λ kinds. IfErr c.command_of.result (IsRefusal kinds)) (sym none) c.command_of.ensures.own
 
 pub returns-in-Ok-clause-asked : goal.returns-in-Ok-clause-asked
 returns-in-Ok-clause-asked g c =
@@ -46,26 +36,12 @@ returns-in-Ok-clause-asked g c =
     let met : subcommand_rows_of c.in-Ok.matches ≡ subcommand_of pc_sim words = (c.in-Ok.ensures.matches (is_plain _ words app)).1 ∙ same_command _ words app in
     subst (λ rows. IfOk c.command_of.result (IsAsked rows)) met c.command_of.ensures.asked
 
-pub returns-in-Ok-clause-numbers : goal.returns-in-Ok-clause-numbers
-returns-in-Ok-clause-numbers g c =
+pub returns-in-Ok-clause-wrong : goal.returns-in-Ok-clause-wrong
+returns-in-Ok-clause-wrong g c =
     let words : List Text = map g.S.AsStr.text c.args.words.now in
     let app : app_of c.in_ok-parser.parser ≡ program_for (first_word words) = search rules in
     let met : subcommand_rows_of c.in-Ok.matches ≡ subcommand_of pc_sim words = (c.in-Ok.ensures.matches (is_plain _ words app)).1 ∙ same_command _ words app in
-    λ bad. subst IsNoPart met (c.command_of.ensures.numbers bad)
-
-pub returns-in-Ok-clause-policy : goal.returns-in-Ok-clause-policy
-returns-in-Ok-clause-policy g c =
-    let words : List Text = map g.S.AsStr.text c.args.words.now in
-    let app : app_of c.in_ok-parser.parser ≡ program_for (first_word words) = search rules in
-    let met : subcommand_rows_of c.in-Ok.matches ≡ subcommand_of pc_sim words = (c.in-Ok.ensures.matches (is_plain _ words app)).1 ∙ same_command _ words app in
-    λ bad. subst IsNoPolicy met (c.command_of.ensures.policy bad)
-
-pub returns-in-Ok-clause-runs : goal.returns-in-Ok-clause-runs
-returns-in-Ok-clause-runs g c =
-    let words : List Text = map g.S.AsStr.text c.args.words.now in
-    let app : app_of c.in_ok-parser.parser ≡ program_for (first_word words) = search rules in
-    let met : subcommand_rows_of c.in-Ok.matches ≡ subcommand_of pc_sim words = (c.in-Ok.ensures.matches (is_plain _ words app)).1 ∙ same_command _ words app in
-    λ bad. subst AreNoSeeds met (c.command_of.ensures.runs bad)
+    subst (λ rows. IfErr c.command_of.result (IsWrongIn rows)) met c.command_of.ensures.wrong
 
 pub returns-in-Err-2-clause-refused : goal.returns-in-Err-2-clause-refused
 returns-in-Err-2-clause-refused g c =

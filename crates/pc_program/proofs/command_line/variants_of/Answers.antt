@@ -2,7 +2,6 @@ use Rattle.std.proofs.Common.{◌≡◌, ◌∙◌, ap, sym, subst, refl, Some, 
 use Rattle.std.proofs.lemmas.Bool.{false≢true}
 use Rattle.std.specs.Cmp.Lexicographic.{same_text, pointwise}
 use Rattle.clap.specs.Matches.{found_of, first_value}
-use Rattle.clap.specs.Walk.{first_of, rows_of}
 use Rattle.clap.proofs.WalkLemmas.{first_value-rows}
 use Rattle.pc_program.specs.CommandLine.{IsFrom}
 use Rattle.pc_program.specs.declared.command_line.VariantsFrom.TheVariants as from

@@ -1,9 +1,9 @@
 use Rattle.std.proofs.Common.{subst}
 use Rattle.std.proofs.KnownBytes.{Keeps-refl}
 use Rattle.toml.specs.Parse.{parse_document}
-use Rattle.pc_seeds.specs.Ending.{IfReported, IfStalledBookTells}
+use Rattle.pc_seeds.specs.Ending.{IfReported}
 use Rattle.pc_threads.specs.Reports.{AddsUp, TellsItsBook}
-use Rattle.pc_program.specs.Runs.{DoesWhatIsSpelled}
+use Rattle.pc_program.specs.Runs.{DoesWhatIsSpelled, IfStalledLeads}
 use Rattle.pc_program.proofs.Scripting.{both_of_run, stall_of_run}
 use Rattle.pc_program.proofs.scripted.run_both.Goals as goal
 
@@ -18,6 +18,7 @@ returns-in-Ok-Reported g c =
 pub returns-in-Ok-Stalled : goal.returns-in-Ok-Stalled
 returns-in-Ok-Stalled g c =
     let ran = c.in-Ok-Stalled.ensures in
-    let held = subst IfStalledBookTells c.in-Ok-Stalled.field-0-is ran.stalled in
-    stall_of_run (parse_document c.args.text.now) c.args.form c.in-Ok-Stalled.stall _ _ _ _ c.write_stalled.result ran.spelled
-    (c.write_stalled.ensures held) (Keeps-refl _)
+    let text = parse_document c.args.text.now in
+    let leads = subst (IfStalledLeads text) c.in-Ok-Stalled.field-0-is ran.stalled in
+    stall_of_run text c.args.form c.in-Ok-Stalled.stall c.in-Ok-Stalled.book _ _ _ _ c.write_stalled.result leads
+    (c.write_stalled.ensures text leads) (Keeps-refl _)

@@ -1,5 +1,4 @@
 use Rattle.toml.specs.Parse.{parse_document}
-use Rattle.std.specs.Io.Buffered.{writer_contents}
 use Rattle.pc_program.proofs.Scripting.{scripted_kept}
 use Rattle.pc_program.proofs.scripted.run_scripted.Goals as goal
 

@@ -1,5 +1,5 @@
 use Rattle.std.specs.Io.Buffered.{writer_contents}
-use Rattle.std.proofs.Common.{true, false}
+use Rattle.std.proofs.Common.{false}
 use Rattle.pc_program.specs.Talks.{plain_by}
 use Rattle.pc_program.proofs.Talking.{talked}
 use Rattle.pc_program.proofs.talk.plain_talk.Goals as goal

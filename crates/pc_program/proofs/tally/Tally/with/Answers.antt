@@ -1,4 +1,4 @@
-use Rattle.std.proofs.Common.{◌≡◌, ◌+◌, ◌++◌, ◌∷◌, [], ap, subst, sym}
+use Rattle.std.proofs.Common.{◌+◌, ◌++◌, ◌∷◌, [], ap, subst, sym}
 use Rattle.pc_program.specs.Tallies.{IsTallyOf}
 use Rattle.pc_program.specs.declared.tally.Tally.{Tally}
 use Rattle.pc_program.proofs.Tallying.{reported_more, unreported_more}

@@ -1,0 +1,79 @@
+//! What is said of a command line that is none: which word it is, what was wanted, and whose help tells more.
+
+ghost use Rattle.std.specs.Prelude.{◌≡◌};
+
+use crate::command_line::{CommandFault, command_named, first_word};
+use pc_pen::Escaped;
+use std::alloc::Global;
+use std::convert::AsStr;
+use std::fmt::{self, Display, Formatter};
+use std::io::{self, Write};
+
+/// How the parser's text of a mistake begins.
+const MISTAKE: &str = "error: ";
+
+/// What stands in front of the usage, which each such text tells behind it.
+const USAGE: &str = "\n\nUsage: ";
+
+/// The same where it tells no usage.
+const MORE: &str = "\n\nFor more information";
+
+/// A tip to take an option for a name of a file, which it hardly ever is.
+const AS_A_NAME: &str = "tip: to pass ";
+
+/// What stands between the parts of what is told.
+const BREAK: &str = "\n  ";
+
+/// What a text has before the last place of another, or all of it.
+fn before_last<'a>(text: &'a str, end: &str) -> &'a str {
+    match text.rsplit_once(end) {
+        Some((before, _)) => before,
+        None => text,
+    }
+}
+
+/// What the parser says of a mistake, on one line, up to what it says of each.
+#[derive(Clone, Copy)]
+struct Mistake<'a>(&'a str);
+
+impl Display for Mistake<'_> {
+    fn fmt<W: fmt::Write>(&self, f: &mut Formatter<W>) -> fmt::Result {
+        let told = before_last(before_last(self.0, MORE), USAGE);
+        let told = told.strip_prefix(MISTAKE).unwrap_or(told);
+        for part in told.split(BREAK) {
+            let part = part.trim();
+            if !part.starts_with(AS_A_NAME) {
+                let shown = Escaped(part.as_bytes());
+                write!(f, "{shown}; ")?;
+            }
+        }
+        Ok(())
+    }
+}
+
+/// Writes on one line what is wrong with words that are no command, since of this fault: which word it is, what was
+/// wanted, what is near to it, and whose help tells more. Nothing is written of want of memory.
+pub fn write_command_trouble<S: AsStr, W: Write>(
+    alloc: Global,
+    words: &[S],
+    fault: &CommandFault,
+    writer: &mut W,
+) -> io::Result<()>
+    ensures memory { fault.now ≡ CommandFault.OutOfMemory → writer.new ≡ writer.old }
+{
+    match fault {
+        CommandFault::OutOfMemory => return Ok(()),
+        CommandFault::Clap(error) => {
+            let mut text = String::new(alloc);
+            write!(text, "{error}")?;
+            let mistake = Mistake(text.as_str());
+            write!(writer, "pc-sim: {mistake}")?;
+        }
+        _ => write!(writer, "pc-sim: {fault}; ")?,
+    }
+    let word = first_word(words);
+    match command_named(word) {
+        Some(_) => writeln!(writer, "pc-sim {word} --help tells more"),
+        None => writeln!(writer, "pc-sim --help tells more"),
+    }
+}
