@@ -4,9 +4,8 @@ use crate::end;
 use crate::met::{Met, Source};
 use crate::streams::{Noted, Opening, screen_of};
 use pc_program::{Ending, Failure, VariantsFrom};
-use pc_settings::LoadTextFault;
 use pc_trial::{LabEnding, LabOutput, MOST_LOAD, Progress, Unread, try_load, try_variants};
-use std::io::{self, BufWriter};
+use std::io::{self, BufWriter, Write};
 use std::process::ExitCode;
 
 /// What is met where a text cannot be read for this reason, and the system said that.
@@ -19,23 +18,19 @@ fn unread(why: Unread, said: Option<io::Error>) -> Met {
     Met::of(Ending::CannotRead(failure), said)
 }
 
-/// Says where the key stands that is not known, and which one is nearest.
-fn say_where(rt: &HostRuntime, fault: LoadTextFault) {
-    if let LoadTextFault::UnknownKey(unknown) = fault {
-        // Nothing can be said of an error on standard error itself.
-        let _ = eprintln!(rt; "pc-sim: {unknown}");
-    }
-}
-
-/// Says how the lab ended that read no text anew and wrote nothing anew, and answers its exit status.
-fn said(rt: &HostRuntime, ending: LabEnding) -> ExitCode {
+/// Says how the lab ended that wrote nothing anew, and behind that what is wrong with a text, of which it tells where
+/// it comes from if there are two; and answers its exit status.
+fn said(rt: &HostRuntime, ending: LabEnding, from: Option<&Source>, trouble: &Vec<u8>) -> ExitCode {
     if ending != LabEnding::Finished {
         // Nothing can be said of an error on standard error itself.
         let _ = eprintln!(rt; "pc-sim: {ending}");
     }
-    match ending {
-        LabEnding::BadLoad(fault) | LabEnding::BadVariants(fault) => say_where(rt, fault),
-        _ => {}
+    if !trouble.is_empty() {
+        let _ = match from {
+            Some(from) => eprint!(rt; "pc-sim: {from}: "),
+            None => eprint!(rt; "pc-sim: "),
+        };
+        let _ = rt.stderr().write_all(trouble.as_slice());
     }
     ExitCode::from(ending.status())
 }
@@ -64,21 +59,39 @@ fn refuse_one_text(rt: &HostRuntime, source: &Source) -> ExitCode {
     status
 }
 
-/// Says how the lab ended whose load comes from there, where the system said that of the load and of what was written,
-/// and answers its exit status.
+/// A text of the lab, and what the system said of it.
+#[derive(Clone, Copy)]
+struct Given<'a> {
+    source: &'a Source,
+    said: Option<io::Error>,
+}
+
+/// Says how the lab ended of these texts, where the system said that of what was written, and answers its exit status.
 fn end_lab(
     rt: &HostRuntime,
     ending: LabEnding,
-    source: &Source,
-    load: Option<io::Error>,
+    load: Given<'_>,
+    others: Option<Given<'_>>,
     written: Option<io::Error>,
+    trouble: &Vec<u8>,
 ) -> ExitCode {
-    let met = match ending {
-        LabEnding::LoadUnread(why) => unread(why, load),
-        LabEnding::Unwritten => Met::of(Ending::CannotRead(Failure::Write), written),
-        ending => return said(rt, ending),
-    };
-    end(rt, &met, source, MOST_LOAD)
+    match (ending, others) {
+        (LabEnding::LoadUnread(why), _) => {
+            end(rt, &unread(why, load.said), load.source, MOST_LOAD)
+        }
+        (LabEnding::VariantsUnread(why), Some(others)) => {
+            end(rt, &unread(why, others.said), others.source, MOST_LOAD)
+        }
+        (LabEnding::Unwritten, _) => {
+            let met = Met::of(Ending::CannotRead(Failure::Write), written);
+            end(rt, &met, load.source, MOST_LOAD)
+        }
+        (LabEnding::BadLoad(_), Some(_)) => said(rt, ending, Some(load.source), trouble),
+        (LabEnding::BadVariants(_), Some(others)) => {
+            said(rt, ending, Some(others.source), trouble)
+        }
+        (ending, _) => said(rt, ending, None, trouble),
+    }
 }
 
 /// Tries the load of the file, or else of the standard input, and says how that ended. It stands apart, so that no
@@ -94,26 +107,76 @@ pub(crate) fn try_on_machine(
     if are_one_text(&source, &variants) {
         return refuse_one_text(rt, &source);
     }
-    let mut load = Noted::new(Opening::new(rt, &source));
-    let mut progress = Progress::new(screen_of(rt));
+    let mut trouble = Vec::new(rt.alloc());
     let Ok(mut writer) = BufWriter::new(rt.alloc(), Noted::new(rt.stdout())) else {
-        return said(rt, LabEnding::OutOfMemory);
+        return said(rt, LabEnding::OutOfMemory, None, &trouble);
     };
-    let Some(others) = others_of(variants) else {
-        let ending = try_load(rt.alloc(), &mut load, wanted, &mut progress, &mut writer);
-        return end_lab(rt, ending, &source, load.fault(), writer.get_ref().fault());
+    match others_of(variants) {
+        Some(others) => try_both(rt, &source, &others, wanted, &mut trouble, &mut writer),
+        None => try_one(rt, &source, wanted, &mut trouble, &mut writer),
+    }
+}
+
+/// Tries a load under the variants of its own text.
+fn try_one<W: Write + Drop>(
+    rt: &HostRuntime,
+    source: &Source,
+    wanted: &LabOutput,
+    trouble: &mut Vec<u8>,
+    writer: &mut BufWriter<Noted<W>>,
+) -> ExitCode {
+    let mut load = Noted::new(Opening::new(rt, source));
+    let mut progress = Progress::new(screen_of(rt));
+    let ending = try_load(
+        rt.alloc(),
+        &mut load,
+        wanted,
+        &mut progress,
+        trouble,
+        writer,
+    );
+    let given = Given {
+        source,
+        said: load.fault(),
     };
-    let mut other = Noted::new(Opening::new(rt, &others));
+    end_lab(rt, ending, given, None, writer.get_ref().fault(), trouble)
+}
+
+/// Tries a load under the variants of another text.
+fn try_both<W: Write + Drop>(
+    rt: &HostRuntime,
+    source: &Source,
+    others: &Source,
+    wanted: &LabOutput,
+    trouble: &mut Vec<u8>,
+    writer: &mut BufWriter<Noted<W>>,
+) -> ExitCode {
+    let mut load = Noted::new(Opening::new(rt, source));
+    let mut variants = Noted::new(Opening::new(rt, others));
+    let mut progress = Progress::new(screen_of(rt));
     let ending = try_variants(
         rt.alloc(),
         &mut load,
-        &mut other,
+        &mut variants,
         wanted,
         &mut progress,
-        &mut writer,
+        trouble,
+        writer,
     );
-    if let LabEnding::VariantsUnread(why) = ending {
-        return end(rt, &unread(why, other.fault()), &others, MOST_LOAD);
-    }
-    end_lab(rt, ending, &source, load.fault(), writer.get_ref().fault())
+    let given = Given {
+        source,
+        said: load.fault(),
+    };
+    let other = Given {
+        source: others,
+        said: variants.fault(),
+    };
+    end_lab(
+        rt,
+        ending,
+        given,
+        Some(other),
+        writer.get_ref().fault(),
+        trouble,
+    )
 }

@@ -5,24 +5,29 @@
 
 mod lab;
 mod met;
+mod quitting;
 mod run;
 mod streams;
 mod tally;
 mod words;
 
 use lab::try_on_machine;
-use met::{Met, Source, say_failure};
+use met::{Met, Source, say_failure, say_missing};
 use pc_program::{
     AgentPolicy, CommandFault, Ending, Failure, Manual, ProgramCommand, Scheduling, ScriptForm,
-    converse_flushed, make_flushed, read_command, replay_flushed,
+    converse_flushed, make_flushed, read_command, replay_flushed, write_command_trouble,
 };
 use pc_script::MOST_BYTES;
 use pc_trial::LabOutput;
+use quitting::Quitting;
 use run::run_on_machine;
 use std::alloc::Global;
 use std::fs::File;
 use std::io::{BufWriter, IsTerminal, Read, Write};
 use std::process::ExitCode;
+use std::sync::Wait;
+use std::thread::Threads;
+use std::time::Clock;
 use streams::{Noted, fill_closed};
 use tally::tally_on_machine;
 use words::words_of;
@@ -68,26 +73,39 @@ fn make_of<R: Read + Drop>(rt: &HostRuntime, form: ScriptForm, reader: R) -> Met
     }
 }
 
-/// What the command line asks for.
-fn command_of(rt: &HostRuntime) -> Result<ProgramCommand, Met> {
-    let words = match words_of(rt) {
-        Ok(words) => words,
-        Err(error) => return Err(Met::unworded(error)),
-    };
-    match read_command(rt.alloc(), words.as_slice()) {
-        Ok(command) => Ok(command),
-        Err(CommandFault::OutOfMemory) => Err(Met::ended(Ending::OutOfMemory)),
-        Err(CommandFault::BadNumbers | CommandFault::BadPolicy | CommandFault::BadRuns) => {
-            Err(Met::ended(Ending::BadCommandLine))
-        }
-        Err(CommandFault::Clap(error)) if error.use_stderr() => {
-            Err(Met::ended(Ending::BadCommandLine))
-        }
-        Err(CommandFault::Clap(help)) => match help.print(rt) {
-            Ok(()) => Err(Met::ended(Ending::Finished)),
-            Err(error) => Err(Met::unwritten(error)),
-        },
+/// Says how the program ends that read no text.
+fn end_untold(rt: &HostRuntime, met: &Met) -> ExitCode {
+    end(rt, met, &Source(None), MOST_BYTES)
+}
+
+/// Prints the help of the program on standard error.
+fn say_help(rt: &HostRuntime) {
+    if let Err(CommandFault::Clap(help)) = read_command(rt.alloc(), &["pc-sim", "--help"]) {
+        // Nothing can be said of an error on standard error itself.
+        let _ = eprint!(rt; "{help}");
     }
+}
+
+/// Says what is wrong with the words of the command line, or prints the help or the version that they ask for.
+fn refuse(rt: &HostRuntime, words: &[String], fault: CommandFault) -> ExitCode {
+    match &fault {
+        CommandFault::OutOfMemory => return end_untold(rt, &Met::ended(Ending::OutOfMemory)),
+        CommandFault::Clap(help) if !help.use_stderr() => {
+            return match help.print(rt) {
+                Ok(()) => end_untold(rt, &Met::ended(Ending::Finished)),
+                Err(error) => end_untold(rt, &Met::unwritten(error)),
+            };
+        }
+        _ => {}
+    }
+    let status = end_untold(rt, &Met::ended(Ending::BadCommandLine));
+    if words.len() > 1 {
+        // Nothing can be said of an error on standard error itself.
+        let _ = write_command_trouble(rt.alloc(), words, &fault, &mut rt.stderr());
+    } else {
+        say_help(rt);
+    }
+    status
 }
 
 /// Makes what is asked for of the text of the file, or else of the standard input, and says how that ended.
@@ -113,7 +131,8 @@ fn talk_buffered<R: Read + Drop, W: Write + Drop>(
         return Met::ended(Ending::OutOfMemory);
     };
     let mut manual = Manual::new(rt.stderr());
-    let ending = converse_flushed(rt.alloc(), explains, &mut reader, &mut manual, &mut writer);
+    let mut lines = Quitting::new(&mut reader);
+    let ending = converse_flushed(rt.alloc(), explains, &mut lines, &mut manual, &mut writer);
     met_of(ending, &reader, writer.get_ref())
 }
 
@@ -143,16 +162,23 @@ fn talk(rt: &HostRuntime, explains: bool, file: Option<String>) -> ExitCode {
     end(rt, &met, &source, MOST_BYTES)
 }
 
-/// Says on standard error how the program ends. It stands apart, so that of a script that ends well none of it is read
-/// in.
+/// Says on standard error how the program ends, unless whoever read its output has gone. It stands apart, so that of a
+/// script that ends well none of it is read in.
 #[inline(never)]
 fn say_end(rt: &HostRuntime, met: &Met, source: &Source, most: usize) {
+    if met.is_unheard() {
+        return;
+    }
     if let Some(message) = met.ending.message() {
         // Nothing can be said of an error on standard error itself.
         let _ = eprintln!(rt; "{message}");
     }
     match met.ending {
         Ending::CannotRead(failure) => say_failure(rt, failure, met, source, most),
+        Ending::DrawnToFault(line) => {
+            let _ = eprintln!(rt; "pc-sim: line {line} of {source} is no command");
+        }
+        Ending::NothingToDraw(missing) => say_missing(rt, missing),
         Ending::BadCommandLine if met.said.0.is_some() => {
             let _ = eprintln!(rt; "pc-sim: a word of it is no UTF-8");
         }
@@ -173,12 +199,25 @@ pub(crate) fn end(rt: &HostRuntime, met: &Met, source: &Source, most: usize) -> 
 fn make_script(rt: &HostRuntime, form: ScriptForm, file: Option<String>) -> ExitCode {
     let source = Source(file);
     let met = make_of_file(rt, form, &source);
+    if let (ScriptForm::Replies, Ending::FaultLine) = (form, met.ending) {
+        say_who_explains(rt, &source);
+    }
     end(rt, &met, &source, MOST_BYTES)
 }
 
+/// Says at a terminal what tells why a line is no command.
+fn say_who_explains(rt: &HostRuntime, source: &Source) {
+    if rt.stderr().is_terminal() {
+        // Nothing can be said of an error on standard error itself.
+        let _ = match &source.0 {
+            Some(name) => eprintln!(rt; "pc-sim: pc-sim explain {name:?} tells why"),
+            None => eprintln!(rt; "pc-sim: pc-sim explain tells why"),
+        };
+    }
+}
+
 /// What a session says first at a terminal.
-const GREETING: &str =
-    "pc-sim: each command is answered as it comes; ? lists them, and pc-sim explain explains a script";
+const GREETING: &str = "pc-sim: each command is answered as it comes; ? lists them, and quit ends";
 
 /// The size in bytes of a block that is large.
 const LARGE: usize = 1 << 18;
@@ -190,55 +229,62 @@ fn settle_heap(alloc: Global) {
     let _ = Vec::<u8>::with_capacity(alloc, LARGE);
 }
 
-fn main(rt: HostRuntime) -> ExitCode {
-    fill_closed(&rt);
-    settle_heap(rt.alloc());
-    match command_of(&rt) {
-        Ok(ProgramCommand::Replay { file }) => make_script(&rt, ScriptForm::Replies, file),
-        Ok(ProgramCommand::Explain { file }) => make_script(&rt, ScriptForm::Explained, file),
-        Ok(ProgramCommand::Draw { file, part, axis }) => make_script(
-            &rt,
+/// Does what the command asks for. Threads come of a handle of their own: `rt` lends none outside `main`.
+fn do_command<R: Threads + Wait + Clock + Sync>(
+    rt: &HostRuntime,
+    threads: &R,
+    command: ProgramCommand,
+) -> ExitCode {
+    match command {
+        ProgramCommand::Replay { file } => make_script(rt, ScriptForm::Replies, file),
+        ProgramCommand::Explain { file } => make_script(rt, ScriptForm::Explained, file),
+        ProgramCommand::Draw { file, part, axis } => make_script(
+            rt,
             ScriptForm::Picture(part, axis),
             file,
         ),
-        Ok(ProgramCommand::Session { file, explains }) => talk(&rt, explains, file),
-        Ok(
-            ProgramCommand::Lab {
-                file,
-                variants,
-                per_cpu,
-                csv,
-                picture,
-                script,
-            },
-        ) => try_on_machine(
-            &rt,
+        ProgramCommand::Session { file, explains } => talk(rt, explains, file),
+        ProgramCommand::Lab {
             file,
             variants,
-            &LabOutput::of(per_cpu, csv, picture, script),
-        ),
-        Ok(
-            ProgramCommand::Run {
-                file,
-                form,
-                limit,
-                policy,
-                script,
-                seed,
-            },
-        ) => {
+            per_cpu,
+            csv,
+            picture,
+            script,
+        } => {
+            let wanted = LabOutput::of(per_cpu, csv, picture, script);
+            try_on_machine(rt, file, variants, &wanted)
+        }
+        ProgramCommand::Run {
+            file,
+            form,
+            limit,
+            policy,
+            script,
+            seed,
+        } => {
             let policy = AgentPolicy::named(policy);
             let scheduling = Scheduling { policy, seed };
-            run_on_machine(&rt, &rt, file, form, limit, scheduling, script)
+            run_on_machine(rt, threads, file, form, limit, scheduling, script)
         }
-        Ok(
-            ProgramCommand::Tally {
-                file,
-                limit,
-                policy,
-                seeds,
-            },
-        ) => tally_on_machine(&rt, file, limit, &AgentPolicy::named(policy), seeds),
-        Err(met) => end(&rt, &met, &Source(None), MOST_BYTES),
+        ProgramCommand::Tally {
+            file,
+            limit,
+            policy,
+            seeds,
+        } => tally_on_machine(rt, file, limit, &AgentPolicy::named(policy), seeds),
+    }
+}
+
+fn main(rt: HostRuntime) -> ExitCode {
+    fill_closed(&rt);
+    settle_heap(rt.alloc());
+    let words = match words_of(&rt) {
+        Ok(words) => words,
+        Err(error) => return end_untold(&rt, &Met::unworded(error)),
+    };
+    match read_command(rt.alloc(), words.as_slice()) {
+        Ok(command) => do_command(&rt, &rt, command),
+        Err(fault) => refuse(&rt, words.as_slice(), fault),
     }
 }

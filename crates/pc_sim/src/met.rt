@@ -1,6 +1,6 @@
 //! What the program met, and what it says of it beside the line that names it.
 
-use pc_program::{Ending, Failure};
+use pc_program::{Ending, Failure, Interval, Missing};
 use std::fmt::{self, Display, Formatter, Write};
 use std::io::{self, ErrorKind};
 
@@ -32,6 +32,49 @@ impl Display for Said {
             None => f.write_str("it failed"),
         }
     }
+}
+
+/// Numbers, as the words of the command line have them.
+#[derive(Clone, Copy)]
+struct Numbers(Interval);
+
+/// What a script has where it has nothing of what is asked for.
+#[derive(Clone, Copy)]
+struct There(Missing);
+
+impl Display for Numbers {
+    fn fmt<W: Write>(&self, f: &mut Formatter<W>) -> fmt::Result {
+        let Interval { first, last } = self.0;
+        if first == last {
+            write!(f, "{first}")
+        } else {
+            write!(f, "{first}-{last}")
+        }
+    }
+}
+
+impl Display for There {
+    fn fmt<W: Write>(&self, f: &mut Formatter<W>) -> fmt::Result {
+        match self.0 {
+            Missing::Cpus { count: 0, .. } => f.write_str("no CPUs"),
+            Missing::Cpus { count: 1, .. } => f.write_str("CPU 0 alone"),
+            Missing::Cpus { count, .. } => write!(f, "CPUs 0 to {}", count.saturating_sub(1)),
+            Missing::Lines { count: 0, .. } => f.write_str("no lines"),
+            Missing::Lines { count: 1, .. } => f.write_str("1 line"),
+            Missing::Lines { count, .. } => write!(f, "{count} lines"),
+        }
+    }
+}
+
+/// Says on standard error what the script has where it has nothing of what is asked for.
+pub(crate) fn say_missing(rt: &HostRuntime, missing: Missing) {
+    let (flag, asked) = match missing {
+        Missing::Cpus { asked, .. } => ("--cpus", Numbers(asked)),
+        Missing::Lines { asked, .. } => ("--lines", Numbers(asked)),
+    };
+    let there = There(missing);
+    // Nothing can be said of an error on standard error itself.
+    let _ = eprintln!(rt; "pc-sim: {flag} {asked}: the script has {there}");
 }
 
 /// Tells the file of this name, or else the stream.
@@ -95,6 +138,16 @@ impl Met {
             return Met::ended(Ending::OutOfMemory);
         }
         Met::of(Ending::BadCommandLine, Some(error))
+    }
+
+    /// Whether nothing reads any more what goes to the standard output.
+    pub(crate) fn is_unheard(&self) -> bool {
+        match (self.ending, self.said.0, &self.sink.0) {
+            (Ending::CannotRead(Failure::Write), Some(error), None) => {
+                error.kind() == ErrorKind::BrokenPipe
+            }
+            _ => false,
+        }
     }
 
     /// What was asked for could not be written, since of this.

@@ -153,6 +153,9 @@ pub(crate) fn say_seed(rt: &HostRuntime, why: Unsettled, seed: u64) {
                 "pc-sim: t{thread} waits for CPU {cpu}, and {deed}; --seed {seed} has it again"
             )
         }
+        Unsettled::GaveUp => {
+            eprintln!(rt; "pc-sim: it was not done in time; --seed {seed} has the same run")
+        }
         _ => eprintln!(rt; "pc-sim: --seed {seed} has it again"),
     };
 }

@@ -8,6 +8,9 @@ use std::env::{Env, FillError};
 use std::io::{self, ErrorKind};
 use std::str;
 
+/// The word in front that asks for help.
+const HELP: &str = "help";
+
 /// Few command lines have more words.
 const USUAL_WORDS: usize = 16;
 
@@ -51,6 +54,17 @@ fn word_at(rt: &HostRuntime, place: usize) -> io::Result<Option<String>> {
     }
 }
 
+/// `help` in front asks for the help of the command behind it, as `--help` does behind that.
+fn put_help_behind(alloc: Global, words: &mut Vec<String>) -> io::Result<()> {
+    if words.len() > 1 && words[1].as_str() == HELP {
+        words[1] = String::from_str(alloc, "--help")?;
+        if words.len() > 2 && words[2].as_str() != HELP {
+            words.swap(1, 2);
+        }
+    }
+    Ok(())
+}
+
 /// The words of the command line, with the program's own name in front in place of its file's.
 pub(crate) fn words_of(rt: &HostRuntime) -> io::Result<Vec<String>> {
     let mut words = Vec::with_capacity(rt.alloc(), USUAL_WORDS)?;
@@ -61,5 +75,6 @@ pub(crate) fn words_of(rt: &HostRuntime) -> io::Result<Vec<String>> {
             None => break,
         }
     }
+    put_help_behind(rt.alloc(), &mut words)?;
     Ok(words)
 }
