@@ -311,15 +311,20 @@ impl Write for Flushes {
     }
 }
 
-/// Counts how often help is asked for.
+/// Counts how often help is asked for, and how often a first fault is told.
 #[derive(Drop)]
 struct Counts {
     asked: u32,
+    faults: u32,
 }
 
 impl Helper for Counts {
     fn help(&mut self) {
         self.asked = self.asked.saturating_add(1);
+    }
+
+    fn first_fault(&mut self) {
+        self.faults = self.faults.saturating_add(1);
     }
 }
 
@@ -337,7 +342,10 @@ type Talk = (
 fn talks(alloc: Global, talk: &Talk) -> io::Result<bool> {
     let (text, size, fails, (had_fault, is_whole), asked, at) = *talk;
     let mut reader = Pieces { text, size, fails };
-    let mut helper = Counts { asked: 0 };
+    let mut helper = Counts {
+        asked: 0,
+        faults: 0,
+    };
     let sink = Flushes {
         count: 0,
         at: Vec::new(alloc),
@@ -348,7 +356,8 @@ fn talks(alloc: Global, talk: &Talk) -> io::Result<bool> {
         had_fault,
         is_whole,
     };
-    Ok(ended == Ok(wanted) && helper.asked == asked && writer.get_ref().at.as_slice() == at)
+    let is_helped = helper.asked == asked && helper.faults == u32::from(had_fault);
+    Ok(ended == Ok(wanted) && is_helped && writer.get_ref().at.as_slice() == at)
 }
 
 impl Row for Talk {
@@ -379,7 +388,7 @@ fn answers_are_flushed_before_each_read_and_at_no_other_time(rt: HostRuntime) {
         (b"walk\nwa", 5, true, (true, false), 0, &[0, 13, 13, 26]),
         (b"?", 4, false, (false, true), 1, &[0, 0, 0]),
         (
-            b"?\n?\r\n??\n? \n",
+            b"?\nhelp\r\n??\n? \n",
             99,
             false,
             (true, true),

@@ -11,6 +11,8 @@ struct Nobody;
 
 impl Helper for Nobody {
     fn help(&mut self) {}
+
+    fn first_fault(&mut self) {}
 }
 
 const SCRIPT: &[u8] = b"sleep 0 0\n";

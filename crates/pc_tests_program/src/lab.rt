@@ -27,6 +27,7 @@ fn tells(
     let mut load = LOAD.as_bytes();
     let mut others = VARIANTS.as_bytes();
     let mut nobody = Progress::<Stderr>::new(None);
+    let mut trouble = Vec::new(alloc);
     let mut writer = BufWriter::new(alloc, Vec::new(alloc))?;
     let ended = if with_variants {
         try_variants(
@@ -35,10 +36,18 @@ fn tells(
             &mut others,
             wanted,
             &mut nobody,
+            &mut trouble,
             &mut writer,
         )
     } else {
-        try_load(alloc, &mut load, wanted, &mut nobody, &mut writer)
+        try_load(
+            alloc,
+            &mut load,
+            wanted,
+            &mut nobody,
+            &mut trouble,
+            &mut writer,
+        )
     };
     let text = writer.get_ref().as_slice();
     Ok(ended == LabEnding::Finished && text.starts_with(front.as_bytes()))

@@ -1,9 +1,9 @@
 //! What no script of tests/cases can say: a script over memory, the words of a command line, and how the program ends.
 
 use pc_program::{
-    Axis, CommandFault, DrawnPart, Ending, Failure, Helper, Interval, ProgramCommand, ReportForm,
-    ScriptForm, Seeds, VariantsFrom, converse_flushed, make, read_command, replay_flushed,
-    run_script,
+    Axis, CommandFault, DrawnPart, Ending, Failure, Helper, Interval, Missing, ProgramCommand,
+    ReportForm, ScriptForm, Seeds, VariantsFrom, converse_flushed, make, read_command,
+    replay_flushed, run_script,
 };
 use pc_script::Outcome;
 use std::alloc::Global;
@@ -70,23 +70,59 @@ const ONE: DrawnPart = DrawnPart {
     lines: Some(Interval { first: 3, last: 3 }),
 };
 
-/// Whether this part of a script is drawn by this axis, to its end.
-fn is_drawn(alloc: Global, part: DrawnPart, axis: Axis) -> bool {
+/// What follows the last CPU and the last line of that script.
+const PAST: Interval = Interval { first: 5, last: 9 };
+
+/// How the drawing of this part of a script by this axis ended, and whether a whole picture, or nothing, was written.
+fn drawn(alloc: Global, part: DrawnPart, axis: Axis) -> (Ending, bool) {
     let mut reader = b"enclave 2 8 100 16 1000\n# at 7\ntick 1\ntick 0\n".as_slice();
     let mut writer = Vec::new(alloc);
-    make(
+    let ending = make(
         alloc,
         ScriptForm::Picture(part, axis),
         &mut reader,
         &mut writer,
-    ) == Ending::Finished
-        && writer.as_slice().ends_with(b"</svg>\n")
+    );
+    let is_whole = match ending {
+        Ending::NothingToDraw(_) => writer.is_empty(),
+        _ => writer.as_slice().ends_with(b"</svg>\n"),
+    };
+    (ending, is_whole)
 }
 
 #[test]
 fn a_script_is_drawn_over_memory(rt: HostRuntime) {
-    assert!(rt; is_drawn(rt.alloc(), DrawnPart::ALL, Axis::Lines));
-    assert!(rt; is_drawn(rt.alloc(), ONE, Axis::Ticks));
+    let finished = (Ending::Finished, true);
+    assert_eq!(rt; drawn(rt.alloc(), DrawnPart::ALL, Axis::Lines), finished);
+    assert_eq!(rt; drawn(rt.alloc(), ONE, Axis::Ticks), finished);
+}
+
+/// Whether nothing is drawn of this part, since this is missing.
+fn is_missed(alloc: Global, part: DrawnPart, missing: Missing) -> bool {
+    let (ending, is_nothing) = drawn(alloc, part, Axis::Lines);
+    ending == Ending::NothingToDraw(missing) && is_nothing && ending.status() == 2
+}
+
+#[test]
+fn nothing_is_drawn_of_what_is_not_there(rt: HostRuntime) {
+    let lines = DrawnPart {
+        cpus: None,
+        lines: Some(PAST),
+    };
+    let cpus = DrawnPart {
+        cpus: Some(PAST),
+        lines: None,
+    };
+    let four = Missing::Lines {
+        asked: PAST,
+        count: 4,
+    };
+    let two = Missing::Cpus {
+        asked: PAST,
+        count: 2,
+    };
+    assert!(rt; is_missed(rt.alloc(), lines, four));
+    assert!(rt; is_missed(rt.alloc(), cpus, two));
 }
 
 /// What a command line asks for: which command, of which part by which axis, how a report is told, and how long a run
@@ -350,6 +386,8 @@ struct Nobody;
 
 impl Helper for Nobody {
     fn help(&mut self) {}
+
+    fn first_fault(&mut self) {}
 }
 
 /// Whether a session over memory ends well, and begins by these answers.
