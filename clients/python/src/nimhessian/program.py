@@ -57,8 +57,9 @@ def _is_script(name: str) -> bool:
 
 
 def is_silent(line: str) -> bool:
-    """Whether a session has no answer to the line: it has no words, is a comment, or asks for the list of commands."""
-    return line.startswith("#") or line.removesuffix("\r").strip(" ") == "" or line.removesuffix("\r") == "?"
+    """Whether a session has no answer to the line: it has no words, is a comment, asks for the commands, or ends it."""
+    line = line.removesuffix("\r")
+    return line.startswith("#") or line.strip(" ") == "" or line in ("?", "help", "quit")
 
 
 class Program:
