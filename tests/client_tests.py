@@ -98,7 +98,7 @@ def test_a_line_that_has_no_answer_is_not_sent():
     script = io.StringIO()
     with World(cpus=1, record=script) as world:
         sent = script.getvalue()
-        for line in ("", " ", "\r", "  \r", "#", "# a comment", "#\r", "?", "?\r"):
+        for line in ("", " ", "\r", "  \r", "#", "# a comment", "#\r", "?", "?\r", "help", "help\r"):
             silent = commands.rouse(0)._replace(line=line)
             batch = world.batch()
             batch.rouse(0), batch.add(silent)

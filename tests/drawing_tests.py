@@ -22,6 +22,9 @@ DRAWN = 300
 # What spells no numbers, and what does.
 NO_NUMBERS = ["", " ", "a", "-", "3-", "-3", "7-3", "+1", "1-+2", "01", "1-02", "1-2-3", "1--2", "1,2", " 1", "1 ", "0x1", "1.5", "4294967296", "1-4294967296"]
 NUMBERS = ["0", "3", "3-3", "0-63", "9-10", "4294967295", "0-4294967295"]
+# What is said first of words that ask for nothing, and of a script with a fault.
+BAD_WORDS = "pc-sim: bad command line\n"
+ENDS_THERE = "pc-sim: a line of the script is no command, and the picture ends there\n"
 # What the legend says, from top to bottom, and what the titles of such marks say.
 LEGEND = list(tomllib.loads((ROOT / "tests/legend.toml").read_text()).items())
 LAST_WORDS = "Where the pointer rests on a mark, its lines are told."
@@ -67,7 +70,7 @@ def test_bytes_of_a_script_cannot_become_markup() -> None:
 
 def test_a_fault_ends_the_picture() -> None:
     status, picture, errors = outcome(rig.ask("draw", given=ENCLAVE + "tick 0\ntick\ntick 0\n"))
-    same((status, errors), (1, "pc-sim: a line of the script is no command, and the picture ends there\n"))
+    same((status, errors), (1, ENDS_THERE + "pc-sim: line 3 of the standard input is no command\n"))
     same(Picture(picture).title, "commands 2, refused 0, fault line 3")
 
 
@@ -103,13 +106,25 @@ def test_bars_show_what_the_questions_of_each_example_answer() -> None:
 
 def test_a_part_has_the_lanes_that_are_asked_for() -> None:
     script = "enclave 4 8 100 16 1000\n" + "".join(f"create {cpu} 15 ready\n" for cpu in range(4))
-    for word, lanes in (("0-3", [0, 1, 2, 3]), ("1-2", [1, 2]), ("2", [2]), ("3-9", [3]), ("4", []), ("4-4294967295", [])):
+    for word, lanes in (("0-3", [0, 1, 2, 3]), ("1-2", [1, 2]), ("2", [2]), ("3-9", [3]), ("0-4294967295", [0, 1, 2, 3])):
         picture = draw(script, flags=("--cpus", word))
         same(picture.title, "commands 5, refused 0")
         same([words.text for words in picture.words if words.x == 4], [f"CPU {cpu}" for cpu in lanes])
         queues = [f"1 item in queue {cpu}, " + (f"lines {cpu + 2} to 5" if cpu < 3 else "line 5") for cpu in lanes]
         same(sorted(picture.told(r"\d+ items? in queue .*")), queues)
         same(sorted(picture.told(r"line \d+: create .*")), [f"line {cpu + 2}: create {cpu} 15 ready" for cpu in lanes])
+
+
+def test_a_part_of_which_nothing_is_there_is_a_bad_command_line() -> None:
+    """Whatever a script is, such a part of it is no picture; and each part of which anything is there is one."""
+    for script, cpus, lines in ((ENCLAVE + "tick 0\n", 2, 2), (ENCLAVE + "tick 0", 2, 2), ("enclave 1 1 1 1 1\n\r", 1, 2), ("\n", 0, 1), ("", 0, 0)):
+        for flag, least, most in (("--cpus", 0, cpus - 1), ("--lines", 1, lines)):
+            for first, last in itertools.combinations_with_replacement([*range(4), 4294967295], 2):
+                with rig.about(script, flag, first, last):
+                    status, picture, errors = outcome(rig.ask("draw", flag, f"{first}-{last}", given=script))
+                    is_there = max(first, least) <= min(last, most)
+                    same((status, bool(picture)), (0, True) if is_there else (2, False))
+                    same(errors.startswith(BAD_WORDS + f"pc-sim: {flag} {first}"), not is_there)
 
 
 def test_what_leads_to_another_lane_ends_at_the_edge_of_a_part() -> None:
@@ -159,7 +174,8 @@ def test_words_that_spell_no_numbers_are_a_bad_command_line() -> None:
     refused_words("run", "--lines", "1")
     for flag in both:
         for word in NUMBERS:
-            same(rig.ask("draw", flag, word, given=ENCLAVE).returncode, 0, word)
+            told = rig.ask("draw", flag, word, given=ENCLAVE)
+            assert told.returncode == 0 or told.stderr.startswith(f"{BAD_WORDS}pc-sim: {flag} "), (flag, word, told)
         same(rig.ask("draw", f"{flag}=1", given=ENCLAVE).stdout, rig.ask("draw", flag, "1-1", given=ENCLAVE).stdout)
 
 

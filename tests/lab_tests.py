@@ -115,16 +115,17 @@ def test_faults(more: list[str]) -> None:
                 same(out, (BAD / words).with_suffix(".table").read_text(), words)
             continue
         first, *others = errors.splitlines()
-        same((status, out, first, len(others)), (1, "", wanted, int(wanted.startswith(("pc-sim: cannot read", "pc-sim: lab UnknownKey")))), words)
+        same((status, out, first, len(others)), (1, "", wanted, 1), words)
         if wanted.startswith("pc-sim: lab UnknownKey"):
             faulty = next(it for it in words.split()[::-1] if (BAD / it).is_file())
-            same((first, *others), told_unknown((BAD / faulty).read_text()), words)
+            where = f'pc-sim: "{faulty}": ' if len(words.split()) > 1 else "pc-sim: "
+            same((first, *others), told_unknown((BAD / faulty).read_text(), where), words)
 
 
-def told_unknown(text: str) -> tuple[str, str]:
-    """What is told of the first key of a text that is not known."""
+def told_unknown(text: str, front: str = "pc-sim: ") -> tuple[str, str]:
+    """What is told of the first key of a text that is not known; the front of the second line names the text, if there are two."""
     key, where = next(unknown_keys(text))
-    return f"pc-sim: lab UnknownKey {key}", f"pc-sim: {where}"
+    return f"pc-sim: lab UnknownKey {key}", front + where
 
 
 def misspelt(chance: random.Random, text: str) -> str:
@@ -152,13 +153,13 @@ def test_misspelt_keys() -> None:
         if unknown:
             same(outcome(lab("-", given=text)), (1, "", "\n".join((*told_unknown(text), ""))), text)
             others = lab("2-steals.toml", "--variants", "-", given=text)
-            same(outcome(others), (1, "", "\n".join((*told_unknown(text), ""))), text)
+            same(outcome(others), (1, "", "\n".join((*told_unknown(text, "pc-sim: the standard input: "), ""))), text)
 
 
 def test_a_script_past_the_greatest_length() -> None:
     """Three threads leave their CPU 300,000 times, and each time takes more than 56 bytes to tell."""
     load = "cpus = 1\n" + 3 * thread(0, 1, *["yield 1"] * 99_999, "die 1")
-    for name, fault in (("plain", "ScriptTooLong"), ("none", "NoVariant")):
+    for name, fault in (("plain", "ScriptTooLong"), ("none", 'NoVariant\npc-sim: --script "none": the variants are plain')):
         same(outcome(lab("-", "--script", name, given=load)), (1, "", f"pc-sim: lab {fault}\n"))
 
 
@@ -172,11 +173,14 @@ def test_numbers_at_their_bounds() -> None:
     rows += [(lambda it: thread(0, 1, "block 1", "die 1", sleeps=[it]), WORD32, "BadLoad 0")]
     for text, most, fault in rows:
         assert "done" in told("cpus = 1\n" + text(most)), text(most)
-        same(outcome(lab("-", given="cpus = 1\n" + text(most + 1))), (1, "", f"pc-sim: lab {fault}\n"), text(most + 1))
+        status, out, errors = outcome(lab("-", given="cpus = 1\n" + text(most + 1)))
+        first, second = errors.splitlines()
+        same((status, out, first), (1, "", f"pc-sim: lab {fault}"), text(most + 1))
+        rig.matches(second, rf"\Apc-sim: (thread|variant) 0: .* {most + 1}: [01] to {most} is wanted\Z")
 
 
 def test_steps_at_their_bound() -> None:
-    for count, ended in ((100_000, (0, "")), (100_001, (1, "pc-sim: lab BadThread 0\n"))):
+    for count, ended in ((100_000, (0, "")), (100_001, (1, "pc-sim: lab BadThread 0\npc-sim: thread 0: 100001 steps: 1 to 100000 are wanted\n"))):
         status, out, errors = outcome(lab("-", given="cpus = 1\n" + thread(0, 1, *["yield 1"] * (count - 1), "die 1")))
         same((status, errors, f"ticks ran{count:25}\n" in out), (*ended, not ended[0]))
 

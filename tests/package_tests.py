@@ -196,7 +196,9 @@ def test_the_archive_has_the_same_program_and_the_client() -> None:
     told = run(installed / "bin/pc-sim", "--version", env={"PATH": ""}).stdout
     same(told.split()[:2], ["pc-sim", installed.name.split("-")[2]])
     assert b".TH PC-SIM" in gzip.decompress((installed / "share/man/man1/pc-sim.1.gz").read_bytes())
-    good(run(sys.executable, installed / "bin/pc-sim-from-perf-sched", "--help"))
+    for tool in (installed / "bin").glob("pc-sim-*"):
+        told = good(run(sys.executable, tool, "--help"))
+        assert told.startswith(f"usage: {tool.name} ") and "tools/" not in told, told
     if run(sys.executable, "-m", "pip", "--version").returncode == 0:
         words = [sys.executable, "-m", "pip", "install", "-q", "--no-index", "--target", top() / "python"]
         ended = run(*words, installed / "share/pc-sim/clients/python")

@@ -264,9 +264,9 @@ WHOLE = Part()
 
 
 def drawn_part(place: int, script: str) -> Part:
-    """A part by chance of a script's picture, or of a few more CPUs and lines."""
+    """A part by chance of a script's picture, which may go on past its last CPU and line."""
     chance, cpus, lines = random.Random(f"part {place}"), int(re.search(r"(?m)^enclave (\d+)", script)[1]), script.count("\n")
-    some, more = (tuple(sorted(chance.randint(*ends) for _ in range(2))) for ends in ((0, cpus), (1, lines + 2)))
+    some, more = ((first, chance.randint(first, most + 2)) for first, most in ((chance.randint(0, cpus - 1), cpus - 1), (chance.randint(1, lines), lines)))
     return Part(*chance.choice([(some, more), (some, more), (some, None), (None, more)]))
 
 
@@ -330,4 +330,6 @@ def shown_often(show: Callable[[str, Part], Counter[str]], make: Callable[[int],
 
 def refused_words(*words: str) -> None:
     """The words are a bad command line."""
-    same(outcome(rig.ask(*words, given=ENCLAVE)), (2, "", "pc-sim: bad command line\n"), words)
+    status, out, errors = outcome(rig.ask(*words, given=ENCLAVE))
+    first, *second = errors.splitlines()
+    same((status, out, first, len(second)), (2, "", "pc-sim: bad command line", 1), words)

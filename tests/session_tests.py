@@ -3,7 +3,7 @@
 
 Scripts are drawn: 300, or NUMBER, and 10,000 with --all. Each goes through `session` in pieces that are cut at random, and has to be
 answered as the model of tools/kernel.py tells. Then come conversations over a pipe, each answer waited for before the next command is
-sent; the line `?`; what a terminal is told first; and how a session ends whose client dies. Others are cases of tests/cases.
+sent; the lines `?` and `help`; what a terminal is told first; and how a session ends whose client dies. Others are cases of tests/cases.
 """
 import os
 import pty
@@ -21,7 +21,8 @@ from rig import ROOT, SECONDS, outcome, same
 
 MOST_LINE = 65_536
 ENCLAVE = b"enclave 4 16 1000 64 100000"
-FAULTS = [b"walk", b"tick", b"tick 0 0", b"version 2", b"policy fifo", b"\xff\xfe", b"wake t\x00", b" #", b"commit 0 t0", b"? "]
+HINT = b"pc-sim: no command; ? lists the commands\n"
+FAULTS = [b"walk", b"tick", b"tick 0 0", b"version 2", b"policy fifo", b"\xff\xfe", b"wake t\x00", b" #", b"commit 0 t0", b"? ", b"help me", b" help", b"quit now"]
 SILENT = [b"", b"   ", b"# a comment", b"#", b"\r"]
 # Below which numbers those of a drawn command are: so it is often refused.
 BELOW = dict.fromkeys("CQAB", 5) | dict.fromkeys(("RAN", "ASEQ", "NUMBER", "K"), 6) | {"T": 8, "MASK": 16, "LEVEL": 9}
@@ -81,7 +82,7 @@ def drawn_script_in_pieces(seed: int) -> None:
     chance = random.Random(seed)
     text = b"\n".join(drawn_lines(chance)) + chance.choice([b"", b"\n"])
     wanted, status = told_of(text, goes_on=True)
-    same(in_pieces(text, chance), (status, wanted.encode(), b""))
+    same(in_pieces(text, chance), (status, wanted.encode(), HINT * status))
     if seed % 5 == 0:
         ended, explained, _ = in_pieces(text, chance, "--explain")
         same((ended, plain(explained)), (status, wanted.encode()))
@@ -105,9 +106,12 @@ def test_conversation() -> None:
 
 
 def test_help() -> None:
-    """The table is told twice, and names the commands of docs/FORMATS.md."""
-    status, out, said = session(text=b"?\nversion 2\nenclave 1 65535 1 16 100\n?\r\n? \n")
-    same((status, out, said.count(b"enclave CPUS")), (1, b"ok\nok\nfault line 5\n", 2))
+    """The table is told of `?` and `help` alone, and names the commands of docs/FORMATS.md. The first fault names `?`."""
+    status, out, said = session(text=b"?\nversion 2\nhelp\nenclave 1 65535 1 16 100\n?\r\n? \nhelp \nHELP\n")
+    same((status, out), (1, b"ok\nok\n" + b"".join(b"fault line %d\n" % line for line in (6, 7, 8))))
+    said, behind = said[: -len(HINT)], said[-len(HINT) :]
+    same((said.count(b"enclave CPUS"), behind), (3, HINT))
+    same(said[: len(said) // 3] * 3, said)
     told = (ROOT / "docs/FORMATS.md").read_text().split("## Commands")[1].split("A line of `show` is")[0]
     rows = [line.split(":")[0] for line in told.splitlines() if line.startswith("- `")]
     same({form.split(" ")[0] for row in rows for form in row.split("`")[1::2]}, {form[0] for form in forms()})
@@ -132,7 +136,7 @@ def test_terminal() -> None:
     said = b""
     while b"script\r\n" not in said and select.select([master], [], [], SECONDS)[0]:
         said += os.read(master, 4_096)
-    assert said.startswith(b"pc-sim: ") and b"?" in said and b"explain" in said, said
+    assert said.startswith(b"pc-sim: ") and b"?" in said and b"quit" in said, said
     os.write(master, b"enclave 1 1 1 1 1\n")
     same(talk.stdout.readline(), b"ok\n")
     os.write(master, b"\x04")

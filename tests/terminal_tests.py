@@ -138,13 +138,21 @@ TOLD = {
         "cpus = 1\n" + thread(0, 1, "yield 1", "die 2"), "run", (0, b"threads 1\nmessages 3\ncommits 2\nran 3\n", b"")),
     "what else is said of a run stays": (
         FAULTY, "run", (1, b"", b"pc-sim: settings BadCpus\r\npc-sim: cpus 0: 1 to 64 are wanted\r\n")),
-    "what else the lab says stays": (FAULTY, "lab", (1, b"", b"pc-sim: lab BadCpus\r\n")),
+    "what else the lab says stays": (
+        FAULTY, "lab", (1, b"", b"pc-sim: lab BadCpus\r\npc-sim: cpus 0: 1 to 64 are wanted\r\n")),
 }
 
 
 @rig.each(TOLD)
 def test_told(text: str, command: str, wanted: tuple[int, bytes, bytes]) -> None:
     same(at_a_terminal(text, command), wanted)
+
+
+def test_who_explains_a_faulty_script() -> None:
+    status, out, written = at_a_terminal("tick 0\nwalk\n", "replay")
+    same((status, out), (1, b"refused NoEnclave\nfault line 2\n"))
+    rig.matches(written, rb'\Apc-sim: pc-sim explain "/.*/text" tells why\r\n\Z')
+    same(elsewhere("walk\n", "replay"), (1, b"fault line 1\n", b""))
 
 
 def test_a_terminal_that_goes_away_is_passed_over() -> None:

@@ -25,8 +25,12 @@ COUNTS = struct.Struct("QQQQQQQQ")
 SECONDS = 60
 
 
-# How the program ends, and of a file or settings a second line: which, and why.
-ENDING = re.compile(rb"(pc-sim: [^\n]*\n)(?:pc-sim: [^\n]*\n)?")
+# How the program ends, and a second line: of what, and why. Where memory is wanting for that one, less of it is said.
+ENDING = re.compile(rb"(pc-sim: [^\n]*\n)(?:pc-sim: [^\n]*\n?)?")
+# Behind this stands which word it is, or the help where there is none.
+MISTAKE = b"pc-sim: bad command line\n"
+# What stands before that: a session that had a fault says how its commands are listed.
+HINT = b"pc-sim: no command; ? lists the commands\n"
 # What stands behind that: keys of settings that are passed over.
 WARNINGS = re.compile(rb"(?:pc-sim: warning: [^\n]*\n)+\Z")
 
@@ -120,8 +124,10 @@ class Machine:
 
 
 def ending_of(text):
-    """The line of standard error that names how the program ended, without warnings and the one that says why."""
-    text = WARNINGS.sub(b"", text)
+    """The line of standard error that names how the program ended, without a session's hint, warnings and the one that says why."""
+    text = WARNINGS.sub(b"", text.removeprefix(HINT))
+    if text.startswith(MISTAKE):
+        return MISTAKE
     found = ENDING.fullmatch(text)
     return found[1] if found else text
 

@@ -14,6 +14,8 @@ static void put(const char *text, size_t size) {
         if (moved < 0) return;
 #endif
         if (moved < 0 && errno_is_interrupted()) continue;
+        // Where nobody reads any more nothing is said.
+        if (moved < 0 && errno == EPIPE) _exit(1);
         if (moved <= 0) { (void)!write(2, "pc-sim: cannot read\n", 20); _exit(1); }
         text += moved, size -= moved;
     }

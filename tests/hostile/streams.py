@@ -62,9 +62,9 @@ def fault_of(run, status=1, out=b"", err=CANNOT_READ):
     return None if (run.status, run.out, run.err) == (status, out, err) else told(run)
 
 
-def fault_of_write(subject, run):
-    """What is wrong after a write that failed: a first part of the answers was written."""
-    if (run.status, run.err) != (1, CANNOT_READ):
+def fault_of_write(subject, run, error=errno.EIO):
+    """What is wrong after a write that failed so: a first part of the answers was written. Where nobody reads, nothing is said."""
+    if (run.status, run.err) != (1, b"" if error == errno.EPIPE else CANNOT_READ):
         return told(run)
     return None if subject.out.startswith(subject.plain(run.out)) else "what was written is no first part of the answers"
 
@@ -112,9 +112,9 @@ class Streams:
             return "no read was met"
         return self.fault_of_talk(run, [count]) if self.is_talk() else fault_of(run)
 
-    def failed_write(self, **hostile):
+    def failed_write(self, error=errno.EIO, **hostile):
         run = self.machine.run(self.subject, **hostile)
-        return fault_of_write(self.subject, run) if run.writes_met else "no write was met"
+        return fault_of_write(self.subject, run, error) if run.writes_met else "no write was met"
 
     def interrupted_reads(self, **hostile):
         """A read that is interrupted may be tried again, or count as one that failed."""
@@ -135,7 +135,7 @@ class Streams:
     def writes(self):
         places = range(1, self.plain.writes + 1)
         for error, place, later in itertools.product([*WRITE_ERRORS, 0], places, ("", "..")):
-            fails = partial(self.failed_write, write=f"{place}{later} {error}")
+            fails = partial(self.failed_write, error, write=f"{place}{later} {error}")
             yield f"write {place}{later} {errno.errorcode.get(error, 'of nothing')} of {self.subject.name}", fails
         yield from self.by_byte("write", self.by_bytes.writes, lambda place: self.failed_write, self.interrupted_writes)
 
@@ -160,7 +160,9 @@ class Streams:
     def bad_output(self, how):
         """An output that takes nothing at all."""
         run = run_by_bash(OUTPUTS[how], self.machine, self.subject, self.broken)
-        return (fault_of_write if self.subject.out else fault_of_same)(self.subject, run)
+        if not self.subject.out:
+            return fault_of_same(self.subject, run)
+        return fault_of_write(self.subject, run, errno.EPIPE if how == "broken" else errno.EIO)
 
 
 # By what line of bash the program is started whose standard output takes nothing, or else is a pipe that nobody reads. A file that
