@@ -48,8 +48,8 @@ pub trait Helper: Drop {
     /// A line asks for help.
     fn help(&mut self);
 
-    /// A line is a fault, and none was before it.
-    fn first_fault(&mut self);
+    /// The line of this number is a fault, and none was before it. Nothing is given of a line that is too long.
+    fn first_fault(&mut self, number: u64, line: &[u8]);
 }
 
 /// Whether a line asks for help.
@@ -103,11 +103,11 @@ impl<M: Machine> Talk<M> {
 
     /// A line is a fault. Of the first one the helper is told.
     #[inline(never)]
-    fn note_fault<H: Helper>(&mut self, helper: &mut H)
+    fn note_fault<H: Helper>(&mut self, line: &[u8], helper: &mut H)
         ensures { self.new ≡ record self.old { had_fault = true } }
     {
         if !self.had_fault {
-            helper.first_fault();
+            helper.first_fault(self.number, line);
         }
         self.had_fault = true;
     }
@@ -132,7 +132,7 @@ impl<M: Machine> Talk<M> {
     {
         let number = self.next_number()?;
         self.number = number;
-        self.note_fault(helper);
+        self.note_fault(b"".as_slice(), helper);
         self.walk.is_open = true;
         observer.passed_over(number, writer)
     }
@@ -172,7 +172,7 @@ impl<M: Machine> Talk<M> {
         }
         let line = Line { number, text };
         if !self.walk.take(line, observer, writer)? {
-            self.note_fault(helper);
+            self.note_fault(text, helper);
         }
         Ok(())
     }
