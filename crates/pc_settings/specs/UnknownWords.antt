@@ -1,6 +1,6 @@
 -- What the program says of a key that is not known.
-use Rattle.std.specs.Prelude.{ℕ, ◌+◌, ◌/◌, ◌%◌, ◌&&◌, ◌==◌, Bool, not, List, [], ◌++◌, take, flat_map, min, nat_le}
-use Rattle.std.specs.Prelude.{nat_lt, Option, Some, None, if◌then◌else◌, codes, decimal, encode_utf8}
+use Rattle.std.specs.Prelude.{ℕ, List, [], ◌++◌, take, min, Option, Some, None, codes, decimal}
+use Rattle.pc_pen.specs.Escapes.{quoted_word}
 use Rattle.pc_settings.specs.Fields.{key_of}
 use Rattle.pc_settings.specs.declared.field.Field.{Field}
 use Rattle.pc_settings.specs.declared.known.TableKind.{TableKind}
@@ -8,28 +8,9 @@ use Rattle.pc_settings.specs.declared.known.TableKind.TheVariants.{Top, Thread, 
 use Rattle.pc_settings.specs.declared.unknown.KeyStart.{KeyStart}
 use Rattle.pc_settings.specs.declared.unknown.UnknownKey.{UnknownKey}
 
--- printed ASCII, but for a backslash
-abbrev pub is_plain : ℕ → Bool
-is_plain byte = nat_le 32 byte && nat_le byte 126 && not (byte == 92)
-
--- a digit of 0 to 9 and a to f
-abbrev pub hex_digit : ℕ → ℕ
-hex_digit n = if nat_lt n 10 then 48 + n else 87 + n
-
--- a byte that stands for itself, and of another its two digits behind `\x`
-abbrev pub byte_text : ℕ → List ℕ
-byte_text byte =
-    if is_plain byte then encode_utf8 byte
-    else codes "\\x" ++ (encode_utf8 (hex_digit (byte / 16)) ++ encode_utf8 (hex_digit (byte % 16)))
-
--- bytes, one behind another
-abbrev pub bytes_text : List ℕ → List ℕ
-bytes_text bytes = flat_map byte_text bytes
-
--- the first 40 bytes of a key, with two points behind where there are more
+-- how a key begins, as a word is quoted
 abbrev pub start_text : KeyStart → List ℕ
-start_text key =
-    bytes_text (take (min 40 key.length) key.bytes) ++ (if nat_lt 40 key.length then codes ".." else [])
+start_text key = quoted_word (take (min 41 key.length) key.bytes)
 
 -- where a table stands: its kind and its place; nothing of the text's own table
 abbrev pub place_text : TableKind → ℕ → List ℕ

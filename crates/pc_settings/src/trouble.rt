@@ -5,6 +5,7 @@ use crate::keys::{integer_at, items_at, value_at};
 use crate::steps::step_of;
 use pc_calls::{Leaving, MOST_CPUS, MOST_THREADS};
 use pc_load::{count_of_cpus, is_cpu, is_mask};
+use pc_pen::QuotedWord;
 use std::io::{self, Write};
 use toml::{Table, Value};
 
@@ -74,6 +75,20 @@ impl Wanted {
     }
 }
 
+/// What a value is, in words.
+fn in_words(value: &Value) -> &'static str {
+    match value {
+        Value::String(_) => "a text",
+        Value::Integer(_) => "an integer",
+        Value::Float(_) => "a number with a point",
+        Value::Boolean(true) => "true",
+        Value::Boolean(false) => "false",
+        Value::Datetime(_) => "a date",
+        Value::Array(_) => "a list",
+        Value::Table(_) => "a table",
+    }
+}
+
 /// Whether a key may be absent.
 fn may_be_absent(field: Field) -> bool {
     !matches!(
@@ -104,11 +119,14 @@ pub(crate) fn write_no_toml<W: Write>(
     }
 }
 
+/// The mark that may stand in front of a text, which shows as nothing.
+const BYTE_ORDER_MARK: &[u8] = b"\xef\xbb\xbf";
+
 /// The line and the column, both from 1, of what follows these bytes.
 fn place_of(before: &[u8]) -> (usize, usize) {
     let mut line: usize = 1;
     let mut column: usize = 1;
-    for byte in before {
+    for byte in before.strip_prefix(BYTE_ORDER_MARK).unwrap_or(before) {
         if *byte == b'\n' {
             line = line.saturating_add(1);
             column = 1;
@@ -125,10 +143,10 @@ pub(crate) fn table_at<'a>(table: &'a Table, list: Field, place: usize) -> Optio
     items_at(table, list).get(place)?.as_table()
 }
 
-/// What type stands at a key.
+/// What stands at a key.
 fn found_at(table: &Table, field: Field) -> &'static str {
     match value_at(table, field) {
-        Some(value) => value.type_str(),
+        Some(value) => in_words(value),
         None => "nothing",
     }
 }
@@ -166,12 +184,13 @@ pub(crate) fn write_field<W: Write>(table: &Table, field: Field, writer: &mut W)
 
 /// What was wanted at a key, and what is there.
 fn write_wanted<W: Write>(table: &Table, field: Field, writer: &mut W) -> io::Result<()> {
-    let (key, wanted, found) = (
-        field.key(),
-        Wanted::at(field).words(),
-        found_at(table, field),
-    );
-    writeln!(writer, "{key}: {wanted} is wanted, and there is {found}")
+    let (key, wanted, found) = (field.key(), Wanted::at(field), found_at(table, field));
+    let words = wanted.words();
+    write!(writer, "{key}: {words} is wanted, ")?;
+    if let Wanted::Tables = wanted {
+        write!(writer, "each below [[{key}]], ")?;
+    }
+    writeln!(writer, "and there is {found}")
 }
 
 /// What is wrong at a key that has to list tables.
@@ -180,7 +199,7 @@ fn write_list<W: Write>(table: &Table, list: Field, writer: &mut W) -> io::Resul
     let key = list.key();
     match items.iter().position(|item| !item.is_table()) {
         Some(place) => {
-            let found = items[place].type_str();
+            let found = in_words(&items[place]);
             writeln!(
                 writer,
                 "{key} {place}: a table is wanted, and there is {found}"
@@ -216,7 +235,7 @@ fn write_items<W: Write>(
         if let Some(thread) = thread.as_table() {
             let items = items_at(thread, field);
             if let Some(item) = items.iter().position(|item| !wanted.is_met_by(item)) {
-                let (found, words) = (items[item].type_str(), wanted.words());
+                let (found, words) = (in_words(&items[item]), wanted.words());
                 return writeln!(
                     writer,
                     "thread {place}: {noun} {item}: {words} is wanted, and there is {found}"
@@ -244,10 +263,10 @@ pub(crate) fn write_step<W: Write>(
     let Some(text) = items_at(plan, Field::Steps).get(step) else {
         return Ok(());
     };
-    let text = text.as_str().unwrap_or("");
+    let quoted = QuotedWord(text.as_str().unwrap_or("").as_bytes());
     writeln!(
         writer,
-        "thread {thread}: step {step}: {text:?}: {}, {}, {} or {} is wanted, a space, and 0 to {}",
+        "thread {thread}: step {step}: \"{quoted}\": one step is wanted: {}, {}, {} or {}, a space, and 0 to {}",
         Leaving::Yield.word(),
         Leaving::Block.word(),
         Leaving::Preempt.word(),
@@ -298,19 +317,23 @@ pub(crate) fn write_thread<W: Write>(
         );
     }
     let mask = integer_at(thread, Field::Mask).unwrap_or(0);
-    if mask <= 0 {
-        return writeln!(
-            writer,
-            "thread {place}: mask {mask}: the sum of CPUs is wanted, of which CPU 0 is 1, CPU 1 is 2, CPU 2 is 4"
-        );
-    }
     if !is_mask(cpus, mask) {
-        return writeln!(
-            writer,
-            "thread {place}: mask {mask}: it has a CPU past the {cpus} that there are"
-        );
+        return write_mask(place, mask, cpus, writer);
     }
     write_life(place, items_at(thread, Field::Steps), most_steps, writer)
+}
+
+/// What is wrong with a mask of a thread, where there are so many CPUs.
+fn write_mask<W: Write>(place: usize, mask: i64, cpus: u8, writer: &mut W) -> io::Result<()> {
+    write!(
+        writer,
+        "thread {place}: mask {mask}: the sum of its CPUs is wanted, "
+    )?;
+    writeln!(
+        writer,
+        "of which CPU 0 is 1 and each next one twice the one before; the last one is CPU {}",
+        cpus.saturating_sub(1)
+    )
 }
 
 /// Whether a text is a step in which a thread leaves its CPU so.

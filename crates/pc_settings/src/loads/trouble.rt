@@ -16,7 +16,9 @@ use pc_load::{
     VariantDraft, VariantFault, Variants, count_of_cpus,
 };
 use pc_messages::{Cpu, Mask};
-use pc_policy::{OrderName, Stealing};
+use pc_pen::QuotedWord;
+use pc_policy::{OrderName, PolicyName, Stealing};
+use pc_script::Orders;
 use std::alloc::Global;
 use std::io::{self, Write};
 use toml::Table;
@@ -124,9 +126,10 @@ fn write_coming<W: Write>(
     if !is_at_home(table, thread) {
         let mask = integer_at(thread, Field::Mask).unwrap_or(0);
         let queue = integer_at(thread, Field::Queue).unwrap_or(0);
+        let bit = 1u64.wrapping_shl(u32::try_from(queue).unwrap_or(0));
         return writeln!(
             writer,
-            "mask {mask}: CPU {queue}, which has its queue, is to be one of its CPUs"
+            "mask {mask}: CPU {queue}, which has its queue, is to be one of its CPUs: add {bit}"
         );
     }
     let start = start_at(table, Some(place));
@@ -208,11 +211,12 @@ fn write_variant<W: Write>(
     };
     let plain = VariantDraft::PLAIN;
     let name = text_at(variant, Field::Name).unwrap_or("");
+    let quoted = QuotedWord(name.as_bytes());
     write!(writer, "variant {place}: ")?;
     if !is_name(alloc, name) {
         return writeln!(
             writer,
-            "name {name:?}: 1 to {MOST_NAME} of a-z, 0-9, `.` and `-` are wanted"
+            "name \"{quoted}\": 1 to {MOST_NAME} of a-z, 0-9, `.` and `-` are wanted"
         );
     }
     let order = text_or(plain.order, variant, Field::Order).unwrap_or("");
@@ -221,26 +225,36 @@ fn write_variant<W: Write>(
     }
     let steals = text_or(plain.steals, variant, Field::Steals).unwrap_or("");
     if Stealing::named(steals.as_bytes()).is_none() {
+        let quoted = QuotedWord(steals.as_bytes());
         let (least, exact) = (Stealing::Least, Stealing::Exact);
-        return writeln!(writer, "steals {steals:?}: {least} or {exact} is wanted");
+        return writeln!(writer, "steals \"{quoted}\": {least} or {exact} is wanted");
     }
     match same_name(table, place, name) {
-        Some(other) => writeln!(writer, "name {name:?}: variant {other} has it"),
+        Some(other) => writeln!(
+            writer,
+            "name \"{quoted}\": variant {other} has it, and each wants one of its own"
+        ),
         None => write_numbers(variant, writer),
     }
 }
 
-/// Which orders there are, where this is none.
+/// Which orders there are, where this is none; of a policy, which keys tell it.
 fn write_order<W: Write>(order: &str, writer: &mut W) -> io::Result<()> {
-    write!(writer, "order {order:?}: one of ")?;
-    for (place, one) in OrderName::ALL.iter().enumerate() {
-        if place > 0 {
-            write!(writer, ", ")?;
+    let quoted = QuotedWord(order.as_bytes());
+    write!(writer, "order \"{quoted}\": ")?;
+    match PolicyName::named(order.as_bytes()) {
+        Some(policy) => {
+            let (order, steals) = (policy.order, policy.stealing());
+            writeln!(
+                writer,
+                "order = \"{order}\" and steals = \"{steals}\" say so"
+            )
         }
-        let one = *one;
-        write!(writer, "{one}")?;
+        None => {
+            let orders = Orders::in_words();
+            writeln!(writer, "{orders} is wanted")
+        }
     }
-    writeln!(writer, " is wanted")
 }
 
 /// Which number of a variant is out of its range.

@@ -1,78 +1,12 @@
 //! What is said of a key that is not known.
 
-ghost use Rattle.std.specs.Prelude.{◌≡◌, ◌<◌};
-ghost use Rattle.pc_settings.specs.UnknownWords.{hex_digit, is_plain};
-
 use crate::field::Field;
 use crate::known::TableKind;
-use crate::unknown::{KeyStart, UnknownKey};
+use crate::unknown::{KEPT, KeyStart, UnknownKey};
+use pc_pen::QuotedWord;
 use std::fmt::{self, Display, Formatter, Write};
 
-/// The most bytes of a key that are said.
-const SAID: usize = 40;
-
-/// Whether the byte is printed ASCII that stands for itself.
-fn is_plain(byte: u8) -> bool
-    ensures { result ≡ is_plain byte }
-{
-    32 <= byte && byte <= 126 && byte != 92
-}
-
-/// The digit of a number below 16.
-fn hex_digit(number: u8) -> u8
-    requires { number < 16 }
-    ensures { result ≡ hex_digit number }
-{
-    if number < 10 {
-        48 + number
-    } else {
-        87 + number
-    }
-}
-
-/// A byte as it is said.
-#[derive(Clone, Copy)]
-struct KeyByte(u8);
-
-impl Display for KeyByte {
-    ghost use Rattle.std.specs.Prelude.{Some};
-    ghost use Rattle.pc_settings.specs.UnknownWords.{byte_text};
-
-    ghost output = { λ byte. Some (byte_text byte.0) };
-
-    fn fmt<W: Write>(&self, f: &mut Formatter<W>) -> fmt::Result {
-        let byte = self.0;
-        if is_plain(byte) {
-            let letter = char::from(byte);
-            write!(f, "{letter}")
-        } else {
-            let high = char::from(hex_digit(byte / 16));
-            let low = char::from(hex_digit(byte % 16));
-            write!(f, "\\x{high}{low}")
-        }
-    }
-}
-
-/// Bytes as they are said.
-#[derive(Clone, Copy)]
-struct KeyBytes<'a>(&'a [u8]);
-
-impl Display for KeyBytes<'_> {
-    ghost use Rattle.std.specs.Prelude.{Some};
-    ghost use Rattle.pc_settings.specs.UnknownWords.{bytes_text};
-
-    ghost output = { λ bytes. Some (bytes_text bytes.0.now) };
-
-    fn fmt<W: Write>(&self, f: &mut Formatter<W>) -> fmt::Result {
-        for byte in self.0 {
-            let said = KeyByte(*byte);
-            write!(f, "{said}")?;
-        }
-        Ok(())
-    }
-}
-
-/// A key: of what is no printed ASCII, and of a backslash, the hexadecimal digits; `..` for what is beyond 40 bytes.
+/// A key, as a word is quoted.
 impl Display for KeyStart {
     ghost use Rattle.std.specs.Prelude.{Some};
     ghost use Rattle.pc_settings.specs.UnknownWords.{start_text};
@@ -80,13 +14,9 @@ impl Display for KeyStart {
     ghost output = { λ key. Some (start_text key) };
 
     fn fmt<W: Write>(&self, f: &mut Formatter<W>) -> fmt::Result {
-        let length = SAID.min(self.length);
-        let said = KeyBytes(&self.bytes[..length]);
-        if self.length > SAID {
-            write!(f, "{said}..")
-        } else {
-            write!(f, "{said}")
-        }
+        let length = KEPT.min(self.length);
+        let quoted = QuotedWord(&self.bytes[..length]);
+        write!(f, "{quoted}")
     }
 }
 
