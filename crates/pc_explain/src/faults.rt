@@ -4,10 +4,11 @@
 use crate::sentences::Sentences;
 use crate::versions::{of_another, unnamed, version_with};
 use crate::words::QuotedWord;
-use pc_script::{
-    CommandInWords, Line, Orders, Trouble, Verb, Version, Wanted, first_word, trouble_in,
-};
+use pc_script::{CommandInWords, Line, Orders, Trouble, Verb, Version, Wanted, trouble_in};
 use std::fmt::{self, Write};
+
+/// By these words other programs end.
+const ENDS: [&str; 4] = ["bye", "exit", "q", "quit"];
 
 /// The version of a script, as it is where a line stands: none before its first line that is not silent.
 pub(crate) type Settled = Option<Version>;
@@ -43,7 +44,10 @@ fn marked(text: &mut Sentences, mark: &[u8], encoding: &str) -> fmt::Result {
 
 /// Tells of a `#` or a tab that is taken for a part of a word.
 fn spaces(text: &mut Sentences, line: &[u8]) -> fmt::Result {
-    if begins_with_mark(line) {
+    if line
+        .split(|byte| *byte == b' ')
+        .any(|word| word.starts_with(b"#"))
+    {
         writeln!(text, "A comment's # is the first byte of its line.")?;
     }
     if line.contains(&b'\t') {
@@ -77,6 +81,7 @@ fn fault(text: &mut Sentences, settled: Settled, line: &[u8]) -> fmt::Result {
             let quoted = QuotedWord(word);
             let words = WantedWord(wanted);
             writeln!(text, "Word {place}, `{quoted}`: {words} was wanted.")?;
+            zeros(text, word)?;
             form(text, verb)
         }
         Some(Trouble::TooMany { verb, place, word }) => {
@@ -85,14 +90,6 @@ fn fault(text: &mut Sentences, settled: Settled, line: &[u8]) -> fmt::Result {
             form(text, verb)
         }
         None => Ok(()),
-    }
-}
-
-/// Whether the first word begins with a `#`.
-fn begins_with_mark(line: &[u8]) -> bool {
-    match first_word(line) {
-        Some((word, _)) => matches!(word.first(), Some(b'#')),
-        None => false,
     }
 }
 
@@ -108,7 +105,28 @@ fn no_command(text: &mut Sentences, settled: Settled, word: &[u8], line: &[u8]) 
     writeln!(
         text,
         "Word 1, `{quoted}`: the name of a command was wanted."
-    )
+    )?;
+    if word.iter().any(|byte| byte.is_ascii_uppercase()) {
+        writeln!(text, "Commands are written in small letters.")?;
+    }
+    if ENDS.iter().any(|end| word == end.as_bytes()) {
+        writeln!(
+            text,
+            "A script ends behind its last line, and a session at a line quit."
+        )?;
+    }
+    Ok(())
+}
+
+/// Tells of a number that has zeros in front.
+fn zeros(text: &mut Sentences, word: &[u8]) -> fmt::Result {
+    let digits = word.strip_prefix(b"t".as_slice()).unwrap_or(word);
+    match digits {
+        [b'0', _, ..] if digits.iter().all(|byte| byte.is_ascii_digit()) => {
+            writeln!(text, "No number has a 0 in front.")
+        }
+        _ => Ok(()),
+    }
 }
 
 /// How a command is written.
