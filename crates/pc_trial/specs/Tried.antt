@@ -80,6 +80,19 @@ AreSpelled text (Some other) load variants = ((own : Variants) × Spells text lo
 abbrev pub SpellsLoad : List ℕ → Type 0
 SpellsLoad text = (load : Load) × (variants : Variants) × Spells text load variants
 
+-- more is said of the ending: what is wrong with a text, or which variants there are
+abbrev pub IsExplained : LabEnding → Type 0
+IsExplained (BadLoad first) = Unit {0}
+IsExplained (BadVariants first) = Unit {0}
+IsExplained NoVariant = Unit {0}
+IsExplained Finished = ⊥
+IsExplained (LoadUnread why) = ⊥
+IsExplained (VariantsUnread why) = ⊥
+IsExplained ScriptTooLong = ⊥
+IsExplained Unaccounted = ⊥
+IsExplained Unwritten = ⊥
+IsExplained OutOfMemory = ⊥
+
 -- the lab ends at the text of the load: it cannot be read, this is its first fault, or memory was wanting
 abbrev pub EndsAtLoad : List ℕ → LabEnding → Type 0
 EndsAtLoad text (LoadUnread why) = IsUnread why text

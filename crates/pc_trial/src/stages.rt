@@ -3,7 +3,8 @@
 ghost use Rattle.std.specs.Prelude.{◌≡◌, ◌≢◌, ◌⊎◌, ◌≤◌, ◌+◌, ℕ, List, [], length, IfOk, IfErr, IfSome};
 ghost use Rattle.std.specs.Io.Buffered.{writer_buffer, writer_contents};
 ghost use Rattle.std.specs.Io.KnownBytes.{Appends, Consumes};
-ghost use Rattle.pc_trial.specs.Tried.{EndsAtLoad, EndsAtTelling, EndsAtVariants, IsOfLoad, IsTold, Lists, Spells};
+ghost use Rattle.pc_trial.specs.Tried.{EndsAtLoad, EndsAtTelling, EndsAtVariants, IsExplained, IsOfLoad, IsTold, Lists};
+ghost use Rattle.pc_trial.specs.Tried.{Spells};
 ghost use Rattle.pc_trial.specs.Inner.Stages.{IsLoadOf, IsVariantsOf};
 
 use crate::comparison::{compare_watched, picture_watched};
@@ -23,17 +24,27 @@ use std::io::{BufWriter, Read, Write};
 /// The greatest length of the text of a load, and of variants, in bytes.
 pub const MOST_LOAD: usize = 16_777_216;
 
+/// Puts what is wrong with a load's text, or with one of variants, into `trouble`, as a line; nothing where memory is
+/// wanting for all of it.
+fn put_trouble(alloc: Global, text: &str, fault: &LoadTextFault, trouble: &mut Vec<u8>) {
+    let before = trouble.len();
+    if write_load_trouble(alloc, text, fault, trouble).is_err() {
+        trouble.truncate(before);
+    }
+}
+
 /// The load and the variants that a text spells; what is wrong with it goes into `trouble`.
 fn load_of(alloc: Global, text: &str, trouble: &mut Vec<u8>) -> Result<(Load, Variants), LabEnding>
     requires { length text.now ≤ 16777216 }
-    ensures { IsLoadOf text.now result }
+    ensures spelled { IsLoadOf text.now result }
+    ensures quiet { IfOk result (λ _. trouble.new ≡ trouble.old) }
+    ensures quiet_unless { IfErr result (λ ending. IsExplained ending ⊎ (trouble.new ≡ trouble.old)) }
 {
     match read_load(alloc, text) {
         Ok(read) => Ok(read),
         Err(LoadTextFault::OutOfMemory) => Err(LabEnding::OutOfMemory),
         Err(fault) => {
-            // Where memory is wanting for it, less is said.
-            let _ = write_load_trouble(alloc, text, &fault, trouble);
+            put_trouble(alloc, text, &fault, trouble);
             Err(LabEnding::BadLoad(fault))
         }
     }
@@ -42,14 +53,15 @@ fn load_of(alloc: Global, text: &str, trouble: &mut Vec<u8>) -> Result<(Load, Va
 /// The variants that a text spells; what is wrong with it goes into `trouble`.
 fn variants_of(alloc: Global, text: &str, trouble: &mut Vec<u8>) -> Result<Variants, LabEnding>
     requires { length text.now ≤ 16777216 }
-    ensures { IsVariantsOf text.now result }
+    ensures spelled { IsVariantsOf text.now result }
+    ensures quiet { IfOk result (λ _. trouble.new ≡ trouble.old) }
+    ensures quiet_unless { IfErr result (λ ending. IsExplained ending ⊎ (trouble.new ≡ trouble.old)) }
 {
     match read_variants(alloc, text) {
         Ok(variants) => Ok(variants),
         Err(LoadTextFault::OutOfMemory) => Err(LabEnding::OutOfMemory),
         Err(fault) => {
-            // Where memory is wanting for it, less is said.
-            let _ = write_load_trouble(alloc, text, &fault, trouble);
+            put_trouble(alloc, text, &fault, trouble);
             Err(LabEnding::BadVariants(fault))
         }
     }
@@ -65,6 +77,8 @@ pub(crate) fn load_in<R: Read>(
         (λ read. IfSome (R.remaining reader.old) (λ text. Spells text read.0 read.1)) }
     ensures err { IfErr result (λ ending. IfSome (R.remaining reader.old) (λ text. EndsAtLoad text ending)) }
     ensures unfinished { IfErr result (λ ending. ending ≢ LabEnding.Finished) }
+    ensures quiet { IfOk result (λ _. trouble.new ≡ trouble.old) }
+    ensures quiet_unless { IfErr result (λ ending. IsExplained ending ⊎ (trouble.new ≡ trouble.old)) }
     ensures reads { (bytes : List ℕ) × (length bytes ≤ 16777217)
         × Consumes (R.remaining reader.old) (R.remaining reader.new) bytes }
 {
@@ -86,6 +100,8 @@ pub(crate) fn variants_in<R: Read>(
     ensures err { IfErr result (λ ending. IfSome (R.remaining reader.old) (λ text. EndsAtVariants text ending)) }
     ensures behind { IfErr result (λ ending. IsOfLoad ending → ⊥) }
     ensures unfinished { IfErr result (λ ending. ending ≢ LabEnding.Finished) }
+    ensures quiet { IfOk result (λ _. trouble.new ≡ trouble.old) }
+    ensures quiet_unless { IfErr result (λ ending. IsExplained ending ⊎ (trouble.new ≡ trouble.old)) }
     ensures reads { (bytes : List ℕ) × (length bytes ≤ 16777217)
         × Consumes (R.remaining reader.old) (R.remaining reader.new) bytes }
 {

@@ -3,27 +3,39 @@
 ghost use Rattle.std.specs.Prelude.{◌≡◌, ◌⊎◌, ◌≤◌, ℕ, List, [], Some, None, length, IfSome};
 ghost use Rattle.std.specs.Io.Buffered.{writer_buffer, writer_contents};
 ghost use Rattle.std.specs.Io.KnownBytes.{Consumes};
-ghost use Rattle.pc_trial.specs.Tried.{IsOfLoad, IsTried, IsWrittenOf};
+ghost use Rattle.pc_trial.specs.Tried.{IsExplained, IsOfLoad, IsTried, IsWrittenOf};
 
 use crate::ending::LabEnding;
 use crate::output::LabOutput;
 use crate::progress::Progress;
 use crate::stages::{load_in, put, told, variants_in};
 use pc_load::{Load, Variants};
+use pc_pen::QuotedWord;
 use std::alloc::Global;
 use std::io::{self, BufWriter, Read, Write};
 
 /// Says which variants there are, of which none has the name that is wanted.
 fn say_names<W: Write>(variants: &Variants, wanted: &LabOutput, trouble: &mut W) -> io::Result<()> {
     if let LabOutput::Script(name) = wanted {
-        write!(trouble, "--script {name:?}: the variants are")?;
+        let quoted = QuotedWord(name.as_bytes());
+        write!(trouble, "--script \"{quoted}\": the variants are")?;
+        let mut before = ": ";
         for variant in variants.as_slice() {
-            trouble.write_all(b" ")?;
+            trouble.write_all(before.as_bytes())?;
             trouble.write_all(variant.name.as_slice())?;
+            before = ", ";
         }
         trouble.write_all(b"\n")?;
     }
     Ok(())
+}
+
+/// Puts into `trouble`, as a line, which variants there are; nothing of it where memory is wanting for the whole line.
+fn put_names(variants: &Variants, wanted: &LabOutput, trouble: &mut Vec<u8>) {
+    let before = trouble.len();
+    if say_names(variants, wanted, trouble).is_err() {
+        trouble.truncate(before);
+    }
 }
 
 /// Writes what is wanted of a load under these variants, and flushes it. Nothing is left of the progress then.
@@ -41,6 +53,7 @@ fn tell<S: Write + Drop, W: Write + Drop>(
     ensures untouched { (result ≡ LabEnding.Finished) ⊎ (result ≡ LabEnding.Unwritten) ⊎ (writer.new ≡ writer.old) }
     ensures behind { IsOfLoad result → ⊥ }
     ensures flushed { result ≡ LabEnding.Finished → writer_buffer writer.new ≡ [] }
+    ensures quiet { IsExplained result ⊎ (trouble.new ≡ trouble.old) }
 {
     let made = told(alloc, load, variants, wanted, progress);
     progress.end();
@@ -48,8 +61,7 @@ fn tell<S: Write + Drop, W: Write + Drop>(
         Ok(text) => put(writer, text.as_slice()),
         Err(ending) => {
             if ending == LabEnding::NoVariant {
-                // Where memory is wanting for it, less is said.
-                let _ = say_names(variants, wanted, trouble);
+                put_names(variants, wanted, trouble);
             }
             ending
         }
@@ -77,6 +89,7 @@ pub fn try_load<R: Read, S: Write + Drop, W: Write + Drop>(
         (writer_contents W.contents writer.new) result) }
     ensures untouched { (result ≡ LabEnding.Finished) ⊎ (result ≡ LabEnding.Unwritten) ⊎ (writer.new ≡ writer.old) }
     ensures flushed { result ≡ LabEnding.Finished → writer_buffer writer.new ≡ [] }
+    ensures quiet { IsExplained result ⊎ (trouble.new ≡ trouble.old) }
     ensures reads { (bytes : List ℕ) × (length bytes ≤ 16777217)
         × Consumes (R.remaining load.old) (R.remaining load.new) bytes }
 {
@@ -103,6 +116,7 @@ pub fn try_variants<R: Read, V: Read, S: Write + Drop, W: Write + Drop>(
     ensures in_order { IsOfLoad result → variants.new ≡ variants.old }
     ensures untouched { (result ≡ LabEnding.Finished) ⊎ (result ≡ LabEnding.Unwritten) ⊎ (writer.new ≡ writer.old) }
     ensures flushed { result ≡ LabEnding.Finished → writer_buffer writer.new ≡ [] }
+    ensures quiet { IsExplained result ⊎ (trouble.new ≡ trouble.old) }
     ensures reads { (bytes : List ℕ) × (length bytes ≤ 16777217)
         × Consumes (R.remaining load.old) (R.remaining load.new) bytes }
     ensures reads_variants { (bytes : List ℕ) × (length bytes ≤ 16777217)
