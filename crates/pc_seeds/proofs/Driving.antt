@@ -1,5 +1,5 @@
 -- The driver of a run by a seed does the steps of the protocol's.
-use Rattle.std.proofs.Common.{◌≡◌, ◌<◌, ◌≤◌, ◌==◌, ℕ, zero, suc, Bool, true, false, List, [], ◌∷◌, ◌++◌, length, map, drop, get_or, set, replicate, Option, Some, None, option_map, slice_get, if◌then◌else◌, nat_lt, refl, sym, ◌∙◌, ap, subst, inl, inr, arith}
+use Rattle.std.proofs.Common.{◌≡◌, ◌<◌, ◌≤◌, ◌==◌, ℕ, zero, suc, Bool, true, false, List, [], ◌∷◌, ◌++◌, length, map, All, drop, get_or, set, replicate, Option, Some, None, option_map, slice_get, if◌then◌else◌, nat_lt, refl, sym, ◌∙◌, ap, subst, inl, inr, arith}
 use Rattle.std.specs.Option.{option_map_or}
 use Rattle.std.proofs.lemmas.Bool.Decides.{eqb_tells, nat_tests}
 use Rattle.std.proofs.lemmas.List.{get_or-set_other, get_or-set_same, length-set}
@@ -27,7 +27,7 @@ use Rattle.pc_threads.specs.declared.settings.plans.Step.{Step}
 use Rattle.pc_threads.specs.declared.settings.plans.ThreadPlan.{ThreadPlan}
 use Rattle.pc_threads.specs.Settings.{Plan, plan_of}
 use Rattle.pc_seeds.specs.declared.driver.Driver.{Driver}
-use Rattle.pc_seeds.specs.Driving.{Accepts, AreCopies, Creates, DoesDeed, DrivesOn, IsIdle, IsInRun, StaysInRun, TakesStep, created_by, deed_of, deeds_of, left_of}
+use Rattle.pc_seeds.specs.Driving.{Accepts, Creates, DoesDeed, DrivesOn, IsIdle, IsInRun, StaysInRun, TakesStep, created_by, deed_of, deeds_of, left_of}
 
 -- a step more of a run
 pub stays : (plans : List Plan) (old new : Machine) (was is : Driver) → DrivesOn plans old was new is → StaysInRun plans old was new is
@@ -227,10 +227,16 @@ serves plans old new was is c does done blocked told r here =
     )
 
 -- of copies of a policy each takes each thread, where the policy does
-pub copies_take : (policy : AgentPolicy) (copies : List AgentPolicy) (c d : ℕ) → AreCopies policy copies → TakesEach (rules_of policy) d → TakesEach (rules_at copies c) d
+pub copies_take : (policy : AgentPolicy) (copies : List AgentPolicy) (c d : ℕ) → All (λ copy. rules_of copy ≡ rules_of policy) copies → TakesEach (rules_of policy) d → TakesEach (rules_at copies c) d
 copies_take policy [] c d same takes = inl refl
 copies_take policy (copy ∷ copies) zero d same takes = subst (λ rules. TakesEach rules d) (sym (same 0 copy (omega arith))) takes
 copies_take policy (copy ∷ copies) (suc c) d same takes = copies_take policy copies c d (λ k other low. same (suc k) other (omega arith)) takes
+
+-- each of copies of a policy has its rules
+pub copies_rule : (policy : AgentPolicy) (copies : List AgentPolicy) (c : ℕ) → All (λ copy. rules_of copy ≡ rules_of policy) copies → c < length copies → rules_at copies c ≡ rules_of policy
+copies_rule policy [] c same low = absurd (omega arith)
+copies_rule policy (copy ∷ copies) zero same low = same 0 copy (omega arith)
+copies_rule policy (copy ∷ copies) (suc c) same low = copies_rule policy copies c (λ k other less. same (suc k) other (omega arith)) (omega arith)
 
 -- one thread more is created
 pub creates_on : (items : List ThreadPlan) (i : ℕ) (x : ThreadPlan) (old mid new : Machine) → slice_get items i ≡ Some x → ((end : Machine) → Creates (map plan_of (drop i items)) mid end → Creates (map plan_of items) old end)

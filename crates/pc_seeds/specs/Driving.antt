@@ -1,14 +1,13 @@
 -- What the driver of a run by a seed keeps, and that its steps are those of the protocol's driver.
-use Rattle.std.specs.Prelude.{ℕ, nat_abs, ◌≡◌, true, List, [], ◌∷◌, ◌++◌, length, drop, get_or, map, slice_get}
-use Rattle.std.specs.Prelude.{All, None}
+use Rattle.std.specs.Prelude.{ℕ, nat_abs, ◌≡◌, ◌<◌, true, List, [], ◌∷◌, ◌++◌, length, drop, get_or, map, slice_get}
+use Rattle.std.specs.Prelude.{None}
 use Rattle.std.specs.Option.{option_map_or}
 use Rattle.pc_calls.specs.declared.call.EnvCall.{EnvCall}
 use Rattle.pc_calls.specs.declared.call.EnvCall.TheVariants.{Create}
 use Rattle.pc_calls.specs.declared.leaving.Leaving.TheVariants as leaving
 use Rattle.pc_calls.specs.declared.limits.Limits.{Limits}
 use Rattle.pc_kernel.specs.Steps.{at}
-use Rattle.pc_policy.specs.declared.agent_policy.AgentPolicy.{AgentPolicy}
-use Rattle.pc_policy.specs.Rules.{Rules, rules_of}
+use Rattle.pc_policy.specs.Rules.{Rules}
 use Rattle.pc_protocol.specs.Machine.{Leads, Machine, Shows}
 use Rattle.pc_protocol.specs.Protocol.{opening}
 use Rattle.pc_protocol.specs.Running.{AreCreated, Deed, Drive, Driven, Drives, IsAccepted, IsDone}
@@ -104,12 +103,9 @@ DoesDeed plans c old was new is =
     → IsAt plans old was (record r { told = before ++ behind })
     → (next : Drive) × IsDone r c next × IsAt plans new is next
 
--- the policies are copies of one
-abbrev pub AreCopies : AgentPolicy → List AgentPolicy → Type 0
-AreCopies policy copies = All (λ copy. rules_of copy ≡ rules_of policy) copies
-
--- the machine shows the start of a run, in which each agent takes each thread that waits for it, where these rules do
+-- the machine shows the start of a run, in which the agent of each CPU that is there goes by these rules; also of one
+-- that is not there it takes each thread that waits for it, where these rules do
 abbrev pub IsOpened : Rules → Machine → Type 0
 IsOpened rules machine =
-    (opened : ℕ → Rules) × (limits : Limits) × ((c : ℕ) → TakesEach rules c → TakesEach (opened c) c)
-    × Shows machine (opening opened limits)
+    (opened : ℕ → Rules) × (limits : Limits) × ((c : ℕ) → c < limits.cpus → opened c ≡ rules)
+    × ((c : ℕ) → TakesEach rules c → TakesEach (opened c) c) × Shows machine (opening opened limits)

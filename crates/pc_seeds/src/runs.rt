@@ -1,10 +1,11 @@
 //! A run by a seed, from settings to its end.
 
 ghost use Rattle.std.specs.Prelude.{◌≡◌, ◌≢◌, [], false, Ok, Err, IfOk, IfSome, length, pos, vec_len};
+ghost use Rattle.pc_policy.specs.Names.{AreAll};
 ghost use Rattle.pc_policy.specs.Rules.{rules_of};
 ghost use Rattle.pc_threads.specs.Reports.{AddsUp, DoesAll, TellsItsBook};
 ghost use Rattle.pc_threads.specs.Settings.{plan_of};
-ghost use Rattle.pc_seeds.specs.Driving.{AreCopies, Creates, DrivesOn, HasNothingToDo, IsIdle, IsOpened, StaysInRun};
+ghost use Rattle.pc_seeds.specs.Driving.{Creates, DrivesOn, HasNothingToDo, IsIdle, IsOpened, StaysInRun};
 ghost use Rattle.pc_seeds.specs.Driving.{created_by, deeds_of};
 ghost use Rattle.pc_seeds.specs.Ending.{IfReported, IfStalledBookTells, IsUndisturbed, NoneWaits, RestsAs};
 ghost use Rattle.pc_seeds.specs.Ending.{RestsOnlyWhenDone};
@@ -298,7 +299,7 @@ fn rows_of(alloc: Global, world: &World, cpus: u8) -> Result<Vec<Row>, OutOfMemo
 
 /// So many copies of a policy.
 fn copies_of(alloc: Global, policy: &AgentPolicy, many: u8) -> Result<Vec<AgentPolicy>, AllocError>
-    ensures { IfOk result (λ copies. AreCopies policy.now copies.items) }
+    ensures { IfOk result (λ copies. AreAll (rules_of policy.now) many copies.items) }
 {
     let mut copies = Vec::new(alloc);
     for _ in 0..many {
@@ -313,14 +314,15 @@ fn machine_of(alloc: Global, config: &Config, policy: &AgentPolicy) -> Result<Pr
     ensures opened { IfOk result (IsOpened (rules_of policy.now)) }
     ensures starts { result ≢ Err RunFault.StartFailed }
 {
+    let cpus = config.cpus();
     let limits = Limits {
-        cpus: config.cpus(),
+        cpus,
         threads: MOST_THREADS,
         numbers: MOST_NUMBERS,
         room: MOST_ROOM,
         posts: MOST_POSTS,
     };
-    let Ok(policies) = copies_of(alloc, policy, config.cpus()) else {
+    let Ok(policies) = copies_of(alloc, policy, cpus) else {
         return Err(RunFault::OutOfMemory);
     };
     match Protocol::new(alloc, limits, &policies) {

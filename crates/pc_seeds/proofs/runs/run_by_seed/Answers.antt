@@ -23,7 +23,7 @@ returns-in-Some-clause-rests g c undisturbed rest =
     let mid = c.in_ok-machine-2.machine in
     let new = c.in_ok-machine-3.machine in
     let same = ap (λ k. k.now) c.in_ok-machine-2.ensures.config ∙ c.in_ok-run.ensures.config in
-    let start = begun opened.0 opened.1 plans old mid first.driver opened.3 (subst (λ s. Creates s.threads old mid) c.in_ok-run.ensures.config c.in_ok-machine-2.ensures.creates) c.in_ok-run.ensures.idle in
+    let start = begun opened.0 opened.1 plans old mid first.driver opened.4 (subst (λ s. Creates s.threads old mid) c.in_ok-run.ensures.config c.in_ok-machine-2.ensures.creates) c.in_ok-run.ensures.idle in
     let stays =
     subst (λ s. StaysInRun s.threads mid created.driver new played.driver) same (c.in_ok-machine-3.ensures.stays (ap (λ s. s.restarts) same ∙ undisturbed.none_restarts)) in
     let end = stays opened.0 opened.1 (subst (IsInRun opened.0 opened.1 plans mid) (sym c.in_ok-machine-2.ensures.driver) start) in
@@ -31,5 +31,5 @@ returns-in-Some-clause-rests g c undisturbed rest =
     let kernel = c.kernel-in-Some.result.now in
     let waits : IsHeldUp kernel held.thread held.cpu = search rules in
     none_held c.rest_is_done.ensures.done opened.0 opened.1 c.is_sound.ensures.cpus plans new played.driver kernel held.thread held.cpu c.is_sound.ensures.threads
-    (λ d. opened.2 d (undisturbed.takes_each d)) end (λ p shows. (c.stall_of-stall.ensures.rests p shows).0 rest)
+    (λ d. opened.3 d (undisturbed.takes_each d)) end (λ p shows. (c.stall_of-stall.ensures.rests p shows).0 rest)
     (λ w h. c.kernel-in-Some.ensures w (subst (λ v. ShowsWorld v w) (sym c.world.ensures) h)) waits c.in-Some.ensures.there
