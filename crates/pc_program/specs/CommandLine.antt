@@ -188,8 +188,7 @@ AreAsked rows seeds =
 abbrev pub AreNoRuns : List Row → RunsFault → Type 0
 AreNoRuns rows runs_fault.NoSeed =
     (one_of (codes "runs") rows ≢ None) × IsSeed (one_of (codes "seed") rows) None
-AreNoRuns rows runs_fault.PastTheLast =
-    (one_of (codes "runs") rows ≢ None) × ((seeds : Seeds) → AreAsked rows seeds → AreSeeds seeds → ⊥)
+AreNoRuns rows runs_fault.PastTheLast = (seeds : Seeds) × AreAsked rows seeds × (AreSeeds seeds → ⊥)
 AreNoRuns rows runs_fault.MoreThanTotals =
     (seeds : Seeds) × AreAsked rows seeds × AreSeeds seeds × (AsksForTotals rows → ⊥)
 

@@ -19,8 +19,8 @@ use crate::report::ReportForm;
 use crate::seeds::Seeds;
 use clap::error::ErrorKind;
 use clap::{ArgMatches, Command as Parser, Error};
-pub(crate) use parsers::command_named;
 use parsers::parser_for;
+pub(crate) use parsers::{FIRST_WORDS, command_named};
 use pc_draw::{Axis, DrawnPart, Interval};
 use pc_policy::PolicyName;
 use std::alloc::{AllocError, Global};
@@ -123,10 +123,10 @@ pub enum CommandFault {
     #[error("out of memory")]
     OutOfMemory,
     /// The word behind an option that is to spell numbers spells none.
-    #[error("--{option} {word:?}: a number is wanted, as 2, or the first and the last of several, as 0-3")]
+    #[error("--{option} spells no numbers")]
     BadNumbers { option: &'static str, word: String },
     /// The word behind `--policy` names none.
-    #[error("--policy {word:?}: it is levels, fifo, least-ran, levels-then-least-ran, or one as 'fifo exact'")]
+    #[error("--policy names no policy")]
     BadPolicy { word: String },
     /// Several runs are asked for, but not so that they can be.
     #[error(transparent)]

@@ -2,8 +2,10 @@
 
 ghost use Rattle.std.specs.Prelude.{◌≡◌};
 
-use crate::command_line::{CommandFault, command_named, first_word};
-use pc_pen::Escaped;
+use crate::command_line::{CommandFault, FIRST_WORDS, command_named, first_word};
+use pc_pen::{Escaped, QuotedWord};
+use pc_policy::OrderName;
+use pc_script::Orders;
 use std::alloc::Global;
 use std::convert::AsStr;
 use std::fmt::{self, Display, Formatter};
@@ -20,6 +22,16 @@ const MORE: &str = "\n\nFor more information";
 
 /// A tip to take an option for a name of a file, which it hardly ever is.
 const AS_A_NAME: &str = "tip: to pass ";
+
+/// How the text begins of a word that is no number, or too large a one.
+const BAD_NUMBER: &str = "error: invalid value";
+
+/// The options that take numbers, as the parser tells them, and which ones.
+const NUMBERS: [(&str, &str); 3] = [
+    ("'--limit ", "whole seconds are wanted, 0 to 4294967295"),
+    ("'--seed ", "a number is wanted, 0 to 18446744073709551615"),
+    ("'--runs ", "a number is wanted, 1 to 1000000000"),
+];
 
 /// What stands between the parts of what is told.
 const BREAK: &str = "\n  ";
@@ -51,6 +63,30 @@ impl Display for Mistake<'_> {
     }
 }
 
+/// Writes which numbers an option takes, where this is the parser's text of a word behind one that takes none of them.
+fn write_numbers<W: Write>(text: &str, writer: &mut W) -> io::Result<()> {
+    if text.starts_with(BAD_NUMBER) {
+        for (option, wanted) in &NUMBERS {
+            if text.contains(*option) {
+                write!(writer, "{wanted}; ")?;
+            }
+        }
+    }
+    Ok(())
+}
+
+/// Whether the two words of a policy stand there as two.
+fn splits_a_policy<S: AsStr>(words: &[S]) -> bool {
+    let mut is_order = false;
+    for word in words {
+        if is_order && word.as_str() == "exact" {
+            return true;
+        }
+        is_order = OrderName::named(word.as_str().as_bytes()).is_some();
+    }
+    false
+}
+
 /// Writes on one line what is wrong with words that are no command, since of this fault: which word it is, what was
 /// wanted, what is near to it, and whose help tells more. Nothing is written of want of memory.
 pub fn write_command_trouble<S: AsStr, W: Write>(
@@ -68,12 +104,39 @@ pub fn write_command_trouble<S: AsStr, W: Write>(
             write!(text, "{error}")?;
             let mistake = Mistake(text.as_str());
             write!(writer, "pc-sim: {mistake}")?;
+            write_numbers(text.as_str(), writer)?;
+            if splits_a_policy(words) {
+                write!(
+                    writer,
+                    "two words of a policy stand in quotes, as 'fifo exact'; "
+                )?;
+            }
         }
-        _ => write!(writer, "pc-sim: {fault}; ")?,
+        CommandFault::BadNumbers { option, word } => {
+            let quoted = QuotedWord(word.as_bytes());
+            write!(writer, "pc-sim: --{option} \"{quoted}\": ")?;
+            write!(
+                writer,
+                "a number without a 0 in front is wanted, as 2, or two with the lower first, as 1-3; "
+            )?;
+        }
+        CommandFault::BadPolicy { word } => {
+            let quoted = QuotedWord(word.as_bytes());
+            let orders = Orders::in_words();
+            write!(
+                writer,
+                "pc-sim: --policy \"{quoted}\": {orders} is wanted, "
+            )?;
+            write!(writer, "or one of them as 'fifo exact'; ")?;
+        }
+        CommandFault::BadRuns(fault) => write!(writer, "pc-sim: {fault}; ")?,
     }
     let word = first_word(words);
     match command_named(word) {
         Some(_) => writeln!(writer, "pc-sim {word} --help tells more"),
-        None => writeln!(writer, "pc-sim --help tells more"),
+        None => writeln!(
+            writer,
+            "first comes a command: {FIRST_WORDS}; pc-sim --help tells more"
+        ),
     }
 }

@@ -8,7 +8,8 @@ ghost use Rattle.pc_program.specs.Talks.{plain_by};
 use crate::ending::{Ending, Failure};
 use crate::forms::flushed;
 use pc_explain::{explain_session, write_command_table};
-use pc_script::{Helper, run_session};
+use pc_pen::QuotedWord;
+use pc_script::{Helper, MOST_LINE, run_session};
 use pc_session::Session;
 use std::alloc::Global;
 use std::io::{BufWriter, Read, Write};
@@ -19,9 +20,6 @@ C, A and B are CPUs and Q is a queue, from 0; T is a thread, as t0; MASK is a su
 each CPU. `version 2` or `version 3` may stand in the first line that is answered: `policy` and `mend` are
 of version 3. A line `quit` ends the session. docs/FORMATS.md tells what each word means.
 ";
-
-/// What is said at the first line that is no command.
-const HINT: &str = "pc-sim: no command; ? lists the commands\n";
 
 /// Writes the table of commands to whatever a person reads.
 #[derive(Drop)]
@@ -46,8 +44,19 @@ impl<S: Write + Drop> Helper for Manual<S> {
         let _ = self.screen.flush();
     }
 
-    fn first_fault(&mut self) {
-        let _ = self.screen.write_all(HINT.as_bytes());
+    fn first_fault(&mut self, number: u64, line: &[u8]) {
+        let quoted = QuotedWord(line);
+        let _ = if line.is_empty() {
+            writeln!(
+                self.screen,
+                "pc-sim: line {number} has more than {MOST_LINE} bytes"
+            )
+        } else {
+            writeln!(
+                self.screen,
+                "pc-sim: line {number}, `{quoted}`, is no command; ? lists the commands"
+            )
+        };
         let _ = self.screen.flush();
     }
 }

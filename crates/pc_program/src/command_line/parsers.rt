@@ -159,6 +159,9 @@ const REPORTS_CPUS: &str = "also reports a line for each CPU; twice, with its re
 
 const DRAWS: &str = "draws the report, as SVG";
 
+/// The words that name a command.
+pub(crate) const FIRST_WORDS: &str = "replay, explain, draw, run, session or lab";
+
 /// A command of the program.
 #[derive(Clone, Copy)]
 pub(crate) enum Subcommand {
