@@ -8,6 +8,9 @@ use pc_trial::{LabEnding, LabOutput, MOST_LOAD, Progress, Unread, try_load, try_
 use std::io::{self, BufWriter, Write};
 use std::process::ExitCode;
 
+/// Where more is told of the lab's words.
+const MORE_OF_LAB: &str = "pc-sim lab --help tells more";
+
 /// What is met where a text cannot be read for this reason, and the system said that.
 fn unread(why: Unread, said: Option<io::Error>) -> Met {
     let failure = match why {
@@ -55,7 +58,9 @@ fn are_one_text(source: &Source, variants: &VariantsFrom) -> bool {
 /// Says that one text cannot be both, and answers the exit status of a command line that has a fault.
 fn refuse_one_text(rt: &HostRuntime, source: &Source) -> ExitCode {
     let status = end(rt, &Met::ended(Ending::BadCommandLine), source, MOST_LOAD);
-    let _ = eprintln!(rt; "pc-sim: the load and its variants cannot both be the standard input");
+    let _ = eprintln!(rt;
+        "pc-sim: the load and its variants cannot both be the standard input; {MORE_OF_LAB}"
+    );
     status
 }
 

@@ -30,7 +30,7 @@ use std::thread::Threads;
 use std::time::Clock;
 use streams::{Noted, fill_closed};
 use tally::tally_on_machine;
-use words::words_of;
+use words::{WordsFault, words_of};
 
 /// How it ended, and what the system said of the stream that failed, where one did.
 fn met_of<R: Drop, W: Drop>(ending: Ending, reader: &Noted<R>, writer: &Noted<W>) -> Met {
@@ -108,6 +108,19 @@ fn refuse(rt: &HostRuntime, words: &[String], fault: CommandFault) -> ExitCode {
     status
 }
 
+/// Says why the words of the command line cannot be had.
+fn refuse_words(rt: &HostRuntime, fault: WordsFault) -> ExitCode {
+    match fault {
+        WordsFault::OutOfMemory => end_untold(rt, &Met::ended(Ending::OutOfMemory)),
+        WordsFault::NotUtf8(place) => {
+            let status = end_untold(rt, &Met::ended(Ending::BadCommandLine));
+            // Nothing can be said of an error on standard error itself.
+            let _ = eprintln!(rt; "pc-sim: word {place} is no UTF-8; pc-sim --help tells more");
+            status
+        }
+    }
+}
+
 /// Makes what is asked for of the text of the file, or else of the standard input, and says how that ended.
 fn make_of_file(rt: &HostRuntime, form: ScriptForm, source: &Source) -> Met {
     match &source.0 {
@@ -179,9 +192,6 @@ fn say_end(rt: &HostRuntime, met: &Met, source: &Source, most: usize) {
             let _ = eprintln!(rt; "pc-sim: line {line} of {source} is no command");
         }
         Ending::NothingToDraw(missing) => say_missing(rt, missing),
-        Ending::BadCommandLine if met.said.0.is_some() => {
-            let _ = eprintln!(rt; "pc-sim: a word of it is no UTF-8");
-        }
         _ => {}
     }
 }
@@ -281,7 +291,7 @@ fn main(rt: HostRuntime) -> ExitCode {
     settle_heap(rt.alloc());
     let words = match words_of(&rt) {
         Ok(words) => words,
-        Err(error) => return end_untold(&rt, &Met::unworded(error)),
+        Err(fault) => return refuse_words(&rt, fault),
     };
     match read_command(rt.alloc(), words.as_slice()) {
         Ok(command) => do_command(&rt, &rt, command),

@@ -60,8 +60,8 @@ impl Display for There {
             Missing::Cpus { count: 1, .. } => f.write_str("CPU 0 alone"),
             Missing::Cpus { count, .. } => write!(f, "CPUs 0 to {}", count.saturating_sub(1)),
             Missing::Lines { count: 0, .. } => f.write_str("no lines"),
-            Missing::Lines { count: 1, .. } => f.write_str("1 line"),
-            Missing::Lines { count, .. } => write!(f, "{count} lines"),
+            Missing::Lines { count: 1, .. } => f.write_str("line 1 alone"),
+            Missing::Lines { count, .. } => write!(f, "lines 1 to {count}"),
         }
     }
 }
@@ -74,7 +74,9 @@ pub(crate) fn say_missing(rt: &HostRuntime, missing: Missing) {
     };
     let there = There(missing);
     // Nothing can be said of an error on standard error itself.
-    let _ = eprintln!(rt; "pc-sim: {flag} {asked}: the script has {there}");
+    let _ = eprintln!(rt;
+        "pc-sim: {flag} {asked}: the script has {there}; pc-sim draw --help tells more"
+    );
 }
 
 /// Tells the file of this name, or else the stream.
@@ -94,7 +96,11 @@ impl Display for Source {
 
 impl Display for Sink {
     fn fmt<W: Write>(&self, f: &mut Formatter<W>) -> fmt::Result {
-        tell(&self.0, "the standard output", f)
+        tell(&self.0, "the standard output", f)?;
+        match self.0 {
+            Some(_) => f.write_str(", which was to be written"),
+            None => Ok(()),
+        }
     }
 }
 
@@ -130,14 +136,6 @@ impl Met {
     /// A file could not be opened, since of this.
     pub(crate) fn unopened(error: io::Error) -> Met {
         Met::of(Ending::CannotRead(Failure::Read), Some(error))
-    }
-
-    /// The words of the command line could not be had, since of this.
-    pub(crate) fn unworded(error: io::Error) -> Met {
-        if error.kind() == ErrorKind::OutOfMemory {
-            return Met::ended(Ending::OutOfMemory);
-        }
-        Met::of(Ending::BadCommandLine, Some(error))
     }
 
     /// Whether nothing reads any more what goes to the standard output.

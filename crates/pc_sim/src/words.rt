@@ -3,7 +3,7 @@
 //! They are read one by one, and not by `env::args`: what that calls stands in the program among the code that reads
 //! settings, which no other command would have read in.
 
-use std::alloc::Global;
+use std::alloc::{AllocError, Global};
 use std::env::{Env, FillError};
 use std::io::{self, ErrorKind};
 use std::str;
@@ -16,6 +16,20 @@ const USUAL_WORDS: usize = 16;
 
 /// Few words have more bytes.
 const USUAL_BYTES: usize = 256;
+
+/// Why the words of the command line cannot be had.
+#[derive(Clone, Copy, Debug)]
+pub(crate) enum WordsFault {
+    OutOfMemory,
+    /// The word at this place behind the program's name is no UTF-8.
+    NotUtf8(usize),
+}
+
+impl From<AllocError> for WordsFault {
+    fn from(_error: AllocError) -> WordsFault {
+        WordsFault::OutOfMemory
+    }
+}
 
 /// The word of these bytes.
 fn word_of(alloc: Global, bytes: &[u8]) -> io::Result<Option<String>> {
@@ -55,7 +69,7 @@ fn word_at(rt: &HostRuntime, place: usize) -> io::Result<Option<String>> {
 }
 
 /// `help` in front asks for the help of the command behind it, as `--help` does behind that.
-fn put_help_behind(alloc: Global, words: &mut Vec<String>) -> io::Result<()> {
+fn put_help_behind(alloc: Global, words: &mut Vec<String>) -> Result<(), AllocError> {
     if words.len() > 1 && words[1].as_str() == HELP {
         words[1] = String::from_str(alloc, "--help")?;
         if words.len() > 2 && words[2].as_str() != HELP {
@@ -65,14 +79,26 @@ fn put_help_behind(alloc: Global, words: &mut Vec<String>) -> io::Result<()> {
     Ok(())
 }
 
+/// Puts a word behind the others.
+fn put(words: &mut Vec<String>, word: String) -> Result<(), WordsFault> {
+    match words.push(word) {
+        Ok(()) => Ok(()),
+        Err(_) => Err(WordsFault::OutOfMemory),
+    }
+}
+
 /// The words of the command line, with the program's own name in front in place of its file's.
-pub(crate) fn words_of(rt: &HostRuntime) -> io::Result<Vec<String>> {
+pub(crate) fn words_of(rt: &HostRuntime) -> Result<Vec<String>, WordsFault> {
     let mut words = Vec::with_capacity(rt.alloc(), USUAL_WORDS)?;
-    words.push(String::from_str(rt.alloc(), "pc-sim")?)?;
+    put(&mut words, String::from_str(rt.alloc(), "pc-sim")?)?;
     for place in 1..usize::MAX {
-        match word_at(rt, place)? {
-            Some(word) => words.push(word)?,
-            None => break,
+        match word_at(rt, place) {
+            Ok(Some(word)) => put(&mut words, word)?,
+            Ok(None) => break,
+            Err(error) if error.kind() == ErrorKind::OutOfMemory => {
+                return Err(WordsFault::OutOfMemory);
+            }
+            Err(_) => return Err(WordsFault::NotUtf8(place)),
         }
     }
     put_help_behind(rt.alloc(), &mut words)?;
