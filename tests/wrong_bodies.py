@@ -214,8 +214,11 @@ def ends_its_head(head: list[str]) -> bool:
 
 def body_at(lines: list[str], place: int) -> tuple[int, int] | None:
     """The lines on which the body of the function that begins there is opened and closed; of one that has to keep its body, none: what is
-    computed at compile time, and what answers a type that only its body tells."""
+    computed at compile time, what answers a type that only its body tells, and what is proved with the functions that it calls in a circle."""
     if not (begin := FUNCTION.match(lines[place])) or "const fn" in lines[place]:
+        return None
+    above = itertools.takewhile(lambda line: line.lstrip().startswith("#["), reversed(lines[:place]))
+    if any(line.lstrip().startswith("#[cycle(") for line in above):
         return None
     closes = next((it for it in range(place, len(lines)) if lines[it] == f"{begin[1]}}}"), len(lines))
     opens = next((it for it in range(place, closes) if ends_its_head(lines[place:it + 1])), closes)

@@ -1,0 +1,543 @@
+-- A text is cut into its tokens.
+use Rattle.std.proofs.Common.{◌≡◌, ℕ, suc, ◌<◌, ◌^◌, ◌==◌, Bool, true, false, not, ◌&&◌, cond, List, [], ◌∷◌, ◌++◌, length, get_or, take, drop, codes, decimal, bytes_eq, refl, sym, ap, subst, ◌∙◌, ◌⊎◌, inl, inr, ⊎_elim, arith, append_assoc, length-append}
+use Rattle.std.specs.Int.{IsInRange}
+use Rattle.std.specs.List.{AllByRecursion}
+use Rattle.std.specs.Str.Parse.{AllDigits}
+use Rattle.std.proofs.lemmas.Bool.Decides.{nat_tests}
+use Rattle.std.proofs.lemmas.Fmt.{decimal_nonempty, digits_decimal, decimal_injective}
+use Rattle.std.proofs.lemmas.List.{take-append-drop, append-nil}
+use Rattle.std.proofs.Math.Seq.{take-append_seam, drop-append_seam}
+use Rattle.std.proofs.lemmas.Slice.Eq.{bytes_eq-Decides}
+use Rattle.std.proofs.lemmas.Str.Parse.{digit_from_value}
+use Rattle.pc_rank.specs.Inner.Cutting.{BeginsWith, Cuts, HasTokens, IsNamed, before_equals, doubles, IsKnown, fact_named, is_sign, letters, sign_at, single, word_named}
+use Rattle.pc_rank.specs.Tokens.{IsToken, Spells, done, space, one, begins, is_of_word, lengthens, token_text}
+use Rattle.pc_rank.specs.declared.facts.Fact.TheVariants as fact
+use Rattle.pc_rank.specs.declared.operators.Comparison.TheVariants as comparison
+use Rattle.pc_rank.specs.declared.operators.Extreme.TheVariants as extreme
+use Rattle.pc_rank.specs.declared.operators.Joiner.TheVariants as joiner
+use Rattle.pc_rank.specs.declared.operators.Operator.TheVariants as operator
+use Rattle.pc_rank.specs.declared.token.Token.{Token}
+use Rattle.pc_rank.specs.declared.token.Token.TheVariants as token
+use Rattle.pc_rank.proofs.Numerals.{own, is_digit_at}
+
+-- ---- words
+
+-- each byte is a letter or a digit
+abbrev pub all_of_word : List ℕ → Bool
+all_of_word [] = true
+all_of_word (byte ∷ bytes) = is_of_word byte && all_of_word bytes
+
+both : (a b : Bool) → (a && b) ≡ true → (a ≡ true) × (b ≡ true)
+both true b e = (refl, e)
+both false b e = cc
+
+digit_of_word : (c : ℕ) → IsInRange 48 57 c → is_of_word c ≡ true
+digit_of_word c h = grind (arith, nat_tests)
+
+digits_of_word : (ds : List ℕ) → AllDigits 10 ds → all_of_word ds ≡ true
+digits_of_word [] h = refl
+digits_of_word (d ∷ ds) h =
+    ap (λ b. b && all_of_word ds) (digit_of_word d (digit_from_value d h.0)) ∙ digits_of_word ds h.1
+
+pub letters_none : (rest : List ℕ) → begins is_of_word rest ≡ false → letters rest ≡ 0
+letters_none [] h = refl
+letters_none (b ∷ bs) h = ap (λ t. cond t (suc (letters bs)) 0) h
+
+-- a word is as long as letters stand in front, where none stands behind it
+pub letters_word : (word rest : List ℕ) → all_of_word word ≡ true → begins is_of_word rest ≡ false → letters (word ++ rest) ≡ length word
+letters_word [] rest all none = letters_none rest none
+letters_word (b ∷ bs) rest all none =
+    let here = both (is_of_word b) (all_of_word bs) all in
+    let ih = letters_word bs rest here.1 none in
+    ap (λ t. cond t (suc (letters (bs ++ rest))) 0) here.0 ∙ ap suc ih
+
+none_behind : (text : List ℕ) → begins is_of_word (drop (letters text) text) ≡ false
+none_behind [] = refl
+none_behind (b ∷ bs) = by_test (is_of_word b) refl (none_behind bs)
+  where
+    by_test : (t : Bool) → is_of_word b ≡ t → begins is_of_word (drop (letters bs) bs) ≡ false → begins is_of_word (drop (cond t (suc (letters bs)) 0) (b ∷ bs)) ≡ false
+    by_test true e ih = ih
+    by_test false e ih = e
+
+-- ---- which token it is
+
+-- a word begins with a letter or a digit, and all of it is of them
+pub record IsWord (word : List ℕ) : Type 0 where
+  pub some : 0 < length word
+  pub all : all_of_word word ≡ true
+
+is_word : (word : List ℕ) → 0 < length word → all_of_word word ≡ true → IsWord word
+is_word word some all = record { some = some; all = all }
+
+pub wordy : (t : Token) → IsToken t → is_sign t ≡ false → IsWord (token_text t)
+wordy (token.Number n) h e = is_word (decimal n) (decimal_nonempty n h) (digits_of_word (decimal n) (digits_decimal own n h))
+wordy (token.Given fact.Level) h e = is_word _ (omega arith) refl
+wordy (token.Given fact.Ran) h e = is_word _ (omega arith) refl
+wordy (token.Given fact.Thread) h e = is_word _ (omega arith) refl
+wordy (token.Given fact.Cpu) h e = is_word _ (omega arith) refl
+wordy (token.Given fact.Allowed) h e = is_word _ (omega arith) refl
+wordy (token.Given fact.Messages) h e = is_word _ (omega arith) refl
+wordy token.NoRank h e = is_word _ (omega arith) refl
+wordy token.If h e = is_word _ (omega arith) refl
+wordy token.Then h e = is_word _ (omega arith) refl
+wordy token.Else h e = is_word _ (omega arith) refl
+wordy token.Not h e = is_word _ (omega arith) refl
+wordy (token.Call extreme.Min) h e = is_word _ (omega arith) refl
+wordy (token.Call extreme.Max) h e = is_word _ (omega arith) refl
+wordy (token.Join joiner.And) h e = is_word _ (omega arith) refl
+wordy (token.Join joiner.Or) h e = is_word _ (omega arith) refl
+wordy (token.Infix o) h e = cc
+wordy (token.Compare c) h e = cc
+wordy token.Open h e = cc
+wordy token.Close h e = cc
+wordy token.Comma h e = cc
+wordy token.NoNumber h e = absurd h
+wordy token.Unknown h e = absurd h
+
+-- a word or a number goes on with a letter or a digit
+pub word_lengthens : (t : Token) → is_sign t ≡ false → lengthens t ≡ is_of_word
+word_lengthens (token.Number n) e = refl
+word_lengthens (token.Given f) e = refl
+word_lengthens token.NoRank e = refl
+word_lengthens token.If e = refl
+word_lengthens token.Then e = refl
+word_lengthens token.Else e = refl
+word_lengthens token.Not e = refl
+word_lengthens (token.Call x) e = refl
+word_lengthens (token.Join j) e = refl
+word_lengthens (token.Infix o) e = cc
+word_lengthens (token.Compare c) e = cc
+word_lengthens token.Open e = cc
+word_lengthens token.Close e = cc
+word_lengthens token.Comma e = cc
+word_lengthens token.NoNumber e = refl
+word_lengthens token.Unknown e = refl
+
+-- a sign begins with a byte that is neither of a word nor a space
+pub record Sign (t : Token) : Type 0 where
+  pub first : ℕ
+  pub more : List ℕ
+  pub text : token_text t ≡ first ∷ more
+  pub no_letter : is_of_word first ≡ false
+  pub no_space : (first == 32) ≡ false
+
+sign_text : (t : Token) → is_sign t ≡ true → Sign t
+sign_text (token.Infix operator.Plus) e = record { first = 43; more = []; text = refl; no_letter = refl; no_space = refl }
+sign_text (token.Infix operator.Times) e = record { first = 42; more = []; text = refl; no_letter = refl; no_space = refl }
+sign_text (token.Infix operator.Minus) e = record { first = 45; more = []; text = refl; no_letter = refl; no_space = refl }
+sign_text (token.Infix operator.Over) e = record { first = 47; more = []; text = refl; no_letter = refl; no_space = refl }
+sign_text (token.Infix operator.Modulo) e = record { first = 37; more = []; text = refl; no_letter = refl; no_space = refl }
+sign_text (token.Compare comparison.Below) e = record { first = 60; more = []; text = refl; no_letter = refl; no_space = refl }
+sign_text (token.Compare comparison.AtMost) e = record { first = 60; more = 61 ∷ []; text = refl; no_letter = refl; no_space = refl }
+sign_text (token.Compare comparison.Same) e = record { first = 61; more = 61 ∷ []; text = refl; no_letter = refl; no_space = refl }
+sign_text (token.Compare comparison.Other) e = record { first = 33; more = 61 ∷ []; text = refl; no_letter = refl; no_space = refl }
+sign_text (token.Compare comparison.AtLeast) e = record { first = 62; more = 61 ∷ []; text = refl; no_letter = refl; no_space = refl }
+sign_text (token.Compare comparison.Above) e = record { first = 62; more = []; text = refl; no_letter = refl; no_space = refl }
+sign_text token.Open e = record { first = 40; more = []; text = refl; no_letter = refl; no_space = refl }
+sign_text token.Close e = record { first = 41; more = []; text = refl; no_letter = refl; no_space = refl }
+sign_text token.Comma e = record { first = 44; more = []; text = refl; no_letter = refl; no_space = refl }
+sign_text (token.Number n) e = cc
+sign_text (token.Given f) e = cc
+sign_text token.NoRank e = cc
+sign_text token.If e = cc
+sign_text token.Then e = cc
+sign_text token.Else e = cc
+sign_text token.Not e = cc
+sign_text (token.Call x) e = cc
+sign_text (token.Join j) e = cc
+sign_text token.NoNumber e = cc
+sign_text token.Unknown e = cc
+
+pub sign_first : (t : Token) (behind : List ℕ) → is_sign t ≡ true → begins is_of_word (token_text t ++ behind) ≡ false
+sign_first t behind e = let sign = sign_text t e in ap (λ w. begins is_of_word (w ++ behind)) sign.text ∙ sign.no_letter
+
+-- ---- names
+
+-- a word is written as this token, which is no sign
+abbrev Sound : List ℕ → Token → Type 0
+Sound word t = (is_sign t ≡ false) × (IsKnown t → IsToken t × (word ≡ token_text t))
+
+pick : (word name : List ℕ) (t other : Token) → IsToken t → name ≡ token_text t → is_sign t ≡ false → Sound word other → Sound word (cond (bytes_eq word name) t other)
+pick word name t other known is kind rest = by_test (bytes_eq word name) refl
+  where
+    by_test : (b : Bool) → bytes_eq word name ≡ b → Sound word (cond b t other)
+    by_test true e = (kind, (λ h. (known, (bytes_eq-Decides word name).0 e ∙ is)))
+    by_test false e = rest
+
+fact_sound : (word : List ℕ) → Sound word (fact_named word)
+fact_sound word =
+    pick word (codes "level") (token.Given fact.Level) _ tt refl refl (
+    pick word (codes "ran") (token.Given fact.Ran) _ tt refl refl (
+    pick word (codes "thread") (token.Given fact.Thread) _ tt refl refl (
+    pick word (codes "cpu") (token.Given fact.Cpu) _ tt refl refl (
+    pick word (codes "allowed") (token.Given fact.Allowed) _ tt refl refl (
+    pick word (codes "messages") (token.Given fact.Messages) _ tt refl refl (
+    pick word (codes "none") token.NoRank token.Unknown tt refl refl (refl, (λ h. absurd h))))))))
+
+word_sound : (word : List ℕ) → Sound word (word_named word)
+word_sound word =
+    pick word (codes "if") (token.If) _ tt refl refl (
+    pick word (codes "then") (token.Then) _ tt refl refl (
+    pick word (codes "else") (token.Else) _ tt refl refl (
+    pick word (codes "not") (token.Not) _ tt refl refl (
+    pick word (codes "min") (token.Call extreme.Min) _ tt refl refl (
+    pick word (codes "max") (token.Call extreme.Max) _ tt refl refl (
+    pick word (codes "and") (token.Join joiner.And) _ tt refl refl (
+    pick word (codes "or") (token.Join joiner.Or) (fact_named word) tt refl refl (fact_sound word))))))))
+
+-- words that are no numbers
+abbrev pub is_name : Token → Bool
+is_name (token.Number n) = false
+is_name token.NoNumber = false
+is_name token.Unknown = false
+is_name t = not (is_sign t)
+
+pub named_only : (t : Token) → is_name t ≡ true → word_named (token_text t) ≡ t
+named_only (token.Given fact.Level) e = refl
+named_only (token.Given fact.Ran) e = refl
+named_only (token.Given fact.Thread) e = refl
+named_only (token.Given fact.Cpu) e = refl
+named_only (token.Given fact.Allowed) e = refl
+named_only (token.Given fact.Messages) e = refl
+named_only token.NoRank e = refl
+named_only token.If e = refl
+named_only token.Then e = refl
+named_only token.Else e = refl
+named_only token.Not e = refl
+named_only (token.Call extreme.Min) e = refl
+named_only (token.Call extreme.Max) e = refl
+named_only (token.Join joiner.And) e = refl
+named_only (token.Join joiner.Or) e = refl
+named_only (token.Number n) e = cc
+named_only (token.Infix o) e = cc
+named_only (token.Compare c) e = cc
+named_only token.Open e = cc
+named_only token.Close e = cc
+named_only token.Comma e = cc
+named_only token.NoNumber e = cc
+named_only token.Unknown e = cc
+
+-- no such word begins with a digit
+pub name_first : (t : Token) → is_name t ≡ true → IsInRange 48 57 (get_or (token_text t) 0 0) → ⊥
+name_first (token.Given fact.Level) e h = omega (arith, h)
+name_first (token.Given fact.Ran) e h = omega (arith, h)
+name_first (token.Given fact.Thread) e h = omega (arith, h)
+name_first (token.Given fact.Cpu) e h = omega (arith, h)
+name_first (token.Given fact.Allowed) e h = omega (arith, h)
+name_first (token.Given fact.Messages) e h = omega (arith, h)
+name_first token.NoRank e h = omega (arith, h)
+name_first token.If e h = omega (arith, h)
+name_first token.Then e h = omega (arith, h)
+name_first token.Else e h = omega (arith, h)
+name_first token.Not e h = omega (arith, h)
+name_first (token.Call extreme.Min) e h = omega (arith, h)
+name_first (token.Call extreme.Max) e h = omega (arith, h)
+name_first (token.Join joiner.And) e h = omega (arith, h)
+name_first (token.Join joiner.Or) e h = omega (arith, h)
+name_first (token.Number n) e h = cc
+name_first (token.Infix o) e h = cc
+name_first (token.Compare c) e h = cc
+name_first token.Open e h = cc
+name_first token.Close e h = cc
+name_first token.Comma e h = cc
+name_first token.NoNumber e h = cc
+name_first token.Unknown e h = cc
+
+-- a token that is no sign is a number or a name
+pub kinds : (t : Token) → IsToken t → is_sign t ≡ false → ((n : ℕ) × (n < 2 ^ 64) × (t ≡ token.Number n)) ⊎ (is_name t ≡ true)
+kinds (token.Number n) h e = inl (n, h, refl)
+kinds (token.Given f) h e = inr refl
+kinds token.NoRank h e = inr refl
+kinds token.If h e = inr refl
+kinds token.Then h e = inr refl
+kinds token.Else h e = inr refl
+kinds token.Not h e = inr refl
+kinds (token.Call x) h e = inr refl
+kinds (token.Join j) h e = inr refl
+kinds (token.Infix o) h e = cc
+kinds (token.Compare c) h e = cc
+kinds token.Open h e = cc
+kinds token.Close h e = cc
+kinds token.Comma h e = cc
+kinds token.NoNumber h e = absurd h
+kinds token.Unknown h e = absurd h
+
+pub number_named : (word : List ℕ) (n : ℕ) → 0 < length word → n < 2 ^ 64 → word ≡ decimal n → IsNamed word (token.Number n)
+number_named word n some small is = record {
+  kind = refl;
+  sound = λ h. (small, is);
+  only = λ t h e same. ⊎_elim
+      (λ number. let text : decimal n ≡ decimal number.0 = sym is ∙ same ∙ ap token_text number.2 in ap token.Number (decimal_injective n number.0 small number.1 text) ∙ sym number.2)
+      (λ name. absurd (name_first t name (subst (λ w. IsInRange 48 57 (get_or w 0 0)) same (is_digit_at word n 0 small is some))))
+      (kinds t h e);
+}
+
+pub no_number_named : (word : List ℕ) → IsInRange 48 57 (get_or word 0 0) → ((n : ℕ) → n < 2 ^ 64 → word ≡ decimal n → ⊥) → IsNamed word token.NoNumber
+no_number_named word digit none = record {
+  kind = refl;
+  sound = λ h. absurd h;
+  only = λ t h e same. ⊎_elim
+      (λ number. absurd (none number.0 number.1 (same ∙ ap token_text number.2)))
+      (λ name. absurd (name_first t name (subst (λ w. IsInRange 48 57 (get_or w 0 0)) same digit)))
+      (kinds t h e);
+}
+
+named_by : (word : List ℕ) → ((n : ℕ) → n < 2 ^ 64 → word ≡ decimal n → ⊥) → IsNamed word (word_named word)
+named_by word none = record {
+  kind = (word_sound word).0;
+  sound = (word_sound word).1;
+  only = λ t h e same. ⊎_elim
+      (λ number. absurd (none number.0 number.1 (same ∙ ap token_text number.2)))
+      (λ name. ap word_named same ∙ named_only t name)
+      (kinds t h e);
+}
+
+pub name_named : (word : List ℕ) (found : Token) → found ≡ word_named word → ((n : ℕ) → n < 2 ^ 64 → word ≡ decimal n → ⊥) → IsNamed word found
+name_named word found is none = subst (IsNamed word) (sym is) (named_by word none)
+
+-- ---- the first token
+
+-- a word in front, behind which neither letter nor digit stands
+cut_word : (text : List ℕ) (found : Token) → 0 < letters text → IsNamed (take (letters text) text) found → Cuts text found (drop (letters text) text)
+cut_word text found some named = record {
+  sound = λ h. ((named.sound h).0, sym (take-append-drop (letters text) text) ∙ ap (λ w. w ++ drop (letters text) text) (named.sound h).1, ap (λ such. begins such (drop (letters text) text)) (word_lengthens found named.kind) ∙ none_behind text);
+  only = λ t behind h none is. by_kind t behind h none is (is_sign t) refl;
+}
+  where
+    by_kind : (t : Token) (behind : List ℕ) → IsToken t → begins (lengthens t) behind ≡ false → text ≡ token_text t ++ behind → (b : Bool) → is_sign t ≡ b → (found ≡ t) × (drop (letters text) text ≡ behind)
+    by_kind t behind h none is true e =
+        let zero_letters : letters text ≡ 0 = letters_none text (ap (begins is_of_word) is ∙ sign_first t behind e) in
+        absurd (omega arith)
+    by_kind t behind h none is false e =
+        let word = wordy t h e in
+        let apart : begins is_of_word behind ≡ false = ap (λ such. begins such behind) (sym (word_lengthens t e)) ∙ none in
+        let size : letters text ≡ length (token_text t) = ap letters is ∙ letters_word (token_text t) behind word.all apart in
+        let front : take (letters text) text ≡ token_text t = ap (λ n. take n text) size ∙ ap (take (length (token_text t))) is ∙ take-append_seam (token_text t) behind in
+        let back : drop (letters text) text ≡ behind = ap (λ n. drop n text) size ∙ ap (drop (length (token_text t))) is ∙ drop-append_seam (token_text t) behind in
+        (named.only t h e front, back)
+
+pub cut_at : (text : List ℕ) (n : ℕ) (word rest : List ℕ) (found : Token) → n ≡ letters text → (n ≡ 0 → ⊥) → word ≡ take n text → rest ≡ drop n text → IsNamed word found → Cuts text found rest
+cut_at text n word rest found is some word_is rest_is named =
+    let here = ap (λ k. take k text) is in
+    let there = ap (λ k. drop k text) is in
+    subst (Cuts text found) (sym (rest_is ∙ there))
+    (cut_word text found (omega (arith, is, some)) (subst (λ w. IsNamed w found) (word_is ∙ here) named))
+
+-- ---- signs
+
+never : (rest : List ℕ) → begins (λ b. false) rest ≡ false
+never [] = refl
+never (b ∷ bs) = refl
+
+equal : (a b : ℕ) → (a == b) ≡ true → a ≡ b
+equal a b e = grind (arith, nat_tests)
+
+-- the bytes in front are those of the token, with nothing behind them that would belong to it
+abbrev FitsIn : List ℕ → List ℕ → Token → Type 0
+FitsIn front rest t = IsKnown t → IsToken t × (front ++ rest ≡ token_text t ++ rest) × (begins (lengthens t) rest ≡ false)
+
+pick_sign : (byte code : ℕ) (behind rest : List ℕ) (t other : Token) → IsToken t → token_text t ≡ code ∷ behind → (byte ≡ code → begins (lengthens t) rest ≡ false) → FitsIn (byte ∷ behind) rest other → FitsIn (byte ∷ behind) rest (cond (byte == code) t other)
+pick_sign byte code behind rest t other known is none more = by_test (byte == code) refl
+  where
+    by_test : (b : Bool) → (byte == code) ≡ b → FitsIn (byte ∷ behind) rest (cond b t other)
+    by_test true e h = (known, ap (λ c. c ∷ (behind ++ rest)) (equal byte code e) ∙ ap (λ w. w ++ rest) (sym is), none (equal byte code e))
+    by_test false e h = more h
+
+single_fits : (byte : ℕ) (rest : List ℕ) → (doubles byte ≡ true → begins (λ b. b == 61) rest ≡ false) → FitsIn (byte ∷ []) rest (single byte)
+single_fits byte rest none =
+    pick_sign byte 40 [] rest token.Open _ tt refl (λ e. never rest) (
+    pick_sign byte 41 [] rest token.Close _ tt refl (λ e. never rest) (
+    pick_sign byte 44 [] rest token.Comma _ tt refl (λ e. never rest) (
+    pick_sign byte 43 [] rest (token.Infix operator.Plus) _ tt refl (λ e. never rest) (
+    pick_sign byte 42 [] rest (token.Infix operator.Times) _ tt refl (λ e. never rest) (
+    pick_sign byte 45 [] rest (token.Infix operator.Minus) _ tt refl (λ e. never rest) (
+    pick_sign byte 47 [] rest (token.Infix operator.Over) _ tt refl (λ e. never rest) (
+    pick_sign byte 37 [] rest (token.Infix operator.Modulo) _ tt refl (λ e. never rest) (
+    pick_sign byte 60 [] rest (token.Compare comparison.Below) _ tt refl (λ e. none (ap doubles e)) (
+    pick_sign byte 62 [] rest (token.Compare comparison.Above) token.Unknown tt refl (λ e. none (ap doubles e)) (λ h. absurd h))))))))))
+
+double_fits : (byte : ℕ) (rest : List ℕ) → FitsIn (byte ∷ 61 ∷ []) rest (before_equals byte)
+double_fits byte rest =
+    pick_sign byte 60 (61 ∷ []) rest (token.Compare comparison.AtMost) _ tt refl (λ e. never rest) (
+    pick_sign byte 62 (61 ∷ []) rest (token.Compare comparison.AtLeast) _ tt refl (λ e. never rest) (
+    pick_sign byte 61 (61 ∷ []) rest (token.Compare comparison.Same) _ tt refl (λ e. never rest) (
+    pick_sign byte 33 (61 ∷ []) rest (token.Compare comparison.Other) token.Unknown tt refl (λ e. never rest) (λ h. absurd h))))
+
+not_both : (a b : Bool) → (a && b) ≡ false → a ≡ true → b ≡ false
+not_both true b e h = e
+not_both false b e h = cc
+
+-- what the sign in front says
+abbrev FitsAt : List ℕ → Token × List ℕ → Type 0
+FitsAt text found = IsKnown found.0 → IsToken found.0 × (text ≡ token_text found.0 ++ found.1) × (begins (lengthens found.0) found.1 ≡ false)
+
+sign_fits : (text : List ℕ) → FitsAt text (sign_at text)
+sign_fits [] = λ h. absurd h
+sign_fits (byte ∷ []) = single_fits byte [] (λ e. refl)
+sign_fits (byte ∷ next ∷ bytes) = by_test (doubles byte && next == 61) refl
+  where
+    by_test : (b : Bool) → (doubles byte && next == 61) ≡ b → FitsAt (byte ∷ next ∷ bytes) (cond b (before_equals byte, bytes) (single byte, next ∷ bytes))
+    by_test true e h =
+        let fits = double_fits byte bytes h in
+        (fits.0, ap (λ c. byte ∷ c ∷ bytes) (equal next 61 (both (doubles byte) (next == 61) e).1) ∙ fits.1, fits.2)
+    by_test false e h = single_fits byte (next ∷ bytes) (not_both (doubles byte) (next == 61) e) h
+
+-- a sign is found, whatever may stand behind it
+undoubled : (byte : ℕ) (behind : List ℕ) → doubles byte ≡ false → sign_at (byte ∷ behind) ≡ (single byte, behind)
+undoubled byte [] e = refl
+undoubled byte (next ∷ bytes) e = ap (λ b. cond (b && next == 61) (before_equals byte, bytes) (single byte, next ∷ bytes)) e
+
+alone : (byte : ℕ) (behind : List ℕ) → begins (λ b. b == 61) behind ≡ false → doubles byte ≡ true → sign_at (byte ∷ behind) ≡ (single byte, behind)
+alone byte [] e d = refl
+alone byte (next ∷ bytes) e d =
+    ap (λ b. cond (b && next == 61) (before_equals byte, bytes) (single byte, next ∷ bytes)) d
+    ∙ ap (λ b. cond b (before_equals byte, bytes) (single byte, next ∷ bytes)) e
+
+pub sign_only : (t : Token) (behind : List ℕ) → is_sign t ≡ true → begins (lengthens t) behind ≡ false → sign_at (token_text t ++ behind) ≡ (t, behind)
+sign_only (token.Infix operator.Plus) behind e none = undoubled 43 behind refl
+sign_only (token.Infix operator.Times) behind e none = undoubled 42 behind refl
+sign_only (token.Infix operator.Minus) behind e none = undoubled 45 behind refl
+sign_only (token.Infix operator.Over) behind e none = undoubled 47 behind refl
+sign_only (token.Infix operator.Modulo) behind e none = undoubled 37 behind refl
+sign_only (token.Compare comparison.Below) behind e none = alone 60 behind none refl
+sign_only (token.Compare comparison.AtMost) behind e none = refl
+sign_only (token.Compare comparison.Same) behind e none = refl
+sign_only (token.Compare comparison.Other) behind e none = refl
+sign_only (token.Compare comparison.AtLeast) behind e none = refl
+sign_only (token.Compare comparison.Above) behind e none = alone 62 behind none refl
+sign_only token.Open behind e none = undoubled 40 behind refl
+sign_only token.Close behind e none = undoubled 41 behind refl
+sign_only token.Comma behind e none = undoubled 44 behind refl
+sign_only (token.Number n) behind e none = cc
+sign_only (token.Given f) behind e none = cc
+sign_only token.NoRank behind e none = cc
+sign_only token.If behind e none = cc
+sign_only token.Then behind e none = cc
+sign_only token.Else behind e none = cc
+sign_only token.Not behind e none = cc
+sign_only (token.Call x) behind e none = cc
+sign_only (token.Join j) behind e none = cc
+sign_only token.NoNumber behind e none = cc
+sign_only token.Unknown behind e none = cc
+
+-- letters stand in front of a word
+letters_some : (word behind : List ℕ) → IsWord word → 0 < letters (word ++ behind)
+letters_some [] behind h = absurd (let some = h.some in omega (arith, some))
+letters_some (b ∷ bs) behind h =
+    let is : letters ((b ∷ bs) ++ behind) ≡ suc (letters (bs ++ behind)) = ap (λ t. cond t (suc (letters (bs ++ behind))) 0) (both (is_of_word b) (all_of_word bs) h.all).0 in
+    omega (arith, is)
+
+pub cut_sign : (text : List ℕ) (found : Token) (rest : List ℕ) → (found, rest) ≡ sign_at text → (n : ℕ) → n ≡ letters text → n ≡ 0 → Cuts text found rest
+cut_sign text found rest is n count zero_letters = record {
+  sound = subst (FitsAt text) (sym is) (sign_fits text);
+  only = λ t behind h none same. by_kind t behind h none same (is_sign t) refl;
+}
+  where
+    by_kind : (t : Token) (behind : List ℕ) → IsToken t → begins (lengthens t) behind ≡ false → text ≡ token_text t ++ behind → (b : Bool) → is_sign t ≡ b → (found ≡ t) × (rest ≡ behind)
+    by_kind t behind h none same true e =
+        let pairs : (found, rest) ≡ (t, behind) = is ∙ ap sign_at same ∙ sign_only t behind e none in
+        (ap (λ (p : Token × List ℕ). p.0) pairs, ap (λ (p : Token × List ℕ). p.1) pairs)
+    by_kind t behind h none same false e =
+        let some = letters_some (token_text t) behind (wordy t h e) in
+        let there : letters text ≡ letters (token_text t ++ behind) = ap letters same in
+        absurd (omega (arith, some, there, count, zero_letters))
+
+-- ---- all tokens
+
+no_space_in_word : (word behind : List ℕ) → IsWord word → begins (λ b. b == 32) (word ++ behind) ≡ false
+no_space_in_word [] behind h = absurd (let some = h.some in omega (arith, some))
+no_space_in_word (b ∷ bs) behind h = other b (both (is_of_word b) (all_of_word bs) h.all).0
+  where
+    other : (c : ℕ) → is_of_word c ≡ true → (c == 32) ≡ false
+    other c e = grind (arith, nat_tests)
+
+pub no_space : (t : Token) (behind : List ℕ) → IsToken t → begins (λ b. b == 32) (token_text t ++ behind) ≡ false
+no_space t behind h = by_kind (is_sign t) refl
+  where
+    by_kind : (b : Bool) → is_sign t ≡ b → begins (λ b. b == 32) (token_text t ++ behind) ≡ false
+    by_kind true e = let sign = sign_text t e in ap (λ w. begins (λ b. b == 32) (w ++ behind)) sign.text ∙ sign.no_space
+    by_kind false e = no_space_in_word (token_text t) behind (wordy t h e)
+
+-- the first token of a text that does not begin with a space
+pub record HasFirst (text : List ℕ) (all : List Token) : Type 0 where
+  pub t : Token
+  pub behind : List ℕ
+  pub more : List Token
+  pub known : IsToken t
+  pub apart : begins (lengthens t) behind ≡ false
+  pub text_is : text ≡ token_text t ++ behind
+  pub all_is : all ≡ t ∷ more
+  pub rest : Spells behind more
+
+-- what a text is that has tokens
+abbrev pub Opened : List ℕ → List Token → Type 0
+Opened [] all = all ≡ []
+Opened (b ∷ bs) all = ((b == 32) ≡ true × Spells bs all) ⊎ ((b == 32) ≡ false × HasFirst (b ∷ bs) all)
+
+pub some_text : (t : Token) → IsToken t → 0 < length (token_text t)
+some_text t h = by_kind (is_sign t) refl
+  where
+    by_kind : (b : Bool) → is_sign t ≡ b → 0 < length (token_text t)
+    by_kind true e = let sign = sign_text t e in subst (λ w. 0 < length w) (sym sign.text) (omega arith)
+    by_kind false e = (wordy t h e).some
+
+open_first : (text : List ℕ) (all : List Token) → HasFirst text all → 0 < length text → Opened text all
+open_first [] all h some = absurd (omega (arith, some))
+open_first (b ∷ bs) all h some =
+    inr (ap (begins (λ c. c == 32)) h.text_is ∙ no_space h.t h.behind h.known, h)
+
+pub invert : {text : List ℕ} {all : List Token} → Spells text all → Opened text all
+invert done = refl
+invert (space s) = inl (refl, s)
+invert (one {text} {tokens} t known apart s) =
+    open_first (token_text t ++ text) (t ∷ tokens)
+    (record { t = t; behind = text; more = tokens; known = known; apart = apart; text_is = refl; all_is = refl; rest = s })
+    (omega (arith, some_text t known, length-append (token_text t) text))
+
+pub begins_none : (text : List ℕ) → BeginsWith text [] text
+begins_none text = record { sound = λ h more s. s; only = λ all s. (all, refl, s) }
+
+pub begins_space : (text : List ℕ) (tokens : List Token) (b : ℕ) (rest : List ℕ) → b ≡ 32 → BeginsWith text tokens (b ∷ rest) → BeginsWith text tokens rest
+begins_space text tokens b rest is so_far = record {
+  sound = λ h more s. so_far.sound h more (subst (λ c. Spells (c ∷ rest) more) (sym is) (space s));
+  only = λ all s. let left = so_far.only all s in (left.0, left.1, behind left.0 (invert left.2));
+}
+  where
+    behind : (more : List Token) → Opened (b ∷ rest) more → Spells rest more
+    behind more opened = ⊎_elim (λ spaced. spaced.1) (λ first. let no : true ≡ false = sym (ap (λ c. c == 32) is) ∙ first.0 in cc) opened
+
+all_last : (tokens : List Token) (t : Token) → AllByRecursion IsKnown (tokens ++ t ∷ []) → AllByRecursion IsKnown tokens × IsKnown t
+all_last [] t h = (tt, h.0)
+all_last (u ∷ us) t h = let rest = all_last us t h.1 in ((h.0, rest.0), rest.1)
+
+pub begins_token : (text : List ℕ) (tokens : List Token) (b : ℕ) (bs : List ℕ) (t : Token) (rest : List ℕ) → (b ≡ 32 → ⊥) → Cuts (b ∷ bs) t rest → BeginsWith text tokens (b ∷ bs) → BeginsWith text (tokens ++ t ∷ []) rest
+begins_token text tokens b bs t rest no_space_there cut so_far = record {
+  sound = λ h more s.
+      let known = all_last tokens t h in
+      let fits = cut.sound known.1 in
+      let spelled : Spells (b ∷ bs) (t ∷ more) = subst (λ w. Spells w (t ∷ more)) (sym fits.1) (one t fits.0 fits.2 s) in
+      subst (Spells text) (sym (append_assoc tokens (t ∷ []) more)) (so_far.sound known.0 (t ∷ more) spelled);
+  only = λ all s. let left = so_far.only all s in behind all left.0 left.1 (invert left.2);
+}
+  where
+    behind : (all more : List Token) → all ≡ tokens ++ more → Opened (b ∷ bs) more → (others : List Token) × (all ≡ (tokens ++ t ∷ []) ++ others) × Spells rest others
+    behind all more is opened = ⊎_elim
+        (λ spaced. absurd (no_space_there (equal b 32 spaced.0)))
+        (λ found.
+        let first = found.1 in
+        let same = cut.only first.t first.behind first.known first.apart first.text_is in (
+          first.more,
+          is ∙ ap (λ m. tokens ++ m) (first.all_is ∙ ap (λ u. u ∷ first.more) (sym same.0)) ∙ sym (append_assoc tokens (t ∷ []) first.more),
+          subst (λ w. Spells w first.more) (sym same.1) first.rest,
+        ))
+        opened
+
+none_left : (more : List Token) → Spells [] more → more ≡ []
+none_left more s = invert s
+
+pub begins_end : (text : List ℕ) (tokens : List Token) (rest : List ℕ) → length rest ≡ 0 → BeginsWith text tokens rest → HasTokens text tokens
+begins_end text tokens (b ∷ bs) none so_far = absurd (omega (arith, none))
+begins_end text tokens [] none so_far = record {
+  sound = λ h. subst (Spells text) (append-nil tokens) (so_far.sound h [] done);
+  only = λ all s. let left = so_far.only all s in left.1 ∙ ap (λ m. tokens ++ m) (none_left left.0 left.2) ∙ append-nil tokens;
+}

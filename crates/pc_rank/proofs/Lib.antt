@@ -1,0 +1,9 @@
+pub mod Numerals
+pub mod Cutting
+pub mod Sound
+pub mod Complete
+pub mod Derived
+pub mod Texts
+pub mod Unique
+pub mod Canonical
+pub mod Spelling

@@ -1,0 +1,40 @@
+-- Which expression a text has, and what a reader may answer.
+use Rattle.std.specs.Prelude.{ℕ, ◌+◌, ◌<◌, List, length}
+use Rattle.pc_rank.specs.Expressions.{Tree, Condition}
+use Rattle.pc_rank.specs.Expressions as tree
+use Rattle.pc_rank.specs.Grammar.{IsExpression}
+use Rattle.pc_rank.specs.Tokens.{Spells}
+use Rattle.pc_rank.specs.declared.fault.RankFault.{RankFault}
+use Rattle.pc_rank.specs.declared.fault.RankFault.TheVariants as fault
+use Rattle.pc_rank.specs.declared.token.Token.{Token}
+
+abbrev mutual
+  -- how many nodes an expression has
+  pub nodes : Tree → ℕ
+  nodes (tree.Number number) = 1
+  nodes (tree.Given fact) = 1
+  nodes tree.NoRank = 1
+  nodes (tree.Infix operator a b) = nodes a + nodes b + 1
+  nodes (tree.Call extreme a b) = nodes a + nodes b + 1
+  nodes (tree.Choice test a b) = test_nodes test + nodes a + nodes b + 1
+
+  -- how many nodes a test has
+  pub test_nodes : Condition → ℕ
+  test_nodes (tree.Compare comparison a b) = nodes a + nodes b + 1
+  test_nodes (tree.Join joiner a b) = test_nodes a + test_nodes b + 1
+  test_nodes (tree.Negate a) = test_nodes a + 1
+
+-- the text is one of this expression: the grammar derives its tokens, sixteen levels deep at most
+pub record IsText (text : List ℕ) (a : Tree) : Type 0 where
+  pub tokens : List Token
+  pub spelled : Spells text tokens
+  pub derived : IsExpression 16 tokens a
+
+-- Why no expression was read: the text is past 512 bytes, or of no expression up to 64 nodes, or of none at all, or
+-- memory ran out
+abbrev pub Refuses : List ℕ → RankFault → Type 0
+Refuses text fault.TooLong = 512 < length text
+Refuses text (fault.TooManyNodes at) = (a : Tree) → IsText text a → 64 < nodes a
+Refuses text (fault.TooDeep at) = (a : Tree) → IsText text a → ⊥
+Refuses text (fault.Wanted at wanted) = (a : Tree) → IsText text a → ⊥
+Refuses text fault.OutOfMemory = Unit {0}
