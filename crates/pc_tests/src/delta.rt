@@ -1,9 +1,10 @@
 //! Deltas and digests, with ample memory; and what no clause says of deltas: how few parts an answer has, and what is
 //! known where parts contradict each other.
 
+use crate::joins::is_joined_with_nothing;
 use crate::rows::{Failed, Row, each_holds, is_found_so};
 use pc_delta::{Delta, DeltaFault, Digest, Part, delta_beyond, delta_since, take_all, take_in};
-use pc_join::{Join, OutOfMemory};
+use pc_join::OutOfMemory;
 use pc_kernel::{Kernel, Limits};
 use pc_messages::{Cpu, Item, Kind, Level, Mask, MaskFault, Message, Phase, Reported, Tid};
 use pc_view::View;
@@ -170,22 +171,9 @@ fn an_answer_tells_a_prefix_by_its_state(rt: HostRuntime) {
     is_found_so(&rt, a_prefix_is_one_part(rt.alloc()));
 }
 
-fn join_both<V: Join>(first: &V, other: &V) -> Result<V, OutOfMemory> {
-    let mut joined = first.try_copy()?;
-    joined.join_from(other)?;
-    Ok(joined)
-}
-
-/// Whether the join covers both, and is something.
-fn is_above<V: Join>(joined: &V, first: &V, other: &V) -> bool {
-    joined.covers(first) && joined.covers(other) && !joined.is_empty()
-}
-
 /// Whether a digest is joined with one of nothing.
 fn digests_are_joined(alloc: Global, view: &View) -> Result<bool, OutOfMemory> {
-    let (first, other) = (Digest::of(alloc, view)?, Digest::new(alloc));
-    let joined = join_both(&other, &first)?;
-    Ok(is_above(&joined, &first, &other) && joined == first)
+    is_joined_with_nothing(Digest::of(alloc, view), Digest::new(alloc))
 }
 
 fn takes_copies(view: &mut View, told: Delta) -> Result<(), OutOfMemory> {

@@ -1,30 +1,10 @@
 //! Each join, through the bound, with ample memory.
 
+use crate::joins::{are_equal, are_joined, join_both};
 use crate::rows::{is_found_so, is_so};
 use pc_join::{ByName, Join, NameSet, Numbers, OutOfMemory, Upto, next_turn};
 use pc_messages::Tid;
 use std::alloc::Global;
-
-// Without contracts, as the functions below, so that a test's proof does not carry those of joins.
-fn join_both<V: Join>(first: &V, other: &V) -> Result<V, OutOfMemory> {
-    let mut joined = first.try_copy()?;
-    joined.join_from(other)?;
-    Ok(joined)
-}
-
-/// Whether the join covers both, neither of them covers it, and it is something.
-fn is_above<V: Join>(joined: &V, first: &V, other: &V) -> bool {
-    joined.covers(first)
-        && joined.covers(other)
-        && !first.covers(joined)
-        && !other.covers(joined)
-        && !joined.is_empty()
-}
-
-fn is_join<V: Join>(first: &V, other: &V) -> Result<bool, OutOfMemory> {
-    let joined = join_both(first, other)?;
-    Ok(is_above(&joined, first, other))
-}
 
 /// Whether the join of 2 and 5 is 5.
 fn takes_the_greater() -> Result<bool, OutOfMemory> {
@@ -57,15 +37,24 @@ fn ascending(alloc: Global) -> Result<ByName<Upto>, OutOfMemory> {
     ByName::of_ascending(alloc, entries)
 }
 
-fn numbers_are_joined(alloc: Global) -> Result<bool, OutOfMemory> {
-    let (first, other) = (one_number(alloc)?, many_numbers(alloc)?);
-    let joined = join_both(&first, &other)?;
+fn has_all(first: &Numbers, other: &Numbers) -> Result<bool, OutOfMemory> {
+    let joined = join_both(first, other)?;
     Ok(joined.ranges() == other.ranges())
 }
 
+fn are_all(alloc: Global, other: &Numbers) -> Result<bool, OutOfMemory> {
+    let first = one_number(alloc)?;
+    has_all(&first, other)
+}
+
+// A function has one value of its own: each further one costs a proof at each early exit.
+fn numbers_are_joined(alloc: Global) -> Result<bool, OutOfMemory> {
+    let other = many_numbers(alloc)?;
+    are_all(alloc, &other)
+}
+
 fn names_are_joined(alloc: Global) -> Result<bool, OutOfMemory> {
-    let (first, other) = (one_name(alloc)?, ascending(alloc)?);
-    is_join(&first, &other)
+    are_joined(one_name(alloc)?, ascending(alloc))
 }
 
 /// How far all names are known together.
@@ -119,11 +108,6 @@ fn joins_are_made(rt: HostRuntime) {
     is_found_so(&rt, are_walked(rt.alloc()));
 }
 
-fn equal(alloc: Global) -> Result<bool, OutOfMemory> {
-    let (first, other) = (ascending(alloc)?, ascending(alloc)?);
-    Ok(first == other)
-}
-
 /// Whether a name is found of a set that another one lacks.
 fn is_found(alloc: Global) -> Result<bool, OutOfMemory> {
     let mut set = NameSet::new(alloc);
@@ -140,7 +124,7 @@ fn takes_turns() -> bool {
 
 #[test]
 fn names_are_compared_found_and_taken_in_turn(rt: HostRuntime) {
-    is_found_so(&rt, equal(rt.alloc()));
+    is_so(&rt, are_equal(ascending(rt.alloc()), ascending(rt.alloc())));
     is_found_so(&rt, is_found(rt.alloc()));
     is_so(&rt, takes_turns());
 }

@@ -11,6 +11,8 @@ mod examples;
 #[cfg(test)]
 mod join;
 #[cfg(test)]
+mod joins;
+#[cfg(test)]
 mod kernel;
 #[cfg(test)]
 mod queue;

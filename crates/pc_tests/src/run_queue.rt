@@ -78,31 +78,56 @@ fn pushes(list: &mut RunQueue) -> bool {
     !list.has(Tid(7)) && list.push(Tid(7)) == Ok(())
 }
 
+fn has_raised_first(list: &RunQueue) -> bool {
+    list.names() == [Tid(1), Tid(0)].as_slice()
+}
+
+fn is_refreshed_twice(alloc: Global, view: &View) -> Result<bool, OutOfMemory> {
+    let mut list = RunQueue::new(alloc);
+    refresh_twice(&mut list, view)?;
+    Ok(has_raised_first(&list) && pushes(&mut list))
+}
+
+fn is_refreshed_by_a_note(alloc: Global, view: &View) -> Result<bool, OutOfMemory> {
+    let mut list = RunQueue::new(alloc);
+    let in_order = refresh_pushed(&mut list, view)?;
+    Ok(!in_order && has_raised_first(&list))
+}
+
+fn each_refreshes(alloc: Global, view: &View) -> Result<bool, OutOfMemory> {
+    Ok(is_refreshed_twice(alloc, view)? && is_refreshed_by_a_note(alloc, view)?)
+}
+
 /// Whether each way puts the raised thread first, and a name can be put behind both.
-fn are_refreshed(alloc: Global) -> Option<bool> {
-    let view = one_raised(alloc)?;
-    let (mut first, mut other) = (RunQueue::new(alloc), RunQueue::new(alloc));
-    refresh_twice(&mut first, &view).ok()?;
-    let in_order = refresh_pushed(&mut other, &view).ok()?;
-    let is_alike = first.names() == [Tid(1), Tid(0)].as_slice() && first.names() == other.names();
-    Some(is_alike && !in_order && pushes(&mut first))
+// A function has one value of its own: each further one costs a proof at each early exit.
+fn are_refreshed(alloc: Global) -> bool {
+    match one_raised(alloc) {
+        Some(view) => each_refreshes(alloc, &view) == Ok(true),
+        None => false,
+    }
 }
 
 fn notes(list: &RunQueue, view: &View) -> Result<usize, OutOfMemory> {
     Ok(list.notes(&OrderName::LeastRan, view, Cpu(0))?.len())
 }
 
-fn are_noted(alloc: Global) -> Option<usize> {
-    let view = one_raised(alloc)?;
+fn noted(alloc: Global, view: &View) -> Result<usize, OutOfMemory> {
     let mut list = RunQueue::new(alloc);
-    refresh_twice(&mut list, &view).ok()?;
-    notes(&list, &view).ok()
+    refresh_twice(&mut list, view)?;
+    notes(&list, view)
+}
+
+fn are_noted(alloc: Global) -> bool {
+    match one_raised(alloc) {
+        Some(view) => noted(alloc, &view) == Ok(2),
+        None => false,
+    }
 }
 
 #[test]
 fn lists_are_refreshed_and_noted(rt: HostRuntime) {
-    is_so(&rt, are_refreshed(rt.alloc()) == Some(true));
-    is_so(&rt, are_noted(rt.alloc()) == Some(2));
+    is_so(&rt, are_refreshed(rt.alloc()));
+    is_so(&rt, are_noted(rt.alloc()));
 }
 
 /// The names that are touched first, the one that is put at the end then, and whether it is in order there.

@@ -323,7 +323,7 @@ impl Helper for Counts {
         self.asked = self.asked.saturating_add(1);
     }
 
-    fn first_fault(&mut self) {
+    fn first_fault(&mut self, _number: u64, _line: &[u8]) {
         self.faults = self.faults.saturating_add(1);
     }
 }

@@ -2,8 +2,9 @@
 
 ghost use Rattle.std.specs.Prelude.{◌≡◌};
 
-use crate::rows::{Failed, is_found_so};
-use pc_join::{ByName, Join, OutOfMemory};
+use crate::joins::{are_equal, are_joined, joined};
+use crate::rows::{Failed, is_found_so, is_so};
+use pc_join::{ByName, OutOfMemory};
 use pc_messages::{Kind, Level, Mask, Message, Phase, Reported, Tid};
 use pc_thread_view::{FoldedPrefix, OneMessage, ThreadView};
 use pc_view::View;
@@ -19,23 +20,6 @@ const fn reported(mask: Mask) -> Reported
         ran: 0,
         level: Level::LOWEST,
     }
-}
-
-// Without contracts, as the functions below, so that a test's proof does not carry those of views.
-fn join_both<V: Join>(first: &V, other: &V) -> Result<V, OutOfMemory> {
-    let mut joined = first.try_copy()?;
-    joined.join_from(other)?;
-    Ok(joined)
-}
-
-/// Whether the join covers both, and is something.
-fn is_above<V: Join>(joined: &V, first: &V, other: &V) -> bool {
-    joined.covers(first) && joined.covers(other) && !joined.is_empty()
-}
-
-fn is_join<V: Join>(first: &V, other: &V) -> Result<bool, OutOfMemory> {
-    let joined = join_both(first, other)?;
-    Ok(is_above(&joined, first, other))
 }
 
 /// A view of the second and the third message.
@@ -56,10 +40,13 @@ fn is_whole(view: &ThreadView) -> bool {
 }
 
 /// Whether a view of the first message and one of the others have one of all three.
+fn is_joined_whole(alloc: Global) -> Result<bool, Failed> {
+    let joined = joined(first(alloc)?, late(alloc))?;
+    Ok(is_whole(&joined))
+}
+
 fn threads_are_joined(alloc: Global) -> Result<bool, Failed> {
-    let (first, late) = (first(alloc)?, late(alloc)?);
-    let joined = join_both(&first, &late)?;
-    Ok(is_whole(&joined) && is_join(&late, &first)?)
+    Ok(are_joined(first(alloc)?, late(alloc))?)
 }
 
 fn puts_one(threads: &mut ByName<ThreadView>, name: u32) -> Result<(), OutOfMemory> {
@@ -90,6 +77,7 @@ fn are_pieces_joined(alloc: Global, name: u32) -> Result<bool, Failed> {
 
 #[test]
 fn what_is_known_of_a_thread_is_joined(rt: HostRuntime) {
+    is_found_so(&rt, is_joined_whole(rt.alloc()));
     is_found_so(&rt, threads_are_joined(rt.alloc()));
     is_found_so(&rt, are_pieces_joined(rt.alloc(), 2));
     is_found_so(&rt, are_pieces_joined(rt.alloc(), 70_000));
@@ -111,16 +99,32 @@ fn folds(view: &mut View) -> Result<(), Failed> {
     Ok(())
 }
 
-fn merges(view: &mut View, other: &View) -> Result<bool, OutOfMemory> {
-    view.merge(other)?;
-    Ok(view.knows(Tid(9), 2))
+fn folded(alloc: Global) -> Result<View, Failed> {
+    let mut view = woken(alloc, 0)?;
+    folds(&mut view)?;
+    Ok(view)
 }
 
-fn are_merged(alloc: Global) -> Result<bool, Failed> {
-    let (mut view, other) = (woken(alloc, 0)?, woken(alloc, 9)?);
-    folds(&mut view)?;
-    let joined = join_both(&view, &other)?;
-    Ok(is_join(&view, &other)? && merges(&mut view, &other)? && view == joined)
+fn merges(view: &mut View, other: &View) -> Result<(), OutOfMemory> {
+    view.merge(other)
+}
+
+fn merged(alloc: Global) -> Result<View, Failed> {
+    let mut view = folded(alloc)?;
+    merges(&mut view, &woken(alloc, 9)?)?;
+    Ok(view)
+}
+
+fn are_known(alloc: Global) -> Result<bool, Failed> {
+    Ok(merged(alloc)?.knows(Tid(9), 2))
+}
+
+fn views_are_joined(alloc: Global) -> Result<bool, Failed> {
+    Ok(are_joined(folded(alloc)?, woken(alloc, 9))?)
+}
+
+fn joined_views(alloc: Global) -> Result<View, Failed> {
+    Ok(joined(folded(alloc)?, woken(alloc, 9))?)
 }
 
 /// How many threads are walked, and how many on each of the two walks.
@@ -139,14 +143,21 @@ fn walked(view: &View) -> (u32, [u32; 2]) {
     (all, [near, far])
 }
 
+/// The same, where this thread alone is known.
+fn walked_of(alloc: Global, thread: u32) -> Result<(u32, [u32; 2]), OutOfMemory> {
+    let view = woken(alloc, thread)?;
+    Ok(walked(&view))
+}
+
 // Which threads are walked near, and which far, no clause says.
 fn are_walked(alloc: Global) -> Result<bool, OutOfMemory> {
-    let (near, far) = (woken(alloc, 65_534)?, woken(alloc, 65_535)?);
-    Ok(walked(&near) == (1, [1, 0]) && walked(&far) == (1, [0, 1]))
+    Ok(walked_of(alloc, 65_534)? == (1, [1, 0]) && walked_of(alloc, 65_535)? == (1, [0, 1]))
 }
 
 #[test]
 fn what_is_known_of_threads_is_merged(rt: HostRuntime) {
-    is_found_so(&rt, are_merged(rt.alloc()));
+    is_found_so(&rt, are_known(rt.alloc()));
+    is_found_so(&rt, views_are_joined(rt.alloc()));
+    is_so(&rt, are_equal(merged(rt.alloc()), joined_views(rt.alloc())));
     is_found_so(&rt, are_walked(rt.alloc()));
 }
