@@ -1,36 +1,48 @@
 #!/usr/bin/env python3
-"""Tests runs of agents, in threads and by seeds: refusals by name, limits, scripts, policies, and tallies.
+"""Tests runs of agents, in threads and by seeds: reports, limits, scripts, policies, and tallies.
 
-Settings are drawn; what is counted by name adds up.
+Settings are drawn. Each run is judged by what it tells, and one by a seed is that of the tests' own model.
 """
+import functools
 import itertools
 import random
 import re
 import signal
 import subprocess
+import sys
 import time
 
 import rig
-from kernel import ORDERS, answered
+from kernel import answered, told_of
 from rig import good, matches, outcome, same
-from tables import drawn_steps, restart, thread
+from tables import POLICIES, drawn_run, drawn_settings, drawn_steps, restart, thread
 
-DRAWN = 40
-POLICIES = [order + rest for order in ORDERS for rest in ("", " exact")]
+sys.path.append(str(rig.ROOT / "tests/reference"))
+from judge import faults_of  # noqa: E402
+from runs import Told, read  # noqa: E402
+from seeded import Run  # noqa: E402
+
+DRAWN, SEEDS = 40, 300
 # Each agent starts again before its second turn, so by some seeds a thread is forgotten.
 FORGETFUL = "cpus = 2\n" + thread(0, 1, "yield 1", "die 1") + thread(1, 2, "die 1") + restart(0, 2) + restart(1, 2)
 # In the order of a tally.
 UNSETTLED = ["Audit", "Incomplete", "Driver", "GaveUp", "Unaccounted", "Stalled"]
-CPU_LINE = re.compile(r"cpu (\d+)((?: [A-Za-z]+ \d+)+)")
 
 
-def drawn(rng: random.Random) -> str:
-    """Settings. One agent at most restarts, since a run of more may not end."""
-    cpus = rng.randint(1, 6)
-    text = f"cpus = {cpus}\n"
-    for _ in range(rng.randint(0, 12)):
-        text += thread(rng.randrange(cpus), rng.randint(1, (1 << cpus) - 1), *drawn_steps(rng, range(7), range(10)))
-    return text + (restart(rng.randrange(cpus), rng.randint(1, 4)) if cpus > 1 and rng.random() < 0.3 else "")
+def told_by(text: str, policy: str, *words: object) -> Told:
+    """What a run tells, with each refusal by name."""
+    with rig.folder() as folder:
+        script = folder / "run.script"
+        ended = rig.ask("run", "--policy", policy, "--per-cpu", "--per-cpu", "--script", script, *words, given=text)
+        same(ended.returncode, 3 if ended.stderr else 0)
+        return Told(script.read_text(), ended.stdout, ended.stderr)
+
+
+@functools.cache
+def drawn(seed: int) -> tuple[str, str, Told]:
+    """Drawn settings, a policy, and what the run by the seed tells."""
+    text, policy = drawn_run(seed)
+    return text, policy, told_by(text, policy, "--seed", seed)
 
 
 def run_with_script(text: str, *words: str) -> tuple[str, str]:
@@ -53,37 +65,48 @@ def picked(policy: str, lines: list[str]) -> list[str]:
     return [answer.split()[1] for _, words, answer in answered(script, rig.ask("replay", given=script).stdout) if words[0] == "pick"]
 
 
-def counts_of(line: str) -> dict[str, int]:
-    """The counts of a CPU's line, by their words."""
-    words = CPU_LINE.fullmatch(line)[2].split()
-    return dict(zip(words[::2], map(int, words[1::2])))
+def test_nothing_is_wrong_with_runs_by_seeds() -> None:
+    for seed in range(SEEDS):
+        text, policy, told = drawn(seed)
+        same(faults_of(read(text), policy, told), [], seed)
 
 
-def test_refusals_by_name_are_those_of_other() -> None:
+def test_nothing_is_wrong_with_runs_of_many_agents() -> None:
     rng = random.Random(12)
-    for _ in range(DRAWN):
-        text = drawn(rng)
-        for line in good(rig.ask("run", "--per-cpu", "--per-cpu", given=text), text).splitlines()[4:]:
-            row = counts_of(line)
-            same(list(row)[-5:], ["other", "Busy", "NothingReady", "NothingToSteal", "Dead"])
-            same(row["other"], sum(list(row.values())[-4:]), line)
+    for seed in range(DRAWN):
+        text, policy = drawn_settings(rng), rng.choice(POLICIES)
+        same(faults_of(read(text), policy, told_by(text, policy, "--seed", seed)), [], seed, policy, text)
 
 
-def test_the_script_of_a_run_makes_its_calls() -> None:
+def test_a_run_by_a_seed_is_that_of_the_model() -> None:
+    for seed in range(SEEDS):
+        text, policy, told = drawn(seed)
+        same(told, Run(read(text), policy, seed).tell(), seed)
+
+
+def test_nothing_is_wrong_with_runs_in_threads() -> None:
+    """And the program answers each line of the script as the model of the kernel does."""
     rng = random.Random(31)
-    for _ in range(DRAWN):
-        text = drawn(rng)
-        report, script = run_with_script(text, "--per-cpu")
-        replies = list(answered(script, good(rig.ask("replay", given=script))))
-        same((len(replies), replies[0].words[0]), (script.count("\n"), "enclave"))
-        same([it for it in replies if it.answer.split()[0] != "ok"], [], text)
-        totals = dict(line.split() for line in report.splitlines()[:4])
-        rows = [counts_of(line) for line in report.splitlines()[4:]]
-        made = [words[0] for _, words, _ in replies]
-        counted = [int(totals["threads"]), int(totals["commits"]), sum(row["steals"] for row in rows)]
-        same([made.count(verb) for verb in ("create", "commit", "associate")], counted, text)
-        taken = sum(int(answer.split()[1]) for _, words, answer in replies if words[0] == "consume")
-        same(taken, sum(row["taken"] for row in rows), text)
+    for _, policy in zip(range(DRAWN), itertools.cycle(POLICIES)):
+        text = drawn_settings(rng)
+        told = told_by(text, policy)
+        same(faults_of(read(text), policy, told, by_seed=False), [], text, policy)
+        same(rig.replay(told.script), told_of(told.script.encode())[0], text, policy)
+
+
+def test_what_is_changed_of_a_run_is_found() -> None:
+    """Each number of a report, but for the names of CPUs, and each line that is left out, but for a look: an agent may
+    have looked later."""
+    for seed in range(6):
+        text, policy, told = drawn(seed)
+        lines = told.script.splitlines(keepends=True)
+        changed = [told._replace(script="".join(lines[:place] + lines[place + 1:]))
+                   for place, line in enumerate(lines) if not line.startswith("publish ")]
+        for number in re.finditer(r"(?<!cpu )\b\d+", told.report):
+            more = f"{told.report[:number.start()]}{int(number[0]) + 1}{told.report[number.end():]}"
+            changed.append(told._replace(report=more))
+        for it in changed:
+            assert faults_of(read(text), policy, it), (seed, it)
 
 
 def test_a_script_replaces_what_its_file_had() -> None:
@@ -92,22 +115,6 @@ def test_a_script_replaces_what_its_file_had() -> None:
         same(outcome(ended)[:2], (0, "threads 1\nmessages 2\ncommits 1\nran 1\n"))
         made = [line for line in script.read_text().splitlines() if line.split()[0] in ("create", "commit", "die")]
     same(made, ["create 0 1 ready", "commit 0 t0 1", "die 0 1"])
-
-
-def test_runs_under_each_policy_come_to_the_same() -> None:
-    rng = random.Random(57)
-    for _ in range(DRAWN // 4):
-        text = drawn(rng)
-        steps = len(re.findall(r'"(?:yield|block|preempt|die) ', text))
-        reports = set()
-        for policy in POLICIES:
-            lines = good(rig.ask("run", "--policy", policy, "--per-cpu", "--per-cpu", given=text), policy, text).splitlines()
-            reports.add("\n".join(lines[:4]))
-            # An exact steal is of a thread of which all is known, so also that it is not dead.
-            dead = sum(counts_of(line)["Dead"] for line in lines[4:])
-            assert not (policy.endswith(" exact") and dead), (policy, text)
-        same(len(reports), 1, text)
-        assert f"\ncommits {steps}\n" in reports.pop(), text
 
 
 BY_NAME, BY_TICKS = "t0 t0 t1", "t0 t1 t0"
@@ -139,22 +146,6 @@ def test_a_run_of_one_agent_commits_what_it_picks() -> None:
             same(picked(policy, lines), commits, (policy, text))
             others[policy] += picked("least-ran" if policy.startswith("fifo") else "levels", lines) != commits
     assert all(others.values()), others
-
-
-def test_who_commits_or_sleeps_has_read_all() -> None:
-    """An agent's commit and its sleep are accepted under the count of posts that it read, and it has removed what it
-    read by then: so nothing is left in its queue, which a look before each of both tells."""
-    rng = random.Random(47)
-    for _ in range(DRAWN):
-        text = drawn(rng)
-        looked = []
-        for line in script_of("levels", text)[0]:
-            verb, *words = line.split()
-            looked += [f"publish {words[0]}", line] if verb in ("commit", "sleep") else [line]
-        replies = rig.ask("replay", given="\n".join([*looked, ""])).stdout.splitlines()
-        for line, behind, reply in zip(looked, [*looked[1:], ""], replies, strict=True):
-            if line.startswith("publish ") and behind.startswith(("commit ", "sleep ")):
-                matches(reply, r"\Aok d\d+ items 0\Z", (behind, text))
 
 
 def test_a_long_run_is_given_up() -> None:
@@ -200,7 +191,7 @@ def test_a_tally_is_of_what_each_seed_comes_to() -> None:
 def test_runs_by_seeds_without_restarts_are_all_reported() -> None:
     rng = random.Random(71)
     for policy in POLICIES:
-        text = drawn(rng).partition("[[restart]]")[0]
+        text = drawn_settings(rng).partition("[[restart]]")[0]
         told = good(rig.ask("run", "--seed", rng.randrange(1 << 63), "--runs", 50, "--policy", policy, given=text), text)
         same(told, "runs 50\nreported 50\n", text)
 

@@ -5,6 +5,7 @@ from collections.abc import Sequence
 
 from kernel import LEAVES, ORDERS
 
+POLICIES = [order + rest for order in ORDERS for rest in ("", " exact")]
 STAYS_ALIVE = [leave for leave in LEAVES if leave != "die"]
 
 
@@ -28,6 +29,32 @@ def drawn_steps(chance: random.Random, counts: Sequence[int], ticks: Sequence[in
     """So many steps of so many ticks, and a `die`."""
     steps = [f"{chance.choice(STAYS_ALIVE)} {chance.choice(ticks)}" for _ in range(chance.choice(counts))]
     return [*steps, f"die {chance.choice(last or ticks)}"]
+
+
+def drawn_plans(chance: random.Random, cpus: int, count: int, steps: int) -> str:
+    """Settings of so many threads, each of which does fewer than so many steps before it dies."""
+    text = f"cpus = {cpus}\n"
+    for _ in range(count):
+        queue, mask = chance.randrange(cpus), chance.randint(1, (1 << cpus) - 1)
+        text += thread(queue, mask, *drawn_steps(chance, range(steps), range(10)))
+    return text
+
+
+def drawn_settings(chance: random.Random) -> str:
+    """Settings of a run. One agent at most restarts, since a run in threads of more may not end."""
+    cpus = chance.randint(1, 6)
+    text = drawn_plans(chance, cpus, chance.randint(0, 12), 7)
+    return text + (restart(chance.randrange(cpus), chance.randint(1, 4)) if cpus > 1 and chance.random() < 0.3 else "")
+
+
+def drawn_run(seed: int) -> tuple[str, str]:
+    """Settings of a run by a seed, where any agents may restart, and a policy."""
+    chance = random.Random(seed)
+    cpus = chance.choice([1, 2, 2, 3])
+    text = drawn_plans(chance, cpus, chance.randint(1, 4), 4)
+    for _ in range(chance.choice([0, 0, 1, 1, 2, 4]) if cpus > 1 else 0):
+        text += restart(chance.randrange(cpus), chance.randint(1, 4))
+    return text, chance.choice(POLICIES)
 
 
 def drawn_threads(chance: random.Random, cpus: int, count: int) -> str:

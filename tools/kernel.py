@@ -446,12 +446,16 @@ class World(Kernel):
         report = self.reported(cpu, name)
         return report is not None and report.may_run(cpu)
 
-    def publish(self, cpu: int, fails: str = "") -> str:
-        agent, messages = self.agents[cpu], [item for item in self.queues[cpu].items if item]
+    def read(self, cpu: int, items: list[Item | None]) -> None:
+        """The agent takes in what it has read, and makes its run list anew."""
+        agent, messages = self.agents[cpu], [item for item in items if item]
         agent.learn(messages)
         told = {name: self.reported(cpu, name) for name in [*agent.names, *(name for name, _ in messages)]}
         able = {name: report.rank(self.order) for name, report in told.items() if report and report.may_run(cpu)}
         agent.names = sorted(able, key=able.__getitem__)
+
+    def publish(self, cpu: int, fails: str = "") -> str:
+        self.read(cpu, self.queues[cpu].items)
         return super().publish(cpu, fails)
 
     def deliver(self, cpu: int, delta: int) -> str:
@@ -460,8 +464,11 @@ class World(Kernel):
         return "ok"
 
     def answer(self, cpu: int, asker: int) -> str:
+        return self.answer_to(cpu, self.agents[asker])
+
+    def answer_to(self, cpu: int, other: Agent) -> str:
         """Of a thread of which the asker lacks a message that is known without a gap all such messages are told."""
-        other, told = self.agents[asker], []
+        told = list[Item]()
         for name, (upto, early) in self.agents[cpu].view().items():
             if any(not other.knows(name, number) for number in range(1, upto + 1)):
                 told += [(name, number) for number in range(1, upto + 1)]

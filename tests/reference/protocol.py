@@ -8,7 +8,7 @@ from dataclasses import dataclass, field
 from enum import Enum
 from typing import NamedTuple
 
-from kernel import Report, World
+from kernel import Agent, Report, World
 
 LATE = ("refused Stale", "refused Pending", "refused Dead")
 
@@ -44,10 +44,11 @@ class Step(NamedTuple):
 
 @dataclass
 class Note:
-    """What an agent is told: of whom, for a question; of which delta, for an answer."""
+    """What an agent is told: of whom, for a question, and what that one knew; of which delta, for an answer."""
 
     kind: str
     number: int = -1
+    known: Agent | None = None
 
 
 @dataclass
@@ -91,12 +92,18 @@ class Machine:
     def do(self, step: Step) -> None:
         """Does a step that there is."""
         if step.cpu < 0:
-            woken = self.say(step.what).rpartition(" wake ")[2]
-            if woken.isdigit() and self.keeps(Rule.TELLS_WHO_WOKE):
-                self.seats[int(woken)].box.append(Note("wake"))
+            self.post(step.what)
         else:
             self.script.append(f"# {step}")
             getattr(self, step.what)(step.cpu, step.place)
+
+    def post(self, line: str) -> str:
+        """The environment makes a call, and the agent that this wakes is told."""
+        answer = self.say(line)
+        woken = answer.rpartition(" wake ")[2]
+        if woken.isdigit() and self.keeps(Rule.TELLS_WHO_WOKE):
+            self.seats[int(woken)].box.append(Note("wake"))
+        return answer
 
     # The steps of an agent
 
@@ -114,11 +121,12 @@ class Machine:
         seat = self.seats[cpu]
         to = seat.left.pop(place)
         self.seats[to].mail.append(seat.delta)
-        names = {name for name, _ in self.world.deltas[seat.delta]}
-        is_urgent = any(self.is_urgent(self.world.reported(cpu, name), to) for name in names)
-        if is_urgent and not self.seats[to].box and self.keeps(Rule.TELLS_OF_URGENT_NEWS):
+        if self.has_urgent(cpu, seat.delta, to) and not self.seats[to].box and self.keeps(Rule.TELLS_OF_URGENT_NEWS):
             self.seats[to].box.append(Note("news"))
         seat.stage = "put" if seat.left else "act"
+
+    def has_urgent(self, cpu: int, delta: int, to: int) -> bool:
+        return any(self.is_urgent(self.world.reported(cpu, name), to) for name, _ in self.world.deltas[delta])
 
     def is_urgent(self, report: Report | None, cpu: int) -> bool:
         return report is None or report.may_run(cpu)
@@ -141,9 +149,12 @@ class Machine:
         if answer.startswith("ok"):
             self.say(f"pick {cpu} {aseq}")
         elif answer.startswith(LATE) and self.keeps(Rule.ASKS_WHEN_LATE):
-            for other, seat in enumerate(self.seats):
-                if other != cpu:
-                    seat.box.append(Note("question", cpu))
+            self.ask(cpu)
+
+    def ask(self, cpu: int) -> None:
+        for other, seat in enumerate(self.seats):
+            if other != cpu:
+                seat.box.append(Note("question", cpu))
 
     def take(self, cpu: int, place: int) -> None:
         seat = self.seats[cpu]
@@ -154,17 +165,24 @@ class Machine:
         if note.kind == "answer":
             self.say(f"deliver {cpu} {note.number}")
         elif note.kind == "question":
-            self.say(f"answer {cpu} {note.number}")
+            self.answer(cpu, note)
             if self.world.deltas[-1] or self.keeps(Rule.SENDS_EMPTY_ANSWERS):
                 self.seats[note.number].box.append(Note("answer", len(self.world.deltas) - 1))
         seat.stage = "look" if self.keeps(Rule.TURNS_BEHIND_NOTES) else "take"
 
+    def answer(self, cpu: int, note: Note) -> None:
+        self.say(f"answer {cpu} {note.number}")
+
     # What there is to do
+
+    def choices(self, cpu: int) -> int:
+        """In how many ways the agent may go on."""
+        seat = self.seats[cpu]
+        return len(seat.left) if seat.stage == "put" else len(seat.box) if seat.stage == "take" else 1
 
     def steps(self) -> list[Step]:
         """All steps of agents."""
-        ways = {"look": lambda seat: 1, "act": lambda seat: 1, "put": lambda seat: len(seat.left), "take": lambda seat: len(seat.box)}
-        return [Step(seat.stage, cpu, place) for cpu, seat in enumerate(self.seats) for place in range(ways[seat.stage](seat))]
+        return [Step(seat.stage, cpu, place) for cpu, seat in enumerate(self.seats) for place in range(self.choices(cpu))]
 
     def events(self, most_threads: int) -> list[Step]:
         """What the environment may do, and the kernel accepts."""
