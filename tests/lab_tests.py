@@ -159,7 +159,7 @@ def test_misspelt_keys() -> None:
 def test_a_script_past_the_greatest_length() -> None:
     """Three threads leave their CPU 300,000 times, and each time takes more than 56 bytes to tell."""
     load = "cpus = 1\n" + 3 * thread(0, 1, *["yield 1"] * 99_999, "die 1")
-    for name, fault in (("plain", "ScriptTooLong"), ("none", 'NoVariant\npc-sim: --script "none": the variants are plain')):
+    for name, fault in (("plain", "ScriptTooLong"), ("none", 'NoVariant\npc-sim: --script "none": the variants are: plain')):
         same(outcome(lab("-", "--script", name, given=load)), (1, "", f"pc-sim: lab {fault}\n"))
 
 

@@ -17,11 +17,11 @@ from typing import Any
 
 import rig
 from kernel import forms, told_of
+from machine import HINT
 from rig import ROOT, SECONDS, outcome, same
 
 MOST_LINE = 65_536
 ENCLAVE = b"enclave 4 16 1000 64 100000"
-HINT = b"pc-sim: no command; ? lists the commands\n"
 FAULTS = [b"walk", b"tick", b"tick 0 0", b"version 2", b"policy fifo", b"\xff\xfe", b"wake t\x00", b" #", b"commit 0 t0", b"? ", b"help me", b" help", b"quit now"]
 SILENT = [b"", b"   ", b"# a comment", b"#", b"\r"]
 # Below which numbers those of a drawn command are: so it is often refused.
@@ -82,7 +82,10 @@ def drawn_script_in_pieces(seed: int) -> None:
     chance = random.Random(seed)
     text = b"\n".join(drawn_lines(chance)) + chance.choice([b"", b"\n"])
     wanted, status = told_of(text, goes_on=True)
-    same(in_pieces(text, chance), (status, wanted.encode(), HINT * status))
+    *ended, said = in_pieces(text, chance)
+    same(ended, [status, wanted.encode()])
+    hint, fault = HINT.fullmatch(said), re.search(r"^fault line (\d+)$", wanted, re.M)
+    same(hint and int(hint[1]), fault and int(fault[1]), said)
     if seed % 5 == 0:
         ended, explained, _ = in_pieces(text, chance, "--explain")
         same((ended, plain(explained)), (status, wanted.encode()))
@@ -109,8 +112,9 @@ def test_help() -> None:
     """The table is told of `?` and `help` alone, and names the commands of docs/FORMATS.md. The first fault names `?`."""
     status, out, said = session(text=b"?\nversion 2\nhelp\nenclave 1 65535 1 16 100\n?\r\n? \nhelp \nHELP\n")
     same((status, out), (1, b"ok\nok\n" + b"".join(b"fault line %d\n" % line for line in (6, 7, 8))))
-    said, behind = said[: -len(HINT)], said[-len(HINT) :]
-    same((said.count(b"enclave CPUS"), behind), (3, HINT))
+    hint = b"pc-sim: line 6, `? `, is no command; ? lists the commands\n"
+    said, behind = said[: -len(hint)], said[-len(hint) :]
+    same((said.count(b"enclave CPUS"), behind), (3, hint))
     same(said[: len(said) // 3] * 3, said)
     told = (ROOT / "docs/FORMATS.md").read_text().split("## Commands")[1].split("A line of `show` is")[0]
     rows = [line.split(":")[0] for line in told.splitlines() if line.startswith("- `")]

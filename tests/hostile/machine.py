@@ -29,8 +29,8 @@ SECONDS = 60
 ENDING = re.compile(rb"(pc-sim: [^\n]*\n)(?:pc-sim: [^\n]*\n?)?")
 # Behind this stands which word it is, or the help where there is none.
 MISTAKE = b"pc-sim: bad command line\n"
-# What stands before that: a session that had a fault says how its commands are listed.
-HINT = b"pc-sim: no command; ? lists the commands\n"
+# What stands before that: a session says of its first fault which line it is.
+HINT = re.compile(rb"pc-sim: line ([1-9]\d*)(?:, `[ -~]+`, is no command; \? lists the commands| has more than 65536 bytes)\n")
 # What stands behind that: keys of settings that are passed over.
 WARNINGS = re.compile(rb"(?:pc-sim: warning: [^\n]*\n)+\Z")
 
@@ -125,7 +125,7 @@ class Machine:
 
 def ending_of(text):
     """The line of standard error that names how the program ended, without a session's hint, warnings and the one that says why."""
-    text = WARNINGS.sub(b"", text.removeprefix(HINT))
+    text = WARNINGS.sub(b"", text[hint.end() :] if (hint := HINT.match(text)) else text)
     if text.startswith(MISTAKE):
         return MISTAKE
     found = ENDING.fullmatch(text)
