@@ -12,7 +12,7 @@ struct Nobody;
 impl Helper for Nobody {
     fn help(&mut self) {}
 
-    fn first_fault(&mut self) {}
+    fn first_fault(&mut self, _number: u64, _line: &[u8]) {}
 }
 
 const SCRIPT: &[u8] = b"sleep 0 0\n";

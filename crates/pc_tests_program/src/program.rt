@@ -387,7 +387,7 @@ struct Nobody;
 impl Helper for Nobody {
     fn help(&mut self) {}
 
-    fn first_fault(&mut self) {}
+    fn first_fault(&mut self, _number: u64, _line: &[u8]) {}
 }
 
 /// Whether a session over memory ends well, and begins by these answers.
