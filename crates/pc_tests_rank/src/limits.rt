@@ -70,13 +70,13 @@ static ROWS: [(&str, Option<RankFault>); 10] = [
     ),
     ("if not (not (not (not (not (1 < 2))))) then 1 else 2", None),
     (
-        "min(min(min(min(min(min(min(min(min(min(min(min(min(min(min(1, 1), 1), 1), 1), 1), 1), 1), 1), 1), 1), 1), 1), \
-         1), 1), 1)",
+        "min(min(min(min(min(min(min(min(min(min(min(min(min(min(min(1, 1), 1), 1), 1), 1), 1), 1), 1), 1), 1), 1), \
+         1), 1), 1), 1)",
         None,
     ),
     (
-        "min(min(min(min(min(min(min(min(min(min(min(min(min(min(min(min(1, 1), 1), 1), 1), 1), 1), 1), 1), 1), 1), 1), \
-         1), 1), 1), 1), 1)",
+        "min(min(min(min(min(min(min(min(min(min(min(min(min(min(min(min(1, 1), 1), 1), 1), 1), 1), 1), 1), 1), 1), \
+         1), 1), 1), 1), 1), 1)",
         Some(RankFault::TooDeep { at: 64 }),
     ),
 ];
