@@ -3,7 +3,7 @@
 
 use pc_join::{Join, OutOfMemory};
 
-// Without contracts, so that a test's proof does not carry those of joins.
+/// The join of two values. It has no contract, so that a test's proof does not carry those of joins.
 pub fn join_both<V: Join>(first: &V, other: &V) -> Result<V, OutOfMemory> {
     let mut joined = first.try_copy()?;
     joined.join_from(other)?;

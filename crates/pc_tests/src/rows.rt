@@ -28,6 +28,7 @@ pub fn is_found_so<E: Drop>(rt: &impl Abort, so: Result<bool, E>) {
 
 /// What holds alone.
 pub trait Row {
+    /// Whether it holds.
     fn holds(&self, alloc: Global) -> bool;
 }
 
